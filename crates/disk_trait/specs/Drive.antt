@@ -1,0 +1,109 @@
+-- A drive with one file, and what its calls do to it.
+use Rattle.std.specs.Prelude.{◌≡◌, ◌⊎◌, ℕ, ◌+◌, ◌-◌, ◌≤◌, ◌^◌, min, max, List, ◌++◌, length, take, drop, Option, Some, is_some, Result, OnOk, OnErr, IsErrOf, IfOk, IfSome}
+use Rattle.causes.specs.Causes.{Rose}
+use Rattle.disk_trait.specs.declared.disk.AttachFault.{AttachFault}
+use Rattle.disk_trait.specs.declared.disk.AttachFault.TheVariants.{Disk}
+use Rattle.disk_trait.specs.declared.disk.DiskFault.{DiskFault}
+
+-- a drive: the bytes that it holds, where it tells them; the images that a crash now may leave; the moment; the images that a crash
+-- at some moment from that one on might have left; how often it has failed
+pub record Drive : Type 1 where
+  pub bytes : Option (List ℕ)
+  pub images : List ℕ → Type 0
+  pub moment : ℕ
+  pub since : ℕ → List ℕ → Type 0
+  pub faults : ℕ
+
+-- new is old with these bytes at this place
+abbrev pub Holds : List ℕ → ℕ → List ℕ → List ℕ → Type 0
+Holds old at piece new = new ≡ take at old ++ piece ++ drop (at + length piece) old
+
+-- any bytes in the range of a write, the same elsewhere; the length is the old one, or one that the write may have made
+pub record Torn (at n : ℕ) (old new : List ℕ) : Type 0 where
+  pub before : take at new ≡ take at old
+  pub after : drop (at + n) new ≡ drop (at + n) old
+  pub no_shorter : length old ≤ length new
+  pub no_longer : length new ≤ max (length old) (at + n)
+
+-- any bytes from the length of a cut on, the same before it; the length is the old one, or one down to that of the cut
+pub record Shortened (n : ℕ) (old new : List ℕ) : Type 0 where
+  pub before : take n new ≡ take n old
+  pub no_shorter : min n (length old) ≤ length new
+  pub no_longer : length new ≤ length old
+
+-- each new image is an old one after a step
+abbrev pub Follows : (List ℕ → List ℕ → Type 0) → (List ℕ → Type 0) → (List ℕ → Type 0) → Type 0
+Follows step old new = (c : List ℕ) → new c → (d : List ℕ) × old d × step d c
+
+-- a crash leaves this and nothing else
+abbrev pub Only : List ℕ → (List ℕ → Type 0) → Type 0
+Only bytes images = (c : List ℕ) → images c → c ≡ bytes
+
+-- Time goes on: a crash since t might have left what it might have left before, or what it may leave now or by a step from what it
+-- might have left before.
+pub record Elapses (old new : Drive) : Type 0 where
+  pub later : old.moment ≤ new.moment
+  pub nothing_else : (t : ℕ) (c : List ℕ) → t ≤ old.moment → new.since t c → old.since t c ⊎ new.images c
+  pub keeps : (t : ℕ) (c : List ℕ) → t ≤ old.moment → old.since t c → new.since t c
+
+-- a call that leaves the bytes and the images as they were, and takes no time
+pub record Stays (old new : Drive) : Type 0 where
+  pub bytes : new.bytes ≡ old.bytes
+  pub images : (c : List ℕ) → new.images c → old.images c
+  pub moment : new.moment ≡ old.moment
+  pub since : (t : ℕ) (c : List ℕ) → new.since t c → old.since t c
+  pub keeps : (t : ℕ) (c : List ℕ) → old.since t c → new.since t c
+
+-- the count doesn't fall, and a fault comes only where it rose
+pub record CountsFaults {T : Type 0} (old new : Drive) (result : Result T DiskFault) : Type 0 where
+  pub later : old.faults ≤ new.faults
+  pub failed : OnErr result (Rose old.faults new.faults)
+
+pub record CountsAttach {T : Type 0} (old new : Drive) (result : Result T AttachFault) : Type 0 where
+  pub later : old.faults ≤ new.faults
+  pub failed : IsErrOf result Disk → Rose old.faults new.faults
+
+-- this place is at most the file's length, where that is told
+abbrev pub IsWithin : Drive → ℕ → Type 0
+IsWithin drive at = (xs : List ℕ) → drive.bytes ≡ Some xs → at ≤ length xs
+
+abbrev pub TellsLength : Drive → Result ℕ DiskFault → Type 0
+TellsLength drive result = (xs : List ℕ) → drive.bytes ≡ Some xs → IfOk result (λ n. n ≡ length xs)
+
+-- the bytes that lie in the file from this place on, up to the room for them
+abbrev pub Reads : Drive → ℕ → List ℕ → List ℕ → Result ℕ DiskFault → Type 0
+Reads drive at before after result = IfOk result (λ n. (n ≤ length before)
+    × ((xs : List ℕ) → drive.bytes ≡ Some xs → (n ≡ min (length before) (length xs - at)) × (take n after ≡ take n (drop at xs))))
+
+-- a write: at Ok the bytes stand there, and a crash may tear it until a sync
+pub record Writes {T : Type 0} (old new : Drive) (at : ℕ) (piece : List ℕ) (result : Result T DiskFault) : Type 0 where
+  pub done : OnOk result ((xs : List ℕ) → old.bytes ≡ Some xs → (ys : List ℕ) × (new.bytes ≡ Some ys) × Holds xs at piece ys)
+  pub told : is_some new.bytes ≡ is_some old.bytes
+  pub crash : Follows (Torn at (length piece)) old.images new.images
+  pub time : Elapses old new
+
+-- a cut: at Ok the file is cut, and a crash may leave any length between until a sync
+pub record Cuts {T : Type 0} (old new : Drive) (len : ℕ) (result : Result T DiskFault) : Type 0 where
+  pub done : OnOk result ((xs : List ℕ) → old.bytes ≡ Some xs → new.bytes ≡ Some (take len xs))
+  pub told : is_some new.bytes ≡ is_some old.bytes
+  pub crash : Follows (Shortened len) old.images new.images
+  pub time : Elapses old new
+
+-- a sync: at Ok a crash leaves what a read gives; a failed one fixes nothing
+pub record Syncs {T : Type 0} (old new : Drive) (result : Result T DiskFault) : Type 0 where
+  pub done : OnOk result ((xs : List ℕ) → old.bytes ≡ Some xs → Only xs new.images)
+  pub bytes : new.bytes ≡ old.bytes
+  pub crash : (c : List ℕ) → new.images c → old.images c
+  pub time : Elapses old new
+
+-- what holds of each drive: this moment is one of those since an earlier one, since this moment there is no other, a longer stretch
+-- has the images of a shorter one, and the bytes that a read gives are an image
+pub record KeepsLaws (drive : Drive) : Type 0 where
+  pub counts_now : (t : ℕ) (c : List ℕ) → t ≤ drive.moment → drive.images c → drive.since t c
+  pub only_now : (c : List ℕ) → drive.since drive.moment c → drive.images c
+  pub longer : (s t : ℕ) (c : List ℕ) → s ≤ t → drive.since t c → drive.since s c
+  pub held : (xs : List ℕ) → drive.bytes ≡ Some xs → drive.images xs
+
+-- nothing is pending: where the bytes are told, a crash leaves them
+abbrev pub IsSettled : Drive → Type 0
+IsSettled drive = (xs : List ℕ) → drive.bytes ≡ Some xs → Only xs drive.images

@@ -1,0 +1,3 @@
+pub mod Drive
+pub mod Moments
+pub use Rattle.causes.specs.Causes

@@ -1,0 +1,2 @@
+pub mod Puts
+pub use Rattle.causes.specs.Causes
