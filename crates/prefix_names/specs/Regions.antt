@@ -1,0 +1,28 @@
+-- The region of a name, and how two regions lie.
+use Rattle.std.specs.Prelude.{◌-◌, nat_le, Bool, ◌&&◌, IsTrue, List}
+use Rattle.zorder.specs.declared.points.Point.{Point}
+use Rattle.zorder.specs.declared.points.Region.{Region}
+use Rattle.zorder.specs.Key.{point_of}
+use Rattle.zorder.specs.Region.{has_point}
+use Rattle.zorder.specs.Name.{first_key}
+use Rattle.zorder.specs.Tile.{next_key}
+
+-- the corners of a name's region are the points of its first and of its last key
+abbrev pub region_of : List Bool → Region
+region_of name = record { lo = point_of (first_key name); hi = point_of (next_key name - 1) }
+
+-- some point is in both
+abbrev pub SharePoint : Region → Region → Type 0
+SharePoint a b = (p : Point) × IsTrue (has_point a p) × IsTrue (has_point b p)
+
+-- every point of the first is in the second
+abbrev pub AllPointsIn : Region → Region → Type 0
+AllPointsIn a b = (p : Point) → IsTrue (has_point a p) → IsTrue (has_point b p)
+
+-- on each axis neither interval begins behind the end of the other
+abbrev pub meet : Region → Region → Bool
+meet a b = (nat_le a.lo.x b.hi.x && nat_le b.lo.x a.hi.x) && (nat_le a.lo.y b.hi.y && nat_le b.lo.y a.hi.y)
+
+-- on each axis the second interval begins no later and ends no earlier
+abbrev pub lies_in : Region → Region → Bool
+lies_in a b = (nat_le b.lo.x a.lo.x && nat_le a.hi.x b.hi.x) && (nat_le b.lo.y a.lo.y && nat_le a.hi.y b.hi.y)

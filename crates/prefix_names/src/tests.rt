@@ -1,0 +1,70 @@
+//! Worked regions and distances.
+ghost use Rattle.std.specs.Prelude.{◌≤◌};
+ghost use Rattle.zorder.specs.Region.{IsBox};
+
+use super::{dist, inside, key_range, least, meets, region};
+use zorder::{Name, Point, Region};
+
+const END: u32 = 4294967295;
+
+fn corners(lo_x: u32, lo_y: u32, hi_x: u32, hi_y: u32) -> Region
+    requires x { lo_x ≤ hi_x }
+    requires y { lo_y ≤ hi_y }
+    ensures { IsBox result }
+{
+    Region {
+        lo: Point { x: lo_x, y: lo_y },
+        hi: Point { x: hi_x, y: hi_y },
+    }
+}
+
+#[test]
+fn a_name_has_its_region_and_its_keys(rt: HostRuntime) {
+    for (bits, len, last, want) in [
+        (0, 0, 0xFFFFFFFFFFFFFFFF, corners(0, 0, END, END)),
+        (0, 1, 0x7FFFFFFFFFFFFFFF, corners(0, 0, 2147483647, END)),
+        (
+            0x8000000000000000,
+            1,
+            0xFFFFFFFFFFFFFFFF,
+            corners(2147483648, 0, END, END),
+        ),
+        (
+            0x8000000000000000,
+            2,
+            0xBFFFFFFFFFFFFFFF,
+            corners(2147483648, 0, END, 2147483647),
+        ),
+        (
+            0xC000000000000000,
+            2,
+            0xFFFFFFFFFFFFFFFF,
+            corners(2147483648, 2147483648, END, END),
+        ),
+        (27, 64, 27, corners(3, 5, 3, 5)),
+    ] {
+        let name = Name::new(bits, len).unwrap_or(Name::whole());
+        assert_eq!(rt; region(&name), want, "of {bits} and {len}");
+        assert_eq!(rt; key_range(&name), (bits, last), "of {bits} and {len}");
+    }
+}
+
+#[test]
+fn distances_are_sums_of_squares(rt: HostRuntime) {
+    let origin = Point { x: 0, y: 0 };
+    let end = Point { x: END, y: END };
+    let right_low = corners(2147483648, 0, END, 2147483647);
+    assert_eq!(rt; dist(origin, end), 36893488130239234050);
+    assert_eq!(rt; dist(end, origin), 36893488130239234050);
+    assert_eq!(rt; least(&right_low, origin), 4611686018427387904);
+    assert_eq!(rt; least(&right_low, Point { x: END, y: 7 }), 0);
+}
+
+#[test]
+fn regions_that_share_an_edge_meet(rt: HostRuntime) {
+    let left = corners(0, 0, 5, 9);
+    let right = corners(5, 3, 8, 4);
+    assert!(rt; meets(&left, &right) && meets(&right, &left));
+    assert!(rt; !meets(&left, &corners(6, 0, 8, 9)));
+    assert!(rt; inside(&corners(1, 0, 5, 9), &left) && !inside(&right, &left));
+}
