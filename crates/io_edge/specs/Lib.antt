@@ -1,2 +1,5 @@
+pub mod FailPlan
+pub mod Views
 pub mod Puts
+pub mod Reads
 pub use Rattle.causes.specs.Causes

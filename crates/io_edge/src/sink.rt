@@ -1,13 +1,15 @@
-// Where bytes go.
+//! Where bytes go.
 ghost use Rattle.std.specs.Prelude.{List, ℕ, Option};
 ghost use Rattle.causes.specs.Causes.{Counts};
 ghost use Rattle.io_edge.specs.Puts.{Puts};
 
+/// A put failed: a front of the piece was taken, maybe none of it.
 #[derive(Clone, Copy, Debug, PartialEq, Eq)]
 pub struct SinkFault;
 
+/// Where bytes go, a piece at a time.
 pub trait Sink {
-    /// The bytes that it took, where they are told.
+    /// The bytes that it took, where they are known.
     ghost taken: { Self → Option (List ℕ) };
 
     /// How often it has failed.

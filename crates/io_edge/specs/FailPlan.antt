@@ -1,0 +1,28 @@
+-- Which calls of an object in memory are to fail, and how many came and failed so far.
+use Rattle.std.specs.Prelude.{ℕ, ◌+◌, ◌-◌, ◌^◌, min, List, Contains}
+
+pub record FailPlan : Type 0 where
+  -- the numbers of the calls that fail, counted from 1
+  pub failing : List ℕ
+  pub calls : ℕ
+  pub faults : ℕ
+
+-- one more, up to the greatest number of 64 bits
+abbrev pub one_more : ℕ → ℕ
+one_more n = min (n + 1) (2 ^ 64 - 1)
+
+-- before any call
+abbrev pub planned : List ℕ → FailPlan
+planned failing = record { failing = failing; calls = 0; faults = 0 }
+
+-- the next call is listed to fail
+abbrev pub IsListed : FailPlan → Type 0
+IsListed plan = Contains plan.failing (one_more plan.calls)
+
+-- after one more call
+abbrev pub counted : FailPlan → FailPlan
+counted plan = record plan { calls = one_more plan.calls }
+
+-- after one more fault
+abbrev pub failed : FailPlan → FailPlan
+failed plan = record plan { faults = one_more plan.faults }

@@ -1,0 +1,62 @@
+//! Reading to the end, up to a bound.
+ghost use Rattle.std.specs.Prelude.{◌≡◌, ◌+◌, ◌≤◌, ◌<◌, List, [], ℕ, Some, IfOk, IsErrOf, IsOkUnless, OnOk, ◌++◌, length};
+ghost use Rattle.causes.specs.Causes.{Rose};
+ghost use Rattle.io_edge.specs.Reads.{ConsumesUpTo};
+
+use crate::source::{ReadFault, Source};
+use std::alloc::Global;
+
+// How many bytes are asked for at once.
+const PIECE: usize = 65_536;
+
+/// All that `source` has left, where that is at most `most` bytes. It takes at most one byte more, to see the end.
+pub fn read_all<S: Source>(alloc: Global, source: &mut S, most: usize) -> Result<Vec<u8>, ReadFault>
+    // Ok has all that was left, and leaves nothing.
+    ensures all { IfOk result (λ v. (xs : List ℕ) → S.left source.old ≡ Some xs → (v.items ≡ xs) × (S.left source.new ≡ Some [])) }
+
+    // More than `most` bytes are never Ok, and TooLong comes for nothing else.
+    ensures few { IfOk result (λ v. length v.items ≤ most) }
+    ensures too_long { IsErrOf result ReadFault.TooLong → (xs : List ℕ) → S.left source.old ≡ Some xs → most < length xs }
+
+    // Whatever the answer, a rest is left.
+    ensures taken { ConsumesUpTo (most + 1) (S.left source.old) (S.left source.new) }
+
+    // The source's fault comes only where its count rose.
+    ensures source { IsErrOf result ReadFault.Source → Rose (S.faults source.old) (S.faults source.new) }
+    ensures later { S.faults source.old ≤ S.faults source.new }
+{
+    let mut buffer = buffer(alloc)?;
+    let piece = buffer.as_mut_slice();
+    let mut all = Vec::new(alloc);
+    loop {
+        let rest = most - all.len();
+        let room = rest.min(piece.len() - 1) + 1;
+        match source.read(&mut piece[..room]) {
+            Ok(0) => return Ok(all),
+            Ok(n) if n > rest => return Err(ReadFault::TooLong),
+            Ok(n) => keep(&mut all, &piece[..n])?,
+            Err(_) => return Err(ReadFault::Source),
+        }
+    }
+}
+
+// The place that each piece is read into. It stands on the heap, since a function pays at entry for its locals.
+fn buffer(alloc: Global) -> Result<Vec<u8>, ReadFault>
+    ensures room { IfOk result (λ v. 0 < length v.items) }
+    ensures memory { IsOkUnless result ReadFault.Memory }
+{
+    match vec![in alloc; 0u8; PIECE] {
+        Ok(piece) => Ok(piece),
+        Err(_) => Err(ReadFault::Memory),
+    }
+}
+
+fn keep(all: &mut Vec<u8>, piece: &[u8]) -> Result<(), ReadFault>
+    ensures items { OnOk result (all.new.items ≡ all.old.items ++ piece.now) }
+    ensures memory { IsOkUnless result ReadFault.Memory }
+{
+    match all.extend_from_slice(piece) {
+        Ok(()) => Ok(()),
+        Err(_) => Err(ReadFault::Memory),
+    }
+}

@@ -1,0 +1,43 @@
+//! A sink over std's writers.
+ghost use Rattle.std.specs.Prelude.{◌≡◌};
+
+use crate::sink::{Sink, SinkFault};
+use std::io::Write;
+
+/// A writer as a sink, which knows the bytes that its writer knows. A put goes on after a short write. Each error counts
+/// as a fault, and so does a write that takes nothing. It never flushes: over a buffered writer a put may not be seen.
+#[derive(Drop)]
+pub struct StdSink<W> {
+    writer: W,
+    faults: u64,
+}
+
+impl<W: Write> StdSink<W> {
+    /// A sink over `writer`, behind what that holds.
+    pub fn new(writer: W) -> StdSink<W>
+        ensures taken { ⟦<StdSink<W> as Sink>⟧.taken result ≡ W.contents writer }
+        ensures faults { ⟦<StdSink<W> as Sink>⟧.faults result ≡ 0 }
+    {
+        StdSink { writer, faults: 0 }
+    }
+}
+
+impl<W: Write> Sink for StdSink<W> {
+    ghost taken = { λ s. W.contents s.writer };
+
+    ghost faults = { λ s. s.faults };
+
+    fn put(&mut self, piece: &[u8]) -> Result<(), SinkFault> {
+        let mut at = 0;
+        while at < piece.len() {
+            match self.writer.write(&piece[at..]) {
+                Ok(0) | Err(_) => {
+                    self.faults = self.faults.saturating_add(1);
+                    return Err(SinkFault);
+                }
+                Ok(n) => at += n,
+            }
+        }
+        Ok(())
+    }
+}
