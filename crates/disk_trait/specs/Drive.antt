@@ -1,12 +1,12 @@
--- A drive with one file, and what its calls do to it.
-use Rattle.std.specs.Prelude.{◌≡◌, ◌⊎◌, ℕ, ◌+◌, ◌-◌, ◌≤◌, ◌^◌, min, max, List, ◌++◌, length, take, drop, Option, Some, is_some, Result, OnOk, OnErr, IsErrOf, IfOk, IfSome}
+-- A drive with one file, and what its calls do to it. A crash image is what the file may hold after a crash.
+use Rattle.std.specs.Prelude.{◌≡◌, ◌⊎◌, ℕ, ◌+◌, ◌-◌, ◌≤◌, min, max, List, ◌++◌, length, take, drop, Option, Some, is_some, Result, OnOk, OnErr, IsErrOf, IfOk}
 use Rattle.causes.specs.Causes.{Rose}
 use Rattle.disk_trait.specs.declared.disk.AttachFault.{AttachFault}
 use Rattle.disk_trait.specs.declared.disk.AttachFault.TheVariants.{Disk}
 use Rattle.disk_trait.specs.declared.disk.DiskFault.{DiskFault}
 
--- a drive: the bytes that it holds, where it tells them; the images that a crash now may leave; the moment; the images that a crash
--- at some moment from that one on might have left; how often it has failed
+-- what is known of a drive: the bytes that a read gives, none where its content isn't known; the images that a crash now may leave; the
+-- clock, a number of moments; the images that a crash at some moment since an earlier one might have left; how often it has failed
 pub record Drive : Type 1 where
   pub bytes : Option (List ℕ)
   pub images : List ℕ → Type 0
@@ -59,30 +59,32 @@ pub record CountsFaults {T : Type 0} (old new : Drive) (result : Result T DiskFa
   pub later : old.faults ≤ new.faults
   pub failed : OnErr result (Rose old.faults new.faults)
 
+-- the same where a file was attached: want of memory raises no count
 pub record CountsAttach {T : Type 0} (old new : Drive) (result : Result T AttachFault) : Type 0 where
   pub later : old.faults ≤ new.faults
   pub failed : IsErrOf result Disk → Rose old.faults new.faults
 
--- this place is at most the file's length, where that is told
+-- this place is at most the file's length, where that is known
 abbrev pub IsWithin : Drive → ℕ → Type 0
 IsWithin drive at = (xs : List ℕ) → drive.bytes ≡ Some xs → at ≤ length xs
 
+-- the answer is the file's length, where that is known
 abbrev pub TellsLength : Drive → Result ℕ DiskFault → Type 0
 TellsLength drive result = (xs : List ℕ) → drive.bytes ≡ Some xs → IfOk result (λ n. n ≡ length xs)
 
--- the bytes that lie in the file from this place on, up to the room for them
+-- the bytes that lie in the file from this place on, up to the room for them, and their number
 abbrev pub Reads : Drive → ℕ → List ℕ → List ℕ → Result ℕ DiskFault → Type 0
 Reads drive at before after result = IfOk result (λ n. (n ≤ length before)
     × ((xs : List ℕ) → drive.bytes ≡ Some xs → (n ≡ min (length before) (length xs - at)) × (take n after ≡ take n (drop at xs))))
 
--- a write: at Ok the bytes stand there, and a crash may tear it until a sync
+-- a write: at Ok the bytes stand there, and a crash may tear it until a sync. At Err the bytes held are one of the images.
 pub record Writes {T : Type 0} (old new : Drive) (at : ℕ) (piece : List ℕ) (result : Result T DiskFault) : Type 0 where
   pub done : OnOk result ((xs : List ℕ) → old.bytes ≡ Some xs → (ys : List ℕ) × (new.bytes ≡ Some ys) × Holds xs at piece ys)
   pub told : is_some new.bytes ≡ is_some old.bytes
   pub crash : Follows (Torn at (length piece)) old.images new.images
   pub time : Elapses old new
 
--- a cut: at Ok the file is cut, and a crash may leave any length between until a sync
+-- a cut: at Ok the file is cut, and a crash may leave any length between until a sync. At Err the bytes held are one of the images.
 pub record Cuts {T : Type 0} (old new : Drive) (len : ℕ) (result : Result T DiskFault) : Type 0 where
   pub done : OnOk result ((xs : List ℕ) → old.bytes ≡ Some xs → new.bytes ≡ Some (take len xs))
   pub told : is_some new.bytes ≡ is_some old.bytes
@@ -104,6 +106,6 @@ pub record KeepsLaws (drive : Drive) : Type 0 where
   pub longer : (s t : ℕ) (c : List ℕ) → s ≤ t → drive.since t c → drive.since s c
   pub held : (xs : List ℕ) → drive.bytes ≡ Some xs → drive.images xs
 
--- nothing is pending: where the bytes are told, a crash leaves them
+-- nothing is pending: where the bytes are known, a crash leaves them
 abbrev pub IsSettled : Drive → Type 0
 IsSettled drive = (xs : List ℕ) → drive.bytes ≡ Some xs → Only xs drive.images
