@@ -1,0 +1,52 @@
+//! The objects in a box.
+ghost use Rattle.std.specs.Prelude.{◌≡◌, ◌↔◌, IsTrue, IfOk};
+ghost use Rattle.zorder.specs.Region.{IsBox, has_point};
+ghost use Rattle.plain_list.specs.Answer.{members_in, listed};
+
+use crate::lists::PlacedList;
+use crate::ops::Answer;
+use crate::world::World;
+use std::alloc::{AllocError, Global};
+use zorder::{Memory, Placed, Point, Region};
+
+/// How many objects the answer to a box may list.
+pub(crate) const MOST_LISTED: usize = 2048;
+
+/// Whether the lower corner is at most the upper one, on both axes.
+pub fn is_box(region: &Region) -> bool
+    ensures { IsTrue result ↔ IsBox region.now }
+{
+    region.lo.x <= region.hi.x && region.lo.y <= region.hi.y
+}
+
+pub(crate) fn within(alloc: Global, world: &World, region: &Region) -> Result<Answer, Memory>
+    ensures { IfOk result (λ a. a ≡ listed (members_in region.now world.now)) }
+{
+    match collect_in(alloc, world.as_slice(), region) {
+        Ok(items) => {
+            let count = items.len();
+            if count <= MOST_LISTED {
+                Ok(Answer::Found(PlacedList::from_vec(items)))
+            } else {
+                Ok(Answer::Many(count as u64))
+            }
+        }
+        Err(_) => Err(Memory),
+    }
+}
+
+fn collect_in(alloc: Global, members: &[Placed], region: &Region) -> Result<Vec<Placed>, AllocError>
+    ensures { IfOk result (λ v. v.items ≡ members_in region.now members.now) }
+{
+    members
+        .iter()
+        .copied()
+        .filter(|m| holds(region, m.at))
+        .collect(alloc)
+}
+
+fn holds(region: &Region, at: Point) -> bool
+    ensures { result ≡ has_point region.now at }
+{
+    region.lo.x <= at.x && at.x <= region.hi.x && region.lo.y <= at.y && at.y <= region.hi.y
+}

@@ -1,0 +1,65 @@
+//! What an operation changes in a list of rising ids.
+ghost use Rattle.std.specs.Prelude.{◌≡◌, OnOk, OnErr};
+ghost use Rattle.plain_list.specs.World.{IsRising};
+ghost use Rattle.plain_list.specs.Answer.{after_of};
+
+use crate::ops::Op;
+use crate::searches::place_in;
+use crate::world::MOST_MEMBERS;
+use std::alloc::AllocError;
+use zorder::Placed;
+
+pub(crate) fn change(members: &mut Vec<Placed>, op: &Op) -> Result<(), AllocError>
+    requires { IsRising members.old.items }
+    ensures ok { OnOk result (members.new.items ≡ after_of members.old.items op.now) }
+    ensures err { OnErr result (members.new.items ≡ members.old.items) }
+{
+    match *op {
+        Op::Put { id, at } => put(members, Placed { id, at }),
+        Op::Move { id, at } => {
+            move_to(members, Placed { id, at });
+            Ok(())
+        }
+        Op::Remove { id } => {
+            remove(members, id);
+            Ok(())
+        }
+        Op::Find { id: _ } => Ok(()),
+        Op::Within { region: _ } => Ok(()),
+        Op::Near { at: _, k: _ } => Ok(()),
+    }
+}
+
+fn put(members: &mut Vec<Placed>, member: Placed) -> Result<(), AllocError>
+    requires { IsRising members.old.items }
+    ensures ok { OnOk result (members.new.items ≡ after_of members.old.items (Op.Put member.id member.at)) }
+    ensures err { OnErr result (members.new.items ≡ members.old.items) }
+{
+    match place_in(members, member.id) {
+        Ok(_) => Ok(()),
+        Err(place) => {
+            if members.len() < MOST_MEMBERS {
+                members.insert(place, member)?;
+            }
+            Ok(())
+        }
+    }
+}
+
+fn move_to(members: &mut Vec<Placed>, member: Placed)
+    requires { IsRising members.old.items }
+    ensures { members.new.items ≡ after_of members.old.items (Op.Move member.id member.at) }
+{
+    if let Ok(place) = place_in(members, member.id) {
+        members[place] = member;
+    }
+}
+
+fn remove(members: &mut Vec<Placed>, id: u64)
+    requires { IsRising members.old.items }
+    ensures { members.new.items ≡ after_of members.old.items (Op.Remove id) }
+{
+    if let Ok(place) = place_in(members, id) {
+        members.remove(place);
+    }
+}

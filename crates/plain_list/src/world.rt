@@ -1,0 +1,76 @@
+//! The world: every object that there is, by id.
+ghost use Rattle.std.specs.Prelude.{◌≡◌, [], IfOk, IfErr};
+ghost use Rattle.plain_list.specs.Answer.{after_of};
+
+use crate::changes::change;
+use crate::ops::Op;
+use std::alloc::{AllocError, Global};
+use std::marker::Model;
+use zorder::Placed;
+
+/// How many objects a world may have.
+pub const MOST_MEMBERS: usize = 1_048_576;
+
+/// The objects that there are, in the order of their ids.
+#[derive(Drop)]
+pub struct World {
+    members: Vec<Placed>,
+}
+
+impl Model for World {
+    ghost use Rattle.std.specs.Prelude.{List};
+    ghost use Rattle.zorder.specs.declared.points.Placed.{Placed};
+
+    ghost Value = { List Placed };
+
+    ghost use Rattle.plain_list.specs.World.{IsWorld};
+
+    ghost view = { λ w. w.members.items };
+
+    ghost invariant = { λ w. IsWorld w.members.items };
+}
+
+/// The world as it was, where memory ran out.
+#[derive(Drop)]
+pub struct WorldBack {
+    pub world: World,
+}
+
+impl World {
+    ghost use Rattle.plain_list.specs.World.{IsWorld};
+
+    pub fn empty(alloc: Global) -> World
+        ensures { result ≡ [] }
+    {
+        World {
+            members: Vec::new(alloc),
+        }
+    }
+
+    pub fn as_slice(&self) -> &[Placed]
+        ensures members { result.now ≡ self.now }
+        ensures world { IsWorld self.now }
+    {
+        self.members.as_slice()
+    }
+
+    pub(crate) fn copy(&self, alloc: Global) -> Result<World, AllocError>
+        ensures { IfOk result (λ w. w ≡ self.now) }
+    {
+        Ok(World {
+            members: Vec::from_slice(alloc, self.as_slice())?,
+        })
+    }
+}
+
+/// The world after an operation.
+pub fn after(mut world: World, op: &Op) -> Result<World, WorldBack>
+    ensures ok { IfOk result (λ w. w ≡ after_of world op.now) }
+    ensures err { IfErr result (λ e. e.world ≡ world) }
+{
+    if change(&mut world.members, op).is_ok() {
+        Ok(world)
+    } else {
+        Err(WorldBack { world })
+    }
+}
