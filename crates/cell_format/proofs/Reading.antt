@@ -1,0 +1,190 @@
+-- What 32 bytes read as, and when they read as nothing.
+use Rattle.std.proofs.Common.{◌≡◌, ℕ, zero, suc, ◌-◌, ◌^◌, ◌%◌, ◌<◌, ◌≤◌, nat_le, Bool, true, false, not, ◌&&◌, ◌==◌, List, [], ◌∷◌, ◌++◌, length, drop, replicate, slice_index, if◌then◌else◌, Result, Ok, Err, refl, sym, ◌∙◌, ap, subst, arith}
+use Rattle.std.specs.List.{list_all}
+use Rattle.std.specs.Cmp.{first_so, second_so}
+use Rattle.std.specs.Cmp.Derive.{both_true}
+use Rattle.std.specs.Int.{to_be_bytes, w32, w64}
+use Rattle.std.proofs.lemmas.Bool.{le-leb, leb-true, eqb-true, eq-eqb, true≢false}
+use Rattle.zorder.specs.Name.{first_key, is_name, high_number-name, length-name}
+use Rattle.zorder.specs.Key.{key_bits, IsPoint}
+use Rattle.std.proofs.Math.Seq.{drop-cons}
+use Rattle.cell_format.specs.declared.cell.Cell.{Cell}
+use Rattle.cell_format.specs.declared.cell.CellFault.{CellFault}
+use Rattle.cell_format.specs.declared.cell.CellFault.TheVariants.{Kind, Reserved, BadName}
+use Rattle.cell_format.specs.Spelling.{Spells, body_of, body, point_bytes, name_bytes}
+use Rattle.cell_format.specs.Decoding.{decoded, cell_or_name_fault, cell_of_kind, long_at, short_at, point_at, name_at, zeros_from, is_kind, has_zeros}
+use Rattle.cell_format.specs.Faults.{HasKind, HasZeros, HasName, HasNoKind, HasReserved}
+use Rattle.cell_format.specs.Decodes.{Decodes}
+use Rattle.cell_format.proofs.Decoded.{decoded-spelling}
+use Rattle.cell_format.proofs.Fields.{AreBytes, long_at-fits, short_at-fits, drop-long_at, drop-short_at, drop-zeros, set_behind, none_behind, zero_behind, head_two}
+
+not_false : (b : Bool) → not b ≡ false → b ≡ true
+not_false true h = refl
+not_false false h = absurd (true≢false h)
+
+-- the three tests of a reading, by what they tell
+abbrev by_tests : Bool → Bool → Result Cell CellFault → Result Cell CellFault
+by_tests kind zeros rest = if not kind then Err Kind else if not zeros then Err Reserved else rest
+
+abbrev by_name_test : Bool → Cell → Result Cell CellFault
+by_name_test bad cell = if bad then Err BadName else Ok cell
+
+abbrev is_bad_name : List ℕ → Bool
+is_bad_name bytes = (slice_index bytes 1 == 4) && not (is_name (long_at 10 bytes) (slice_index bytes 18))
+
+pub decoded-no_kind : (bytes : List ℕ) → is_kind (slice_index bytes 1) ≡ false → decoded bytes ≡ Err Kind
+decoded-no_kind bytes none = ap (λ t. by_tests t (has_zeros (slice_index bytes 1) bytes) (cell_or_name_fault (slice_index bytes 1) bytes)) none
+
+pub decoded-reserved : (bytes : List ℕ) → is_kind (slice_index bytes 1) ≡ true → has_zeros (slice_index bytes 1) bytes ≡ false → decoded bytes ≡ Err Reserved
+decoded-reserved bytes kind set = λ i. by_tests (kind i) (set i) (cell_or_name_fault (slice_index bytes 1) bytes)
+
+pub decoded-rest : (bytes : List ℕ) → is_kind (slice_index bytes 1) ≡ true → has_zeros (slice_index bytes 1) bytes ≡ true → decoded bytes ≡ cell_or_name_fault (slice_index bytes 1) bytes
+decoded-rest bytes kind zeros = λ i. by_tests (kind i) (zeros i) (cell_or_name_fault (slice_index bytes 1) bytes)
+
+pub decoded-spelled : (bytes : List ℕ) (cell : Cell) → Spells cell bytes → decoded bytes ≡ Ok cell
+decoded-spelled bytes cell s = ap decoded s.spelled ∙ decoded-spelling cell s.fits
+
+no_fault : (bytes : List ℕ) (f : CellFault) → decoded bytes ≡ Err f → (cell : Cell) → Spells cell bytes → ◌≡◌ {A = Result Cell CellFault} (Err f) (Ok cell)
+no_fault bytes f fault cell s = sym fault ∙ decoded-spelled bytes cell s
+
+has_kind : (kind : ℕ) → is_kind kind ≡ true → (1 ≤ kind) × (kind ≤ 6)
+has_kind kind is = (leb-true 1 kind (first_so (nat_le 1 kind) (nat_le kind 6) is), leb-true kind 6 (second_so (nat_le 1 kind) (nat_le kind 6) is))
+
+no_kind : (bytes : List ℕ) → is_kind (slice_index bytes 1) ≡ false → HasNoKind bytes
+no_kind bytes none has = true≢false (sym (both_true (le-leb 1 (slice_index bytes 1) has.first) (le-leb (slice_index bytes 1) 6 has.last)) ∙ none)
+
+begins : (bytes : List ℕ) → slice_index bytes 1 ≡ 4 → HasKind bytes
+begins bytes is = record { first = omega arith; last = omega arith }
+
+has_name : (bytes : List ℕ) → HasName bytes → is_name (long_at 10 bytes) (slice_index bytes 18) ≡ true
+has_name bytes has = both_true (le-leb (slice_index bytes 18) 64 has.short) (eq-eqb _ _ has.unused)
+
+named : (bytes : List ℕ) → is_name (long_at 10 bytes) (slice_index bytes 18) ≡ true → HasName bytes
+named bytes is = record {
+  short = leb-true (slice_index bytes 18) 64 (first_so (nat_le (slice_index bytes 18) 64) (long_at 10 bytes % 2 ^ (64 - slice_index bytes 18) == 0) is);
+  unused = eqb-true (long_at 10 bytes % 2 ^ (64 - slice_index bytes 18)) 0 (second_so (nat_le (slice_index bytes 18) 64) (long_at 10 bytes % 2 ^ (64 - slice_index bytes 18) == 0) is);
+}
+
+pub decodes-no_kind : (bytes : List ℕ) → is_kind (slice_index bytes 1) ≡ false → Decodes bytes (Err Kind)
+decodes-no_kind bytes none = record {
+  spelled = tt;
+  found = no_fault bytes Kind (decoded-no_kind bytes none);
+  kind = (λ _. no_kind bytes none, λ _. refl);
+  reserved = (λ e. (cc), λ r. absurd (no_kind bytes none r.kind));
+  bad_name = (λ e. (cc), λ b. absurd (no_kind bytes none (begins bytes b.begin)));
+}
+
+module _ (bytes : List ℕ) (long : length bytes ≡ 32) (small : AreBytes bytes) (set : slice_index bytes 0 ≡ 1) where
+  -- up to the number
+  numbered : (kind : ℕ) → slice_index bytes 1 ≡ kind → bytes ≡ 1 ∷ kind ∷ (to_be_bytes w64 (long_at 2 bytes) ++ drop 10 bytes)
+  numbered kind is = head_two bytes (omega arith) ∙ (λ i. set i ∷ is i ∷ drop-long_at bytes 2 (omega arith) small i)
+
+  by_number : (kind : ℕ) → slice_index bytes 1 ≡ kind → list_all (λ b. b == 0) (drop 10 bytes) ≡ true → bytes ≡ 1 ∷ body kind (long_at 2 bytes) [] 22
+  by_number kind is none =
+      let rest : drop 10 bytes ≡ replicate 22 0 = drop-zeros bytes 10 none ∙ ap (λ n. replicate (n - 10) 0) long in
+      numbered kind is ∙ ap (λ (l : List ℕ). 1 ∷ kind ∷ (to_be_bytes w64 (long_at 2 bytes) ++ l)) rest
+
+  by_point : (kind : ℕ) → slice_index bytes 1 ≡ kind → list_all (λ b. b == 0) (drop 18 bytes) ≡ true → bytes ≡ 1 ∷ body kind (long_at 2 bytes) (point_bytes (point_at bytes)) 14
+  by_point kind is none =
+      let rest : drop 18 bytes ≡ replicate 14 0 = drop-zeros bytes 18 none ∙ ap (λ n. replicate (n - 18) 0) long in
+      let y : drop 14 bytes ≡ to_be_bytes w32 (short_at 14 bytes) ++ replicate 14 0 = drop-short_at bytes 14 (omega arith) small ∙ ap (λ (l : List ℕ). to_be_bytes w32 (short_at 14 bytes) ++ l) rest in
+      let x : drop 10 bytes ≡ to_be_bytes w32 (short_at 10 bytes) ++ (to_be_bytes w32 (short_at 14 bytes) ++ replicate 14 0) =
+      drop-short_at bytes 10 (omega arith) small ∙ ap (λ (l : List ℕ). to_be_bytes w32 (short_at 10 bytes) ++ l) y in
+      numbered kind is ∙ ap (λ (l : List ℕ). 1 ∷ kind ∷ (to_be_bytes w64 (long_at 2 bytes) ++ l)) x
+
+  name_again : is_name (long_at 10 bytes) (slice_index bytes 18) ≡ true → name_bytes (name_at bytes) ≡ to_be_bytes w64 (long_at 10 bytes) ++ slice_index bytes 18 ∷ []
+  unfolding first_key key_bits
+  name_again is =
+      let len : slice_index bytes 18 ≤ 64 = leb-true (slice_index bytes 18) 64 (first_so (nat_le (slice_index bytes 18) 64) (long_at 10 bytes % 2 ^ (64 - slice_index bytes 18) == 0) is) in
+      let unused : long_at 10 bytes % 2 ^ (64 - slice_index bytes 18) ≡ 0 =
+      eqb-true (long_at 10 bytes % 2 ^ (64 - slice_index bytes 18)) 0 (second_so (nat_le (slice_index bytes 18) 64) (long_at 10 bytes % 2 ^ (64 - slice_index bytes 18) == 0) is) in
+      let key = high_number-name 64 (slice_index bytes 18) (long_at 10 bytes) len (long_at-fits bytes 10 small) unused in
+      λ i. to_be_bytes w64 (key i) ++ length-name 64 (slice_index bytes 18) (long_at 10 bytes) len i ∷ []
+
+  by_name : slice_index bytes 1 ≡ 4 → list_all (λ b. b == 0) (drop 19 bytes) ≡ true → is_name (long_at 10 bytes) (slice_index bytes 18) ≡ true
+      → bytes ≡ 1 ∷ body 4 (long_at 2 bytes) (name_bytes (name_at bytes)) 13
+  by_name is none named =
+      let rest : drop 19 bytes ≡ replicate 13 0 = drop-zeros bytes 19 none ∙ ap (λ n. replicate (n - 19) 0) long in
+      let len : drop 18 bytes ≡ slice_index bytes 18 ∷ replicate 13 0 = drop-cons bytes 18 0 (omega arith) ∙ ap (λ (l : List ℕ). slice_index bytes 18 ∷ l) rest in
+      let name : drop 10 bytes ≡ to_be_bytes w64 (long_at 10 bytes) ++ slice_index bytes 18 ∷ replicate 13 0 =
+      drop-long_at bytes 10 (omega arith) small ∙ ap (λ (l : List ℕ). to_be_bytes w64 (long_at 10 bytes) ++ l) len in
+      numbered 4 is ∙ ap (λ (l : List ℕ). 1 ∷ 4 ∷ (to_be_bytes w64 (long_at 2 bytes) ++ l)) name
+      ∙ ap (λ (l : List ℕ). 1 ∷ 4 ∷ (to_be_bytes w64 (long_at 2 bytes) ++ l ++ replicate 13 0)) (sym (name_again named))
+
+  name-short : is_name (long_at 10 bytes) (slice_index bytes 18) ≡ true → length (name_at bytes) ≤ 64
+  unfolding key_bits
+  name-short named =
+      let len : slice_index bytes 18 ≤ 64 = leb-true (slice_index bytes 18) 64 (first_so (nat_le (slice_index bytes 18) 64) (long_at 10 bytes % 2 ^ (64 - slice_index bytes 18) == 0) named) in
+      omega (arith, length-name 64 (slice_index bytes 18) (long_at 10 bytes) len)
+
+  point-fits : IsPoint (point_at bytes)
+  point-fits = record { x = short_at-fits bytes 10 small; y = short_at-fits bytes 14 small }
+
+  -- the cell of a kind is spelled by the bytes, where nothing is at fault
+  spelled_kind : (kind : ℕ) → slice_index bytes 1 ≡ kind → 1 ≤ kind → kind ≤ 6 → has_zeros kind bytes ≡ true
+      → ((kind == 4) && not (is_name (long_at 10 bytes) (slice_index bytes 18))) ≡ false → Spells (cell_of_kind kind bytes) bytes
+  unfolding body_of
+  spelled_kind zero is least most none named = absurd (omega arith)
+  spelled_kind (suc zero) is least most none named = record { fits = (long_at-fits bytes 2 small, point-fits); spelled = by_point 1 is none }
+  spelled_kind (suc (suc zero)) is least most none named = record { fits = (long_at-fits bytes 2 small, point-fits); spelled = by_point 2 is none }
+  spelled_kind (suc (suc (suc zero))) is least most none named = record { fits = long_at-fits bytes 2 small; spelled = by_number 3 is none }
+  spelled_kind (suc (suc (suc (suc zero)))) is least most none named =
+      let name = not_false (is_name (long_at 10 bytes) (slice_index bytes 18)) named in
+      record { fits = (long_at-fits bytes 2 small, name-short name); spelled = by_name is none name }
+  spelled_kind (suc (suc (suc (suc (suc zero))))) is least most none named = record { fits = long_at-fits bytes 2 small; spelled = by_number 5 is none }
+  spelled_kind (suc (suc (suc (suc (suc (suc zero)))))) is least most none named = record { fits = long_at-fits bytes 2 small; spelled = by_number 6 is none }
+  spelled_kind (suc (suc (suc (suc (suc (suc (suc kind))))))) is least most none named = absurd (omega arith)
+
+  a_kind : is_kind (slice_index bytes 1) ≡ true → HasKind bytes
+  a_kind is = let (first, last) = has_kind (slice_index bytes 1) is in record { first = first; last = last }
+
+  no_zeros : has_zeros (slice_index bytes 1) bytes ≡ false → HasZeros bytes → ⊥
+  no_zeros some none =
+      true≢false (sym (none_behind bytes (zeros_from (slice_index bytes 1)) (λ i from within. none i from (subst (λ n. i < n) long within))) ∙ some)
+
+  pub decodes-reserved : is_kind (slice_index bytes 1) ≡ true → has_zeros (slice_index bytes 1) bytes ≡ false → Decodes bytes (Err Reserved)
+  decodes-reserved is some =
+      let (at, from, within, is_set) = set_behind bytes (zeros_from (slice_index bytes 1)) some in
+      record {
+        spelled = tt;
+        found = no_fault bytes Reserved (decoded-reserved bytes is some);
+        kind = (λ e. (cc), λ no. absurd (no (a_kind is)));
+        reserved = (λ _. record { kind = a_kind is; at = at; from = from; within = subst (λ n. at < n) long within; set = is_set }, λ _. refl);
+        bad_name = (λ e. (cc), λ b. absurd (no_zeros some b.zeros));
+      }
+
+  only_zeros : has_zeros (slice_index bytes 1) bytes ≡ true → HasReserved bytes → ⊥
+  only_zeros none r = r.set (zero_behind bytes (zeros_from (slice_index bytes 1)) none r.at r.from)
+
+  decodes-bad_name : is_kind (slice_index bytes 1) ≡ true → has_zeros (slice_index bytes 1) bytes ≡ true → is_bad_name bytes ≡ true → Decodes bytes (Err BadName)
+  decodes-bad_name is none bad =
+      let begin : slice_index bytes 1 ≡ 4 = eqb-true (slice_index bytes 1) 4 (first_so (slice_index bytes 1 == 4) (not (is_name (long_at 10 bytes) (slice_index bytes 18))) bad) in
+      let no_name : HasName bytes → ⊥ = λ has. true≢false (sym (second_so (slice_index bytes 1 == 4) (not (is_name (long_at 10 bytes) (slice_index bytes 18))) bad) ∙ ap not (has_name bytes has)) in
+      let fault : decoded bytes ≡ Err BadName = decoded-rest bytes is none ∙ ap (λ t. by_name_test t (cell_of_kind (slice_index bytes 1) bytes)) bad in
+      record {
+        spelled = tt;
+        found = no_fault bytes BadName fault;
+        kind = (λ e. (cc), λ no. absurd (no (a_kind is)));
+        reserved = (λ e. (cc), λ r. absurd (only_zeros none r));
+        bad_name = (λ _. record { begin = begin; zeros = λ i from within. zero_behind bytes (zeros_from (slice_index bytes 1)) none i from; bad = no_name }, λ _. refl);
+      }
+
+  decodes-cell : is_kind (slice_index bytes 1) ≡ true → has_zeros (slice_index bytes 1) bytes ≡ true → is_bad_name bytes ≡ false → Decodes bytes (Ok (cell_of_kind (slice_index bytes 1) bytes))
+  decodes-cell is none good =
+      let cell = cell_of_kind (slice_index bytes 1) bytes in
+      let (first, last) = has_kind (slice_index bytes 1) is in
+      let fine : decoded bytes ≡ Ok cell = decoded-rest bytes is none ∙ ap (λ t. by_name_test t cell) good in
+      record {
+        spelled = spelled_kind (slice_index bytes 1) refl first last none good;
+        found = λ other s. sym fine ∙ decoded-spelled bytes other s;
+        kind = (λ e. (cc), λ no. absurd (no (a_kind is)));
+        reserved = (λ e. (cc), λ r. absurd (only_zeros none r));
+        bad_name = (λ e. (cc), λ b. absurd (b.bad (named bytes (not_false _ (sym (ap (λ t. t && not (is_name (long_at 10 bytes) (slice_index bytes 18))) (eq-eqb (slice_index bytes 1) 4 b.begin)) ∙ good)))));
+      }
+
+  pub decodes-rest : is_kind (slice_index bytes 1) ≡ true → has_zeros (slice_index bytes 1) bytes ≡ true → Decodes bytes (cell_or_name_fault (slice_index bytes 1) bytes)
+  decodes-rest is none = by_name_cases (is_bad_name bytes) refl
+    where
+      by_name_cases : (bad : Bool) → is_bad_name bytes ≡ bad → Decodes bytes (cell_or_name_fault (slice_index bytes 1) bytes)
+      by_name_cases true bad = subst (λ t. Decodes bytes (by_name_test t (cell_of_kind (slice_index bytes 1) bytes))) (sym bad) (decodes-bad_name is none bad)
+      by_name_cases false good = subst (λ t. Decodes bytes (by_name_test t (cell_of_kind (slice_index bytes 1) bytes))) (sym good) (decodes-cell is none good)

@@ -1,0 +1,5 @@
+pub mod Spelling
+pub mod Decoding
+pub mod Faults
+pub mod Decodes
+pub mod Examples
