@@ -9,13 +9,13 @@ use Rattle.std.specs.Cmp.Derive.{both_true}
 use Rattle.zorder.proofs.Ranges.{high_number-end, high_number-multiple, range-front}
 use Rattle.zorder.specs.Bits.{high_number}
 use Rattle.zorder.specs.Key.{key_bits}
-use Rattle.zorder.specs.Name.{first_key, is_name}
+use Rattle.zorder.specs.Name.{first_key}
 use Rattle.cell_format.specs.declared.cell.Cell.{Cell}
 use Rattle.cell_format.specs.declared.cell.Cell.TheVariants.{Put, Move, Remove, Begin, Install, Abandon}
 use Rattle.cell_format.specs.declared.cell.CellFault.{CellFault}
 use Rattle.cell_format.specs.declared.cell.CellFault.TheVariants.{BadName}
 use Rattle.cell_format.specs.Spelling.{IsCell, spelling, body_of}
-use Rattle.cell_format.specs.Decoding.{decoded, long_at}
+use Rattle.cell_format.specs.Decoding.{decoded, long_at, is_name}
 
 first_key-fits : (name : List Bool) → length name ≤ 64 → first_key name < 2 ^ 64
 unfolding first_key

@@ -5,17 +5,19 @@ use Rattle.std.specs.Cmp.{first_so, second_so}
 use Rattle.std.specs.Cmp.Derive.{both_true}
 use Rattle.std.specs.Int.{to_be_bytes, w32, w64}
 use Rattle.std.proofs.lemmas.Bool.{le-leb, leb-true, eqb-true, eq-eqb, true≢false}
-use Rattle.zorder.specs.Name.{first_key, is_name, high_number-name, length-name}
+use Rattle.zorder.specs.Name.{first_key, high_number-name, length-name}
 use Rattle.zorder.specs.Key.{key_bits, IsPoint}
 use Rattle.std.proofs.Math.Seq.{drop-cons}
 use Rattle.cell_format.specs.declared.cell.Cell.{Cell}
 use Rattle.cell_format.specs.declared.cell.CellFault.{CellFault}
 use Rattle.cell_format.specs.declared.cell.CellFault.TheVariants.{Kind, Reserved, BadName}
 use Rattle.cell_format.specs.Spelling.{Spells, body_of, body, point_bytes, name_bytes}
-use Rattle.cell_format.specs.Decoding.{decoded, cell_or_name_fault, cell_of_kind, long_at, short_at, point_at, name_at, zeros_from, is_kind, has_zeros}
-use Rattle.cell_format.specs.Faults.{HasKind, HasZeros, HasName, HasNoKind, HasReserved}
+use Rattle.cell_format.specs.Decoding.{decoded, cell_or_name_fault, cell_of_kind, long_at, short_at, point_at, name_at, zeros_from, is_kind, has_zeros, is_name}
+use Rattle.cell_format.specs.Faults.{HasKind, HasZeros, HasNoKind, HasReserved}
 use Rattle.cell_format.specs.Decodes.{Decodes}
 use Rattle.cell_format.proofs.Decoded.{decoded-spelling}
+use Rattle.zorder.specs.Name.{IsNoName}
+use Rattle.cell_format.proofs.Names.{no_name, is_no_name}
 use Rattle.cell_format.proofs.Fields.{AreBytes, long_at-fits, short_at-fits, drop-long_at, drop-short_at, drop-zeros, set_behind, none_behind, zero_behind, head_two}
 
 not_false : (b : Bool) → not b ≡ false → b ≡ true
@@ -56,15 +58,6 @@ no_kind bytes none has = true≢false (sym (both_true (le-leb 1 (slice_index byt
 begins : (bytes : List ℕ) → slice_index bytes 1 ≡ 4 → HasKind bytes
 begins bytes is = record { first = omega arith; last = omega arith }
 
-has_name : (bytes : List ℕ) → HasName bytes → is_name (long_at 10 bytes) (slice_index bytes 18) ≡ true
-has_name bytes has = both_true (le-leb (slice_index bytes 18) 64 has.short) (eq-eqb _ _ has.unused)
-
-named : (bytes : List ℕ) → is_name (long_at 10 bytes) (slice_index bytes 18) ≡ true → HasName bytes
-named bytes is = record {
-  short = leb-true (slice_index bytes 18) 64 (first_so (nat_le (slice_index bytes 18) 64) (long_at 10 bytes % 2 ^ (64 - slice_index bytes 18) == 0) is);
-  unused = eqb-true (long_at 10 bytes % 2 ^ (64 - slice_index bytes 18)) 0 (second_so (nat_le (slice_index bytes 18) 64) (long_at 10 bytes % 2 ^ (64 - slice_index bytes 18) == 0) is);
-}
-
 pub decodes-no_kind : (bytes : List ℕ) → is_kind (slice_index bytes 1) ≡ false → Decodes bytes (Err Kind)
 decodes-no_kind bytes none = record {
   spelled = tt;
@@ -73,6 +66,10 @@ decodes-no_kind bytes none = record {
   reserved = (λ e. (cc), λ r. absurd (no_kind bytes none r.kind));
   bad_name = (λ e. (cc), λ b. absurd (no_kind bytes none (begins bytes b.begin)));
 }
+
+not_true : (b : Bool) → not b ≡ true → b ≡ false
+not_true true h = absurd (true≢false (sym h))
+not_true false h = refl
 
 module _ (bytes : List ℕ) (long : length bytes ≡ 32) (small : AreBytes bytes) (set : slice_index bytes 0 ≡ 1) where
   -- up to the number
@@ -159,7 +156,8 @@ module _ (bytes : List ℕ) (long : length bytes ≡ 32) (small : AreBytes bytes
   decodes-bad_name : is_kind (slice_index bytes 1) ≡ true → has_zeros (slice_index bytes 1) bytes ≡ true → is_bad_name bytes ≡ true → Decodes bytes (Err BadName)
   decodes-bad_name is none bad =
       let begin : slice_index bytes 1 ≡ 4 = eqb-true (slice_index bytes 1) 4 (first_so (slice_index bytes 1 == 4) (not (is_name (long_at 10 bytes) (slice_index bytes 18))) bad) in
-      let no_name : HasName bytes → ⊥ = λ has. true≢false (sym (second_so (slice_index bytes 1 == 4) (not (is_name (long_at 10 bytes) (slice_index bytes 18))) bad) ∙ ap not (has_name bytes has)) in
+      let no_name : IsNoName (long_at 10 bytes) (slice_index bytes 18) =
+      is_no_name (long_at 10 bytes) (slice_index bytes 18) (not_true _ (second_so (slice_index bytes 1 == 4) (not (is_name (long_at 10 bytes) (slice_index bytes 18))) bad)) in
       let fault : decoded bytes ≡ Err BadName = decoded-rest bytes is none ∙ ap (λ t. by_name_test t (cell_of_kind (slice_index bytes 1) bytes)) bad in
       record {
         spelled = tt;
@@ -168,6 +166,9 @@ module _ (bytes : List ℕ) (long : length bytes ≡ 32) (small : AreBytes bytes
         reserved = (λ e. (cc), λ r. absurd (only_zeros none r));
         bad_name = (λ _. record { begin = begin; zeros = λ i from within. zero_behind bytes (zeros_from (slice_index bytes 1)) none i from; bad = no_name }, λ _. refl);
       }
+
+  is_named : slice_index bytes 1 ≡ 4 → is_bad_name bytes ≡ false → is_name (long_at 10 bytes) (slice_index bytes 18) ≡ true
+  is_named begin good = not_false _ (sym (ap (λ t. t && not (is_name (long_at 10 bytes) (slice_index bytes 18))) (eq-eqb (slice_index bytes 1) 4 begin)) ∙ good)
 
   decodes-cell : is_kind (slice_index bytes 1) ≡ true → has_zeros (slice_index bytes 1) bytes ≡ true → is_bad_name bytes ≡ false → Decodes bytes (Ok (cell_of_kind (slice_index bytes 1) bytes))
   decodes-cell is none good =
@@ -179,7 +180,7 @@ module _ (bytes : List ℕ) (long : length bytes ≡ 32) (small : AreBytes bytes
         found = λ other s. sym fine ∙ decoded-spelled bytes other s;
         kind = (λ e. (cc), λ no. absurd (no (a_kind is)));
         reserved = (λ e. (cc), λ r. absurd (only_zeros none r));
-        bad_name = (λ e. (cc), λ b. absurd (b.bad (named bytes (not_false _ (sym (ap (λ t. t && not (is_name (long_at 10 bytes) (slice_index bytes 18))) (eq-eqb (slice_index bytes 1) 4 b.begin)) ∙ good)))));
+        bad_name = (λ e. (cc), λ b. absurd (true≢false (sym (is_named b.begin good) ∙ no_name (long_at 10 bytes) (slice_index bytes 18) b.bad)));
       }
 
   pub decodes-rest : is_kind (slice_index bytes 1) ≡ true → has_zeros (slice_index bytes 1) bytes ≡ true → Decodes bytes (cell_or_name_fault (slice_index bytes 1) bytes)

@@ -1,10 +1,9 @@
 -- The cell that 32 bytes spell, or the first reason why they spell none.
-use Rattle.std.specs.Prelude.{ℕ, nat_le, Bool, not, ◌&&◌, List, take, drop, slice_index, if◌then◌else◌, ◌==◌, Result, Ok, Err}
+use Rattle.std.specs.Prelude.{◌-◌, ◌^◌, ◌%◌, ℕ, nat_le, Bool, not, ◌&&◌, List, take, drop, slice_index, if◌then◌else◌, ◌==◌, Result, Ok, Err}
 use Rattle.std.specs.List.{list_all}
 use Rattle.std.specs.Int.{from_be_bytes, w32, w64}
 use Rattle.zorder.specs.declared.points.Point.{Point}
 use Rattle.zorder.specs.Key.{key_bits}
-use Rattle.zorder.specs.Name.{is_name}
 use Rattle.cell_format.specs.declared.cell.Cell.{Cell}
 use Rattle.cell_format.specs.declared.cell.Cell.TheVariants.{Put, Move, Remove, Begin, Install, Abandon}
 use Rattle.cell_format.specs.declared.cell.CellFault.{CellFault}
@@ -29,6 +28,10 @@ short_at at bytes = from_be_bytes w32 (part at 4 bytes)
 -- the point of a put or a move
 abbrev pub point_at : List ℕ → Point
 point_at bytes = record { x = short_at 10 bytes; y = short_at 14 bytes }
+
+-- whether so many bits at the high end are a name's: not too many, and none set behind them
+abbrev pub is_name : ℕ → ℕ → Bool
+is_name bits len = nat_le len 64 && (bits % 2 ^ (64 - len) == 0)
 
 -- the name of a begin
 abbrev pub name_at : List ℕ → List Bool

@@ -1,5 +1,6 @@
 -- The reasons why 32 bytes spell no cell, each where those before it don't hold.
-use Rattle.std.specs.Prelude.{◌≡◌, ◌≢◌, ℕ, ◌-◌, ◌^◌, ◌%◌, ◌<◌, ◌≤◌, List, slice_index}
+use Rattle.std.specs.Prelude.{◌≡◌, ◌≢◌, ℕ, ◌<◌, ◌≤◌, List, slice_index}
+use Rattle.zorder.specs.Name.{IsNoName}
 use Rattle.cell_format.specs.Decoding.{zeros_from, long_at}
 
 -- byte 1 is one of the six kinds
@@ -10,11 +11,6 @@ pub record HasKind (bytes : List ℕ) : Type 0 where
 -- each byte that the kind leaves 0 is 0
 abbrev pub HasZeros : List ℕ → Type 0
 HasZeros bytes = (i : ℕ) → zeros_from (slice_index bytes 1) ≤ i → i < 32 → slice_index bytes i ≡ 0
-
--- the name of a begin has at most 64 bits, and none is set behind its last
-pub record HasName (bytes : List ℕ) : Type 0 where
-  pub short : slice_index bytes 18 ≤ 64
-  pub unused : long_at 10 bytes % 2 ^ (64 - slice_index bytes 18) ≡ 0
 
 -- byte 1 is no kind
 abbrev pub HasNoKind : List ℕ → Type 0
@@ -32,4 +28,4 @@ pub record HasReserved (bytes : List ℕ) : Type 0 where
 pub record HasBadName (bytes : List ℕ) : Type 0 where
   pub begin : slice_index bytes 1 ≡ 4
   pub zeros : HasZeros bytes
-  pub bad : ¬ HasName bytes
+  pub bad : IsNoName (long_at 10 bytes) (slice_index bytes 18)

@@ -1,6 +1,6 @@
 //! From bytes to the cell that they spell.
-ghost use Rattle.std.specs.Prelude.{◌≡◌, ◌+◌, ◌≤◌, ◌==◌, ◌↔◌, slice_index, IfOk, Err};
-ghost use Rattle.cell_format.specs.Decoding.{decoded, cell_or_name_fault, long_at, short_at, point_at, zeros_from, has_zeros};
+ghost use Rattle.std.specs.Prelude.{◌≡◌, ◌+◌, ◌≤◌, slice_index, if◌then◌else◌, Some, None};
+ghost use Rattle.cell_format.specs.Decoding.{decoded, cell_or_name_fault, long_at, short_at, point_at, name_at, is_name, zeros_from, has_zeros};
 ghost use Rattle.cell_format.specs.Decodes.{Decodes};
 
 use crate::cell::{Cell, CellFault};
@@ -41,7 +41,7 @@ fn cell_of(kind: u8, bytes: &[u8; 32]) -> Result<Cell, CellFault>
         kinds::REMOVE => Cell::Remove { id: number },
         kinds::BEGIN => Cell::Begin {
             number,
-            name: Name::new(long_at(bytes, 10), bytes[18]).ok_or(CellFault::BadName)?,
+            name: name_at(bytes).ok_or(CellFault::BadName)?,
         },
         kinds::INSTALL => Cell::Install { number },
         _ => Cell::Abandon { number },
@@ -66,6 +66,13 @@ fn has_zeros(kind: u8, bytes: &[u8; 32]) -> bool
     ensures { result ≡ has_zeros kind bytes.now }
 {
     bytes.iter().skip(zeros_from(kind)).all(|byte| *byte == 0)
+}
+
+/// The name of a begin, where it is one.
+fn name_at(bytes: &[u8; 32]) -> Option<Name>
+    ensures { result ≡ (if is_name (long_at 10 bytes.now) (slice_index bytes.now 18) then Some (name_at bytes.now) else None) }
+{
+    Name::new(long_at(bytes, 10), bytes[18])
 }
 
 fn point_at(bytes: &[u8; 32]) -> Point
