@@ -1,0 +1,5 @@
+pub mod Torn
+pub mod Cells
+pub mod Placing
+pub mod Unique
+pub mod Kept

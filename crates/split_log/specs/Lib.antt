@@ -1,0 +1,4 @@
+pub mod LogText
+pub mod LogView
+pub mod Append
+pub mod Examples

@@ -1,0 +1,44 @@
+//! The four device calls that add a cell.
+ghost use Rattle.std.specs.Prelude.{◌≡◌, ◌⊎◌, ◌+◌, ◌≤◌, ◌^◌, ◌∷◌, [], ◌++◌, ℕ, List, Some, OnOk, OnErr, is_some, length};
+ghost use Rattle.disk_trait.specs.Drive.{CountsFaults};
+ghost use Rattle.disk_trait.specs.Moments.{LeavesOnly, LeavesNow};
+ghost use Rattle.cell_format.specs.declared.cell.Cell.{Cell};
+ghost use Rattle.cell_format.specs.Spelling.{IsCell, body_of};
+ghost use Rattle.split_log.specs.LogText.{IsLog, HoldsCells, HoldsEither, IsStaged};
+ghost use Rattle.split_log.specs.Append.{IsReady};
+
+use cell_format::{Cell, encode};
+use disk_trait::{DiskFault, LogDisk};
+
+/// Writes a piece behind the clear commit byte at a place, and then sets that byte.
+pub(crate) fn place<D: LogDisk>(disk: &mut D, at: u64, piece: &[u8]) -> Result<(), DiskFault>
+    requires whole { (xs : List ℕ) → (D.drive disk.old).bytes ≡ Some xs → length xs ≡ at + 1 }
+    requires small { at + 1 + length piece.now ≤ 2 ^ 40 }
+
+    ensures any_moment { (w : ℕ) (cells : List Cell) (cell : Cell) → IsReady w cells cell piece.now (D.drive disk.old)
+        → LeavesOnly (D.drive disk.old) (D.drive disk.new) (HoldsEither w cells cell) }
+    ensures placed { OnOk result ((w : ℕ) (cells : List Cell) (cell : Cell) → IsReady w cells cell piece.now (D.drive disk.old)
+        → IsLog w (cells ++ cell ∷ []) (D.drive disk.new)) }
+    ensures unplaced { OnErr result ((w : ℕ) (cells : List Cell) (cell : Cell) → IsReady w cells cell piece.now (D.drive disk.old)
+        → LeavesOnly (D.drive disk.old) (D.drive disk.new) (HoldsCells w cells) ⊎ LeavesNow (D.drive disk.new) (IsStaged w cells cell)) }
+    ensures told { is_some (D.drive disk.new).bytes ≡ is_some (D.drive disk.old).bytes }
+    ensures cause { CountsFaults (D.drive disk.old) (D.drive disk.new) result }
+{
+    disk.write(at + 1, piece)?;
+    // Synced first: behind a commit byte that a crash may set, whatever stood there would count.
+    disk.sync()?;
+    disk.write(at, &[1])?;
+    // Synced before the answer: until then a crash may leave the byte clear.
+    disk.sync()?;
+    Ok(())
+}
+
+/// A cell without its commit byte, and a clear one for the cell after it.
+pub(crate) fn behind_commit_byte(cell: &Cell) -> [u8; 32]
+    ensures bytes { result ≡ body_of cell.now ++ 0 ∷ [] }
+    ensures fits { IsCell cell.now }
+{
+    let mut piece = [0; 32];
+    piece[..31].copy_from_slice(&encode(cell)[1..]);
+    piece
+}
