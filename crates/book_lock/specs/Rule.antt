@@ -1,0 +1,89 @@
+-- The rule of the lock. Word 0 is only loaded, word 1 is 1 while a seat holds the lock and else 0, and word 2 counts the entries of the
+-- history. Slot 0 has the value.
+use Rattle.std.specs.Prelude.{◌≡◌, ℕ, ◌+◌, ◌-◌, ◌<◌, ◌≤◌, List, [], ◌∷◌, length, slice_index, Option, Some, None, Bool, true, false, if◌then◌else◌}
+use mathlib.Core.Option.{some}
+use mathlib.Core.List.{IsPrefix}
+use lib.ListN.{get_elem?}
+use Rattle.atomic_table.specs.Table.{State}
+use Rattle.plain_list.specs.declared.entries.Entry.{Entry}
+use Rattle.book_lock.specs.Origin.{Origin}
+use Rattle.book_lock.specs.declared.view.View.{View}
+use Rattle.book_lock.specs.Own.{times, once_below, Owns, Rises, IsBelow, merge}
+use Rattle.book_lock.specs.Ends.{IsBegin, IsEnd, longer, shorter}
+
+abbrev pub seat_view : List Entry → List Entry → List ℕ → Origin → ℕ → Bool → View
+seat_view seen told own origin parts holds = record { seen = seen; told = told; own = own; origin = origin; parts = parts; holds = holds }
+
+-- f of each view, added up
+abbrev pub total : (View → ℕ) → List View → ℕ
+total f [] = 0
+total f (v ∷ vs) = f v + total f vs
+
+-- 1 where the seat holds the lock
+abbrev pub hold_of : View → ℕ
+hold_of v = if v.holds then 1 else 0
+
+abbrev pub parts_of : View → ℕ
+parts_of v = v.parts
+
+abbrev pub times_of : ℕ → View → ℕ
+times_of p v = times p v.own
+
+-- the view of the first seat
+abbrev pub newcomer : Origin → View
+newcomer origin = seat_view [] [] [] origin 65536 false
+
+-- what the rule says of one view of a history and an origin: what it has seen and was told are beginnings of the history; its own
+-- positions rise and were seen; unless it is spent it is of the origin; who holds the lock has seen the whole history; who has no part
+-- owns nothing and doesn't hold the lock
+pub record Fits (log : List Entry) (start : Origin) (v : View) : Type 0 where
+  pub seen : IsPrefix v.seen log
+  pub told : IsPrefix v.told log
+  pub rises : Rises v.own
+  pub below : IsBelow (length v.seen) v.own
+  pub same : 0 < v.parts → v.origin ≡ start
+  pub whole : v.holds ≡ true → v.seen ≡ log
+  pub idle : v.parts ≡ 0 → (v.own ≡ []) × (v.holds ≡ false)
+
+-- some seat owns this end of a split, and an earlier Begin of it
+abbrev pub HasEnder : List View → List Entry → ℕ → ℕ → Type 0
+HasEnder views log p n = (id q : ℕ) × (v : View) × (get_elem? views id ≡ some v) × Owns v.own p × Owns v.own q × (q < p) × IsBegin log q n
+
+-- what a value's entries and origin, the words and the views of all seats have to do with one history
+pub record LockRule {V : Type 0} (entries : V → List Entry) (origin : V → Origin) (start : Origin) (s : State (Option V) View) : Type 0 where
+  pub log : List Entry
+  pub wide : length s.words ≡ 3
+  pub counted : slice_index s.words 2 ≡ length log
+  pub holding : total hold_of s.views ≡ slice_index s.words 1
+  pub single : slice_index s.words 1 ≤ 1
+  pub parts : total parts_of s.views ≡ 65536
+  pub owned : (p : ℕ) → total (times_of p) s.views ≡ once_below p (length log)
+  pub each : (j : ℕ) (v : View) → get_elem? s.views j ≡ some v → Fits log start v
+  pub home : slice_index s.words 1 ≡ 0 → (x : V) × (s.homes ≡ some (Some x) ∷ []) × (entries x ≡ log) × (origin x ≡ start)
+  pub ended : (p n : ℕ) → IsEnd log p n → HasEnder s.views log p n
+
+-- a seat without one of its parts
+abbrev pub without_part : View → View
+without_part v = seat_view v.seen v.told v.own v.origin (v.parts - 1) v.holds
+
+-- a new seat that has that part, and has seen the same
+abbrev pub part_of : View → View
+part_of v = seat_view v.seen [] [] v.origin 1 false
+
+-- a new seat that has seen the same, without a part
+abbrev pub note_of : View → View
+note_of v = seat_view v.seen [] [] v.origin 0 false
+
+-- what a seat knows that takes in another: the longer of what both have seen, and the shorter as told
+abbrev pub both : View → View → View
+both v w = seat_view (longer v.seen w.seen) (shorter v.seen w.seen) (merge w.own v.own) v.origin (v.parts + w.parts) v.holds
+
+abbrev pub no_origin : Origin
+no_origin = record { world = []; leaves = []; begun = 0; cells = 0; bytes = None; moment = 0; faults = 0; bucket = 0 }
+
+-- a seat that another took in
+abbrev pub spent : View
+spent = seat_view [] [] [] no_origin 0 false
+
+abbrev pub untold : View → View
+untold v = seat_view v.seen [] v.own v.origin v.parts v.holds

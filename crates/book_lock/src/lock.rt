@@ -1,0 +1,111 @@
+//! The lock: how it is made and closed.
+ghost use Rattle.std.specs.Prelude.{◌≡◌, ℕ, false, [], ◌∷◌, length, IfOk, IfErr, MatchResult, Some};
+ghost use Rattle.book_lock.specs.Own.{times, once_below};
+
+use crate::held::Held;
+use crate::kinds::Law;
+use crate::pass::Pass;
+use crate::view::View;
+use atomic_table::{Refused, Table};
+use std::alloc::{AllocFailed, Global};
+use std::marker::Model;
+use std::snapshot::Snapshot;
+use std::sync::atomic::AtomicU64;
+
+mod holding;
+mod shares;
+
+/// Guards one value. Contracts see which lock it is, so that a pass can be known to be of it.
+///
+/// Word 0 of its table is never changed, word 1 is 1 while the lock is taken, word 2 counts the entries of the history,
+/// and the one slot has the value.
+pub struct BookLock<V: Held> {
+    table: Table<Option<V>, View, Snapshot<V>, Law, Global>,
+    /// How many callers sleep, or are about to.
+    sleepers: AtomicU64,
+}
+
+impl<V: Held> Model for BookLock<V> {
+    ghost use Rattle.std.specs.Prelude.{◌≡◌};
+    ghost use Rattle.atomic_table.specs.Seated.{TableId, table_id_coded};
+
+    ghost Value = { TableId };
+
+    ghost coded = { table_id_coded };
+
+    ghost view = { λ b. b.table.shared.table_id };
+
+    ghost invariant = { λ b. (b.table.shared.table_id.words ≡ 3) × (b.table.shared.table_id.slots ≡ 1) };
+}
+
+// The one slot, with the value.
+fn shelf<V>(alloc: Global, value: V) -> Result<Vec<Option<V>>, V>
+    ensures { MatchResult result (λ v. v.items ≡ Some value ∷ []) (λ v. v ≡ value) }
+{
+    let mut slots = Vec::new(alloc);
+    match slots.push(Some(value)) {
+        Ok(()) => Ok(slots),
+        Err(failed) => {
+            slots.destroy_empty();
+            let AllocFailed { value } = failed;
+            match value {
+                Some(value) => Err(value),
+                None => unreachable!(),
+            }
+        }
+    }
+}
+
+// The value of the one slot.
+fn unshelf<V>(mut slots: Vec<Option<V>>) -> V
+    requires { (v : V) × (slots.items ≡ Some v ∷ []) }
+    ensures { slots.items ≡ Some result ∷ [] }
+{
+    let Some(Some(value)) = slots.pop() else {
+        unreachable!()
+    };
+    slots.destroy_empty();
+    value
+}
+
+impl<V: Held> BookLock<V> {
+    /// A lock around a value that has no entries yet, and the pass that has all parts of it. For want of memory the
+    /// value comes back.
+    pub fn new(alloc: Global, value: V) -> Result<(BookLock<V>, Pass<V>), V>
+        requires { V.entries value ≡ [] }
+        ensures lock { IfOk result (λ r. r.1 ≡ record { lock = r.0; seen = []; own = []; origin = V.origin value; parts = 65536; holds = false }) }
+        ensures back { IfErr result (λ v. v ≡ value) }
+    {
+        let about = Snapshot::of(&value);
+        let slots = shelf(alloc, value)?;
+        match Table::new(alloc, &[0, 0, 0], slots, &about) {
+            Ok((table, seat)) => Ok((
+                BookLock {
+                    table,
+                    sleepers: AtomicU64::new(0),
+                },
+                Pass { seat },
+            )),
+            Err(Refused { slots }) => Err(unshelf(slots)),
+        }
+    }
+
+    /// Ends the lock, and gives the value. A pass has all parts once each other one was joined to it.
+    pub fn close(self, pass: Pass<V>) -> V
+        requires lock { pass.lock ≡ self }
+        requires off { pass.holds ≡ false }
+        requires parts { pass.parts ≡ 65536 }
+        ensures value { (V.entries result ≡ pass.seen) × (V.origin result ≡ pass.origin) }
+        ensures own { (p : ℕ) → times p pass.own ≡ once_below p (length pass.seen) }
+    {
+        let BookLock { table, sleepers: _ } = self;
+        let Pass { seat } = pass;
+        let mut closed = table.close_with(seat);
+        let slot = closed.take(0);
+        closed.free();
+        match slot {
+            Some(value) => value,
+            None => unreachable!(),
+        }
+    }
+}

@@ -1,0 +1,113 @@
+//! Taking the lock, adding to the history, and giving the lock back.
+ghost use Rattle.std.specs.Prelude.{◌≡◌, ◌+◌, ◌^◌, ◌<◌, true, false, [], ◌∷◌, ◌++◌, length};
+ghost use mathlib.Core.List.{IsPrefix};
+ghost use Rattle.plain_list.specs.declared.entries.Entry.{Entry};
+ghost use Rattle.book_lock.specs.Own.{Rises, IsBelow};
+ghost use Rattle.book_lock.specs.Ends.{OwnsEnds, MayNote};
+
+use super::BookLock;
+use crate::held::Held;
+use crate::kinds::{Compare, Note, Noting, Release, Take};
+use crate::pass::Pass;
+use std::marker::Brand;
+use std::sync::Wait;
+use std::sync::atomic::Ordering;
+use std::thread;
+
+/// How often a caller that finds the lock taken lets others run before it sleeps.
+const YIELDS: u32 = 20;
+
+impl<V: Held> BookLock<V> {
+    // Lets others run, and sleeps where that has not helped so many times. Gives the new number of times.
+    fn pause<R: Wait>(&self, rt: &R, misses: u32) -> u32 {
+        if misses < YIELDS {
+            thread::yield_now();
+            misses + 1
+        } else {
+            self.sleep(rt);
+            0
+        }
+    }
+
+    // Counted before it sleeps: a holder that frees the lock either sees the count and wakes one, or freed it before
+    // the count rose, and then the word isn't 1 any more and the sleep ends at once.
+    fn sleep<R: Wait>(&self, rt: &R) {
+        self.sleepers.fetch_add(1, Ordering::SeqCst);
+        self.table.shared.park(rt, 1, 1);
+        self.sleepers.fetch_sub(1, Ordering::SeqCst);
+    }
+
+    // Wakes one sleeper, if there is one. Without one it makes no system call.
+    fn wake(&self) {
+        if self.sleepers.load(Ordering::SeqCst) > 0 {
+            self.table.shared.wake_one(1);
+        }
+    }
+
+    /// Waits until the lock is free, and takes it with the value. Nobody else can add to the history until the lock is
+    /// given back.
+    pub fn take<R: Wait>(&self, rt: &R, pass: &mut Pass<V>) -> V
+        requires lock { pass.old.lock ≡ self.now }
+        requires off { pass.old.holds ≡ false }
+        ensures value { (V.entries result ≡ pass.new.seen) × (V.origin result ≡ pass.old.origin) }
+        ensures later { IsPrefix pass.old.seen pass.new.seen }
+        ensures pass { pass.new ≡ record pass.old { seen = pass.new.seen; holds = true } }
+        ensures ends { OwnsEnds pass.new.seen pass.new.own }
+        ensures rises { Rises pass.new.own × IsBelow (length pass.new.seen) pass.new.own }
+    {
+        let seat = &mut pass.seat;
+        let shared = &self.table.shared;
+        let mut misses = 0;
+        for _ in rt.forever() {
+            if shared.compare_exchange::<Take>(seat, 1, 0, 1) == 0 {
+                let slot = shared.exchange(seat, 0, None);
+                shared.load::<Compare>(seat, 2);
+                match slot {
+                    Some(value) => return value,
+                    None => unreachable!(),
+                }
+            }
+            misses = self.pause(rt, misses);
+        }
+        unreachable!()
+    }
+
+    // `value` is for the choice of the entry alone.
+    fn add<J: Noting>(&self, pass: &mut Pass<V>, value: &V)
+        requires lock { pass.old.lock ≡ self.now }
+        requires on { pass.old.holds ≡ true }
+        requires room { length pass.old.seen + 1 < 2 ^ 64 }
+        requires ends { MayNote pass.old.seen pass.old.own J.entry }
+        ensures { pass.new ≡ record pass.old { seen = pass.old.seen ++ J.entry ∷ []; own = pass.old.own ++ length pass.old.seen ∷ [] } }
+    {
+        let _ = value;
+        self.table.shared.fetch_add::<Note<J>>(&mut pass.seat, 2, 1);
+    }
+
+    /// Makes the value's newest entry the next of the history. Whoever ends a split has to own its begin.
+    pub fn note(&self, pass: &mut Pass<V>, value: &V)
+        requires lock { pass.old.lock ≡ self.now }
+        requires on { pass.old.holds ≡ true }
+        requires origin { V.origin value.now ≡ pass.old.origin }
+        requires entry { (e : Entry) × (V.entries value.now ≡ pass.old.seen ++ e ∷ []) × MayNote pass.old.seen pass.old.own e }
+        ensures { pass.new ≡ record pass.old { seen = V.entries value.now; own = pass.old.own ++ length pass.old.seen ∷ [] } }
+    {
+        // The number of entries fits a word, so the count of the history can't begin again at 0.
+        let _events = value.events();
+        self.add::<Brand>(pass, value);
+    }
+
+    /// Gives the lock and the value back, and wakes a caller that sleeps.
+    pub fn put_back(&self, pass: &mut Pass<V>, value: V)
+        requires lock { pass.old.lock ≡ self.now }
+        requires on { pass.old.holds ≡ true }
+        requires value { (V.entries value ≡ pass.old.seen) × (V.origin value ≡ pass.old.origin) }
+        ensures { pass.new ≡ record pass.old { holds = false } }
+    {
+        let empty = self.table.shared.exchange(&mut pass.seat, 0, Some(value));
+        let None = empty else { unreachable!() };
+        self.table.shared.store::<Release>(&mut pass.seat, 1, 0);
+        // Behind the store: who isn't counted yet finds the lock free.
+        self.wake();
+    }
+}

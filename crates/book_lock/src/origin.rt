@@ -1,0 +1,22 @@
+//! What a value behind the lock began from.
+use std::collections::LinkedList;
+use zorder::{Name, Placed};
+
+/// No value of it is made: contracts alone speak of it, so that whoever closes a lock knows that the value is still of
+/// the beginning that it had when it was put in.
+pub struct Origin {
+    pub world: LinkedList<Placed>,
+    pub leaves: LinkedList<Name>,
+    /// How many splits had been begun.
+    pub begun: u64,
+    /// How many cells its log had.
+    pub cells: u64,
+    /// The bytes of its log, where there is one and its drive tells them.
+    pub bytes: Option<LinkedList<u8>>,
+    /// The moment of its drive.
+    pub moment: u64,
+    /// How many faults its drive had counted.
+    pub faults: u64,
+    /// The size of a bucket.
+    pub bucket: u64,
+}
