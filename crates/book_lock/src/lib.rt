@@ -19,3 +19,6 @@ pub use held::Held;
 pub use lock::BookLock;
 pub use origin::Origin;
 pub use pass::Pass;
+
+#[cfg(test)]
+mod tests;
