@@ -1,0 +1,11 @@
+use Rattle.std.proofs.Common.{List, [], ◌∷◌, ◌++◌, ap, ◌∙◌, ⊎_elim}
+use Rattle.plain_list.specs.declared.entries.Entry.{Entry}
+use Rattle.lock_bench.specs.Tally.{one_find}
+use Rattle.lock_bench.proofs.crowd.take_turn.Goals as goal
+
+pub note-requires-clause-entry : goal.note-requires-clause-entry
+note-requires-clause-entry g c = (
+  one_find,
+  c.if-add.ensures ∙ ap (λ (l : List Entry). l ++ one_find ∷ []) c.take-tally.ensures.value.0,
+  λ n e. ⊎_elim (λ i. absurd (cc (i))) (λ i. absurd (cc (i))) e,
+)

@@ -1,0 +1,49 @@
+//! A value that counts its entries, all of which are one call.
+ghost use Rattle.std.specs.Prelude.{◌≡◌, [], ◌∷◌, ◌++◌, replicate, MatchBool};
+ghost use Rattle.lock_bench.specs.Tally.{one_find};
+
+use book_lock::Held;
+
+#[derive(Drop)]
+pub struct Tally {
+    finds: u64,
+}
+
+impl Held for Tally {
+    ghost use Rattle.book_lock.specs.Rule.{no_origin};
+
+    ghost entries = { λ t. replicate t.finds one_find };
+
+    ghost origin = { λ _. no_origin };
+
+    fn events(&self) -> u64 {
+        self.finds
+    }
+}
+
+impl Tally {
+    pub fn new() -> Tally
+        ensures { result.finds ≡ 0 }
+    {
+        Tally { finds: 0 }
+    }
+
+    pub fn count(&self) -> u64
+        ensures { result ≡ self.now.finds }
+    {
+        self.finds
+    }
+
+    // Counts one more, unless the number is full.
+    pub(crate) fn add(&mut self) -> bool
+        ensures { MatchBool result (replicate self.new.finds one_find ≡ replicate self.old.finds one_find ++ one_find ∷ []) (self.new ≡ self.old) }
+    {
+        match self.finds.checked_add(1) {
+            Some(finds) => {
+                self.finds = finds;
+                true
+            }
+            None => false,
+        }
+    }
+}
