@@ -1,13 +1,21 @@
-//! Threads that take turns.
+//! Threads that take the lock in rounds.
 ghost use Rattle.std.specs.Prelude.{◌≡◌, ◌+◌, ◌<◌, ◌≤◌, false};
 ghost use Rattle.std.specs.Thread.{IsSync};
 
 use crate::tally::Tally;
 use book_lock::{BookLock, Pass};
+use std::rt::Clock;
 use std::sync::Wait;
-use std::thread::{Threads, join_mut};
+use std::thread::{self, Threads, join_mut};
+use std::time::Duration;
 
-fn take_turn<R: Wait>(rt: &R, lock: &BookLock<Tally>, pass: &mut Pass<Tally>)
+// One round: asleep for so long while the lock is held, as over the sync of a file.
+fn run_round<R: Wait + Clock>(
+    rt: &R,
+    lock: &BookLock<Tally>,
+    pass: &mut Pass<Tally>,
+    asleep: Duration,
+)
     requires { (pass.old.lock ≡ lock.now) × (pass.old.holds ≡ false) }
     ensures { (pass.new.lock ≡ pass.old.lock) × (pass.new.holds ≡ false) × (pass.new.parts ≡ pass.old.parts) }
 {
@@ -15,32 +23,42 @@ fn take_turn<R: Wait>(rt: &R, lock: &BookLock<Tally>, pass: &mut Pass<Tally>)
     if tally.add() {
         lock.note(pass, &tally);
     }
+    if !asleep.is_zero() {
+        thread::sleep(rt, asleep);
+    }
     lock.put_back(pass, tally);
 }
 
-fn take_each<R: Wait>(rt: &R, lock: &BookLock<Tally>, pass: &mut Pass<Tally>, turns: u64)
+fn run_rounds<R: Wait + Clock>(
+    rt: &R,
+    lock: &BookLock<Tally>,
+    pass: &mut Pass<Tally>,
+    rounds: u64,
+    asleep: Duration,
+)
     requires { (pass.old.lock ≡ lock.now) × (pass.old.holds ≡ false) }
     ensures { (pass.new.lock ≡ pass.old.lock) × (pass.new.holds ≡ false) × (pass.new.parts ≡ pass.old.parts) }
 {
-    for _ in 0..turns {
-        take_turn(rt, lock, pass);
+    for _ in 0..rounds {
+        run_round(rt, lock, pass, asleep);
     }
 }
 
-/// So many threads, this one among them, take so many turns each, all at once.
-pub fn take_turns<R: Threads + Wait + Sync>(
+/// So many threads, this one among them, take so many rounds each, all at once.
+pub fn run_all<R: Threads + Wait + Clock + Sync>(
     rt: &R,
     lock: &BookLock<Tally>,
     pass: &mut Pass<Tally>,
     threads: u8,
-    turns: u64,
+    rounds: u64,
+    asleep: Duration,
 )
     requires pass { (pass.old.lock ≡ lock.now) × (pass.old.holds ≡ false) }
     requires parts { (1 ≤ threads) × (threads ≤ pass.old.parts) }
     ensures { (pass.new.lock ≡ pass.old.lock) × (pass.new.holds ≡ false) × (pass.new.parts ≡ pass.old.parts) }
 {
     if threads <= 1 {
-        take_each(rt, lock, pass, turns);
+        run_rounds(rt, lock, pass, rounds, asleep);
         return;
     }
     let mut mine = lock.split_pass(pass);
@@ -49,11 +67,11 @@ pub fn take_turns<R: Threads + Wait + Sync>(
         &mut ||
             requires { IsSync R.row × (1 < threads) × (pass.now.lock ≡ lock.now) × (pass.now.holds ≡ false) × (threads ≤ pass.now.parts + 1) }
             ensures { (pass.exit.now.lock ≡ pass.entry.now.lock) × (pass.exit.now.holds ≡ false) × (pass.exit.now.parts ≡ pass.entry.now.parts) }
-        { take_turns(rt, lock, pass, threads - 1, turns) },
+        { run_all(rt, lock, pass, threads - 1, rounds, asleep) },
         &mut ||
             requires { IsSync R.row × (mine.lock ≡ lock.now) × (mine.holds ≡ false) }
             ensures { (mine.exit.lock ≡ mine.entry.lock) × (mine.exit.holds ≡ false) × (mine.exit.parts ≡ mine.entry.parts) }
-        { take_each(rt, lock, &mut mine, turns) },
+        { run_rounds(rt, lock, &mut mine, rounds, asleep) },
     );
     lock.join_pass(pass, mine);
 }
