@@ -4,3 +4,4 @@ pub mod Ends
 pub mod Pass
 pub mod Rule
 pub mod Steps
+pub mod Examples
