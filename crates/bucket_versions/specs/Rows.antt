@@ -1,0 +1,69 @@
+-- Rows in order: by key, and then by id, none twice.
+use Rattle.std.specs.Prelude.{ℕ, suc, nat_le, nat_lt, Bool, not, ◌&&◌, ◌||◌, ◌==◌, List, [], ◌∷◌, if◌then◌else◌, ⊤, IsTrue}
+use Rattle.std.specs.List.{filter, list_any}
+use Rattle.bucket_versions.specs.declared.row.Row.{Row}
+
+-- what a clause sees of a bucket: the rows that it was made of, and its rows now
+pub record Rows : Type 0 where
+  pub base : List Row
+  pub rows : List Row
+
+-- the order of rows: by key, and then by id
+abbrev pub is_below : Row → Row → Bool
+is_below a b = nat_lt a.key b.key || ((a.key == b.key) && nat_lt a.id b.id)
+
+-- whether two rows are one
+abbrev pub same_row : Row → Row → Bool
+same_row a b = (a.key == b.key) && (a.id == b.id)
+
+-- each row is above this one
+abbrev pub IsAbove : Row → List Row → Type 0
+IsAbove r [] = ⊤
+IsAbove r (s ∷ rows) = IsTrue (is_below r s) × IsAbove r rows
+
+-- the rows rise, so none stands twice
+abbrev pub IsRows : List Row → Type 0
+IsRows [] = ⊤
+IsRows (r ∷ rows) = IsAbove r rows × IsRows rows
+
+-- both lists of a bucket rise
+pub record AreRows (b : Rows) : Type 0 where
+  pub base : IsRows b.base
+  pub rows : IsRows b.rows
+
+-- whether a row is among these
+abbrev pub has_row : Row → List Row → Bool
+has_row r rows = list_any (λ s. same_row s r) rows
+
+-- the rows with one more, in order
+abbrev pub with_row : Row → List Row → List Row
+with_row r [] = r ∷ []
+with_row r (s ∷ rows) = if is_below r s then r ∷ s ∷ rows else s ∷ with_row r rows
+
+-- the rows without this one
+abbrev pub without_row : Row → List Row → List Row
+without_row r rows = filter (λ s. not (same_row s r)) rows
+
+-- the rows whose keys lie between two, both included
+abbrev pub rows_between : ℕ → ℕ → List Row → List Row
+rows_between lo hi rows = filter (λ r. nat_le lo r.key && nat_le r.key hi) rows
+
+-- a bucket that was just made of these rows
+abbrev pub as_base : List Row → Rows
+as_base rows = record { base = rows; rows = rows }
+
+-- a bucket with other rows on the same base
+abbrev pub with_rows : List Row → Rows → Rows
+with_rows rows b = record { base = b.base; rows = rows }
+
+-- a bucket after a put, and after a removal
+abbrev pub put_row : Row → Rows → Rows
+put_row r b = with_rows (with_row r b.rows) b
+
+abbrev pub gone_row : Row → Rows → Rows
+gone_row r b = with_rows (without_row r b.rows) b
+
+-- how many of the rows, from the first one on, are below this one
+abbrev pub row_place : Row → List Row → ℕ
+row_place r [] = 0
+row_place r (s ∷ rows) = if is_below s r then suc (row_place r rows) else 0

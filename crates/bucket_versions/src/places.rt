@@ -1,0 +1,54 @@
+//! Where rows stand in a list in order, found by binary search.
+ghost use Rattle.std.specs.Prelude.{◌≡◌, ◌≤◌, ◌<◌, ℕ, nat_le, true, false, length, take, drop, MatchResult};
+ghost use Rattle.std.specs.List.{filter, remove};
+ghost use Rattle.bucket_versions.specs.Rows.{IsRows, has_row, with_row, without_row, rows_between, row_place};
+
+use crate::row::Row;
+
+/// Where a row stands, or in an `Err` where it would.
+pub(crate) fn place_of(rows: &[Row], row: &Row) -> Result<usize, usize>
+    requires { IsRows rows.now }
+    ensures there { MatchResult result (λ i. has_row row.now rows.now ≡ true) (λ i. has_row row.now rows.now ≡ false) }
+    ensures place { MatchResult result (λ i. i ≡ row_place row.now rows.now) (λ i. i ≡ row_place row.now rows.now) }
+    ensures within { MatchResult result (λ i. i < length rows.now) (λ i. i ≤ length rows.now) }
+{
+    let place = rows_below(rows, row);
+    if place < rows.len() && rows[place] == *row {
+        Ok(place)
+    } else {
+        Err(place)
+    }
+}
+
+fn rows_below(rows: &[Row], row: &Row) -> usize
+    requires { IsRows rows.now }
+    ensures place { result ≡ row_place row.now rows.now }
+    ensures within { result ≤ length rows.now }
+{
+    rows.partition_point(|r| r.key < row.key || (r.key == row.key && r.id < row.id))
+}
+
+/// The rows with keys from `lo` to `hi`.
+pub(crate) fn between(rows: &[Row], lo: u64, hi: u64) -> &[Row]
+    requires { IsRows rows.now }
+    ensures { result.now ≡ rows_between lo hi rows.now }
+{
+    from_key(up_to_key(rows, hi), lo)
+}
+
+fn up_to_key(rows: &[Row], hi: u64) -> &[Row]
+    requires { IsRows rows.now }
+    ensures rows { result.now ≡ filter (λ r. nat_le r.key hi) rows.now }
+    ensures in_order { IsRows result.now }
+{
+    let end = rows.partition_point(|r| r.key <= hi);
+    &rows[..end]
+}
+
+fn from_key(rows: &[Row], lo: u64) -> &[Row]
+    requires { IsRows rows.now }
+    ensures { result.now ≡ filter (λ r. nat_le lo r.key) rows.now }
+{
+    let start = rows.partition_point(|r| r.key < lo);
+    &rows[start..]
+}
