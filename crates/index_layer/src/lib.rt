@@ -1,0 +1,12 @@
+//! The trait that every index meets: leaves in the order of their keys, a bucket of rows for each.
+//!
+//! Contracts see an index as the list of its leaves. Their names tile the key space, and the rows of each leaf are in
+//! order and under its name (`are_leaves`). `leaf_of` and `part` find a leaf by a key or a name; `whole`, `share`,
+//! `replaced` and `split` give new indexes and change none.
+//!
+//! Not here: the forms of an index (`flat_index`), and walks over one (`table_share`, `range_query`, `knn_query`).
+#![tactic(auto)]
+
+mod index;
+
+pub use index::{Index, IndexFault, Part};
