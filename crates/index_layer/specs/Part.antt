@@ -1,7 +1,6 @@
 -- What an index has at a name.
-use Rattle.std.specs.Prelude.{◌≡◌, Bool, true, false, not, ◌&&◌, List, ◌∷◌, Some}
+use Rattle.std.specs.Prelude.{◌≡◌, Bool, true, false, not, ◌&&◌, List, Some}
 use Rattle.std.specs.List.{list_any, starts_with}
-use Rattle.std.specs.Borrow.{Bor}
 use Rattle.std.specs.Arc.{arc_value}
 use mathlib.Core.Bool.{beq}
 use Rattle.zorder.specs.SameName.{same_name}
