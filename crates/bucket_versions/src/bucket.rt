@@ -1,14 +1,17 @@
 //! A bucket: a base and the rows now, both shared.
-ghost use Rattle.std.specs.Prelude.{◌≡◌, ◌≤◌, ◌<◌, ◌↔◌, ℕ, length, true, false, IfOk, IsTrue, IsErrOf};
+ghost use Rattle.std.specs.Prelude.{◌≡◌, ◌≤◌, ◌<◌, ◌+◌, ◌↔◌, ℕ, length, true, false, IfOk, IsTrue, IsErrOf};
 ghost use Rattle.std.specs.List.{insert, remove};
 ghost use Rattle.std.specs.Arc.{arc_value};
 ghost use Rattle.bucket_versions.specs.Rows.{IsRows, AreRows, has_row, as_base, with_rows, put_row, gone_row, rows_between, row_place};
 
 use crate::places;
 use crate::row::Row;
+use crate::walk::BucketRows;
 use std::alloc::{AllocError, Global};
 use std::marker::Model;
 use std::sync::Arc;
+use std::sync::ledger::Ledger;
+use step_count::Steps;
 use zorder::Memory;
 
 /// Why a row wasn't put or taken out.
@@ -161,6 +164,16 @@ impl Bucket {
         ensures in_order { AreRows self.now }
     {
         self.rows.len() as u64
+    }
+
+    /// The rows in order, one after the other. To begin is one step, however many are taken.
+    pub fn rows<L: Ledger>(&self, steps: &mut Steps<L>) -> BucketRows<'_>
+        ensures rows { result ≡ self.now.rows }
+        ensures steps { steps.new ≡ steps.old + 1 }
+        ensures in_order { AreRows self.now }
+    {
+        steps.tick();
+        BucketRows::over(&self.rows)
     }
 
     /// Whether a row is there.

@@ -12,6 +12,8 @@ mod places;
 mod row;
 #[cfg(test)]
 mod tests;
+mod walk;
 
 pub use bucket::{Bucket, BucketFault};
 pub use row::Row;
+pub use walk::BucketRows;

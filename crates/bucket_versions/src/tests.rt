@@ -2,12 +2,29 @@
 ghost use Rattle.std.specs.Prelude.{◌≡◌, [], ◌∷◌};
 
 use crate::{Bucket, BucketFault, Row};
+use std::alloc::{AllocError, Global};
+use std::marker::Brand;
+use std::sync::ledger::{Blank, Ledger};
 use std::test::*;
+use step_count::Steps;
 
 fn row(key: u64, id: u64) -> Row
     ensures { result ≡ record { key = key; id = id } }
 {
     Row { key, id }
+}
+
+fn listed<L: Ledger>(alloc: Global, bucket: &Bucket, blank: Blank) -> Result<Vec<Row>, AllocError>
+    requires name { blank.name ≡ L.name }
+    requires parts { blank.parts ≡ L.parts }
+    requires one_part { blank.parts ≡ 1 }
+{
+    let mut steps = Steps::<L>::new(blank);
+    let mut all = Vec::new(alloc);
+    for row in bucket.rows(&mut steps) {
+        all.push(*row)?;
+    }
+    Ok(all)
 }
 
 fn in_threads<T: Send + Sync>() {}
@@ -24,6 +41,11 @@ fn a_put_keeps_the_base_and_folding_moves_it(rt: HostRuntime) -> Result<(), Fail
     let c = b.with_put(row(2, 4))?;
     assert_eq!(rt; c.base_rows(), [row(1, 9), row(27, 7)].as_slice());
     assert_eq!(rt; c.count(), 3);
+    let rows = listed::<Brand>(rt.alloc(), &c, Blank::new(1))?;
+    assert_eq!(rt;
+        rows.as_slice(),
+        [row(1, 9), row(2, 4), row(27, 7)].as_slice()
+    );
     assert!(rt; c.holds(&row(2, 4)));
     assert!(rt; !b.holds(&row(2, 4)));
     assert_eq!(rt;
