@@ -1,11 +1,11 @@
 -- The leaf that a name's first key is under, and what it says of the name.
-use Rattle.std.proofs.Common.{◌≡◌, ℕ, ◌^◌, ◌<◌, ◌≤◌, leb, Bool, true, false, not, ◌||◌, List, [], ◌∷◌, ◌++◌, length, take, drop, Some, refl, sym, ◌∙◌, ap, arith, cond, length-append, append_assoc}
+use Rattle.std.proofs.Common.{◌≡◌, ℕ, ◌^◌, ◌<◌, ◌≤◌, leb, ltb, Bool, true, false, not, ◌&&◌, ◌||◌, List, [], ◌∷◌, ◌++◌, length, take, drop, Some, refl, sym, ◌∙◌, ap, subst, arith, cond, length-append, append_assoc}
 use Rattle.std.specs.List.{find, list_any, starts_with}
-use Rattle.std.specs.Cmp.{booleans_Decides, both_ways, first_so}
+use Rattle.std.specs.Cmp.{booleans_Decides, both_ways, first_so, second_so}
 use Rattle.std.specs.Cmp.Derive.{both_true}
 use Rattle.std.specs.Cmp.Lexicographic.{pointwise_decides}
 use Rattle.std.proofs.lemmas.List.{take-append-drop, append-nil}
-use Rattle.std.proofs.lemmas.Bool.{leb-true, leb-false}
+use Rattle.std.proofs.lemmas.Bool.{leb-true, leb-false, ltb-true, lt-ltb}
 use mathlib.Core.Bool.{beq, true≢false}
 use Rattle.zorder.specs.Key.{is_under, key_bits}
 use Rattle.zorder.specs.Name.{first_key}
@@ -13,7 +13,7 @@ use Rattle.zorder.specs.SameName.{same_name, same_name-decides}
 use Rattle.zorder.specs.Tile.{tiles_from}
 use Rattle.index_layer.specs.Leaves.{Leaf, names_of, has_name, leaf_named, leaf_under}
 use Rattle.index_layer.specs.Part.{goes_on, is_inner}
-use Rattle.index_layer.proofs.LeafKeys.{find_at, first_key-under, first_key-fits, leaf_under-at, short_at}
+use Rattle.index_layer.proofs.LeafKeys.{false_if, find_at, first_key-under, first_key-fits, leaf_under-at, short_at}
 
 -- one list is the front of another
 abbrev pub IsFront : List Bool → List Bool → Type 0
@@ -124,7 +124,37 @@ one-leaf leaves l m key tile fits at_l at_m under_l under_m = some l m (sym (lea
     some : (a b : Leaf) → Some a ≡ Some b → a ≡ b
     some a b e = cc e
 
-module _ (leaves : List Leaf) (tile : tiles_from 0 (names_of leaves) ≡ true) (name : List Bool) (short : length name ≤ 64) (l : Leaf) (found : leaf_under (first_key name) leaves ≡ Some l) where
+abbrev IsShort : List Bool → Type 0
+IsShort name = length name ≤ 64
+
+-- a name goes on from another exactly where it is longer and its first key is under that one
+pub goes_on-test : (name long : List Bool) → length long ≤ 64 → goes_on name long ≡ (ltb (length name) (length long) && is_under name (first_key long))
+goes_on-test name long short =
+    both_ways (goes_on name long) (ltb (length name) (length long) && is_under name (first_key long))
+    (λ e.
+    let f : IsFront name long = front-from_test name long (first_so (starts_with beq long name) (not (same_name long name)) e) in
+    let other : same_name long name ≡ false = not-true (same_name long name) (second_so (starts_with beq long name) (not (same_name long name)) e) in
+    let longer : length name ≡ length long → ⊥ = λ same. true≢false (sym ((same_name-decides long name).1 (whole_front name long f same)) ∙ other) in
+    both_true (lt-ltb (length name) (length long) (omega (arith, front-length name long f, longer))) (under-front name long (first_key long) f (first_key-under long short)))
+    (λ e.
+    let lt : length name < length long = ltb-true (length name) (length long) (first_so (ltb (length name) (length long)) (is_under name (first_key long)) e) in
+    let under : is_under name (first_key long) ≡ true = second_so (ltb (length name) (length long)) (is_under name (first_key long)) e in
+    let f : IsFront name long = under-fronts name long (first_key long) under (first_key-under long short) (omega (arith, lt)) in
+    let other : same_name long name ≡ false = false_if (same_name long name) (λ same. let e2 : length long ≡ length name = ap length ((same_name-decides long name).0 same) in omega (arith, lt, e2)) in
+    both_true (front-test name long f) (ap not other))
+  where
+    not-true : (b : Bool) → not b ≡ true → b ≡ false
+    not-true true e = sym e
+    not-true false e = refl
+
+    whole_front : (a b : List Bool) → IsFront a b → length a ≡ length b → b ≡ a
+    whole_front a b f same = f.1 ∙ ap (λ l. a ++ l) (empty f.0 (omega (arith, ap length f.1, length-append a f.0, same))) ∙ append-nil a
+      where
+        empty : (l : List Bool) → length l ≡ 0 → l ≡ []
+        empty [] e = refl
+        empty (x ∷ l) e = absurd (omega (arith, e))
+
+module _ (leaves : List Leaf) (tile : tiles_from 0 (names_of leaves) ≡ true) (name : List Bool) (l : Leaf) (found : leaf_under (first_key name) leaves ≡ Some l) where
   at : IsAmong leaves l
   at = (find-among (λ (m : Leaf). is_under m.name (first_key name)) leaves l found).0
 
@@ -138,6 +168,7 @@ module _ (leaves : List Leaf) (tile : tiles_from 0 (names_of leaves) ≡ true) (
       (λ e.
       let m = any-among (λ (n : Leaf). same_name n.name name) leaves e in
       let named : m.0.name ≡ name = (same_name-decides m.0.name name).0 m.2 in
+      let short : length name ≤ 64 = subst IsShort named (short-among leaves m.0 tile m.1) in
       let under : is_under m.0.name (first_key name) ≡ true = ap (λ (n : List Bool). is_under n (first_key name)) named ∙ first_key-under name short in
       let same : m.0 ≡ l = one-leaf leaves m.0 l (first_key name) tile (first_key-fits name short) m.1 at under over in
       ap (λ (n : Leaf). same_name n.name name) (sym same) ∙ m.2)
@@ -149,6 +180,7 @@ module _ (leaves : List Leaf) (tile : tiles_from 0 (names_of leaves) ≡ true) (
       let m = some_found (λ (n : Leaf). same_name n.name name) leaves (among-any (λ (n : Leaf). same_name n.name name) leaves l at e) in
       let it = find-among (λ (n : Leaf). same_name n.name name) leaves m.0 m.1 in
       let named : m.0.name ≡ name = (same_name-decides m.0.name name).0 it.1 in
+      let short : length name ≤ 64 = subst IsShort named (short-among leaves m.0 tile it.0) in
       let under : is_under m.0.name (first_key name) ≡ true = ap (λ (n : List Bool). is_under n (first_key name)) named ∙ first_key-under name short in
       m.1 ∙ ap Some (one-leaf leaves m.0 l (first_key name) tile (first_key-fits name short) it.0 at under over)
 
@@ -169,12 +201,17 @@ module _ (leaves : List Leaf) (tile : tiles_from 0 (names_of leaves) ≡ true) (
           let same : m ≡ l = one-leaf leaves m l (first_key m.name) tile (first_key-fits m.name m_short) at_m at key_m (under-front l.name m.name (first_key m.name) over_m key_m) in
           ap (λ (n : Leaf). goes_on name n.name) (sym same) ∙ e
 
+      short_front : (m : Leaf) → IsAmong leaves m → goes_on name m.name ≡ true → length name ≤ 64
+      short_front m at_m e =
+          let f : IsFront name m.name = front-from_test name m.name (first_so (starts_with beq m.name name) (not (same_name m.name name)) e) in
+          omega (arith, front-length name m.name f, short-among leaves m tile at_m)
+
       inner : (m : Leaf) → IsAmong leaves m → goes_on name m.name ≡ true → goes_on name l.name ≡ true
-      inner m at_m e = by_tests (leb (length name) (length l.name)) (same_name l.name name) refl refl
+      inner m at_m e = by_tests (short_front m at_m e) (leb (length name) (length l.name)) (same_name l.name name) refl refl
         where
-          by_tests : (a b : Bool) → leb (length name) (length l.name) ≡ a → same_name l.name name ≡ b → goes_on name l.name ≡ true
-          by_tests a true le same = behind m at_m e ([], (sym ((same_name-decides l.name name).0 same)) ∙ sym (append-nil l.name))
-          by_tests true false le same =
+          by_tests : length name ≤ 64 → (a b : Bool) → leb (length name) (length l.name) ≡ a → same_name l.name name ≡ b → goes_on name l.name ≡ true
+          by_tests short a true le same = behind m at_m e ([], (sym ((same_name-decides l.name name).0 same)) ∙ sym (append-nil l.name))
+          by_tests short true false le same =
               both_true (front-test name l.name (under-fronts name l.name (first_key name) (first_key-under name short) over (leb-true (length name) (length l.name) le))) (ap not same)
-          by_tests false false le same =
+          by_tests short false false le same =
               behind m at_m e (under-fronts l.name name (first_key name) over (first_key-under name short) (omega (arith, leb-false (length name) (length l.name) le)))
