@@ -1,0 +1,2 @@
+pub mod SeenLeaves
+pub mod SeenChanges

@@ -1,0 +1,147 @@
+//! All leaves, in one list.
+ghost use Rattle.std.specs.Prelude.{◌≡◌, ◌≤◌, ◌<◌, ◌+◌, length, map, slice_index_or, IfOk};
+ghost use Rattle.std.specs.Arc.{arc_value};
+ghost use Rattle.bucket_versions.specs.Rows.{IsRows};
+ghost use Rattle.index_layer.specs.Leaves.{Leaf, AreLeaves, AreUnder, AreAllUnder, replaced, split};
+ghost use Rattle.index_layer.specs.LeavesProp.{AreLeaves-prop};
+ghost use Rattle.flat_index.specs.Seen.{seen, seen_leaf};
+
+use crate::leaf::{FlatLeaf, front_of, push_shared};
+use crate::places::{place_named, place_of};
+use bucket_versions::Bucket;
+use index_layer::{Index, IndexFault, Part};
+use std::alloc::{AllocError, Global};
+use std::sync::Arc;
+use zorder::{Memory, Name, begins, child};
+
+/// A list of leaves, in the order of their keys.
+#[derive(Drop)]
+pub struct FlatIndex {
+    alloc: Global,
+    leaves: Vec<FlatLeaf>,
+    ghost are_leaves: { AreLeaves (seen leaves.items) } by { AreLeaves-prop (seen leaves.items) },
+}
+
+impl Index for FlatIndex {
+    ghost leaves = { λ s. seen s.leaves.items };
+
+    ghost WIDTH = { 1 };
+
+    const WIDTH: u8 = 1;
+
+    ghost use Rattle.std.proofs.Common.{inl, refl};
+
+    ghost are_leaves = { λ s. s.are_leaves };
+
+    ghost width = { inl refl };
+
+    fn whole(alloc: Global, bucket: Arc<Bucket>) -> Result<Self, Memory> {
+        let mut leaves = Vec::new(alloc);
+        match leaves.push(FlatLeaf::new(Name::whole(), bucket)) {
+            Ok(()) => Ok(FlatIndex { alloc, leaves }),
+            Err(_) => Err(Memory),
+        }
+    }
+
+    fn share(&self) -> Result<Self, Memory> {
+        match front_of(self.alloc, &self.leaves, self.leaves.len(), 0) {
+            Ok(leaves) => Ok(FlatIndex {
+                alloc: self.alloc,
+                leaves,
+            }),
+            Err(_) => Err(Memory),
+        }
+    }
+
+    fn leaf_of(&self, key: u64) -> (Name, &Arc<Bucket>) {
+        let leaf = &self.leaves[place_of(&self.leaves, key)];
+        (leaf.name, &leaf.bucket)
+    }
+
+    fn part(&self, name: &Name) -> Part<'_> {
+        let leaf = &self.leaves[place_of(&self.leaves, name.bits())];
+        if leaf.name == *name {
+            Part::Leaf(&leaf.bucket)
+        } else if name.len() < leaf.name.len() && begins(name, leaf.name.bits()) {
+            Part::Inner
+        } else {
+            Part::Outside
+        }
+    }
+
+    fn replaced(&self, name: &Name, bucket: Arc<Bucket>) -> Result<Self, IndexFault> {
+        let Some(place) = place_named(&self.leaves, name) else {
+            return Err(IndexFault::NoLeaf { name: *name });
+        };
+        match with_leaf(
+            self.alloc,
+            &self.leaves,
+            place,
+            FlatLeaf::new(*name, bucket),
+        ) {
+            Ok(leaves) => Ok(FlatIndex {
+                alloc: self.alloc,
+                leaves,
+            }),
+            Err(_) => Err(IndexFault::Memory),
+        }
+    }
+
+    fn split(&self, name: &Name, children: &[Arc<Bucket>]) -> Result<Self, IndexFault> {
+        let Some(place) = place_named(&self.leaves, name) else {
+            return Err(IndexFault::NoLeaf { name: *name });
+        };
+        match with_children(self.alloc, &self.leaves, place, name, children) {
+            Ok(leaves) => Ok(FlatIndex {
+                alloc: self.alloc,
+                leaves,
+            }),
+            Err(_) => Err(IndexFault::Memory),
+        }
+    }
+}
+
+// The leaves with another bucket at a place.
+fn with_leaf(
+    alloc: Global,
+    leaves: &[FlatLeaf],
+    place: usize,
+    leaf: FlatLeaf,
+) -> Result<Vec<FlatLeaf>, AllocError>
+    requires tile { AreLeaves (seen leaves.now) }
+    requires within { place < length leaves.now }
+    requires named { (d : Leaf) → (slice_index_or (seen leaves.now) place d).name ≡ leaf.name }
+    requires in_order { IsRows (seen_leaf leaf).bucket.rows }
+    requires under { AreUnder leaf.name (seen_leaf leaf).bucket.rows }
+    ensures leaves { IfOk result (λ v. seen v.items ≡ replaced leaf.name (seen_leaf leaf).bucket (seen leaves.now)) }
+    ensures tile { IfOk result (λ v. AreLeaves (seen v.items)) }
+{
+    let mut all = front_of(alloc, leaves, place, 0)?;
+    all.push(leaf)?;
+    push_shared(&mut all, &leaves[place + 1..])?;
+    Ok(all)
+}
+
+// The leaves with the two children of one in its place.
+fn with_children(
+    alloc: Global,
+    leaves: &[FlatLeaf],
+    place: usize,
+    name: &Name,
+    children: &[Arc<Bucket>],
+) -> Result<Vec<FlatLeaf>, AllocError>
+    requires tile { AreLeaves (seen leaves.now) }
+    requires within { place < length leaves.now }
+    requires named { (d : Leaf) → (slice_index_or (seen leaves.now) place d).name ≡ name.now }
+    requires short { length name.now + 1 ≤ 64 }
+    requires count { length children.now ≡ 2 }
+    requires under { AreAllUnder 1 name.now (map arc_value children.now) }
+    ensures leaves { IfOk result (λ v. seen v.items ≡ split 1 name.now (map arc_value children.now) (seen leaves.now)) }
+    ensures tile { IfOk result (λ v. AreLeaves (seen v.items)) }
+{
+    let mut all = front_of(alloc, leaves, place, 1)?;
+    all.push(FlatLeaf::new(child(name, false), Arc::try_clone(&children[0])?))?;
+    all.push(FlatLeaf::new(child(name, true), Arc::try_clone(&children[1])?))?;
+    push_shared(&mut all, &leaves[place + 1..])?;
+    Ok(all)
+}
