@@ -127,3 +127,23 @@ first_keys_rise k (l ∷ leaves) zero (suc j) d tile le lt =
     at [] j all lt = absurd (omega arith)
     at (m ∷ rest) zero all lt = all.0
     at (m ∷ rest) (suc j) all lt = at rest j all.1 (omega arith)
+
+-- each key is under some leaf
+some_from : (k : ℕ) (leaves : List Leaf) (key : ℕ) → tiles_from k (names_of leaves) ≡ true → k ≤ key → key < 2 ^ 64 → (l : Leaf) × (leaf_under key leaves ≡ Some l)
+some_from k [] key tile from fits = absurd (omega (arith, eqb-true k (2 ^ 64) tile))
+some_from k (l ∷ leaves) key tile from fits = by_test (leb (next_key l.name) key) refl (some_from (next_key l.name) leaves key (tile_rest k l leaves tile))
+  where
+    below : (m n : ℕ) → leb m n ≡ false → n < m
+    below m n h = grind (arith, nat_tests)
+
+    by_test : (b : Bool) → leb (next_key l.name) key ≡ b → (next_key l.name ≤ key → key < 2 ^ 64 → (m : Leaf) × (leaf_under key leaves ≡ Some m)) → (m : Leaf) × (leaf_under key (l ∷ leaves) ≡ Some m)
+    by_test true e later =
+        let begin : next_key l.name ≤ key = leb-true (next_key l.name) key e in
+        let rest = later begin fits in
+        let other : is_under l.name key ≡ false = false_if (is_under l.name key) (λ u. let range = under-range l.name key (tile_short k l leaves tile) fits u in omega (arith, range.1, begin)) in
+        (rest.0, find_at (λ (m : Leaf). is_under m.name key) l leaves false other ∙ rest.1)
+    by_test false e later =
+        (l, find_at (λ (m : Leaf). is_under m.name key) l leaves true (range-under l.name key (tile_short k l leaves tile) fits (omega (arith, tile_first k l leaves tile, from)) (below (next_key l.name) key e)))
+
+pub leaf_under-some : (leaves : List Leaf) (key : ℕ) → tiles_from 0 (names_of leaves) ≡ true → key < 2 ^ 64 → (l : Leaf) × (leaf_under key leaves ≡ Some l)
+leaf_under-some leaves key tile fits = some_from 0 leaves key tile (omega arith) fits

@@ -65,7 +65,7 @@ under-front a b key f under = front-test a (key_bits key) (front-trans a b (key_
 abbrev pub IsAmong : List Leaf → Leaf → Type 0
 IsAmong leaves l = (front : List Leaf) × (back : List Leaf) × (leaves ≡ front ++ l ∷ back)
 
-later_leaf : (f : Leaf) (leaves : List Leaf) (l : Leaf) → IsAmong leaves l → IsAmong (f ∷ leaves) l
+pub later_leaf : (f : Leaf) (leaves : List Leaf) (l : Leaf) → IsAmong leaves l → IsAmong (f ∷ leaves) l
 later_leaf f leaves l at = (f ∷ at.0, at.1, ap (λ (rest : List Leaf). f ∷ rest) at.2)
 
 pub any-among : (p : Leaf → Bool) (leaves : List Leaf) → list_any p leaves ≡ true → (l : Leaf) × IsAmong leaves l × (p l ≡ true)
