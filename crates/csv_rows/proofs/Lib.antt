@@ -1,0 +1,4 @@
+pub mod RecordsFacts
+pub mod RowsFacts
+pub mod FieldsFacts
+pub mod NumbersFacts

@@ -1,0 +1,81 @@
+-- Numbers between two others.
+use Rattle.std.proofs.Common.{◌≡◌, ◌<◌, ◌≤◌, ℕ, Bool, true, false, List, length, Some, None, refl, arith, cond, ◌&&◌, ◌+◌, ◌^◌, take, get_or, lit≤, rules}
+use Rattle.std.proofs.lemmas.Bool.{le-leb, leb-true}
+use Rattle.std.specs.Prelude.{nat_le}
+use Rattle.std.specs.Char.{is_ascii_digit}
+use Rattle.std.specs.List.{list_all}
+use Rattle.std.specs.Cmp.{first_so, second_so}
+use Rattle.std.specs.Cmp.Derive.{both_true}
+use Rattle.std.proofs.lemmas.Str.Parse.{IsNumeralModel, digit_at, digits_value-take-le, digits_value_short, numerals_by_value}
+use Rattle.std.proofs.lemmas.Str.{digit_value_digit}
+use Rattle.std.specs.Char.{digit_value}
+use Rattle.std.specs.Str.Parse.{digits_value}
+use Rattle.csv_rows.specs.Numbers.{is_between, is_number, number, number_in}
+
+pub is_number-parts : (field : List ℕ) → is_number field ≡ true → (1 ≤ length field) × (length field ≤ 20) × (list_all is_ascii_digit field ≡ true)
+unfolding is_number
+is_number-parts field e =
+    let both = first_so (nat_le 1 (length field) && nat_le (length field) 20) (list_all is_ascii_digit field) e in
+    (leb-true _ _ (first_so (nat_le 1 (length field)) (nat_le (length field) 20) both), leb-true _ _ (second_so (nat_le 1 (length field)) (nat_le (length field) 20) both), second_so (nat_le 1 (length field) && nat_le (length field) 20) (list_all is_ascii_digit field) e)
+
+pub is_between-no : (low high : ℕ) (field : List ℕ) → is_number field ≡ false → is_between low high field ≡ false
+unfolding is_between
+is_between-no low high field e = rw e refl
+
+pub is_between-yes : (low high : ℕ) (field : List ℕ) → is_number field ≡ true → low ≤ number field → number field ≤ high → is_between low high field ≡ true
+unfolding is_between
+is_between-yes low high field e l h = both_true (both_true e (le-leb _ _ l)) (le-leb _ _ h)
+
+pub is_between-bounds : (low high : ℕ) (field : List ℕ) → is_between low high field ≡ true → (low ≤ number field) × (number field ≤ high)
+unfolding is_between
+is_between-bounds low high field e =
+    let both = first_so (is_number field && nat_le low (number field)) (nat_le (number field) high) e in
+    (leb-true _ _ (second_so (is_number field) (nat_le low (number field)) both), leb-true _ _ (second_so (is_number field && nat_le low (number field)) (nat_le (number field) high) e))
+
+not_true : (b : Bool) → (b ≡ true → ⊥) → b ≡ false
+not_true true h = absurd (h refl)
+not_true false h = refl
+
+pub is_between-outside : (low high : ℕ) (field : List ℕ) → (low ≤ number field → number field ≤ high → ⊥) → is_between low high field ≡ false
+is_between-outside low high field h = not_true _ (λ e. let (l, g) = is_between-bounds low high field e in h l g)
+
+pub number_in-some : (low high n : ℕ) (field : List ℕ) → Some n ≡ number_in low high field → (is_between low high field ≡ true) × (n ≡ number field) × (low ≤ n) × (n ≤ high)
+number_in-some low high n field e = by_test (is_between low high field) refl e
+  where
+    by_test : (b : Bool) → is_between low high field ≡ b → Some n ≡ cond b (Some (number field)) None → (is_between low high field ≡ true) × (n ≡ number field) × (low ≤ n) × (n ≤ high)
+    by_test true is e = let same : n ≡ number field = cc in let bounds = is_between-bounds low high field is in (is, same, omega (arith, same, bounds.0), omega (arith, same, bounds.1))
+    by_test false is e = cc
+
+pub number_in-none : (low high : ℕ) (field : List ℕ) → None ≡ number_in low high field → is_between low high field ≡ false
+number_in-none low high field e = by_test (is_between low high field) e
+  where
+    by_test : (b : Bool) → None ≡ cond b (Some (number field)) None → b ≡ false
+    by_test true e = cc
+    by_test false e = refl
+
+pub is_number-empty : (field : List ℕ) → length field ≡ 0 → is_number field ≡ false
+is_number-empty field e = not_true _ (λ h. let parts = is_number-parts field h in omega (arith, e, parts.0))
+
+pub is_number-long : (field : List ℕ) → 20 < length field → is_number field ≡ false
+is_number-long field lt = not_true _ (λ h. let parts = is_number-parts field h in omega (arith, lt, parts.1))
+
+pub is_number-digits : (field : List ℕ) → 1 ≤ length field → length field ≤ 20 → is_number field ≡ list_all is_ascii_digit field
+unfolding is_number
+is_number-digits field some short = rw (le-leb 1 (length field) some, le-leb (length field) 20 short) refl
+
+-- std's words for numerals are those of the input
+pub numerals : IsNumeralModel (λ ds. list_all is_ascii_digit ds ≡ true) (digits_value 10)
+numerals = numerals_by_value _ (search rules)
+
+-- a digit at its place, with what it adds
+pub digit_in : (ds : List ℕ) (i : ℕ) → list_all is_ascii_digit ds ≡ true → i < length ds → (48 ≤ get_or ds i 0) × (get_or ds i 0 ≤ 57) × (digit_value (get_or ds i 0) + 48 ≡ get_or ds i 0)
+digit_in ds i p lt =
+    let d = digit_at ds i (numerals.to ds p) lt in
+    (omega (arith, d), omega (arith, d), digit_value_digit (get_or ds i 0) d)
+
+-- twenty digits, and the first of them, say less than 10 ^ 20
+pub value-take : (ds : List ℕ) (i : ℕ) → list_all is_ascii_digit ds ≡ true → length ds ≤ 20 → digits_value 10 (take i ds) < 10 ^ 20
+value-take ds i p le =
+    let all : digits_value 10 ds < 10 ^ 20 = digits_value_short numerals ds 20 p le in
+    let front : digits_value 10 (take i ds) ≤ digits_value 10 ds = digits_value-take-le 10 ds i (lit≤ tt) in
+    omega (arith, all, front)

@@ -1,0 +1,63 @@
+-- Worked values, computed.
+use Rattle.std.specs.Prelude.{◌≡◌, ℕ, List, [], ◌∷◌, ◌++◌, codes, Ok, Err, Some, None}
+use Rattle.std.proofs.Common.{refl}
+use Rattle.csv.specs.Machine.{next_record}
+use Rattle.csv.specs.Reading.{records_from}
+use Rattle.zorder.specs.declared.points.Point.{Point}
+use Rattle.plain_list.specs.declared.ops.Op.TheVariants as op
+use Rattle.csv_rows.specs.declared.rows.InRow.{InRow}
+use Rattle.csv_rows.specs.declared.rows.RowsFault.TheVariants as fault
+use Rattle.csv_rows.specs.Numbers.{is_between, is_number, number_in}
+use Rattle.csv_rows.specs.Rows.{rows_of}
+
+abbrev header : List ℕ
+header = codes "session,op,id,x,y,a,b\n"
+
+abbrev pub pt : ℕ → ℕ → Point
+pt x y = record { x = x; y = y }
+
+abbrev put_7 : InRow
+put_7 = record { session = 1; op = op.Put 7 (pt 3 5) }
+
+abbrev where_7 : InRow
+where_7 = record { session = 1; op = op.Find 7 }
+
+leading_zeros : number_in 1 16 (codes "007") ≡ Some 7
+unfolding is_between is_number
+leading_zeros = refl
+
+no_sign : number_in 0 16 (codes "+7") ≡ None
+unfolding is_between is_number
+no_sign = refl
+
+two_rows : rows_of (header ++ codes "1,put,7,3,5,,\n1,where,7,,,,\n") ≡ Ok (put_7 ∷ where_7 ∷ [])
+unfolding rows_of records_from next_record is_between is_number
+two_rows = refl
+
+quoted : rows_of (header ++ codes "\"1\",\"put\",\"007\",\"3\",\"5\",\"\",\"\"\r\n\n") ≡ Ok (put_7 ∷ [])
+unfolding rows_of records_from next_record is_between is_number
+quoted = refl
+
+marked : rows_of (0xEF ∷ 0xBB ∷ 0xBF ∷ header) ≡ Ok []
+unfolding rows_of records_from next_record
+marked = refl
+
+two_marks : rows_of (0xEF ∷ 0xBB ∷ 0xBF ∷ 0xEF ∷ 0xBB ∷ 0xBF ∷ header) ≡ Err fault.Header
+unfolding rows_of records_from next_record
+two_marks = refl
+
+nothing : rows_of [] ≡ Err fault.Header
+unfolding rows_of records_from next_record
+nothing = refl
+
+bad_session : rows_of (header ++ codes "17,put,7,3,5,,\n") ≡ Err (fault.Field 1 1)
+unfolding rows_of records_from next_record is_between is_number
+bad_session = refl
+
+bad_box : rows_of (header ++ codes "1,put,7,3,5,,\n1,box,,4,5,3,5\n") ≡ Err (fault.Field 2 6)
+unfolding rows_of records_from next_record is_between is_number
+bad_box = refl
+
+six_fields : rows_of (header ++ codes "1,put,7,3,5,\n") ≡ Err (fault.Csv 1)
+unfolding rows_of records_from next_record
+six_fields = refl

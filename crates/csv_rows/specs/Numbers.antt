@@ -1,0 +1,21 @@
+-- Numbers of the input.
+use Rattle.std.specs.Prelude.{ℕ, nat_le, Bool, ◌&&◌, List, length, if◌then◌else◌, Option, Some, None}
+use Rattle.std.specs.Char.{is_ascii_digit}
+use Rattle.std.specs.List.{list_all}
+use Rattle.std.specs.Str.Parse.{digits_value}
+
+-- one to twenty digits
+unfoldable pub is_number : List ℕ → Bool
+is_number field = nat_le 1 (length field) && nat_le (length field) 20 && list_all is_ascii_digit field
+
+-- what digits say
+abbrev pub number : List ℕ → ℕ
+number field = digits_value 10 field
+
+-- a number that lies between these two
+unfoldable pub is_between : ℕ → ℕ → List ℕ → Bool
+is_between low high field = is_number field && nat_le low (number field) && nat_le (number field) high
+
+-- the number of a field, where it lies between these two
+abbrev pub number_in : ℕ → ℕ → List ℕ → Option ℕ
+number_in low high field = if is_between low high field then Some (number field) else None

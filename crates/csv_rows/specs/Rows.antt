@@ -1,0 +1,60 @@
+-- The rows of a text of CSV.
+use Rattle.std.specs.Prelude.{ℕ, ◌+◌, nat_lt, Bool, List, [], ◌∷◌, drop, if◌then◌else◌, Result, Ok, Err, codes, nat_eq}
+use Rattle.std.specs.List.{starts_with}
+use Rattle.std.specs.Cmp.Lexicographic.{pointwise}
+use Rattle.csv.specs.Reading.{default_config, records}
+use Rattle.csv_rows.specs.declared.rows.InRow.{InRow}
+use Rattle.csv_rows.specs.declared.rows.RowsFault.{RowsFault}
+use Rattle.csv_rows.specs.declared.rows.RowsFault.TheVariants.{Header, Csv, Field, TooMany}
+use Rattle.csv_rows.specs.declared.rows.Wrong.{Wrong}
+use Rattle.csv_rows.specs.declared.rows.Wrong.TheVariants.{Length, Column}
+use Rattle.csv_rows.specs.Fields.{row_of, is_text}
+
+-- whether a text begins with the byte order mark
+abbrev pub has_mark : List ℕ → Bool
+has_mark bytes = starts_with nat_eq bytes (0xEF ∷ 0xBB ∷ 0xBF ∷ [])
+
+-- a text behind its mark, if it has one
+abbrev pub behind_mark : List ℕ → List ℕ
+behind_mark bytes = if has_mark bytes then drop 3 bytes else bytes
+
+-- the fields of the first record
+abbrev pub header_fields : List (List ℕ)
+header_fields = codes "session" ∷ codes "op" ∷ codes "id" ∷ codes "x" ∷ codes "y" ∷ codes "a" ∷ codes "b" ∷ []
+
+abbrev pub is_header : List (List ℕ) → Bool
+is_header fields = pointwise is_text fields header_fields
+
+-- one row more in front
+abbrev pub with_row : InRow → Result (List InRow) RowsFault → Result (List InRow) RowsFault
+with_row row (Ok rows) = Ok (row ∷ rows)
+with_row row (Err e) = Err e
+
+-- rows in front
+abbrev pub with_rows : List InRow → Result (List InRow) RowsFault → Result (List InRow) RowsFault
+with_rows [] more = more
+with_rows (row ∷ rows) more = with_row row (with_rows rows more)
+
+-- what is wrong with the row of this number
+abbrev pub fault_at : ℕ → Wrong → RowsFault
+fault_at number Length = Csv number
+fault_at number (Column column) = Field number column
+
+-- a row and those behind it, or what is wrong with it
+abbrev pub row_then : ℕ → Result InRow Wrong → Result (List InRow) RowsFault → Result (List InRow) RowsFault
+row_then number (Ok row) more = with_row row more
+row_then number (Err wrong) more = Err (fault_at number wrong)
+
+-- the rows of records, the first of which has this number: at most 65,536
+abbrev pub rows_from : ℕ → List (List (List ℕ)) → Result (List InRow) RowsFault
+rows_from number [] = Ok []
+rows_from number (fields ∷ more) = if nat_lt 65536 number then Err TooMany else row_then number (row_of fields) (rows_from (number + 1) more)
+
+-- the rows behind the header
+abbrev pub rows_behind_header : List (List (List ℕ)) → Result (List InRow) RowsFault
+rows_behind_header [] = Err Header
+rows_behind_header (fields ∷ more) = if is_header fields then rows_from 1 more else Err Header
+
+-- the rows of a text, or the first record at fault; a text behind one mark that begins with another has no header
+unfoldable pub rows_of : List ℕ → Result (List InRow) RowsFault
+rows_of bytes = if has_mark (behind_mark bytes) then Err Header else rows_behind_header (records default_config (behind_mark bytes))

@@ -1,0 +1,216 @@
+//! The fields of a record, column by column.
+ghost use Rattle.std.specs.Prelude.{◌≡◌, ◌≢◌, ◌≤◌, ◌<◌, ◌^◌, ◌∷◌, [], true, false, length, IfOk, MatchOption, MatchResult};
+ghost use Rattle.csv.specs.Records.{fields_of};
+ghost use Rattle.plain_list.specs.Answer.{IsValid};
+ghost use Rattle.csv_rows.specs.Numbers.{number};
+ghost use Rattle.csv_rows.specs.Fields.{Empty, Between, keeps, word_of, rules_of, first_fault, unless, point_of, coordinate_rule, op_by_word, row_of};
+ghost use Rattle.zorder.specs.Key.{IsPoint};
+ghost use Rattle.csv_rows.specs.Rows.{is_header};
+ghost use Rattle.csv_rows.specs.InRows.{FitsOp, IsInRow};
+
+use crate::numbers::number_in;
+use crate::rows::{InRow, Wrong};
+use csv::ByteRecord;
+use plain_list::Op;
+use zorder::{Point, Region};
+
+const COORDINATE_MAX: u64 = 4_294_967_295;
+
+/// The operation that column 2 names.
+#[derive(Clone, Copy, Debug, PartialEq, Eq)]
+pub(crate) enum Word {
+    Put,
+    Move,
+    Drop,
+    Where,
+    Box,
+    Near,
+}
+
+/// The seven fields of a row.
+#[derive(Clone, Copy)]
+struct Fields<'a> {
+    session: &'a [u8],
+    op: &'a [u8],
+    id: &'a [u8],
+    x: &'a [u8],
+    y: &'a [u8],
+    a: &'a [u8],
+    b: &'a [u8],
+}
+
+/// The row of a record, or what is wrong with it.
+pub(crate) fn row_of(record: &ByteRecord) -> Result<InRow, Wrong>
+    ensures row { result ≡ row_of (fields_of record.now) }
+    ensures rules { IfOk result IsInRow }
+{
+    let Some(fields) = fields_in(record) else {
+        return Err(Wrong::Length);
+    };
+    let session = number_at(1, fields.session, 1, 16)?;
+    let op = read_op(&fields)?;
+    Ok(InRow {
+        session: session as u8,
+        op,
+    })
+}
+
+/// Whether a record is the header.
+pub(crate) fn is_header(record: &ByteRecord) -> bool
+    ensures { result ≡ is_header (fields_of record.now) }
+{
+    let Some(fields) = fields_in(record) else {
+        return false;
+    };
+    fields.session == b"session".as_slice()
+        && fields.op == b"op".as_slice()
+        && fields.id == b"id".as_slice()
+        && fields.x == b"x".as_slice()
+        && fields.y == b"y".as_slice()
+        && fields.a == b"a".as_slice()
+        && fields.b == b"b".as_slice()
+}
+
+fn fields_in(record: &ByteRecord) -> Option<Fields<'_>>
+    ensures { MatchOption result (length (fields_of record.now) ≢ 7) (λ f. fields_of record.now ≡ f.session.now ∷ f.op.now ∷ f.id.now ∷ f.x.now ∷ f.y.now ∷ f.a.now ∷ f.b.now ∷ []) }
+{
+    if record.len() != 7 {
+        return None;
+    }
+    let session = record.get(0)?;
+    let op = record.get(1)?;
+    let id = record.get(2)?;
+    let x = record.get(3)?;
+    let y = record.get(4)?;
+    let a = record.get(5)?;
+    let b = record.get(6)?;
+    Some(Fields {
+        session,
+        op,
+        id,
+        x,
+        y,
+        a,
+        b,
+    })
+}
+
+fn word_of(field: &[u8]) -> Option<Word>
+    ensures { result ≡ word_of field.now }
+{
+    if field == b"put".as_slice() {
+        Some(Word::Put)
+    } else if field == b"move".as_slice() {
+        Some(Word::Move)
+    } else if field == b"drop".as_slice() {
+        Some(Word::Drop)
+    } else if field == b"where".as_slice() {
+        Some(Word::Where)
+    } else if field == b"box".as_slice() {
+        Some(Word::Box)
+    } else if field == b"near".as_slice() {
+        Some(Word::Near)
+    } else {
+        None
+    }
+}
+
+fn number_at(column: u8, field: &[u8], low: u64, high: u64) -> Result<u64, Wrong>
+    ensures { MatchResult result (λ n. (keeps (Between low high) field.now ≡ true) × (n ≡ number field.now) × (low ≤ n) × (n ≤ high)) (λ e. (keeps (Between low high) field.now ≡ false) × (e ≡ Wrong.Column column)) }
+{
+    match number_in(field, low, high) {
+        Some(number) => Ok(number),
+        None => Err(Wrong::Column(column)),
+    }
+}
+
+fn empty_at(column: u8, field: &[u8]) -> Result<(), Wrong>
+    ensures { MatchResult result (λ _. keeps Empty field.now ≡ true) (λ e. (keeps Empty field.now ≡ false) × (e ≡ Wrong.Column column)) }
+{
+    if field.is_empty() {
+        Ok(())
+    } else {
+        Err(Wrong::Column(column))
+    }
+}
+
+fn read_op(fields: &Fields) -> Result<Op, Wrong>
+    ensures op { result ≡ op_by_word (word_of fields.now.op.now) fields.now.id.now fields.now.x.now fields.now.y.now fields.now.a.now fields.now.b.now }
+    ensures rules { IfOk result (λ op. IsValid op × FitsOp op) }
+{
+    match word_of(fields.op) {
+        Some(Word::Put) => read_placed(fields).map(|(id, at)| Op::Put { id, at }),
+        Some(Word::Move) => read_placed(fields).map(|(id, at)| Op::Move { id, at }),
+        Some(Word::Drop) => read_id(fields).map(|id| Op::Remove { id }),
+        Some(Word::Where) => read_id(fields).map(|id| Op::Find { id }),
+        Some(Word::Box) => read_box(fields),
+        Some(Word::Near) => read_near(fields),
+        None => Err(Wrong::Column(2)),
+    }
+}
+
+// An id and a point, and nothing else: what put and move say.
+fn read_placed(fields: &Fields) -> Result<(u64, Point), Wrong>
+    ensures placed { result ≡ unless (first_fault 3 (rules_of Word.Put fields.now.x.now fields.now.y.now) (fields.now.id.now ∷ fields.now.x.now ∷ fields.now.y.now ∷ fields.now.a.now ∷ fields.now.b.now ∷ [])) (number fields.now.id.now, point_of fields.now.x.now fields.now.y.now) }
+    ensures fits { IfOk result (λ p. (p.0 < 2 ^ 64) × IsPoint p.1) }
+{
+    let id = number_at(3, fields.id, 0, u64::MAX)?;
+    let at = read_point(fields)?;
+    empty_at(6, fields.a)?;
+    empty_at(7, fields.b)?;
+    Ok((id, at))
+}
+
+// An id alone: what drop and where say.
+fn read_id(fields: &Fields) -> Result<u64, Wrong>
+    ensures id { result ≡ unless (first_fault 3 (rules_of Word.Drop fields.now.x.now fields.now.y.now) (fields.now.id.now ∷ fields.now.x.now ∷ fields.now.y.now ∷ fields.now.a.now ∷ fields.now.b.now ∷ [])) (number fields.now.id.now) }
+    ensures fits { IfOk result (λ id. id < 2 ^ 64) }
+{
+    let id = number_at(3, fields.id, 0, u64::MAX)?;
+    empty_at(4, fields.x)?;
+    empty_at(5, fields.y)?;
+    empty_at(6, fields.a)?;
+    empty_at(7, fields.b)?;
+    Ok(id)
+}
+
+fn read_box(fields: &Fields) -> Result<Op, Wrong>
+    ensures op { result ≡ op_by_word (Some Word.Box) fields.now.id.now fields.now.x.now fields.now.y.now fields.now.a.now fields.now.b.now }
+    ensures rules { IfOk result (λ op. IsValid op × FitsOp op) }
+{
+    empty_at(3, fields.id)?;
+    let lo = read_point(fields)?;
+    let x = number_at(6, fields.a, u64::from(lo.x), COORDINATE_MAX)?;
+    let y = number_at(7, fields.b, u64::from(lo.y), COORDINATE_MAX)?;
+    let hi = Point {
+        x: x as u32,
+        y: y as u32,
+    };
+    Ok(Op::Within {
+        region: Region { lo, hi },
+    })
+}
+
+fn read_near(fields: &Fields) -> Result<Op, Wrong>
+    ensures op { result ≡ op_by_word (Some Word.Near) fields.now.id.now fields.now.x.now fields.now.y.now fields.now.a.now fields.now.b.now }
+    ensures rules { IfOk result (λ op. IsValid op × FitsOp op) }
+{
+    empty_at(3, fields.id)?;
+    let at = read_point(fields)?;
+    let k = number_at(6, fields.a, 1, 2048)?;
+    empty_at(7, fields.b)?;
+    Ok(Op::Near { at, k: k as u32 })
+}
+
+// The point of columns 4 and 5.
+fn read_point(fields: &Fields) -> Result<Point, Wrong>
+    ensures point { result ≡ unless (first_fault 4 (coordinate_rule ∷ coordinate_rule ∷ []) (fields.now.x.now ∷ fields.now.y.now ∷ [])) (point_of fields.now.x.now fields.now.y.now) }
+    ensures fits { IfOk result IsPoint }
+{
+    let x = number_at(4, fields.x, 0, COORDINATE_MAX)?;
+    let y = number_at(5, fields.y, 0, COORDINATE_MAX)?;
+    Ok(Point {
+        x: x as u32,
+        y: y as u32,
+    })
+}

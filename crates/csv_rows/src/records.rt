@@ -1,0 +1,38 @@
+//! The records of a text, one after the other, as `csv` reads them.
+ghost use Rattle.std.specs.Prelude.{◌≡◌, [], true, IfOk, IfErr};
+ghost use Rattle.csv.specs.Reading.{Ready, is_flexible};
+ghost use Rattle.csv.specs.Records.{fields_of};
+ghost use Rattle.csv_rows.specs.Records.{StandsBehind, TakesRecord};
+
+use crate::rows::RowsFault;
+use csv::{ByteRecord, ErrorKind, Reader, ReaderBuilder};
+use std::alloc::Global;
+
+/// A reader of a text's records, of whatever length.
+pub(crate) fn reader_of(alloc: Global, text: &[u8]) -> Reader<&[u8]>
+    ensures { StandsBehind text.now [] result }
+{
+    ReaderBuilder::new()
+        .has_headers(false)
+        .flexible(true)
+        .from_reader(alloc, text)
+}
+
+/// The next record, and whether there is one. It fails for want of memory alone.
+pub(crate) fn next_record(
+    reader: &mut Reader<&[u8]>,
+    record: &mut ByteRecord,
+) -> Result<bool, RowsFault>
+    requires ready { Ready reader.old }
+    requires flexible { is_flexible reader.old ≡ true }
+    ensures found { IfOk result (λ found. TakesRecord reader.old reader.new found (fields_of record.new)) }
+    ensures fault { IfErr result (λ e. e ≡ RowsFault.Memory) }
+{
+    match reader.read_byte_record(record) {
+        Ok(found) => Ok(found),
+        Err(error) => match error.kind() {
+            ErrorKind::UnequalLengths { .. } => unreachable!(),
+            _ => Err(RowsFault::Memory),
+        },
+    }
+}

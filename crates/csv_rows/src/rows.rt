@@ -1,0 +1,88 @@
+//! What is read, and what is refused.
+ghost use Rattle.std.specs.Prelude.{◌≡◌};
+
+use plain_list::Op;
+use std::marker::Model;
+use thiserror::Error;
+
+/// An operation, and the session that asks for it.
+#[derive(Clone, Copy, Debug, PartialEq, Eq)]
+pub struct InRow {
+    pub session: u8,
+    pub op: Op,
+}
+
+/// Rows of an input, in order. Each keeps the rules of its columns, and there are at most 65,536.
+#[derive(Drop)]
+pub struct Rows {
+    items: Vec<InRow>,
+}
+
+impl Model for Rows {
+    ghost use Rattle.std.specs.Prelude.{List};
+    ghost use Rattle.csv_rows.specs.declared.rows.InRow.{InRow};
+    ghost use Rattle.csv_rows.specs.InRows.{AreInRows};
+
+    ghost Value = { List InRow };
+
+    ghost view = { λ r. r.items.items };
+
+    ghost invariant = { λ r. AreInRows r.items.items };
+}
+
+impl Rows {
+    ghost use Rattle.csv_rows.specs.InRows.{AreInRows};
+
+    pub fn from_vec(items: Vec<InRow>) -> Rows
+        requires { AreInRows items.items }
+        ensures { result ≡ items.items }
+    {
+        Rows { items }
+    }
+
+    pub fn as_slice(&self) -> &[InRow]
+        ensures rows { result.now ≡ self.now }
+        ensures rules { AreInRows self.now }
+    {
+        self.items.as_slice()
+    }
+}
+
+/// Why bytes give no rows. Records are numbered from 0, the header, so the first row is 1.
+#[derive(Clone, Copy, Debug, PartialEq, Eq, Error)]
+pub enum RowsFault {
+    /// The bytes begin with two byte order marks, or the first record isn't the header, or there is none.
+    #[error("the header isn't `session,op,id,x,y,a,b`")]
+    Header,
+    /// The record of this row hasn't seven fields.
+    #[error("row {row} hasn't seven fields")]
+    Csv { row: u32 },
+    /// This column, counted from 1, is the leftmost of its row that breaks its rule.
+    #[error("row {row}: column {column} breaks its rule")]
+    Field { row: u32, column: u8 },
+    /// A record follows the 65,536th row.
+    #[error("more than 65,536 rows")]
+    TooMany,
+    #[error("out of memory")]
+    Memory,
+}
+
+/// Why a run of the program gives no answers.
+#[derive(Clone, Copy, Debug, PartialEq, Eq)]
+pub enum Refusal {
+    Usage,
+    Header,
+    Csv { row: u32 },
+    Field { row: u32, column: u8 },
+    Source,
+    LongInput,
+    ManyRows,
+    Memory,
+}
+
+/// What is wrong with a record: it hasn't seven fields, or a column breaks its rule.
+#[derive(Clone, Copy, Debug, PartialEq, Eq)]
+pub enum Wrong {
+    Length,
+    Column(u8),
+}
