@@ -1,20 +1,29 @@
 -- Worked values, computed.
 use Rattle.std.specs.Prelude.{◌≡◌, ℕ, List, [], ◌∷◌, ◌++◌, codes, Ok, Err, Some, None}
 use Rattle.std.proofs.Common.{refl}
+use Rattle.std.specs.Fmt.{digits}
 use Rattle.csv.specs.Machine.{next_record}
 use Rattle.csv.specs.Reading.{records_from}
 use Rattle.zorder.specs.declared.points.Point.{Point}
+use Rattle.zorder.specs.declared.points.Placed.{Placed}
+use Rattle.plain_list.specs.declared.ops.Answer.TheVariants as ans
 use Rattle.plain_list.specs.declared.ops.Op.TheVariants as op
 use Rattle.csv_rows.specs.declared.rows.InRow.{InRow}
 use Rattle.csv_rows.specs.declared.rows.RowsFault.TheVariants as fault
+use Rattle.csv_rows.specs.declared.rows.Refusal.TheVariants as refusal
+use Rattle.csv_rows.specs.Lines.{line_text, refusal_text}
+use Rattle.csv_rows.specs.RowLines.{rows_text}
 use Rattle.csv_rows.specs.Numbers.{is_between, is_number, number_in}
 use Rattle.csv_rows.specs.Rows.{rows_of}
 
 abbrev header : List ℕ
 header = codes "session,op,id,x,y,a,b\n"
 
-abbrev pub pt : ℕ → ℕ → Point
+abbrev pt : ℕ → ℕ → Point
 pt x y = record { x = x; y = y }
+
+abbrev placed : ℕ → ℕ → ℕ → Placed
+placed id x y = record { id = id; at = pt x y }
 
 abbrev put_7 : InRow
 put_7 = record { session = 1; op = op.Put 7 (pt 3 5) }
@@ -61,3 +70,19 @@ bad_box = refl
 six_fields : rows_of (header ++ codes "1,put,7,3,5,\n") ≡ Err (fault.Csv 1)
 unfolding rows_of records_from next_record
 six_fields = refl
+
+line_2 : line_text 2 2 (ans.At (pt 3 5)) ≡ codes "2,2,at,3:5\n"
+unfolding line_text digits
+line_2 = refl
+
+line_3 : line_text 3 3 (ans.Found (placed 4 3 4 ∷ placed 9 0 5 ∷ [])) ≡ codes "3,3,found,4:3:4;9:0:5\n"
+unfolding line_text digits
+line_3 = refl
+
+refused : refusal_text (refusal.Field 3 6) ≡ codes "refused row 3 column 6\n"
+unfolding refusal_text digits
+refused = refl
+
+text_of_rows : rows_text (put_7 ∷ where_7 ∷ []) ≡ header ++ codes "1,put,7,3,5,,\n1,where,7,,,,\n"
+unfolding rows_text digits
+text_of_rows = refl

@@ -3,4 +3,7 @@ pub mod Fields
 pub mod Rows
 pub mod InRows
 pub mod Records
+pub mod Pieces
+pub mod Lines
+pub mod RowLines
 pub mod Examples

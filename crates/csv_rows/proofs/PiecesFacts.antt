@@ -1,0 +1,140 @@
+-- Pieces of a text, one after the other.
+use Rattle.std.proofs.Common.{◌≡◌, ◌∙◌, ℕ, ◌+◌, ◌-◌, ◌≤◌, ◌^◌, List, [], ◌∷◌, ◌++◌, length, take, drop, Option, Some, None, Result, Ok, Err, refl, sym, ap, subst, arith, append_assoc, length-append, take-append-drop, min, get_or, ◌<◌}
+use Rattle.std.proofs.Math.Seq.{take-length}
+use Rattle.std.proofs.lemmas.Grind.{flat_map-append}
+use Rattle.std.proofs.lemmas.List.{append-nil, flat_map_more, take_more}
+use Rattle.std.specs.List.{flat_map}
+use Rattle.std.specs.Result.{IsErr}
+use Rattle.std.proofs.lemmas.Result.{MatchResult-from_err}
+use Rattle.std.specs.Io.KnownBytes.{Appends}
+use Rattle.causes.specs.Causes.{Counts, Rose}
+use Rattle.io_edge.specs.Puts.{Puts}
+use Rattle.csv_rows.specs.Pieces.{HoldsBack, Moves}
+
+appends-none : (a : Option (List ℕ)) → Appends a a []
+appends-none None = tt
+appends-none (Some xs) = sym (append-nil xs)
+
+appends-trans : (a b c : Option (List ℕ)) (x y : List ℕ) → Appends a b x → Appends b c y → Appends a c (x ++ y)
+appends-trans None b c x y h g = tt
+appends-trans (Some xs) None c x y h g = absurd h
+appends-trans (Some xs) (Some ys) None x y h g = absurd g
+appends-trans (Some xs) (Some ys) (Some zs) x y h g = g ∙ ap (λ l. l ++ y) h ∙ append_assoc xs x y
+
+-- nothing was put: all is held back
+pub moves-none : (a : Option (List ℕ)) (text : List ℕ) → Moves a a text text
+moves-none a text = record { front = []; grew = appends-none a; whole = refl }
+
+-- all was put
+pub moves-all : (a b : Option (List ℕ)) (text : List ℕ) → Appends a b text → Moves a b text []
+moves-all a b text h = record { front = text; grew = h; whole = append-nil text }
+
+pub moves-trans : (a b c : Option (List ℕ)) (text held rest : List ℕ) → Moves a b text held → Moves b c held rest → Moves a c text rest
+moves-trans a b c text held rest h g = record {
+  front = h.front ++ g.front;
+  grew = appends-trans a b c h.front g.front h.grew g.grew;
+  whole = append_assoc h.front g.front rest ∙ ap (λ l. h.front ++ l) g.whole ∙ h.whole;
+}
+
+-- more text, all of which is held back
+pub moves-more : (a b : Option (List ℕ)) (text held more : List ℕ) → Moves a b text held → Moves a b (text ++ more) (held ++ more)
+moves-more a b text held more h = record {
+  front = h.front;
+  grew = h.grew;
+  whole = sym (append_assoc h.front held more) ∙ ap (λ l. l ++ more) h.whole;
+}
+
+pub moves-is : (a b : Option (List ℕ)) (text other held : List ℕ) → text ≡ other → Moves a b text held → Moves a b other held
+moves-is a b text other held e h = subst (λ (l : List ℕ). Moves a b l held) e h
+
+-- what a put of what was held back did
+pub moves-lost : (a b : Option (List ℕ)) (piece : List ℕ) (n : ℕ) → n ≤ length piece → Appends a b (take n piece) → Moves a b piece (drop n piece)
+moves-lost a b piece n le h = record { front = take n piece; grew = h; whole = take-append-drop n piece }
+
+take-front : (xs ys : List ℕ) → take (length xs) (xs ++ ys) ≡ xs
+take-front [] ys = refl
+take-front (x ∷ xs) ys = ap (λ l. x ∷ l) (take-front xs ys)
+
+-- a text of which a front was put and the rest lost
+pub puts-lost : (a b : Option (List ℕ)) (text lost more : List ℕ) → Moves a b text lost → (n : ℕ) × (n ≤ length (text ++ more)) × Appends a b (take n (text ++ more))
+puts-lost a b text lost more h =
+    let whole : h.front ++ (lost ++ more) ≡ text ++ more = sym (append_assoc h.front lost more) ∙ ap (λ l. l ++ more) h.whole in
+    let front : take (length h.front) (text ++ more) ≡ h.front = ap (λ l. take (length h.front) l) (sym whole) ∙ take-front h.front (lost ++ more) in
+    (length h.front, omega (arith, ap length whole, length-append h.front (lost ++ more)), subst (λ (l : List ℕ). Appends a b l) (sym front) h.grew)
+
+-- the last piece
+pub puts-last : {T E : Type 0} (a b c : Option (List ℕ)) (text held : List ℕ) (result : Result T E) → Moves a b text held → Puts b c held result → Puts a c text result
+puts-last a b c text held (Ok x) h g = subst (λ (l : List ℕ). Appends a c l) h.whole (appends-trans a b c h.front held h.grew g)
+puts-last a b c text held (Err e) h g =
+    let last = moves-lost b c held g.0 g.1 g.2 in
+    subst (λ (l : List ℕ). (n : ℕ) × (n ≤ length l) × Appends a c (take n l)) (append-nil text) (puts-lost a c text (drop g.0 held) [] (moves-trans a b c text held (drop g.0 held) h last))
+
+-- a put of these bytes, which are that text
+pub puts-is : {T E : Type 0} (a b : Option (List ℕ)) (bytes text : List ℕ) (result : Result T E) → bytes ≡ text → Puts a b bytes result → Puts a b text result
+puts-is a b bytes text result e h = subst (λ (l : List ℕ). Puts a b l result) e h
+
+-- a put of all that was held back
+pub holds-put : {T E : Type 0} (a b : Option (List ℕ)) (bytes held rest : List ℕ) (result : Result T E) → bytes ≡ held → rest ≡ [] → Puts a b bytes result → HoldsBack a b held rest result
+holds-put a b bytes held rest (Ok x) e none h = rw none (moves-all a b held (subst (λ (l : List ℕ). Appends a b l) e h))
+holds-put a b bytes held rest (Err f) e none h = (drop h.0 held, subst (λ (l : List ℕ). Moves a b l (drop h.0 l)) e (moves-lost a b bytes h.0 h.1 h.2))
+
+-- causes of two calls, one after the other
+pub counts-none : {T E : Type 0} (n : ℕ) (x : T) → Counts {E = E} n n (Ok x)
+counts-none n x = record { later = omega arith; failed = tt }
+
+pub counts-trans : {T E : Type 0} (a b c : ℕ) (result : Result T E) → a ≤ b → Counts b c result → Counts a c result
+counts-trans a b c (Ok x) h g = record { later = omega (arith, g.later); failed = tt }
+counts-trans a b c (Err e) h g = record { later = omega (arith, g.later); failed = let rose : min (b + 1) (2 ^ 64 - 1) ≤ c = g.failed in omega (arith, rose) }
+
+pub counts-lost : {T E : Type 0} (a b c : ℕ) (result : Result T E) → a ≤ b → b ≤ c → Rose b c → Counts a c result
+counts-lost a b c (Ok x) ab bc rose = record { later = omega (arith, ab, bc); failed = tt }
+counts-lost a b c (Err e) ab bc rose = record { later = omega (arith, ab, bc); failed = let more : min (b + 1) (2 ^ 64 - 1) ≤ c = rose in omega (arith, more, ab) }
+
+-- a fault, with the texts at which it came
+pub holds-lost : {T E : Type 0} (a b : Option (List ℕ)) (text rest lost : List ℕ) (result : Result T E) → IsErr result → Moves a b text lost → HoldsBack a b text rest result
+holds-lost a b text rest lost result err h = MatchResult-from_err result (λ _. Moves a b text rest) (λ _. (l : List ℕ) × Moves a b text l) err (λ _. (lost, h))
+
+pub puts-fault : {T E : Type 0} (a b : Option (List ℕ)) (text lost more : List ℕ) (result : Result T E) → IsErr result → Moves a b text lost → Puts a b (text ++ more) result
+puts-fault a b text lost more result err h =
+    MatchResult-from_err result (λ _. Appends a b (text ++ more)) (λ _. (n : ℕ) × (n ≤ length (text ++ more)) × Appends a b (take n (text ++ more))) err (λ _. puts-lost a b text lost more h)
+
+-- the last piece, with the end of the text
+pub puts-line : {T E : Type 0} (a b c : Option (List ℕ)) (front held end bytes text : List ℕ) (result : Result T E) → Moves a b front held → bytes ≡ held ++ end → front ++ end ≡ text → Puts b c bytes result → Puts a c text result
+puts-line a b c front held end bytes text result h is whole g =
+    puts-is a c (front ++ end) text result whole (puts-last a b c (front ++ end) (held ++ end) result (moves-more a b front held end h) (puts-is b c bytes (held ++ end) result is g))
+
+-- lines of these items up to an index were added behind a front
+pub record HasAdded {X : Type 0} (line : X → List ℕ) (old now : Option (List ℕ)) (faults later : ℕ) (front : List ℕ) (items : List X) (index : ℕ) (held : List ℕ) : Type 0 where
+  pub moved : Moves old now (front ++ flat_map line (take index items)) held
+  pub rises : faults ≤ later
+  pub room : length held ≤ 4095
+
+module _ {X : Type 0} (line : X → List ℕ) (old : Option (List ℕ)) (faults : ℕ) (front : List ℕ) (items : List X) where
+  pub added-none : length front ≤ 4095 → HasAdded line old old faults faults front items 0 front
+  added-none room = record { moved = subst (λ (l : List ℕ). Moves old old l front) (sym (append-nil front)) (moves-none old front); rises = omega arith; room = room }
+
+  pub added-more : (mid now : Option (List ℕ)) (later last : ℕ) (index : ℕ) (held kept more : List ℕ) (d : X) → HasAdded line old mid faults later front items index held
+      → Moves mid now held kept → later ≤ last → more ≡ kept ++ line (get_or items index d) → index < length items → length more ≤ 4095 → HasAdded line old now faults last front items (index + 1) more
+  added-more mid now later last index held kept more d h step rises is lt room =
+      let text : (front ++ flat_map line (take index items)) ++ line (get_or items index d) ≡ front ++ flat_map line (take (index + 1) items) =
+      flat_map_more line front (take index items) (get_or items index d) ∙ ap (λ (l : List X). front ++ flat_map line l) (sym (take_more items index d lt)) in
+      let moved = moves-more old now (front ++ flat_map line (take index items)) kept (line (get_or items index d)) (moves-trans old mid now (front ++ flat_map line (take index items)) held kept h.moved step) in
+      record {
+        moved = subst (λ (l : List ℕ). Moves old now l more) text (subst (λ (l : List ℕ). Moves old now ((front ++ flat_map line (take index items)) ++ line (get_or items index d)) l) (sym is) moved);
+        rises = omega (arith, h.rises, rises);
+        room = room;
+      }
+
+  -- all lines were added
+  pub added-all : (now : Option (List ℕ)) (later index : ℕ) (held : List ℕ) → HasAdded line old now faults later front items index held → index ≡ length items → Moves old now (front ++ flat_map line items) held
+  added-all now later index held h end = subst (λ (l : List X). Moves old now (front ++ flat_map line l) held) (ap (λ n. take n items) end ∙ take-length items) h.moved
+
+  -- a fault on the way
+  pub added-lost : (mid now : Option (List ℕ)) (later index : ℕ) (held lost : List ℕ) → HasAdded line old mid faults later front items index held → Moves mid now held lost
+      → Moves old now (front ++ flat_map line items) (lost ++ flat_map line (drop index items))
+  added-lost mid now later index held lost h step =
+      let text : (front ++ flat_map line (take index items)) ++ flat_map line (drop index items) ≡ front ++ flat_map line items =
+      append_assoc front (flat_map line (take index items)) (flat_map line (drop index items))
+      ∙ ap (λ l. front ++ l) (sym (flat_map-append line (take index items) (drop index items)) ∙ ap (λ (l : List X). flat_map line l) (take-append-drop index items)) in
+      subst (λ (l : List ℕ). Moves old now l (lost ++ flat_map line (drop index items))) text
+      (moves-more old now (front ++ flat_map line (take index items)) lost (flat_map line (drop index items)) (moves-trans old mid now (front ++ flat_map line (take index items)) held lost h.moved step))

@@ -1,0 +1,10 @@
+use Rattle.std.proofs.Common.{◌++◌}
+use Rattle.std.specs.Prelude.{codes}
+use Rattle.zorder.specs.declared.points.Placed.{Placed}
+use Rattle.csv_rows.specs.Lines.{placed_text}
+use Rattle.csv_rows.proofs.PiecesFacts.{HasAdded}
+use Rattle.csv_rows.proofs.lines.add_list.Given as goal
+
+abbrev pub invariant-loop-placed : goal.invariant-loop-placed
+invariant-loop-placed g l =
+    HasAdded (λ (m : Placed). codes ";" ++ placed_text m) (g.K.Sink.taken l.fn.sink) (g.K.Sink.taken l.sink) (g.K.Sink.faults l.fn.sink) (g.K.Sink.faults l.sink) l.initial.piece.bytes l.rest l.placed-index l.piece.bytes

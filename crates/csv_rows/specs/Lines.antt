@@ -1,0 +1,65 @@
+-- The texts of output.
+use Rattle.std.specs.Prelude.{ℕ, List, [], ◌++◌, codes}
+use Rattle.std.specs.List.{join_by}
+use Rattle.std.specs.Fmt.{decimal}
+use Rattle.zorder.specs.declared.points.Point.{Point}
+use Rattle.zorder.specs.declared.points.Placed.{Placed}
+use Rattle.plain_list.specs.declared.ops.Answer.{Answer}
+use Rattle.plain_list.specs.declared.ops.Answer.TheVariants as ans
+use Rattle.csv_rows.specs.declared.rows.Refusal.{Refusal}
+use Rattle.csv_rows.specs.declared.rows.Refusal.TheVariants as refusal
+
+-- x:y
+abbrev pub point_text : Point → List ℕ
+point_text p = decimal p.x ++ codes ":" ++ decimal p.y
+
+-- id:x:y
+abbrev pub placed_text : Placed → List ℕ
+placed_text m = decimal m.id ++ codes ":" ++ point_text m.at
+
+-- the word of an answer
+abbrev pub word_text : Answer → List ℕ
+word_text ans.Done = codes "done"
+word_text (ans.Present p) = codes "present"
+word_text ans.Full = codes "full"
+word_text (ans.Moved p) = codes "moved"
+word_text (ans.Gone p) = codes "gone"
+word_text (ans.At p) = codes "at"
+word_text ans.Absent = codes "absent"
+word_text (ans.Found ms) = codes "found"
+word_text (ans.Many n) = codes "many"
+
+-- what an answer says besides its word; listed points stand in the list's order
+abbrev pub detail_text : Answer → List ℕ
+detail_text ans.Done = []
+detail_text (ans.Present p) = point_text p
+detail_text ans.Full = []
+detail_text (ans.Moved p) = point_text p
+detail_text (ans.Gone p) = point_text p
+detail_text (ans.At p) = point_text p
+detail_text ans.Absent = []
+detail_text (ans.Found ms) = join_by placed_text (codes ";") ms
+detail_text (ans.Many n) = decimal n
+
+-- the line of a row, its place and its answer
+unfoldable pub line_text : ℕ → ℕ → Answer → List ℕ
+line_text row place answer = decimal row ++ codes "," ++ decimal place ++ codes "," ++ word_text answer ++ codes "," ++ detail_text answer ++ codes "\n"
+
+-- the first line of answers
+abbrev pub title_line : List ℕ
+title_line = codes "row,place,answer,detail\n"
+
+-- why there are no answers
+abbrev pub reason_text : Refusal → List ℕ
+reason_text refusal.Usage = codes "usage"
+reason_text refusal.Header = codes "header"
+reason_text (refusal.Csv row) = codes "row " ++ decimal row ++ codes " length"
+reason_text (refusal.Field row column) = codes "row " ++ decimal row ++ codes " column " ++ decimal column
+reason_text refusal.Source = codes "source"
+reason_text refusal.LongInput = codes "limit bytes"
+reason_text refusal.ManyRows = codes "limit rows"
+reason_text refusal.Memory = codes "memory"
+
+-- the line of a refusal
+unfoldable pub refusal_text : Refusal → List ℕ
+refusal_text r = codes "refused " ++ reason_text r ++ codes "\n"

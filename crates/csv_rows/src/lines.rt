@@ -1,0 +1,147 @@
+//! The lines of output: answers, and refusals.
+ghost use Rattle.std.specs.Prelude.{◌≡◌, ◌≤◌, ◌+◌, ◌++◌, codes, length, OnOk};
+ghost use Rattle.std.specs.List.{join_by};
+ghost use Rattle.arrayvec.specs.ArrayString.{array_string_len};
+ghost use Rattle.causes.specs.Causes.{Counts};
+ghost use Rattle.io_edge.specs.Puts.{Puts};
+ghost use Rattle.csv_rows.specs.Lines.{placed_text, word_text, detail_text, line_text, title_line, reason_text, refusal_text};
+ghost use Rattle.csv_rows.specs.Pieces.{HoldsBack};
+
+use crate::pieces::{Piece, add_number, add_point, make_room};
+use crate::rows::Refusal;
+use io_edge::{Sink, SinkFault};
+use plain_list::Answer;
+use zorder::Placed;
+
+/// Writes the first line of answers.
+pub fn write_title<K: Sink>(sink: &mut K) -> Result<(), SinkFault>
+    ensures bytes { Puts (K.taken sink.old) (K.taken sink.new) title_line result }
+    ensures cause { Counts (K.faults sink.old) (K.faults sink.new) result }
+{
+    sink.put(b"row,place,answer,detail\n")
+}
+
+/// Writes the line of a row. It goes as one piece, but for a long list of points, which goes in pieces of up to 4 KiB.
+pub fn write_line<K: Sink>(
+    sink: &mut K,
+    row: u32,
+    place: u64,
+    answer: &Answer,
+) -> Result<(), SinkFault>
+    ensures bytes { Puts (K.taken sink.old) (K.taken sink.new) (line_text row place answer.now) result }
+    ensures cause { Counts (K.faults sink.old) (K.faults sink.new) result }
+{
+    let mut piece = Piece::new();
+    add_number(&mut piece, u64::from(row));
+    piece.push_str(",");
+    add_number(&mut piece, place);
+    piece.push_str(",");
+    piece.push_str(word_of(answer));
+    piece.push_str(",");
+    add_detail(sink, &mut piece, answer)?;
+    piece.push_str("\n");
+    sink.put(piece.as_str().as_bytes())
+}
+
+fn word_of(answer: &Answer) -> &'static str
+    ensures word { result.now ≡ word_text answer.now }
+    ensures short { length result.now ≤ 7 }
+{
+    match answer {
+        Answer::Done => "done",
+        Answer::Present(_) => "present",
+        Answer::Full => "full",
+        Answer::Moved(_) => "moved",
+        Answer::Gone(_) => "gone",
+        Answer::At(_) => "at",
+        Answer::Absent => "absent",
+        Answer::Found(_) => "found",
+        Answer::Many(_) => "many",
+    }
+}
+
+fn add_detail<K: Sink>(sink: &mut K, piece: &mut Piece, answer: &Answer) -> Result<(), SinkFault>
+    requires { array_string_len piece.old ≤ 64 }
+    ensures bytes { HoldsBack (K.taken sink.old) (K.taken sink.new) (piece.old.bytes ++ detail_text answer.now) piece.new.bytes result }
+    ensures cause { Counts (K.faults sink.old) (K.faults sink.new) result }
+    ensures room { OnOk result (array_string_len piece.new ≤ 4095) }
+{
+    match answer {
+        Answer::Done | Answer::Full | Answer::Absent => Ok(()),
+        Answer::Present(at) | Answer::Moved(at) | Answer::Gone(at) | Answer::At(at) => {
+            add_point(piece, *at, ":");
+            Ok(())
+        }
+        Answer::Found(list) => add_list(sink, piece, list.as_slice()),
+        Answer::Many(count) => {
+            add_number(piece, *count);
+            Ok(())
+        }
+    }
+}
+
+fn add_list<K: Sink>(sink: &mut K, piece: &mut Piece, list: &[Placed]) -> Result<(), SinkFault>
+    requires { array_string_len piece.old ≤ 64 }
+    ensures bytes { HoldsBack (K.taken sink.old) (K.taken sink.new) (piece.old.bytes ++ join_by placed_text (codes ";") list.now) piece.new.bytes result }
+    ensures cause { Counts (K.faults sink.old) (K.faults sink.new) result }
+    ensures room { OnOk result (array_string_len piece.new ≤ 4095) }
+{
+    let Some((first, rest)) = list.split_first() else {
+        return Ok(());
+    };
+    add_placed(piece, first);
+    for placed in rest {
+        make_room(sink, piece)?;
+        piece.push_str(";");
+        add_placed(piece, placed);
+    }
+    Ok(())
+}
+
+fn add_placed(piece: &mut Piece, placed: &Placed)
+    requires { array_string_len piece.old ≤ 3970 }
+    ensures bytes { piece.new.bytes ≡ piece.old.bytes ++ placed_text placed.now }
+    ensures len { array_string_len piece.new ≤ array_string_len piece.old + 62 }
+{
+    add_number(piece, placed.id);
+    piece.push_str(":");
+    add_point(piece, placed.at, ":");
+}
+
+/// Writes the line of a refusal, as one piece.
+pub fn refusal_line<K: Sink>(sink: &mut K, refusal: &Refusal) -> Result<(), SinkFault>
+    ensures bytes { Puts (K.taken sink.old) (K.taken sink.new) (refusal_text refusal.now) result }
+    ensures cause { Counts (K.faults sink.old) (K.faults sink.new) result }
+{
+    let mut piece = Piece::new();
+    piece.push_str("refused ");
+    add_reason(&mut piece, refusal);
+    piece.push_str("\n");
+    sink.put(piece.as_str().as_bytes())
+}
+
+fn add_reason(piece: &mut Piece, refusal: &Refusal)
+    requires { array_string_len piece.old ≤ 64 }
+    ensures bytes { piece.new.bytes ≡ piece.old.bytes ++ reason_text refusal.now }
+    ensures len { array_string_len piece.new ≤ 1024 }
+{
+    match refusal {
+        Refusal::Usage => piece.push_str("usage"),
+        Refusal::Header => piece.push_str("header"),
+        Refusal::Csv { row } => {
+            piece.push_str("row ");
+            add_number(piece, u64::from(*row));
+            piece.push_str(" length");
+        }
+        Refusal::Field { row, column } => {
+            piece.push_str("row ");
+            add_number(piece, u64::from(*row));
+            piece.push_str(" column ");
+            add_number(piece, u64::from(*column));
+        }
+        Refusal::Source => piece.push_str("source"),
+        Refusal::LongInput => piece.push_str("limit bytes"),
+        Refusal::ManyRows => piece.push_str("limit rows"),
+        Refusal::Memory => piece.push_str("memory"),
+    }
+}

@@ -1,0 +1,53 @@
+//! Texts that go to a sink in pieces of up to 4 KiB, built in a buffer that takes no memory.
+ghost use Rattle.std.specs.Prelude.{◌≡◌, ◌≤◌, ◌+◌, ◌++◌, length, OnOk};
+ghost use Rattle.std.specs.Fmt.{decimal};
+ghost use Rattle.arrayvec.specs.ArrayString.{array_string_len};
+ghost use Rattle.causes.specs.Causes.{Counts};
+ghost use Rattle.csv_rows.specs.Pieces.{HoldsBack};
+
+use arrayvec::ArrayString;
+use io_edge::{Sink, SinkFault};
+use itoa::Buffer;
+use zorder::Point;
+
+/// The piece that is built, and put when it is nearly full.
+pub(crate) type Piece = ArrayString<4096>;
+
+// A piece with as much as this has room for one more entry, which has at most 128 bytes.
+const ROOM_FOR_ONE: usize = 3968;
+
+/// Puts the piece where it is nearly full, and begins the next.
+pub(crate) fn make_room<K: Sink>(sink: &mut K, piece: &mut Piece) -> Result<(), SinkFault>
+    ensures bytes { HoldsBack (K.taken sink.old) (K.taken sink.new) piece.old.bytes piece.new.bytes result }
+    ensures cause { Counts (K.faults sink.old) (K.faults sink.new) result }
+    ensures room { OnOk result (array_string_len piece.new ≤ 3968) }
+{
+    if piece.len() <= ROOM_FOR_ONE {
+        return Ok(());
+    }
+    let put = sink.put(piece.as_str().as_bytes());
+    piece.clear();
+    put
+}
+
+/// Adds a decimal number.
+pub(crate) fn add_number(piece: &mut Piece, number: u64)
+    requires { array_string_len piece.old ≤ 4076 }
+    ensures bytes { piece.new.bytes ≡ piece.old.bytes ++ decimal number }
+    ensures len { array_string_len piece.new ≤ array_string_len piece.old + 20 }
+{
+    let mut buffer = Buffer::new();
+    piece.push_str(buffer.format(number));
+}
+
+/// Adds both coordinates, with a mark between them.
+pub(crate) fn add_point(piece: &mut Piece, at: Point, mark: &str)
+    requires room { array_string_len piece.old ≤ 4055 }
+    requires mark { length mark.now ≤ 1 }
+    ensures bytes { piece.new.bytes ≡ piece.old.bytes ++ decimal at.x ++ mark.now ++ decimal at.y }
+    ensures len { array_string_len piece.new ≤ array_string_len piece.old + 41 }
+{
+    add_number(piece, u64::from(at.x));
+    piece.push_str(mark);
+    add_number(piece, u64::from(at.y));
+}

@@ -1,0 +1,93 @@
+//! Rows as text, as they are read.
+ghost use Rattle.std.specs.Prelude.{◌≡◌, ◌≤◌, ◌+◌, ◌++◌, codes, length, Ok};
+ghost use Rattle.std.specs.Fmt.{decimal};
+ghost use Rattle.arrayvec.specs.ArrayString.{array_string_len};
+ghost use Rattle.causes.specs.Causes.{Counts};
+ghost use Rattle.io_edge.specs.Puts.{Puts};
+ghost use Rattle.csv_rows.specs.Rows.{rows_of};
+ghost use Rattle.csv_rows.specs.RowLines.{row_line, rows_text};
+
+use crate::pieces::{Piece, add_number, add_point, make_room};
+use crate::rows::{InRow, Rows};
+use io_edge::{Sink, SinkFault};
+use plain_list::Op;
+use zorder::{Point, Region};
+
+/// Writes the header and the rows, in pieces of up to 4 KiB.
+pub fn write_rows<K: Sink>(sink: &mut K, rows: &Rows) -> Result<(), SinkFault>
+    ensures bytes { Puts (K.taken sink.old) (K.taken sink.new) (rows_text rows.now) result }
+    ensures cause { Counts (K.faults sink.old) (K.faults sink.new) result }
+    ensures again { rows_of (rows_text rows.now) ≡ Ok rows.now }
+{
+    let mut piece = Piece::new();
+    piece.push_str("session,op,id,x,y,a,b\n");
+    for row in rows.as_slice() {
+        make_room(sink, &mut piece)?;
+        add_row(&mut piece, row);
+    }
+    sink.put(piece.as_str().as_bytes())
+}
+
+fn add_row(piece: &mut Piece, row: &InRow)
+    requires { array_string_len piece.old ≤ 3968 }
+    ensures bytes { piece.new.bytes ≡ piece.old.bytes ++ row_line row.now }
+    ensures len { array_string_len piece.new ≤ array_string_len piece.old + 120 }
+{
+    add_number(piece, u64::from(row.session));
+    match row.op {
+        Op::Put { id, at } => add_placed_op(piece, ",put,", id, at),
+        Op::Move { id, at } => add_placed_op(piece, ",move,", id, at),
+        Op::Remove { id } => add_id_op(piece, ",drop,", id),
+        Op::Find { id } => add_id_op(piece, ",where,", id),
+        Op::Within { region } => add_box(piece, region),
+        Op::Near { at, k } => add_near(piece, at, k),
+    }
+}
+
+fn add_placed_op(piece: &mut Piece, word: &str, id: u64, at: Point)
+    requires room { array_string_len piece.old ≤ 3988 }
+    requires word { length word.now ≤ 7 }
+    ensures bytes { piece.new.bytes ≡ piece.old.bytes ++ word.now ++ decimal id ++ codes "," ++ decimal at.x ++ codes "," ++ decimal at.y ++ codes ",,\n" }
+    ensures len { array_string_len piece.new ≤ array_string_len piece.old + 100 }
+{
+    piece.push_str(word);
+    add_number(piece, id);
+    piece.push_str(",");
+    add_point(piece, at, ",");
+    piece.push_str(",,\n");
+}
+
+fn add_id_op(piece: &mut Piece, word: &str, id: u64)
+    requires room { array_string_len piece.old ≤ 3988 }
+    requires word { length word.now ≤ 7 }
+    ensures bytes { piece.new.bytes ≡ piece.old.bytes ++ word.now ++ decimal id ++ codes ",,,,\n" }
+    ensures len { array_string_len piece.new ≤ array_string_len piece.old + 100 }
+{
+    piece.push_str(word);
+    add_number(piece, id);
+    piece.push_str(",,,,\n");
+}
+
+fn add_box(piece: &mut Piece, region: Region)
+    requires { array_string_len piece.old ≤ 3988 }
+    ensures bytes { piece.new.bytes ≡ piece.old.bytes ++ codes ",box,," ++ decimal region.lo.x ++ codes "," ++ decimal region.lo.y ++ codes "," ++ decimal region.hi.x ++ codes "," ++ decimal region.hi.y ++ codes "\n" }
+    ensures len { array_string_len piece.new ≤ array_string_len piece.old + 100 }
+{
+    piece.push_str(",box,,");
+    add_point(piece, region.lo, ",");
+    piece.push_str(",");
+    add_point(piece, region.hi, ",");
+    piece.push_str("\n");
+}
+
+fn add_near(piece: &mut Piece, at: Point, k: u32)
+    requires { array_string_len piece.old ≤ 3988 }
+    ensures bytes { piece.new.bytes ≡ piece.old.bytes ++ codes ",near,," ++ decimal at.x ++ codes "," ++ decimal at.y ++ codes "," ++ decimal k ++ codes ",\n" }
+    ensures len { array_string_len piece.new ≤ array_string_len piece.old + 100 }
+{
+    piece.push_str(",near,,");
+    add_point(piece, at, ",");
+    piece.push_str(",");
+    add_number(piece, u64::from(k));
+    piece.push_str(",\n");
+}
