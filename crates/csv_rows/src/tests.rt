@@ -1,8 +1,58 @@
-use crate::{InRow, Rows, RowsFault, number_in, read_rows};
-use plain_list::Op;
+ghost use Rattle.std.specs.Prelude.{None};
+
+use crate::{
+    InRow, Refusal, Rows, RowsFault, number_in, read_rows, refusal_line, write_line, write_rows,
+    write_title,
+};
+use io_edge::{Sink, SinkFault};
+use plain_list::{Answer, Op, PlacedList};
 use std::alloc::Global;
 use std::test::Fail;
-use zorder::{Point, Region};
+use zorder::{Placed, Point, Region};
+
+/// Keeps what it is given, in so many puts.
+#[derive(Drop)]
+struct Kept {
+    bytes: Vec<u8>,
+    puts_left: usize,
+    faults: u64,
+}
+
+impl Kept {
+    fn new(alloc: Global, puts_left: usize) -> Kept {
+        Kept {
+            bytes: Vec::new(alloc),
+            puts_left,
+            faults: 0,
+        }
+    }
+}
+
+impl Sink for Kept {
+    ghost taken = { λ _. None };
+
+    ghost faults = { λ s. s.faults };
+
+    fn put(&mut self, piece: &[u8]) -> Result<(), SinkFault> {
+        if self.puts_left == 0 || self.bytes.extend_from_slice(piece).is_err() {
+            self.faults = self.faults.saturating_add(1);
+            return Err(SinkFault);
+        }
+        self.puts_left -= 1;
+        Ok(())
+    }
+}
+
+fn line_of(alloc: Global, number: u32, answer: Answer) -> Vec<u8> {
+    let mut sink = Kept::new(alloc, 1);
+    let _ = write_line(&mut sink, number, u64::from(number), &answer);
+    let Kept {
+        bytes,
+        puts_left: _,
+        faults: _,
+    } = sink;
+    bytes
+}
 
 fn read(alloc: Global, rows: &[u8]) -> Result<Rows, RowsFault> {
     let mut text = match Vec::from_slice(alloc, b"session,op,id,x,y,a,b\n".as_slice()) {
@@ -177,4 +227,120 @@ fn a_number_has_one_to_twenty_digits(rt: HostRuntime) {
     assert_eq!(rt; number_in(b"000000000000000000064", 4, 4096), None);
     assert_eq!(rt; number_in(b"3", 4, 4096), None);
     assert_eq!(rt; number_in(b"", 0, 4096), None);
+}
+
+#[test]
+fn answers_are_written_as_lines(rt: HostRuntime) -> Result<(), Fail> {
+    let at = Point { x: 3, y: 5 };
+    let mut near = Vec::new(rt.alloc());
+    near.push(Placed {
+        id: 4,
+        at: Point { x: 3, y: 4 },
+    })?;
+    near.push(Placed {
+        id: 9,
+        at: Point { x: 0, y: 5 },
+    })?;
+    let none = PlacedList::from_vec(Vec::new(rt.alloc()));
+    assert_eq!(rt;
+        line_of(rt.alloc(), 1, Answer::Done).as_slice(),
+        b"1,1,done,\n".as_slice()
+    );
+    assert_eq!(rt;
+        line_of(rt.alloc(), 2, Answer::At(at)).as_slice(),
+        b"2,2,at,3:5\n".as_slice()
+    );
+    assert_eq!(rt;
+        line_of(rt.alloc(), 2, Answer::Present(at)).as_slice(),
+        b"2,2,present,3:5\n".as_slice()
+    );
+    assert_eq!(rt;
+        line_of(rt.alloc(), 3, Answer::Moved(at)).as_slice(),
+        b"3,3,moved,3:5\n".as_slice()
+    );
+    assert_eq!(rt;
+        line_of(rt.alloc(), 4, Answer::Gone(Point { x: 8, y: 8 })).as_slice(),
+        b"4,4,gone,8:8\n".as_slice()
+    );
+    assert_eq!(rt;
+        line_of(rt.alloc(), 5, Answer::Absent).as_slice(),
+        b"5,5,absent,\n".as_slice()
+    );
+    assert_eq!(rt;
+        line_of(rt.alloc(), 6, Answer::Full).as_slice(),
+        b"6,6,full,\n".as_slice()
+    );
+    assert_eq!(rt;
+        line_of(rt.alloc(), 7, Answer::Many(2049)).as_slice(),
+        b"7,7,many,2049\n".as_slice()
+    );
+    assert_eq!(rt;
+        line_of(rt.alloc(), 2, Answer::Found(none)).as_slice(),
+        b"2,2,found,\n".as_slice()
+    );
+    assert_eq!(rt;
+        line_of(rt.alloc(), 3, Answer::Found(PlacedList::from_vec(near))).as_slice(),
+        b"3,3,found,4:3:4;9:0:5\n".as_slice()
+    );
+    Ok(())
+}
+
+#[test]
+fn a_list_of_2048_points_goes_in_pieces(rt: HostRuntime) -> Result<(), Fail> {
+    let mut points = Vec::new(rt.alloc());
+    for _ in 0..2048 {
+        points.push(Placed {
+            id: 18_446_744_073_709_551_615,
+            at: Point {
+                x: 4_294_967_295,
+                y: 4_294_967_295,
+            },
+        })?;
+    }
+    let answer = Answer::Found(PlacedList::from_vec(points));
+    let mut sink = Kept::new(rt.alloc(), 100);
+    assert!(rt; write_line(&mut sink, 1, 1, &answer).is_ok());
+    assert_eq!(rt; sink.bytes.len(), 10 + 2048 * 43);
+    let mut failing = Kept::new(rt.alloc(), 1);
+    assert!(rt; write_line(&mut failing, 1, 1, &answer).is_err());
+    Ok(())
+}
+
+#[test]
+fn refusals_and_the_title_are_written_as_lines(rt: HostRuntime) {
+    let table: [(Refusal, &[u8]); 8] = [
+        (Refusal::Usage, b"refused usage\n"),
+        (Refusal::Header, b"refused header\n"),
+        (Refusal::Csv { row: 1 }, b"refused row 1 length\n"),
+        (
+            Refusal::Field { row: 3, column: 6 },
+            b"refused row 3 column 6\n",
+        ),
+        (Refusal::Source, b"refused source\n"),
+        (Refusal::LongInput, b"refused limit bytes\n"),
+        (Refusal::ManyRows, b"refused limit rows\n"),
+        (Refusal::Memory, b"refused memory\n"),
+    ];
+    for (refusal, text) in table {
+        let mut sink = Kept::new(rt.alloc(), 1);
+        assert!(rt; refusal_line(&mut sink, &refusal).is_ok());
+        assert_eq!(rt; sink.bytes.as_slice(), text);
+    }
+    let mut sink = Kept::new(rt.alloc(), 1);
+    assert!(rt; write_title(&mut sink).is_ok());
+    assert_eq!(rt;
+        sink.bytes.as_slice(),
+        b"row,place,answer,detail\n".as_slice()
+    );
+}
+
+#[test]
+fn rows_are_written_as_they_are_read(rt: HostRuntime) -> Result<(), Fail> {
+    let text: &[u8] =
+        b"session,op,id,x,y,a,b\n1,put,1717,3938983765,2969520912,,\n16,move,7,8,8,,\n1,drop,7,,,,\n1,where,7,,,,\n1,box,,3,5,3,5\n1,near,,0,0,2048,\n";
+    let rows = read_rows(rt.alloc(), text)?;
+    let mut sink = Kept::new(rt.alloc(), 1);
+    assert!(rt; write_rows(&mut sink, &rows).is_ok());
+    assert_eq!(rt; sink.bytes.as_slice(), text);
+    Ok(())
 }
