@@ -1,0 +1,3 @@
+pub mod Plays
+pub mod Writing
+pub mod Ends

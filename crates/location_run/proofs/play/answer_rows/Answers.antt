@@ -1,0 +1,15 @@
+use Rattle.std.proofs.Common.{◌≡◌, ◌+◌, ◌<◌, length, take, get_or, sym, ◌∙◌, subst, arith}
+use Rattle.std.proofs.lemmas.List.{take_more, length-take}
+use Rattle.plain_list.specs.declared.ops.Op.TheVariants as op
+use Rattle.plain_list.specs.declared.entries.Entry.TheVariants as entry
+use Rattle.location_run.specs.Plays.{IsPlay, TakesCall}
+use Rattle.location_run.proofs.Plays.{IsPlay-more}
+use Rattle.location_run.proofs.play.answer_rows.Goals as goal
+
+pub loop-i-preserved : goal.loop-i-preserved
+loop-i-preserved c =
+    let rows = c.args.rows.now in
+    let i = c.loop-i.i in
+    let step = c.in_ok-play.ensures.ok in
+    subst (λ l. IsPlay l c.in_ok-play.play) (sym (take_more rows i _ (omega arith)))
+    (IsPlay-more (take i rows) _ (i + 1) c.loop-i.play c.in_ok-play.play (omega (arith, length-take i rows)) c.loop-i.invariant step)

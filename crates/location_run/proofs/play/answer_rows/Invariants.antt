@@ -1,0 +1,6 @@
+use Rattle.std.proofs.Common.{take}
+use Rattle.location_run.specs.Plays.{IsPlay}
+use Rattle.location_run.proofs.play.answer_rows.Given as goal
+
+abbrev pub invariant-loop-i : goal.invariant-loop-i
+invariant-loop-i l = IsPlay (take l.i l.rows) l.play

@@ -1,0 +1,18 @@
+-- The status of each refusal.
+use Rattle.std.specs.Prelude.{◌≡◌, ◌⊎◌, ℕ}
+use Rattle.csv_rows.specs.declared.rows.Refusal.{Refusal}
+use Rattle.csv_rows.specs.declared.rows.Refusal.TheVariants as refusal
+
+abbrev pub status_of : Refusal → ℕ
+status_of refusal.Usage = 2
+status_of refusal.Header = 3
+status_of (refusal.Csv row) = 3
+status_of (refusal.Field row column) = 3
+status_of refusal.Source = 5
+status_of refusal.LongInput = 8
+status_of refusal.ManyRows = 8
+status_of refusal.Memory = 9
+
+-- whether a status is one of a run that wrote its lines, all of them or a front
+abbrev pub WritesLines : ℕ → Type 0
+WritesLines status = (status ≡ 0) ⊎ (status ≡ 6)

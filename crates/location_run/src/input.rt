@@ -1,0 +1,76 @@
+//! The rows of the source, or why there are none to play.
+ghost use Rattle.std.specs.Prelude.{◌≡◌, ◌≢◌, ◌≤◌, List, [], ℕ, map, Some, Ok, Err, IfOk, IfErr, length};
+ghost use Rattle.std.specs.String.{string_bytes};
+ghost use Rattle.causes.specs.Causes.{Rose};
+ghost use Rattle.location_run.specs.Words.{IsAccepted};
+ghost use Rattle.location_run.specs.Judged.{judged, first_other, refusal_of};
+ghost use Rattle.location_run.specs.Run.{IsCause};
+
+use crate::words::are_accepted;
+use csv_rows::{InRow, Refusal, Rows, RowsFault, read_rows};
+use io_edge::{ReadFault, Source, read_all};
+use std::alloc::Global;
+
+// How many bytes an input may have.
+const MOST_BYTES: usize = 16_777_216;
+
+/// The rows to play. The order of refusals: words, source, length of the input, rows.
+pub(crate) fn rows_to_play<S: Source>(
+    alloc: Global,
+    words: &[String],
+    source: &mut S,
+) -> Result<Rows, Refusal>
+    ensures rows { IfOk result (λ rows. IsAccepted (map string_bytes words.now) × ((bytes : List ℕ) → S.left source.old ≡ Some bytes → (judged bytes ≡ Ok rows) × (S.left source.new ≡ Some []))) }
+    ensures cause { IfErr result (λ why. IsCause (IsAccepted (map string_bytes words.now)) (S.left source.old) (Rose (S.faults source.old) (S.faults source.new)) why) }
+    ensures later { S.faults source.old ≤ S.faults source.new }
+{
+    if !are_accepted(words) {
+        return Err(Refusal::Usage);
+    }
+    match read_all(alloc, source, MOST_BYTES) {
+        Ok(bytes) => judge(alloc, bytes.as_slice()),
+        Err(ReadFault::Source) => Err(Refusal::Source),
+        Err(ReadFault::TooLong) => Err(Refusal::LongInput),
+        Err(ReadFault::Memory) => Err(Refusal::Memory),
+    }
+}
+
+// The rows of an input that isn't too long, where all are of session 1.
+fn judge(alloc: Global, bytes: &[u8]) -> Result<Rows, Refusal>
+    requires { length bytes.now ≤ 16777216 }
+    ensures rows { IfOk result (λ rows. judged bytes.now ≡ Ok rows) }
+    ensures cause { IfErr result (λ why. why ≢ Refusal.Memory → judged bytes.now ≡ Err why) }
+{
+    match read_rows(alloc, bytes) {
+        Ok(rows) => match first_other(rows.as_slice()) {
+            None => Ok(rows),
+            Some(row) => Err(Refusal::Field { row, column: 1 }),
+        },
+        Err(fault) => Err(refusal_of(fault)),
+    }
+}
+
+// The number of the first row that isn't of session 1.
+fn first_other(rows: &[InRow]) -> Option<u32>
+    requires { length rows.now ≤ 65536 }
+    ensures { result ≡ first_other 1 rows.now }
+{
+    for (i, row) in rows.iter().enumerate() {
+        if row.session != 1 {
+            return Some(i as u32 + 1);
+        }
+    }
+    None
+}
+
+fn refusal_of(fault: RowsFault) -> Refusal
+    ensures { result ≡ refusal_of fault }
+{
+    match fault {
+        RowsFault::Header => Refusal::Header,
+        RowsFault::Csv { row } => Refusal::Csv { row },
+        RowsFault::Field { row, column } => Refusal::Field { row, column },
+        RowsFault::TooMany => Refusal::ManyRows,
+        RowsFault::Memory => Refusal::Memory,
+    }
+}

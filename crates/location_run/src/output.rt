@@ -1,0 +1,23 @@
+//! The lines of answers.
+ghost use Rattle.std.specs.Prelude.{◌++◌, ◌≤◌, length};
+ghost use Rattle.causes.specs.Causes.{Counts};
+ghost use Rattle.io_edge.specs.Puts.{Puts};
+ghost use Rattle.csv_rows.specs.Lines.{title_line};
+ghost use Rattle.location_run.specs.Lines.{lines_from};
+
+use csv_rows::{write_line, write_title};
+use io_edge::{Sink, SinkFault};
+use plain_list::Answer;
+
+/// Writes the first line, and a line for each reply, whose row and place are its number.
+pub(crate) fn write_lines<K: Sink>(sink: &mut K, replies: &[Answer]) -> Result<(), SinkFault>
+    requires { length replies.now ≤ 65536 }
+    ensures bytes { Puts (K.taken sink.old) (K.taken sink.new) (title_line ++ lines_from 1 replies.now) result }
+    ensures cause { Counts (K.faults sink.old) (K.faults sink.new) result }
+{
+    write_title(sink)?;
+    for (i, reply) in replies.iter().enumerate() {
+        write_line(sink, i as u32 + 1, i as u64 + 1, reply)?;
+    }
+    Ok(())
+}
