@@ -1,12 +1,12 @@
 -- Numbers between two others.
-use Rattle.std.proofs.Common.{◌≡◌, ◌<◌, ◌≤◌, ℕ, Bool, true, false, List, length, Some, None, refl, arith, cond, ◌&&◌, ◌+◌, ◌^◌, take, get_or, lit≤, rules}
+use Rattle.std.proofs.Common.{◌≡◌, ◌<◌, ◌≤◌, ℕ, Bool, true, false, List, length, Some, None, refl, arith, cond, ◌&&◌, ◌+◌, get_or, rules}
 use Rattle.std.proofs.lemmas.Bool.{le-leb, leb-true}
 use Rattle.std.specs.Prelude.{nat_le}
 use Rattle.std.specs.Char.{is_ascii_digit}
 use Rattle.std.specs.List.{list_all}
 use Rattle.std.specs.Cmp.{first_so, second_so}
 use Rattle.std.specs.Cmp.Derive.{both_true}
-use Rattle.std.proofs.lemmas.Str.Parse.{IsNumeralModel, digit_at, digits_value-take-le, digits_value_short, numerals_by_value}
+use Rattle.std.proofs.lemmas.Str.Parse.{IsNumeralModel, digit_at, numerals_by_value}
 use Rattle.std.proofs.lemmas.Str.{digit_value_digit}
 use Rattle.std.specs.Char.{digit_value}
 use Rattle.std.specs.Str.Parse.{digits_value}
@@ -72,10 +72,3 @@ pub digit_in : (ds : List ℕ) (i : ℕ) → list_all is_ascii_digit ds ≡ true
 digit_in ds i p lt =
     let d = digit_at ds i (numerals.to ds p) lt in
     (omega (arith, d), omega (arith, d), digit_value_digit (get_or ds i 0) d)
-
--- twenty digits, and the first of them, say less than 10 ^ 20
-pub value-take : (ds : List ℕ) (i : ℕ) → list_all is_ascii_digit ds ≡ true → length ds ≤ 20 → digits_value 10 (take i ds) < 10 ^ 20
-value-take ds i p le =
-    let all : digits_value 10 ds < 10 ^ 20 = digits_value_short numerals ds 20 p le in
-    let front : digits_value 10 (take i ds) ≤ digits_value 10 ds = digits_value-take-le 10 ds i (lit≤ tt) in
-    omega (arith, all, front)

@@ -1,5 +1,5 @@
 //! Decimal numbers, read by hand from bytes.
-ghost use Rattle.std.specs.Prelude.{◌≡◌, ◌≤◌, true, length};
+ghost use Rattle.std.specs.Prelude.{◌≡◌, ◌<◌, ◌^◌, true, SomeIff};
 ghost use Rattle.std.specs.Char.{is_ascii_digit};
 ghost use Rattle.std.specs.List.{list_all};
 ghost use Rattle.std.specs.Str.Parse.{digits_value};
@@ -12,14 +12,14 @@ pub fn number_in(field: &[u8], low: u64, high: u64) -> Option<u64>
     if !is_number(field) {
         return None;
     }
-    let value = value_of(field);
-    if value < u128::from(low) {
+    let value = value_of(field)?;
+    if value < low {
         return None;
     }
-    if u128::from(high) < value {
+    if high < value {
         return None;
     }
-    Some(value as u64)
+    Some(value)
 }
 
 fn is_number(field: &[u8]) -> bool
@@ -40,15 +40,16 @@ fn are_digits(field: &[u8]) -> bool
     field.iter().all(|byte| byte.is_ascii_digit())
 }
 
-// The number that digits say: below 10 ^ 20, which is more than 64 bits hold.
-fn value_of(digits: &[u8]) -> u128
-    requires digits { list_all is_ascii_digit digits.now ≡ true }
-    requires short { length digits.now ≤ 20 }
-    ensures { result ≡ digits_value 10 digits.now }
+// The number that digits say, where it fits 64 bits.
+fn value_of(digits: &[u8]) -> Option<u64>
+    requires { list_all is_ascii_digit digits.now ≡ true }
+    ensures { SomeIff result (digits_value 10 digits.now < 2 ^ 64) (digits_value 10 digits.now) }
 {
-    let mut value: u128 = 0;
+    let mut value: u64 = 0;
     for digit in digits {
-        value = value * 10 + u128::from(*digit - b'0');
+        let tens = value.checked_mul(10)?;
+        let more = tens.checked_add(u64::from(*digit - b'0'))?;
+        value = more;
     }
-    value
+    Some(value)
 }
