@@ -1,24 +1,23 @@
 -- How a run ends.
-use Rattle.std.proofs.Common.{◌≡◌, ◌≢◌, ◌⊎◌, inl, inr, ◌↔◌, ℕ, zero, suc, ◌+◌, ◌<◌, ◌≤◌, Bool, true, false, ◌&&◌, cond, ◌==◌, List, [], ◌∷◌, ◌++◌, length, take, drop, Option, Some, None, Result, Ok, Err, refl, sym, ◌∙◌, ap, subst, arith}
+use Rattle.std.proofs.Common.{◌≡◌, inl, inr, ℕ, ◌+◌, Bool, true, false, cond, ◌==◌, List, [], ◌∷◌, ◌++◌, length, take, drop, Option, Result, Ok, Err, refl, sym, ◌∙◌, ap, subst, arith}
 use Rattle.std.specs.Io.KnownBytes.{Appends}
 use Rattle.std.proofs.lemmas.List.{append-nil, take-append-drop}
-use Rattle.causes.specs.Causes.{Counts, Rose}
+use Rattle.causes.specs.Causes.{Counts}
 use Rattle.io_edge.specs.Puts.{Puts}
 use Rattle.plain_list.specs.declared.ops.Op.{Op}
 use Rattle.plain_list.specs.declared.entries.Entry.{Entry}
 use Rattle.plain_list.specs.declared.entries.Entry.TheVariants.{Call}
 use Rattle.plain_list.specs.State.{State, empty_state, step, is_legal_history}
-use Rattle.plain_list.specs.Played.{calls_of, IsPrefix, IsPlayed, IsPlayedWhole}
+use Rattle.plain_list.specs.Played.{calls_of, IsPlayed, IsPlayedWhole}
 use Rattle.plain_list.specs.History.{replies}
 use Rattle.csv_rows.specs.declared.rows.InRow.{InRow}
 use Rattle.csv_rows.specs.declared.rows.Refusal.{Refusal}
 use Rattle.csv_rows.specs.declared.rows.Refusal.TheVariants as refusal
-use Rattle.csv_rows.specs.Lines.{refusal_text, title_line}
-use Rattle.location_run.specs.Judged.{judged}
+use Rattle.csv_rows.specs.Lines.{title_line}
 use Rattle.location_run.specs.Lines.{lines_of, lines_from, entries_from, session_rows, session_rows_from}
 use Rattle.location_run.specs.Status.{status_of, WritesLines}
 use Rattle.location_run.specs.Plays.{IsPlay}
-use Rattle.location_run.specs.Run.{AnswersAsOneList, PlaysOneList, TakesLine, IsCause, Refuses, FollowsInput, EndsPlay}
+use Rattle.location_run.specs.Run.{AnswersAsOneList, TakesLine}
 use Rattle.location_run.specs.declared.play.Play.{Play}
 use Rattle.location_run.proofs.Writing.{lines_of-entries, replies-entries}
 

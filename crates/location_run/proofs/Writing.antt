@@ -1,25 +1,21 @@
 -- Lines that are written one after the other.
-use Rattle.std.proofs.Common.{◌≡◌, ℕ, zero, suc, ◌+◌, ◌<◌, ◌≤◌, Bool, true, false, cond, ◌==◌, List, [], ◌∷◌, ◌++◌, length, take, drop, get_or, Option, Some, None, Result, Ok, Err, refl, sym, ◌∙◌, ap, subst, arith, add-one, append_assoc}
+use Rattle.std.proofs.Common.{◌≡◌, ℕ, zero, suc, ◌+◌, ◌<◌, ◌≤◌, false, cond, ◌==◌, List, [], ◌∷◌, ◌++◌, length, take, drop, get_or, Option, Some, Result, refl, sym, ◌∙◌, ap, subst, arith, add-one}
 use Rattle.std.specs.Prelude.{slice_get}
 use Rattle.std.specs.List.{flat_map, range_with_len}
 use Rattle.std.specs.Result.{IsErr}
 use Rattle.std.specs.Io.KnownBytes.{Appends}
-use Rattle.std.proofs.lemmas.Grind.{common_steps}
 use Rattle.std.proofs.lemmas.Bool.Decides.{nat_tests, Decides-eqb}
 use Rattle.std.proofs.lemmas.List.{append-nil, drop_more, drop_all}
-use Rattle.causes.specs.Causes.{Counts, Rose}
 use Rattle.io_edge.specs.Puts.{Puts}
 use Rattle.zorder.specs.declared.points.Placed.{Placed}
 use Rattle.plain_list.specs.declared.ops.Answer.{Answer}
 use Rattle.plain_list.specs.declared.ops.Answer.TheVariants.{Done}
 use Rattle.plain_list.specs.Answer.{after_of}
-use Rattle.plain_list.specs.declared.entries.Entry.{Entry}
-use Rattle.plain_list.specs.declared.entries.Entry.TheVariants.{Call}
 use Rattle.plain_list.specs.History.{replies, reply_at}
 use Rattle.csv_rows.specs.declared.rows.InRow.{InRow}
 use Rattle.csv_rows.specs.Lines.{line_text, title_line}
 use Rattle.csv_rows.specs.Pieces.{Moves}
-use Rattle.csv_rows.proofs.PiecesFacts.{moves-all, moves-more, moves-lost, moves-trans, moves-is, puts-fault, puts-is}
+use Rattle.csv_rows.proofs.PiecesFacts.{moves-all, moves-more, moves-lost, moves-trans, puts-fault, puts-is}
 use Rattle.location_run.specs.Lines.{lines_from, entries_from, lines_of, line_at, line_if, row_place, row_place_from}
 
 -- what was written before line i, and the lines from it on

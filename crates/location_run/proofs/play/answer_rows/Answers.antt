@@ -1,8 +1,6 @@
-use Rattle.std.proofs.Common.{◌≡◌, ◌+◌, ◌<◌, length, take, get_or, sym, ◌∙◌, subst, arith}
+use Rattle.std.proofs.Common.{◌+◌, take, sym, subst, arith}
 use Rattle.std.proofs.lemmas.List.{take_more, length-take}
-use Rattle.plain_list.specs.declared.ops.Op.TheVariants as op
-use Rattle.plain_list.specs.declared.entries.Entry.TheVariants as entry
-use Rattle.location_run.specs.Plays.{IsPlay, TakesCall}
+use Rattle.location_run.specs.Plays.{IsPlay}
 use Rattle.location_run.proofs.Plays.{IsPlay-more}
 use Rattle.location_run.proofs.play.answer_rows.Goals as goal
 

@@ -1,4 +1,4 @@
-use Rattle.std.proofs.Common.{◌++◌, ℕ, length, take, ◌∙◌, ap, subst, arith}
+use Rattle.std.proofs.Common.{◌++◌, length, take, ◌∙◌, ap, subst, arith}
 use Rattle.std.specs.Io.KnownBytes.{Appends}
 use Rattle.csv_rows.specs.Lines.{title_line}
 use Rattle.csv_rows.specs.declared.rows.Refusal.TheVariants as refusal
