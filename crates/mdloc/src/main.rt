@@ -1,0 +1,31 @@
+//! Plays rows of standard input, writes their lines to standard output, and ends with the status.
+#![tactic(auto)]
+
+use csv_rows::{Refusal, refusal_line};
+use io_edge::{StdSink, StdSource};
+use location_run::run;
+use std::process::ExitCode;
+use std::{env, io};
+
+// The status for want of memory.
+const NO_MEMORY: u8 = 9;
+
+fn main(rt: HostRuntime) -> ExitCode {
+    let mut source = StdSource::new(rt.reader());
+    let mut sink = StdSink::new(io::writer(&rt));
+    let Ok(words) = words(&rt) else {
+        let _ = refusal_line(&mut sink, &Refusal::Memory);
+        return ExitCode::from(NO_MEMORY);
+    };
+    let outcome = run(rt.alloc(), words.as_slice(), &mut source, &mut sink);
+    ExitCode::from(outcome.status)
+}
+
+// The words behind the program's name. Where one isn't UTF-8 there are none, which are as little accepted.
+fn words(rt: &HostRuntime) -> io::Result<Vec<String>> {
+    match env::args(rt) {
+        Ok(args) => Ok(args.skip(1).collect(rt.alloc())?),
+        Err(e) if e.kind() == io::ErrorKind::InvalidData => Ok(Vec::new(rt.alloc())),
+        Err(e) => Err(e),
+    }
+}
