@@ -1,0 +1,62 @@
+-- A file under the calls that change or sync it: what a read gives, and what a crash may leave.
+use Rattle.std.specs.Prelude.{ℕ, ◌+◌, List, [], ◌∷◌, ◌++◌, length, take, drop}
+use Rattle.disk_mem.specs.Pending.{Pending, settled, after_write, after_cut}
+
+-- a call that changes or syncs, with what came of it
+pub data Change : Type 0 where
+  wrote : ℕ → List ℕ → Change
+  failed_write : ℕ → ℕ → Change
+  did_cut : ℕ → Change
+  failed_cut : ℕ → Change
+  synced : Change
+  failed_sync : Change
+
+-- what a read gives, and what a crash may leave
+pub record File : Type 0 where
+  pub held : List ℕ
+  pub pending : Pending
+
+-- a file with these bytes and nothing pending
+abbrev pub started : List ℕ → File
+started bytes = record { held = bytes; pending = settled bytes }
+
+-- the bytes with a piece written over them, and past their end
+abbrev pub over : ℕ → List ℕ → List ℕ → List ℕ
+over at piece old = take at old ++ piece ++ drop (at + length piece) old
+
+-- what a read gives after a call: what it gave before, where the call failed
+abbrev pub held_after : List ℕ → Change → List ℕ
+held_after held (wrote at piece) = over at piece held
+held_after held (failed_write at n) = held
+held_after held (did_cut n) = take n held
+held_after held (failed_cut n) = held
+held_after held synced = held
+held_after held failed_sync = held
+
+-- what a crash may leave after a call: a call that failed touches what it would have touched, and a failed sync fixes nothing
+abbrev pub pending_after : File → Change → Pending
+pending_after f (wrote at piece) = after_write at (length piece) f.pending
+pending_after f (failed_write at n) = after_write at n f.pending
+pending_after f (did_cut n) = after_cut n f.pending
+pending_after f (failed_cut n) = after_cut n f.pending
+pending_after f synced = settled f.held
+pending_after f failed_sync = f.pending
+
+-- the file after a call
+abbrev pub changed : File → Change → File
+changed f c = record { held = held_after f.held c; pending = pending_after f c }
+
+-- the file after some calls, in order
+abbrev pub changed_by : File → List Change → File
+changed_by f [] = f
+changed_by f (c ∷ cs) = changed_by (changed f c) cs
+
+-- how many bytes the writes have written
+abbrev pub written : List Change → ℕ
+written [] = 0
+written (wrote at piece ∷ cs) = length piece + written cs
+written (failed_write at n ∷ cs) = written cs
+written (did_cut n ∷ cs) = written cs
+written (failed_cut n ∷ cs) = written cs
+written (synced ∷ cs) = written cs
+written (failed_sync ∷ cs) = written cs

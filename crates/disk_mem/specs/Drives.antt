@@ -1,0 +1,79 @@
+-- What is known of a drive in memory.
+use Rattle.std.specs.Prelude.{◌≡◌, ℕ, ◌+◌, ◌-◌, ◌≤◌, ◌^◌, nat_le, min, Bool, ◌&&◌, if◌then◌else◌, List, [], ◌∷◌, ◌++◌, length, take, Some, Result, is_ok}
+use Rattle.disk_trait.specs.Drive.{Drive, KeepsLaws}
+use Rattle.disk_mem.specs.declared.plans.DiskCall.{DiskCall}
+use Rattle.disk_mem.specs.declared.plans.DiskCall.TheVariants.{Write, Cut, Sync}
+use Rattle.disk_mem.specs.Plans.{PlanView, planned, verdict_of, is_passed, is_made}
+use Rattle.disk_mem.specs.Pending.{IsImage}
+use Rattle.disk_mem.specs.Changes.{Change, wrote, failed_write, did_cut, failed_cut, synced, failed_sync, File, started, changed_by, written}
+
+-- which calls fail, and how many may still be made; the bytes at the start; the calls that changed or synced since; how many bytes there is
+-- room for; how often a call has failed
+pub record DiskView : Type 0 where
+  pub plan : PlanView
+  pub first : List ℕ
+  pub changes : List Change
+  pub room : ℕ
+  pub faults : ℕ
+
+-- the file at a moment, which is after so many calls that changed or synced
+abbrev pub file_at : DiskView → ℕ → File
+file_at d m = changed_by (started d.first) (take m d.changes)
+
+-- the file now
+abbrev pub file_now : DiskView → File
+file_now d = changed_by (started d.first) d.changes
+
+-- a crash may leave the images of the file, now or at each moment
+abbrev pub drive_by : List ℕ → List Change → ℕ → Drive
+drive_by first changes faults = record {
+  bytes = Some (changed_by (started first) changes).held;
+  images = IsImage (changed_by (started first) changes).pending;
+  moment = length changes;
+  since = λ t c. (m : ℕ) × (t ≤ m) × (m ≤ length changes) × IsImage (changed_by (started first) (take m changes)).pending c;
+  faults = faults;
+}
+
+abbrev pub mem_drive : DiskView → Drive
+mem_drive d = drive_by d.first d.changes d.faults
+
+-- whether the next call of a kind passes, where no bound on bytes stands in its way
+abbrev pub passes : DiskCall → DiskView → Bool
+passes call d = is_passed (verdict_of call d.plan)
+
+-- whether the next write of so many bytes at a place passes
+abbrev pub write_passes : ℕ → ℕ → DiskView → Bool
+write_passes at n d = passes Write d && (nat_le (at + n) d.room && nat_le (written d.changes + n) d.room)
+
+-- a call that reaches the file, as the one that is noted: one past the bound isn't
+abbrev pub noted_as : DiskCall → DiskView → Change → List Change
+noted_as call d change = if is_made (verdict_of call d.plan) then change ∷ [] else []
+
+-- The next call of a kind: whether it passes, and what it leaves. It is counted in the plan, what it did is noted, and a call that fails
+-- raises the count of faults, which stays at the greatest number of 64 bits.
+pub record Makes {T E : Type 0} (call : DiskCall) (ok : Bool) (done : List Change) (old new : DiskView) (result : Result T E) : Type 0 where
+  pub passes : is_ok result ≡ ok
+  pub after : new ≡ record {
+    plan = planned call old.plan;
+    first = old.first;
+    changes = old.changes ++ done;
+    room = old.room;
+    faults = if ok then old.faults else min (old.faults + 1) (2 ^ 64 - 1);
+  }
+
+-- the next call of a kind that changes nothing
+abbrev pub MakesPlain : {T E : Type 0} → DiskCall → DiskView → DiskView → Result T E → Type 0
+MakesPlain call old new result = Makes call (passes call old) [] old new result
+
+-- the next write: one that fails, as planned or for want of room, is noted as failed
+abbrev pub MakesWrite : {T E : Type 0} → DiskView → DiskView → ℕ → List ℕ → Result T E → Type 0
+MakesWrite old new at piece result =
+    Makes Write (write_passes at (length piece) old) (noted_as Write old (if write_passes at (length piece) old then wrote at piece else failed_write at (length piece))) old new result
+
+-- the next cut
+abbrev pub MakesCut : {T E : Type 0} → DiskView → DiskView → ℕ → Result T E → Type 0
+MakesCut old new len result = Makes Cut (passes Cut old) (noted_as Cut old (if passes Cut old then did_cut len else failed_cut len)) old new result
+
+-- the next sync
+abbrev pub MakesSync : {T E : Type 0} → DiskView → DiskView → Result T E → Type 0
+MakesSync old new result = Makes Sync (passes Sync old) (noted_as Sync old (if passes Sync old then synced else failed_sync)) old new result

@@ -1,0 +1,10 @@
+pub mod Pending
+pub mod Changes
+pub mod Plans
+pub mod Recorded
+pub mod Scans
+pub mod Kept
+pub mod Sound
+pub mod Drives
+pub mod Disks
+pub mod Laws

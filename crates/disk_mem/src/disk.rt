@@ -1,0 +1,257 @@
+//! The drive in memory.
+ghost use Rattle.std.specs.Prelude.{◌≡◌, ℕ, ◌+◌, ◌*◌, ◌-◌, ◌^◌, ◌<◌, ◌≤◌, ◌↔◌, min, [], length, take, drop, IfOk, OnOk, OnErr, Result, Ok, Err};
+
+use crate::plans::{DiskCall, Fail, Plan, Verdict};
+use crate::recorded::RecordedFile;
+use crate::touches::Touch;
+use disk_trait::{AttachFault, DiskFault, LogDisk};
+use std::alloc::Global;
+use std::marker::Model;
+use zorder::Memory;
+
+/// Why no image was picked.
+#[derive(Clone, Copy, Debug, PartialEq, Eq)]
+pub enum PickFault {
+    /// The moment is above the clock, which stands at `moments`.
+    NoMoment { moments: u64 },
+    /// Memory ran out.
+    Memory,
+}
+
+/// A drive in memory that holds one file, which is there from the start. It takes all its memory when it is made.
+#[derive(Drop)]
+pub struct MemDisk {
+    plan: Plan,
+    file: RecordedFile,
+    faults: u64,
+}
+
+impl Model for MemDisk {
+    ghost use Rattle.disk_mem.specs.Drives.{DiskView};
+
+    ghost Value = { DiskView };
+
+    ghost use Rattle.disk_mem.specs.Disks.{disk_view, IsDisk};
+
+    ghost view = { disk_view };
+
+    ghost invariant = { IsDisk };
+}
+
+/// Raises a count of faults, which stays at its end.
+fn fault(faults: &mut u64) -> DiskFault
+    ensures { faults.new ≡ min (faults.old + 1) (2 ^ 64 - 1) }
+{
+    *faults = faults.saturating_add(1);
+    DiskFault
+}
+
+/// Copies what lies in a file from a place on, as much as there is and fits, and says how much that is.
+fn copy_out(held: &[u8], at: usize, into: &mut [u8]) -> usize
+    ensures count { result ≡ min (length into.old) (length held.now - at) }
+    ensures bytes { take result into.new ≡ take result (drop at held.now) }
+{
+    let from = at.min(held.len());
+    let count = into.len().min(held.len() - from);
+    into[..count].copy_from_slice(&held[from..from + count]);
+    count
+}
+
+impl MemDisk {
+    ghost use Rattle.disk_mem.specs.Pending.{IsImage, Picks};
+    ghost use Rattle.disk_mem.specs.Plans.{no_calls};
+    ghost use Rattle.disk_mem.specs.Drives.{file_at, file_now, mem_drive, MakesPlain, MakesWrite, MakesCut, MakesSync};
+
+    /// A drive whose file has these bytes and nothing pending. `room` bounds where a write may end and how many bytes all writes may bring,
+    /// `calls` how many calls reach the file, and each call in `failing` is to fail.
+    pub fn new(
+        alloc: Global,
+        bytes: Vec<u8>,
+        room: usize,
+        calls: usize,
+        failing: Vec<Fail>,
+    ) -> Result<MemDisk, Memory>
+        ensures { IfOk result (λ d. d ≡ record { plan = record { failing = failing.items; numbers = no_calls; left = calls }; first = bytes.items; changes = []; room = room; faults = 0 }) }
+    {
+        let plan = Plan::new(failing, calls);
+        match RecordedFile::new(alloc, bytes, room, calls) {
+            Ok(file) => Ok(MemDisk {
+                plan,
+                file,
+                faults: 0,
+            }),
+            Err(_) => Err(Memory),
+        }
+    }
+
+    /// The clock: how many calls have changed or synced the file, failed ones included.
+    pub fn moments(&self) -> u64
+        ensures { result ≡ length self.now.changes }
+    {
+        self.file.moments() as u64
+    }
+
+    /// What a read of the whole file gives.
+    pub fn bytes(&self) -> &[u8]
+        ensures { result.now ≡ (file_now self.now).held }
+    {
+        self.file.held()
+    }
+
+    /// One image that a crash at a moment may leave: of all lengths that it may have there the one nearest to `len`, and `fill`, laid
+    /// from the file's start on and repeated, in every free byte.
+    pub fn pick(&self, moment: u64, len: u64, fill: &[u8]) -> Result<Vec<u8>, PickFault>
+        requires { 0 < length fill.now }
+        ensures no_moment { (result ≡ Err (PickFault.NoMoment (length self.now.changes))) ↔ (length self.now.changes < moment) }
+        ensures names { (moments : ℕ) → result ≡ Err (PickFault.NoMoment moments) → moments ≡ length self.now.changes }
+        ensures picks { IfOk result (λ image. Picks (file_at self.now moment).pending len fill.now image.items) }
+        ensures image { IfOk result (λ image. (mem_drive self.now).since moment image.items) }
+    {
+        let moments = self.moments();
+        if moments < moment {
+            return Err(PickFault::NoMoment { moments });
+        }
+        match self.file.image(moment as usize, len as usize, fill) {
+            Ok(image) => Ok(image),
+            Err(_) => Err(PickFault::Memory),
+        }
+    }
+
+    /// Makes a call that changes nothing.
+    fn make_plain(&mut self, call: DiskCall) -> Result<(), DiskFault>
+        ensures makes { MakesPlain call self.old self.new result }
+        ensures small { OnErr result (self.old.faults < 2 ^ 64) }
+    {
+        match self.plan.next(call) {
+            Verdict::Passes => Ok(()),
+            Verdict::Fails | Verdict::Past => Err(fault(&mut self.faults)),
+        }
+    }
+
+    /// A write that fails, as planned or for want of room, touches its range and leaves what a read gives.
+    fn make_write(&mut self, at: usize, piece: &[u8]) -> Result<(), DiskFault>
+        requires { at + length piece.now ≤ 2 ^ 40 }
+        ensures makes { MakesWrite self.old self.new at piece.now result }
+        ensures small { OnErr result (self.old.faults < 2 ^ 64) }
+    {
+        let fits = self.file.has_room(at, piece.len());
+        match self.plan.next(DiskCall::Write) {
+            Verdict::Passes if fits => {
+                self.file.write(at, piece);
+                Ok(())
+            }
+            Verdict::Passes | Verdict::Fails => {
+                let len = piece.len();
+                self.file.note(Touch::FailedWrite { at, len });
+                Err(fault(&mut self.faults))
+            }
+            Verdict::Past => Err(fault(&mut self.faults)),
+        }
+    }
+
+    /// A cut that fails touches what it would have, and leaves what a read gives.
+    fn make_cut(&mut self, len: usize) -> Result<(), DiskFault>
+        ensures makes { MakesCut self.old self.new len result }
+        ensures small { OnErr result (self.old.faults < 2 ^ 64) }
+    {
+        match self.plan.next(DiskCall::Cut) {
+            Verdict::Passes => {
+                self.file.cut(len);
+                Ok(())
+            }
+            Verdict::Fails => {
+                self.file.note(Touch::FailedCut { len });
+                Err(fault(&mut self.faults))
+            }
+            Verdict::Past => Err(fault(&mut self.faults)),
+        }
+    }
+
+    /// A sync that fails fixes nothing.
+    fn make_sync(&mut self) -> Result<(), DiskFault>
+        ensures makes { MakesSync self.old self.new result }
+        ensures small { OnErr result (self.old.faults < 2 ^ 64) }
+    {
+        match self.plan.next(DiskCall::Sync) {
+            Verdict::Passes => {
+                self.file.note(Touch::Synced);
+                Ok(())
+            }
+            Verdict::Fails => {
+                self.file.note(Touch::FailedSync);
+                Err(fault(&mut self.faults))
+            }
+            Verdict::Past => Err(fault(&mut self.faults)),
+        }
+    }
+}
+
+impl LogDisk for MemDisk {
+    ghost use Rattle.disk_trait.specs.Drive.{IsWithin, Stays, Reads, TellsLength, Writes, Cuts, Syncs, CountsFaults, CountsAttach};
+    ghost use Rattle.disk_mem.specs.Drives.{mem_drive, MakesPlain, MakesWrite, MakesCut, MakesSync};
+    ghost use Rattle.disk_mem.specs.Laws.{mem_laws};
+
+    ghost drive = { mem_drive };
+
+    ghost keeps_laws = { mem_laws };
+
+    /// The file is there whatever it is called.
+    fn attach(&mut self, _alloc: Global, _name: &str, _make: bool) -> Result<(), AttachFault>
+        ensures makes { MakesPlain DiskCall.Attach self.old self.new result }
+        ensures disk { OnErr result (result ≡ Err AttachFault.Disk) }
+        ensures stays { Stays (mem_drive self.old) (mem_drive self.new) }
+        ensures cause { CountsAttach (mem_drive self.old) (mem_drive self.new) result }
+    {
+        match self.make_plain(DiskCall::Attach) {
+            Ok(()) => Ok(()),
+            Err(DiskFault) => Err(AttachFault::Disk),
+        }
+    }
+
+    fn len(&mut self) -> Result<u64, DiskFault>
+        ensures makes { MakesPlain DiskCall.Len self.old self.new result }
+        ensures len { TellsLength (mem_drive self.old) result }
+        ensures stays { Stays (mem_drive self.old) (mem_drive self.new) }
+        ensures cause { CountsFaults (mem_drive self.old) (mem_drive self.new) result }
+    {
+        self.make_plain(DiskCall::Len)?;
+        Ok(self.bytes().len() as u64)
+    }
+
+    fn read(&mut self, at: u64, into: &mut [u8]) -> Result<usize, DiskFault>
+        ensures makes { MakesPlain DiskCall.Read self.old self.new result }
+        ensures bytes { Reads (mem_drive self.old) at into.old into.new result }
+        ensures stays { Stays (mem_drive self.old) (mem_drive self.new) }
+        ensures cause { CountsFaults (mem_drive self.old) (mem_drive self.new) result }
+    {
+        self.make_plain(DiskCall::Read)?;
+        Ok(copy_out(self.bytes(), at as usize, into))
+    }
+
+    fn write(&mut self, at: u64, piece: &[u8]) -> Result<(), DiskFault>
+        requires within { IsWithin (mem_drive self.old) at }
+        requires small { at + length piece.now ≤ 2 ^ 40 }
+        ensures makes { MakesWrite self.old self.new at piece.now result }
+        ensures writes { Writes (mem_drive self.old) (mem_drive self.new) at piece.now result }
+        ensures cause { CountsFaults (mem_drive self.old) (mem_drive self.new) result }
+    {
+        self.make_write(at as usize, piece)
+    }
+
+    fn cut(&mut self, len: u64) -> Result<(), DiskFault>
+        requires within { IsWithin (mem_drive self.old) len }
+        ensures makes { MakesCut self.old self.new len result }
+        ensures cuts { Cuts (mem_drive self.old) (mem_drive self.new) len result }
+        ensures cause { CountsFaults (mem_drive self.old) (mem_drive self.new) result }
+    {
+        self.make_cut(len as usize)
+    }
+
+    fn sync(&mut self) -> Result<(), DiskFault>
+        ensures makes { MakesSync self.old self.new result }
+        ensures syncs { Syncs (mem_drive self.old) (mem_drive self.new) result }
+        ensures cause { CountsFaults (mem_drive self.old) (mem_drive self.new) result }
+    {
+        self.make_sync()
+    }
+}

@@ -1,0 +1,103 @@
+//! The record of the calls on a file: how an entry is replayed, and what it leaves free.
+ghost use Rattle.std.specs.Prelude.{◌≡◌, ℕ, ◌+◌, ◌%◌, ◌^◌, ◌<◌, ◌≤◌, length, slice_index, if◌then◌else◌, IfOk, OnOk, OnErr, [], vec_capacity};
+ghost use Rattle.std.specs.List.{All, list_any};
+ghost use Rattle.disk_mem.specs.Pending.{is_in};
+ghost use Rattle.disk_mem.specs.Changes.{over, held_after, started, changed_by};
+ghost use Rattle.disk_mem.specs.Recorded.{change_of, changes_of, IsStored, range_of, ranges_of};
+
+use std::alloc::{AllocError, Global};
+
+/// An entry of the record. The bytes of a write lie in the record's pieces, from `from` on.
+#[derive(Clone, Copy, Debug, PartialEq, Eq)]
+pub enum Touch {
+    Wrote { at: usize, from: usize, len: usize },
+    FailedWrite { at: usize, len: usize },
+    DidCut { len: usize },
+    FailedCut { len: usize },
+    Synced,
+    FailedSync,
+}
+
+impl Touch {
+    /// The place and the length of what a write touches.
+    fn range(self) -> Option<(usize, usize)>
+        ensures { result ≡ range_of self }
+    {
+        match self {
+            Touch::Wrote { at, len, .. } | Touch::FailedWrite { at, len } => Some((at, len)),
+            Touch::DidCut { .. } | Touch::FailedCut { .. } | Touch::Synced | Touch::FailedSync =>
+                None,
+        }
+    }
+}
+
+/// Writes a piece over a file's bytes, and past their end.
+pub fn put(file: &mut Vec<u8>, at: usize, piece: &[u8]) -> Result<(), AllocError>
+    ensures put { OnOk result (file.new.items ≡ over at piece.now file.old.items) }
+    ensures capacity { vec_capacity file.old ≤ vec_capacity file.new }
+    ensures full { OnErr result (vec_capacity file.old < at + length piece.now) }
+{
+    let at = at.min(file.len());
+    let end = at + piece.len();
+    if file.len() < end {
+        file.resize(end, 0)?;
+    }
+    file[at..end].copy_from_slice(piece);
+    Ok(())
+}
+
+/// Does again what a call did to the bytes that a read gives.
+fn redo(file: &mut Vec<u8>, touch: Touch, pieces: &[u8]) -> Result<(), AllocError>
+    requires { IsStored (length pieces.now) touch }
+    ensures { OnOk result (file.new.items ≡ held_after file.old.items (change_of pieces.now touch)) }
+{
+    match touch {
+        Touch::Wrote { at, from, len } => put(file, at, &pieces[from..from + len]),
+        Touch::DidCut { len } => {
+            file.truncate(len);
+            Ok(())
+        }
+        Touch::FailedWrite { .. } | Touch::FailedCut { .. } | Touch::Synced | Touch::FailedSync =>
+            Ok(()),
+    }
+}
+
+/// What a read gave after some calls.
+pub fn replayed(
+    alloc: Global,
+    first: &[u8],
+    touches: &[Touch],
+    pieces: &[u8],
+) -> Result<Vec<u8>, AllocError>
+    requires { All (IsStored (length pieces.now)) touches.now }
+    ensures { IfOk result (λ v. v.items ≡ (changed_by (started first.now) (changes_of pieces.now touches.now)).held) }
+{
+    let mut file = Vec::from_slice(alloc, first)?;
+    for touch in touches {
+        redo(&mut file, *touch, pieces)?;
+    }
+    Ok(file)
+}
+
+/// Puts a repeated pattern into the bytes of a range.
+fn paint(image: &mut [u8], at: usize, len: usize, fill: &[u8])
+    requires { 0 < length fill.now }
+    ensures { (i : ℕ) → i < length image.old → slice_index image.new i ≡ (if is_in i (at, len) then slice_index fill.now (i % length fill.now) else slice_index image.old i) }
+{
+    let end = at.saturating_add(len).min(image.len());
+    for i in at..end {
+        image[i] = fill[i % fill.len()];
+    }
+}
+
+/// Puts a repeated pattern into each range that these entries touch.
+pub fn paint_touched(image: &mut [u8], touches: &[Touch], fill: &[u8])
+    requires { 0 < length fill.now }
+    ensures { (i : ℕ) → i < length image.old → slice_index image.new i ≡ (if list_any (is_in i) (ranges_of [] touches.now) then slice_index fill.now (i % length fill.now) else slice_index image.old i) }
+{
+    for touch in touches {
+        if let Some((at, len)) = touch.range() {
+            paint(image, at, len, fill);
+        }
+    }
+}
