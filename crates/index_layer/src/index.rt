@@ -10,6 +10,7 @@ use std::sync::Arc;
 use zorder::{Memory, Name};
 
 /// What an index has at a name.
+#[derive(Clone, Copy)]
 pub enum Part<'a> {
     /// Leaves whose names begin with it and go on.
     Inner,

@@ -1,0 +1,7 @@
+//! The worked values of an index, for every form of one.
+//!
+//! A function over the bound `Index` makes the calls, and each form is handed to it. Nothing else is here.
+#![tactic(auto)]
+
+#[cfg(test)]
+mod tests;
