@@ -1,0 +1,4 @@
+pub mod WalkLemmas
+pub mod FoldLemmas
+pub mod RowObjects
+pub mod TableRows

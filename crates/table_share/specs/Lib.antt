@@ -1,0 +1,4 @@
+pub mod Walk
+pub mod Folds
+pub mod Objects
+pub mod Worlds

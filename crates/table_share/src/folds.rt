@@ -1,0 +1,44 @@
+//! Folds over all rows.
+ghost use Rattle.std.specs.List.{FoldsTo};
+ghost use Rattle.index_layer.specs.Leaves.{all_rows};
+ghost use Rattle.table_share.specs.Folds.{FoldsRow};
+
+use crate::walk::LeafWalk;
+use bucket_versions::{Bucket, Row};
+use index_layer::Index;
+use std::sync::ledger::Ledger;
+use step_count::Steps;
+
+/// What the function makes of the rows in turn, from the first key to the last. Each bucket that it opens is a step.
+pub fn for_rows<I: Index, T, F: Fn(T, &Row) -> T, L: Ledger>(
+    index: &I,
+    start: T,
+    f: F,
+    steps: &mut Steps<L>,
+) -> T
+    requires { F.IsAlwaysCallable f }
+    ensures { FoldsTo (FoldsRow F.Fn f) start (all_rows (I.leaves index.now)) result }
+{
+    let mut folded = start;
+    let mut walk = LeafWalk::over(index);
+    while let Some((_, bucket)) = walk.next_leaf() {
+        folded = fold_bucket(bucket, folded, &f, steps);
+    }
+    folded
+}
+
+fn fold_bucket<T, F: Fn(T, &Row) -> T, L: Ledger>(
+    bucket: &Bucket,
+    start: T,
+    f: &F,
+    steps: &mut Steps<L>,
+) -> T
+    requires { F.IsAlwaysCallable f.now }
+    ensures { FoldsTo (FoldsRow F.Fn f.now) start bucket.now.rows result }
+{
+    let mut folded = start;
+    for row in bucket.rows(steps) {
+        folded = f(folded, row);
+    }
+    folded
+}
