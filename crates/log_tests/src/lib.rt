@@ -1,0 +1,9 @@
+//! Tests of a log over a drive in memory, and no other code.
+//!
+//! An append leaves the format's worked bytes; with a sync failing it answers the fault, and a crash leaves the images
+//! that `split_log` promises, picked by length and fill.
+#![tactic(auto)]
+
+mod fixtures;
+#[cfg(test)]
+mod tests;
