@@ -1,0 +1,111 @@
+-- How many rows of the leaves stand for an object in a box.
+use Rattle.std.proofs.Common.{◌≡◌, ℕ, ◌+◌, ◌-◌, ◌<◌, ◌≤◌, ◌^◌, min, Bool, true, false, cond, List, [], ◌∷◌, ◌++◌, length, refl, sym, ap, ◌∙◌, arith}
+use Rattle.std.specs.Prelude.{◌&&◌}
+use Rattle.std.specs.List.{AllByRecursion}
+use Rattle.std.specs.Cmp.{first_so, second_so}
+use Rattle.std.proofs.lemmas.List.Sorted.{length_permutation}
+use Rattle.zorder.specs.declared.points.Point.{Point}
+use Rattle.zorder.specs.declared.points.Placed.{Placed}
+use Rattle.zorder.specs.declared.points.Region.{Region}
+use Rattle.zorder.specs.Region.{has_point}
+use Rattle.zorder.specs.Key.{point_of, is_under, is_in, IsPoint}
+use Rattle.zorder.proofs.Places.{key_of-point_of, IsPoint-point_of}
+use Rattle.prefix_names.specs.Regions.{SharePoint, AllPointsIn}
+use Rattle.bucket_versions.specs.declared.row.Row.{Row}
+use Rattle.index_layer.specs.Leaves.{Leaf, all_rows}
+use Rattle.index_layer.specs.Stands.{Stands, HasRowsOf, world_has}
+use Rattle.index_layer.proofs.LeafKeys.{false_if}
+use Rattle.index_layer.proofs.Worlds.{world_key-lt}
+use Rattle.plain_list.specs.World.{IsWorld}
+use Rattle.plain_list.specs.Answer.{members_in}
+use Rattle.table_share.specs.Objects.{placed_of, objects_of}
+use Rattle.table_share.specs.Worlds.{AreAtPoints}
+use Rattle.table_share.proofs.RowObjects.{objects-permutation}
+use Rattle.table_share.proofs.TableRows.{table_of, all_from_has}
+use Rattle.range_query.specs.Cut.{number_in, AreKeysUnder, is_cut, leaves_cut}
+
+length_if : {X : Type 0} (b : Bool) (x : X) (xs : List X) → length (cond b (x ∷ xs) xs) ≡ cond b 1 0 + length xs
+length_if true x xs = omega arith
+length_if false x xs = omega arith
+
+pub number_in-cons : (region : Region) (r : Row) (rows : List Row) → number_in region (r ∷ rows) ≡ cond (has_point region (point_of r.key)) 1 0 + number_in region rows
+number_in-cons region r rows = length_if (has_point region (point_of r.key)) (placed_of r) (members_in region (objects_of rows))
+
+pub number_in-append : (region : Region) (xs ys : List Row) → number_in region (xs ++ ys) ≡ number_in region xs + number_in region ys
+number_in-append region [] ys = omega arith
+number_in-append region (r ∷ xs) ys = omega (arith, number_in-cons region r (xs ++ ys), number_in-cons region r xs, number_in-append region xs ys)
+
+module _ (leaf region : Region) (name : List Bool) (points : (p : Point) → IsPoint p → has_point leaf p ≡ is_in name p) where
+  in_leaf : (r : Row) → r.key < 2 ^ 64 → is_under name r.key ≡ true → has_point leaf (point_of r.key) ≡ true
+  in_leaf r fits under = points (point_of r.key) (IsPoint-point_of r.key) ∙ ap (is_under name) (key_of-point_of r.key fits) ∙ under
+
+  -- a leaf inside the box has all its rows there
+  pub all_in : (rows : List Row) → AllPointsIn leaf region → AreKeysUnder name rows → number_in region rows ≡ length rows
+  all_in [] within under = refl
+  all_in (r ∷ rows) within under =
+      let here : has_point region (point_of r.key) ≡ true = within (point_of r.key) (in_leaf r under.0.0 under.0.1) in
+      let one : cond (has_point region (point_of r.key)) 1 0 ≡ 1 = ap {B = ℕ} (λ b. cond b 1 0) here in
+      omega (arith, number_in-cons region r rows, one, all_in rows within under.1)
+
+  -- a leaf that misses the box has none of its rows there
+  pub none_in : (rows : List Row) → (SharePoint leaf region → ⊥) → AreKeysUnder name rows → number_in region rows ≡ 0
+  none_in [] apart under = refl
+  none_in (r ∷ rows) apart under =
+      let out : has_point region (point_of r.key) ≡ false = false_if (has_point region (point_of r.key)) (λ e. apart (point_of r.key, in_leaf r under.0.0 under.0.1, e)) in
+      let none : cond (has_point region (point_of r.key)) 1 0 ≡ 0 = ap {B = ℕ} (λ b. cond b 1 0) out in
+      omega (arith, number_in-cons region r rows, none, none_in rows apart under.1)
+
+-- the rows of each leaf are under its name
+abbrev pub AreAllKeysUnder : List Leaf → Type 0
+AreAllKeysUnder leaves = AllByRecursion (λ (l : Leaf). AreKeysUnder l.name l.bucket.rows) leaves
+
+pub leaves_under : (world : List Placed) (leaves : List Leaf) → AllByRecursion (HasRowsOf world) leaves → AreAllKeysUnder leaves
+leaves_under world [] has = tt
+leaves_under world (l ∷ leaves) has = (
+  all_from_has (λ (r : Row). (r.key < 2 ^ 64) × (is_under l.name r.key ≡ true)) l.bucket.rows
+      (λ q e.
+      let both : (world_has world q && is_under l.name q.key) ≡ true = sym (has.0 q) ∙ e in
+      (world_key-lt world q (first_so (world_has world q) (is_under l.name q.key) both), second_so (world_has world q) (is_under l.name q.key) both)),
+  leaves_under world leaves has.1,
+)
+
+fewer : (region : Region) (ms : List Placed) → length (members_in region ms) ≤ length ms
+fewer region [] = omega arith
+fewer region (m ∷ ms) = omega (arith, fewer region ms, length_if (has_point region m.at) m (members_in region ms), at_most_one (has_point region m.at))
+  where
+    at_most_one : (b : Bool) → cond b 1 0 ≤ 1
+    at_most_one true = omega arith
+    at_most_one false = omega arith
+
+-- where the leaves stand for a world, they have as many rows in a box as the world has objects there
+module _ (region : Region) (leaves : List Leaf) (world : List Placed) (names : List (List Bool)) (is_world : IsWorld world) (points : AreAtPoints world) (stands : Stands leaves world names) where
+  pub number_of_world : number_in region (all_rows leaves) ≡ length (members_in region world)
+  number_of_world =
+      let table = table_of leaves world names stands in
+      length_permutation (members_in region world) (members_in region (objects_of (all_rows leaves)))
+      (objects-permutation (λ (m : Placed). has_point region m.at) world (all_rows leaves) is_world.rising points table.ordered table.has)
+
+  pub number-fits : number_in region (all_rows leaves) < 2 ^ 64
+  number-fits = omega (arith, number_of_world, fewer region world, is_world.size)
+
+-- a count along the leaves, with those that are left
+pub record IsCount (region : Region) (all left : List Leaf) (total from now : ℕ) : Type 0 where
+  pub opened : now + length (leaves_cut region left) ≡ from + length (leaves_cut region all)
+  pub number : AreAllKeysUnder all → number_in region (all_rows all) < 2 ^ 64
+      → AreAllKeysUnder left × (total + number_in region (all_rows left) ≡ number_in region (all_rows all))
+
+pub IsCount-begin : (region : Region) (all : List Leaf) (from : ℕ) → IsCount region all all 0 from from
+IsCount-begin region all from = record { opened = refl; number = λ under fits. (under, omega arith) }
+
+pub IsCount-next : (region : Region) (all left : List Leaf) (l : Leaf) (total from now count then : ℕ) → IsCount region all (l ∷ left) total from now
+    → (AreKeysUnder l.name l.bucket.rows → number_in region l.bucket.rows < 2 ^ 64 → count ≡ number_in region l.bucket.rows)
+    → then ≡ now + cond (is_cut region l.name) 1 0
+    → IsCount region all left (min (total + count) (2 ^ 64 - 1)) from then
+IsCount-next region all left l total from now count then before counted step = record {
+  opened = omega (arith, before.opened, step, length_if (is_cut region l.name) l (leaves_cut region left));
+  number = λ under fits.
+      let old = before.number under fits in
+      let sum : number_in region (all_rows (l ∷ left)) ≡ number_in region l.bucket.rows + number_in region (all_rows left) = number_in-append region l.bucket.rows (all_rows left) in
+      let here : count ≡ number_in region l.bucket.rows = counted old.0.0 (omega (arith, old.1, sum, fits)) in
+      (old.0.1, omega (arith, old.1, sum, here, fits));
+}

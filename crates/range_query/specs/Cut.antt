@@ -1,0 +1,26 @@
+-- How leaves and their rows lie to a box.
+use Rattle.std.specs.Prelude.{◌≡◌, ℕ, ◌<◌, ◌^◌, Bool, true, not, ◌&&◌, List, length}
+use Rattle.std.specs.List.{filter, AllByRecursion}
+use Rattle.zorder.specs.declared.points.Region.{Region}
+use Rattle.zorder.specs.Key.{is_under}
+use Rattle.prefix_names.specs.Regions.{region_of, meet, lies_in}
+use Rattle.bucket_versions.specs.declared.row.Row.{Row}
+use Rattle.index_layer.specs.Leaves.{Leaf}
+use Rattle.plain_list.specs.Answer.{members_in}
+use Rattle.table_share.specs.Objects.{objects_of}
+
+-- whether the box has some points of a name's region, and not all
+abbrev pub is_cut : Region → List Bool → Bool
+is_cut region name = meet (region_of name) region && not (lies_in (region_of name) region)
+
+-- the leaves whose region the box cuts
+abbrev pub leaves_cut : Region → List Leaf → List Leaf
+leaves_cut region leaves = filter (λ l. is_cut region l.name) leaves
+
+-- how many rows stand for an object in the box
+abbrev pub number_in : Region → List Row → ℕ
+number_in region rows = length (members_in region (objects_of rows))
+
+-- each row's key is one of 64 bits, under the name
+abbrev pub AreKeysUnder : List Bool → List Row → Type 0
+AreKeysUnder name rows = AllByRecursion (λ (r : Row). (r.key < 2 ^ 64) × (is_under name r.key ≡ true)) rows
