@@ -1,0 +1,15 @@
+pub mod BookSteps
+pub mod CallCounts
+pub mod Changing
+pub mod Counting
+pub mod Covered
+pub mod CrowdLemmas
+pub mod FoundLeaves
+pub mod FullLemmas
+pub mod KeyPlaces
+pub mod MemberMaps
+pub mod SplitLemmas
+pub mod Splitting
+pub mod Standing
+pub mod StandingLess
+pub mod TableSteps

@@ -1,0 +1,41 @@
+-- What a call of a book answers.
+use Rattle.std.specs.Prelude.{◌≡◌, ℕ, Bool, List, [], ◌∷◌, ◌++◌, Option, ⊤}
+use Rattle.plain_list.specs.declared.ops.Op.{Op}
+use Rattle.plain_list.specs.declared.ops.Op.TheVariants.{Put, Move, Remove, Find, Within, Near}
+use Rattle.plain_list.specs.declared.ops.Answer.{Answer}
+use Rattle.plain_list.specs.declared.entries.Entry.TheVariants.{Call}
+use Rattle.plain_list.specs.Answer.{answer_of}
+use Rattle.plain_list.specs.History.{world_after, call_count}
+use Rattle.plain_list.specs.State.{empty_state, state_after}
+use Rattle.plain_list.specs.Size.{full_leaf}
+use Rattle.commit_book.specs.BookView.{BookView}
+
+-- an operation that is answered under the lock: a change or a find
+abbrev pub IsUpdate : Op → Type 0
+IsUpdate (Put id at) = ⊤
+IsUpdate (Move id at) = ⊤
+IsUpdate (Remove id) = ⊤
+IsUpdate (Find id) = ⊤
+IsUpdate (Within region) = ⊥
+IsUpdate (Near at k) = ⊥
+
+-- an operation that is answered from a snapshot
+abbrev pub IsQuery : Op → Type 0
+IsQuery (Put id at) = ⊥
+IsQuery (Move id at) = ⊥
+IsQuery (Remove id) = ⊥
+IsQuery (Find id) = ⊥
+IsQuery (Within region) = ⊤
+IsQuery (Near at k) = ⊤
+
+-- the history has one entry more, of this call
+pub record Notes {I : Type 0} (old new : BookView I) (session row : ℕ) (op : Op) (place : ℕ) : Type 0 where
+  pub entries : new.entries ≡ old.entries ++ Call session row op ∷ []
+  pub place_is : place ≡ call_count new.entries
+  pub bucket : new.bucket ≡ old.bucket
+
+-- the reply at its place, and the leaf that is to be split next
+pub record Replies {I : Type 0} (w : ℕ) (old new : BookView I) (session row : ℕ) (op : Op) (place : ℕ) (answer : Answer) (full : Option (List Bool)) : Type 0 where
+  pub notes : Notes old new session row op place
+  pub answer_is : answer ≡ answer_of (world_after [] old.entries) op
+  pub full_is : full ≡ full_leaf w new.bucket (state_after w empty_state new.entries)

@@ -1,0 +1,18 @@
+-- What holds of each table.
+use Rattle.std.specs.Prelude.{◌≡◌, ℕ, List}
+use Rattle.std.specs.List.{AllByRecursion}
+use Rattle.plain_list.specs.World.{IsWorld}
+use Rattle.index_layer.specs.Leaves.{Leaf}
+use Rattle.index_layer.specs.Stands.{HasRowsOf}
+use Rattle.commit_book.specs.Crowds.{crowded_of}
+use Rattle.commit_book.specs.TableView.{TableView}
+use Rattle.commit_book.specs.declared.table.Table.TheInside.{Inside}
+
+-- the objects of the map are the rows of the leaves, and the leaves to be split are known
+pub record IsTable {I : Type 0} (leaves : I → List Leaf) (w : ℕ) (t : Inside I) : Type 0 where
+  pub world : IsWorld t.members
+  pub rows : AllByRecursion (HasRowsOf t.members) (leaves t.index)
+  pub crowded : t.crowded.names ≡ crowded_of w t.size (leaves t.index)
+
+abbrev pub table_of : {I : Type 0} → Inside I → TableView I
+table_of t = record { index = t.index; world = t.members; size = t.size }

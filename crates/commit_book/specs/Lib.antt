@@ -1,0 +1,15 @@
+pub mod Answers
+pub mod BookInside
+pub mod BookView
+pub mod Changes
+pub mod Crowded
+pub mod CrowdedInside
+pub mod Crowds
+pub mod Events
+pub mod History
+pub mod IsBook
+pub mod IsTable
+pub mod Members
+pub mod Splits
+pub mod TableView
+pub mod Updates

@@ -1,0 +1,9 @@
+-- What a clause sees of a table.
+use Rattle.std.specs.Prelude.{ℕ, List}
+use Rattle.zorder.specs.declared.points.Placed.{Placed}
+
+-- the index, the world that it stands for, and how many rows a bucket should have at most
+pub record TableView (I : Type 0) : Type 0 where
+  pub index : I
+  pub world : List Placed
+  pub size : ℕ

@@ -1,0 +1,235 @@
+//! An index and a map by id that stand for one world.
+ghost use Rattle.std.specs.Prelude.{◌≡◌, ◌<◌, ◌≤◌, ◌∷◌, ◌&&◌, not, [], List, Some, None, IfOk, OnOk, OnErr, length};
+ghost use Rattle.std.specs.List.{AllByRecursion, find};
+ghost use Rattle.plain_list.specs.World.{IsWorld, place_of};
+ghost use Rattle.plain_list.specs.Answer.{with_member, with_moved, without, answer_of};
+ghost use Rattle.plain_list.specs.Size.{is_over};
+ghost use Rattle.plain_list.specs.State.{is_splitting};
+ghost use Rattle.index_layer.specs.Leaves.{names_of};
+ghost use Rattle.index_layer.specs.Stands.{HasRowsOf};
+ghost use Rattle.commit_book.specs.Answers.{IsUpdate};
+ghost use Rattle.commit_book.specs.Changes.{bases_of};
+ghost use Rattle.commit_book.specs.Updates.{Updates};
+
+use crate::changes::{with_row, without_row};
+use crate::crowded::Crowded;
+use crate::members::Members;
+use crate::open_splits::OpenSplits;
+use bucket_versions::{Bucket, Row};
+use index_layer::Index;
+use plain_list::{Answer, Op};
+use std::alloc::Global;
+use std::marker::Model;
+use std::sync::Arc;
+use zorder::{Memory, Name, Point, key};
+
+/// Objects, by their ids and by their keys.
+#[derive(Drop)]
+pub(crate) struct Table<I: Index> {
+    alloc: Global,
+    index: I,
+    members: Members,
+    crowded: Crowded,
+    size: u32,
+}
+
+impl<I: Index> Model for Table<I> {
+    ghost use Rattle.commit_book.specs.TableView.{TableView};
+
+    ghost Value = { TableView I };
+
+    ghost use Rattle.commit_book.specs.IsTable.{IsTable, table_of};
+
+    ghost view = { λ t. table_of t };
+
+    ghost invariant = { λ t. IsTable I.leaves I.WIDTH t };
+}
+
+impl<I: Index> Table<I> {
+    /// A table of no objects, with one leaf.
+    pub(crate) fn fresh(alloc: Global, size: u32) -> Result<Table<I>, Memory>
+        ensures world { IfOk result (λ t. t.world ≡ []) }
+        ensures leaves { IfOk result (λ t. names_of (I.leaves t.index) ≡ [] ∷ []) }
+        ensures size { IfOk result (λ t. t.size ≡ size) }
+    {
+        let bucket = Bucket::from_rows(alloc, &[])?;
+        let Ok(bucket) = Arc::new(alloc, bucket) else {
+            return Err(Memory);
+        };
+        let index = I::whole(alloc, bucket)?;
+        Ok(Table {
+            alloc,
+            index,
+            members: Members::new(alloc),
+            crowded: Crowded::new(alloc),
+            size,
+        })
+    }
+
+    /// The first leaf in key order that is over the size, has bits left and no open split.
+    pub(crate) fn first_free(&self, splits: &OpenSplits) -> Option<Name>
+        ensures { result ≡ find (λ name. is_over I.WIDTH self.now.size self.now.world name && not (is_splitting splits.now name)) (names_of (I.leaves self.now.index)) }
+    {
+        self.crowded.first_free(splits)
+    }
+
+    /// How many objects there are.
+    pub(crate) fn len(&self) -> usize
+        ensures len { result ≡ length self.now.world }
+        ensures world { IsWorld self.now.world }
+        ensures rows { AllByRecursion (HasRowsOf self.now.world) (I.leaves self.now.index) }
+    {
+        self.members.len()
+    }
+
+    /// Where an object is.
+    pub(crate) fn place(&self, id: u64) -> Option<Point>
+        ensures { result ≡ place_of self.now.world id }
+    {
+        self.members.place(id)
+    }
+
+    /// Adds an object, which isn't there.
+    pub(crate) fn put(&mut self, id: u64, at: Point) -> Result<(), Memory>
+        requires absent { place_of self.old.world id ≡ None }
+        requires room { length self.old.world < 1048576 }
+        ensures world { OnOk result (self.new.world ≡ with_member (record { id = id; at = at }) self.old.world) }
+        ensures leaves { OnOk result (bases_of (I.leaves self.new.index) ≡ bases_of (I.leaves self.old.index)) }
+        ensures size { self.new.size ≡ self.old.size }
+        ensures err { OnErr result (self.new ≡ self.old) }
+    {
+        let Ok(()) = self.crowded.reserve(1) else {
+            return Err(Memory);
+        };
+        let row = Row { key: key(at), id };
+        let changed = with_row(self.alloc, &self.index, self.size, row)?;
+        let Ok(()) = self.members.insert(id, at) else {
+            return Err(Memory);
+        };
+        self.crowded.set(&changed.name, changed.crowded);
+        self.index = changed.index;
+        Ok(())
+    }
+
+    /// Moves an object, which is there.
+    pub(crate) fn relocate(&mut self, id: u64, old: Point, at: Point) -> Result<(), Memory>
+        requires { place_of self.old.world id ≡ Some old }
+        ensures world { OnOk result (self.new.world ≡ with_moved id at self.old.world) }
+        ensures leaves { OnOk result (bases_of (I.leaves self.new.index) ≡ bases_of (I.leaves self.old.index)) }
+        ensures size { self.new.size ≡ self.old.size }
+        ensures err { OnErr result (self.new ≡ self.old) }
+    {
+        let Ok(()) = self.crowded.reserve(2) else {
+            return Err(Memory);
+        };
+        let row = Row { key: key(old), id };
+        let gone = without_row(self.alloc, &self.index, self.size, row)?;
+        let row = Row { key: key(at), id };
+        let put = with_row(self.alloc, &gone.index, self.size, row)?;
+        self.crowded.set(&gone.name, gone.crowded);
+        self.crowded.set(&put.name, put.crowded);
+        self.members.replace(id, old, at);
+        self.index = put.index;
+        Ok(())
+    }
+
+    /// Takes an object out, which is there.
+    pub(crate) fn remove(&mut self, id: u64, old: Point) -> Result<(), Memory>
+        requires { place_of self.old.world id ≡ Some old }
+        ensures world { OnOk result (self.new.world ≡ without id self.old.world) }
+        ensures leaves { OnOk result (bases_of (I.leaves self.new.index) ≡ bases_of (I.leaves self.old.index)) }
+        ensures size { self.new.size ≡ self.old.size }
+        ensures err { OnErr result (self.new ≡ self.old) }
+    {
+        let Ok(()) = self.crowded.reserve(1) else {
+            return Err(Memory);
+        };
+        let row = Row { key: key(old), id };
+        let gone = without_row(self.alloc, &self.index, self.size, row)?;
+        self.crowded.set(&gone.name, gone.crowded);
+        self.members.remove(id);
+        self.index = gone.index;
+        Ok(())
+    }
+
+    /// Answers a change or a find as one plain list does.
+    pub(crate) fn update(&mut self, op: &Op) -> Result<Answer, Memory>
+        requires { IsUpdate op.now }
+        ensures ok { IfOk result (λ answer. Updates (I.leaves self.old.index) (I.leaves self.new.index) self.old.world self.new.world op.now answer) }
+        ensures size { self.new.size ≡ self.old.size }
+        ensures err { OnErr result (self.new ≡ self.old) }
+    {
+        match *op {
+            Op::Put { id, at } => self.update_put(id, at),
+            Op::Move { id, at } => self.update_move(id, at),
+            Op::Remove { id } => self.update_remove(id),
+            Op::Find { id } => Ok(self.find(id)),
+            Op::Within { .. } => unreachable!(),
+            Op::Near { .. } => unreachable!(),
+        }
+    }
+
+    fn update_put(&mut self, id: u64, at: Point) -> Result<Answer, Memory>
+        ensures ok { IfOk result (λ answer. Updates (I.leaves self.old.index) (I.leaves self.new.index) self.old.world self.new.world (Op.Put id at) answer) }
+        ensures size { self.new.size ≡ self.old.size }
+        ensures err { OnErr result (self.new ≡ self.old) }
+    {
+        if let Some(place) = self.place(id) {
+            return Ok(Answer::Present(place));
+        }
+        if self.len() >= 1_048_576 {
+            return Ok(Answer::Full);
+        }
+        self.put(id, at)?;
+        Ok(Answer::Done)
+    }
+
+    fn update_move(&mut self, id: u64, at: Point) -> Result<Answer, Memory>
+        ensures ok { IfOk result (λ answer. Updates (I.leaves self.old.index) (I.leaves self.new.index) self.old.world self.new.world (Op.Move id at) answer) }
+        ensures size { self.new.size ≡ self.old.size }
+        ensures err { OnErr result (self.new ≡ self.old) }
+    {
+        let Some(old) = self.place(id) else {
+            return Ok(Answer::Absent);
+        };
+        self.relocate(id, old, at)?;
+        Ok(Answer::Moved(old))
+    }
+
+    fn update_remove(&mut self, id: u64) -> Result<Answer, Memory>
+        ensures ok { IfOk result (λ answer. Updates (I.leaves self.old.index) (I.leaves self.new.index) self.old.world self.new.world (Op.Remove id) answer) }
+        ensures size { self.new.size ≡ self.old.size }
+        ensures err { OnErr result (self.new ≡ self.old) }
+    {
+        let Some(old) = self.place(id) else {
+            return Ok(Answer::Absent);
+        };
+        self.remove(id, old)?;
+        Ok(Answer::Gone(old))
+    }
+
+    fn find(&self, id: u64) -> Answer
+        ensures { result ≡ answer_of self.now.world (Op.Find id) }
+    {
+        match self.place(id) {
+            Some(at) => Answer::At(at),
+            None => Answer::Absent,
+        }
+    }
+
+    /// An equal index.
+    pub(crate) fn share(&self) -> Result<I, Memory>
+        ensures index { IfOk result (λ index. I.leaves index ≡ I.leaves self.now.index) }
+        ensures world { IsWorld self.now.world }
+        ensures rows { AllByRecursion (HasRowsOf self.now.world) (I.leaves self.now.index) }
+    {
+        let _members = self.members.len();
+        self.index.share()
+    }
+
+    pub(crate) fn into_index(self) -> I
+        ensures { result ≡ self.index }
+    {
+        self.index
+    }
+}
