@@ -1,6 +1,6 @@
 -- Numbers between two others.
-use Rattle.std.proofs.Common.{◌≡◌, ◌<◌, ◌≤◌, ℕ, Bool, true, false, List, length, Some, None, refl, arith, cond, ◌&&◌, ◌+◌, get_or, rules}
-use Rattle.std.proofs.lemmas.Bool.{le-leb, leb-true}
+use Rattle.std.proofs.Common.{◌≡◌, ◌<◌, ◌≤◌, ℕ, Bool, true, false, List, length, [], ◌∷◌, Some, None, refl, arith, cond, ◌&&◌, ◌+◌, get_or, rules}
+use Rattle.std.proofs.lemmas.Bool.{and_from, le-leb, leb-true}
 use Rattle.std.specs.Prelude.{nat_le}
 use Rattle.std.specs.Char.{is_ascii_digit}
 use Rattle.std.specs.List.{list_all}
@@ -35,6 +35,13 @@ is_between-bounds low high field e =
 not_true : (b : Bool) → (b ≡ true → ⊥) → b ≡ false
 not_true true h = absurd (h refl)
 not_true false h = refl
+
+is_between-number : (low high : ℕ) (field : List ℕ) → is_between low high field ≡ true → is_number field ≡ true
+unfolding is_between
+is_between-number low high field e = first_so (is_number field) (nat_le low (number field)) (first_so (is_number field && nat_le low (number field)) (nat_le (number field) high) e)
+
+pub is_between-untold : (low high : ℕ) (field : List ℕ) → (is_number field ≡ true → number field ≤ high → ⊥) → is_between low high field ≡ false
+is_between-untold low high field h = not_true _ (λ e. h (is_between-number low high field e) (is_between-bounds low high field e).1)
 
 pub is_between-outside : (low high : ℕ) (field : List ℕ) → (low ≤ number field → number field ≤ high → ⊥) → is_between low high field ≡ false
 is_between-outside low high field h = not_true _ (λ e. let (l, g) = is_between-bounds low high field e in h l g)
@@ -72,3 +79,7 @@ pub digit_in : (ds : List ℕ) (i : ℕ) → list_all is_ascii_digit ds ≡ true
 digit_in ds i p lt =
     let d = digit_at ds i (numerals.to ds p) lt in
     (omega (arith, d), omega (arith, d), digit_value_digit (get_or ds i 0) d)
+
+-- the same of a digit by itself
+pub digit_of : (d : ℕ) → is_ascii_digit d ≡ true → (48 ≤ d) × (d ≤ 57) × (digit_value d + 48 ≡ d)
+digit_of d e = digit_in (d ∷ []) 0 (and_from _ _ e refl) (omega arith)
