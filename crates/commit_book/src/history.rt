@@ -85,16 +85,6 @@ impl History {
         push_within(&mut self.entries, entry);
     }
 
-    /// Appends an entry that was reserved, of another step than a call.
-    pub(crate) fn push_step(&mut self, entry: Entry)
-        requires room { 0 < self.old.room }
-        requires step { call_count (entry ∷ []) ≡ 0 }
-        ensures { self.new ≡ record { entries = self.old.entries ++ entry ∷ []; room = self.old.room - 1 } }
-    {
-        self.room -= 1;
-        push_within(&mut self.entries, entry);
-    }
-
     pub(crate) fn into_entries(self) -> Vec<Entry>
         ensures { result.items ≡ self.entries }
     {
