@@ -1,13 +1,13 @@
 //! The objects in a box.
 ghost use Rattle.std.specs.Prelude.{◌≡◌, ◌↔◌, IsTrue, IfOk};
-ghost use Rattle.zorder.specs.Region.{IsBox, has_point};
+ghost use Rattle.zorder.specs.Region.{IsBox};
 ghost use Rattle.plain_list.specs.Answer.{members_in, listed};
 
 use crate::lists::PlacedList;
 use crate::ops::Answer;
 use crate::world::World;
 use std::alloc::{AllocError, Global};
-use zorder::{Memory, Placed, Point, Region};
+use zorder::{Memory, Placed, Region};
 
 /// How many objects the answer to a box may list.
 pub(crate) const MOST_LISTED: usize = 2048;
@@ -41,12 +41,6 @@ fn collect_in(alloc: Global, members: &[Placed], region: &Region) -> Result<Vec<
     members
         .iter()
         .copied()
-        .filter(|m| holds(region, m.at))
+        .filter(|m| region.has(m.at))
         .collect(alloc)
-}
-
-fn holds(region: &Region, at: Point) -> bool
-    ensures { result ≡ has_point region.now at }
-{
-    region.lo.x <= at.x && at.x <= region.hi.x && region.lo.y <= at.y && at.y <= region.hi.y
 }

@@ -5,7 +5,6 @@ ghost use Rattle.plain_list.specs.Answer.{members_in};
 ghost use Rattle.table_share.specs.Worlds.{OfEachWorld};
 ghost use Rattle.range_query.specs.Cut.{is_cut, leaves_cut, number_in, AreKeysUnder};
 
-use crate::holds::holds;
 use bucket_versions::Bucket;
 use index_layer::Index;
 use prefix_names::{inside, meets};
@@ -50,7 +49,7 @@ fn count_rows<L: Ledger>(bucket: &Bucket, region: &Region, steps: &mut Steps<L>)
 {
     let mut count = 0u64;
     for row in bucket.rows(steps) {
-        if holds(region, point(row.key)) {
+        if region.has(point(row.key)) {
             count = count.saturating_add(1);
         }
     }

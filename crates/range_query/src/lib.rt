@@ -8,7 +8,6 @@
 #![tactic(auto)]
 
 mod counts;
-mod holds;
 mod ranges;
 
 pub use counts::count_in;

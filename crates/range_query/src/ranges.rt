@@ -5,7 +5,6 @@ ghost use Rattle.plain_list.specs.Answer.{members_in};
 ghost use Rattle.table_share.specs.Objects.{objects_of};
 ghost use Rattle.table_share.specs.Worlds.{OfEachWorld};
 
-use crate::holds::holds;
 use bucket_versions::Row;
 use index_layer::Index;
 use plain_list::PlacedList;
@@ -38,6 +37,6 @@ fn objects_in(alloc: Global, rows: &[Row], region: &Region) -> Result<Vec<Placed
 {
     rows.iter()
         .map(|row| placed(row))
-        .filter(|m| holds(region, m.at))
+        .filter(|m| region.has(m.at))
         .collect(alloc)
 }
