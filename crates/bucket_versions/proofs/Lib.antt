@@ -1,3 +1,4 @@
 pub mod RowOrder
 pub mod RowFilters
 pub mod RowPlaces
+pub mod RowRanges

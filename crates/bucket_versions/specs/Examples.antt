@@ -1,5 +1,5 @@
 -- Worked values, computed.
-use Rattle.std.specs.Prelude.{◌≡◌, ℕ, Bool, true, false, List, [], ◌∷◌}
+use Rattle.std.specs.Prelude.{◌≡◌, ℕ, true, false, [], ◌∷◌}
 use Rattle.std.proofs.Common.{refl}
 use Rattle.bucket_versions.specs.declared.row.Row.{Row}
 use Rattle.bucket_versions.specs.Rows.{has_row, with_row, without_row, rows_between, row_place}

@@ -15,5 +15,6 @@ mod tests;
 mod walk;
 
 pub use bucket::{Bucket, BucketFault};
+pub use places::between;
 pub use row::Row;
 pub use walk::BucketRows;

@@ -28,10 +28,11 @@ fn rows_below(rows: &[Row], row: &Row) -> usize
     rows.partition_point(|r| r.key < row.key || (r.key == row.key && r.id < row.id))
 }
 
-/// The rows with keys from `lo` to `hi`.
-pub(crate) fn between(rows: &[Row], lo: u64, hi: u64) -> &[Row]
+/// The rows with keys from `lo` to `hi`, out of rows in order.
+pub fn between(rows: &[Row], lo: u64, hi: u64) -> &[Row]
     requires { IsRows rows.now }
-    ensures { result.now ≡ rows_between lo hi rows.now }
+    ensures rows { result.now ≡ rows_between lo hi rows.now }
+    ensures in_order { IsRows result.now }
 {
     from_key(up_to_key(rows, hi), lo)
 }
