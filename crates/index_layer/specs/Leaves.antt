@@ -6,15 +6,12 @@ use Rattle.zorder.specs.SameName.{same_name}
 use Rattle.zorder.specs.Tile.{Tile, children}
 use Rattle.bucket_versions.specs.declared.row.Row.{Row}
 use Rattle.bucket_versions.specs.Rows.{Rows, IsRows}
+pub use Rattle.bucket_versions.specs.Under.{AreUnder}
 
 -- a name, and what a clause sees of the bucket under it
 pub record Leaf : Type 0 where
   pub name : List Bool
   pub bucket : Rows
-
--- the key of each row is under the name
-abbrev pub AreUnder : List Bool → List Row → Type 0
-AreUnder name rows = AllByRecursion (λ (r : Row). IsTrue (is_under name r.key)) rows
 
 -- the leaves' names, in order
 abbrev pub names_of : List Leaf → List (List Bool)
