@@ -1,0 +1,8 @@
+use Rattle.std.proofs.Common.{◌≡◌, map, take}
+use Rattle.zorder.specs.Tile.{children}
+use Rattle.split_prepare.specs.Cut.{cut_out}
+use Rattle.split_prepare.proofs.cuts.cut_rows.Given as goal
+
+-- so far, the buckets of the first children
+abbrev pub invariant-loop-place : goal.invariant-loop-place
+invariant-loop-place l = l.buckets.items ≡ map (cut_out l.rows) (take l.place (children l.width l.name))

@@ -1,0 +1,68 @@
+//! How a bucket is cut.
+ghost use Rattle.std.specs.Prelude.{◌≡◌, ◌⊎◌, ◌≤◌, ◌<◌, ◌+◌, ◌^◌, length, slice_get, Some, IfOk};
+ghost use Rattle.std.specs.Arc.{arc_value};
+ghost use Rattle.zorder.specs.Tile.{children};
+ghost use Rattle.bucket_versions.specs.Rows.{IsRows};
+ghost use Rattle.bucket_versions.specs.Under.{AreUnder};
+ghost use Rattle.split_prepare.specs.Cut.{cut, HaveRowsUnder};
+ghost use Rattle.split_prepare.specs.Prepared.{prepared_of};
+
+use crate::prepared::Prepared;
+use crate::ticket::SplitTicket;
+use bucket_versions::{Bucket, Row, between};
+use prefix_names::key_range;
+use std::alloc::Global;
+use std::sync::Arc;
+use zorder::{Memory, Name, child};
+
+/// The child at a place, in key order, of a name that is split into `2^width` children.
+pub fn child_at(name: &Name, width: u8, place: usize) -> Name
+    requires width { (width ≡ 1) ⊎ (width ≡ 2) }
+    requires short { length name.now + width ≤ 64 }
+    requires within { place < 2 ^ width }
+    ensures { slice_get (children width name.now) place ≡ Some result }
+{
+    if width == 1 {
+        child(name, place == 1)
+    } else {
+        child(&child(name, place >= 2), place % 2 == 1)
+    }
+}
+
+/// Cuts the base of a ticket's bucket by the names of the leaf's children.
+pub fn prepare(alloc: Global, ticket: &SplitTicket, width: u8) -> Result<Prepared, Memory>
+    requires width { (width ≡ 1) ⊎ (width ≡ 2) }
+    requires short { length ticket.now.name + width ≤ 64 }
+    requires under { AreUnder ticket.now.name (arc_value ticket.now.bucket).base }
+    ensures prepared { IfOk result (λ p. p ≡ prepared_of width ticket.now.number ticket.now.name (arc_value ticket.now.bucket).base) }
+    ensures rows { IfOk result (λ p. HaveRowsUnder (children width ticket.now.name) (arc_value ticket.now.bucket).base p.children) }
+{
+    let children = cut_rows(alloc, ticket.bucket.base_rows(), &ticket.name, width)?;
+    let Ok(bucket) = Arc::try_clone(&ticket.bucket) else {
+        return Err(Memory);
+    };
+    Ok(Prepared {
+        number: ticket.number,
+        name: ticket.name,
+        width,
+        bucket,
+        children,
+    })
+}
+
+fn cut_rows(alloc: Global, rows: &[Row], name: &Name, width: u8) -> Result<Vec<Bucket>, Memory>
+    requires width { (width ≡ 1) ⊎ (width ≡ 2) }
+    requires short { length name.now + width ≤ 64 }
+    requires in_order { IsRows rows.now }
+    ensures { IfOk result (λ v. v.items ≡ cut width name.now rows.now) }
+{
+    let mut buckets = Vec::new(alloc);
+    for place in 0..1 << width {
+        let (lo, hi) = key_range(&child_at(name, width, place));
+        let bucket = Bucket::from_rows(alloc, between(rows, lo, hi))?;
+        let Ok(()) = buckets.push(bucket) else {
+            return Err(Memory);
+        };
+    }
+    Ok(buckets)
+}

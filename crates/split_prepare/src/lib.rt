@@ -1,0 +1,18 @@
+//! Cuts a bucket into those of its leaf's children, outside the lock.
+//!
+//! Contracts see a `Prepared` as a record of number, name, width, base rows and children. `prepare` cuts the rows that
+//! were the ticket's base: each child is a bucket of those whose keys lie under its name (`cut`), in key order. Of every
+//! `Prepared` it tells what holds (`IsPrepared`).
+//!
+//! Not here: when a split is begun, and what a child gets of the rows that came since (`commit_book`).
+#![tactic(auto)]
+
+mod cuts;
+mod prepared;
+#[cfg(test)]
+mod tests;
+mod ticket;
+
+pub use cuts::{child_at, prepare};
+pub use prepared::Prepared;
+pub use ticket::SplitTicket;
