@@ -57,7 +57,7 @@ fn cut_rows(alloc: Global, rows: &[Row], name: &Name, width: u8) -> Result<Vec<B
     ensures { IfOk result (λ v. v.items ≡ cut width name.now rows.now) }
 {
     let mut buckets = Vec::new(alloc);
-    for place in 0..1 << width {
+    for place in 0..1_usize << width {
         let (lo, hi) = key_range(&child_at(name, width, place));
         let bucket = Bucket::from_rows(alloc, between(rows, lo, hi))?;
         let Ok(()) = buckets.push(bucket) else {
