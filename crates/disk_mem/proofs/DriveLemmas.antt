@@ -1,15 +1,10 @@
 -- What each call on a drive in memory does to what is known of it.
-use Rattle.std.specs.Prelude.{◌≡◌, ℕ, ◌+◌, ◌-◌, ◌<◌, ◌≤◌, ◌^◌, min, nat_le, ◌&&◌, Bool, true, false, if◌then◌else◌, List, [], ◌∷◌, ◌++◌, length, take, drop, Some, is_some, Result, Ok, Err, is_ok, OnOk, OnErr, IsErrOf}
+use Rattle.std.specs.Prelude.{◌≡◌, ℕ, ◌+◌, ◌≤◌, nat_le, ◌&&◌, Bool, true, false, if◌then◌else◌, List, [], ◌∷◌, ◌++◌, length, take, drop, Some, Result, Ok, Err, is_ok, OnOk}
 use Rattle.std.proofs.Common.{refl, sym, ◌∙◌, ap, subst, arith, inl, inr}
 use Rattle.std.proofs.lemmas.List.{append-nil, take_all, take-append-le, length_push}
-use Rattle.std.proofs.lemmas.Bool.{cases_Bool}
 use mathlib.Core.Bool.{true≢false}
-use Rattle.disk_trait.specs.Drive.{Drive, Torn, Shortened, Follows, Only, Elapses, Stays, CountsFaults, Writes, Cuts, Syncs, CountsAttach}
+use Rattle.disk_trait.specs.Drive.{Torn, Shortened, Follows, Only, Elapses, Writes, Cuts, Syncs}
 use Rattle.disk_trait.specs.declared.disk.DiskFault.{DiskFault}
-use Rattle.disk_trait.specs.declared.disk.AttachFault.{AttachFault}
-use Rattle.disk_trait.specs.declared.disk.AttachFault.TheVariants.{Disk}
-use Rattle.causes.specs.Causes.{Rose}
-use Rattle.disk_mem.specs.declared.plans.DiskCall.{DiskCall}
 use Rattle.disk_mem.specs.declared.plans.DiskCall.TheVariants.{Write, Cut, Sync}
 use Rattle.disk_mem.specs.declared.plans.Verdict.{Verdict}
 use Rattle.disk_mem.specs.declared.plans.Verdict.TheVariants.{Passes, Fails, Past}
@@ -17,16 +12,13 @@ use Rattle.disk_mem.specs.Plans.{verdict_of, is_passed, is_made}
 use Rattle.disk_mem.specs.Pending.{IsImage}
 use Rattle.disk_mem.specs.Changes.{Change, wrote, failed_write, did_cut, failed_cut, synced, failed_sync, File, started, changed, changed_by, written}
 use Rattle.disk_mem.specs.Sound.{le_or_lt}
-use Rattle.disk_mem.specs.Drives.{DiskView, file_now, drive_by, mem_drive, passes, Makes, MakesPlain, MakesWrite, MakesCut, MakesSync}
+use Rattle.disk_mem.specs.Drives.{DiskView, file_now, drive_by, mem_drive, MakesWrite, MakesCut, MakesSync}
 use Rattle.disk_mem.specs.Laws.{sound}
 use Rattle.disk_trait.proofs.Itself.{torn_itself, shortened_itself}
 use Rattle.disk_mem.proofs.FileLemmas.{changed_by-push}
 use Rattle.disk_mem.proofs.StepLemmas.{after_write-follows, after_cut-follows, settled-only}
 
 -- a call that leaves the file
-stays-same : (first : List ℕ) (cs : List Change) (f g : ℕ) → Stays (drive_by first cs f) (drive_by first cs g)
-stays-same first cs f g = record { bytes = refl; images = λ c now. now; moment = refl; since = λ t c left. left; keeps = λ t c left. left }
-
 elapses-same : (first : List ℕ) (cs : List Change) (f g : ℕ) → Elapses (drive_by first cs f) (drive_by first cs g)
 elapses-same first cs f g = record { later = omega arith; nothing_else = λ t c le left. inl left; keeps = λ t c le left. left }
 
@@ -142,34 +134,3 @@ syncs-by Past first cs f g result ok =
 pub syncs-made : {T : Type 0} (old new : DiskView) (result : Result T DiskFault) → MakesSync old new result → Syncs (mem_drive old) (mem_drive new) result
 syncs-made old new result makes =
     subst (λ (w : DiskView). Syncs (mem_drive old) (mem_drive w) result) (sym makes.after) (syncs-by (verdict_of Sync old.plan) old.first old.changes old.faults _ result makes.passes)
-
--- a call that changes nothing
-pub stays-made : {T E : Type 0} (call : DiskCall) (old new : DiskView) (result : Result T E) → MakesPlain call old new result → Stays (mem_drive old) (mem_drive new)
-stays-made call old new result makes =
-    let faults : ℕ = if passes call old then old.faults else min (old.faults + 1) (2 ^ 64 - 1) in
-    subst (λ (w : DiskView). Stays (mem_drive old) (mem_drive w)) (sym makes.after) (subst (λ (ds : List Change). Stays (mem_drive old) (drive_by old.first ds faults)) (sym (append-nil old.changes)) (stays-same old.first old.changes old.faults faults))
-
-pub held-made : {T E : Type 0} (call : DiskCall) (old new : DiskView) (result : Result T E) → MakesPlain call old new result → (file_now new).held ≡ (file_now old).held
-held-made call old new result makes = ap (λ (w : DiskView). (file_now w).held) makes.after ∙ ap (λ (ds : List Change). (changed_by (started old.first) ds).held) (append-nil old.changes)
-
--- the count of faults
-rises : (ok : Bool) (f : ℕ) → (ok ≡ false → f < 2 ^ 64) → f ≤ (if ok then f else min (f + 1) (2 ^ 64 - 1))
-rises true f small = omega arith
-rises false f small = omega (arith, small refl)
-
-rose : {T : Type 0} (ok : Bool) (result : Result T DiskFault) (f : ℕ) → is_ok result ≡ ok → OnErr result (Rose f (if ok then f else min (f + 1) (2 ^ 64 - 1)))
-rose ok (Ok x) f is = tt
-rose true (Err e) f is = absurd (true≢false (sym is))
-rose false (Err e) f is = omega arith
-
-pub counts-made : {T : Type 0} (call : DiskCall) (ok : Bool) (done : List Change) (old new : DiskView) (result : Result T DiskFault) → (ok ≡ false → old.faults < 2 ^ 64) → Makes call ok done old new result → CountsFaults (mem_drive old) (mem_drive new) result
-counts-made call ok done old new result small makes =
-    subst (λ (w : DiskView). CountsFaults (mem_drive old) (mem_drive w) result) (sym makes.after) (record { later = rises ok old.faults small; failed = rose ok result old.faults makes.passes })
-
-rose-attach : {T : Type 0} (ok : Bool) (result : Result T AttachFault) (f : ℕ) → is_ok result ≡ ok → IsErrOf result Disk → Rose f (if ok then f else min (f + 1) (2 ^ 64 - 1))
-rose-attach true result f is failed = absurd (true≢false (sym is ∙ ap is_ok failed))
-rose-attach false result f is failed = omega arith
-
-pub counts-attach : {T : Type 0} (call : DiskCall) (ok : Bool) (done : List Change) (old new : DiskView) (result : Result T AttachFault) → (ok ≡ false → old.faults < 2 ^ 64) → Makes call ok done old new result → CountsAttach (mem_drive old) (mem_drive new) result
-counts-attach call ok done old new result small makes =
-    subst (λ (w : DiskView). CountsAttach (mem_drive old) (mem_drive w) result) (sym makes.after) (record { later = rises ok old.faults small; failed = rose-attach ok result old.faults makes.passes })

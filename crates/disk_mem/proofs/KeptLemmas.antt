@@ -1,13 +1,13 @@
 -- A recorded file keeps its record with one call more.
-use Rattle.std.proofs.Common.{◌≡◌, ℕ, ◌<◌, ◌≤◌, ◌+◌, ◌-◌, ◌^◌, List, [], ◌∷◌, ◌++◌, length, take, drop, map, refl, sym, ap, ◌∙◌, subst, arith, length-drop, length-append, Result, Ok, Err, OnOk, OnErr, IsOk, is_ok, if◌then◌else◌, Bool}
+use Rattle.std.proofs.Common.{◌≡◌, ℕ, ◌≤◌, ◌+◌, ◌-◌, ◌^◌, List, [], ◌∷◌, ◌++◌, length, take, drop, refl, sym, ap, ◌∙◌, subst, arith, length-drop, length-append, Result, Ok, Err, OnOk, OnErr, IsOk, is_ok, if◌then◌else◌, Bool}
 use Rattle.std.specs.List.{All}
 use Rattle.std.proofs.lemmas.List.{take-append-le, drop-append-le, take_all, drop_at, map_push, take-map}
 use Rattle.std.proofs.lemmas.List.Elements.{All-head, All-tail, All-push, All-weaker}
 use Rattle.disk_mem.specs.declared.touches.Touch.{Touch}
 use Rattle.disk_mem.specs.declared.touches.Touch.TheVariants.{Wrote, FailedWrite, DidCut, FailedCut, Synced, FailedSync}
-use Rattle.disk_mem.specs.Changes.{Change, wrote, failed_write, did_cut, failed_cut, synced, failed_sync, File, held_after, over, started, changed, changed_by, written}
+use Rattle.disk_mem.specs.Changes.{Change, wrote, failed_write, did_cut, failed_cut, synced, failed_sync, File, held_after, over, started, changed_by, written}
 use Rattle.disk_mem.specs.Recorded.{change_of, changes_of, IsStored, IsIdle, FileView, noted}
-use Rattle.disk_mem.specs.Scans.{file_by, IsSmall}
+use Rattle.disk_mem.specs.Scans.{file_by}
 use Rattle.disk_mem.proofs.FileLemmas.{changed_by-push}
 use Rattle.disk_mem.specs.Kept.{IsRecordOf}
 use Rattle.disk_mem.proofs.ScanLemmas.{file_by-push}
@@ -157,18 +157,6 @@ pub stored-written : (pieces piece : List ℕ) (ts : List Touch) (at : ℕ) → 
 stored-written pieces piece ts at small stored =
     let grown : length pieces + length piece ≡ length (pieces ++ piece) = omega (arith, length-append pieces piece) in
     All-push (IsStored (length (pieces ++ piece))) ts (Wrote at (length pieces) (length piece)) (All-weaker (IsStored (length pieces)) (IsStored (length (pieces ++ piece))) (stored-grown (length pieces) (length (pieces ++ piece)) (omega (arith, grown))) ts stored) (omega (arith, grown), small)
-
--- an entry of a stored record is small
-stored-small : (n : ℕ) (t : Touch) → IsStored n t → IsSmall t
-stored-small n (Wrote at from len) stored = stored.1
-stored-small n (FailedWrite at len) stored = stored
-stored-small n (DidCut len) stored = tt
-stored-small n (FailedCut len) stored = tt
-stored-small n Synced stored = tt
-stored-small n FailedSync stored = tt
-
-pub all_small : (n : ℕ) (ts : List Touch) → All (IsStored n) ts → All IsSmall ts
-all_small n ts stored = All-weaker (IsStored n) IsSmall (stored-small n) ts stored
 
 -- a record with one entry more
 pub IsRecordOf-note : (first held pieces : List ℕ) (ts us : List Touch) (t : Touch) → IsIdle t → IsRecordOf first held pieces ts → us ≡ ts ++ t ∷ [] → IsRecordOf first held pieces us

@@ -1,12 +1,12 @@
 -- A scan goes on with its record.
-use Rattle.std.proofs.Common.{◌≡◌, ℕ, ◌<◌, ◌≤◌, ◌+◌, ◌-◌, min, max, List, [], ◌∷◌, ◌++◌, length, take, drop, map, get_or, refl, sym, ap, ◌∙◌, subst, arith, length-take, length-drop, length-append}
+use Rattle.std.proofs.Common.{◌≡◌, ℕ, ◌<◌, ◌≤◌, ◌+◌, min, max, List, [], ◌∷◌, ◌++◌, length, take, drop, get_or, refl, sym, ap, ◌∙◌, subst, arith, length-take, length-drop, length-append}
 use Rattle.std.specs.List.{All}
 use Rattle.std.proofs.lemmas.List.{take-append-le, drop-append-le, take_all, drop_all, map_push, take_more, length_push}
 use Rattle.disk_mem.specs.declared.touches.Touch.{Touch}
 use Rattle.disk_mem.specs.declared.touches.Touch.TheVariants.{Wrote, FailedWrite, DidCut, FailedCut, Synced, FailedSync}
 use Rattle.disk_mem.specs.declared.scans.Scan.{Scan}
 use Rattle.disk_mem.specs.Changes.{File, started, over, changed, changed_by}
-use Rattle.disk_mem.specs.Recorded.{change_of, changes_of, IsStored, ranges_of, range_of}
+use Rattle.disk_mem.specs.Recorded.{change_of, changes_of, IsStored, ranges_of}
 use Rattle.disk_mem.specs.Scans.{file_by, IsScanOf, IsScan, scanned}
 use Rattle.disk_mem.proofs.FileLemmas.{changed_by-push, ranges_of-push}
 
@@ -111,10 +111,6 @@ IsScan-more first pieces touches i d s lt stored scan =
     let placed : IsScanOf first pieces (file_by first pieces (ts ++ t ∷ [])) (ts ++ t ∷ []) (scanned t (length ts) s) = subst (λ (f : File). IsScanOf first pieces f (ts ++ t ∷ []) (scanned t (length ts) s)) (sym (file_by-push first pieces ts t)) pushed in
     let counted : IsScanOf first pieces (file_by first pieces (ts ++ t ∷ [])) (ts ++ t ∷ []) (scanned t i s) = subst (λ (n : ℕ). IsScanOf first pieces (file_by first pieces (ts ++ t ∷ [])) (ts ++ t ∷ []) (scanned t n s)) long placed in
     subst (λ (us : List Touch). IsScan first pieces us (scanned t i s)) (sym (take_more touches i d lt)) counted
-
--- before the first entry
-pub IsScan-none : (first pieces : List ℕ) → IsScan first pieces [] (record { len = length first; cut = length first; least = length first; greatest = length first; synced = 0 })
-IsScan-none first pieces = record { file = refl; len = refl; cut = refl; least = refl; greatest = refl; synced = omega arith; stable = refl; touched = refl }
 
 pub IsScan-step : (first pieces : List ℕ) (touches : List Touch) (i : ℕ) (d : Touch) (s new : Scan) → i < length touches → All (IsStored (length pieces)) touches → IsScan first pieces (take i touches) s → new ≡ scanned (get_or touches i d) i s → IsScan first pieces (take (i + 1) touches) new
 IsScan-step first pieces touches i d s new lt stored scan is =
