@@ -1,8 +1,8 @@
 -- Worked values of the crash model.
-use Rattle.std.specs.Prelude.{◌≡◌, ℕ, Bool, true, false, List, [], ◌∷◌}
+use Rattle.std.specs.Prelude.{◌≡◌, true, false, [], ◌∷◌}
 use Rattle.std.proofs.Common.{refl}
 use Rattle.disk_mem.specs.Pending.{Pending, settled, after_write, after_cut, is_free, nearest, filled}
-use Rattle.disk_mem.specs.Changes.{File, started, changed_by, wrote, failed_write, did_cut, failed_cut, synced, failed_sync}
+use Rattle.disk_mem.specs.Changes.{started, changed_by, wrote, failed_write, did_cut, synced, failed_sync}
 
 -- the bytes 5 and 6, and a write of three bytes behind the first
 abbrev written_behind : Pending

@@ -1,6 +1,6 @@
 -- What is known of a drive in memory.
 use Rattle.std.specs.Prelude.{◌≡◌, ℕ, ◌+◌, ◌-◌, ◌≤◌, ◌^◌, nat_le, min, Bool, ◌&&◌, if◌then◌else◌, List, [], ◌∷◌, ◌++◌, length, take, Some, Result, is_ok}
-use Rattle.disk_trait.specs.Drive.{Drive, KeepsLaws}
+use Rattle.disk_trait.specs.Drive.{Drive}
 use Rattle.disk_mem.specs.declared.plans.DiskCall.{DiskCall}
 use Rattle.disk_mem.specs.declared.plans.DiskCall.TheVariants.{Write, Cut, Sync}
 use Rattle.disk_mem.specs.Plans.{PlanView, planned, verdict_of, is_passed, is_made}

@@ -1,12 +1,12 @@
 -- The laws of a drive hold of one in memory.
-use Rattle.std.specs.Prelude.{◌≡◌, ℕ, ◌≤◌, List, length, take, Some}
-use Rattle.std.proofs.Common.{sym, ap, subst, arith}
+use Rattle.std.specs.Prelude.{◌≡◌, ℕ, ◌≤◌, List, length, take}
+use Rattle.std.proofs.Common.{sym, subst, arith}
 use Rattle.std.proofs.lemmas.List.{take_all}
 use Rattle.disk_trait.specs.Drive.{KeepsLaws}
 use Rattle.disk_mem.specs.Pending.{IsImage}
 use Rattle.disk_mem.specs.Changes.{Change, started, changed_by}
 use Rattle.disk_mem.specs.Sound.{IsSound, IsSound-started, IsSound-changed_by}
-use Rattle.disk_mem.specs.Drives.{DiskView, drive_by, mem_drive}
+use Rattle.disk_mem.specs.Drives.{DiskView, mem_drive}
 
 -- the file after all calls
 file_at-end : (first : List ℕ) (cs : List Change) (m : ℕ) (c : List ℕ) → length cs ≤ m → IsImage (changed_by (started first) (take m cs)).pending c → IsImage (changed_by (started first) cs).pending c

@@ -1,11 +1,9 @@
 -- A file with the record of the calls on it: what each entry of the record stands for.
-use Rattle.std.specs.Prelude.{◌≡◌, ℕ, ◌+◌, ◌-◌, ◌≤◌, ◌^◌, List, [], ◌∷◌, ◌++◌, length, take, drop, map, Option, Some, None}
+use Rattle.std.specs.Prelude.{ℕ, ◌+◌, ◌-◌, ◌≤◌, ◌^◌, List, [], ◌∷◌, ◌++◌, take, drop, map, Option, Some, None}
 use Rattle.std.specs.Option.{option_to_list}
-use Rattle.std.specs.List.{All}
-use Rattle.std.specs.Vec.{vec_len, vec_capacity}
 use Rattle.disk_mem.specs.declared.touches.Touch.{Touch}
 use Rattle.disk_mem.specs.declared.touches.Touch.TheVariants.{Wrote, FailedWrite, DidCut, FailedCut, Synced, FailedSync}
-use Rattle.disk_mem.specs.Changes.{Change, wrote, failed_write, did_cut, failed_cut, synced, failed_sync, File, started, changed_by, written}
+use Rattle.disk_mem.specs.Changes.{Change, wrote, failed_write, did_cut, failed_cut, synced, failed_sync, File, started, changed_by}
 
 -- the call that an entry stands for: the pieces of all writes lie behind one another in one list
 abbrev pub change_of : List ℕ → Touch → Change

@@ -1,13 +1,13 @@
 -- What a read gives is one of the images, after whatever calls.
-use Rattle.std.specs.Prelude.{◌≡◌, ℕ, ◌+◌, ◌-◌, ◌<◌, ◌≤◌, nat_le, nat_lt, min, max, Bool, false, true, ◌&&◌, ◌||◌, List, [], ◌∷◌, ◌++◌, length, get_or, take, drop}
+use Rattle.std.specs.Prelude.{◌≡◌, ℕ, ◌+◌, ◌-◌, ◌<◌, ◌≤◌, nat_le, min, max, Bool, false, true, ◌||◌, List, [], ◌∷◌, ◌++◌, length, get_or, take, drop}
 use Rattle.std.proofs.Common.{refl, sym, ◌∙◌, ap, arith, inl, inr, ◌⊎◌, length-take, length-drop, length-append}
 use Rattle.std.proofs.lemmas.List.{get_or-take, get_or-drop, get_or_append_left, get_or-append_right}
-use Rattle.std.proofs.lemmas.Bool.{cases_Bool, lt-leb, le-ltb, leb-false, le-leb, lt-ltb}
+use Rattle.std.proofs.lemmas.Bool.{lt-leb, leb-false, le-leb, lt-ltb}
 use Rattle.std.proofs.lemmas.Bool.Decides.{leb_tells}
 use Rattle.std.specs.Cmp.Derive.{both_true}
 use Rattle.std.specs.List.{list_any}
 use mathlib.Core.Bool.{true≢false}
-use Rattle.disk_mem.specs.Pending.{Pending, settled, is_in, is_free, IsImage, after_write, after_cut}
+use Rattle.disk_mem.specs.Pending.{Pending, is_in, is_free, IsImage, after_write, after_cut}
 use Rattle.disk_mem.specs.Changes.{Change, wrote, failed_write, did_cut, failed_cut, synced, failed_sync, File, started, over, changed, changed_by}
 
 -- what a read gives is an image, and no byte before the least cut is behind the end of the file or of the stable bytes

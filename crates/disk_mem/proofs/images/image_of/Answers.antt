@@ -1,4 +1,4 @@
-use Rattle.std.proofs.Common.{◌≡◌, ◌%◌, ◌∙◌, ℕ, List, [], length, get_or, cond, ap, sym, subst, arith}
+use Rattle.std.proofs.Common.{◌%◌, ◌∙◌, ℕ, List, [], length, get_or, cond, ap, sym, subst, arith}
 use Rattle.std.specs.List.{list_any}
 use Rattle.disk_mem.specs.declared.touches.Touch.{Touch}
 use Rattle.disk_mem.specs.Pending.{is_in, Picks}

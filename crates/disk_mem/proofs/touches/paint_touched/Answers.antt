@@ -1,4 +1,4 @@
-use Rattle.std.proofs.Common.{◌<◌, ◌∙◌, ap, sym, subst, get_or, length, List, ℕ, arith}
+use Rattle.std.proofs.Common.{◌<◌, ◌∙◌, ap, sym, get_or, length, List, ℕ, arith}
 use Rattle.disk_mem.proofs.FileLemmas.{painted-some, painted-none}
 use Rattle.disk_mem.proofs.touches.paint_touched.Goals as goal
 use Rattle.disk_mem.proofs.touches.paint_touched.Goals.{in-Some, in_default}

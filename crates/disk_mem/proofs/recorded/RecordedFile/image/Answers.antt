@@ -1,9 +1,7 @@
-use Rattle.std.proofs.Common.{◌≡◌, ◌∙◌, sym, ap, subst, List, ℕ, take, IfOk}
-use Rattle.disk_mem.specs.declared.touches.Touch.{Touch}
+use Rattle.std.proofs.Common.{◌∙◌, ap, subst, List, ℕ, IfOk}
 use Rattle.disk_mem.specs.Pending.{Picks}
-use Rattle.disk_mem.specs.Changes.{File, started, changed_by}
+use Rattle.disk_mem.specs.Changes.{File}
 use Rattle.disk_mem.specs.Recorded.{FileView, changes_of}
-use Rattle.disk_mem.specs.Scans.{file_by}
 use Rattle.disk_mem.proofs.KeptLemmas.{file_by-take}
 use Rattle.disk_mem.proofs.recorded.RecordedFile.image.Goals as goal
 

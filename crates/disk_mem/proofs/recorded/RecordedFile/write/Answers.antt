@@ -1,6 +1,6 @@
-use Rattle.std.proofs.Common.{◌≡◌, ◌+◌, ◌≤◌, ◌++◌, length, ap, arith}
-use Rattle.disk_mem.specs.Changes.{over, written}
-use Rattle.disk_mem.specs.Recorded.{FileView, changes_of}
+use Rattle.std.proofs.Common.{◌≡◌, ◌+◌, ◌≤◌, length, ap, arith}
+use Rattle.disk_mem.specs.Changes.{written}
+use Rattle.disk_mem.specs.Recorded.{FileView}
 use Rattle.disk_mem.proofs.KeptLemmas.{from_ok, extended, IsRecordOf-write, changes-written, view-noted}
 use Rattle.disk_mem.proofs.recorded.RecordedFile.write.Goals as goal
 

@@ -1,4 +1,3 @@
-use Rattle.std.proofs.Common.{arith}
 use Rattle.disk_mem.proofs.ScanLemmas.{IsScan-step, IsScan-all, synced-step}
 use Rattle.disk_mem.proofs.scans.Scan.of.Goals as goal
 
