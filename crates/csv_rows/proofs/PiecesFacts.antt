@@ -79,9 +79,6 @@ holds-put a b bytes held rest (Ok x) e none h = rw none (moves-all a b held (sub
 holds-put a b bytes held rest (Err f) e none h = (drop h.0 held, subst (λ (l : List ℕ). Moves a b l (drop h.0 l)) e (moves-lost a b bytes h.0 h.1 h.2))
 
 -- causes of two calls, one after the other
-pub counts-none : {T E : Type 0} (n : ℕ) (x : T) → Counts {E = E} n n (Ok x)
-counts-none n x = record { later = omega arith; failed = tt }
-
 pub counts-trans : {T E : Type 0} (a b c : ℕ) (result : Result T E) → a ≤ b → Counts b c result → Counts a c result
 counts-trans a b c (Ok x) h g = record { later = omega (arith, g.later); failed = tt }
 counts-trans a b c (Err e) h g = record { later = omega (arith, g.later); failed = let rose : min (b + 1) (2 ^ 64 - 1) ≤ c = g.failed in omega (arith, rose) }

@@ -7,7 +7,7 @@ use Rattle.std.specs.Borrow.{Bor}
 use Rattle.std.specs.List.{AllByRecursion}
 use Rattle.csv.specs.Reading.{default_config, is_bom, records, strip_bom}
 use Rattle.csv.specs.declared.reader.Reader.{Reader}
-use Rattle.csv_rows.specs.InRows.{AreInRows, IsInRow}
+use Rattle.csv_rows.specs.InRows.{IsInRow}
 use Rattle.csv_rows.specs.Records.{StandsBehind, TakesRecord}
 use Rattle.csv_rows.proofs.RecordsFacts.{so_far_first}
 use Rattle.csv_rows.specs.declared.rows.InRow.{InRow}
@@ -144,10 +144,6 @@ pub has_all : (text : List ℕ) (old new : Reader (Bor (List ℕ))) (rows : List
     → rows_in text ≡ Ok rows
 has_all text old new rows number found f h t e =
     ap rows_behind_header (ended _ _ found e (t text (h.first ∷ h.rest) h.stands)) ∙ ap rows_behind_header (sym (append-nil (h.first ∷ h.rest))) ∙ h.so_far [] ∙ with_rows-ok rows
-
--- what was read are good rows
-pub has_good : (text : List ℕ) (reader : Reader (Bor (List ℕ))) (rows : List InRow) (number : ℕ) → HasRead text reader rows number → number ≤ 65537 → AreInRows rows
-has_good text reader rows number h le = record { each = h.good; most = omega (arith, h.fewer, le) }
 
 -- a text without a mark is what the reader reads
 mark-none : (a b c : ℕ) (rest : List ℕ) → has_mark (a ∷ b ∷ c ∷ rest) ≡ false → is_bom a b c ≡ false
