@@ -79,11 +79,3 @@ longer_length xs ys = go (nat_lt (length xs) (length ys)) refl
     go : (b : Bool) → nat_lt (length xs) (length ys) ≡ b → (length xs ≤ length (if b then ys else xs)) × (length ys ≤ length (if b then ys else xs)) × (length (if b then xs else ys) ≤ length (if b then ys else xs))
     go true e = let lt = ltb-true _ _ e in (omega arith, omega arith, omega arith)
     go false e = let le : length ys ≤ length xs = grind (arith, nat_tests) in (omega arith, omega arith, omega arith)
-
--- both begin the longer, where the shorter does
-pub longer_from : (xs ys : List Entry) → IsPrefix (shorter xs ys) (longer xs ys) → IsPrefix xs (longer xs ys) × IsPrefix ys (longer xs ys)
-longer_from xs ys p = go (nat_lt (length xs) (length ys)) p
-  where
-    go : (b : Bool) → IsPrefix (if b then xs else ys) (if b then ys else xs) → IsPrefix xs (if b then ys else xs) × IsPrefix ys (if b then ys else xs)
-    go true p = (p, prefix_refl ys)
-    go false p = (prefix_refl xs, p)

@@ -29,9 +29,6 @@ once_below-one p n = grind (arith, nat_tests)
 pub once_below-in : (p n : ℕ) → p < n → once_below p n ≡ 1
 once_below-in p n h = grind (arith, nat_tests)
 
-pub once_below-out : (p n : ℕ) → 1 ≤ once_below p n → p < n
-once_below-out p n h = grind (arith, nat_tests)
-
 pub times-insert : (p x : ℕ) (ys : List ℕ) → times p (insert x ys) ≡ one_if x p + times p ys
 times-insert p x [] = refl
 times-insert p x (y ∷ ys) = go (times-insert p x ys) (nat_lt x y)
