@@ -1,5 +1,5 @@
 -- What a binary search for an id finds in a list of rising ids, and edits at that place.
-use Rattle.std.proofs.Common.{◌≡◌, ℕ, zero, suc, ◌<◌, ◌≤◌, length, true, false, List, [], ◌∷◌, Option, Some, None, Result, Ok, Err, get_or, set, refl, sym, ◌∙◌, ap, subst, arith, add-one, cond}
+use Rattle.std.proofs.Common.{◌≡◌, ℕ, zero, suc, ◌<◌, ◌≤◌, length, false, List, [], ◌∷◌, Option, Some, None, Result, Ok, Err, get_or, set, refl, sym, ◌∙◌, ap, subst, arith, add-one, cond}
 use Rattle.std.specs.Prelude.{nat_le}
 use Rattle.std.specs.List.{remove}
 use Rattle.std.specs.List.Sorted.{IsSortedBy, IsBinarySearchResult, IsSearchInRange}
@@ -109,7 +109,7 @@ remove-without (m ∷ ms) (suc i) id d rising lt same =
     let above : m.id < (get_or ms i d).id = above_at m.id ms i d rising.0 (omega (arith, lt)) in
     grind (arith, nat_tests, common_steps)
 
--- a put of an id that is there, of one that is not, and into a full world
+-- a put of an id that is there, and of one that is not
 pub after_put-present : (m : Placed) (ms : List Placed) (p : Point) → place_of ms m.id ≡ Some p → after_of ms (Put m.id m.at) ≡ ms
 after_put-present m ms p there = ap (λ (o : Option Point). cond (is_change (option_map_or Present o (cond (is_full ms) Full Done))) (with_member m ms) ms) there
 
@@ -121,23 +121,9 @@ after_put-new m ms none room =
     not_full : (n : ℕ) → n < 1048576 → nat_le 1048576 n ≡ false
     not_full n lt = grind (arith, nat_tests)
 
-pub after_put-full : (m : Placed) (ms : List Placed) → place_of ms m.id ≡ None → 1048576 ≤ length ms → after_of ms (Put m.id m.at) ≡ ms
-after_put-full m ms none full =
-    ap (λ (o : Option Point). cond (is_change (option_map_or Present o (cond (is_full ms) Full Done))) (with_member m ms) ms) none
-    ∙ ap (λ b. cond (is_change (cond b Full Done)) (with_member m ms) ms) (at_end (length ms) full)
-  where
-    at_end : (n : ℕ) → 1048576 ≤ n → nat_le 1048576 n ≡ true
-    at_end n le = grind (arith, nat_tests)
-
--- a move and a removal of an id that is there, and of one that is not
+-- a move and a removal of an id that is there
 pub after_move-there : (m : Placed) (ms : List Placed) (p : Point) → place_of ms m.id ≡ Some p → after_of ms (Move m.id m.at) ≡ with_moved m.id m.at ms
 after_move-there m ms p there = ap (λ (o : Option Point). cond (is_change (option_map_or Moved o Absent)) (with_moved m.id m.at ms) ms) there
 
-pub after_move-absent : (m : Placed) (ms : List Placed) → place_of ms m.id ≡ None → after_of ms (Move m.id m.at) ≡ ms
-after_move-absent m ms none = ap (λ (o : Option Point). cond (is_change (option_map_or Moved o Absent)) (with_moved m.id m.at ms) ms) none
-
 pub after_remove-there : (id : ℕ) (ms : List Placed) (p : Point) → place_of ms id ≡ Some p → after_of ms (Remove id) ≡ without id ms
 after_remove-there id ms p there = ap (λ (o : Option Point). cond (is_change (option_map_or Gone o Absent)) (without id ms) ms) there
-
-pub after_remove-absent : (id : ℕ) (ms : List Placed) → place_of ms id ≡ None → after_of ms (Remove id) ≡ ms
-after_remove-absent id ms none = ap (λ (o : Option Point). cond (is_change (option_map_or Gone o Absent)) (without id ms) ms) none
