@@ -50,7 +50,7 @@ session_rows-append s n (x ∷ xs) ys =
 played-some : (rows : List InRow) (k : ℕ) → IsPlayed (session_rows rows) (entries_from 1 (take k rows))
 played-some rows k s =
     let more = session_rows-append s 1 (take k rows) (drop k rows) in
-    (more.0, ap (session_rows_from 1 s) (sym (take-append-drop k rows)) ∙ more.1 ∙ ap (λ l. l ++ more.0) (sym (calls-entries s 1 (take k rows))))
+    (more.0, ap (λ l. l ++ more.0) (calls-entries s 1 (take k rows)) ∙ sym more.1 ∙ ap (session_rows_from 1 s) (take-append-drop k rows))
 
 played-all : (rows : List InRow) → IsPlayedWhole (session_rows rows) (entries_from 1 rows)
 played-all rows s = calls-entries s 1 rows
@@ -62,7 +62,7 @@ pub answers-all : (rows : List InRow) (play : Play) (status : ℕ) (before after
 answers-all rows play status before after all whole front =
     subst (λ h. AnswersAsOneList rows h status before after) (sym all.events) (record {
       legal = legal-entries empty_state 1 rows;
-      played = λ s. ([], sym (played-all rows s) ∙ sym (append-nil (calls_of s (entries_from 1 rows))));
+      played = λ s. ([], append-nil (calls_of s (entries_from 1 rows)) ∙ played-all rows s);
       whole = λ writes. played-all rows;
       lines = λ e. subst (Appends before after) text (whole e);
       part = λ e. let taken = front e in (taken.0, subst (λ l. Appends before after (take taken.0 l)) text taken.1);
