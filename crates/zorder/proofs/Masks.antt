@@ -126,9 +126,6 @@ low-some n (suc m) h =
     ]
 
 -- when two numbers are no name's, and when they are
-pub no_name-long : (bits len : ℕ) → 64 < len → IsNoName bits len
-no_name-long bits len h = inl h
-
 pub no_name-stray : (bits len : ℕ) → len ≤ 64 → bits < 2 ^ 64 → bit_and bits (2 ^ 64 - 2 ^ (64 - len)) ≢ bits → IsNoName bits len
 no_name-stray bits len le fits h =
     let (i, less, set) = low-some bits (64 - len) (λ e. h (unused-masked bits len le fits e)) in

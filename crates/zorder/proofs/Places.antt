@@ -151,7 +151,3 @@ point_of-key_of p is =
     same_from_bits_below 32 (even_bits (key_of p)) p.y (even_bits-lt (key_of p)) is.y
     (λ i h. bit_at-point_of-y (key_of p) i h ∙ bit_at-key_of-y p i h) in
     λ i. record { x = x i; y = y i }
-
--- only one point has a key
-pub key_of-same : (p q : Point) → IsPoint p → IsPoint q → key_of p ≡ key_of q → p ≡ q
-key_of-same p q hp hq e = sym (point_of-key_of p hp) ∙ ap point_of e ∙ point_of-key_of q hq
