@@ -47,6 +47,13 @@ impl World {
         }
     }
 
+    pub(crate) fn from_vec(members: Vec<Placed>) -> World
+        requires { IsWorld members.items }
+        ensures { result ≡ members.items }
+    {
+        World { members }
+    }
+
     pub fn as_slice(&self) -> &[Placed]
         ensures members { result.now ≡ self.now }
         ensures world { IsWorld self.now }
