@@ -1,7 +1,6 @@
 -- How the leaves that are to be split change with the leaves.
 use Rattle.std.proofs.Common.{◌≡◌, ℕ, suc, ◌-◌, ◌<◌, ◌≤◌, ◌^◌, Bool, true, false, cond, List, [], ◌∷◌, ◌++◌, length, refl, sym, ap, subst, ◌∙◌, arith}
 use Rattle.std.specs.Prelude.{◌||◌}
-use Rattle.std.specs.List.{AllByRecursion}
 use Rattle.std.proofs.lemmas.Nat.{pow_pos}
 use Rattle.std.proofs.lemmas.Bool.Decides.{nat_tests}
 use Rattle.std.proofs.lemmas.Grind.{common_steps}
@@ -11,23 +10,16 @@ use Rattle.zorder.specs.SameName.{same_name, same_name-decides}
 use Rattle.zorder.specs.Tile.{tiles_from, next_key, children}
 use Rattle.bucket_versions.specs.Rows.{Rows}
 use Rattle.index_layer.specs.Leaves.{Leaf, names_of, has_name, replaced, split, leaves_of}
-use Rattle.commit_book.specs.Crowded.{marked, unmarked, remarked}
+use Rattle.commit_book.specs.Crowded.{AreFrom, marked, unmarked, remarked}
 use Rattle.commit_book.specs.Crowds.{is_crowded, crowded_of, marked_later}
 use Rattle.commit_book.proofs.Covered.{Tiles, tiles}
-
--- each name's first key is at least this
-abbrev pub AreFrom : ℕ → List (List Bool) → Type 0
-AreFrom k names = AllByRecursion (λ (n : List Bool). k ≤ first_key n) names
+use Rattle.commit_book.proofs.Rising.{AreFrom-lower}
 
 power-pos : (n : ℕ) → 1 ≤ 2 ^ n
 power-pos n = omega (arith, pow_pos n)
 
 pub next-above : (name : List Bool) → first_key name < next_key name
 next-above name = omega (arith, power-pos (64 - length name))
-
-AreFrom-lower : (j k : ℕ) (names : List (List Bool)) → j ≤ k → AreFrom k names → AreFrom j names
-AreFrom-lower j k [] le from = tt
-AreFrom-lower j k (n ∷ names) le from = (omega (arith, le, from.0), AreFrom-lower j k names le from.1)
 
 pub tiles-AreFrom : (k : ℕ) (names : List (List Bool)) → tiles_from k names ≡ true → AreFrom k names
 tiles-AreFrom k [] tile = tt

@@ -8,6 +8,7 @@ pub mod FoundLeaves
 pub mod FullLemmas
 pub mod KeyPlaces
 pub mod MemberMaps
+pub mod Rising
 pub mod SplitLemmas
 pub mod Splitting
 pub mod Standing

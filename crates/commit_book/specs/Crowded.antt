@@ -1,7 +1,7 @@
 -- Names in the order of their first keys.
-use Rattle.std.specs.Prelude.{ℕ, suc, nat_lt, ◌==◌, not, Bool, List, [], ◌∷◌, if◌then◌else◌, Option, slice_get, false}
+use Rattle.std.specs.Prelude.{ℕ, suc, ◌≤◌, nat_lt, ◌==◌, not, Bool, List, [], ◌∷◌, if◌then◌else◌, Option, slice_get, false, ⊤}
 use Rattle.std.specs.Option.{option_map_or}
-use Rattle.std.specs.List.{find}
+use Rattle.std.specs.List.{find, AllByRecursion}
 use Rattle.zorder.specs.Name.{first_key}
 use Rattle.plain_list.specs.State.{OpenSplit, is_splitting}
 
@@ -9,6 +9,15 @@ use Rattle.plain_list.specs.State.{OpenSplit, is_splitting}
 pub record Crowd : Type 0 where
   pub names : List (List Bool)
   pub room : ℕ
+
+-- each name's first key is at least this
+abbrev pub AreFrom : ℕ → List (List Bool) → Type 0
+AreFrom k names = AllByRecursion (λ (n : List Bool). k ≤ first_key n) names
+
+-- the first keys rise, so none stands twice
+abbrev pub AreRising : List (List Bool) → Type 0
+AreRising [] = ⊤
+AreRising (n ∷ names) = AreFrom (suc (first_key n)) names × AreRising names
 
 -- the first of some names that has no open split
 abbrev pub first_free : List OpenSplit → List (List Bool) → Option (List Bool)

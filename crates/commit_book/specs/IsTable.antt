@@ -15,4 +15,4 @@ pub record IsTable {I : Type 0} (leaves : I → List Leaf) (w : ℕ) (t : Inside
   pub crowded : t.crowded.names ≡ crowded_of w t.size (leaves t.index)
 
 abbrev pub table_of : {I : Type 0} → Inside I → TableView I
-table_of t = record { index = t.index; world = t.members; size = t.size }
+table_of t = record { index = t.index; world = t.members; size = t.size; room = t.crowded.room }

@@ -2,8 +2,10 @@
 use Rattle.std.specs.Prelude.{ℕ, List}
 use Rattle.zorder.specs.declared.points.Placed.{Placed}
 
--- the index, the world that it stands for, and how many rows a bucket should have at most
+-- the index, the world that it stands for, how many rows a bucket should have at most, and how many leaves more are sure to find room
+-- among those that are to be split
 pub record TableView (I : Type 0) : Type 0 where
   pub index : I
   pub world : List Placed
   pub size : ℕ
+  pub room : ℕ

@@ -1,9 +1,9 @@
 //! The leaves that are to be split, in the order of their keys.
-ghost use Rattle.std.specs.Prelude.{◌≡◌, ◌+◌, ◌<◌, ◌≤◌, [], OnOk, OnErr, length, vec_len, vec_capacity};
+ghost use Rattle.std.specs.Prelude.{◌≡◌, ◌+◌, ◌-◌, ◌<◌, ◌≤◌, ◌^◌, [], OnOk, OnErr, length, vec_len, vec_capacity};
 ghost use Rattle.std.specs.List.{find, insert};
 ghost use Rattle.zorder.specs.Name.{first_key};
 ghost use Rattle.plain_list.specs.State.{is_splitting};
-ghost use Rattle.commit_book.specs.Crowded.{remarked, marked, unmarked, key_place, has_key, first_free};
+ghost use Rattle.commit_book.specs.Crowded.{AreRising, remarked, marked, unmarked, key_place, has_key, first_free};
 
 use crate::open_splits::OpenSplits;
 use std::alloc::{AllocError, Global};
@@ -48,26 +48,33 @@ impl Crowded {
 
     /// Takes the memory of so many names more.
     pub(crate) fn reserve(&mut self, names: usize) -> Result<(), AllocError>
-        ensures names { self.new.names ≡ self.old.names }
-        ensures ok { OnOk result (self.new.room ≡ names) }
+        requires { names ≤ 4 }
+        ensures ok { OnOk result (self.new ≡ record self.old { room = self.old.room + names }) }
+        ensures err { OnErr result (self.new ≡ self.old) }
     {
-        self.room = 0;
-        self.names.reserve(names)?;
-        self.room = names;
+        self.names.reserve(self.room + names)?;
+        self.room += names;
         Ok(())
+    }
+
+    /// Gives up what was reserved for so many names.
+    pub(crate) fn release(&mut self, names: usize)
+        requires { names ≤ self.old.room }
+        ensures { self.new ≡ record self.old { room = self.old.room - names } }
+    {
+        self.room -= names;
     }
 
     /// Puts a name in its place, or takes out the one with its first key.
     pub(crate) fn set(&mut self, name: &Name, crowded: bool)
         requires { 0 < self.old.room }
-        ensures names { self.new.names ≡ remarked crowded name.now self.old.names }
-        ensures room { self.new.room + 1 ≡ self.old.room }
+        ensures { self.new ≡ record { names = remarked crowded name.now self.old.names; room = self.old.room - 1 } }
     {
         self.room -= 1;
         if crowded {
-            mark(&mut self.names, name);
+            mark_name(&mut self.names, name);
         } else {
-            unmark(&mut self.names, name);
+            unmark_name(&mut self.names, name);
         }
     }
 }
@@ -84,15 +91,12 @@ fn free_among(names: &[Name], splits: &OpenSplits) -> Option<Name>
 }
 
 fn place_of(names: &[Name], name: &Name) -> usize
+    requires { AreRising names.now }
     ensures place { result ≡ key_place name.now names.now }
     ensures within { result ≤ length names.now }
 {
-    for (i, other) in names.iter().enumerate() {
-        if name.bits() <= other.bits() {
-            return i;
-        }
-    }
-    names.len()
+    let key = name.bits();
+    names.partition_point(|other| other.bits() < key)
 }
 
 // Whether the name at a place has this key.
@@ -105,8 +109,9 @@ fn has_key(names: &[Name], place: usize, key: u64) -> bool
     }
 }
 
-fn mark(names: &mut Vec<Name>, name: &Name)
-    requires { vec_len names.old < vec_capacity names.old }
+fn mark_name(names: &mut Vec<Name>, name: &Name)
+    requires rising { AreRising names.old.items }
+    requires room { vec_len names.old < vec_capacity names.old }
     ensures names { names.new.items ≡ marked name.now names.old.items }
     ensures room { vec_capacity names.old ≤ vec_capacity names.new }
 {
@@ -118,7 +123,8 @@ fn mark(names: &mut Vec<Name>, name: &Name)
     }
 }
 
-fn unmark(names: &mut Vec<Name>, name: &Name)
+fn unmark_name(names: &mut Vec<Name>, name: &Name)
+    requires { AreRising names.old.items }
     ensures names { names.new.items ≡ unmarked name.now names.old.items }
     ensures room { vec_capacity names.old ≤ vec_capacity names.new }
 {

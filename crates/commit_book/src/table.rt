@@ -51,6 +51,7 @@ impl<I: Index> Table<I> {
         ensures world { IfOk result (λ t. t.world ≡ []) }
         ensures leaves { IfOk result (λ t. names_of (I.leaves t.index) ≡ [] ∷ []) }
         ensures size { IfOk result (λ t. t.size ≡ size) }
+        ensures room { IfOk result (λ t. t.room ≡ 0) }
     {
         let bucket = Bucket::from_rows(alloc, &[])?;
         let Ok(bucket) = Arc::new(alloc, bucket) else {
@@ -96,14 +97,16 @@ impl<I: Index> Table<I> {
         ensures world { OnOk result (self.new.world ≡ with_member (record { id = id; at = at }) self.old.world) }
         ensures leaves { OnOk result (bases_of (I.leaves self.new.index) ≡ bases_of (I.leaves self.old.index)) }
         ensures size { self.new.size ≡ self.old.size }
+        ensures room { self.new.room ≡ self.old.room }
         ensures err { OnErr result (self.new ≡ self.old) }
     {
+        let row = Row { key: key(at), id };
+        let changed = with_row(self.alloc, &self.index, self.size, row)?;
         let Ok(()) = self.crowded.reserve(1) else {
             return Err(Memory);
         };
-        let row = Row { key: key(at), id };
-        let changed = with_row(self.alloc, &self.index, self.size, row)?;
         let Ok(()) = self.members.insert(id, at) else {
+            self.crowded.release(1);
             return Err(Memory);
         };
         self.crowded.set(&changed.name, changed.crowded);
@@ -117,15 +120,16 @@ impl<I: Index> Table<I> {
         ensures world { OnOk result (self.new.world ≡ with_moved id at self.old.world) }
         ensures leaves { OnOk result (bases_of (I.leaves self.new.index) ≡ bases_of (I.leaves self.old.index)) }
         ensures size { self.new.size ≡ self.old.size }
+        ensures room { self.new.room ≡ self.old.room }
         ensures err { OnErr result (self.new ≡ self.old) }
     {
-        let Ok(()) = self.crowded.reserve(2) else {
-            return Err(Memory);
-        };
         let row = Row { key: key(old), id };
         let gone = without_row(self.alloc, &self.index, self.size, row)?;
         let row = Row { key: key(at), id };
         let put = with_row(self.alloc, &gone.index, self.size, row)?;
+        let Ok(()) = self.crowded.reserve(2) else {
+            return Err(Memory);
+        };
         self.crowded.set(&gone.name, gone.crowded);
         self.crowded.set(&put.name, put.crowded);
         self.members.replace(id, old, at);
@@ -139,13 +143,14 @@ impl<I: Index> Table<I> {
         ensures world { OnOk result (self.new.world ≡ without id self.old.world) }
         ensures leaves { OnOk result (bases_of (I.leaves self.new.index) ≡ bases_of (I.leaves self.old.index)) }
         ensures size { self.new.size ≡ self.old.size }
+        ensures room { self.new.room ≡ self.old.room }
         ensures err { OnErr result (self.new ≡ self.old) }
     {
+        let row = Row { key: key(old), id };
+        let gone = without_row(self.alloc, &self.index, self.size, row)?;
         let Ok(()) = self.crowded.reserve(1) else {
             return Err(Memory);
         };
-        let row = Row { key: key(old), id };
-        let gone = without_row(self.alloc, &self.index, self.size, row)?;
         self.crowded.set(&gone.name, gone.crowded);
         self.members.remove(id);
         self.index = gone.index;
@@ -157,6 +162,7 @@ impl<I: Index> Table<I> {
         requires { IsUpdate op.now }
         ensures ok { IfOk result (λ answer. Updates (I.leaves self.old.index) (I.leaves self.new.index) self.old.world self.new.world op.now answer) }
         ensures size { self.new.size ≡ self.old.size }
+        ensures room { self.new.room ≡ self.old.room }
         ensures err { OnErr result (self.new ≡ self.old) }
     {
         match *op {
@@ -172,6 +178,7 @@ impl<I: Index> Table<I> {
     fn update_put(&mut self, id: u64, at: Point) -> Result<Answer, Memory>
         ensures ok { IfOk result (λ answer. Updates (I.leaves self.old.index) (I.leaves self.new.index) self.old.world self.new.world (Op.Put id at) answer) }
         ensures size { self.new.size ≡ self.old.size }
+        ensures room { self.new.room ≡ self.old.room }
         ensures err { OnErr result (self.new ≡ self.old) }
     {
         if let Some(place) = self.place(id) {
@@ -187,6 +194,7 @@ impl<I: Index> Table<I> {
     fn update_move(&mut self, id: u64, at: Point) -> Result<Answer, Memory>
         ensures ok { IfOk result (λ answer. Updates (I.leaves self.old.index) (I.leaves self.new.index) self.old.world self.new.world (Op.Move id at) answer) }
         ensures size { self.new.size ≡ self.old.size }
+        ensures room { self.new.room ≡ self.old.room }
         ensures err { OnErr result (self.new ≡ self.old) }
     {
         let Some(old) = self.place(id) else {
@@ -199,6 +207,7 @@ impl<I: Index> Table<I> {
     fn update_remove(&mut self, id: u64) -> Result<Answer, Memory>
         ensures ok { IfOk result (λ answer. Updates (I.leaves self.old.index) (I.leaves self.new.index) self.old.world self.new.world (Op.Remove id) answer) }
         ensures size { self.new.size ≡ self.old.size }
+        ensures room { self.new.room ≡ self.old.room }
         ensures err { OnErr result (self.new ≡ self.old) }
     {
         let Some(old) = self.place(id) else {

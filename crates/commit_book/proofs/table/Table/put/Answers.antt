@@ -2,7 +2,7 @@ use Rattle.std.proofs.Common.{◌≡◌, None, ap, ◌∙◌, ◌<◌, length}
 use Rattle.zorder.specs.declared.points.Placed.{Placed}
 use Rattle.plain_list.specs.World.{place_of}
 use Rattle.plain_list.proofs.Worlds.{IsWorld-with_member}
-use Rattle.commit_book.specs.Crowded.{remarked}
+use Rattle.commit_book.specs.Crowded.{Crowd, remarked}
 use Rattle.commit_book.proofs.TableSteps.{put_steps, row_absent}
 use Rattle.commit_book.proofs.table.Table.put.Goals as goal
 
@@ -24,7 +24,8 @@ invariant_of-self-2 g c =
     record {
       world = rw c.in-Ok-insert.ensures.ok (IsWorld-with_member m world c.self.invariant.world none few);
       rows = rw c.in-Ok-insert.ensures.ok steps.rows;
-      crowded = c.set.ensures.names ∙ ap (remarked c.in_ok-changed.changed.crowded c.in_ok-changed.changed.name) c.reserve.ensures.names ∙ steps.crowded;
+      crowded =
+          ap (λ (v : Crowd). v.names) c.set.ensures ∙ ap (λ (v : Crowd). remarked c.in_ok-changed.changed.crowded c.in_ok-changed.changed.name v.names) c.in-Ok.ensures.ok ∙ steps.crowded;
     }
 
 pub returns-clause-leaves : goal.returns-clause-leaves

@@ -6,7 +6,7 @@ use Rattle.index_layer.specs.Stands.{HasRowsOf}
 use Rattle.plain_list.specs.World.{place_of}
 use Rattle.plain_list.specs.Answer.{without}
 use Rattle.plain_list.proofs.Members.{place_of-without}
-use Rattle.commit_book.specs.Crowded.{remarked}
+use Rattle.commit_book.specs.Crowded.{Crowd, remarked}
 use Rattle.commit_book.proofs.MemberMaps.{IsWorld-with_moved}
 use Rattle.commit_book.proofs.TableSteps.{put_steps, gone_steps, row_absent, row_there, with_member-without}
 use Rattle.commit_book.proofs.table.Table.relocate.Goals as goal
@@ -49,7 +49,8 @@ invariant_of-self-2 g c =
       world = rw c.replace.ensures (IsWorld-with_moved c.args.id c.args.at world c.self.invariant.world);
       rows = rw c.replace.ensures (subst (λ (ms : List Placed). AllByRecursion (HasRowsOf ms) (g.I.Index.leaves put.index)) (with_member-without c.args.id c.args.old c.args.at world c.self.invariant.world there) steps2.rows);
       crowded =
-          c.set-2.ensures.names ∙ ap (remarked put.crowded put.name) (c.set.ensures.names ∙ ap (remarked gone.crowded gone.name) c.reserve.ensures.names) ∙ steps2.crowded;
+          ap (λ (v : Crowd). v.names) c.set-2.ensures ∙ ap (λ (v : Crowd). remarked put.crowded put.name v.names) c.set.ensures
+          ∙ ap (λ (v : Crowd). remarked put.crowded put.name (remarked gone.crowded gone.name v.names)) c.in-Ok.ensures.ok ∙ steps2.crowded;
     }
 
 pub returns-clause-leaves : goal.returns-clause-leaves

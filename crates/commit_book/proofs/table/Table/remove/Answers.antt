@@ -1,6 +1,6 @@
 use Rattle.std.proofs.Common.{◌≡◌, Some, ap, ◌∙◌}
 use Rattle.plain_list.specs.World.{place_of}
-use Rattle.commit_book.specs.Crowded.{remarked}
+use Rattle.commit_book.specs.Crowded.{Crowd, remarked}
 use Rattle.commit_book.proofs.MemberMaps.{IsWorld-without}
 use Rattle.commit_book.proofs.TableSteps.{gone_steps, row_there}
 use Rattle.commit_book.proofs.table.Table.remove.Goals as goal
@@ -22,7 +22,7 @@ invariant_of-self-2 g c =
     record {
       world = rw c.remove.ensures (IsWorld-without c.args.id world c.self.invariant.world);
       rows = rw c.remove.ensures steps.rows;
-      crowded = c.set.ensures.names ∙ ap (remarked gone.crowded gone.name) c.reserve.ensures.names ∙ steps.crowded;
+      crowded = ap (λ (v : Crowd). v.names) c.set.ensures ∙ ap (λ (v : Crowd). remarked gone.crowded gone.name v.names) c.in-Ok.ensures.ok ∙ steps.crowded;
     }
 
 pub returns-clause-leaves : goal.returns-clause-leaves

@@ -4,7 +4,7 @@ use Rattle.std.specs.List.{insert}
 use Rattle.zorder.specs.Name.{first_key}
 use Rattle.commit_book.specs.Crowded.{key_place, has_key}
 use Rattle.commit_book.proofs.KeyPlaces.{set-key_place, insert-key_place}
-use Rattle.commit_book.proofs.crowded.mark.Goals as goal
+use Rattle.commit_book.proofs.crowded.mark_name.Goals as goal
 
 pub returns-then-has_key-clause-names : goal.returns-then-has_key-clause-names
 returns-then-has_key-clause-names c =
@@ -22,6 +22,6 @@ returns-else-has_key-clause-names c =
     let place : c.place_of-place.result ≡ key_place name names = c.place_of-place.ensures.place ∙ ap (key_place name) c.deref.ensures.value in
     let has : has_key (key_place name names) (first_key name) names ≡ false =
     rw (← place, ← c.bits.ensures, ← c.deref-2.ensures.value) (sym c.has_key.ensures ∙ c.if-has_key.false) in
-    let done : is_ok c.insert.result ≡ true = c.insert.ensures.succeeds c.requires in
+    let done : is_ok c.insert.result ≡ true = c.insert.ensures.succeeds c.requires.room in
     c.insert.ensures.items ∙ ap (λ b. cond b (insert names c.place_of-place.result name) names) done
     ∙ ap (λ (i : ℕ). insert names i name) place ∙ insert-key_place name names has

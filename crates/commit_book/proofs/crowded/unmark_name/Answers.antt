@@ -3,7 +3,7 @@ use Rattle.std.specs.List.{remove}
 use Rattle.zorder.specs.Name.{first_key}
 use Rattle.commit_book.specs.Crowded.{key_place, has_key}
 use Rattle.commit_book.proofs.KeyPlaces.{remove-key_place, keep-key_place}
-use Rattle.commit_book.proofs.crowded.unmark.Goals as goal
+use Rattle.commit_book.proofs.crowded.unmark_name.Goals as goal
 
 pub returns-then-has_key-clause-names : goal.returns-then-has_key-clause-names
 returns-then-has_key-clause-names c =
