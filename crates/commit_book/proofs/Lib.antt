@@ -4,6 +4,8 @@ pub mod Changing
 pub mod Counting
 pub mod Covered
 pub mod CrowdLemmas
+pub mod Dividing
+pub mod Folding
 pub mod FoundLeaves
 pub mod FullLemmas
 pub mod KeyPlaces

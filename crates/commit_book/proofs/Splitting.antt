@@ -1,26 +1,26 @@
 -- An index that stands for a world goes on to stand for it where a leaf is split into its children, each with the leaf's rows under its name.
-use Rattle.std.proofs.Common.{◌≡◌, ℕ, ◌-◌, ◌<◌, ◌≤◌, ◌^◌, Bool, true, false, cond, List, [], ◌∷◌, ◌++◌, length, Option, Some, None, refl, sym, ap, subst, ◌∙◌, arith}
-use Rattle.std.specs.Prelude.{nat_lt, nat_le, ◌==◌, ◌&&◌, ◌||◌}
+use Rattle.std.proofs.Common.{◌≡◌, ℕ, ◌<◌, ◌≤◌, ◌^◌, Bool, true, false, cond, List, [], ◌∷◌, ◌++◌, length, Option, Some, None, refl, sym, ap, subst, ◌∙◌}
+use Rattle.std.specs.Prelude.{nat_le, ◌&&◌}
 use Rattle.std.specs.List.{starts_with, AllByRecursion}
 use Rattle.std.specs.Cmp.{first_so, second_so}
 use Rattle.std.specs.Cmp.Derive.{both_true}
 use Rattle.std.proofs.lemmas.Bool.{eqb-true as eqb-eq}
-use Rattle.std.proofs.lemmas.Bool.Decides.{nat_tests}
 use mathlib.Core.Bool.{beq, true≢false}
 use Rattle.zorder.specs.declared.points.Point.{Point}
 use Rattle.zorder.specs.declared.points.Placed.{Placed}
 use Rattle.zorder.specs.Key.{key_of, key_bits, is_under}
 use Rattle.zorder.specs.Name.{first_key}
 use Rattle.zorder.specs.SameName.{same_name}
-use Rattle.zorder.specs.Tile.{next_key}
 use Rattle.zorder.proofs.Places.{key_of-lt}
-use Rattle.zorder.proofs.Ranges.{is_under-test}
 use Rattle.bucket_versions.specs.declared.row.Row.{Row}
-use Rattle.bucket_versions.specs.Rows.{has_row, rows_between, same_row}
+use Rattle.bucket_versions.specs.Rows.{has_row}
+use Rattle.bucket_versions.proofs.RowRanges.{has_row-rows_between}
+use Rattle.split_prepare.specs.Cut.{last_key, rows_under}
+use Rattle.split_prepare.proofs.CutLemmas.{under-between}
 use Rattle.index_layer.specs.Leaves.{Leaf}
 use Rattle.index_layer.specs.Stands.{world_has, is_at_key}
 use Rattle.index_layer.proofs.Puts.{where_is}
-use Rattle.commit_book.proofs.CrowdLemmas.{spliced, next-above}
+use Rattle.commit_book.proofs.CrowdLemmas.{spliced}
 
 starts_with-front : (a b xs : List Bool) → starts_with beq xs (a ++ b) ≡ true → starts_with beq xs a ≡ true
 starts_with-front [] b xs e = refl
@@ -31,44 +31,6 @@ starts_with-front (x ∷ a) b (y ∷ xs) e =
 -- a key under a child's name is under the name
 pub under-front : (name bits : List Bool) (key : ℕ) → is_under (name ++ bits) key ≡ true → is_under name key ≡ true
 under-front name bits key under = starts_with-front name bits (key_bits key) under
-
-or_and : (a h x : Bool) → (a ≡ true → x ≡ true) → (a || (h && x)) ≡ ((a || h) && x)
-or_and true h x in_too = sym (in_too refl)
-or_and false h x in_too = refl
-
-and_out : (a h x : Bool) → (a ≡ true → x ≡ false) → (h && x) ≡ ((a || h) && x)
-and_out true h x out = ap (λ b. h && b) (out refl) ∙ and-false h ∙ sym (out refl)
-  where
-    and-false : (b : Bool) → (b && false) ≡ false
-    and-false true = refl
-    and-false false = refl
-and_out false h x out = refl
-
-same_key : (s q : Row) → same_row s q ≡ true → s.key ≡ q.key
-same_key s q e = eqb-eq s.key q.key (first_so (s.key == q.key) (s.id == q.id) e)
-
-pub has_row-rows_between : (lo hi : ℕ) (rows : List Row) (q : Row) → has_row q (rows_between lo hi rows) ≡ (has_row q rows && (nat_le lo q.key && nat_le q.key hi))
-has_row-rows_between lo hi [] q = refl
-has_row-rows_between lo hi (s ∷ rows) q = by_test (nat_le lo s.key && nat_le s.key hi) refl (has_row-rows_between lo hi rows q)
-  where
-    by_test : (b : Bool) → (nat_le lo s.key && nat_le s.key hi) ≡ b → has_row q (rows_between lo hi rows) ≡ (has_row q rows && (nat_le lo q.key && nat_le q.key hi))
-        → has_row q (cond b (s ∷ rows_between lo hi rows) (rows_between lo hi rows)) ≡ (has_row q (s ∷ rows) && (nat_le lo q.key && nat_le q.key hi))
-    by_test true e rest = ap (λ b. same_row s q || b) rest ∙ or_and (same_row s q) (has_row q rows) (nat_le lo q.key && nat_le q.key hi) (λ same. ap (λ k. nat_le lo k && nat_le k hi) (sym (same_key s q same)) ∙ e)
-    by_test false e rest = rest ∙ and_out (same_row s q) (has_row q rows) (nat_le lo q.key && nat_le q.key hi) (λ same. ap (λ k. nat_le lo k && nat_le k hi) (sym (same_key s q same)) ∙ e)
-
--- the last key under a name
-abbrev pub last_key : List Bool → ℕ
-last_key name = next_key name - 1
-
-lt-le : (k n : ℕ) → 0 < n → nat_lt k n ≡ nat_le k (n - 1)
-lt-le k n pos = grind (arith, nat_tests)
-
-next-positive : (name : List Bool) → 0 < next_key name
-next-positive name = omega (arith, next-above name)
-
--- a key under a name lies from its first key to its last one
-pub under-between : (name : List Bool) (key : ℕ) → length name ≤ 64 → key < 2 ^ 64 → is_under name key ≡ (nat_le (first_key name) key && nat_le key (last_key name))
-under-between name key short small = is_under-test name key short small ∙ ap (λ b. nat_le (first_key name) key && b) (lt-le key (next_key name) (next-positive name))
 
 -- where a world has a row, its key is one of 64 bits
 has-small : (world : List Placed) (q : Row) → world_has world q ≡ true → q.key < 2 ^ 64
@@ -86,7 +48,7 @@ cut_if true false between false is up = refl
 
 -- the rows of a leaf that lie under a child's name
 pub rows_cut : (world : List Placed) (name bits : List Bool) (rows : List Row) → length (name ++ bits) ≤ 64 → ((q : Row) → has_row q rows ≡ (world_has world q && is_under name q.key))
-    → (q : Row) → has_row q (rows_between (first_key (name ++ bits)) (last_key (name ++ bits)) rows) ≡ (world_has world q && is_under (name ++ bits) q.key)
+    → (q : Row) → has_row q (rows_under (name ++ bits) rows) ≡ (world_has world q && is_under (name ++ bits) q.key)
 rows_cut world name bits rows short before q =
     has_row-rows_between (first_key (name ++ bits)) (last_key (name ++ bits)) rows q
     ∙ ap (λ b. b && (nat_le (first_key (name ++ bits)) q.key && nat_le q.key (last_key (name ++ bits)))) (before q)

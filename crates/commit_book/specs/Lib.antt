@@ -5,6 +5,7 @@ pub mod Changes
 pub mod Crowded
 pub mod CrowdedInside
 pub mod Crowds
+pub mod Divisions
 pub mod Events
 pub mod History
 pub mod IsBook

@@ -3,12 +3,19 @@ ghost use Rattle.std.specs.Prelude.{◌≡◌, ◌+◌, ◌-◌, ◌<◌, ◌≤
 ghost use Rattle.std.specs.List.{find, insert};
 ghost use Rattle.zorder.specs.Name.{first_key};
 ghost use Rattle.plain_list.specs.State.{is_splitting};
-ghost use Rattle.commit_book.specs.Crowded.{AreRising, remarked, marked, unmarked, key_place, has_key, first_free};
+ghost use Rattle.commit_book.specs.Crowded.{AreRising, remarked, remarked_each, marked, unmarked, key_place, has_key, first_free};
 
 use crate::open_splits::OpenSplits;
 use std::alloc::{AllocError, Global};
 use std::marker::Model;
 use zorder::Name;
+
+/// A leaf's name, and whether it is to be split.
+#[derive(Clone, Copy, Debug)]
+pub(crate) struct Mark {
+    pub(crate) name: Name,
+    pub(crate) crowded: bool,
+}
 
 /// Names of leaves by their first keys, with room for those that are promised.
 #[derive(Drop)]
@@ -75,6 +82,16 @@ impl Crowded {
             mark_name(&mut self.names, name);
         } else {
             unmark_name(&mut self.names, name);
+        }
+    }
+
+    /// Sets the names of leaves, the last leaf's first.
+    pub(crate) fn set_each(&mut self, mut marks: Vec<Mark>)
+        requires { length marks.items ≤ self.old.room }
+        ensures { self.new ≡ record { names = remarked_each marks.items self.old.names; room = self.old.room - length marks.items } }
+    {
+        while let Some(mark) = marks.pop() {
+            self.set(&mark.name, mark.crowded);
         }
     }
 }

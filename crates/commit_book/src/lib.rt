@@ -10,6 +10,7 @@
 mod book;
 mod changes;
 mod crowded;
+mod divisions;
 mod history;
 mod members;
 mod open_splits;

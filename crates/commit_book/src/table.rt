@@ -1,22 +1,26 @@
 //! An index and a map by id that stand for one world.
-ghost use Rattle.std.specs.Prelude.{◌≡◌, ◌<◌, ◌≤◌, ◌∷◌, ◌&&◌, not, [], List, Some, None, IfOk, OnOk, OnErr, length};
+ghost use Rattle.std.specs.Prelude.{◌≡◌, ◌+◌, ◌-◌, ◌<◌, ◌≤◌, ◌^◌, ◌∷◌, ◌&&◌, not, [], List, Some, None, true, false, IfOk, OnOk, OnErr, MatchOption, length};
+ghost use Rattle.std.specs.Arc.{arc_value};
 ghost use Rattle.std.specs.List.{AllByRecursion, find};
 ghost use Rattle.plain_list.specs.World.{IsWorld, place_of};
 ghost use Rattle.plain_list.specs.Answer.{with_member, with_moved, without, answer_of};
 ghost use Rattle.plain_list.specs.Size.{is_over};
-ghost use Rattle.plain_list.specs.State.{is_splitting};
-ghost use Rattle.index_layer.specs.Leaves.{names_of};
+ghost use Rattle.plain_list.specs.State.{is_splitting, split_leaf};
+ghost use Rattle.split_prepare.specs.Cut.{cut};
+ghost use Rattle.index_layer.specs.Leaves.{Leaf, names_of, has_name, leaf_named};
 ghost use Rattle.index_layer.specs.Stands.{HasRowsOf};
 ghost use Rattle.commit_book.specs.Answers.{IsUpdate};
 ghost use Rattle.commit_book.specs.Changes.{bases_of};
 ghost use Rattle.commit_book.specs.Updates.{Updates};
+ghost use Rattle.commit_book.specs.Divisions.{Folds, IsDivided, SomeLeaf};
 
 use crate::changes::{with_row, without_row};
 use crate::crowded::Crowded;
+use crate::divisions::{Divided, Folded, with_children, with_folded};
 use crate::members::Members;
 use crate::open_splits::OpenSplits;
 use bucket_versions::{Bucket, Row};
-use index_layer::Index;
+use index_layer::{Index, Part};
 use plain_list::{Answer, Op};
 use std::alloc::Global;
 use std::marker::Model;
@@ -234,6 +238,90 @@ impl<I: Index> Table<I> {
     {
         let _members = self.members.len();
         self.index.share()
+    }
+
+    /// Whether a leaf has this name.
+    pub(crate) fn has_leaf(&self, name: &Name) -> bool
+        ensures { result ≡ has_name name.now (I.leaves self.now.index) }
+    {
+        match self.index.part(name) {
+            Part::Leaf(_) => true,
+            Part::Inner => false,
+            Part::Outside => false,
+        }
+    }
+
+    /// The bucket of the leaf of this name.
+    pub(crate) fn bucket(&self, name: &Name) -> Option<&Arc<Bucket>>
+        ensures { MatchOption result (has_name name.now (I.leaves self.now.index) ≡ false) (λ b. leaf_named name.now (I.leaves self.now.index) ≡ Some (record { name = name.now; bucket = arc_value b.now })) }
+    {
+        match self.index.part(name) {
+            Part::Leaf(bucket) => Some(bucket),
+            Part::Inner => None,
+            Part::Outside => None,
+        }
+    }
+
+    /// Takes all memory to fold a leaf, which is there. The table stays as it is, for `fold`.
+    pub(crate) fn folded(&self, name: &Name) -> Result<Folded<I>, Memory>
+        requires { has_name name.now (I.leaves self.now.index) ≡ true }
+        ensures name { IfOk result (λ f. f.name ≡ name.now) }
+        ensures folds { IfOk result (λ f. Folds name.now (I.leaves self.now.index) (I.leaves f.index) (arc_value f.bucket)) }
+        ensures names { IfOk result (λ f. names_of (I.leaves f.index) ≡ names_of (I.leaves self.now.index)) }
+    {
+        match self.bucket(name) {
+            Some(bucket) => with_folded(self.alloc, &self.index, name, bucket),
+            None => unreachable!(),
+        }
+    }
+
+    /// Folds a leaf, and gives its bucket.
+    pub(crate) fn fold(&mut self, folded: Folded<I>) -> Arc<Bucket>
+        requires { Folds folded.name (I.leaves self.old.index) (I.leaves folded.index) (arc_value folded.bucket) }
+        ensures table { self.new ≡ record self.old { index = folded.index } }
+        ensures bucket { result ≡ folded.bucket }
+    {
+        self.index = folded.index;
+        folded.bucket
+    }
+
+    /// Takes all memory to split a leaf, which is there, into children that were cut out of its base. The table stays as it is but for
+    /// room among the names, for `divide` or `release`.
+    pub(crate) fn divided(&mut self, name: &Name, parts: &[Bucket]) -> Result<Divided<I>, Memory>
+        requires short { length name.now + I.WIDTH ≤ 64 }
+        requires cut { SomeLeaf name.now (I.leaves self.old.index) (λ l. parts.now ≡ cut I.WIDTH name.now l.bucket.base) }
+        ensures name { IfOk result (λ d. d.name ≡ name.now) }
+        ensures divided { IfOk result (λ d. IsDivided I.WIDTH self.old.size name.now (I.leaves self.old.index) (I.leaves d.index) d.marks.items) }
+        ensures names { IfOk result (λ d. names_of (I.leaves d.index) ≡ split_leaf I.WIDTH name.now (names_of (I.leaves self.old.index))) }
+        ensures ok { OnOk result (self.new ≡ record self.old { room = self.old.room + 2 ^ I.WIDTH }) }
+        ensures err { OnErr result (self.new ≡ self.old) }
+    {
+        let divided = match self.bucket(name) {
+            Some(bucket) => with_children(self.alloc, &self.index, self.size, name, bucket, parts)?,
+            None => unreachable!(),
+        };
+        let Ok(()) = self.crowded.reserve(divided.marks.len()) else {
+            return Err(Memory);
+        };
+        Ok(divided)
+    }
+
+    /// Puts a leaf's children in its place.
+    pub(crate) fn divide(&mut self, divided: Divided<I>)
+        requires room { 2 ^ I.WIDTH ≤ self.old.room }
+        requires divided { IsDivided I.WIDTH self.old.size divided.name (I.leaves self.old.index) (I.leaves divided.index) divided.marks.items }
+        ensures { self.new ≡ record self.old { index = divided.index; room = self.old.room - 2 ^ I.WIDTH } }
+    {
+        self.crowded.set_each(divided.marks);
+        self.index = divided.index;
+    }
+
+    /// Gives up the room that was taken to split a leaf.
+    pub(crate) fn release(&mut self)
+        requires { 2 ^ I.WIDTH ≤ self.old.room }
+        ensures { self.new ≡ record self.old { room = self.old.room - 2 ^ I.WIDTH } }
+    {
+        self.crowded.release(1 << I::WIDTH);
     }
 
     pub(crate) fn into_index(self) -> I
