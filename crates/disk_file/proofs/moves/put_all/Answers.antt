@@ -1,0 +1,6 @@
+use Rattle.std.proofs.Common.{refl}
+use Rattle.disk_file.proofs.Progress.{HasPut-more}
+use Rattle.disk_file.proofs.moves.put_all.Goals as goal
+
+pub loop-at-preserved : goal.loop-at-preserved
+loop-at-preserved g c = HasPut-more c.in-Ok.n _ c.loop-at.invariant refl c.in-Ok.ensures.bound c.in-Ok.ensures.bytes

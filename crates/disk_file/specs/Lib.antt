@@ -1,0 +1,3 @@
+pub mod Served
+pub mod Laws
+pub use Rattle.disk_trait.specs.Drive

@@ -1,0 +1,41 @@
+-- A drive over a file of the machine, and what its calls do to it.
+use Rattle.std.specs.Prelude.{◌≡◌, ℕ, ◌+◌, ◌-◌, ◌^◌, min, Bool, true, false, if◌then◌else◌, None, Result, is_ok, IsErr, MatchResult}
+use Rattle.disk_trait.specs.Drive.{Drive}
+use Rattle.disk_trait.specs.declared.disk.AttachFault.{AttachFault}
+use Rattle.disk_trait.specs.declared.disk.AttachFault.TheVariants.{Disk, Memory}
+
+-- whether it has a file, and how often a call has failed
+pub record FileView : Type 0 where
+  pub attached : Bool
+  pub faults : ℕ
+
+-- Nothing is known of the content: no bytes, and any image at any moment.
+abbrev pub untold : ℕ → Drive
+untold faults = record { bytes = None; images = λ c. Unit {0}; moment = 0; since = λ t c. Unit {0}; faults = faults }
+
+abbrev pub file_drive : FileView → Drive
+file_drive d = untold d.faults
+
+-- one more, up to the greatest number of 64 bits
+abbrev pub one_more : ℕ → ℕ
+one_more n = min (n + 1) (2 ^ 64 - 1)
+
+-- a step leaves all as it was but the count, which rises exactly where it failed
+abbrev pub Counted : {T E : Type 0} → FileView → FileView → Result T E → Type 0
+Counted old new result = new ≡ record { attached = old.attached; faults = if is_ok result then old.faults else one_more old.faults }
+
+-- a call that needs a file fails without one
+pub record Serves {T E : Type 0} (old new : FileView) (result : Result T E) : Type 0 where
+  pub needs : old.attached ≡ false → IsErr result
+  pub after : Counted old new result
+
+-- want of memory raises no count
+abbrev pub after_fault : AttachFault → ℕ → ℕ
+after_fault Disk faults = one_more faults
+after_fault Memory faults = faults
+
+-- an attach gives the drive a file, or leaves it the one that it had
+abbrev pub Attaches : {T : Type 0} → FileView → FileView → Result T AttachFault → Type 0
+Attaches old new result = MatchResult result
+    (λ _. new ≡ record { attached = true; faults = old.faults })
+    (λ fault. new ≡ record { attached = old.attached; faults = after_fault fault old.faults })

@@ -1,0 +1,170 @@
+//! The drive over a file of the machine.
+ghost use Rattle.std.specs.Prelude.{◌≡◌, ◌+◌, ◌^◌, ◌≤◌, false, length};
+
+use crate::moves::{read_from, write_to};
+use crate::opening::opened;
+use disk_trait::{AttachFault, DiskFault, LogDisk};
+use std::alloc::Global;
+use std::fs::{Files, OpenFile};
+use std::marker::Model;
+
+/// A drive whose file `R` opens. It has none until an attach has answered Ok, and keeps the one that it has where a later
+/// attach fails.
+#[derive(Drop)]
+pub struct FileDisk<R: Files + Drop> {
+    rt: R,
+    file: Option<R::File>,
+    faults: u64,
+}
+
+impl<R: Files + Drop> Model for FileDisk<R> {
+    ghost use Rattle.std.specs.Prelude.{is_some};
+    ghost use Rattle.disk_file.specs.Served.{FileView};
+
+    ghost Value = { FileView };
+
+    ghost view = { λ d. record { attached = is_some d.file; faults = d.faults } };
+}
+
+impl<R: Files + Drop> FileDisk<R> {
+    ghost use Rattle.disk_trait.specs.Drive.{CountsFaults};
+    ghost use Rattle.disk_file.specs.Served.{file_drive, Counted};
+
+    /// A drive without a file.
+    pub fn new(rt: R) -> FileDisk<R>
+        ensures { result ≡ record { attached = false; faults = 0 } }
+    {
+        FileDisk {
+            rt,
+            file: None,
+            faults: 0,
+        }
+    }
+
+    /// Raises the count where a step failed.
+    fn counted<T>(&mut self, step: Result<T, DiskFault>) -> Result<T, DiskFault>
+        ensures same { result ≡ step }
+        ensures after { Counted self.old self.new step }
+        ensures cause { CountsFaults (file_drive self.old) (file_drive self.new) step }
+    {
+        if step.is_err() {
+            self.faults = self.faults.saturating_add(1);
+        }
+        step
+    }
+}
+
+fn length_of<F: OpenFile>(file: &F) -> Result<u64, DiskFault> {
+    match file.metadata() {
+        Ok(found) => Ok(found.len()),
+        Err(_) => Err(DiskFault),
+    }
+}
+
+fn cut_to<F: OpenFile>(file: &F, len: u64) -> Result<(), DiskFault> {
+    match file.set_len(len) {
+        Ok(()) => Ok(()),
+        Err(_) => Err(DiskFault),
+    }
+}
+
+fn synced<F: OpenFile>(file: &F) -> Result<(), DiskFault> {
+    // The bytes and the length; the times of the file aren't waited for.
+    match file.sync_data() {
+        Ok(()) => Ok(()),
+        Err(_) => Err(DiskFault),
+    }
+}
+
+impl<R: Files + Drop> LogDisk for FileDisk<R> {
+    ghost use Rattle.disk_trait.specs.Drive.{IsWithin, Stays, Reads, TellsLength, Writes, Cuts, Syncs, CountsFaults, CountsAttach};
+    ghost use Rattle.disk_file.specs.Served.{file_drive, Attaches, Serves};
+    ghost use Rattle.disk_file.specs.Laws.{file_laws};
+
+    ghost drive = { file_drive };
+
+    ghost keeps_laws = { file_laws };
+
+    fn attach(&mut self, _alloc: Global, name: &str, make: bool) -> Result<(), AttachFault>
+        ensures attaches { Attaches self.old self.new result }
+        ensures stays { Stays (file_drive self.old) (file_drive self.new) }
+        ensures cause { CountsAttach (file_drive self.old) (file_drive self.new) result }
+    {
+        match opened(&self.rt, name, make) {
+            Ok(file) => {
+                self.file = Some(file);
+                Ok(())
+            }
+            Err(AttachFault::Disk) => {
+                self.faults = self.faults.saturating_add(1);
+                Err(AttachFault::Disk)
+            }
+            Err(AttachFault::Memory) => Err(AttachFault::Memory),
+        }
+    }
+
+    fn len(&mut self) -> Result<u64, DiskFault>
+        ensures serves { Serves self.old self.new result }
+        ensures len { TellsLength (file_drive self.old) result }
+        ensures stays { Stays (file_drive self.old) (file_drive self.new) }
+        ensures cause { CountsFaults (file_drive self.old) (file_drive self.new) result }
+    {
+        let len = match &self.file {
+            Some(file) => length_of(file),
+            None => Err(DiskFault),
+        };
+        self.counted(len)
+    }
+
+    fn read(&mut self, at: u64, into: &mut [u8]) -> Result<usize, DiskFault>
+        ensures serves { Serves self.old self.new result }
+        ensures bytes { Reads (file_drive self.old) at into.old into.new result }
+        ensures stays { Stays (file_drive self.old) (file_drive self.new) }
+        ensures cause { CountsFaults (file_drive self.old) (file_drive self.new) result }
+    {
+        let count = match &mut self.file {
+            Some(file) => read_from(file, at, into),
+            None => Err(DiskFault),
+        };
+        self.counted(count)
+    }
+
+    fn write(&mut self, at: u64, piece: &[u8]) -> Result<(), DiskFault>
+        requires within { IsWithin (file_drive self.old) at }
+        requires small { at + length piece.now ≤ 2 ^ 40 }
+        ensures serves { Serves self.old self.new result }
+        ensures writes { Writes (file_drive self.old) (file_drive self.new) at piece.now result }
+        ensures cause { CountsFaults (file_drive self.old) (file_drive self.new) result }
+    {
+        let written = match &mut self.file {
+            Some(file) => write_to(file, at, piece),
+            None => Err(DiskFault),
+        };
+        self.counted(written)
+    }
+
+    fn cut(&mut self, len: u64) -> Result<(), DiskFault>
+        requires within { IsWithin (file_drive self.old) len }
+        ensures serves { Serves self.old self.new result }
+        ensures cuts { Cuts (file_drive self.old) (file_drive self.new) len result }
+        ensures cause { CountsFaults (file_drive self.old) (file_drive self.new) result }
+    {
+        let cut = match &self.file {
+            Some(file) => cut_to(file, len),
+            None => Err(DiskFault),
+        };
+        self.counted(cut)
+    }
+
+    fn sync(&mut self) -> Result<(), DiskFault>
+        ensures serves { Serves self.old self.new result }
+        ensures syncs { Syncs (file_drive self.old) (file_drive self.new) result }
+        ensures cause { CountsFaults (file_drive self.old) (file_drive self.new) result }
+    {
+        let done = match &self.file {
+            Some(file) => synced(file),
+            None => Err(DiskFault),
+        };
+        self.counted(done)
+    }
+}

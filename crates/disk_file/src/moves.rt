@@ -1,0 +1,63 @@
+//! Reads and writes that go on after short ones.
+ghost use Rattle.std.specs.Prelude.{◌≤◌, ◌<◌, length, take, IfOk, OnOk};
+ghost use Rattle.std.specs.Io.KnownBytes.{Appends, Consumes, IsAtEnd};
+ghost use Rattle.std.specs.Io.Seek.{MovesTo};
+
+use disk_trait::DiskFault;
+use std::io::{Read, Seek, SeekFrom, Write};
+
+/// Fills `into` from where the reader stands, or up to its end, and says how many bytes came.
+fn fill<F: Read>(file: &mut F, into: &mut [u8]) -> Result<usize, DiskFault>
+    ensures bound { IfOk result (λ n. n ≤ length into.new) }
+    ensures bytes { IfOk result (λ n. Consumes (F.remaining file.old) (F.remaining file.new) (take n into.new)) }
+    ensures end { IfOk result (λ n. n < length into.new → IsAtEnd (F.remaining file.new)) }
+{
+    let mut at = 0;
+    while at < into.len() {
+        match file.read(&mut into[at..]) {
+            Ok(0) => return Ok(at),
+            Ok(n) => at += n,
+            Err(_) => return Err(DiskFault),
+        }
+    }
+    Ok(at)
+}
+
+/// Passes on the whole piece. A write that takes nothing is a failure.
+fn put_all<F: Write>(file: &mut F, piece: &[u8]) -> Result<(), DiskFault>
+    ensures bytes { OnOk result (Appends (F.contents file.old) (F.contents file.new) piece.now) }
+{
+    let mut at = 0;
+    while at < piece.len() {
+        match file.write(&piece[at..]) {
+            Ok(0) | Err(_) => return Err(DiskFault),
+            Ok(n) => at += n,
+        }
+    }
+    Ok(())
+}
+
+/// Moves to a place, counted from the file's start.
+fn seek_to<F: Seek>(file: &mut F, at: u64) -> Result<(), DiskFault>
+    ensures place { MovesTo (F.stream_position file.old) (F.stream_position file.new) at result }
+{
+    match file.seek(SeekFrom::Start(at)) {
+        Ok(_) => Ok(()),
+        Err(_) => Err(DiskFault),
+    }
+}
+
+/// Reads what lies in a file from a place on, up to the room for it.
+pub fn read_from<F: Read + Seek>(file: &mut F, at: u64, into: &mut [u8]) -> Result<usize, DiskFault>
+    ensures bound { IfOk result (λ n. n ≤ length into.new) }
+    ensures end { IfOk result (λ n. n < length into.new → IsAtEnd (F.remaining file.new)) }
+{
+    seek_to(file, at)?;
+    fill(file, into)
+}
+
+/// Writes a piece at a place of a file.
+pub fn write_to<F: Write + Seek>(file: &mut F, at: u64, piece: &[u8]) -> Result<(), DiskFault> {
+    seek_to(file, at)?;
+    put_all(file, piece)
+}

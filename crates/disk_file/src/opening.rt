@@ -1,0 +1,41 @@
+//! How the drive's file is opened.
+ghost use Rattle.std.specs.Prelude.{◌≡◌, ◌↔◌, true};
+ghost use Rattle.std.specs.Fs.{new_options, with_read, with_write, with_create};
+ghost use Rattle.std.specs.IoError.{error_kind};
+
+use disk_trait::AttachFault;
+use std::fs::{Files, OpenFile, OpenOptions};
+use std::io::{self, ErrorKind};
+
+/// For reading and writing, and made where `make` is true.
+fn options(make: bool) -> OpenOptions
+    ensures { result ≡ with_create (with_write (with_read new_options true) true) make }
+{
+    let mut options = OpenOptions::new();
+    options.read(true).write(true).create(make);
+    options
+}
+
+/// A program may be started with a standard stream closed, and the system then opens the file under that stream's number: what
+/// is meant for the stream would land in the file. A second handle never has one of these three numbers.
+fn open_apart<R: Files>(rt: &R, name: &str, make: bool) -> io::Result<R::File> {
+    let first = options(make).open(rt, name)?;
+    first.try_clone()
+}
+
+fn cause(error: &io::Error) -> AttachFault
+    ensures { result ≡ AttachFault.Memory ↔ error_kind error.now ≡ ErrorKind.OutOfMemory }
+{
+    match error.kind() {
+        ErrorKind::OutOfMemory => AttachFault::Memory,
+        _ => AttachFault::Disk,
+    }
+}
+
+/// Opens the file of a name, and makes it where it isn't there and `make` is true.
+pub fn opened<R: Files>(rt: &R, name: &str, make: bool) -> Result<R::File, AttachFault> {
+    match open_apart(rt, name, make) {
+        Ok(file) => Ok(file),
+        Err(error) => Err(cause(&error)),
+    }
+}
