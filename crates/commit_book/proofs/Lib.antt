@@ -1,3 +1,4 @@
+pub mod BookStates
 pub mod BookSteps
 pub mod CallCounts
 pub mod Changing
@@ -8,10 +9,15 @@ pub mod Dividing
 pub mod Folding
 pub mod FoundLeaves
 pub mod FullLemmas
+pub mod KeptLemmas
 pub mod KeyPlaces
 pub mod MemberMaps
+pub mod RefusalLemmas
 pub mod Rising
+pub mod SplitCalls
+pub mod SplitHistories
 pub mod SplitLemmas
+pub mod SplitStates
 pub mod Splitting
 pub mod Standing
 pub mod StandingLess

@@ -5,6 +5,7 @@ use Rattle.plain_list.proofs.Histories.{has_failed}
 use Rattle.index_layer.specs.Leaves.{Leaf, names_of}
 use Rattle.commit_book.specs.BookView.{BookView}
 use Rattle.commit_book.specs.IsBook.{most_events}
+use Rattle.commit_book.specs.KeptBases.{KeepsBases}
 use Rattle.commit_book.specs.declared.book.Book.TheInside.{Inside}
 
 abbrev pub book_of : {I : Type 0} → Inside I → BookView I
@@ -16,7 +17,8 @@ pub record IsInside {I : Type 0} (leaves : I → List Leaf) (w : ℕ) (b : Insid
   pub sound : has_failed b.history.entries ≡ false
   pub world : b.table.world ≡ (state_after w empty_state b.history.entries).world
   pub names : names_of (leaves b.table.index) ≡ (state_after w empty_state b.history.entries).leaves
-  pub splits : b.splits ≡ (state_after w empty_state b.history.entries).splits
+  pub splits : b.splits.splits ≡ (state_after w empty_state b.history.entries).splits
+  pub begun : b.splits.begun ≡ (state_after w empty_state b.history.entries).begun
+  pub bases : KeepsBases w (leaves b.table.index) b.history.entries
   pub few : length b.history.entries ≤ most_events
-  pub room : b.history.room ≡ length b.splits
-  pub open_few : length b.splits ≤ length b.history.entries
+  pub room : b.history.room ≡ length b.splits.splits

@@ -10,7 +10,11 @@ pub mod Events
 pub mod History
 pub mod IsBook
 pub mod IsTable
+pub mod KeptBases
 pub mod Members
+pub mod Refusals
+pub mod SplitSteps
 pub mod Splits
+pub mod SplitsView
 pub mod TableView
 pub mod Updates

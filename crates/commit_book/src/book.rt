@@ -1,12 +1,16 @@
 //! The book: an index, a map by id and the history of a run, kept in step.
-ghost use Rattle.std.specs.Prelude.{◌≡◌, ◌+◌, ◌≤◌, ◌↔◌, ◌⊎◌, ℕ, List, [], length, IfOk, IfErr, OnErr, IsErrOf};
+ghost use Rattle.std.specs.Prelude.{◌≡◌, [], length, IfOk, OnErr};
 ghost use Rattle.plain_list.specs.Size.{full_leaf};
 ghost use Rattle.plain_list.specs.State.{empty_state, state_after};
-ghost use Rattle.commit_book.specs.IsBook.{IsBook, most_events};
+ghost use Rattle.commit_book.specs.IsBook.{IsBook, AreBooks};
+ghost use Rattle.commit_book.specs.Refusals.{IsRefusedBy, call_refusal};
 ghost use Rattle.plain_list.specs.History.{world_after};
 ghost use Rattle.index_layer.specs.Stands.{Stands};
 ghost use Rattle.commit_book.specs.Answers.{IsUpdate, IsQuery, Notes, Replies};
 
+mod splits;
+
+use crate::faults::BookFault;
 use crate::history::History;
 use crate::open_splits::OpenSplits;
 use crate::table::Table;
@@ -43,15 +47,6 @@ pub struct BookParts<I: Index> {
     pub index: I,
     /// The history of the run.
     pub entries: Entries,
-}
-
-/// Why a book did nothing.
-#[derive(Clone, Copy, Debug)]
-pub enum BookFault {
-    /// There are 4,194,304 events.
-    HistoryFull,
-    /// Memory ran out.
-    Memory,
 }
 
 /// The sequential core of the store.
@@ -92,15 +87,24 @@ impl<I: Index> Book<I> {
         ensures events { result ≡ length self.now.entries }
         ensures book { IsBook I.leaves I.WIDTH self.now }
     {
+        self.keep();
+        self.history.len() as u64
+    }
+
+    // Tells what the type keeps.
+    fn keep(&self)
+        ensures { IsBook I.leaves I.WIDTH self.now }
+    {
         // The table tells that its index stands for its world.
         let _points = self.table.len();
-        self.history.len() as u64
     }
 
     /// The first leaf in key order that has more than `bucket` points, bits left and no open split.
     pub fn full(&self) -> Option<Name>
-        ensures { result ≡ full_leaf I.WIDTH self.now.bucket (state_after I.WIDTH empty_state self.now.entries) }
+        ensures full { result ≡ full_leaf I.WIDTH self.now.bucket (state_after I.WIDTH empty_state self.now.entries) }
+        ensures book { IsBook I.leaves I.WIDTH self.now }
     {
+        self.keep();
         self.table.first_free(&self.splits)
     }
 
@@ -108,13 +112,14 @@ impl<I: Index> Book<I> {
     pub fn update(&mut self, session: u8, row: u32, op: &Op) -> Result<Done, BookFault>
         requires { IsUpdate op.now }
         ensures ok { IfOk result (λ d. Replies I.WIDTH self.old self.new session row op.now d.place d.answer d.full) }
-        ensures history_full { IsErrOf result BookFault.HistoryFull ↔ (length self.old.entries ≡ most_events) }
+        ensures refused { IsRefusedBy (call_refusal self.old.entries) result }
         ensures err { OnErr result (self.new ≡ self.old) }
+        ensures book { AreBooks I.leaves I.WIDTH self.old self.new }
     {
-        if self.history.len() >= 4_194_304 {
+        if self.events() >= 4_194_304 {
             return Err(BookFault::HistoryFull);
         }
-        let Ok(()) = self.history.reserve() else {
+        let Ok(()) = self.history.reserve(1) else {
             return Err(BookFault::Memory);
         };
         let Ok(answer) = self.table.update(op) else {
@@ -122,10 +127,11 @@ impl<I: Index> Book<I> {
             return Err(BookFault::Memory);
         };
         self.history.push_call(session, row, op);
+        let place = self.history.calls();
         Ok(Done {
-            place: self.history.calls(),
+            place,
             answer,
-            full: self.table.first_free(&self.splits),
+            full: self.full(),
         })
     }
 
@@ -134,13 +140,14 @@ impl<I: Index> Book<I> {
         requires { IsQuery op.now }
         ensures ok { IfOk result (λ s. Notes self.old self.new session row op.now s.place) }
         ensures index { IfOk result (λ s. Stands (I.leaves s.index) (world_after [] self.new.entries) (state_after I.WIDTH empty_state self.new.entries).leaves) }
-        ensures history_full { IsErrOf result BookFault.HistoryFull ↔ (length self.old.entries ≡ most_events) }
+        ensures refused { IsRefusedBy (call_refusal self.old.entries) result }
         ensures err { OnErr result (self.new ≡ self.old) }
+        ensures book { AreBooks I.leaves I.WIDTH self.old self.new }
     {
-        if self.history.len() >= 4_194_304 {
+        if self.events() >= 4_194_304 {
             return Err(BookFault::HistoryFull);
         }
-        let Ok(()) = self.history.reserve() else {
+        let Ok(()) = self.history.reserve(1) else {
             return Err(BookFault::Memory);
         };
         let Ok(index) = self.table.share() else {
@@ -148,10 +155,9 @@ impl<I: Index> Book<I> {
             return Err(BookFault::Memory);
         };
         self.history.push_call(session, row, op);
-        Ok(Snapshot {
-            index,
-            place: self.history.calls(),
-        })
+        let place = self.history.calls();
+        self.keep();
+        Ok(Snapshot { index, place })
     }
 
     /// The parts that the book holds.

@@ -48,7 +48,7 @@ impl Crowded {
 
     /// The first name in the order of keys that has no open split.
     pub(crate) fn first_free(&self, splits: &OpenSplits) -> Option<Name>
-        ensures { result ≡ first_free splits.now self.now.names }
+        ensures { result ≡ first_free splits.now.splits self.now.names }
     {
         free_among(&self.names, splits)
     }
@@ -97,7 +97,7 @@ impl Crowded {
 }
 
 fn free_among(names: &[Name], splits: &OpenSplits) -> Option<Name>
-    ensures { result ≡ first_free splits.now names.now }
+    ensures { result ≡ first_free splits.now.splits names.now }
 {
     for name in names {
         if !splits.is_splitting(name) {

@@ -50,14 +50,14 @@ impl History {
         self.calls
     }
 
-    /// Takes the memory of one entry more.
-    pub(crate) fn reserve(&mut self) -> Result<(), AllocError>
-        requires { length self.old.entries + self.old.room < 2 ^ 63 }
-        ensures ok { OnOk result (self.new ≡ record self.old { room = self.old.room + 1 }) }
+    /// Takes the memory of so many entries more.
+    pub(crate) fn reserve(&mut self, entries: usize) -> Result<(), AllocError>
+        requires { length self.old.entries + self.old.room + entries < 2 ^ 63 }
+        ensures ok { OnOk result (self.new ≡ record self.old { room = self.old.room + entries }) }
         ensures err { OnErr result (self.new ≡ self.old) }
     {
-        self.entries.reserve(self.room + 1)?;
-        self.room += 1;
+        self.entries.reserve(self.room + entries)?;
+        self.room += entries;
         Ok(())
     }
 
@@ -82,6 +82,16 @@ impl History {
             row,
             op: *op,
         };
+        push_within(&mut self.entries, entry);
+    }
+
+    /// Appends an entry that was reserved, of another step than a call.
+    pub(crate) fn push_step(&mut self, entry: Entry)
+        requires room { 0 < self.old.room }
+        requires step { call_count (entry ∷ []) ≡ 0 }
+        ensures { self.new ≡ record { entries = self.old.entries ++ entry ∷ []; room = self.old.room - 1 } }
+    {
+        self.room -= 1;
         push_within(&mut self.entries, entry);
     }
 

@@ -1,19 +1,22 @@
 //! The book: the sequential core of the store, one state machine over any index.
 //!
-//! Contracts see a book as its index, its history and its bucket size. Its type keeps that the history is legal and that the index
-//! stands for the world of that history, with its leaves (`Book::events`, `book`). `update` and `snapshot` append one call each;
-//! `update` answers what one plain list answers there.
+//! Contracts see a book as its index, its history and its bucket size. Its type keeps that the history is legal, that the index
+//! stands for the world of that history, with its leaves, and that the base of a leaf whose split is open has the rows of its begin
+//! (`Book::events`, `book`). `update` and `snapshot` append one call each; `update` answers what one plain list answers there.
+//! `begin`, `install` and `abandon` append the steps of a split and leave the world. A refusal changes nothing.
 //!
-//! Not here yet: splits (`begin`, `install`, `abandon`) and the log. Not here: who may call, and when (`book_lock`).
+//! Not here yet: the log. Not here: who may call, and when (`book_lock`), and how a bucket is cut (`split_prepare`).
 #![tactic(auto)]
 
 mod book;
 mod changes;
 mod crowded;
 mod divisions;
+mod faults;
 mod history;
 mod members;
 mod open_splits;
 mod table;
 
-pub use book::{Book, BookFault, BookParts, Done, Snapshot};
+pub use book::{Book, BookParts, Done, Snapshot};
+pub use faults::BookFault;

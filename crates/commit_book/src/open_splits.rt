@@ -1,10 +1,12 @@
-//! The splits that were begun and haven't ended: none, until a book begins them.
-ghost use Rattle.std.specs.Prelude.{◌≡◌, []};
+//! The splits that were begun and haven't ended.
+ghost use Rattle.std.specs.Prelude.{◌≡◌, ◌+◌, ◌-◌, ◌<◌, ◌^◌, ◌++◌, ◌∷◌, [], OnOk};
 ghost use Rattle.std.specs.List.{list_any};
 ghost use Rattle.zorder.specs.SameName.{same_name};
-ghost use Rattle.plain_list.specs.State.{is_splitting};
+ghost use Rattle.plain_list.specs.State.{is_splitting, split_name, without_number};
+ghost use Rattle.commit_book.specs.Refusals.{split_number, is_open};
+ghost use Rattle.commit_book.specs.Splits.{splits_of};
 
-use std::alloc::Global;
+use std::alloc::{AllocError, Global};
 use std::marker::Model;
 use zorder::Name;
 
@@ -14,42 +16,131 @@ pub(crate) struct Begun {
     pub(crate) name: Name,
 }
 
-/// Open splits, in the order of their begins.
+/// Open splits in the order of their begins, with room for one that is promised.
 #[derive(Drop)]
 pub(crate) struct OpenSplits {
-    begun: Vec<Begun>,
+    splits: Vec<Begun>,
+    begun: u64,
+    room: usize,
 }
 
 impl Model for OpenSplits {
-    ghost use Rattle.std.specs.Prelude.{List};
-    ghost use Rattle.plain_list.specs.State.{OpenSplit};
+    ghost use Rattle.commit_book.specs.SplitsView.{SplitsView};
 
-    ghost Value = { List OpenSplit };
+    ghost Value = { SplitsView };
 
-    ghost use Rattle.commit_book.specs.Splits.{splits_of};
+    ghost use Rattle.commit_book.specs.Splits.{opens_of, HasRoom};
 
-    ghost view = { λ s. splits_of s.begun.items };
+    ghost view = { opens_of };
+
+    ghost invariant = { HasRoom };
 }
 
 impl OpenSplits {
     pub(crate) fn new(alloc: Global) -> OpenSplits
-        ensures { result ≡ [] }
+        ensures { result ≡ record { splits = []; begun = 0; room = 0 } }
     {
         OpenSplits {
-            begun: Vec::new(alloc),
+            splits: Vec::new(alloc),
+            begun: 0,
+            room: 0,
         }
     }
 
     /// Whether an open split is of this name.
     pub(crate) fn is_splitting(&self, name: &Name) -> bool
-        ensures { result ≡ is_splitting self.now name.now }
+        ensures { result ≡ is_splitting self.now.splits name.now }
     {
-        is_among(&self.begun, name)
+        is_among(&self.splits, name)
+    }
+
+    /// The number of the open split of this name.
+    pub(crate) fn number(&self, name: &Name) -> Option<u64>
+        ensures { result ≡ split_number self.now.splits name.now }
+    {
+        number_among(&self.splits, name)
+    }
+
+    /// The name of the open split of this number.
+    pub(crate) fn name(&self, number: u64) -> Option<Name>
+        ensures { result ≡ split_name self.now.splits number }
+    {
+        name_among(&self.splits, number)
+    }
+
+    /// Whether an open split has this number and this name.
+    pub(crate) fn is_open(&self, number: u64, name: &Name) -> bool
+        ensures { result ≡ is_open self.now.splits number name.now }
+    {
+        match self.name(number) {
+            Some(other) => other == *name,
+            None => false,
+        }
+    }
+
+    /// Takes the memory of one split.
+    pub(crate) fn reserve(&mut self) -> Result<(), AllocError>
+        ensures splits { self.new.splits ≡ self.old.splits }
+        ensures begun { self.new.begun ≡ self.old.begun }
+        ensures ok { OnOk result (self.new.room ≡ 1) }
+    {
+        self.room = 0;
+        self.splits.reserve(1)?;
+        self.room = 1;
+        Ok(())
+    }
+
+    /// Begins a split, for which memory was taken, and gives its number.
+    pub(crate) fn push(&mut self, name: &Name) -> u64
+        requires room { 0 < self.old.room }
+        requires few { self.old.begun < 2 ^ 63 }
+        ensures number { result ≡ self.old.begun + 1 }
+        ensures splits { self.new.splits ≡ self.old.splits ++ record { number = self.old.begun + 1; name = name.now } ∷ [] }
+        ensures begun { self.new.begun ≡ self.old.begun + 1 }
+    {
+        self.room -= 1;
+        self.begun += 1;
+        let _ = self.splits.push(Begun {
+            number: self.begun,
+            name: *name,
+        });
+        self.begun
+    }
+
+    /// Ends a split.
+    pub(crate) fn remove(&mut self, number: u64)
+        ensures splits { self.new.splits ≡ without_number number self.old.splits }
+        ensures begun { self.new.begun ≡ self.old.begun }
+    {
+        self.room = 0;
+        self.splits.retain(|s| s.number != number);
     }
 }
 
-fn is_among(begun: &[Begun], name: &Name) -> bool
-    ensures { result ≡ list_any (λ b. same_name b.name name.now) begun.now }
+fn is_among(splits: &[Begun], name: &Name) -> bool
+    ensures { result ≡ list_any (λ b. same_name b.name name.now) splits.now }
 {
-    begun.iter().any(|s| s.name == *name)
+    splits.iter().any(|s| s.name == *name)
+}
+
+fn number_among(splits: &[Begun], name: &Name) -> Option<u64>
+    ensures { result ≡ split_number (splits_of splits.now) name.now }
+{
+    for split in splits {
+        if split.name == *name {
+            return Some(split.number);
+        }
+    }
+    None
+}
+
+fn name_among(splits: &[Begun], number: u64) -> Option<Name>
+    ensures { result ≡ split_name (splits_of splits.now) number }
+{
+    for split in splits {
+        if split.number == number {
+            return Some(split.name);
+        }
+    }
+    None
 }

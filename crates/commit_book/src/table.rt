@@ -73,7 +73,7 @@ impl<I: Index> Table<I> {
 
     /// The first leaf in key order that is over the size, has bits left and no open split.
     pub(crate) fn first_free(&self, splits: &OpenSplits) -> Option<Name>
-        ensures { result ≡ find (λ name. is_over I.WIDTH self.now.size self.now.world name && not (is_splitting splits.now name)) (names_of (I.leaves self.now.index)) }
+        ensures { result ≡ find (λ name. is_over I.WIDTH self.now.size self.now.world name && not (is_splitting splits.now.splits name)) (names_of (I.leaves self.now.index)) }
     {
         self.crowded.first_free(splits)
     }

@@ -7,5 +7,5 @@ pub returns : goal.returns
 returns g c =
     let leaves = g.I.Index.leaves c.self.inside.index in
     rw (← c.self.view_is)
-    (c.first_free.ensures ∙ ap (first_free c.args.splits.now) c.self.invariant.crowded
-    ∙ first_free-crowded_of g.I.Index.WIDTH c.self.inside.size c.self.inside.members c.args.splits.now leaves c.self.invariant.world.rising (g.met.I.Index.are_leaves c.self.inside.index).rows c.self.invariant.rows)
+    (c.first_free.ensures ∙ ap (first_free c.args.splits.now.splits) c.self.invariant.crowded
+    ∙ first_free-crowded_of g.I.Index.WIDTH c.self.inside.size c.self.inside.members c.args.splits.now.splits leaves c.self.invariant.world.rising (g.met.I.Index.are_leaves c.self.inside.index).rows c.self.invariant.rows)
