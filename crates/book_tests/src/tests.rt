@@ -1,10 +1,14 @@
 //! Worked calls of a book.
+use bucket_versions::Row;
 use commit_book::{Book, BookFault, Done};
 use flat_index::FlatIndex;
-use index_layer::Index;
+use index_layer::{Index, Part};
 use plain_list::{Answer, Op};
+use split_prepare::prepare;
 use std::test::Fail;
-use zorder::{Point, Region};
+use zorder::{Name, Point, Region, child, key};
+
+const HALF: u32 = 2147483648;
 
 fn put(book: &mut Book<FlatIndex>, row: u32, id: u64, x: u32, y: u32) -> Result<Done, BookFault> {
     let at = Point { x, y };
@@ -56,5 +60,97 @@ fn a_snapshot_keeps_its_rows_while_the_book_goes_on(rt: HostRuntime) -> Result<(
     let parts = book.into_parts();
     assert_eq!(rt; parts.index.leaf_of(27).1.count(), 2);
     assert_eq!(rt; parts.entries.as_slice().len(), 3);
+    Ok(())
+}
+
+fn row(id: u64, x: u32, y: u32) -> Row {
+    let key = key(Point { x, y });
+    Row { key, id }
+}
+
+fn has_row(index: &FlatIndex, name: &Name, row: &Row) -> bool {
+    match index.part(name) {
+        Part::Leaf(bucket) => bucket.holds(row),
+        Part::Inner => false,
+        Part::Outside => false,
+    }
+}
+
+fn is_inner(index: &FlatIndex, name: &Name) -> bool {
+    matches!(index.part(name), Part::Inner)
+}
+
+#[test]
+fn a_split_is_refused_by_the_cause_that_comes_first(rt: HostRuntime) -> Result<(), Fail> {
+    let mut book = Book::<FlatIndex>::fresh(rt.alloc(), 4)?;
+    let whole = Name::whole();
+    let lower = child(&whole, false);
+    assert_eq!(rt; book.begin(&lower).err(), Some(BookFault::NoLeaf));
+    assert_eq!(rt; book.begin(&whole)?.number, 1);
+    assert_eq!(rt;
+        book.begin(&whole).err(),
+        Some(BookFault::Splitting { number: 1 })
+    );
+    assert_eq!(rt;
+        book.abandon(2).err(),
+        Some(BookFault::NotOpen { number: 2 })
+    );
+    book.abandon(1)?;
+    assert_eq!(rt;
+        book.abandon(1).err(),
+        Some(BookFault::NotOpen { number: 1 })
+    );
+    assert_eq!(rt; book.begin(&whole)?.number, 2);
+    assert_eq!(rt; book.events(), 3);
+    Ok(())
+}
+
+#[test]
+fn a_point_that_comes_during_a_split_stands_in_its_child(rt: HostRuntime) -> Result<(), Fail> {
+    let mut book = Book::<FlatIndex>::fresh(rt.alloc(), 4)?;
+    let whole = Name::whole();
+    let ticket = book.begin(&whole)?;
+    let prepared = prepare(rt.alloc(), &ticket, 1)?;
+    let _late = put(&mut book, 1, 9, HALF, 0)?;
+    book.install(&prepared)?;
+    assert_eq!(rt;
+        book.install(&prepared).err(),
+        Some(BookFault::Stale { number: 1 })
+    );
+    let parts = book.into_parts();
+    let late = row(9, HALF, 0);
+    assert!(rt; is_inner(&parts.index, &whole));
+    assert!(rt; has_row(&parts.index, &child(&whole, true), &late));
+    assert!(rt; !has_row(&parts.index, &child(&whole, false), &late));
+    assert_eq!(rt; parts.entries.as_slice().len(), 3);
+    Ok(())
+}
+
+#[test]
+fn five_points_are_spread_over_the_two_children(rt: HostRuntime) -> Result<(), Fail> {
+    let mut book = Book::<FlatIndex>::fresh(rt.alloc(), 4)?;
+    let points = [(0, 0), (HALF, 0), (0, HALF), (HALF, HALF), (1, 1)];
+    let mut id = 0;
+    for (x, y) in points {
+        id += 1;
+        let _done = put(&mut book, id, u64::from(id), x, y)?;
+    }
+    let whole = Name::whole();
+    let ticket = book.begin(&whole)?;
+    let prepared = prepare(rt.alloc(), &ticket, 1)?;
+    book.install(&prepared)?;
+    assert!(rt; book.full().is_none());
+    let index = book.into_parts().index;
+    id = 0;
+    for (x, y) in points {
+        id += 1;
+        let here = child(&whole, x == HALF);
+        let there = child(&whole, x != HALF);
+        let row = row(u64::from(id), x, y);
+        assert!(rt;
+            has_row(&index, &here, &row) && !has_row(&index, &there, &row),
+            "of {id}"
+        );
+    }
     Ok(())
 }
