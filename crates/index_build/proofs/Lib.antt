@@ -1,0 +1,4 @@
+pub mod RowsOfWorld
+pub mod ChildNames
+pub mod GrownNames
+pub mod GrowingLeaves

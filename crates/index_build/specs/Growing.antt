@@ -1,0 +1,17 @@
+-- Leaves that are being split on, until they are the wanted ones.
+use Rattle.std.specs.Prelude.{◌≡◌, ℕ, Bool, List, ◌++◌, map, take}
+use Rattle.bucket_versions.specs.declared.row.Row.{Row}
+use Rattle.index_layer.specs.Leaves.{Leaf}
+use Rattle.split_prepare.specs.Cut.{cut_out}
+
+-- the leaf of a name, with those of the rows that are under it
+abbrev pub leaf_for : List Row → List Bool → Leaf
+leaf_for rows name = record { name = name; bucket = cut_out rows name }
+
+-- such a leaf for each name
+abbrev pub leaves_for : List Row → List (List Bool) → List Leaf
+leaves_for rows names = map (leaf_for rows) names
+
+-- the leaves are the first of the wanted ones, as many as are done, then those here, then those later
+abbrev pub HasGrownTo : List Row → List (List Bool) → ℕ → List (List Bool) → List (List Bool) → List Leaf → Type 0
+HasGrownTo rows wanted done here later leaves = leaves ≡ leaves_for rows (take done wanted ++ (here ++ later))

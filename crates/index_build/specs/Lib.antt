@@ -1,0 +1,4 @@
+pub mod Grown
+pub mod Growing
+pub mod WorldRows
+pub use Rattle.index_layer.specs.Stands

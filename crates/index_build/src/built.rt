@@ -1,0 +1,28 @@
+//! An index over a world.
+ghost use Rattle.std.specs.Prelude.{IfOk};
+ghost use Rattle.std.specs.List.{AllByRecursion};
+ghost use Rattle.index_layer.specs.Stands.{Stands};
+ghost use Rattle.index_build.specs.Grown.{IsGrown, IsFolded};
+
+use crate::cuts::bucket_under;
+use crate::growing::{Growing, grow};
+use crate::rows::rows_of;
+use index_layer::Index;
+use plain_list::World;
+use std::alloc::Global;
+use zorder::{Memory, Name};
+
+/// An index over the objects of the world, whose leaves have these names, in key order.
+pub fn build<I: Index>(alloc: Global, world: &World, leaves: &[Name]) -> Result<I, Memory>
+    requires { IsGrown I.WIDTH leaves.now }
+    ensures stands { IfOk result (λ index. Stands (I.leaves index) world.now leaves.now) }
+    ensures folded { IfOk result (λ index. AllByRecursion IsFolded (I.leaves index)) }
+{
+    let Ok(rows) = rows_of(alloc, world) else {
+        return Err(Memory);
+    };
+    let whole = Name::whole();
+    let index = I::whole(alloc, bucket_under(alloc, &rows, &whole)?)?;
+    let growing = grow(alloc, Growing { index, done: 0 }, &whole, &rows, leaves)?;
+    Ok(growing.index)
+}

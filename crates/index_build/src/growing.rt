@@ -1,0 +1,72 @@
+//! An index whose leaves are split on until they are those that are wanted.
+ghost use Rattle.std.specs.Prelude.{◌≡◌, ◌≤◌, ◌+◌, ◌%◌, [], ◌∷◌, Bool, List, length, true, slice_index_or, IfOk};
+ghost use Rattle.bucket_versions.specs.Rows.{IsRows};
+ghost use Rattle.index_layer.specs.Leaves.{has_name, split};
+ghost use Rattle.split_prepare.specs.Cut.{cut};
+ghost use Rattle.index_build.specs.Grown.{IsGrown};
+ghost use Rattle.index_build.specs.Growing.{HasGrownTo};
+
+use crate::cuts::buckets_under;
+use bucket_versions::Row;
+use index_layer::{Index, IndexFault};
+use split_prepare::child_at;
+use std::alloc::Global;
+use zorder::{Memory, Name};
+
+/// An index that is being made, and how many of the wanted leaves it has, from the first on.
+#[derive(Drop)]
+pub(crate) struct Growing<I: Index> {
+    pub(crate) index: I,
+    pub(crate) done: usize,
+}
+
+/// Splits the leaf of this name, which stands behind those that are done, until the leaves there are the wanted ones.
+pub(crate) fn grow<I: Index>(
+    alloc: Global,
+    growing: Growing<I>,
+    name: &Name,
+    rows: &[Row],
+    leaves: &[Name],
+) -> Result<Growing<I>, Memory>
+    requires in_order { IsRows rows.now }
+    requires grown { IsGrown I.WIDTH leaves.now }
+    requires splits { length name.now % I.WIDTH ≡ 0 }
+    requires longer { (d : List Bool) → length name.now ≤ length (slice_index_or leaves.now growing.done d) }
+    requires leaf { (later : List (List Bool)) × HasGrownTo rows.now leaves.now growing.done (name.now ∷ []) later (I.leaves growing.index) }
+    ensures { IfOk result (λ g. (later : List (List Bool)) → HasGrownTo rows.now leaves.now growing.done (name.now ∷ []) later (I.leaves growing.index) → HasGrownTo rows.now leaves.now g.done [] later (I.leaves g.index)) }
+{
+    let Growing { index, done } = growing;
+    if leaves[done] == *name {
+        return Ok(Growing {
+            index,
+            done: done + 1,
+        });
+    }
+    let index = split(alloc, &index, name, rows)?;
+    let mut growing = Growing { index, done };
+    for place in 0..1 << I::WIDTH {
+        growing = grow(
+            alloc,
+            growing,
+            &child_at(name, I::WIDTH, place),
+            rows,
+            leaves,
+        )?;
+    }
+    Ok(growing)
+}
+
+// The index with a leaf split, the rows shared out among its children.
+fn split<I: Index>(alloc: Global, index: &I, name: &Name, rows: &[Row]) -> Result<I, Memory>
+    requires in_order { IsRows rows.now }
+    requires short { length name.now + I.WIDTH ≤ 64 }
+    requires leaf { has_name name.now (I.leaves index.now) ≡ true }
+    ensures { IfOk result (λ i. I.leaves i ≡ split I.WIDTH name.now (cut I.WIDTH name.now rows.now) (I.leaves index.now)) }
+{
+    let children = buckets_under(alloc, rows, name, I::WIDTH)?;
+    match index.split(name, &children) {
+        Ok(index) => Ok(index),
+        Err(IndexFault::Memory) => Err(Memory),
+        Err(IndexFault::NoLeaf { .. }) => unreachable!(),
+    }
+}

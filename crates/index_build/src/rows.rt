@@ -1,0 +1,33 @@
+//! The rows of a world.
+ghost use Rattle.std.specs.Prelude.{◌≡◌, map, IfOk};
+ghost use Rattle.bucket_versions.specs.declared.row.Row.{Row};
+ghost use Rattle.bucket_versions.specs.Rows.{IsRows, has_row};
+ghost use Rattle.index_layer.specs.Stands.{world_has};
+ghost use Rattle.index_build.specs.WorldRows.{row_of};
+
+use bucket_versions::Row;
+use plain_list::World;
+use std::alloc::{AllocError, Global};
+use zorder::{Placed, key};
+
+/// A row for each object, in order.
+pub(crate) fn rows_of(alloc: Global, world: &World) -> Result<Vec<Row>, AllocError>
+    ensures in_order { IfOk result (λ rows. IsRows rows.items) }
+    ensures has { IfOk result (λ rows. (r : Row) → has_row r rows.items ≡ world_has world.now r) }
+{
+    let mut rows = listed(alloc, world.as_slice())?;
+    rows.sort_unstable_by_key(|row| (row.key, row.id));
+    Ok(rows)
+}
+
+fn listed(alloc: Global, members: &[Placed]) -> Result<Vec<Row>, AllocError>
+    ensures { IfOk result (λ rows. rows.items ≡ map row_of members.now) }
+{
+    members
+        .iter()
+        .map(|m| Row {
+            key: key(m.at),
+            id: m.id,
+        })
+        .collect(alloc)
+}
