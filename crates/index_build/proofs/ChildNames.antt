@@ -10,7 +10,8 @@ use Rattle.index_layer.specs.Leaves.{EachUnder, AreAllUnder}
 use Rattle.split_prepare.specs.Cut.{cut_out, cut}
 use Rattle.split_prepare.proofs.CutLemmas.{AreUnder-rows_under}
 
-abbrev AreLong : ℕ → List (List Bool) → Type 0
+-- each list is so long
+abbrev pub AreLong : ℕ → List (List Bool) → Type 0
 AreLong w lists = AllByRecursion (λ (bits : List Bool). length bits ≡ w) lists
 
 longer_lists : (b : Bool) (w : ℕ) (lists : List (List Bool)) → AreLong w lists → AreLong (suc w) (map (λ bits. b ∷ bits) lists)
@@ -21,7 +22,8 @@ both_long : (w : ℕ) (front back : List (List Bool)) → AreLong w front → Ar
 both_long w [] back f b = b
 both_long w (l ∷ front) back f b = (f.0, both_long w front back f.1 b)
 
-bit_lists-long : (w : ℕ) → AreLong w (bit_lists w)
+-- so many bits more have so many bits
+pub bit_lists-long : (w : ℕ) → AreLong w (bit_lists w)
 bit_lists-long zero = (refl, tt)
 bit_lists-long (suc w) =
     both_long (suc w) (map (λ bits. false ∷ bits) (bit_lists w)) (map (λ bits. true ∷ bits) (bit_lists w))

@@ -107,7 +107,7 @@ module _ (w : ℕ) (rows : List Row) (wanted : List (List Bool)) (name : List Bo
     child-there = (drop (suc place) (children w name) ++ there.0, at_child there.0 there.1)
 
     pub child-splits : length child % w ≡ 0
-    child-splits = ap (λ n. n % w) (child-at w name place child at).long ∙ one_split_more w (length name) width splits
+    child-splits = ap (λ n. n % w) (child-at w name place child at).long ∙ one_split_more w (length name) splits
 
     pub child-no_longer : AreLeaves leaves → place < 2 ^ w → (d : List Bool) → length child ≤ length (get_or wanted done d)
     child-no_longer are lt d =

@@ -5,6 +5,7 @@ use Rattle.std.specs.List.{AllByRecursion}
 use Rattle.std.specs.Cmp.{first_so, second_so}
 use Rattle.std.proofs.lemmas.Bool.{leb-true, leb-false, eqb-true}
 use Rattle.std.proofs.lemmas.List.{take-append-drop}
+use Rattle.std.proofs.Math.Nat.{add-mod_right}
 use mathlib.Core.Bool.{true≢false}
 use Rattle.zorder.specs.Key.{is_under}
 use Rattle.zorder.specs.Name.{first_key}
@@ -119,15 +120,8 @@ by_a_split w a b (inr e) ha hb lt =
     let eb : b % 2 ≡ 0 = ap (λ v. b % v) (sym e) ∙ hb in
     omega (arith, e, ea, eb, lt)
 
-pub one_split_more : (w a : ℕ) → (w ≡ 1) ⊎ (w ≡ 2) → a % w ≡ 0 → (a + w) % w ≡ 0
-one_split_more w a (inl e) h = (λ i. (a + e i) % e i) ∙ one (a + 1)
-  where
-    one : (n : ℕ) → n % 1 ≡ 0
-    one n = omega arith
-one_split_more w a (inr e) h = (λ i. (a + e i) % e i) ∙ two (ap (λ v. a % v) (sym e) ∙ h)
-  where
-    two : a % 2 ≡ 0 → (a + 2) % 2 ≡ 0
-    two h = omega (arith, h)
+pub one_split_more : (w a : ℕ) → a % w ≡ 0 → (a + w) % w ≡ 0
+one_split_more w a h = add-mod_right a w ∙ h
 
 -- the next wanted name, where it is longer than this one, is longer by a split
 pub next-longer : (w : ℕ) (wanted : List (List Bool)) (done : ℕ) (name there : List Bool) → (w ≡ 1) ⊎ (w ≡ 2) → IsGrown w wanted → length name % w ≡ 0 → (n : IsNext wanted done there)

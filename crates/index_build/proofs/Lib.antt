@@ -2,3 +2,4 @@ pub mod RowsOfWorld
 pub mod ChildNames
 pub mod GrownNames
 pub mod GrowingLeaves
+pub mod GrownStates

@@ -1,0 +1,130 @@
+-- The leaves of a state are grown: at first, after a split, and after each step and each list of steps.
+use Rattle.std.proofs.Common.{◌≡◌, ℕ, ◌+◌, ◌%◌, ◌≤◌, Bool, true, false, cond, not, List, [], ◌∷◌, ◌++◌, length, map, Option, Some, None, refl, sym, ap, subst, ◌∙◌, length-append}
+use Rattle.std.specs.Prelude.{nat_le, ◌==◌, ◌&&◌}
+use Rattle.std.specs.List.{AllByRecursion, filter}
+use Rattle.std.specs.Cmp.{first_so, second_so}
+use Rattle.std.proofs.lemmas.Bool.{leb-true}
+use Rattle.std.proofs.Math.Nat.{add-mod_right, zero-mod}
+use mathlib.Core.Bool.{true≢false}
+use Rattle.zorder.specs.Name.{first_key}
+use Rattle.zorder.specs.SameName.{same_name, same_name-decides}
+use Rattle.zorder.specs.Tile.{tiles_from, next_key, bit_lists, children}
+use Rattle.zorder.proofs.Tiles.{tiles_from-children}
+use Rattle.plain_list.specs.declared.entries.Entry.{Entry}
+use Rattle.plain_list.specs.declared.entries.Entry.TheVariants.{Fail, Call, Begin, Install, Abandon}
+use Rattle.plain_list.specs.State.{OpenSplit, State, empty_state, split_name, without_name, is_leaf, split_leaf, installed, step, state_after, may_split, is_possible, is_free, is_fail, is_empty, is_legal_history, IsLegal}
+use Rattle.index_build.specs.Grown.{IsGrown}
+use Rattle.index_build.proofs.ChildNames.{AreLong, bit_lists-long}
+
+-- the whole space, unsplit
+pub grown-whole : (w : ℕ) → IsGrown w ([] ∷ [])
+unfolding first_key
+grown-whole w = record { tile = refl; splits = (zero-mod w, tt) }
+
+abbrev AreOfSplits : ℕ → List (List Bool) → Type 0
+AreOfSplits w names = AllByRecursion (λ (name : List Bool). length name % w ≡ 0) names
+
+module _ (w : ℕ) (name : List Bool) (room : length name + w ≤ 64) where
+  tile_split : (k : ℕ) (leaves : List (List Bool)) → tiles_from k (split_leaf w name leaves) ≡ tiles_from k leaves
+  tile_split k [] = refl
+  tile_split k (l ∷ leaves) = by_test (same_name l name) refl (tile_split (next_key l) leaves)
+    where
+      by_test : (b : Bool) → same_name l name ≡ b → tiles_from (next_key l) (split_leaf w name leaves) ≡ tiles_from (next_key l) leaves
+          → tiles_from k (cond b (children w name ++ leaves) (l ∷ split_leaf w name leaves)) ≡ tiles_from k (l ∷ leaves)
+      by_test true e rest = tiles_from-children w name k leaves room ∙ ap (λ (n : List Bool). tiles_from k (n ∷ leaves)) (sym ((same_name-decides l name).0 e))
+      by_test false e rest = ap (λ (b : Bool). nat_le (length l) 64 && (first_key l == k) && b) rest
+
+  -- so many bits more is one split more
+  more : (bits : List Bool) → length bits ≡ w → length name % w ≡ 0 → length (name ++ bits) % w ≡ 0
+  more bits long splits = ap (λ (n : ℕ). n % w) (length-append name bits ∙ ap (λ (n : ℕ). length name + n) long) ∙ add-mod_right (length name) w ∙ splits
+
+  children_of : (lists leaves : List (List Bool)) → AreLong w lists → length name % w ≡ 0 → AreOfSplits w leaves → AreOfSplits w (map (λ bits. name ++ bits) lists ++ leaves)
+  children_of [] leaves long splits all = all
+  children_of (bits ∷ lists) leaves long splits all = (more bits long.0 splits, children_of lists leaves long.1 splits all)
+
+  splits_split : (leaves : List (List Bool)) → AreOfSplits w leaves → AreOfSplits w (split_leaf w name leaves)
+  splits_split [] all = tt
+  splits_split (l ∷ leaves) all = by_test (same_name l name) refl (splits_split leaves all.1)
+    where
+      by_test : (b : Bool) → same_name l name ≡ b → AreOfSplits w (split_leaf w name leaves) → AreOfSplits w (cond b (children w name ++ leaves) (l ∷ split_leaf w name leaves))
+      by_test true e rest =
+          let own : length name % w ≡ 0 = ap (λ (n : List Bool). length n % w) (sym ((same_name-decides l name).0 e)) ∙ all.0 in
+          children_of (bit_lists w) leaves (bit_lists-long w) own all.1
+      by_test false e rest = (all.0, rest)
+
+  -- split once more, whether or not a leaf has the name
+  pub grown-split : (leaves : List (List Bool)) → IsGrown w leaves → IsGrown w (split_leaf w name leaves)
+  grown-split leaves g = record { tile = tile_split 0 leaves ∙ g.tile; splits = splits_split leaves g.splits }
+
+-- each open split's leaf has bits left
+abbrev pub HaveRoom : ℕ → List OpenSplit → Type 0
+HaveRoom w splits = AllByRecursion (λ (s : OpenSplit). length s.name + w ≤ 64) splits
+
+-- the leaves of the state are grown, and each open split's has bits left
+pub record IsGrownState (w : ℕ) (s : State) : Type 0 where
+  pub leaves : IsGrown w s.leaves
+  pub room : HaveRoom w s.splits
+
+pub grown-empty : (w : ℕ) → IsGrownState w empty_state
+grown-empty w = record { leaves = grown-whole w; room = tt }
+
+room-filter : (w : ℕ) (p : OpenSplit → Bool) (splits : List OpenSplit) → HaveRoom w splits → HaveRoom w (filter p splits)
+room-filter w p [] all = tt
+room-filter w p (s ∷ splits) all = by_test (p s) (room-filter w p splits all.1)
+  where
+    by_test : (b : Bool) → HaveRoom w (filter p splits) → HaveRoom w (cond b (s ∷ filter p splits) (filter p splits))
+    by_test true rest = (all.0, rest)
+    by_test false rest = rest
+
+room-push : (w : ℕ) (splits : List OpenSplit) (s : OpenSplit) → HaveRoom w splits → length s.name + w ≤ 64 → HaveRoom w (splits ++ s ∷ [])
+room-push w [] s all room = (room, tt)
+room-push w (o ∷ splits) s all room = (all.0, room-push w splits s all.1 room)
+
+room-named : (w : ℕ) (splits : List OpenSplit) (number : ℕ) (name : List Bool) → HaveRoom w splits → split_name splits number ≡ Some name → length name + w ≤ 64
+room-named w [] number name all e = absurd (cc e)
+room-named w (s ∷ splits) number name all e = by_test (s.number == number) e (λ later. room-named w splits number name all.1 later)
+  where
+    some : (a b : List Bool) → Some a ≡ Some b → a ≡ b
+    some a b e = cc e
+
+    by_test : (b : Bool) → cond b (Some s.name) (split_name splits number) ≡ Some name → (split_name splits number ≡ Some name → length name + w ≤ 64) → length name + w ≤ 64
+    by_test true e later = subst (λ (n : List Bool). length n + w ≤ 64) (some s.name name e) all.0
+    by_test false e later = later e
+
+grown-installed : (w : ℕ) (s : State) (number : ℕ) (at : Option (List Bool)) → split_name s.splits number ≡ at → IsGrownState w s → IsGrown w (installed w at s.leaves)
+grown-installed w s number None e g = g.leaves
+grown-installed w s number (Some name) e g = grown-split w name (room-named w s.splits number name g.room e) s.leaves g.leaves
+
+pub grown-step : (w : ℕ) (s : State) (e : Entry) → IsGrownState w s → is_possible w s e ≡ true → IsGrownState w (step w s e)
+grown-step w s (Call session row op) g possible = record { leaves = g.leaves; room = g.room }
+grown-step w s (Begin number name) g possible =
+    let may : may_split w s name ≡ true = second_so (number == s.begun + 1) (may_split w s name) possible in
+    let room : length name + w ≤ 64 = leb-true (length name + w) 64 (second_so (is_leaf s.leaves name) (nat_le (length name + w) 64) may) in
+    record {
+      leaves = g.leaves;
+      room = room-push w (without_name name s.splits) (record { number = number; name = name }) (room-filter w (λ o. not (same_name o.name name)) s.splits g.room) room;
+    }
+grown-step w s (Install number) g possible = record {
+  leaves = grown-installed w s number (split_name s.splits number) refl g;
+  room = room-filter w (λ o. not (o.number == number)) s.splits g.room;
+}
+grown-step w s (Abandon number) g possible = record {
+  leaves = g.leaves;
+  room = room-filter w (λ o. not (o.number == number)) s.splits g.room;
+}
+grown-step w s (Fail cell lost) g possible = record { leaves = g.leaves; room = g.room }
+
+-- after each legal list of steps
+pub grown-after : (w : ℕ) (s : State) (h : List Entry) → IsGrownState w s → IsLegal w s h → IsGrownState w (state_after w s h)
+grown-after w s [] g legal = g
+grown-after w s (e ∷ h) g legal =
+    by_test (is_fail e) h
+    (grown-step w s e g (first_so (is_possible w s e) (is_free s e) (first_so (is_possible w s e && is_free s e) (cond (is_fail e) (is_empty h) (is_legal_history w (step w s e) h)) legal)))
+    (second_so (is_possible w s e && is_free s e) (cond (is_fail e) (is_empty h) (is_legal_history w (step w s e) h)) legal)
+    (λ next later. grown-after w (step w s e) h next later)
+  where
+    by_test : (b : Bool) (rest : List Entry) → IsGrownState w (step w s e) → cond b (is_empty rest) (is_legal_history w (step w s e) rest) ≡ true
+        → (IsGrownState w (step w s e) → is_legal_history w (step w s e) rest ≡ true → IsGrownState w (state_after w (step w s e) rest)) → IsGrownState w (state_after w (step w s e) rest)
+    by_test true [] next none later = next
+    by_test true (f ∷ rest) next none later = absurd (true≢false (sym none))
+    by_test false rest next legal later = later next legal
