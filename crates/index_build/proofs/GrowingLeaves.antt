@@ -1,5 +1,5 @@
 -- The leaves of an index that is being grown.
-use Rattle.std.proofs.Common.{◌≡◌, ◌⊎◌, ℕ, zero, suc, ◌+◌, ◌%◌, ◌^◌, ◌<◌, ◌≤◌, Bool, true, false, List, [], ◌∷◌, ◌++◌, length, map, take, drop, get_or, Some, slice_get, refl, sym, ap, subst, ◌∙◌, arith, add-one, append_assoc}
+use Rattle.std.proofs.Common.{◌≡◌, ◌⊎◌, ℕ, suc, ◌+◌, ◌%◌, ◌^◌, ◌<◌, ◌≤◌, Bool, true, false, List, [], ◌∷◌, ◌++◌, length, map, take, drop, get_or, Some, slice_get, refl, sym, ap, subst, ◌∙◌, arith, add-one, append_assoc}
 use Rattle.std.specs.Prelude.{◌&&◌, nat_le}
 use Rattle.std.specs.List.{AllByRecursion}
 use Rattle.std.proofs.lemmas.List.{map-append}
@@ -38,9 +38,6 @@ module _ (rows : List Row) (wanted : List (List Bool)) where
       ap (tiles_from 0) (sym (names_of-leaves_for rows (take done wanted ++ (here ++ later)))) ∙ ap (λ (ls : List Leaf). tiles_from 0 (names_of ls)) (sym is) ∙ are.tile
 
   module _ (done : ℕ) (name : List Bool) (later : List (List Bool)) (leaves : List Leaf) (is : HasGrownTo rows wanted done (name ∷ []) later leaves) where
-    front : List Leaf
-    front = leaves_for rows (take done wanted)
-
     parts : leaves ≡ leaves_for rows (take done wanted) ++ leaf_for rows name ∷ leaves_for rows later
     parts = is ∙ map-append (leaf_for rows) (take done wanted) (name ∷ later)
 
@@ -73,47 +70,58 @@ pub record IsGrowing (w : ℕ) (rows : List Row) (wanted : List (List Bool)) (na
 abbrev pub StandsThere : List Row → List (List Bool) → ℕ → List Bool → List Leaf → Type 0
 StandsThere rows wanted done name leaves = (later : List (List Bool)) × HasGrownTo rows wanted done (name ∷ []) later leaves
 
-module _ (w : ℕ) (rows : List Row) (wanted : List (List Bool)) (name : List Bool) (first : ℕ) (old : List Leaf) (width : (w ≡ 1) ⊎ (w ≡ 2)) (grown : IsGrown w wanted) (splits : length name % w ≡ 0)
-    (there : StandsThere rows wanted first name old) where
-  pub next_there : AreLeaves old → IsNext wanted first name
-  next_there are = next_of wanted first name there.0 grown.tile (tile_there rows wanted first (name ∷ []) there.0 old there.1 are)
+-- what is asked of a leaf that is to be grown, and what holds of each index
+pub record IsAsked (w : ℕ) (rows : List Row) (wanted : List (List Bool)) (first : ℕ) (name : List Bool) (old : List Leaf) : Type 0 where
+  pub width : (w ≡ 1) ⊎ (w ≡ 2)
+  pub are_leaves : AreLeaves old
+  pub grown : IsGrown w wanted
+  pub splits : length name % w ≡ 0
+  pub no_shorter : (d : List Bool) → length name ≤ length (get_or wanted first d)
+  pub there : StandsThere rows wanted first name old
 
-  module _ (are : AreLeaves old) (no_shorter : (d : List Bool) → length name ≤ length (get_or wanted first d)) (other : (d : List Bool) → same_name (get_or wanted first d) name ≡ false) where
-    next_behind : length name < length (next_there are).next
+module _ {w : ℕ} {rows : List Row} {wanted : List (List Bool)} {first : ℕ} {name : List Bool} {old : List Leaf} (a : IsAsked w rows wanted first name old) where
+  pub next_there : IsNext wanted first name
+  next_there = next_of wanted first name a.there.0 a.grown.tile (tile_there rows wanted first (name ∷ []) a.there.0 old a.there.1 a.are_leaves)
+
+  pub name_there : has_name name old ≡ true
+  name_there = has_name-there rows wanted first name a.there.0 old a.there.1
+
+  module _ (other : (d : List Bool) → same_name (get_or wanted first d) name ≡ false) where
+    next_behind : length name < length next_there.next
     next_behind =
-        let n = next_there are in
-        longer-there name n.next (omega (arith, no_shorter [], ap length (n.at []))) n.short n.first (ap (λ (m : List Bool). same_name m name) (sym (n.at [])) ∙ other [])
+        let n = next_there in
+        longer-there name n.next (omega (arith, a.no_shorter [], ap length (n.at []))) n.short n.first (ap (λ (m : List Bool). same_name m name) (sym (n.at [])) ∙ other [])
 
     -- a leaf that isn't the next wanted one has bits left for a split
     pub room-there : length name + w ≤ 64
-    room-there = let n = next_there are in omega (arith, next-longer w wanted first name name width grown splits n next_behind, n.short)
+    room-there = let n = next_there in omega (arith, next-longer w wanted first name name a.width a.grown a.splits n next_behind, n.short)
 
     -- split, none of its children is past
     pub growing-split : (new : List Leaf) → new ≡ split w name (cut w name rows) old → IsGrowing w rows wanted name first old 0 first new
     growing-split new e =
-        let n = next_there are in
+        let n = next_there in
         let lt : length name < length n.next = next_behind in
         record {
-          reached = λ later is. split-there rows wanted first name later old is w new are e;
+          reached = λ later is. split-there rows wanted first name later old is w new a.are_leaves e;
           longer = λ some d. omega (arith, lt, ap length (n.at d));
         }
 
-  module _ (room : length name + w ≤ 64) (place done : ℕ) (leaves : List Leaf) (g : IsGrowing w rows wanted name first old place done leaves) (child : List Bool) (at : slice_get (children w name) place ≡ Some child) where
+  module _ {place done : ℕ} {leaves : List Leaf} (g : IsGrowing w rows wanted name first old place done leaves) (room : length name + w ≤ 64) (child : List Bool) (at : slice_get (children w name) place ≡ Some child) where
     at_child : (later : List (List Bool)) → HasGrownTo rows wanted first (name ∷ []) later old → HasGrownTo rows wanted done (child ∷ []) (drop (suc place) (children w name) ++ later) leaves
     at_child later is = g.reached later is ∙ ap (λ (l : List (List Bool)). leaves_for rows (take done wanted ++ (l ++ later))) (drop-at (children w name) place child at)
 
     -- what is asked where the child at the place is grown on
     pub child-there : StandsThere rows wanted done child leaves
-    child-there = (drop (suc place) (children w name) ++ there.0, at_child there.0 there.1)
+    child-there = (drop (suc place) (children w name) ++ a.there.0, at_child a.there.0 a.there.1)
 
     pub child-splits : length child % w ≡ 0
-    child-splits = ap (λ n. n % w) (child-at w name place child at).long ∙ one_split_more w (length name) splits
+    child-splits = ap (λ n. n % w) (child-at w name place child at).long ∙ one_split_more w (length name) a.splits
 
     pub child-no_longer : AreLeaves leaves → place < 2 ^ w → (d : List Bool) → length child ≤ length (get_or wanted done d)
     child-no_longer are lt d =
-        let n : IsNext wanted done child = next_of wanted done child child-there.0 grown.tile (tile_there rows wanted done (child ∷ []) child-there.0 leaves child-there.1 are) in
+        let n : IsNext wanted done child = next_of wanted done child child-there.0 a.grown.tile (tile_there rows wanted done (child ∷ []) child-there.0 leaves child-there.1 are) in
         let longer : length name < length n.next = omega (arith, g.longer lt [], ap length (n.at [])) in
-        omega (arith, next-longer w wanted done name child width grown splits n longer, (child-at w name place child at).long, ap length (n.at d))
+        omega (arith, next-longer w wanted done name child a.width a.grown a.splits n longer, (child-at w name place child at).long, ap length (n.at d))
 
     -- and one child more is past
     pub growing-child : (next_done : ℕ) (new : List Leaf) → AreLeaves new
@@ -123,14 +131,14 @@ module _ (w : ℕ) (rows : List Row) (wanted : List (List Bool)) (name : List Bo
       where
         behind_child : (c : List Bool) → slice_get (children w name) (suc place) ≡ Some c → (d : List Bool) → length name < length (get_or wanted next_done d)
         behind_child c is_there d =
-            let later : List (List Bool) = drop (suc (suc place)) (children w name) ++ there.0 in
+            let later : List (List Bool) = drop (suc (suc place)) (children w name) ++ a.there.0 in
             let stands : HasGrownTo rows wanted next_done (c ∷ []) later new =
-            after (drop (suc place) (children w name) ++ there.0) (at_child there.0 there.1)
-            ∙ ap (λ (l : List (List Bool)). leaves_for rows (take next_done wanted ++ (l ++ there.0))) (drop-at (children w name) (suc place) c is_there) in
-            let n : IsNext wanted next_done c = next_of wanted next_done c later grown.tile (tile_there rows wanted next_done (c ∷ []) later new stands are) in
+            after (drop (suc place) (children w name) ++ a.there.0) (at_child a.there.0 a.there.1)
+            ∙ ap (λ (l : List (List Bool)). leaves_for rows (take next_done wanted ++ (l ++ a.there.0))) (drop-at (children w name) (suc place) c is_there) in
+            let n : IsNext wanted next_done c = next_of wanted next_done c later a.grown.tile (tile_there rows wanted next_done (c ∷ []) later new stands are) in
             let is = child-at w name (suc place) c is_there in
             let short : length (name ++ is.bits) ≤ 64 = omega (arith, ap length is.is, is.long, room) in
-            let above : first_key name < first_key (name ++ is.bits) = subst (λ (m : List Bool). first_key name < first_key m) is.is (child-above w name place c width room is_there) in
+            let above : first_key name < first_key (name ++ is.bits) = subst (λ (m : List Bool). first_key name < first_key m) is.is (child-above w name place c a.width room is_there) in
             let lt : length name < length n.next = longer-behind name is.bits n.next short n.short (n.first ∙ ap first_key is.is) above in
             omega (arith, lt, ap length (n.at d))
 
@@ -144,18 +152,6 @@ module _ (w : ℕ) (rows : List Row) (wanted : List (List Bool)) (name : List Bo
           reached = λ later is. after (drop (suc place) (children w name) ++ later) (at_child later is);
           longer = longer;
         }
-
--- where all children are past, only those later are left
-drop-all : {X : Type 0} (xs : List X) (i : ℕ) → length xs ≤ i → drop i xs ≡ []
-drop-all [] zero le = refl
-drop-all [] (suc i) le = refl
-drop-all (x ∷ xs) zero le = absurd (omega (arith, le))
-drop-all (x ∷ xs) (suc i) le = drop-all xs i (omega (arith, le))
-
-pub all_children : (w : ℕ) (rows : List Row) (wanted : List (List Bool)) (name : List Bool) (first : ℕ) (old : List Leaf) (place done : ℕ) (leaves : List Leaf) → IsGrowing w rows wanted name first old place done leaves → 2 ^ w ≤ place
-    → (later : List (List Bool)) → HasGrownTo rows wanted first (name ∷ []) later old → HasGrownTo rows wanted done [] later leaves
-all_children w rows wanted name first old place done leaves g le later is =
-    g.reached later is ∙ ap (λ (l : List (List Bool)). leaves_for rows (take done wanted ++ (l ++ later))) (drop-all (children w name) place (omega (arith, length-children w name, le)))
 
 -- one leaf stands there for the whole space
 pub whole-there : (rows given : List Row) (wanted : List (List Bool)) (name : List Bool) (bucket : Rows) (leaves : List Leaf) → name ≡ [] → given ≡ rows → bucket ≡ cut_out given name → leaves ≡ one_leaf bucket
