@@ -1,4 +1,5 @@
 //! Folds over all rows.
+ghost use Rattle.std.specs.Prelude.{◌≡◌, ◌+◌, length};
 ghost use Rattle.std.specs.List.{FoldsTo};
 ghost use Rattle.index_layer.specs.Leaves.{all_rows};
 ghost use Rattle.table_share.specs.Folds.{FoldsRow};
@@ -9,7 +10,7 @@ use index_layer::Index;
 use std::sync::ledger::Ledger;
 use step_count::Steps;
 
-/// What the function makes of the rows in turn, from the first key to the last. Each bucket that it opens is a step.
+/// What the function makes of the rows in turn, from the first key to the last. Each bucket is opened once, which is a step.
 pub fn for_rows<I: Index, T, F: Fn(T, &Row) -> T, L: Ledger>(
     index: &I,
     start: T,
@@ -17,7 +18,8 @@ pub fn for_rows<I: Index, T, F: Fn(T, &Row) -> T, L: Ledger>(
     steps: &mut Steps<L>,
 ) -> T
     requires { F.IsAlwaysCallable f }
-    ensures { FoldsTo (FoldsRow F.Fn f) start (all_rows (I.leaves index.now)) result }
+    ensures folded { FoldsTo (FoldsRow F.Fn f) start (all_rows (I.leaves index.now)) result }
+    ensures opened { steps.new ≡ steps.old + length (I.leaves index.now) }
 {
     let mut folded = start;
     let mut walk = LeafWalk::over(index);
@@ -34,7 +36,8 @@ fn fold_bucket<T, F: Fn(T, &Row) -> T, L: Ledger>(
     steps: &mut Steps<L>,
 ) -> T
     requires { F.IsAlwaysCallable f.now }
-    ensures { FoldsTo (FoldsRow F.Fn f.now) start bucket.now.rows result }
+    ensures folded { FoldsTo (FoldsRow F.Fn f.now) start bucket.now.rows result }
+    ensures opened { steps.new ≡ steps.old + 1 }
 {
     let mut folded = start;
     for row in bucket.rows(steps) {

@@ -1,5 +1,5 @@
 //! The rows from one key to another.
-ghost use Rattle.std.specs.Prelude.{◌≡◌, ◌≤◌, ◌++◌, OnOk, IfOk};
+ghost use Rattle.std.specs.Prelude.{◌≡◌, ◌≤◌, ◌+◌, ◌++◌, OnOk, IfOk, length};
 ghost use Rattle.bucket_versions.specs.Rows.{rows_between};
 ghost use Rattle.index_layer.specs.Leaves.{all_rows};
 
@@ -20,7 +20,8 @@ pub fn scan<I: Index, L: Ledger>(
     steps: &mut Steps<L>,
 ) -> Result<Vec<Row>, Memory>
     requires { lo ≤ hi }
-    ensures { IfOk result (λ rows. rows.items ≡ rows_between lo hi (all_rows (I.leaves index.now))) }
+    ensures rows { IfOk result (λ rows. rows.items ≡ rows_between lo hi (all_rows (I.leaves index.now))) }
+    ensures opened { steps.new ≤ steps.old + length (I.leaves index.now) }
 {
     let mut found = Vec::new(alloc);
     let mut walk = LeafWalk::over(index);
@@ -37,7 +38,8 @@ fn push_between<L: Ledger>(
     hi: u64,
     steps: &mut Steps<L>,
 ) -> Result<(), Memory>
-    ensures { OnOk result (found.new.items ≡ found.old.items ++ rows_between lo hi bucket.now.rows) }
+    ensures rows { OnOk result (found.new.items ≡ found.old.items ++ rows_between lo hi bucket.now.rows) }
+    ensures opened { steps.new ≡ steps.old + 1 }
 {
     for row in bucket.rows(steps) {
         if lo <= row.key && row.key <= hi {
