@@ -1,5 +1,5 @@
 //! The objects in a box.
-ghost use Rattle.std.specs.Prelude.{◌≡◌, IfOk};
+ghost use Rattle.std.specs.Prelude.{◌≡◌, ◌≤◌, ◌+◌, IfOk, length};
 ghost use Rattle.zorder.specs.Region.{IsBox};
 ghost use Rattle.plain_list.specs.Answer.{members_in};
 ghost use Rattle.table_share.specs.Objects.{objects_of};
@@ -22,7 +22,8 @@ pub fn range<I: Index, L: Ledger>(
     steps: &mut Steps<L>,
 ) -> Result<PlacedList, Memory>
     requires { IsBox region.now }
-    ensures { OfEachWorld (I.leaves index.now) (λ world. IfOk result (λ list. list ≡ members_in region.now world)) }
+    ensures objects { OfEachWorld (I.leaves index.now) (λ world. IfOk result (λ list. list ≡ members_in region.now world)) }
+    ensures opened { steps.new ≤ steps.old + length (I.leaves index.now) }
 {
     let rows = scan(alloc, index, 0, u64::MAX, steps)?;
     let Ok(mut found) = objects_in(alloc, &rows, region) else {

@@ -13,13 +13,13 @@ use Rattle.table_share.proofs.TableRows.{table_of, rows_between-all}
 use Rattle.range_query.proofs.InOrder.{same_as_rising, IsRising-members_in}
 use Rattle.range_query.proofs.ranges.range.Goals as goal
 
-pub returns : goal.returns
-returns g c world names is_world points stands =
+pub returns-clause-objects : goal.returns-clause-objects
+returns-clause-objects g c world names is_world points stands =
     let leaves : List Leaf = g.I.Index.leaves c.args.index.now in
     let region = c.args.region.now in
     let table = table_of leaves world names stands in
     let ys : List Placed = c.sort_unstable_by_key.new.self.items in
-    let rows : c.in_ok-rows.rows.items ≡ all_rows leaves = c.in_ok-rows.ensures ∙ rows_between-all world (all_rows leaves) table in
+    let rows : c.in_ok-rows.rows.items ≡ all_rows leaves = c.in_ok-rows.ensures.rows ∙ rows_between-all world (all_rows leaves) table in
     let found : c.in-Ok.found.items ≡ members_in region (objects_of (all_rows leaves)) =
     c.in-Ok.ensures ∙ ap (λ (rs : List Row). members_in region (objects_of rs)) (c.deref.ensures.value ∙ rows) in
     let perm : IsPermutation (members_in region world) ys =
