@@ -1,5 +1,5 @@
 //! Objects in the order of their distance to a point.
-ghost use Rattle.std.specs.Prelude.{◌≡◌, ◌≤◌, take, IfOk};
+ghost use Rattle.std.specs.Prelude.{◌≡◌, ◌≤◌, ◌+◌, take, IfOk, length};
 ghost use Rattle.std.specs.List.Sorted.{IsPermutation, IsSortedBy};
 ghost use Rattle.plain_list.specs.Answer.{ranked, is_before};
 ghost use Rattle.table_share.specs.Objects.{objects_of};
@@ -25,7 +25,8 @@ pub fn nearest<I: Index, L: Ledger>(
 ) -> Result<PlacedList, Memory>
     requires least { 1 ≤ k }
     requires most { k ≤ 2048 }
-    ensures { OfEachWorld (I.leaves index.now) (λ world. IfOk result (λ list. list ≡ take k (ranked from world))) }
+    ensures objects { OfEachWorld (I.leaves index.now) (λ world. IfOk result (λ list. list ≡ take k (ranked from world))) }
+    ensures opened { steps.new ≤ steps.old + length (I.leaves index.now) }
 {
     let rows = scan(alloc, index, 0, u64::MAX, steps)?;
     let Ok(mut list) = rank(alloc, from, &rows) else {

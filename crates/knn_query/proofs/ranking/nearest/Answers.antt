@@ -12,12 +12,12 @@ use Rattle.table_share.proofs.TableRows.{table_of, rows_between-all}
 use Rattle.knn_query.proofs.Unfiltered.{filter-all}
 use Rattle.knn_query.proofs.ranking.nearest.Goals as goal
 
-pub returns : goal.returns
-returns g c world names is_world points stands =
+pub returns-clause-objects : goal.returns-clause-objects
+returns-clause-objects g c world names is_world points stands =
     let leaves : List Leaf = g.I.Index.leaves c.args.index.now in
     let table = table_of leaves world names stands in
     let ys : List Placed = c.in-Ok.list.items in
-    let rows : c.deref.result.now ≡ all_rows leaves = c.deref.ensures.value ∙ c.in_ok-rows.ensures ∙ rows_between-all world (all_rows leaves) table in
+    let rows : c.deref.result.now ≡ all_rows leaves = c.deref.ensures.value ∙ c.in_ok-rows.ensures.rows ∙ rows_between-all world (all_rows leaves) table in
     let passed = objects-permutation (λ (m : Placed). true) world (all_rows leaves) is_world.rising points table.ordered table.has in
     let objects : IsPermutation world (objects_of (all_rows leaves)) =
     subst (λ (l : List Placed). IsPermutation l (objects_of (all_rows leaves))) (filter-all world)

@@ -1,9 +1,8 @@
 use Rattle.std.proofs.Common.{◌+◌, ◌∙◌, sym, subst, List, get_or, rules}
-use Rattle.std.specs.List.Sorted.{IsPermutation, IsSortedBy}
+use Rattle.std.specs.List.Sorted.{IsPermutation}
 use Rattle.std.proofs.lemmas.Fn.{always_returns_same}
 use Rattle.zorder.specs.declared.points.Placed.{Placed}
 use Rattle.zorder.specs.Distance.{distance}
-use Rattle.plain_list.specs.Answer.{is_before}
 use Rattle.plain_list.proofs.Ranking.{is_before-cmp}
 use Rattle.knn_query.proofs.ranking.rank.Goals as goal
 
