@@ -5,9 +5,10 @@ use Rattle.std.proofs.lemmas.List.{append-nil, take-append-drop}
 use Rattle.causes.specs.Causes.{Counts}
 use Rattle.io_edge.specs.Puts.{Puts}
 use Rattle.plain_list.specs.declared.ops.Op.{Op}
+use Rattle.plain_list.specs.declared.ops.Answer.{Answer}
 use Rattle.plain_list.specs.declared.entries.Entry.{Entry}
 use Rattle.plain_list.specs.declared.entries.Entry.TheVariants.{Call}
-use Rattle.plain_list.specs.State.{State, empty_state, step, is_legal_history}
+use Rattle.plain_list.specs.State.{IsLegal, empty_state}
 use Rattle.plain_list.specs.Played.{calls_of, IsPlayed, IsPlayedWhole}
 use Rattle.plain_list.specs.History.{replies}
 use Rattle.csv_rows.specs.declared.rows.InRow.{InRow}
@@ -16,9 +17,10 @@ use Rattle.csv_rows.specs.declared.rows.Refusal.TheVariants as refusal
 use Rattle.csv_rows.specs.Lines.{title_line}
 use Rattle.location_run.specs.Lines.{lines_of, lines_from, entries_from, session_rows, session_rows_from}
 use Rattle.location_run.specs.Status.{status_of, WritesLines}
-use Rattle.location_run.specs.Plays.{IsPlay}
+use Rattle.location_run.specs.Tidy.{calls_alone}
+use Rattle.location_run.specs.Plays.{HasCalled}
 use Rattle.location_run.specs.Run.{AnswersAsOneList, TakesLine}
-use Rattle.location_run.specs.declared.play.Play.{Play}
+use Rattle.location_run.proofs.Calls.{calls_of-calls, replies-calls, lines_of-calls}
 use Rattle.location_run.proofs.Writing.{lines_of-entries, replies-entries}
 
 pub takes-from_puts : {T E : Type 0} (before after : Option (List ℕ)) (text : List ℕ) (old_faults faults : ℕ) (result : Result T E) → Puts before after text result → Counts old_faults faults result
@@ -26,12 +28,7 @@ pub takes-from_puts : {T E : Type 0} (before after : Option (List ℕ)) (text : 
 takes-from_puts before after text old_faults faults (Ok x) bytes cause = inl bytes
 takes-from_puts before after text old_faults faults (Err e) bytes cause = inr (cause.failed, (bytes.0, bytes.2))
 
--- calls of rows alone are legal
-legal-entries : (s : State) (n : ℕ) (rows : List InRow) → is_legal_history 1 s (entries_from n rows) ≡ true
-legal-entries s n [] = refl
-legal-entries s n (r ∷ rows) = legal-entries (step 1 s (Call r.session n r.op)) (n + 1) rows
-
--- their calls are the rows of each session
+-- the calls of rows are the rows of each session
 calls-entries : (s n : ℕ) (rows : List InRow) → calls_of s (entries_from n rows) ≡ session_rows_from n s rows
 calls-entries s n [] = refl
 calls-entries s n (r ∷ rows) = ap (λ (l : List (ℕ × Op)). cond (r.session == s) ((n, r.op) ∷ l) l) (calls-entries s (n + 1) rows)
@@ -47,44 +44,48 @@ session_rows-append s n (x ∷ xs) ys =
     by_test true rest e = ap (λ (l : List (ℕ × Op)). (n, x.op) ∷ l) e
     by_test false rest e = e
 
-played-some : (rows : List InRow) (k : ℕ) → IsPlayed (session_rows rows) (entries_from 1 (take k rows))
-played-some rows k s =
-    let more = session_rows-append s 1 (take k rows) (drop k rows) in
-    (more.0, ap (λ l. l ++ more.0) (calls-entries s 1 (take k rows)) ∙ sym more.1 ∙ ap (session_rows_from 1 s) (take-append-drop k rows))
+calls-rows : (rows : List InRow) (h : List Entry) (s : ℕ) → calls_alone h ≡ entries_from 1 rows → calls_of s h ≡ session_rows rows s
+calls-rows rows h s calls = calls_of-calls s h ∙ ap (calls_of s) calls ∙ calls-entries s 1 rows
 
-played-all : (rows : List InRow) → IsPlayedWhole (session_rows rows) (entries_from 1 rows)
-played-all rows s = calls-entries s 1 rows
+played-some : (rows : List InRow) (h : List Entry) → HasCalled rows h → IsPlayed (session_rows rows) h
+played-some rows h some s =
+    let more = session_rows-append s 1 (take some.0 rows) (drop some.0 rows) in
+    (more.0, ap (λ l. l ++ more.0) (calls-rows (take some.0 rows) h s some.1) ∙ sym more.1 ∙ ap (session_rows_from 1 s) (take-append-drop some.0 rows))
+
+played-all : (rows : List InRow) (h : List Entry) → calls_alone h ≡ entries_from 1 rows → IsPlayedWhole (session_rows rows) h
+played-all rows h calls s = calls-rows rows h s calls
+
+replies-all : (rows : List InRow) (h : List Entry) → calls_alone h ≡ entries_from 1 rows → replies [] h ≡ replies [] (entries_from 1 rows)
+replies-all rows h calls = replies-calls [] h ∙ ap (replies []) calls
 
 -- all rows were answered, and their lines are written, or a front of them
-pub answers-all : (rows : List InRow) (play : Play) (status : ℕ) (before after : Option (List ℕ)) → IsPlay rows play
-    → (status ≡ 0 → Appends before after (title_line ++ lines_from 1 play.replies.items)) → (status ≡ 6 → (n : ℕ) × Appends before after (take n (title_line ++ lines_from 1 play.replies.items)))
-    → AnswersAsOneList rows play.events status before after
-answers-all rows play status before after all whole front =
-    subst (λ h. AnswersAsOneList rows h status before after) (sym all.events) (record {
-      legal = legal-entries empty_state 1 rows;
-      played = λ s. ([], append-nil (calls_of s (entries_from 1 rows)) ∙ played-all rows s);
-      whole = λ writes. played-all rows;
-      lines = λ e. subst (Appends before after) text (whole e);
-      part = λ e. let taken = front e in (taken.0, subst (λ l. Appends before after (take taken.0 l)) text taken.1);
-    })
+pub answers-all : (rows : List InRow) (h : List Entry) (answers : List Answer) (status : ℕ) (before after : Option (List ℕ)) → IsLegal 1 empty_state h → calls_alone h ≡ entries_from 1 rows → answers ≡ replies [] h
+    → (status ≡ 0 → Appends before after (title_line ++ lines_from 1 answers)) → (status ≡ 6 → (n : ℕ) × Appends before after (take n (title_line ++ lines_from 1 answers)))
+    → AnswersAsOneList rows h status before after
+answers-all rows h answers status before after legal calls all whole front = record {
+  legal = legal;
+  played = λ s. ([], append-nil (calls_of s h) ∙ played-all rows h calls s);
+  whole = λ writes. played-all rows h calls;
+  lines = λ e. subst (Appends before after) text (whole e);
+  part = λ e. let taken = front e in (taken.0, subst (λ l. Appends before after (take taken.0 l)) text taken.1);
+}
   where
-    text : title_line ++ lines_from 1 play.replies.items ≡ lines_of [] (length rows) (entries_from 1 rows)
-    text = ap (λ l. title_line ++ lines_from 1 l) (all.answers ∙ ap (replies []) all.events) ∙ sym (lines_of-entries rows)
+    text : title_line ++ lines_from 1 answers ≡ lines_of [] (length rows) h
+    text = ap (λ l. title_line ++ lines_from 1 l) (all ∙ replies-all rows h calls) ∙ sym (lines_of-entries rows) ∙ ap (lines_of [] (length rows)) (sym calls) ∙ sym (lines_of-calls (length rows) h)
 
 -- there are as many replies as rows
-pub replies-count : (rows : List InRow) (play : Play) → IsPlay rows play → length play.replies.items ≡ length rows
-replies-count rows play all = ap length (all.answers ∙ ap (replies []) all.events) ∙ replies-entries [] 1 rows
+pub replies-count : (rows : List InRow) (h : List Entry) (answers : List Answer) → calls_alone h ≡ entries_from 1 rows → answers ≡ replies [] h → length answers ≡ length rows
+replies-count rows h answers calls all = ap length (all ∙ replies-all rows h calls) ∙ replies-entries [] 1 rows
 
 -- no lines are written
-pub answers-some : (rows : List InRow) (k : ℕ) (h : List Entry) (status : ℕ) (before after : Option (List ℕ)) → h ≡ entries_from 1 (take k rows) → (WritesLines status → ⊥) → AnswersAsOneList rows h status before after
-answers-some rows k h status before after some none =
-    subst (λ g. AnswersAsOneList rows g status before after) (sym some) (record {
-      legal = legal-entries empty_state 1 (take k rows);
-      played = played-some rows k;
-      whole = λ writes. absurd (none writes);
-      lines = λ e. absurd (none (inl e));
-      part = λ e. absurd (none (inr e));
-    })
+pub answers-some : (rows : List InRow) (h : List Entry) (status : ℕ) (before after : Option (List ℕ)) → IsLegal 1 empty_state h → HasCalled rows h → (WritesLines status → ⊥) → AnswersAsOneList rows h status before after
+answers-some rows h status before after legal some none = record {
+  legal = legal;
+  played = played-some rows h some;
+  whole = λ writes. absurd (none writes);
+  lines = λ e. absurd (none (inl e));
+  part = λ e. absurd (none (inr e));
+}
 
 -- a refusal's status is none of a run that writes lines
 pub no-lines : (why : Refusal) (status : ℕ) → status ≡ status_of why → WritesLines status → ⊥

@@ -2,6 +2,10 @@ pub mod Words
 pub mod Judged
 pub mod Status
 pub mod Lines
+pub mod Splits
+pub mod Tidy
+pub mod Room
 pub mod Plays
 pub mod Run
+pub mod Examples
 pub use Rattle.causes.specs.Causes

@@ -8,11 +8,15 @@
 //! Not here: what a row is and how a line reads (`csv_rows`), the answers (`plain_list`), `main` (`mdloc`).
 #![tactic(auto)]
 
+mod faults;
 mod input;
 mod outcome;
 mod output;
 mod play;
+mod queries;
 mod refusals;
+mod replies;
+mod splits;
 mod top;
 mod words;
 

@@ -83,15 +83,67 @@ fn failing_ends_have_their_statuses(rt: HostRuntime) -> Result<(), Fail> {
     Ok(())
 }
 
+// What these words make of an input: the status, how many events there are, and what the sink took.
+fn ask(alloc: Global, all: &[&str], input: &str) -> Result<(u8, usize, Vec<u8>), Fail> {
+    let words = words(alloc, all)?;
+    let mut source = MemSource::new(input.as_bytes().to_vec(alloc)?, Vec::new(alloc));
+    let mut sink = MemSink::new(alloc, 1 << 16, Vec::new(alloc))?;
+    let Outcome { status, events } = run(alloc, words.as_slice(), &mut source, &mut sink);
+    Ok((status, events.as_slice().len(), sink.bytes().to_vec(alloc)?))
+}
+
 #[test]
 fn other_words_are_usage(rt: HostRuntime) -> Result<(), Fail> {
     let alloc = rt.alloc();
-    let words = words(alloc, &["play"])?;
-    let mut source = MemSource::new(Vec::new(alloc), Vec::new(alloc));
-    let mut sink = MemSink::new(alloc, 64, Vec::new(alloc))?;
-    let outcome = run(alloc, words.as_slice(), &mut source, &mut sink);
-    assert_eq!(rt; outcome.status, 2);
-    assert_eq!(rt; sink.bytes(), b"refused usage\n".as_slice());
+    let none: &[&str] = &["play"];
+    let small: &[&str] = &["play", "-", "--bucket", "3"];
+    let large: &[&str] = &["play", "-", "--bucket", "4097"];
+    let before: &[&str] = &["play", "--bucket", "4", "-"];
+    for words in [none, small, large, before] {
+        let (status, events, taken) = ask(alloc, words, HEADER)?;
+        assert_eq!(rt; status, 2);
+        assert_eq!(rt; events, 0);
+        assert_eq!(rt; taken.as_slice(), b"refused usage\n".as_slice());
+    }
+    let (status, _, _) = ask(alloc, &["play", "-", "--bucket", "4096"], HEADER)?;
+    assert_eq!(rt; status, 0);
+    Ok(())
+}
+
+#[test]
+fn five_ids_on_one_point_are_split_64_times(rt: HostRuntime) -> Result<(), Fail> {
+    let alloc = rt.alloc();
+    let rows = text(
+        alloc,
+        "1,put,1,3,5,,\n1,put,2,3,5,,\n1,put,3,3,5,,\n1,put,4,3,5,,\n1,put,5,3,5,,\n",
+    )?;
+    let (status, events, taken) = ask(alloc, &["play", "-", "--bucket", "4"], &rows)?;
+    assert_eq!(rt; status, 0);
+    assert_eq!(rt; events, 133);
+    assert_eq!(rt;
+        taken.as_slice(),
+        b"row,place,answer,detail\n1,1,done,\n2,2,done,\n3,3,done,\n4,4,done,\n5,5,done,\n".as_slice()
+    );
+    let (status, events, _) = ask(alloc, &["play", "-"], &rows)?;
+    assert_eq!(rt; status, 0);
+    assert_eq!(rt; events, 5);
+    Ok(())
+}
+
+#[test]
+fn queries_see_the_points_of_split_leaves(rt: HostRuntime) -> Result<(), Fail> {
+    let alloc = rt.alloc();
+    let corners =
+        "1,put,1,0,0,,\n1,put,2,2147483648,0,,\n1,put,3,0,2147483648,,\n1,put,4,2147483648,2147483648,,\n1,put,5,1,1,,\n";
+    let queries = "1,near,,0,0,2,\n1,box,,0,0,1,1\n";
+    let rows = format!(in alloc; "{HEADER}{corners}{queries}")?;
+    let (status, _, taken) = ask(alloc, &["play", "-", "--bucket", "4"], &rows)?;
+    assert_eq!(rt; status, 0);
+    assert!(rt;
+        taken
+            .as_slice()
+            .ends_with(b"6,6,found,1:0:0;5:1:1\n7,7,found,1:0:0;5:1:1\n")
+    );
     Ok(())
 }
 

@@ -1,0 +1,59 @@
+-- Books whose splits are those of full leaves, each installed.
+use Rattle.std.specs.Prelude.{◌≡◌, ◌⊎◌, ℕ, ◌+◌, ◌<◌, ◌≤◌, Bool, true, false, ◌&&◌, List, [], ◌∷◌, length, Option, Some, None, ⊤}
+use Rattle.std.specs.List.{filter}
+use Rattle.plain_list.specs.declared.entries.Entry.{Entry}
+use Rattle.plain_list.specs.declared.entries.Entry.TheVariants.{Fail, Call, Begin, Install, Abandon}
+use Rattle.plain_list.specs.History.{world_after}
+use Rattle.plain_list.specs.State.{State, empty_state, state_after, step}
+use Rattle.plain_list.specs.Size.{IsSized, full_leaf}
+use Rattle.commit_book.specs.BookView.{BookView}
+use Rattle.location_run.specs.Splits.{is_full_leaf}
+
+abbrev pub is_call : Entry → Bool
+is_call (Call session row op) = true
+is_call (Begin number name) = false
+is_call (Install number) = false
+is_call (Abandon number) = false
+is_call (Fail cell lost) = false
+
+-- a history without the steps of splits
+abbrev pub calls_alone : List Entry → List Entry
+calls_alone h = filter is_call h
+
+-- whether an entry is a call, the begin of a split of the first leaf that is over the size, or the install of one
+abbrev pub is_tidy : ℕ → ℕ → State → Entry → Bool
+is_tidy w size s (Begin number name) = is_full_leaf w size s name
+is_tidy w size s (Call session row op) = true
+is_tidy w size s (Install number) = true
+is_tidy w size s (Abandon number) = false
+is_tidy w size s (Fail cell lost) = false
+
+abbrev pub are_tidy : ℕ → ℕ → State → List Entry → Bool
+are_tidy w size s [] = true
+are_tidy w size s (e ∷ h) = is_tidy w size s e && are_tidy w size (step w s e) h
+
+-- each split that was begun was of the first leaf over the size, and none is open
+pub record IsTidy {I : Type 0} (w : ℕ) (book : BookView I) : Type 0 where
+  pub tidy : are_tidy w book.bucket empty_state book.entries ≡ true
+  pub ended : (state_after w empty_state book.entries).splits ≡ []
+
+-- a leaf that is told is the first one over the size
+abbrev pub MayBeFull : {I : Type 0} → ℕ → BookView I → Option (List Bool) → Type 0
+MayBeFull w book None = ⊤
+MayBeFull w book (Some name) = full_leaf w book.bucket (state_after w empty_state book.entries) ≡ Some name
+
+-- only splits were made; none began past 4,000,000 entries
+pub record Tidies {I : Type 0} (w : ℕ) (old new : BookView I) : Type 0 where
+  pub calls : calls_alone new.entries ≡ calls_alone old.entries
+  pub bucket : new.bucket ≡ old.bucket
+  pub tidy : IsTidy w new
+  pub few : (most : ℕ) → 4000002 ≤ most → length old.entries ≤ most → length new.entries ≤ most
+
+-- there was room and a leaf was split, or there are too many entries
+abbrev pub SplitsLeaf : {I : Type 0} → ℕ → BookView I → BookView I → Bool → Type 0
+SplitsLeaf w old new true = Tidies w old new × (length old.entries ≤ 4000000) × (length new.entries ≡ length old.entries + 2)
+SplitsLeaf w old new false = (new ≡ old) × (4000000 < length old.entries)
+
+-- no leaf can be split for its size, or there are too many entries
+abbrev pub IsSizedOrFull : {I : Type 0} → ℕ → BookView I → Type 0
+IsSizedOrFull w book = IsSized w book.bucket (world_after [] book.entries) (state_after w empty_state book.entries).leaves ⊎ (4000000 < length book.entries)
