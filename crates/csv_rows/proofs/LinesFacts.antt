@@ -1,6 +1,7 @@
 -- Lines that were pushed piece by piece.
 use Rattle.std.proofs.Common.{◌≡◌, ◌∙◌, ℕ, List, [], ◌∷◌, ◌++◌, refl, sym, ap, append_assoc}
 use Rattle.std.specs.Prelude.{codes}
+use Rattle.std.specs.Fmt.{decimal}
 use Rattle.std.specs.List.{flat_map}
 use Rattle.csv_rows.specs.RowLines.{fields_line}
 
@@ -15,6 +16,9 @@ tails-flat_map (field ∷ fields) = ap (λ l. codes "," ++ l) (append_assoc fiel
 
 fields_line-tails : (field : List ℕ) (fields : List (List ℕ)) → fields_line (field ∷ fields) ≡ field ++ tails fields
 fields_line-tails field fields = append_assoc field (flat_map (λ (f : List ℕ). codes "," ++ f) fields) (codes "\n") ∙ ap (λ l. field ++ l) (tails-flat_map fields)
+
+pushed-five : (a b c d e : List ℕ) → a ++ b ++ c ++ d ++ e ≡ a ++ (b ++ c ++ d ++ e)
+pushed-five a b c d e = simp append_assoc
 
 pushed-nine : (a b c d e f g h i : List ℕ) → a ++ b ++ c ++ d ++ e ++ f ++ g ++ h ++ i ≡ a ++ (b ++ (c ++ (d ++ (e ++ (f ++ (g ++ (h ++ i)))))))
 pushed-nine a b c d e f g h i = simp append_assoc
@@ -47,3 +51,10 @@ pub line-front : (p0 p1 p2 p3 p4 p5 p6 row place word : List ℕ) → p0 ≡ [] 
     → p6 ≡ row ++ codes "," ++ place ++ codes "," ++ word ++ codes ","
 line-front p0 p1 p2 p3 p4 p5 p6 row place word e0 e1 e2 e3 e4 e5 e6 =
     e6 ∙ ap (λ l. l ++ codes ",") (e5 ∙ ap (λ l. l ++ word) (e4 ∙ ap (λ l. l ++ codes ",") (e3 ∙ ap (λ l. l ++ place) (e2 ∙ ap (λ l. l ++ codes ",") (e1 ∙ ap (λ l. l ++ row) e0)))))
+
+-- two words behind a text, each with a number
+pub two_counted : {middle after : List ℕ} {m n k l : ℕ} (before first second : List ℕ) → m ≡ k → n ≡ l → middle ≡ before ++ first ++ decimal m → after ≡ middle ++ second ++ decimal n
+    → after ≡ before ++ (first ++ decimal k ++ second ++ decimal l)
+two_counted {m = m} {n = n} {k = k} {l = l} before first second m_is n_is middle_is after_is =
+    after_is ∙ ap (λ t. t ++ second ++ decimal n) (middle_is ∙ ap (λ i. before ++ first ++ decimal i) m_is) ∙ ap (λ i. before ++ first ++ decimal k ++ second ++ decimal i) n_is
+    ∙ pushed-five before first (decimal k) second (decimal l)

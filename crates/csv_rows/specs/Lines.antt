@@ -1,11 +1,13 @@
 -- The texts of output.
-use Rattle.std.specs.Prelude.{ℕ, List, [], ◌++◌, codes}
+use Rattle.std.specs.Prelude.{ℕ, List, [], ◌++◌, Some, None, codes}
 use Rattle.std.specs.List.{join_by}
 use Rattle.std.specs.Fmt.{decimal}
 use Rattle.zorder.specs.declared.points.Point.{Point}
 use Rattle.zorder.specs.declared.points.Placed.{Placed}
 use Rattle.plain_list.specs.declared.ops.Answer.{Answer}
 use Rattle.plain_list.specs.declared.ops.Answer.TheVariants as ans
+use Rattle.cell_format.specs.declared.cell.Cause.{Cause}
+use Rattle.cell_format.specs.declared.cell.Cause.TheVariants as cause
 use Rattle.csv_rows.specs.declared.rows.Refusal.{Refusal}
 use Rattle.csv_rows.specs.declared.rows.Refusal.TheVariants as refusal
 
@@ -49,16 +51,31 @@ line_text row place answer = decimal row ++ codes "," ++ decimal place ++ codes 
 abbrev pub title_line : List ℕ
 title_line = codes "row,place,answer,detail\n"
 
+-- the word of a cause of damage
+abbrev pub cause_text : Cause → List ℕ
+cause_text cause.ShortCell = codes "short"
+cause_text cause.Kind = codes "kind"
+cause_text cause.Reserved = codes "reserved"
+cause_text cause.BadName = codes "name"
+cause_text cause.Impossible = codes "impossible"
+
 -- why there are no answers
 abbrev pub reason_text : Refusal → List ℕ
 reason_text refusal.Usage = codes "usage"
 reason_text refusal.Header = codes "header"
 reason_text (refusal.Csv row) = codes "row " ++ decimal row ++ codes " length"
 reason_text (refusal.Field row column) = codes "row " ++ decimal row ++ codes " column " ++ decimal column
+reason_text refusal.NotLog = codes "not a log"
+reason_text (refusal.OldLog version width) = codes "log version " ++ decimal version ++ codes " width " ++ decimal width
+reason_text (refusal.Damaged cell cause) = codes "cell " ++ decimal cell ++ codes " " ++ cause_text cause
 reason_text refusal.Source = codes "source"
+reason_text (refusal.Disk (Some cell)) = codes "disk cell " ++ decimal cell
+reason_text (refusal.Disk None) = codes "disk"
 reason_text refusal.LongInput = codes "limit bytes"
 reason_text refusal.ManyRows = codes "limit rows"
+reason_text refusal.LongLog = codes "limit cells"
 reason_text refusal.Memory = codes "memory"
+reason_text (refusal.InUse len) = codes "in use " ++ decimal len
 
 -- the line of a refusal
 unfoldable pub refusal_text : Refusal → List ℕ

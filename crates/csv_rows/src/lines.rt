@@ -1,14 +1,16 @@
 //! The lines of output: answers, and refusals.
 ghost use Rattle.std.specs.Prelude.{◌≡◌, ◌≤◌, ◌+◌, ◌++◌, codes, length, OnOk};
+ghost use Rattle.std.specs.Fmt.{decimal};
 ghost use Rattle.std.specs.List.{join_by};
 ghost use Rattle.arrayvec.specs.ArrayString.{array_string_len};
 ghost use Rattle.causes.specs.Causes.{Counts};
 ghost use Rattle.io_edge.specs.Puts.{Puts};
-ghost use Rattle.csv_rows.specs.Lines.{placed_text, word_text, detail_text, line_text, title_line, reason_text, refusal_text};
+ghost use Rattle.csv_rows.specs.Lines.{placed_text, word_text, detail_text, line_text, title_line, cause_text, reason_text, refusal_text};
 ghost use Rattle.csv_rows.specs.Pieces.{HoldsBack};
 
 use crate::pieces::{Piece, add_number, add_point, make_room};
 use crate::rows::Refusal;
+use cell_format::Cause;
 use io_edge::{Sink, SinkFault};
 use plain_list::Answer;
 use zorder::Placed;
@@ -129,19 +131,54 @@ fn add_reason(piece: &mut Piece, refusal: &Refusal)
         Refusal::Usage => piece.push_str("usage"),
         Refusal::Header => piece.push_str("header"),
         Refusal::Csv { row } => {
-            piece.push_str("row ");
-            add_number(piece, u64::from(*row));
+            add_counted(piece, "row ", u64::from(*row));
             piece.push_str(" length");
         }
         Refusal::Field { row, column } => {
-            piece.push_str("row ");
-            add_number(piece, u64::from(*row));
-            piece.push_str(" column ");
-            add_number(piece, u64::from(*column));
+            add_counted(piece, "row ", u64::from(*row));
+            add_counted(piece, " column ", u64::from(*column));
+        }
+        Refusal::NotLog => piece.push_str("not a log"),
+        Refusal::OldLog { version, width } => {
+            add_counted(piece, "log version ", u64::from(*version));
+            add_counted(piece, " width ", u64::from(*width));
+        }
+        Refusal::Damaged { cell, cause } => {
+            add_counted(piece, "cell ", *cell);
+            piece.push_str(" ");
+            piece.push_str(word_of_cause(*cause));
         }
         Refusal::Source => piece.push_str("source"),
+        Refusal::Disk { cell: Some(cell) } => add_counted(piece, "disk cell ", *cell),
+        Refusal::Disk { cell: None } => piece.push_str("disk"),
         Refusal::LongInput => piece.push_str("limit bytes"),
         Refusal::ManyRows => piece.push_str("limit rows"),
+        Refusal::LongLog => piece.push_str("limit cells"),
         Refusal::Memory => piece.push_str("memory"),
+        Refusal::InUse { len } => add_counted(piece, "in use ", *len),
+    }
+}
+
+/// Adds a word and a number.
+fn add_counted(piece: &mut Piece, word: &str, number: u64)
+    requires room { array_string_len piece.old ≤ 1024 }
+    requires word { length word.now ≤ 16 }
+    ensures bytes { piece.new.bytes ≡ piece.old.bytes ++ word.now ++ decimal number }
+    ensures len { array_string_len piece.new ≤ array_string_len piece.old + 36 }
+{
+    piece.push_str(word);
+    add_number(piece, number);
+}
+
+fn word_of_cause(cause: Cause) -> &'static str
+    ensures word { result.now ≡ cause_text cause }
+    ensures short { length result.now ≤ 10 }
+{
+    match cause {
+        Cause::ShortCell => "short",
+        Cause::Kind => "kind",
+        Cause::Reserved => "reserved",
+        Cause::BadName => "name",
+        Cause::Impossible => "impossible",
     }
 }

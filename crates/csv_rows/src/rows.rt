@@ -1,6 +1,7 @@
 //! What is read, and what is refused.
 ghost use Rattle.std.specs.Prelude.{◌≡◌};
 
+use cell_format::Cause;
 use plain_list::Op;
 use std::marker::Model;
 use thiserror::Error;
@@ -74,10 +75,17 @@ pub enum Refusal {
     Header,
     Csv { row: u32 },
     Field { row: u32, column: u8 },
+    NotLog,
+    OldLog { version: u8, width: u8 },
+    Damaged { cell: u64, cause: Cause },
     Source,
+    /// With the cell whose append failed; without one where no append did.
+    Disk { cell: Option<u64> },
     LongInput,
     ManyRows,
+    LongLog,
     Memory,
+    InUse { len: u64 },
 }
 
 /// What is wrong with a record: it hasn't seven fields, or a column breaks its rule.

@@ -4,6 +4,7 @@ use crate::{
     InRow, Refusal, Rows, RowsFault, number_in, read_rows, refusal_line, write_line, write_rows,
     write_title,
 };
+use cell_format::Cause;
 use io_edge::{Sink, SinkFault};
 use plain_list::{Answer, Op, PlacedList};
 use std::alloc::Global;
@@ -306,9 +307,13 @@ fn a_list_of_2048_points_goes_in_pieces(rt: HostRuntime) -> Result<(), Fail> {
     Ok(())
 }
 
+fn damaged(cause: Cause) -> Refusal {
+    Refusal::Damaged { cell: 0, cause }
+}
+
 #[test]
 fn refusals_and_the_title_are_written_as_lines(rt: HostRuntime) {
-    let table: [(Refusal, &[u8]); 8] = [
+    let table: [(Refusal, &[u8]); 19] = [
         (Refusal::Usage, b"refused usage\n"),
         (Refusal::Header, b"refused header\n"),
         (Refusal::Csv { row: 1 }, b"refused row 1 length\n"),
@@ -316,10 +321,27 @@ fn refusals_and_the_title_are_written_as_lines(rt: HostRuntime) {
             Refusal::Field { row: 3, column: 6 },
             b"refused row 3 column 6\n",
         ),
+        (Refusal::NotLog, b"refused not a log\n"),
+        (
+            Refusal::OldLog {
+                version: 3,
+                width: 1,
+            },
+            b"refused log version 3 width 1\n",
+        ),
+        (damaged(Cause::ShortCell), b"refused cell 0 short\n"),
+        (damaged(Cause::Kind), b"refused cell 0 kind\n"),
+        (damaged(Cause::Reserved), b"refused cell 0 reserved\n"),
+        (damaged(Cause::BadName), b"refused cell 0 name\n"),
+        (damaged(Cause::Impossible), b"refused cell 0 impossible\n"),
         (Refusal::Source, b"refused source\n"),
+        (Refusal::Disk { cell: Some(2) }, b"refused disk cell 2\n"),
+        (Refusal::Disk { cell: None }, b"refused disk\n"),
         (Refusal::LongInput, b"refused limit bytes\n"),
         (Refusal::ManyRows, b"refused limit rows\n"),
+        (Refusal::LongLog, b"refused limit cells\n"),
         (Refusal::Memory, b"refused memory\n"),
+        (Refusal::InUse { len: 49 }, b"refused in use 49\n"),
     ];
     for (refusal, text) in table {
         let mut sink = Kept::new(rt.alloc(), 1);
