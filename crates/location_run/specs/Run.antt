@@ -42,6 +42,13 @@ IsCause Accepted left rose (refusal.Csv row) = Accepted × ((bytes : List ℕ) �
 IsCause Accepted left rose (refusal.Field row column) = Accepted × ((bytes : List ℕ) → left ≡ Some bytes → judged bytes ≡ Err (refusal.Field row column))
 IsCause Accepted left rose refusal.LongInput = Accepted × ((bytes : List ℕ) → left ≡ Some bytes → judged bytes ≡ Err refusal.LongInput)
 IsCause Accepted left rose refusal.ManyRows = Accepted × ((bytes : List ℕ) → left ≡ Some bytes → judged bytes ≡ Err refusal.ManyRows)
+-- no command reads a log
+IsCause Accepted left rose refusal.NotLog = ⊥
+IsCause Accepted left rose (refusal.OldLog version width) = ⊥
+IsCause Accepted left rose (refusal.Damaged cell cause) = ⊥
+IsCause Accepted left rose (refusal.Disk cell) = ⊥
+IsCause Accepted left rose refusal.LongLog = ⊥
+IsCause Accepted left rose (refusal.InUse len) = ⊥
 
 -- a run that writes no lines puts the line of the refusal whose cause held
 pub record Refuses (Accepted : Type 0) (left : Option (List ℕ)) (rose : Type 0) (status : ℕ) (before after : Option (List ℕ)) (old_faults faults : ℕ) : Type 0 where

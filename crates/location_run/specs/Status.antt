@@ -8,10 +8,16 @@ status_of refusal.Usage = 2
 status_of refusal.Header = 3
 status_of (refusal.Csv row) = 3
 status_of (refusal.Field row column) = 3
+status_of refusal.NotLog = 4
+status_of (refusal.OldLog version width) = 4
+status_of (refusal.Damaged cell cause) = 4
 status_of refusal.Source = 5
+status_of (refusal.Disk cell) = 7
 status_of refusal.LongInput = 8
 status_of refusal.ManyRows = 8
+status_of refusal.LongLog = 8
 status_of refusal.Memory = 9
+status_of (refusal.InUse len) = 10
 
 -- whether a status is one of a run that wrote its lines, all of them or a front
 abbrev pub WritesLines : ℕ → Type 0

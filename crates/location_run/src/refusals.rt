@@ -29,9 +29,15 @@ fn status_of(refusal: &Refusal) -> u8
         Refusal::Header => 3,
         Refusal::Csv { row: _ } => 3,
         Refusal::Field { row: _, column: _ } => 3,
+        Refusal::NotLog => 4,
+        Refusal::OldLog { .. } => 4,
+        Refusal::Damaged { .. } => 4,
         Refusal::Source => 5,
+        Refusal::Disk { .. } => 7,
         Refusal::LongInput => 8,
         Refusal::ManyRows => 8,
+        Refusal::LongLog => 8,
         Refusal::Memory => 9,
+        Refusal::InUse { .. } => 10,
     }
 }
