@@ -129,10 +129,14 @@ fn a_point_that_comes_during_a_split_stands_in_its_child(rt: HostRuntime) -> Res
 #[test]
 fn five_points_are_spread_over_the_two_children(rt: HostRuntime) -> Result<(), Fail> {
     let mut book = Book::<FlatIndex>::fresh(rt.alloc(), 4)?;
-    let points = [(0, 0), (HALF, 0), (0, HALF), (HALF, HALF), (1, 1)];
-    let mut id = 0;
-    for (x, y) in points {
-        id += 1;
+    let points = [
+        (1, 0, 0),
+        (2, HALF, 0),
+        (3, 0, HALF),
+        (4, HALF, HALF),
+        (5, 1, 1),
+    ];
+    for (id, x, y) in points {
         let _done = put(&mut book, id, u64::from(id), x, y)?;
     }
     let whole = Name::whole();
@@ -141,9 +145,7 @@ fn five_points_are_spread_over_the_two_children(rt: HostRuntime) -> Result<(), F
     book.install(&prepared)?;
     assert!(rt; book.full().is_none());
     let index = book.into_parts().index;
-    id = 0;
-    for (x, y) in points {
-        id += 1;
+    for (id, x, y) in points {
         let here = child(&whole, x == HALF);
         let there = child(&whole, x != HALF);
         let row = row(u64::from(id), x, y);
