@@ -22,7 +22,8 @@ use Rattle.table_share.specs.Objects.{placed_of, objects_of}
 use Rattle.table_share.specs.Worlds.{AreAtPoints}
 use Rattle.table_share.proofs.RowObjects.{objects-permutation}
 use Rattle.table_share.proofs.TableRows.{table_of, all_from_has}
-use Rattle.range_query.specs.Cut.{number_in, AreKeysUnder, is_cut, leaves_cut}
+use Rattle.table_share.specs.KeysUnder.{AreKeysUnder, AreAllKeysUnder}
+use Rattle.range_query.specs.Cut.{number_in, is_cut, leaves_cut}
 
 length_if : {X : Type 0} (b : Bool) (x : X) (xs : List X) → length (cond b (x ∷ xs) xs) ≡ cond b 1 0 + length xs
 length_if true x xs = omega arith
@@ -54,20 +55,6 @@ module _ (leaf region : Region) (name : List Bool) (points : (p : Point) → IsP
       let out : has_point region (point_of r.key) ≡ false = false_if (has_point region (point_of r.key)) (λ e. apart (point_of r.key, in_leaf r under.0.0 under.0.1, e)) in
       let none : cond (has_point region (point_of r.key)) 1 0 ≡ 0 = ap {B = ℕ} (λ b. cond b 1 0) out in
       omega (arith, number_in-cons region r rows, none, none_in rows apart under.1)
-
--- the rows of each leaf are under its name
-abbrev pub AreAllKeysUnder : List Leaf → Type 0
-AreAllKeysUnder leaves = AllByRecursion (λ (l : Leaf). AreKeysUnder l.name l.bucket.rows) leaves
-
-pub leaves_under : (world : List Placed) (leaves : List Leaf) → AllByRecursion (HasRowsOf world) leaves → AreAllKeysUnder leaves
-leaves_under world [] has = tt
-leaves_under world (l ∷ leaves) has = (
-  all_from_has (λ (r : Row). (r.key < 2 ^ 64) × (is_under l.name r.key ≡ true)) l.bucket.rows
-      (λ q e.
-      let both : (world_has world q && is_under l.name q.key) ≡ true = sym (has.0 q) ∙ e in
-      (world_key-lt world q (first_so (world_has world q) (is_under l.name q.key) both), second_so (world_has world q) (is_under l.name q.key) both)),
-  leaves_under world leaves has.1,
-)
 
 fewer : (region : Region) (ms : List Placed) → length (members_in region ms) ≤ length ms
 fewer region [] = omega arith

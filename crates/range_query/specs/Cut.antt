@@ -20,7 +20,3 @@ leaves_cut region leaves = filter (λ l. is_cut region l.name) leaves
 -- how many rows stand for an object in the box
 abbrev pub number_in : Region → List Row → ℕ
 number_in region rows = length (members_in region (objects_of rows))
-
--- each row's key is one of 64 bits, under the name
-abbrev pub AreKeysUnder : List Bool → List Row → Type 0
-AreKeysUnder name rows = AllByRecursion (λ (r : Row). (r.key < 2 ^ 64) × (is_under name r.key ≡ true)) rows

@@ -3,7 +3,8 @@ ghost use Rattle.std.specs.Prelude.{◌≡◌, ◌+◌, ◌<◌, ◌^◌, if◌t
 ghost use Rattle.zorder.specs.Region.{IsBox};
 ghost use Rattle.plain_list.specs.Answer.{members_in};
 ghost use Rattle.table_share.specs.Worlds.{OfEachWorld};
-ghost use Rattle.range_query.specs.Cut.{is_cut, leaves_cut, number_in, AreKeysUnder};
+ghost use Rattle.range_query.specs.Cut.{is_cut, leaves_cut, number_in};
+ghost use Rattle.table_share.specs.KeysUnder.{AreKeysUnder};
 
 use bucket_versions::Bucket;
 use index_layer::Index;

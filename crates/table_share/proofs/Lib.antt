@@ -2,3 +2,4 @@ pub mod WalkLemmas
 pub mod FoldLemmas
 pub mod RowObjects
 pub mod TableRows
+pub mod LeafRows

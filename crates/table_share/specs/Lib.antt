@@ -2,3 +2,4 @@ pub mod Walk
 pub mod Folds
 pub mod Objects
 pub mod Worlds
+pub mod KeysUnder

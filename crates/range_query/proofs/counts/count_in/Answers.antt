@@ -1,7 +1,8 @@
 use Rattle.std.proofs.Common.{◌≡◌, [], List, ap, arith}
 use Rattle.index_layer.specs.Leaves.{Leaf, all_rows}
+use Rattle.table_share.proofs.LeafRows.{leaves_under}
 use Rattle.range_query.specs.Cut.{number_in}
-use Rattle.range_query.proofs.BoxCounts.{leaves_under, number_of_world, number-fits}
+use Rattle.range_query.proofs.BoxCounts.{number_of_world, number-fits}
 use Rattle.range_query.proofs.counts.count_in.Goals as goal
 
 pub returns-clause-number : goal.returns-clause-number
