@@ -1,1 +1,2 @@
-mod Unfiltered
+mod Homes
+mod Passing

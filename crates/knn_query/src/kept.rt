@@ -1,0 +1,103 @@
+//! The nearest of the objects that were seen so far.
+ghost use Rattle.std.specs.Prelude.{◌≡◌, ◌≤◌, ◌∷◌, List, [], None, take, true, false, OnOk};
+ghost use Rattle.std.specs.Option.{option_map};
+ghost use Rattle.zorder.specs.declared.points.Placed.{Placed};
+ghost use Rattle.zorder.specs.Distance.{distance};
+ghost use Rattle.plain_list.specs.Answer.{ranked};
+ghost use Rattle.plain_list.specs.Nearest.{rank_of, is_below, may_belong, AreOf, IsCut, IsKept};
+ghost use Rattle.knn_query.specs.Passes.{Passes, IsList};
+
+use plain_list::PlacedList;
+use prefix_names::dist;
+use std::alloc::{AllocError, Global};
+use zorder::{Placed, Point};
+
+/// Objects among which are the `k` nearest of those that were added. At twice `k` they are cut to the `k` nearest.
+#[derive(Drop)]
+pub(crate) struct Kept {
+    pub(crate) from: Point,
+    pub(crate) k: usize,
+    pub(crate) list: Vec<Placed>,
+    /// The last of the nearest at the last cut: what comes behind it doesn't belong to them.
+    pub(crate) last: Option<Placed>,
+}
+
+impl Kept {
+    pub(crate) fn new(alloc: Global, from: Point, k: usize) -> Kept
+        ensures list { IsList from k [] None result }
+    {
+        Kept {
+            from,
+            k,
+            list: Vec::new(alloc),
+            last: None,
+        }
+    }
+
+    /// Adds an object, where it may belong to the nearest.
+    pub(crate) fn add(&mut self, m: Placed) -> Result<(), AllocError>
+        ensures { OnOk result (Passes (m ∷ []) self.old self.new) }
+    {
+        if self.may_belong(&m) {
+            self.list.push(m)?;
+            self.last = cut_full(&mut self.list, self.from, self.k, self.last);
+        }
+        Ok(())
+    }
+
+    fn may_belong(&self, m: &Placed) -> bool
+        ensures { result ≡ may_belong (rank_of self.now.from m.now) (option_map (rank_of self.now.from) self.now.last) }
+    {
+        match &self.last {
+            Some(last) => is_nearer(m, last, self.from),
+            None => true,
+        }
+    }
+
+    /// Whether nothing at this distance or beyond it belongs to the nearest.
+    pub(crate) fn is_beyond(&self, least: u128) -> bool
+        ensures { result ≡ true → (m : Placed) → least ≤ distance m.at self.now.from → may_belong (rank_of self.now.from m) (option_map (rank_of self.now.from) self.now.last) ≡ false }
+    {
+        match &self.last {
+            Some(last) => dist(last.at, self.from) < least,
+            None => false,
+        }
+    }
+
+    /// The nearest, in order.
+    pub(crate) fn into_list(mut self) -> PlacedList
+        ensures { (world : List Placed) → AreOf world self.list.items → result ≡ take self.k (ranked self.from self.list.items) }
+    {
+        cut(&mut self.list, self.from, self.k);
+        PlacedList::from_vec(self.list)
+    }
+}
+
+/// Cuts a list of twice `k` objects or more, and gives the last of the nearest then.
+fn cut_full(list: &mut Vec<Placed>, from: Point, k: usize, last: Option<Placed>) -> Option<Placed>
+    ensures { IsKept from k list.old.items (option_map (rank_of from) last) list.new.items (option_map (rank_of from) result) }
+{
+    if list.len() / 2 < k {
+        return last;
+    }
+    cut(list, from, k);
+    match list.last() {
+        Some(m) => Some(*m),
+        None => None,
+    }
+}
+
+fn cut(list: &mut Vec<Placed>, from: Point, k: usize)
+    ensures { IsCut from k list.old.items list.new.items }
+{
+    list.sort_unstable_by_key(|m| (dist(m.at, from), m.id));
+    list.truncate(k);
+}
+
+// Whether an object comes before another one: nearer, or as near with the lesser id.
+fn is_nearer(m: &Placed, other: &Placed, from: Point) -> bool
+    ensures { result ≡ is_below (rank_of from m.now) (rank_of from other.now) }
+{
+    let (here, there) = (dist(m.at, from), dist(other.at, from));
+    here < there || here == there && m.id < other.id
+}
