@@ -1,0 +1,52 @@
+-- The first place at fault in the bytes of a log.
+use Rattle.std.specs.Prelude.{◌≡◌, ◌≢◌, ◌⊎◌, ℕ, ◌<◌, ◌≤◌, false, List, ◌++◌, length, take, drop, replicate, slice_index, Ok, Err}
+use Rattle.std.specs.List.{flat_map, AllByRecursion}
+use Rattle.cell_format.specs.declared.cell.Cell.{Cell}
+use Rattle.cell_format.specs.declared.cell.Cause.{Cause}
+use Rattle.cell_format.specs.declared.cell.Cause.TheVariants as cause
+use Rattle.cell_format.specs.declared.cell.CellFault.TheVariants as fault
+use Rattle.cell_format.specs.Spelling.{IsCell, spelling, header_text}
+use Rattle.cell_format.specs.Decoding.{decoded}
+use Rattle.recovery.specs.Recovers.{IsLegalCells, is_possible_cell, state_of}
+
+-- the bytes begin with a header and these cells, which are legal, and this stands behind them
+pub record BeginsWith (w : ℕ) (cells : List Cell) (tail bytes : List ℕ) : Type 0 where
+  pub cells_fit : AllByRecursion IsCell cells
+  pub legal : IsLegalCells w cells
+  pub parts : bytes ≡ header_text w ++ flat_map spelling cells ++ tail
+
+-- what is wrong with the cell at the front of these bytes, after these cells
+abbrev pub IsWrong : ℕ → List Cell → List ℕ → Cause → Type 0
+IsWrong w cells tail cause.ShortCell = length tail < 33
+IsWrong w cells tail cause.Kind = (33 ≤ length tail) × (decoded (take 32 tail) ≡ Err fault.Kind)
+IsWrong w cells tail cause.Reserved = (33 ≤ length tail) × (decoded (take 32 tail) ≡ Err fault.Reserved)
+IsWrong w cells tail cause.BadName = (33 ≤ length tail) × (decoded (take 32 tail) ≡ Err fault.BadName)
+IsWrong w cells tail cause.Impossible = (33 ≤ length tail) × (next : Cell) × (decoded (take 32 tail) ≡ Ok next) × (is_possible_cell w (state_of w cells) next ≡ false)
+
+-- this cell is the first with its commit byte set that is short, has no spelling or is impossible, and its number is below most
+pub record IsDamaged (w most : ℕ) (bytes : List ℕ) (number : ℕ) (why : Cause) : Type 0 where
+  pub cells : List Cell
+  pub tail : List ℕ
+  pub begins : BeginsWith w cells tail bytes
+  pub place : length cells ≡ number
+  pub few : number < most
+  pub commit_byte : slice_index tail 0 ≡ 1
+  pub wrong : IsWrong w cells tail why
+
+-- the first `most` cells are legal, and the next commit byte is set
+pub record IsTooLong (w most : ℕ) (bytes : List ℕ) : Type 0 where
+  pub cells : List Cell
+  pub tail : List ℕ
+  pub begins : BeginsWith w cells tail bytes
+  pub place : length cells ≡ most
+  pub commit_byte : slice_index tail 0 ≡ 1
+
+-- fewer than 17 bytes, or not the eight letters, or one of bytes 10 to 15 isn't 0
+abbrev pub IsNotLog : List ℕ → Type 0
+IsNotLog bytes = (length bytes < 17) ⊎ (take 8 bytes ≢ take 8 (header_text 1)) ⊎ (take 6 (drop 10 bytes) ≢ replicate 6 0)
+
+pub record IsOldLog (w : ℕ) (bytes : List ℕ) (version width : ℕ) : Type 0 where
+  pub is_log : IsNotLog bytes → ⊥
+  pub version_is : version ≡ slice_index bytes 8
+  pub width_is : width ≡ slice_index bytes 9
+  pub other : (version ≢ 1) ⊎ (width ≢ w)
