@@ -1,6 +1,8 @@
 //! Makes a log, says what the cells of one stand for, and opens one.
 #![tactic(auto)]
 
+mod leaf_map;
 mod seen;
+mod split_map;
 
 pub use seen::{InitFault, InitRefused, Leaves, OpenFault, OpenRefused, Opened, Seen};

@@ -1,0 +1,68 @@
+-- A map from the numbers of splits to their names, and the list of open splits that it stands for.
+use Rattle.std.proofs.Common.{◌≡◌, ℕ, ◌<◌, ◌≤◌, Bool, true, false, cond, not, List, [], ◌∷◌, ◌++◌, Some, None, refl, sym, ap, ◌∙◌, arith}
+use Rattle.std.specs.Prelude.{◌==◌}
+use Rattle.std.specs.Ordering.{nat_cmp}
+use Rattle.std.specs.BTreeMap.{insert_entry, is_at}
+use Rattle.std.specs.Map.{lookup, remove_entry}
+use Rattle.std.proofs.lemmas.Bool.Decides.{nat_tests}
+use Rattle.std.proofs.lemmas.Grind.{common_steps}
+use Rattle.plain_list.specs.State.{OpenSplit, split_name, without_number}
+use Rattle.recovery.specs.SplitMap.{splits_of, AreAbove, AreBelow, IsRisingSplits}
+
+pub split_name-splits_of : (es : List (ℕ × List Bool)) (number : ℕ) → split_name (splits_of es) number ≡ lookup (is_at (nat_cmp number)) es
+split_name-splits_of [] number = refl
+split_name-splits_of (e ∷ es) number =
+    let rest : split_name (splits_of es) number ≡ lookup (is_at (nat_cmp number)) es = split_name-splits_of es number in
+    grind (arith, nat_tests, common_steps)
+
+pub splits_of-insert_entry : (number : ℕ) (name : List Bool) (es : List (ℕ × List Bool)) → AreBelow number (splits_of es)
+    → splits_of (insert_entry nat_cmp es number name) ≡ splits_of es ++ record { number = number; name = name } ∷ []
+splits_of-insert_entry number name [] below = refl
+splits_of-insert_entry number name (e ∷ es) below =
+    let rest : splits_of (insert_entry nat_cmp es number name) ≡ splits_of es ++ record { number = number; name = name } ∷ [] = splits_of-insert_entry number name es below.1 in
+    let lt : e.0 < number = below.0 in
+    grind (arith, nat_tests, common_steps)
+
+AreAbove-lower : (a b : ℕ) (splits : List OpenSplit) → a ≤ b → AreAbove b splits → AreAbove a splits
+AreAbove-lower a b [] le above = tt
+AreAbove-lower a b (s ∷ splits) le above = (omega (arith, le, above.0), AreAbove-lower a b splits le above.1)
+
+without_number-absent : (number : ℕ) (splits : List OpenSplit) → AreAbove number splits → without_number number splits ≡ splits
+without_number-absent number [] above = refl
+without_number-absent number (s ∷ splits) above =
+    let rest : without_number number splits ≡ splits = without_number-absent number splits above.1 in
+    let lt : number < s.number = above.0 in
+    grind (arith, nat_tests, common_steps)
+
+pub splits_of-remove_entry : (number : ℕ) (es : List (ℕ × List Bool)) → IsRisingSplits (splits_of es) → splits_of (remove_entry (is_at (nat_cmp number)) es) ≡ without_number number (splits_of es)
+splits_of-remove_entry number [] rising = refl
+splits_of-remove_entry number (e ∷ es) rising =
+    let rest : splits_of (remove_entry (is_at (nat_cmp number)) es) ≡ without_number number (splits_of es) = splits_of-remove_entry number es rising.1 in
+    let none : e.0 ≤ number → number ≤ e.0 → without_number number (splits_of es) ≡ splits_of es =
+    λ le ge. without_number-absent number (splits_of es) (AreAbove-lower number e.0 (splits_of es) ge rising.0) in
+    grind (arith, nat_tests, common_steps)
+
+AreAbove-push : (a : ℕ) (splits : List OpenSplit) (s : OpenSplit) → AreAbove a splits → a < s.number → AreAbove a (splits ++ s ∷ [])
+AreAbove-push a [] s above lt = (lt, tt)
+AreAbove-push a (t ∷ splits) s above lt = (above.0, AreAbove-push a splits s above.1 lt)
+
+pub IsRisingSplits-push : (splits : List OpenSplit) (s : OpenSplit) → IsRisingSplits splits → AreBelow s.number splits → IsRisingSplits (splits ++ s ∷ [])
+IsRisingSplits-push [] s rising below = (tt, tt)
+IsRisingSplits-push (t ∷ splits) s rising below = (AreAbove-push t.number splits s rising.0 below.0, IsRisingSplits-push splits s rising.1 below.1)
+
+above_if : (a : ℕ) (b : Bool) (s : OpenSplit) (splits : List OpenSplit) → a < s.number → AreAbove a splits → AreAbove a (cond b (s ∷ splits) splits)
+above_if a true s splits lt above = (lt, above)
+above_if a false s splits lt above = above
+
+AreAbove-without : (a number : ℕ) (splits : List OpenSplit) → AreAbove a splits → AreAbove a (without_number number splits)
+AreAbove-without a number [] above = tt
+AreAbove-without a number (s ∷ splits) above = above_if a (not (s.number == number)) s (without_number number splits) above.0 (AreAbove-without a number splits above.1)
+
+rising_if : (b : Bool) (s : OpenSplit) (splits : List OpenSplit) → AreAbove s.number splits → IsRisingSplits splits → IsRisingSplits (cond b (s ∷ splits) splits)
+rising_if true s splits above rising = (above, rising)
+rising_if false s splits above rising = rising
+
+pub IsRisingSplits-without : (number : ℕ) (splits : List OpenSplit) → IsRisingSplits splits → IsRisingSplits (without_number number splits)
+IsRisingSplits-without number [] rising = tt
+IsRisingSplits-without number (s ∷ splits) rising =
+    rising_if (not (s.number == number)) s (without_number number splits) (AreAbove-without s.number number splits rising.0) (IsRisingSplits-without number splits rising.1)

@@ -1,0 +1,25 @@
+-- A map from the numbers of splits to their names, seen as the list of open splits.
+use Rattle.std.specs.Prelude.{ℕ, ◌<◌, Bool, List, [], ◌∷◌, map, ⊤}
+use Rattle.plain_list.specs.State.{OpenSplit}
+
+-- an entry as an open split
+abbrev pub split_of : ℕ × List Bool → OpenSplit
+split_of e = record { number = e.0; name = e.1 }
+
+abbrev pub splits_of : List (ℕ × List Bool) → List OpenSplit
+splits_of entries = map split_of entries
+
+-- each number is above this one
+abbrev pub AreAbove : ℕ → List OpenSplit → Type 0
+AreAbove n [] = ⊤
+AreAbove n (s ∷ splits) = (n < s.number) × AreAbove n splits
+
+-- each number is below this one
+abbrev pub AreBelow : ℕ → List OpenSplit → Type 0
+AreBelow n [] = ⊤
+AreBelow n (s ∷ splits) = (s.number < n) × AreBelow n splits
+
+-- the numbers rise
+abbrev pub IsRisingSplits : List OpenSplit → Type 0
+IsRisingSplits [] = ⊤
+IsRisingSplits (s ∷ splits) = AreAbove s.number splits × IsRisingSplits splits

@@ -1,0 +1,123 @@
+//! The leaves, each with the split last begun of it.
+ghost use Rattle.std.specs.Prelude.{◌≡◌, ◌≢◌, ◌⊎◌, ◌+◌, ◌≤◌, ◌<◌, [], ◌∷◌, Bool, ℕ, List, length, true, Some, OnOk, IfOk};
+ghost use Rattle.zorder.specs.Tile.{Tile};
+ghost use Rattle.plain_list.specs.State.{is_leaf, split_leaf};
+ghost use Rattle.recovery.specs.LeafMap.{names_of, split_at, with_begun, halved, new_leaf, KeepsMarks};
+
+use crate::seen::Leaves;
+use std::alloc::{AllocError, Global};
+use std::collections::BTreeMap;
+use std::marker::Model;
+use zorder::{Name, child};
+
+/// A leaf, and the number of the split last begun of it, 0 where there is none.
+#[derive(Clone, Copy, Debug)]
+pub(crate) struct MarkedLeaf {
+    pub(crate) name: Name,
+    pub(crate) split: u64,
+}
+
+/// The leaves by their first keys, which tile the key space: a list in the order of the keys.
+#[derive(Drop)]
+pub(crate) struct LeafMap {
+    leaves: BTreeMap<u64, MarkedLeaf>,
+}
+
+impl Model for LeafMap {
+    ghost use Rattle.std.specs.Prelude.{List};
+    ghost use Rattle.recovery.specs.declared.leaf_map.MarkedLeaf.{MarkedLeaf};
+
+    ghost Value = { List MarkedLeaf };
+
+    ghost use Rattle.recovery.specs.LeafMap.{leaves_of, IsLeafMap};
+
+    ghost view = { λ m. leaves_of m.leaves.entries };
+
+    ghost invariant = { λ m. IsLeafMap m.leaves.entries };
+}
+
+impl LeafMap {
+    /// The one leaf of the whole space.
+    pub(crate) fn whole(alloc: Global) -> Result<LeafMap, AllocError>
+        ensures { IfOk result (λ m. m ≡ new_leaf [] ∷ []) }
+    {
+        let mut leaves = BTreeMap::new(alloc);
+        leaves.insert(0, new_leaf(Name::whole()))?;
+        Ok(LeafMap { leaves })
+    }
+
+    /// The split last begun of the leaf with this name, where there is one.
+    pub(crate) fn split_at(&self, name: &Name) -> Option<u64>
+        ensures { result ≡ split_at self.now name.now }
+    {
+        let found = self.leaves.get(&name.bits()).copied()?;
+        if found.name == *name {
+            Some(found.split)
+        } else {
+            None
+        }
+    }
+
+    /// Notes a split begun of a leaf, and takes no memory.
+    pub(crate) fn begin(&mut self, name: Name, number: u64)
+        requires { is_leaf (names_of self.old) name ≡ true }
+        ensures { self.new ≡ with_begun name number self.old }
+    {
+        let leaf = MarkedLeaf {
+            name,
+            split: number,
+        };
+        let _ = self.leaves.insert(name.bits(), leaf);
+    }
+
+    /// Puts the two halves of a leaf in its place.
+    fn halve(&mut self, name: &Name) -> Result<(), AllocError>
+        requires leaf { is_leaf (names_of self.old) name.now ≡ true }
+        requires short { length name.now < 64 }
+        ensures ok { OnOk result (self.new ≡ halved name.now self.old) }
+        ensures tile { Tile (names_of self.old) }
+    {
+        let second = new_leaf(child(name, true));
+        self.leaves.insert(second.name.bits(), second)?;
+        // Last, since it takes no memory: the first half stands at the leaf's own key.
+        let _ = self
+            .leaves
+            .insert(name.bits(), new_leaf(child(name, false)));
+        Ok(())
+    }
+
+    /// Puts the children of a leaf in its place, whose names have `width` bits more.
+    pub(crate) fn split(&mut self, name: &Name, width: u8) -> Result<(), AllocError>
+        requires leaf { is_leaf (names_of self.old) name.now ≡ true }
+        requires width { (width ≡ 1) ⊎ (width ≡ 2) }
+        requires short { length name.now + width ≤ 64 }
+
+        ensures names { OnOk result (names_of self.new ≡ split_leaf width name.now (names_of self.old)) }
+        ensures kept { OnOk result (KeepsMarks name.now self.old self.new) }
+    {
+        self.halve(name)?;
+        if width == 2 {
+            self.halve(&child(name, false))?;
+            self.halve(&child(name, true))?;
+        }
+        Ok(())
+    }
+
+    /// The names alone.
+    pub(crate) fn to_leaves(&self, alloc: Global) -> Result<Leaves, AllocError>
+        ensures { IfOk result (λ leaves. leaves ≡ names_of self.now) }
+    {
+        let mut names = Vec::with_capacity(alloc, self.leaves.len())?;
+        for leaf in self.leaves.values() {
+            names.push(leaf.name)?;
+        }
+        Ok(Leaves::from_vec(names))
+    }
+}
+
+/// A leaf of which no split was begun.
+fn new_leaf(name: Name) -> MarkedLeaf
+    ensures { result ≡ new_leaf name }
+{
+    MarkedLeaf { name, split: 0 }
+}

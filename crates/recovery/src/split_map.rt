@@ -1,0 +1,68 @@
+//! The splits that were begun and haven't ended.
+ghost use Rattle.std.specs.Prelude.{◌≡◌, ◌++◌, [], ◌∷◌, length, OnOk};
+ghost use Rattle.plain_list.specs.State.{split_name, without_number};
+ghost use Rattle.recovery.specs.SplitMap.{AreBelow, IsRisingSplits};
+
+use std::alloc::{AllocError, Global};
+use std::collections::BTreeMap;
+use std::marker::Model;
+use zorder::Name;
+
+/// The name of each open split, by its number: a list in the order of their begins.
+#[derive(Drop)]
+pub(crate) struct SplitMap {
+    names: BTreeMap<u64, Name>,
+}
+
+impl Model for SplitMap {
+    ghost use Rattle.std.specs.Prelude.{List};
+    ghost use Rattle.plain_list.specs.State.{OpenSplit};
+
+    ghost Value = { List OpenSplit };
+
+    ghost use Rattle.recovery.specs.SplitMap.{splits_of, IsRisingSplits};
+
+    ghost view = { λ m. splits_of m.names.entries };
+
+    ghost invariant = { λ m. IsRisingSplits (splits_of m.names.entries) };
+}
+
+impl SplitMap {
+    pub(crate) fn new(alloc: Global) -> SplitMap
+        ensures { result ≡ [] }
+    {
+        SplitMap {
+            names: BTreeMap::new(alloc),
+        }
+    }
+
+    pub(crate) fn len(&self) -> usize
+        ensures len { result ≡ length self.now }
+        ensures rising { IsRisingSplits self.now }
+    {
+        self.names.len()
+    }
+
+    /// The name of the split with this number.
+    pub(crate) fn name(&self, number: u64) -> Option<Name>
+        ensures { result ≡ split_name self.now number }
+    {
+        self.names.get(&number).copied()
+    }
+
+    /// Adds a split with a number above all others.
+    pub(crate) fn push(&mut self, number: u64, name: Name) -> Result<(), AllocError>
+        requires { AreBelow number self.old }
+        ensures { OnOk result (self.new ≡ self.old ++ record { number = number; name = name } ∷ []) }
+    {
+        self.names.insert(number, name)?;
+        Ok(())
+    }
+
+    /// Takes the split with this number out, if it is there.
+    pub(crate) fn remove(&mut self, number: u64)
+        ensures { self.new ≡ without_number number self.old }
+    {
+        self.names.remove(&number);
+    }
+}
