@@ -1,5 +1,5 @@
 -- A map from first keys to leaves that tile the key space, and the list of leaves that it stands for.
-use Rattle.std.proofs.Common.{◌≡◌, ◌≢◌, ℕ, suc, ◌+◌, ◌-◌, ◌*◌, ◌^◌, ◌<◌, ◌≤◌, Bool, true, false, ◌&&◌, ◌⊎◌, inl, inr, ◌==◌, List, [], ◌∷◌, ◌++◌, length, map, Option, Some, None, refl, sym, ◌∙◌, ap, subst, arith, cond, length-append, append_assoc}
+use Rattle.std.proofs.Common.{◌≡◌, ◌≢◌, ℕ, suc, ◌+◌, ◌-◌, ◌*◌, ◌^◌, ◌<◌, ◌≤◌, Bool, true, false, ◌&&◌, ◌⊎◌, inl, inr, ◌==◌, List, [], ◌∷◌, ◌++◌, length, map, Option, Some, None, is_some, refl, sym, ◌∙◌, ap, subst, arith, cond, length-append, append_assoc}
 use Rattle.std.specs.Prelude.{nat_le, ◌||◌}
 use Rattle.std.specs.List.{find, list_any}
 use Rattle.std.specs.Option.{option_map}
@@ -354,14 +354,20 @@ module _ (leaves : List MarkedLeaf) (name : List Bool) (room : length name + 2 �
   pub second_half_leaf : is_leaf (names_of (halved (name ++ false ∷ []) (halved name leaves))) (name ++ true ∷ []) ≡ true
   second_half_leaf = leaf-halved-other (halved name leaves) (name ++ false ∷ []) (name ++ true ∷ []) (halves_differ name) (leaf-halved leaves name leaf).1
 
+  pub keeps-three : KeepsMarks name leaves (halved (name ++ false ∷ []) (halved name leaves))
+  keeps-three other number unlike found =
+      let marked = leaf_marked leaves other number found in
+      let half : (b : Bool) → other ≢ name ++ b ∷ [] = λ b e. no_half 0 leaves name b one_more tile leaf (ap (is_leaf (names_of leaves)) (sym e) ∙ marked) in
+      keeps-halved (halved name leaves) (name ++ false ∷ []) (two_more false) first_tile first_half_leaf other number (half false)
+      (keeps-halved leaves name one_more tile leaf other number unlike found)
+
   pub keeps-quartered : KeepsMarks name leaves (halved (name ++ true ∷ []) (halved (name ++ false ∷ []) (halved name leaves)))
   keeps-quartered other number unlike found =
       let marked = leaf_marked leaves other number found in
       let half : (b : Bool) → other ≢ name ++ b ∷ [] = λ b e. no_half 0 leaves name b one_more tile leaf (ap (is_leaf (names_of leaves)) (sym e) ∙ marked) in
       let second_tile = tile-halved 0 (halved name leaves) (name ++ false ∷ []) (two_more false) ∙ first_tile in
       keeps-halved (halved (name ++ false ∷ []) (halved name leaves)) (name ++ true ∷ []) (two_more true) second_tile second_half_leaf other number (half true)
-      (keeps-halved (halved name leaves) (name ++ false ∷ []) (two_more false) first_tile first_half_leaf other number (half false)
-      (keeps-halved leaves name one_more tile leaf other number unlike found))
+      (keeps-three other number unlike found)
 
 quarter : (name : List Bool) (a b : Bool) → (name ++ a ∷ []) ++ b ∷ [] ≡ name ++ a ∷ b ∷ []
 quarter name a b = append_assoc name (a ∷ []) (b ∷ [])
@@ -408,3 +414,10 @@ names_of-quartered k (l ∷ leaves) name room tile leaf =
           ∙ ap (λ ns. l.name ∷ ns) rest
           ∙ sym (ap (λ t. cond t ((name ++ false ∷ false ∷ []) ∷ (name ++ false ∷ true ∷ []) ∷ (name ++ true ∷ false ∷ []) ∷ (name ++ true ∷ true ∷ []) ∷ names_of leaves) (l.name ∷ split_leaf 2 name (names_of leaves))) e)
     ]
+
+-- a leaf is one that has a mark
+pub is_leaf-marked : (leaves : List MarkedLeaf) (name : List Bool) → is_leaf (names_of leaves) name ≡ is_some (split_at leaves name)
+is_leaf-marked [] name = refl
+is_leaf-marked (l ∷ leaves) name =
+    let rest : is_leaf (names_of leaves) name ≡ is_some (split_at leaves name) = is_leaf-marked leaves name in
+    grind (arith, common_steps)

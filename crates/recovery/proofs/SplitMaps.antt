@@ -1,13 +1,20 @@
 -- A map from the numbers of splits to their names, and the list of open splits that it stands for.
-use Rattle.std.proofs.Common.{◌≡◌, ℕ, ◌<◌, ◌≤◌, Bool, true, false, cond, not, List, [], ◌∷◌, ◌++◌, Some, None, refl, sym, ap, ◌∙◌, arith}
+use Rattle.std.proofs.Common.{◌≡◌, ℕ, ◌<◌, ◌≤◌, Bool, true, false, cond, not, ◌&&◌, inl, inr, Option, List, [], ◌∷◌, ◌++◌, Some, None, refl, sym, ap, ◌∙◌, arith}
 use Rattle.std.specs.Prelude.{◌==◌}
 use Rattle.std.specs.Ordering.{nat_cmp}
 use Rattle.std.specs.BTreeMap.{insert_entry, is_at}
 use Rattle.std.specs.Map.{lookup, remove_entry}
+use Rattle.std.specs.List.{filter}
+use Rattle.std.proofs.lemmas.Bool.{cases_eq, eq-eqb, eqb-true}
 use Rattle.std.proofs.lemmas.Bool.Decides.{nat_tests}
 use Rattle.std.proofs.lemmas.Grind.{common_steps}
+use Rattle.zorder.specs.SameName.{same_name, same_name-decides}
 use Rattle.plain_list.specs.State.{OpenSplit, split_name, without_number}
-use Rattle.recovery.specs.SplitMap.{splits_of, AreAbove, AreBelow, IsRisingSplits}
+use Rattle.recovery.specs.SplitMap.{splits_of, AreAbove, AreBelow, IsRisingSplits, without_split}
+
+pub not_true : (b : Bool) → (b ≡ true → ⊥) → b ≡ false
+not_true true refused = absurd (refused refl)
+not_true false refused = refl
 
 pub split_name-splits_of : (es : List (ℕ × List Bool)) (number : ℕ) → split_name (splits_of es) number ≡ lookup (is_at (nat_cmp number)) es
 split_name-splits_of [] number = refl
@@ -54,15 +61,58 @@ above_if : (a : ℕ) (b : Bool) (s : OpenSplit) (splits : List OpenSplit) → a 
 above_if a true s splits lt above = (lt, above)
 above_if a false s splits lt above = above
 
-AreAbove-without : (a number : ℕ) (splits : List OpenSplit) → AreAbove a splits → AreAbove a (without_number number splits)
-AreAbove-without a number [] above = tt
-AreAbove-without a number (s ∷ splits) above = above_if a (not (s.number == number)) s (without_number number splits) above.0 (AreAbove-without a number splits above.1)
+AreAbove-filter : (a : ℕ) (p : OpenSplit → Bool) (splits : List OpenSplit) → AreAbove a splits → AreAbove a (filter p splits)
+AreAbove-filter a p [] above = tt
+AreAbove-filter a p (s ∷ splits) above = above_if a (p s) s (filter p splits) above.0 (AreAbove-filter a p splits above.1)
 
 rising_if : (b : Bool) (s : OpenSplit) (splits : List OpenSplit) → AreAbove s.number splits → IsRisingSplits splits → IsRisingSplits (cond b (s ∷ splits) splits)
 rising_if true s splits above rising = (above, rising)
 rising_if false s splits above rising = rising
 
-pub IsRisingSplits-without : (number : ℕ) (splits : List OpenSplit) → IsRisingSplits splits → IsRisingSplits (without_number number splits)
-IsRisingSplits-without number [] rising = tt
-IsRisingSplits-without number (s ∷ splits) rising =
-    rising_if (not (s.number == number)) s (without_number number splits) (AreAbove-without s.number number splits rising.0) (IsRisingSplits-without number splits rising.1)
+pub IsRisingSplits-filter : (p : OpenSplit → Bool) (splits : List OpenSplit) → IsRisingSplits splits → IsRisingSplits (filter p splits)
+IsRisingSplits-filter p [] rising = tt
+IsRisingSplits-filter p (s ∷ splits) rising = rising_if (p s) s (filter p splits) (AreAbove-filter s.number p splits rising.0) (IsRisingSplits-filter p splits rising.1)
+
+without_split-absent : (number : ℕ) (name : List Bool) (splits : List OpenSplit) → AreAbove number splits → without_split number name splits ≡ splits
+without_split-absent number name [] above = refl
+without_split-absent number name (s ∷ splits) above =
+    let rest : without_split number name splits ≡ splits = without_split-absent number name splits above.1 in
+    let lt : number < s.number = above.0 in
+    grind (arith, nat_tests, common_steps)
+
+-- a number is that of one split at most
+pub without_split-there : (number : ℕ) (name : List Bool) (splits : List OpenSplit) → IsRisingSplits splits → split_name splits number ≡ Some name → without_split number name splits ≡ without_number number splits
+without_split-there number name [] rising found = refl
+without_split-there number name (s ∷ splits) rising found = elim (cases_eq s.number number) [
+  | inl e ↦
+      let above : AreAbove number splits = AreAbove-lower number s.number splits (omega (arith, e)) rising.0 in
+      let named : s.name ≡ name = grind (arith, nat_tests, common_steps) in
+      let both : same_name s.name name ≡ true = (same_name-decides s.name name).1 named in
+      let left : without_split number name splits ≡ splits = without_split-absent number name splits above in
+      let right : without_number number splits ≡ splits = without_number-absent number splits above in
+      grind (arith, nat_tests, common_steps)
+  | inr apart ↦
+      let found_rest : split_name splits number ≡ Some name = grind (arith, nat_tests, common_steps) in
+      let rest : without_split number name splits ≡ without_number number splits = without_split-there number name splits rising.1 found_rest in
+      grind (arith, nat_tests, common_steps)
+]
+
+pub without_split-other : (number : ℕ) (name : List Bool) (splits : List OpenSplit) → IsRisingSplits splits → (split_name splits number ≡ Some name → ⊥) → without_split number name splits ≡ splits
+without_split-other number name [] rising other = refl
+without_split-other number name (s ∷ splits) rising other = elim (cases_eq s.number number) [
+  | inl e ↦
+      let above : AreAbove number splits = AreAbove-lower number s.number splits (omega (arith, e)) rising.0 in
+      let unlike : same_name s.name name ≡ false = not_true (same_name s.name name) (λ t. other (ap (λ b. cond b (Some s.name) (split_name splits number)) (eq-eqb s.number number e) ∙ ap Some ((same_name-decides s.name name).0 t))) in
+      let rest : without_split number name splits ≡ splits = without_split-absent number name splits above in
+      grind (arith, nat_tests, common_steps)
+  | inr apart ↦
+      let skip : (s.number == number) ≡ false = not_true (s.number == number) (λ t. apart (eqb-true s.number number t)) in
+      let rest : without_split number name splits ≡ splits = without_split-other number name splits rising.1 (λ f. other (ap (λ b. cond b (Some s.name) (split_name splits number)) skip ∙ f)) in
+      grind (arith, nat_tests, common_steps)
+]
+
+pub none_found : (name : List Bool) (o : Option (List Bool)) → o ≡ None → o ≡ Some name → ⊥
+none_found name o none some = let e : ◌≡◌ {A = Option (List Bool)} None (Some name) = sym none ∙ some in cc e
+
+pub found_same : (a b : List Bool) (o : Option (List Bool)) → o ≡ Some a → o ≡ Some b → a ≡ b
+found_same a b o first second = let e : ◌≡◌ {A = Option (List Bool)} (Some a) (Some b) = sym first ∙ second in cc e

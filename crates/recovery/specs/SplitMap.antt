@@ -1,5 +1,7 @@
 -- A map from the numbers of splits to their names, seen as the list of open splits.
-use Rattle.std.specs.Prelude.{ℕ, ◌<◌, Bool, List, [], ◌∷◌, map, ⊤}
+use Rattle.std.specs.Prelude.{ℕ, ◌<◌, Bool, not, ◌&&◌, ◌==◌, List, [], ◌∷◌, map, ⊤}
+use Rattle.std.specs.List.{filter}
+use Rattle.zorder.specs.SameName.{same_name}
 use Rattle.plain_list.specs.State.{OpenSplit}
 
 -- an entry as an open split
@@ -23,3 +25,7 @@ AreBelow n (s ∷ splits) = (s.number < n) × AreBelow n splits
 abbrev pub IsRisingSplits : List OpenSplit → Type 0
 IsRisingSplits [] = ⊤
 IsRisingSplits (s ∷ splits) = AreAbove s.number splits × IsRisingSplits splits
+
+-- the splits but the one with this number and this name
+abbrev pub without_split : ℕ → List Bool → List OpenSplit → List OpenSplit
+without_split number name splits = filter (λ s. not ((s.number == number) && same_name s.name name)) splits

@@ -1,5 +1,5 @@
 //! The leaves, each with the split last begun of it.
-ghost use Rattle.std.specs.Prelude.{◌≡◌, ◌≢◌, ◌⊎◌, ◌+◌, ◌≤◌, ◌<◌, [], ◌∷◌, Bool, ℕ, List, length, true, Some, OnOk, IfOk};
+ghost use Rattle.std.specs.Prelude.{◌≡◌, ◌≢◌, ◌⊎◌, ◌+◌, ◌≤◌, ◌<◌, [], ◌∷◌, Bool, ℕ, List, length, true, Some, OnOk, OnErr, IfOk};
 ghost use Rattle.zorder.specs.Tile.{Tile};
 ghost use Rattle.plain_list.specs.State.{is_leaf, split_leaf};
 ghost use Rattle.recovery.specs.LeafMap.{names_of, split_at, with_begun, halved, new_leaf, KeepsMarks};
@@ -75,6 +75,7 @@ impl LeafMap {
         requires leaf { is_leaf (names_of self.old) name.now ≡ true }
         requires short { length name.now < 64 }
         ensures ok { OnOk result (self.new ≡ halved name.now self.old) }
+        ensures err { OnErr result (self.new ≡ self.old) }
         ensures tile { Tile (names_of self.old) }
     {
         let second = new_leaf(child(name, true));
@@ -93,7 +94,7 @@ impl LeafMap {
         requires short { length name.now + width ≤ 64 }
 
         ensures names { OnOk result (names_of self.new ≡ split_leaf width name.now (names_of self.old)) }
-        ensures kept { OnOk result (KeepsMarks name.now self.old self.new) }
+        ensures kept { KeepsMarks name.now self.old self.new }
     {
         self.halve(name)?;
         if width == 2 {

@@ -4,5 +4,6 @@
 mod leaf_map;
 mod seen;
 mod split_map;
+mod walk;
 
 pub use seen::{InitFault, InitRefused, Leaves, OpenFault, OpenRefused, Opened, Seen};

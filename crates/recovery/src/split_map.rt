@@ -1,7 +1,7 @@
 //! The splits that were begun and haven't ended.
-ghost use Rattle.std.specs.Prelude.{◌≡◌, ◌++◌, [], ◌∷◌, length, OnOk};
+ghost use Rattle.std.specs.Prelude.{◌≡◌, ◌++◌, [], ◌∷◌, length, OnOk, OnErr};
 ghost use Rattle.plain_list.specs.State.{split_name, without_number};
-ghost use Rattle.recovery.specs.SplitMap.{AreBelow, IsRisingSplits};
+ghost use Rattle.recovery.specs.SplitMap.{AreBelow, IsRisingSplits, without_split};
 
 use std::alloc::{AllocError, Global};
 use std::collections::BTreeMap;
@@ -53,7 +53,8 @@ impl SplitMap {
     /// Adds a split with a number above all others.
     pub(crate) fn push(&mut self, number: u64, name: Name) -> Result<(), AllocError>
         requires { AreBelow number self.old }
-        ensures { OnOk result (self.new ≡ self.old ++ record { number = number; name = name } ∷ []) }
+        ensures ok { OnOk result (self.new ≡ self.old ++ record { number = number; name = name } ∷ []) }
+        ensures err { OnErr result (self.new ≡ self.old) }
     {
         self.names.insert(number, name)?;
         Ok(())
@@ -64,5 +65,18 @@ impl SplitMap {
         ensures { self.new ≡ without_number number self.old }
     {
         self.names.remove(&number);
+    }
+
+    /// Takes the split with this number out, if it is there and of this name.
+    pub(crate) fn remove_named(&mut self, number: u64, name: &Name)
+        ensures { self.new ≡ without_split number name.now self.old }
+    {
+        let _rising = self.names.len();
+        let Some(found) = self.name(number) else {
+            return;
+        };
+        if found == *name {
+            self.remove(number);
+        }
     }
 }

@@ -1,7 +1,7 @@
 use Rattle.std.proofs.Common.{◌≡◌, ◌+◌, ◌≤◌, true, false, length, [], ◌∷◌, ◌++◌, sym, ap, ◌∙◌, arith, subst}
 use Rattle.plain_list.specs.State.{is_leaf, split_leaf}
 use Rattle.recovery.specs.LeafMap.{names_of, halved, KeepsMarks}
-use Rattle.recovery.proofs.LeafMaps.{first_half_leaf, second_half_leaf, keeps-quartered, keeps-halved, names_of-halved, names_of-quartered}
+use Rattle.recovery.proofs.LeafMaps.{first_half_leaf, second_half_leaf, keeps-three, keeps-quartered, keeps-halved, names_of-halved, names_of-quartered}
 use Rattle.recovery.proofs.leaf_map.LeafMap.split.Goals as goal
 
 pub halve-requires-then-width-eq2-clause-leaf : goal.halve-requires-then-width-eq2-clause-leaf
@@ -35,3 +35,13 @@ pub returns-else-width-eq2-clause-kept : goal.returns-else-width-eq2-clause-kept
 returns-else-width-eq2-clause-kept c =
     let one : length c.args.name.now + 1 ≤ 64 = omega (arith, c.requires.short, c.requires.width) in
     rw c.in_ok-halve.ensures.ok (keeps-halved c.args.self.now c.args.name.now one c.halve.ensures.tile c.requires.leaf)
+
+pub returns-in_err-halve-2-clause-kept : goal.returns-in_err-halve-2-clause-kept
+returns-in_err-halve-2-clause-kept c =
+    let one : length c.args.name.now + 1 ≤ 64 = omega (arith, c.requires.short, c.requires.width) in
+    rw (c.in_err-halve-2.ensures.err, c.in_ok-halve.ensures.ok) (keeps-halved c.args.self.now c.args.name.now one c.halve.ensures.tile c.requires.leaf)
+
+pub returns-in_err-halve-3-clause-kept : goal.returns-in_err-halve-3-clause-kept
+returns-in_err-halve-3-clause-kept c =
+    let room : length c.args.name.now + 2 ≤ 64 = omega (arith, c.requires.short, c.if-width-eq2.true) in
+    rw (c.in_err-halve-3.ensures.err, c.in_ok-halve-2.ensures.ok, c.in_ok-halve.ensures.ok, c.child.ensures) (keeps-three c.args.self.now c.args.name.now room c.halve.ensures.tile c.requires.leaf)

@@ -1,0 +1,32 @@
+-- The state of the cells walked so far, as it is kept.
+use Rattle.std.specs.Prelude.{◌≡◌, ◌⊎◌, ℕ, ◌+◌, ◌≤◌, true, false, List, length, Some, Result, OnOk, Err}
+use Rattle.std.specs.List.{AllByRecursion}
+use Rattle.cell_format.specs.declared.cell.Cell.{Cell}
+use Rattle.plain_list.specs.State.{State, OpenSplit, step}
+use Rattle.recovery.specs.declared.leaf_map.MarkedLeaf.{MarkedLeaf}
+use Rattle.recovery.specs.declared.walk.StepFault.{StepFault}
+use Rattle.recovery.specs.declared.walk.StepFault.TheVariants.{Impossible}
+use Rattle.recovery.specs.Recovers.{entry_of, is_possible_cell}
+use Rattle.recovery.specs.SplitMap.{IsRisingSplits}
+use Rattle.recovery.specs.LeafMap.{split_at}
+
+-- the width of the splits, and the state
+pub record WalkView : Type 0 where
+  pub width : ℕ
+  pub state : State
+
+-- an open split is the one last begun of its leaf, which may be split
+pub record IsOpen (width begun : ℕ) (leaves : List MarkedLeaf) (s : OpenSplit) : Type 0 where
+  pub mark : split_at leaves s.name ≡ Some s.number
+  pub short : length s.name + width ≤ 64
+  pub number : s.number ≤ begun
+
+pub record IsWalk (width begun : ℕ) (leaves : List MarkedLeaf) (splits : List OpenSplit) : Type 0 where
+  pub known : (width ≡ 1) ⊎ (width ≡ 2)
+  pub rising : IsRisingSplits splits
+  pub each : AllByRecursion (IsOpen width begun leaves) splits
+
+-- a step by a cell: it is possible, and the state is the one after it; or it isn't
+pub record Steps (width : ℕ) (old new : State) (cell : Cell) (result : Result (Unit {0}) StepFault) : Type 0 where
+  pub done : OnOk result ((is_possible_cell width old cell ≡ true) × (new ≡ step width old (entry_of cell)))
+  pub refused : result ≡ Err Impossible → is_possible_cell width old cell ≡ false

@@ -1,0 +1,170 @@
+//! Goes over cells one by one, and keeps the state after them.
+ghost use Rattle.std.specs.Prelude.{◌≡◌, ◌⊎◌, ◌≤◌, IfOk};
+ghost use Rattle.cell_format.specs.declared.cell.Cell.{Cell};
+ghost use Rattle.plain_list.specs.State.{empty_state};
+ghost use Rattle.recovery.specs.Found.{Shows};
+ghost use Rattle.recovery.specs.Walk.{Steps};
+
+use crate::leaf_map::LeafMap;
+use crate::seen::Seen;
+use crate::split_map::SplitMap;
+use cell_format::Cell;
+use plain_list::{MOST_MEMBERS, MemberMap};
+use std::alloc::{AllocError, Global};
+use std::marker::Model;
+use zorder::{Name, Point};
+
+/// Why no step was made.
+#[derive(Clone, Copy, Debug, PartialEq, Eq)]
+pub(crate) enum StepFault {
+    /// The cell isn't possible at this state.
+    Impossible,
+    Memory,
+}
+
+impl From<AllocError> for StepFault {
+    ghost use Rattle.recovery.specs.declared.walk.StepFault.TheVariants.{Memory};
+
+    ghost from_gives = { λ _ e. e ≡ Memory };
+
+    fn from(_: AllocError) -> StepFault {
+        StepFault::Memory
+    }
+}
+
+/// The state after the cells so far.
+#[derive(Drop)]
+pub(crate) struct Walk {
+    width: u8,
+    members: MemberMap,
+    leaves: LeafMap,
+    splits: SplitMap,
+    begun: u64,
+}
+
+impl Model for Walk {
+    ghost use Rattle.recovery.specs.LeafMap.{names_of};
+    ghost use Rattle.recovery.specs.Walk.{WalkView, IsWalk};
+
+    ghost Value = { WalkView };
+
+    ghost view = { λ w. record { width = w.width; state = record { world = w.members; leaves = names_of w.leaves; splits = w.splits; begun = w.begun } } };
+
+    ghost invariant = { λ w. IsWalk w.width w.begun w.leaves w.splits };
+}
+
+impl Walk {
+    /// Before the first cell.
+    pub(crate) fn new(alloc: Global, width: u8) -> Result<Walk, AllocError>
+        requires { (width ≡ 1) ⊎ (width ≡ 2) }
+        ensures { IfOk result (λ w. w ≡ record { width = width; state = empty_state }) }
+    {
+        Ok(Walk {
+            width,
+            members: MemberMap::new(alloc),
+            leaves: LeafMap::whole(alloc)?,
+            splits: SplitMap::new(alloc),
+            begun: 0,
+        })
+    }
+
+    pub(crate) fn step(&mut self, cell: &Cell) -> Result<(), StepFault>
+        ensures steps { Steps self.old.width self.old.state self.new.state cell.now result }
+        ensures width { self.new.width ≡ self.old.width }
+    {
+        match *cell {
+            Cell::Put { id, at } => self.put(id, at),
+            Cell::Move { id, at } => self.relocate(id, at),
+            Cell::Remove { id } => self.remove(id),
+            Cell::Begin { number, name } => self.begin(number, name),
+            Cell::Install { number } => self.install(number),
+            Cell::Abandon { number } => self.abandon(number),
+        }
+    }
+
+    fn put(&mut self, id: u64, at: Point) -> Result<(), StepFault>
+        ensures steps { Steps self.old.width self.old.state self.new.state (Cell.Put id at) result }
+        ensures width { self.new.width ≡ self.old.width }
+    {
+        if self.members.place(id).is_some() || self.members.len() >= MOST_MEMBERS {
+            return Err(StepFault::Impossible);
+        }
+        self.members.insert(id, at)?;
+        Ok(())
+    }
+
+    fn relocate(&mut self, id: u64, at: Point) -> Result<(), StepFault>
+        ensures steps { Steps self.old.width self.old.state self.new.state (Cell.Move id at) result }
+        ensures width { self.new.width ≡ self.old.width }
+    {
+        let Some(old) = self.members.place(id) else {
+            return Err(StepFault::Impossible);
+        };
+        self.members.replace(id, old, at);
+        Ok(())
+    }
+
+    fn remove(&mut self, id: u64) -> Result<(), StepFault>
+        ensures steps { Steps self.old.width self.old.state self.new.state (Cell.Remove id) result }
+        ensures width { self.new.width ≡ self.old.width }
+    {
+        if self.members.place(id).is_none() {
+            return Err(StepFault::Impossible);
+        }
+        self.members.remove(id);
+        Ok(())
+    }
+
+    fn begin(&mut self, number: u64, name: Name) -> Result<(), StepFault>
+        ensures steps { Steps self.old.width self.old.state self.new.state (Cell.Begin number name) result }
+        ensures width { self.new.width ≡ self.old.width }
+    {
+        if number == 0 || number - 1 != self.begun || name.len() + self.width > 64 {
+            return Err(StepFault::Impossible);
+        }
+        let Some(earlier) = self.leaves.split_at(&name) else {
+            return Err(StepFault::Impossible);
+        };
+        self.splits.remove_named(earlier, &name);
+        self.splits.push(number, name)?;
+        self.leaves.begin(name, number);
+        self.begun = number;
+        Ok(())
+    }
+
+    fn install(&mut self, number: u64) -> Result<(), StepFault>
+        ensures steps { Steps self.old.width self.old.state self.new.state (Cell.Install number) result }
+        ensures width { self.new.width ≡ self.old.width }
+    {
+        let Some(name) = self.splits.name(number) else {
+            return Err(StepFault::Impossible);
+        };
+        self.splits.remove(number);
+        self.leaves.split(&name, self.width)?;
+        Ok(())
+    }
+
+    fn abandon(&mut self, number: u64) -> Result<(), StepFault>
+        ensures steps { Steps self.old.width self.old.state self.new.state (Cell.Abandon number) result }
+        ensures width { self.new.width ≡ self.old.width }
+    {
+        if self.splits.name(number).is_none() {
+            return Err(StepFault::Impossible);
+        }
+        self.splits.remove(number);
+        Ok(())
+    }
+
+    /// What was found after so many cells.
+    pub(crate) fn to_seen(&self, alloc: Global, cells: u64) -> Result<Seen, AllocError>
+        ensures { IfOk result (Shows self.now.state cells) }
+    {
+        Ok(Seen {
+            world: self.members.to_world(alloc)?,
+            leaves: self.leaves.to_leaves(alloc)?,
+            unfinished: self.splits.len() as u64,
+            begun: self.begun,
+            cells,
+        })
+    }
+}
