@@ -29,9 +29,9 @@ all_left : (P Q : OpenSplit → Type 0) (p : OpenSplit → Bool) (splits : List 
 all_left P Q p [] gives all = tt
 all_left P Q p (s ∷ splits) gives all = all_if Q (p s) s (filter p splits) (λ left. gives s left all.0) (all_left P Q p splits gives all.1)
 
-all_push : (P : OpenSplit → Type 0) (splits : List OpenSplit) (s : OpenSplit) → AllByRecursion P splits → P s → AllByRecursion P (splits ++ s ∷ [])
-all_push P [] s all holds = (holds, tt)
-all_push P (t ∷ splits) s all holds = (all.0, all_push P splits s all.1 holds)
+pub all_push : {A : Type 0} (P : A → Type 0) (xs : List A) (x : A) → AllByRecursion P xs → P x → AllByRecursion P (xs ++ x ∷ [])
+all_push P [] x all holds = (holds, tt)
+all_push P (y ∷ xs) x all holds = (all.0, all_push P xs x all.1 holds)
 
 -- what holds of the split that is found by its number
 all_found : (P : OpenSplit → Type 0) (splits : List OpenSplit) (number : ℕ) (name : List Bool) → AllByRecursion P splits → split_name splits number ≡ Some name → P (record { number = number; name = name })

@@ -7,6 +7,7 @@ use Rattle.cell_format.specs.declared.cell.Cause.TheVariants as cause
 use Rattle.cell_format.specs.declared.cell.CellFault.TheVariants as fault
 use Rattle.cell_format.specs.Spelling.{IsCell, spelling, header_text}
 use Rattle.cell_format.specs.Decoding.{decoded}
+use Rattle.plain_list.specs.State.{State}
 use Rattle.recovery.specs.Recovers.{IsLegalCells, is_possible_cell, state_of}
 
 -- the bytes begin with a header and these cells, which are legal, and this stands behind them
@@ -15,13 +16,13 @@ pub record BeginsWith (w : ℕ) (cells : List Cell) (tail bytes : List ℕ) : Ty
   pub legal : IsLegalCells w cells
   pub parts : bytes ≡ header_text w ++ flat_map spelling cells ++ tail
 
--- what is wrong with the cell at the front of these bytes, after these cells
-abbrev pub IsWrong : ℕ → List Cell → List ℕ → Cause → Type 0
-IsWrong w cells tail cause.ShortCell = length tail < 33
-IsWrong w cells tail cause.Kind = (33 ≤ length tail) × (decoded (take 32 tail) ≡ Err fault.Kind)
-IsWrong w cells tail cause.Reserved = (33 ≤ length tail) × (decoded (take 32 tail) ≡ Err fault.Reserved)
-IsWrong w cells tail cause.BadName = (33 ≤ length tail) × (decoded (take 32 tail) ≡ Err fault.BadName)
-IsWrong w cells tail cause.Impossible = (33 ≤ length tail) × (next : Cell) × (decoded (take 32 tail) ≡ Ok next) × (is_possible_cell w (state_of w cells) next ≡ false)
+-- what is wrong with the cell at the front of these bytes, whose commit byte is set, at a state
+abbrev pub IsWrong : ℕ → State → List ℕ → Cause → Type 0
+IsWrong w s tail cause.ShortCell = length tail < 33
+IsWrong w s tail cause.Kind = (33 ≤ length tail) × (decoded (take 32 tail) ≡ Err fault.Kind)
+IsWrong w s tail cause.Reserved = (33 ≤ length tail) × (decoded (take 32 tail) ≡ Err fault.Reserved)
+IsWrong w s tail cause.BadName = (33 ≤ length tail) × (decoded (take 32 tail) ≡ Err fault.BadName)
+IsWrong w s tail cause.Impossible = (33 ≤ length tail) × (next : Cell) × (decoded (take 32 tail) ≡ Ok next) × (is_possible_cell w s next ≡ false)
 
 -- this cell is the first with its commit byte set that is short, has no spelling or is impossible, and its number is below most
 pub record IsDamaged (w most : ℕ) (bytes : List ℕ) (number : ℕ) (why : Cause) : Type 0 where
@@ -31,7 +32,7 @@ pub record IsDamaged (w most : ℕ) (bytes : List ℕ) (number : ℕ) (why : Cau
   pub place : length cells ≡ number
   pub few : number < most
   pub commit_byte : slice_index tail 0 ≡ 1
-  pub wrong : IsWrong w cells tail why
+  pub wrong : IsWrong w (state_of w cells) tail why
 
 -- the first `most` cells are legal, and the next commit byte is set
 pub record IsTooLong (w most : ℕ) (bytes : List ℕ) : Type 0 where

@@ -2,6 +2,7 @@
 #![tactic(auto)]
 
 mod leaf_map;
+mod pieces;
 mod seen;
 mod split_map;
 mod walk;

@@ -1,0 +1,100 @@
+-- Walks over pieces of a log.
+use Rattle.std.proofs.Common.{◌≡◌, ℕ, ◌+◌, ◌<◌, ◌≤◌, Bool, true, ◌&&◌, List, [], ◌∷◌, ◌++◌, length, take, drop, map, refl, sym, ◌∙◌, ap, subst, arith, append_assoc, length-append, length-drop}
+use Rattle.std.specs.Prelude.{slice_index, Result, Ok, Err, IfErr}
+use Rattle.std.specs.Result.{IsErrAnd}
+use Rattle.std.specs.List.{flat_map, AllByRecursion}
+use Rattle.std.specs.Cmp.{first_so, second_so}
+use Rattle.std.specs.Cmp.Derive.{both_true}
+use Rattle.std.proofs.lemmas.List.{append-nil, take-append-drop}
+use Rattle.std.proofs.lemmas.Grind.{flat_map-append}
+use Rattle.cell_format.specs.declared.cell.Cell.{Cell}
+use Rattle.cell_format.specs.Spelling.{IsCell, spelling}
+use Rattle.plain_list.specs.State.{State, step}
+use Rattle.recovery.specs.declared.seen.OpenFault.{OpenFault}
+use Rattle.recovery.specs.declared.pieces.Stop.{Stop}
+use Rattle.recovery.specs.Recovers.{is_legal_cells, cells_after, is_possible_cell, entry_of}
+use Rattle.recovery.specs.Walk.{WalkView}
+use Rattle.recovery.specs.Pieces.{Passes, PassesOne, Comes, FailsAt, StopsAt, Walks, Breaks}
+use Rattle.recovery.proofs.Walks.{all_push}
+
+-- cells followed by cells
+pub cells_after-append : (w : ℕ) (s : State) (first second : List Cell) → cells_after w s (first ++ second) ≡ cells_after w (cells_after w s first) second
+cells_after-append w s [] second = refl
+cells_after-append w s (c ∷ first) second = cells_after-append w (step w s (entry_of c)) first second
+
+pub is_legal-append : (w : ℕ) (s : State) (first second : List Cell) → is_legal_cells w s first ≡ true → is_legal_cells w (cells_after w s first) second ≡ true → is_legal_cells w s (first ++ second) ≡ true
+is_legal-append w s [] second legal more = more
+is_legal-append w s (c ∷ first) second legal more =
+    both_true (first_so (is_possible_cell w s c) (is_legal_cells w (step w s (entry_of c)) first) legal)
+    (is_legal-append w (step w s (entry_of c)) first second (second_so (is_possible_cell w s c) (is_legal_cells w (step w s (entry_of c)) first) legal) more)
+
+pub all_append : {A : Type 0} (P : A → Type 0) (xs ys : List A) → AllByRecursion P xs → AllByRecursion P ys → AllByRecursion P (xs ++ ys)
+all_append P [] ys all more = more
+all_append P (x ∷ xs) ys all more = (all.0, all_append P xs ys all.1 more)
+
+-- the cells passed, and the next ones behind them
+pub passes-append : (w : ℕ) (s : State) (first second : List Cell) (piece middle tail : List ℕ) → Passes w s first piece middle → Passes w (cells_after w s first) second middle tail → Passes w s (first ++ second) piece tail
+passes-append w s first second piece middle tail a b = record {
+  cells_fit = all_append IsCell first second a.cells_fit b.cells_fit;
+  legal = is_legal-append w s first second a.legal b.legal;
+  parts = a.parts ∙ ap (λ (l : List ℕ). flat_map spelling first ++ l) b.parts ∙ sym (append_assoc (flat_map spelling first) (flat_map spelling second) tail)
+      ∙ ap (λ (l : List ℕ). l ++ tail) (sym (flat_map-append spelling first second));
+}
+
+-- the cell at the front, passed
+passes_one : (w : ℕ) (old new : State) (tail : List ℕ) (one : PassesOne w old new tail) → Passes w old (one.cell ∷ []) tail (drop 32 tail)
+passes_one w old new tail one = record {
+  cells_fit = (one.fits, tt);
+  legal = both_true one.possible refl;
+  parts = sym (take-append-drop 32 tail) ∙ ap (λ (l : List ℕ). l ++ drop 32 tail) (one.spelled ∙ sym (append-nil (spelling one.cell)));
+}
+
+pub comes_more : (most from number : ℕ) (old now new : WalkView) (piece tail : List ℕ) → Comes most from number old now piece tail → PassesOne now.width now.state new.state tail → new.width ≡ now.width → 33 ≤ length tail → number < most
+    → Comes most from (number + 1) old new piece (drop 32 tail)
+comes_more most from number old now new piece tail come one kept long few =
+    let at : PassesOne old.width (cells_after old.width old.state come.cells) new.state tail = subst (λ s. PassesOne old.width s new.state tail) come.state (subst (λ w. PassesOne w now.state new.state tail) come.width one) in
+    record {
+      cells = come.cells ++ at.cell ∷ [];
+      passed = passes-append old.width old.state come.cells (at.cell ∷ []) piece tail (drop 32 tail) come.passed (passes_one old.width (cells_after old.width old.state come.cells) new.state tail at);
+      state = at.state ∙ sym (cells_after-append old.width old.state come.cells (at.cell ∷ []));
+      width = kept ∙ come.width;
+      count = omega (arith, come.count, length-append come.cells (at.cell ∷ []));
+      few = omega (arith, few);
+      some = omega (arith, long, length-drop 32 tail);
+    }
+
+pub breaks : (most from number : ℕ) (old now : WalkView) (piece tail : List ℕ) (fault : OpenFault) → Comes most from number old now piece tail → FailsAt now.width most number now.state tail fault → Breaks old.width most from old.state piece fault
+breaks most from number old now piece tail fault come fails = record {
+  cells = come.cells;
+  tail = tail;
+  passed = come.passed;
+  fails = subst (λ n. FailsAt old.width most n (cells_after old.width old.state come.cells) tail fault) come.count
+      (subst (λ s. FailsAt old.width most number s tail fault) come.state (subst (λ w. FailsAt w most number now.state tail fault) come.width fails));
+}
+
+pub walks : (most from number : ℕ) (old now : WalkView) (piece tail : List ℕ) (stop : Stop) → Comes most from number old now piece tail → StopsAt most number tail stop → Walks old.width most from old.state now.state piece stop
+walks most from number old now piece tail stop come stops = record {
+  cells = come.cells;
+  tail = tail;
+  passed = come.passed;
+  state = come.state;
+  some = come.some;
+  stops = subst (λ n. StopsAt most n tail stop) come.count stops;
+}
+
+-- before the first cell
+pub comes_first : (most from : ℕ) (old : WalkView) (piece : List ℕ) → from ≤ most → 1 ≤ length piece → Comes most from from old old piece piece
+comes_first most from old piece few some = record {
+  cells = [];
+  passed = record { cells_fit = tt; legal = refl; parts = refl };
+  state = refl;
+  width = refl;
+  count = omega arith;
+  few = few;
+  some = some;
+}
+
+-- what is said of a fault is said of the one that is passed on
+pub passed_on : {T : Type 0} (result : Result T OpenFault) (fault : OpenFault) (P : OpenFault → Type 0) → IsErrAnd result (λ e. e ≡ fault) → P fault → IfErr result P
+passed_on (Ok x) fault P same holds = tt
+passed_on (Err e) fault P same holds = subst P (sym same) holds
