@@ -1,20 +1,23 @@
 -- The first place at fault in the bytes of a log.
-use Rattle.std.specs.Prelude.{◌≡◌, ◌≢◌, ◌⊎◌, ℕ, ◌<◌, ◌≤◌, false, List, ◌++◌, length, take, drop, replicate, slice_index, Ok, Err}
-use Rattle.std.specs.List.{flat_map, AllByRecursion}
+use Rattle.std.specs.Prelude.{◌≡◌, ◌≢◌, ◌⊎◌, ℕ, ◌<◌, ◌≤◌, false, List, ◌++◌, length, take, drop, replicate, slice_index, Ok, Err, ⊤}
+use Rattle.std.specs.List.{AllByRecursion}
 use Rattle.cell_format.specs.declared.cell.Cell.{Cell}
 use Rattle.cell_format.specs.declared.cell.Cause.{Cause}
 use Rattle.cell_format.specs.declared.cell.Cause.TheVariants as cause
 use Rattle.cell_format.specs.declared.cell.CellFault.TheVariants as fault
-use Rattle.cell_format.specs.Spelling.{IsCell, spelling, header_text}
+use Rattle.cell_format.specs.Spelling.{IsCell, header_text}
 use Rattle.cell_format.specs.Decoding.{decoded}
+use Rattle.split_log.specs.LogText.{front_of}
 use Rattle.plain_list.specs.State.{State}
+use Rattle.recovery.specs.declared.seen.OpenFault.{OpenFault}
+use Rattle.recovery.specs.declared.seen.OpenFault.TheVariants.{NotLog, OldLog, Damaged, Disk, Memory, TooLong}
 use Rattle.recovery.specs.Recovers.{IsLegalCells, is_possible_cell, state_of}
 
 -- the bytes begin with a header and these cells, which are legal, and this stands behind them
 pub record BeginsWith (w : ℕ) (cells : List Cell) (tail bytes : List ℕ) : Type 0 where
   pub cells_fit : AllByRecursion IsCell cells
   pub legal : IsLegalCells w cells
-  pub parts : bytes ≡ header_text w ++ flat_map spelling cells ++ tail
+  pub parts : bytes ≡ front_of w cells ++ tail
 
 -- what is wrong with the cell at the front of these bytes, whose commit byte is set, at a state
 abbrev pub IsWrong : ℕ → State → List ℕ → Cause → Type 0
@@ -51,3 +54,12 @@ pub record IsOldLog (w : ℕ) (bytes : List ℕ) (version width : ℕ) : Type 0 
   pub version_is : version ≡ slice_index bytes 8
   pub width_is : width ≡ slice_index bytes 9
   pub other : (version ≢ 1) ⊎ (width ≢ w)
+
+-- what is at fault in the bytes; that the drive failed or memory ran out isn't seen there
+abbrev pub IsFault : ℕ → ℕ → List ℕ → OpenFault → Type 0
+IsFault w most bytes NotLog = IsNotLog bytes
+IsFault w most bytes (OldLog version width) = IsOldLog w bytes version width
+IsFault w most bytes (Damaged number why) = IsDamaged w most bytes number why
+IsFault w most bytes (TooLong limit) = (limit ≡ most) × IsTooLong w most bytes
+IsFault w most bytes Disk = ⊤
+IsFault w most bytes Memory = ⊤

@@ -36,9 +36,9 @@ cause_of fault.Kind = cause.Kind
 cause_of fault.Reserved = cause.Reserved
 cause_of fault.BadName = cause.BadName
 
--- the cell of this number is the first at fault, for this reason
+-- the cell of this number, which is whole in the piece, is the first at fault, for this reason
 abbrev pub FailsAt : ℕ → ℕ → ℕ → State → List ℕ → OpenFault → Type 0
-FailsAt w most number s tail (Damaged n why) = (n ≡ number) × (number < most) × (slice_index tail 0 ≡ 1) × IsWrong w s tail why
+FailsAt w most number s tail (Damaged n why) = (n ≡ number) × (number < most) × (slice_index tail 0 ≡ 1) × (33 ≤ length tail) × IsWrong w s tail why
 FailsAt w most number s tail (TooLong m) = (m ≡ most) × (number ≡ most) × (slice_index tail 0 ≡ 1)
 FailsAt w most number s tail Memory = ⊤
 FailsAt w most number s tail NotLog = ⊥

@@ -3,6 +3,7 @@
 
 mod leaf_map;
 mod pieces;
+mod reading;
 mod seen;
 mod split_map;
 mod walk;

@@ -78,7 +78,8 @@ fn behind(tail: &[u8]) -> &[u8]
     &tail[CELL..]
 }
 
-fn damaged(cell: u64, cause: Cause) -> OpenFault
+/// The cell of this number is at fault.
+pub(crate) fn damaged(cell: u64, cause: Cause) -> OpenFault
     ensures { result ≡ OpenFault.Damaged cell cause }
 {
     OpenFault::Damaged { cell, cause }

@@ -14,7 +14,7 @@ pub length-header : (w : ℕ) → length (header_text w) ≡ 16
 unfolding header_text
 length-header w = refl
 
-length-cells : (cells : List Cell) → length (flat_map spelling cells) ≡ 32 * length cells
+pub length-cells : (cells : List Cell) → length (flat_map spelling cells) ≡ 32 * length cells
 length-cells [] = refl
 length-cells (c ∷ cells) = omega (arith, length-append (spelling c) (flat_map spelling cells), length-spelling c, length-cells cells)
 

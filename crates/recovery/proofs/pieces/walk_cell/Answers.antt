@@ -6,4 +6,4 @@ pub returns-in-Err-Impossible-clause-err : goal.returns-in-Err-Impossible-clause
 returns-in-Err-Impossible-clause-err c most lt =
     let spelled = ap decoded (sym c.front.ensures) ∙ sym c.decode.ensures.value ∙ c.in-Ok.is in
     let bad = c.step.ensures.steps.refused (rw c.in-Err-Impossible.field-0-is at c.in-Err-Impossible.is) in
-    rw c.damaged-in-Err-Impossible.ensures (refl, lt, c.requires.committed, (c.requires.long, c.in-Ok.cell, spelled, bad))
+    rw c.damaged-in-Err-Impossible.ensures (refl, lt, c.requires.committed, c.requires.long, (c.requires.long, c.in-Ok.cell, spelled, bad))

@@ -1,0 +1,80 @@
+-- Calls that only read, one after the other.
+use Rattle.std.proofs.Common.{◌≡◌, ℕ, ◌+◌, ◌-◌, ◌^◌, ◌<◌, ◌≤◌, min, List, length, Some, refl, sym, ◌∙◌, ap, subst, arith}
+use Rattle.std.specs.Prelude.{Result, Ok, Err, IsErrOf}
+use Rattle.std.specs.Result.{IsErrAnd}
+use Rattle.causes.specs.Causes.{Rose}
+use Rattle.disk_trait.specs.Drive.{Drive, Stays}
+use Rattle.recovery.specs.declared.seen.OpenFault.{OpenFault}
+use Rattle.recovery.specs.declared.seen.OpenFault.TheVariants.{Disk}
+use Rattle.recovery.specs.declared.pieces.Stop.TheVariants.{Set}
+use Rattle.recovery.specs.Faults.{IsFault}
+use Rattle.recovery.specs.Walk.{WalkView}
+use Rattle.recovery.specs.Reading.{Reaches, Ends, GoesOn, OnlyReads, IsReading}
+
+pub stays-trans : (a b c : Drive) → Stays a b → Stays b c → Stays a c
+stays-trans a b c first second = record {
+  bytes = second.bytes ∙ first.bytes;
+  images = λ x left. first.images x (second.images x left);
+  moment = second.moment ∙ first.moment;
+  since = λ t x left. first.since t x (second.since t x left);
+  keeps = λ t x left. second.keeps t x (first.keeps t x left);
+}
+
+pub rose-earlier : (a b c : ℕ) → a ≤ b → Rose b c → Rose a c
+rose-earlier a b c le rose = omega (arith, le, rose)
+
+err_same : {T : Type 0} (result : Result T OpenFault) (fault : OpenFault) → IsErrAnd result (λ e. e ≡ fault) → IsErrOf result Disk → Disk ≡ fault
+err_same (Ok x) fault same is = cc is
+err_same (Err e) fault same is = let e_is : e ≡ Disk = cc is in sym e_is ∙ same
+
+-- the fault of a later call, passed on
+pub reads_passed : {T U : Type 0} (a b c : Drive) (first : Result T OpenFault) (result : Result U OpenFault) (fault : OpenFault) → Stays a b → a.faults ≤ b.faults → first ≡ Err fault → OnlyReads b c first
+    → IsErrAnd result (λ e. e ≡ fault) → OnlyReads a c result
+reads_passed a b c first result fault stays later is reads same = record {
+  stays = stays-trans a b c stays reads.stays;
+  later = omega (arith, later, reads.later);
+  failed = λ disk. rose-earlier a.faults b.faults c.faults later (reads.failed (is ∙ sym (ap (λ e. Err e) (err_same result fault same disk))));
+}
+
+pub reads_ok : {T U : Type 0} (a b c : Drive) (first : Result T OpenFault) (x : U) → Stays a b → a.faults ≤ b.faults → OnlyReads b c first → OnlyReads a c (Ok x)
+reads_ok a b c first x stays later reads = record {
+  stays = stays-trans a b c stays reads.stays;
+  later = omega (arith, later, reads.later);
+  failed = λ disk. cc disk;
+}
+
+reaches_stays : (most len n : ℕ) (b c : Drive) (walk : WalkView) → Stays b c → Reaches most len n b walk → Reaches most len n c walk
+reaches_stays most len n b c walk stays came = record {
+  cells = came.cells;
+  legal = came.legal;
+  state = came.state;
+  count = came.count;
+  few = came.few;
+  room = came.room;
+  begins = λ xs told. came.begins xs (sym stays.bytes ∙ told);
+}
+
+module _ (most len n : ℕ) (before now : Drive) (first walk : WalkView) (buffer : List ℕ) (reading : IsReading most len n before now first walk buffer) where
+  pub reading_next : {T : Type 0} (m : ℕ) (after : Drive) (new : WalkView) (piece : List ℕ) (result : Result T OpenFault) → GoesOn most len n now new (Set m) → OnlyReads now after result → new.width ≡ walk.width → length piece ≡ 65537
+      → IsReading most len m before after first new piece
+  reading_next m after new piece result on reads width long = record {
+    came = reaches_stays most len m now after new reads.stays on.1;
+    stays = stays-trans before now after reading.stays reads.stays;
+    later = omega (arith, reading.later, reads.later);
+    width = width ∙ reading.width;
+    long = long;
+  }
+
+  pub reading_fails : (e : OpenFault) → ((xs : List ℕ) → now.bytes ≡ Some xs → IsFault walk.width most xs e) → (xs : List ℕ) → before.bytes ≡ Some xs → IsFault first.width most xs e
+  reading_fails e fails xs told = subst (λ w. IsFault w most xs e) reading.width (fails xs (reading.stays.bytes ∙ told))
+
+  pub reading_ends : (m : ℕ) (new : WalkView) → Ends most len m now new → Ends most len m before new
+  reading_ends m new ends = record {
+    cells = ends.cells;
+    legal = ends.legal;
+    state = ends.state;
+    count = ends.count;
+    few = ends.few;
+    room = ends.room;
+    text = λ xs told. ends.text xs (reading.stays.bytes ∙ told);
+  }

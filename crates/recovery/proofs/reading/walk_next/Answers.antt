@@ -1,0 +1,28 @@
+use Rattle.recovery.proofs.PieceLemmas.{passed_on}
+use Rattle.recovery.proofs.ReadingLemmas.{broken, ended, went_on, cut_short}
+use Rattle.std.proofs.Common.{arith}
+use Rattle.recovery.proofs.reading.walk_next.Goals as goal
+
+pub returns-in_err-all-clause-err : goal.returns-in_err-all-clause-err
+returns-in_err-all-clause-err g c =
+    passed_on c.from_residual-in_err-all.result _ _ c.from_residual-in_err-all.ensures.1
+    (broken c.args.most c.args.len c.args.cells c.in_ok-got.got (g.D.LogDisk.drive c.args.disk.now) c.args.walk.now c.read_piece.new.buffer c.requires.came c.in_ok-got.ensures.ok _ c.in_err-all.ensures.err)
+
+pub returns-in-Clear-clause-ok : goal.returns-in-Clear-clause-ok
+returns-in-Clear-clause-ok g c =
+    let walks = rw c.in-Clear.is at c.in_ok-all.ensures.ok in
+    ended c.args.most c.args.len c.args.cells c.in_ok-got.got (g.D.LogDisk.drive c.args.disk.now) c.args.walk.now c.read_piece.new.buffer c.requires.came c.in_ok-got.ensures.ok
+    c.walk_piece.new.walk c.walk_piece.ensures.width c.in-Clear.all walks
+
+pub returns-in-Set-clause-ok : goal.returns-in-Set-clause-ok
+returns-in-Set-clause-ok g c =
+    let walks = rw c.in-Set.is at c.in_ok-all.ensures.ok in
+    went_on c.args.most c.args.len c.args.cells c.in_ok-got.got (g.D.LogDisk.drive c.args.disk.now) c.args.walk.now c.read_piece.new.buffer c.requires.came c.in_ok-got.ensures.ok
+    c.walk_piece.new.walk c.walk_piece.ensures.width c.in-Set.number (omega (arith, c.if-got-eq-PIECE.true)) c.read_piece.ensures.long walks
+
+pub returns-in-Set-2-clause-err : goal.returns-in-Set-2-clause-err
+returns-in-Set-2-clause-err g c =
+    let walks = rw c.in-Set.is at c.in_ok-all.ensures.ok in
+    rw c.damaged-in-Set-2.ensures
+    (cut_short c.args.most c.args.len c.args.cells c.in_ok-got.got (g.D.LogDisk.drive c.args.disk.now) c.args.walk.now c.read_piece.new.buffer c.requires.came c.in_ok-got.ensures.ok
+    c.walk_piece.new.walk c.walk_piece.ensures.width c.in-Set.number (omega (arith, c.if-got-eq-PIECE.false, c.in_ok-got.ensures.ok.0)) walks)

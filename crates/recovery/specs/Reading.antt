@@ -1,0 +1,55 @@
+-- How far the reading of a log has come.
+use Rattle.std.specs.Prelude.{◌≡◌, ℕ, ◌+◌, ◌*◌, ◌-◌, ◌<◌, ◌≤◌, min, List, length, take, drop, Some, Result, IfOk, IsErrOf}
+use Rattle.causes.specs.Causes.{Rose}
+use Rattle.cell_format.specs.declared.cell.Cell.{Cell}
+use Rattle.disk_trait.specs.Drive.{Drive, Stays}
+use Rattle.recovery.specs.declared.seen.OpenFault.{OpenFault}
+use Rattle.recovery.specs.declared.seen.OpenFault.TheVariants.{Disk}
+use Rattle.recovery.specs.declared.pieces.Stop.{Stop}
+use Rattle.recovery.specs.declared.pieces.Stop.TheVariants.{Clear, Set}
+use Rattle.recovery.specs.Recovers.{IsLegalCells, Recovers, state_of}
+use Rattle.recovery.specs.Faults.{BeginsWith}
+use Rattle.recovery.specs.Walk.{WalkView}
+
+-- so many cells of a file of this length were walked: they are legal, and where the bytes are known, they stand at their front
+pub record Reaches (most len number : ℕ) (drive : Drive) (walk : WalkView) : Type 0 where
+  pub cells : List Cell
+  pub legal : IsLegalCells walk.width cells
+  pub state : walk.state ≡ state_of walk.width cells
+  pub count : length cells ≡ number
+  pub few : number ≤ most
+  pub room : 17 + 32 * number ≤ len
+  pub begins : (xs : List ℕ) → drive.bytes ≡ Some xs → (length xs ≡ len) × (rest : List ℕ) × BeginsWith walk.width cells rest xs
+
+-- and they are all cells of the log
+pub record Ends (most len number : ℕ) (drive : Drive) (walk : WalkView) : Type 0 where
+  pub cells : List Cell
+  pub legal : IsLegalCells walk.width cells
+  pub state : walk.state ≡ state_of walk.width cells
+  pub count : length cells ≡ number
+  pub few : number ≤ most
+  pub room : 17 + 32 * number ≤ len
+  pub text : (xs : List ℕ) → drive.bytes ≡ Some xs → Recovers walk.width cells xs
+
+-- after one more piece
+abbrev pub GoesOn : ℕ → ℕ → ℕ → Drive → WalkView → Stop → Type 0
+GoesOn most len before drive walk (Clear n) = Ends most len n drive walk
+GoesOn most len before drive walk (Set n) = (before < n) × Reaches most len n drive walk
+
+-- a call that only reads: the bytes and the images stay, the count doesn't fall, and the drive's fault comes only where it rose
+pub record OnlyReads {T : Type 0} (old new : Drive) (result : Result T OpenFault) : Type 0 where
+  pub stays : Stays old new
+  pub later : old.faults ≤ new.faults
+  pub failed : IsErrOf result Disk → Rose old.faults new.faults
+
+-- the bytes read from a place into the first of so much room
+abbrev pub ReadsPiece : Drive → ℕ → ℕ → List ℕ → ℕ → Type 0
+ReadsPiece drive at room after got = (got ≤ room) × ((xs : List ℕ) → drive.bytes ≡ Some xs → (got ≡ min room (length xs - at)) × (take got after ≡ take got (drop at xs)))
+
+-- how far the reading of a whole log has come, since it began
+pub record IsReading (most len number : ℕ) (before now : Drive) (first walk : WalkView) (buffer : List ℕ) : Type 0 where
+  pub came : Reaches most len number now walk
+  pub stays : Stays before now
+  pub later : before.faults ≤ now.faults
+  pub width : walk.width ≡ first.width
+  pub long : length buffer ≡ 65537
