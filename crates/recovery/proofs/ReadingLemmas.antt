@@ -21,6 +21,8 @@ use Rattle.recovery.specs.Faults.{BeginsWith, IsWrong, IsDamaged, IsTooLong, IsF
 use Rattle.recovery.specs.Walk.{WalkView}
 use Rattle.recovery.specs.Pieces.{Passes, FailsAt, StopsAt, Walks, Breaks}
 use Rattle.recovery.specs.Reading.{Reaches, Ends, GoesOn, ReadsPiece}
+use Rattle.recovery.specs.Headers.{HasHeader}
+use Rattle.recovery.proofs.Heads.{begins_first}
 use Rattle.recovery.proofs.PieceLemmas.{cells_after-append, is_legal-append, all_append}
 
 -- what stands behind a front tells the first byte and the cell at its front
@@ -198,3 +200,16 @@ module _ (most len n got : ℕ) (drive : Drive) (old : WalkView) (buffer : List 
   -- a file with room for a commit byte isn't read empty
   pub read_some : (xs : List ℕ) → drive.bytes ≡ Some xs → 1 ≤ got
   read_some xs told = omega (arith, (cut xs told).2, came.room)
+
+-- before the first cell
+pub reaches_first : (w most len : ℕ) (drive : Drive) (walk : WalkView) → walk ≡ record { width = w; state = empty_state } → 17 ≤ len → ((xs : List ℕ) → drive.bytes ≡ Some xs → length xs ≡ len)
+    → ((xs : List ℕ) → drive.bytes ≡ Some xs → HasHeader w xs) → Reaches most len 0 drive walk
+reaches_first w most len drive walk first long whole has = subst (λ v. Reaches most len 0 drive v) (sym first) (record {
+  cells = [];
+  legal = refl;
+  state = refl;
+  count = refl;
+  few = omega arith;
+  room = omega (arith, long);
+  begins = λ xs told. (whole xs told, (has xs told).rest, begins_first w xs (has xs told));
+})

@@ -45,10 +45,15 @@ pub record IsTooLong (w most : ℕ) (bytes : List ℕ) : Type 0 where
   pub place : length cells ≡ most
   pub commit_byte : slice_index tail 0 ≡ 1
 
--- fewer than 17 bytes, or not the eight letters, or one of bytes 10 to 15 isn't 0
-abbrev pub IsNotLog : List ℕ → Type 0
-IsNotLog bytes = (length bytes < 17) ⊎ (take 8 bytes ≢ take 8 (header_text 1)) ⊎ (take 6 (drop 10 bytes) ≢ replicate 6 0)
+-- not the eight letters, or one of bytes 10 to 15 isn't 0
+abbrev pub HasOtherHead : List ℕ → Type 0
+HasOtherHead bytes = (take 8 bytes ≢ take 8 (header_text 1)) ⊎ (take 6 (drop 10 bytes) ≢ replicate 6 0)
 
+-- fewer than 17 bytes, or another head
+abbrev pub IsNotLog : List ℕ → Type 0
+IsNotLog bytes = (length bytes < 17) ⊎ HasOtherHead bytes
+
+-- a log of another version or width
 pub record IsOldLog (w : ℕ) (bytes : List ℕ) (version width : ℕ) : Type 0 where
   pub is_log : IsNotLog bytes → ⊥
   pub version_is : version ≡ slice_index bytes 8

@@ -8,7 +8,9 @@ use Rattle.recovery.specs.declared.seen.OpenFault.TheVariants.{Disk}
 use Rattle.recovery.specs.declared.pieces.Stop.{Stop}
 use Rattle.recovery.specs.declared.pieces.Stop.TheVariants.{Clear, Set}
 use Rattle.recovery.specs.Recovers.{IsLegalCells, Recovers, state_of}
+use Rattle.recovery.specs.declared.seen.Seen.{Seen}
 use Rattle.recovery.specs.Faults.{BeginsWith}
+use Rattle.recovery.specs.Found.{IsFound}
 use Rattle.recovery.specs.Walk.{WalkView}
 
 -- so many cells of a file of this length were walked: they are legal, and where the bytes are known, they stand at their front
@@ -53,3 +55,9 @@ pub record IsReading (most len number : ℕ) (before now : Drive) (first walk : 
   pub later : before.faults ≤ now.faults
   pub width : walk.width ≡ first.width
   pub long : length buffer ≡ 65537
+
+-- what was found in a file of this length, which has room for the cells and a commit byte
+pub record IsFoundIn (w most : ℕ) (drive : Drive) (seen : Seen) (len : ℕ) : Type 0 where
+  pub found : IsFound w most drive seen
+  pub room : 17 + 32 * seen.cells ≤ len
+  pub whole : (bytes : List ℕ) → drive.bytes ≡ Some bytes → length bytes ≡ len

@@ -1,0 +1,96 @@
+//! Says what a log was found to say, and reads alone.
+ghost use Rattle.std.specs.Prelude.{◌≡◌, ◌⊎◌, ◌≤◌, ◌<◌, ◌^◌, ℕ, List, Some, length, slice_index, take, drop, replicate, OnOk, IfOk, IfErr};
+ghost use Rattle.cell_format.specs.Spelling.{header_text};
+ghost use Rattle.recovery.specs.Headers.{HasHeader, FailsHead};
+ghost use Rattle.recovery.specs.Faults.{IsFault};
+ghost use Rattle.recovery.specs.Reading.{OnlyReads, IsFoundIn};
+ghost use Rattle.recovery.specs.Found.{IsFound};
+
+use crate::reading::walk_cells;
+use crate::seen::{OpenFault, Seen};
+use crate::walk::Walk;
+use cell_format::header;
+use disk_trait::LogDisk;
+use std::alloc::Global;
+
+/// What was found in a log, and how long its file is.
+#[derive(Drop)]
+pub(crate) struct Found {
+    pub(crate) seen: Seen,
+    pub(crate) len: u64,
+}
+
+/// The state after the cells of a log whose splits make `2 ^ width` children, where there are at most `most`.
+pub fn inspect<D: LogDisk>(
+    alloc: Global,
+    disk: &mut D,
+    width: u8,
+    most: u64,
+) -> Result<Seen, OpenFault>
+    requires width { (width ≡ 1) ⊎ (width ≡ 2) }
+
+    ensures found { IfOk result (IsFound width most (D.drive disk.old)) }
+    ensures fault { IfErr result (λ e. (bytes : List ℕ) → (D.drive disk.old).bytes ≡ Some bytes → IsFault width most bytes e) }
+    ensures reads { OnlyReads (D.drive disk.old) (D.drive disk.new) result }
+{
+    let found = read_log(alloc, disk, width, most)?;
+    Ok(found.seen)
+}
+
+/// Reads the whole log.
+pub(crate) fn read_log<D: LogDisk>(
+    alloc: Global,
+    disk: &mut D,
+    width: u8,
+    most: u64,
+) -> Result<Found, OpenFault>
+    requires width { (width ≡ 1) ⊎ (width ≡ 2) }
+
+    ensures found { IfOk result (λ f. IsFoundIn width most (D.drive disk.old) f.seen f.len) }
+    ensures fault { IfErr result (λ e. (bytes : List ℕ) → (D.drive disk.old).bytes ≡ Some bytes → IsFault width most bytes e) }
+    ensures reads { OnlyReads (D.drive disk.old) (D.drive disk.new) result }
+{
+    let len = disk.len()?;
+    test_header(disk, len, width)?;
+    let mut walk = Walk::new(alloc, width)?;
+    let cells = walk_cells(alloc, disk, &mut walk, len, most)?;
+    let seen = walk.to_seen(alloc, cells)?;
+    Ok(Found { seen, len })
+}
+
+/// Tests the head of a file of this length.
+fn test_header<D: LogDisk>(disk: &mut D, len: u64, width: u8) -> Result<(), OpenFault>
+    requires len { (xs : List ℕ) → (D.drive disk.old).bytes ≡ Some xs → length xs ≡ len }
+
+    ensures ok { OnOk result ((17 ≤ len) × ((xs : List ℕ) → (D.drive disk.old).bytes ≡ Some xs → HasHeader width xs)) }
+    ensures err { IfErr result (λ e. (xs : List ℕ) → (D.drive disk.old).bytes ≡ Some xs → (most : ℕ) → IsFault width most xs e) }
+    ensures reads { OnlyReads (D.drive disk.old) (D.drive disk.new) result }
+{
+    if len < 17 {
+        return Err(OpenFault::NotLog);
+    }
+    let mut head = [0; 16];
+    let got = disk.read(0, &mut head)?;
+    if got < 16 {
+        return Err(OpenFault::NotLog);
+    }
+    test_head(&head, width)
+}
+
+/// Tests the first 16 bytes.
+fn test_head(head: &[u8; 16], width: u8) -> Result<(), OpenFault>
+    ensures ok { OnOk result (head.now ≡ header_text width) }
+    ensures err { IfErr result (FailsHead width head.now) }
+{
+    let whole = header(width);
+    if head[..8] != whole[..8] || head[10..] != whole[10..] {
+        return Err(OpenFault::NotLog);
+    }
+    if head[8] != 1 || head[9] != width {
+        return Err(OpenFault::OldLog {
+            version: head[8],
+            width: head[9],
+        });
+    }
+    Ok(())
+}
