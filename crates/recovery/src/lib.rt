@@ -4,6 +4,7 @@
 mod inspecting;
 mod leaf_map;
 mod making;
+mod opening;
 mod pieces;
 mod reading;
 mod seen;
@@ -12,4 +13,5 @@ mod walk;
 
 pub use inspecting::inspect;
 pub use making::init;
+pub use opening::open;
 pub use seen::{InitFault, InitRefused, Leaves, OpenFault, OpenRefused, Opened, Seen};

@@ -1,0 +1,103 @@
+-- What a crash leaves while a log is opened.
+use Rattle.std.proofs.Common.{◌≡◌, ℕ, ◌+◌, ◌*◌, ◌<◌, ◌≤◌, min, inl, inr, ⊎_elim, List, [], ◌∷◌, ◌++◌, length, take, drop, Some, is_some, refl, sym, ◌∙◌, ap, subst, arith, length-append, length-take}
+use Rattle.std.specs.Prelude.{Result}
+use Rattle.std.proofs.lemmas.List.{take_at, take-append-drop, take_all, append-nil}
+use Rattle.cell_format.specs.declared.cell.Cell.{Cell}
+use Rattle.disk_trait.specs.declared.disk.DiskFault.{DiskFault}
+use Rattle.disk_trait.specs.Drive.{Drive, KeepsLaws, Stays, Shortened, Cuts, Syncs, Elapses, Only}
+use Rattle.disk_trait.specs.Moments.{LeavesNow, LeavesOnly}
+use Rattle.disk_trait.proofs.Stretches.{started, goes_on}
+use Rattle.split_log.specs.LogText.{IsLogText, IsLogOf, HoldsCells, IsLog}
+use Rattle.split_log.proofs.Cells.{length-log}
+use Rattle.split_log.proofs.Unique.{holds-same}
+use Rattle.recovery.specs.declared.seen.Seen.{Seen}
+use Rattle.recovery.specs.Recovers.{Recovers}
+use Rattle.recovery.specs.Found.{IsFound}
+use Rattle.recovery.specs.Opening.{KeepsCells, IsUntouched, IsReady}
+use Rattle.recovery.specs.Reading.{IsFoundIn}
+
+-- one stretch after another
+pub leaves-trans : (a b c : Drive) (P : List ℕ → Type 0) → LeavesOnly a b P → LeavesOnly b c P → LeavesOnly a c P
+leaves-trans a b c P first second = record {
+  later = omega (arith, first.later, second.later);
+  each = λ x left. ⊎_elim (λ before. first.each x before) (λ holds. holds) (second.before a.moment x first.later left);
+  before = λ t x le left. ⊎_elim (λ before. first.before t x le before) (λ holds. inr holds) (second.before t x (omega (arith, le, first.later)) left);
+}
+
+-- a call that only reads
+pub leaves-stays : (a b : Drive) (P : List ℕ → Type 0) → KeepsLaws a → LeavesNow a P → Stays a b → LeavesOnly a b P
+leaves-stays a b P laws now stays = record {
+  later = omega (arith, stays.moment);
+  each = λ x left. now x (laws.only_now x (stays.since a.moment x left));
+  before = λ t x le left. inl (stays.since t x left);
+}
+
+-- a sync
+pub leaves-sync : {T : Type 0} (a b : Drive) (P : List ℕ → Type 0) (result : Result T DiskFault) → KeepsLaws a → LeavesNow a P → Syncs a b result → LeavesOnly a b P
+leaves-sync a b P result laws now syncs = goes_on a a b P (started a P laws now) syncs.time (λ x left. now x (syncs.crash x left))
+
+-- the text of cells ends here
+module _ (w : ℕ) (cells : List Cell) (end : ℕ) (at_end : end ≡ 17 + 32 * length cells) where
+  front_long : (bytes : List ℕ) (holds : HoldsCells w cells bytes) → length holds.front ≡ end
+  front_long bytes holds = omega (arith, at_end, length-log (length cells) holds.front (record { width = w; cells = cells; count_is = refl; text = holds.text }))
+
+  pub front_is : (bytes : List ℕ) (holds : HoldsCells w cells bytes) → take end bytes ≡ holds.front
+  front_is bytes holds = ap (take end) holds.parts ∙ take_at holds.front holds.rest end (front_long bytes holds)
+
+  -- bytes that recover to them still do when they are cut there, or partly
+  pub recovers-shortened : (old new : List ℕ) → Recovers w cells old → Shortened end old new → Recovers w cells new
+  recovers-shortened old new recovers cut =
+      let front : take end new ≡ recovers.holds.front = cut.before ∙ front_is old recovers.holds in
+      record {
+        holds = record {
+          front = recovers.holds.front;
+          rest = drop end new;
+          parts = sym (take-append-drop end new) ∙ ap (λ (l : List ℕ). l ++ drop end new) front;
+          text = recovers.holds.text;
+        };
+        legal = recovers.legal;
+      }
+
+  pub leaves-cut : {T : Type 0} (a b : Drive) (result : Result T DiskFault) → KeepsLaws a → LeavesNow a (Recovers w cells) → Cuts a b end result
+      → LeavesOnly a b (Recovers w cells) × LeavesNow b (Recovers w cells)
+  leaves-cut a b result laws now cuts =
+      let here : LeavesNow b (Recovers w cells) = λ x left. let (d, before, cut) = cuts.crash x left in recovers-shortened d x (now d before) cut in
+      (goes_on a a b (Recovers w cells) (started a (Recovers w cells) laws now) cuts.time here, here)
+
+module _ (w most len : ℕ) (d0 d1 d2 : Drive) (seen : Seen) (laws0 : KeepsLaws d0) (laws1 : KeepsLaws d1) (bytes_kept : d1.bytes ≡ d0.bytes) (images_kept : (c : List ℕ) → d1.images c → d0.images c)
+    (in_file : IsFoundIn w most d1 seen len) (stays : Stays d1 d2) where
+  -- the cells that were found are those that a crash leaves
+  found_cells : (bytes : List ℕ) (cells : List Cell) → d0.bytes ≡ Some bytes → LeavesNow d0 (Recovers w cells) → 17 + 32 * seen.cells ≡ 17 + 32 * length cells
+  found_cells bytes cells told now =
+      let recovers = now bytes (laws0.held bytes told) in
+      let same : cells ≡ in_file.found.cells = holds-same w cells in_file.found.cells bytes recovers.holds (in_file.found.recovers bytes (bytes_kept ∙ told)).holds in
+      omega (arith, ap length same, in_file.found.finds.count)
+
+  pub keeps_cells : (d3 : Drive) → ((P : List ℕ → Type 0) → LeavesNow d0 P → LeavesOnly d0 d1 P) → ((v : ℕ) (cells : List Cell) → 17 + 32 * seen.cells ≡ 17 + 32 * length cells → LeavesNow d2 (Recovers v cells) → LeavesOnly d2 d3 (Recovers v cells)) → KeepsCells w d0 d3
+  keeps_cells d3 time cut bytes cells told now =
+      let now1 : LeavesNow d1 (Recovers w cells) = λ x left. now x (images_kept x left) in
+      let first : LeavesOnly d0 d1 (Recovers w cells) = time (Recovers w cells) now in
+      let second : LeavesOnly d1 d2 (Recovers w cells) = leaves-stays d1 d2 (Recovers w cells) laws1 now1 stays in
+      let now2 : LeavesNow d2 (Recovers w cells) = λ x left. now1 x (stays.images x left) in
+      leaves-trans d0 d2 d3 (Recovers w cells) (leaves-trans d0 d1 d2 (Recovers w cells) first second) (cut w cells (found_cells bytes cells told now) now2)
+
+  -- cut where they end, the file is their log
+  pub is_ready : (d3 : Drive) → ((bytes : List ℕ) → d0.bytes ≡ Some bytes → Only bytes d1.images) → is_some d3.bytes ≡ is_some d2.bytes
+      → ((xs : List ℕ) → d2.bytes ≡ Some xs → Only xs d2.images → (d3.bytes ≡ Some (take (17 + 32 * seen.cells) xs)) × Only (take (17 + 32 * seen.cells) xs) d3.images) → IsReady w seen d0 d3
+  is_ready d3 only told_kept cut = record {
+    told = told_kept ∙ ap is_some (stays.bytes ∙ bytes_kept);
+    log = λ bytes told.
+        let recovers = in_file.found.recovers bytes (bytes_kept ∙ told) in
+        let left = cut bytes (stays.bytes ∙ bytes_kept ∙ told) (λ c image. only bytes told c (stays.images c image)) in
+        let end : 17 + 32 * seen.cells ≡ 17 + 32 * length in_file.found.cells = omega (arith, in_file.found.finds.count) in (
+          in_file.found.cells,
+          sym in_file.found.finds.count,
+          recovers,
+          record {
+            bytes = take (17 + 32 * seen.cells) bytes;
+            told = left.0;
+            text = subst (IsLogText w in_file.found.cells) (sym (front_is w in_file.found.cells (17 + 32 * seen.cells) end bytes recovers.holds)) recovers.holds.text;
+            durable = left.1;
+          },
+        );
+  }
