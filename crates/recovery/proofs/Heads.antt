@@ -1,5 +1,5 @@
 -- The head of a file, and the header of a log.
-use Rattle.std.proofs.Common.{◌≡◌, ◌≢◌, ℕ, ◌-◌, ◌<◌, ◌≤◌, min, Bool, true, false, not, ◌⊎◌, inl, inr, ⊎_elim, List, [], ◌∷◌, ◌++◌, length, get_or, take, drop, replicate, refl, sym, ◌∙◌, ap, subst, arith, length-append, length-drop, length-take}
+use Rattle.std.proofs.Common.{◌≡◌, ◌≢◌, ℕ, ◌<◌, ◌≤◌, Bool, true, false, not, inl, inr, ⊎_elim, List, [], ◌∷◌, ◌++◌, length, get_or, take, drop, replicate, refl, sym, ◌∙◌, ap, arith, length-drop, length-take}
 use Rattle.std.specs.Prelude.{slice_index, ◌==◌, Result, Ok, Err, OnOk}
 use Rattle.std.specs.Cmp.{unsigned_Decides}
 use Rattle.std.specs.Cmp.Lexicographic.{pointwise, pointwise_decides}
@@ -8,7 +8,7 @@ use Rattle.std.proofs.lemmas.List.{append-nil, take-append-drop, take-append-le,
 use Rattle.cell_format.specs.Spelling.{header_text}
 use Rattle.recovery.specs.declared.seen.OpenFault.{OpenFault}
 use Rattle.recovery.specs.declared.seen.OpenFault.TheVariants as fault
-use Rattle.recovery.specs.Faults.{HasOtherHead, IsNotLog, IsFault, BeginsWith}
+use Rattle.recovery.specs.Faults.{HasOtherHead, IsFault, BeginsWith}
 use Rattle.recovery.specs.Headers.{HasHeader, FailsHead}
 
 pub bytes_differ : (xs ys : List ℕ) → not (pointwise (λ x y. x == y) xs ys) ≡ true → xs ≢ ys

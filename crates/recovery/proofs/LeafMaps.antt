@@ -1,8 +1,6 @@
 -- A map from first keys to leaves that tile the key space, and the list of leaves that it stands for.
-use Rattle.std.proofs.Common.{◌≡◌, ◌≢◌, ℕ, suc, ◌+◌, ◌-◌, ◌*◌, ◌^◌, ◌<◌, ◌≤◌, Bool, true, false, ◌&&◌, ◌⊎◌, inl, inr, ◌==◌, List, [], ◌∷◌, ◌++◌, length, map, Option, Some, None, is_some, refl, sym, ◌∙◌, ap, subst, arith, cond, length-append, append_assoc}
+use Rattle.std.proofs.Common.{◌≡◌, ◌≢◌, ℕ, suc, ◌+◌, ◌-◌, ◌*◌, ◌^◌, ◌<◌, ◌≤◌, Bool, true, false, ◌&&◌, inl, inr, ◌==◌, List, [], ◌∷◌, ◌++◌, length, map, Option, Some, None, is_some, refl, sym, ◌∙◌, ap, arith, cond, length-append, append_assoc}
 use Rattle.std.specs.Prelude.{nat_le, ◌||◌}
-use Rattle.std.specs.List.{find, list_any}
-use Rattle.std.specs.Option.{option_map}
 use Rattle.std.specs.Cmp.{first_so, second_so}
 use Rattle.std.specs.Ordering.{nat_cmp}
 use Rattle.std.specs.BTreeMap.{insert_entry, is_at}
@@ -15,11 +13,11 @@ use Rattle.std.proofs.Math.Nat.{pow-succ'}
 use mathlib.Core.Bool.{true≢false}
 use Rattle.zorder.specs.Name.{first_key}
 use Rattle.zorder.specs.SameName.{same_name, same_name-decides}
-use Rattle.zorder.specs.Tile.{tiles_from, next_key, key_count}
+use Rattle.zorder.specs.Tile.{tiles_from, next_key}
 use Rattle.zorder.proofs.Tiles.{first_left, first_right, halves}
 use Rattle.plain_list.specs.State.{is_leaf, split_leaf}
 use Rattle.recovery.specs.declared.leaf_map.MarkedLeaf.{MarkedLeaf}
-use Rattle.recovery.specs.LeafMap.{leaves_of, IsLeafMap, keyed, names_of, split_at, begun_at, with_begun, new_leaf, halved, KeepsMarks}
+use Rattle.recovery.specs.LeafMap.{leaves_of, IsLeafMap, keyed, names_of, split_at, with_begun, new_leaf, halved, KeepsMarks}
 
 pub same : (a b : List Bool) → same_name a b ≡ true → a ≡ b
 same a b e = (same_name-decides a b).0 e

@@ -1,9 +1,9 @@
 -- A log of no cells, written over a small file.
-use Rattle.std.proofs.Common.{◌≡◌, ℕ, ◌+◌, ◌≤◌, List, [], ◌∷◌, ◌++◌, length, take, drop, Some, sym, ◌∙◌, ap, arith, length-append}
+use Rattle.std.proofs.Common.{◌≡◌, ℕ, ◌+◌, ◌≤◌, List, [], ◌∷◌, ◌++◌, length, drop, Some, sym, ◌∙◌, ap, arith, length-append}
 use Rattle.std.proofs.lemmas.List.{append-nil, drop_all}
 use Rattle.cell_format.specs.Spelling.{header_text}
 use Rattle.disk_trait.specs.Drive.{Drive, Holds, Only}
-use Rattle.split_log.specs.LogText.{log_text, IsLog}
+use Rattle.split_log.specs.LogText.{IsLog}
 use Rattle.split_log.proofs.Cells.{length-header}
 
 pub log_made : (w : ℕ) (drive : Drive) (old piece new : List ℕ) → length old ≤ 17 → piece ≡ header_text w ++ 0 ∷ [] → Holds old 0 piece new → drive.bytes ≡ Some new → Only new drive.images → IsLog w [] drive

@@ -1,5 +1,5 @@
 -- Calls that only read, one after the other.
-use Rattle.std.proofs.Common.{◌≡◌, ℕ, ◌+◌, ◌-◌, ◌^◌, ◌<◌, ◌≤◌, min, List, length, Some, refl, sym, ◌∙◌, ap, subst, arith}
+use Rattle.std.proofs.Common.{◌≡◌, ℕ, ◌≤◌, List, length, Some, sym, ◌∙◌, ap, subst, arith}
 use Rattle.std.specs.Prelude.{Result, Ok, Err, IsErrOf}
 use Rattle.std.specs.Result.{IsErrAnd}
 use Rattle.causes.specs.Causes.{Rose}

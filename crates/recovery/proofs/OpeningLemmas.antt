@@ -1,19 +1,18 @@
 -- What a crash leaves while a log is opened.
-use Rattle.std.proofs.Common.{◌≡◌, ℕ, ◌+◌, ◌*◌, ◌<◌, ◌≤◌, min, inl, inr, ⊎_elim, List, [], ◌∷◌, ◌++◌, length, take, drop, Some, is_some, refl, sym, ◌∙◌, ap, subst, arith, length-append, length-take}
+use Rattle.std.proofs.Common.{◌≡◌, ℕ, ◌+◌, ◌*◌, inl, inr, ⊎_elim, List, ◌++◌, length, take, drop, Some, is_some, refl, sym, ◌∙◌, ap, subst, arith}
 use Rattle.std.specs.Prelude.{Result}
-use Rattle.std.proofs.lemmas.List.{take_at, take-append-drop, take_all, append-nil}
+use Rattle.std.proofs.lemmas.List.{take_at, take-append-drop}
 use Rattle.cell_format.specs.declared.cell.Cell.{Cell}
 use Rattle.disk_trait.specs.declared.disk.DiskFault.{DiskFault}
-use Rattle.disk_trait.specs.Drive.{Drive, KeepsLaws, Stays, Shortened, Cuts, Syncs, Elapses, Only}
+use Rattle.disk_trait.specs.Drive.{Drive, KeepsLaws, Stays, Shortened, Cuts, Syncs, Only}
 use Rattle.disk_trait.specs.Moments.{LeavesNow, LeavesOnly}
 use Rattle.disk_trait.proofs.Stretches.{started, goes_on}
-use Rattle.split_log.specs.LogText.{IsLogText, IsLogOf, HoldsCells, IsLog}
+use Rattle.split_log.specs.LogText.{IsLogText, HoldsCells}
 use Rattle.split_log.proofs.Cells.{length-log}
 use Rattle.split_log.proofs.Unique.{holds-same}
 use Rattle.recovery.specs.declared.seen.Seen.{Seen}
 use Rattle.recovery.specs.Recovers.{Recovers}
-use Rattle.recovery.specs.Found.{IsFound}
-use Rattle.recovery.specs.Opening.{KeepsCells, IsUntouched, IsReady}
+use Rattle.recovery.specs.Opening.{KeepsCells, IsReady}
 use Rattle.recovery.specs.Reading.{IsFoundIn}
 
 -- one stretch after another

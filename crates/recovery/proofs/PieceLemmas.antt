@@ -1,6 +1,6 @@
 -- Walks over pieces of a log.
-use Rattle.std.proofs.Common.{◌≡◌, ℕ, ◌+◌, ◌<◌, ◌≤◌, Bool, true, ◌&&◌, List, [], ◌∷◌, ◌++◌, length, take, drop, map, refl, sym, ◌∙◌, ap, subst, arith, append_assoc, length-append, length-drop}
-use Rattle.std.specs.Prelude.{slice_index, Result, Ok, Err, IfErr}
+use Rattle.std.proofs.Common.{◌≡◌, ℕ, ◌+◌, ◌<◌, ◌≤◌, true, List, [], ◌∷◌, ◌++◌, length, drop, refl, sym, ◌∙◌, ap, subst, arith, append_assoc, length-append, length-drop}
+use Rattle.std.specs.Prelude.{Result, Ok, Err, IfErr}
 use Rattle.std.specs.Result.{IsErrAnd}
 use Rattle.std.specs.List.{flat_map, AllByRecursion}
 use Rattle.std.specs.Cmp.{first_so, second_so}
@@ -15,7 +15,6 @@ use Rattle.recovery.specs.declared.pieces.Stop.{Stop}
 use Rattle.recovery.specs.Recovers.{is_legal_cells, cells_after, is_possible_cell, entry_of}
 use Rattle.recovery.specs.Walk.{WalkView}
 use Rattle.recovery.specs.Pieces.{Passes, PassesOne, Comes, FailsAt, StopsAt, Walks, Breaks}
-use Rattle.recovery.proofs.Walks.{all_push}
 
 -- cells followed by cells
 pub cells_after-append : (w : ℕ) (s : State) (first second : List Cell) → cells_after w s (first ++ second) ≡ cells_after w (cells_after w s first) second

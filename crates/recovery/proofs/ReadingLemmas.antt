@@ -1,7 +1,7 @@
 -- What the pieces of a log say of its bytes.
-use Rattle.std.proofs.Common.{◌≡◌, ◌≢◌, ℕ, ◌+◌, ◌-◌, ◌*◌, ◌<◌, ◌≤◌, min, true, List, [], ◌∷◌, ◌++◌, length, take, drop, Some, refl, sym, ◌∙◌, ap, subst, arith, append_assoc, length-append, length-drop, length-take}
+use Rattle.std.proofs.Common.{◌≡◌, ◌≢◌, ℕ, ◌+◌, ◌-◌, ◌*◌, ◌<◌, ◌≤◌, min, true, List, [], ◌∷◌, ◌++◌, length, take, drop, Some, refl, sym, ◌∙◌, ap, subst, arith, append_assoc, length-append, length-take}
 use Rattle.std.specs.Prelude.{slice_index}
-use Rattle.std.specs.List.{flat_map, AllByRecursion}
+use Rattle.std.specs.List.{flat_map}
 use Rattle.std.proofs.lemmas.List.{append-nil, take-append-drop, drop_at, take-append-le, drop_all}
 use Rattle.std.proofs.lemmas.Grind.{flat_map-append}
 use Rattle.cell_format.specs.declared.cell.Cell.{Cell}
@@ -17,10 +17,10 @@ use Rattle.recovery.specs.declared.seen.OpenFault.{OpenFault}
 use Rattle.recovery.specs.declared.seen.OpenFault.TheVariants as fault
 use Rattle.recovery.specs.declared.pieces.Stop.TheVariants.{Clear, Set}
 use Rattle.recovery.specs.Recovers.{Recovers, IsLegalCells, is_legal_cells, state_of, cells_after}
-use Rattle.recovery.specs.Faults.{BeginsWith, IsWrong, IsDamaged, IsTooLong, IsFault}
+use Rattle.recovery.specs.Faults.{BeginsWith, IsWrong, IsDamaged, IsFault}
 use Rattle.recovery.specs.Walk.{WalkView}
-use Rattle.recovery.specs.Pieces.{Passes, FailsAt, StopsAt, Walks, Breaks}
-use Rattle.recovery.specs.Reading.{Reaches, Ends, GoesOn, ReadsPiece}
+use Rattle.recovery.specs.Pieces.{Passes, FailsAt, Walks, Breaks}
+use Rattle.recovery.specs.Reading.{Reaches, Ends, ReadsPiece}
 use Rattle.recovery.specs.Headers.{HasHeader}
 use Rattle.recovery.proofs.Heads.{begins_first}
 use Rattle.recovery.proofs.PieceLemmas.{cells_after-append, is_legal-append, all_append}

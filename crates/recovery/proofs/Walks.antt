@@ -1,8 +1,8 @@
 -- What a walk keeps from step to step.
-use Rattle.std.proofs.Common.{◌≡◌, ◌≢◌, ℕ, ◌+◌, ◌≤◌, Bool, true, false, cond, not, ◌&&◌, inl, inr, List, [], ◌∷◌, ◌++◌, length, Option, Some, None, is_some, refl, sym, ap, ◌∙◌, subst, arith}
+use Rattle.std.proofs.Common.{◌≡◌, ◌≢◌, ℕ, ◌+◌, ◌≤◌, Bool, true, false, cond, not, ◌&&◌, inl, inr, List, [], ◌∷◌, ◌++◌, length, Option, Some, refl, sym, ap, ◌∙◌, subst, arith}
 use Rattle.std.specs.Prelude.{◌==◌, nat_le}
 use Rattle.std.specs.List.{filter, AllByRecursion}
-use Rattle.std.proofs.lemmas.Bool.{cases_Bool, cases_eq, eq-eqb, eqb-true, le-leb}
+use Rattle.std.proofs.lemmas.Bool.{cases_Bool, eq-eqb, eqb-true, le-leb}
 use Rattle.std.proofs.lemmas.Bool.Decides.{nat_tests}
 use Rattle.std.proofs.lemmas.Grind.{common_steps}
 use mathlib.Core.Bool.{true≢false}
@@ -14,11 +14,11 @@ use Rattle.plain_list.specs.declared.entries.Entry.TheVariants as entry
 use Rattle.plain_list.specs.State.{State, OpenSplit, step, is_leaf, split_name, without_number, without_name}
 use Rattle.recovery.specs.declared.walk.StepFault.TheVariants.{Impossible}
 use Rattle.recovery.specs.declared.leaf_map.MarkedLeaf.{MarkedLeaf}
-use Rattle.recovery.specs.LeafMap.{names_of, split_at, with_begun, KeepsMarks}
+use Rattle.recovery.specs.LeafMap.{split_at, with_begun, KeepsMarks}
 use Rattle.recovery.specs.SplitMap.{AreBelow, without_split}
 use Rattle.recovery.specs.Walk.{IsOpen, IsWalk, Steps}
 use Rattle.recovery.proofs.LeafMaps.{split_at-begun, split_at-begun-other, leaf_marked}
-use Rattle.recovery.proofs.SplitMaps.{not_true, IsRisingSplits-filter, IsRisingSplits-push}
+use Rattle.recovery.proofs.SplitMaps.{IsRisingSplits-filter, IsRisingSplits-push}
 
 all_if : (P : OpenSplit → Type 0) (b : Bool) (s : OpenSplit) (splits : List OpenSplit) → (b ≡ true → P s) → AllByRecursion P splits → AllByRecursion P (cond b (s ∷ splits) splits)
 all_if P true s splits holds all = (holds refl, all)

@@ -68,3 +68,12 @@ IsFault w most bytes (Damaged number why) = IsDamaged w most bytes number why
 IsFault w most bytes (TooLong limit) = (limit ≡ most) × IsTooLong w most bytes
 IsFault w most bytes Disk = ⊤
 IsFault w most bytes Memory = ⊤
+
+-- a fault that the bytes show
+abbrev pub IsInBytes : OpenFault → Type 0
+IsInBytes NotLog = ⊤
+IsInBytes (OldLog version width) = ⊤
+IsInBytes (Damaged number why) = ⊤
+IsInBytes (TooLong limit) = ⊤
+IsInBytes Disk = ⊥
+IsInBytes Memory = ⊥

@@ -1,5 +1,5 @@
 -- The opening of a log.
-use Rattle.std.specs.Prelude.{◌≡◌, ℕ, ◌+◌, ◌*◌, List, length, Some, is_some}
+use Rattle.std.specs.Prelude.{◌≡◌, ℕ, List, length, Some, is_some}
 use Rattle.cell_format.specs.declared.cell.Cell.{Cell}
 use Rattle.disk_trait.specs.Drive.{Drive}
 use Rattle.disk_trait.specs.Moments.{LeavesNow, LeavesOnly}

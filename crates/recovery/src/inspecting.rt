@@ -1,10 +1,14 @@
 //! Says what a log was found to say, and reads alone.
 ghost use Rattle.std.specs.Prelude.{◌≡◌, ◌⊎◌, ◌≤◌, ◌<◌, ◌^◌, ℕ, List, Some, length, slice_index, take, drop, replicate, OnOk, IfOk, IfErr};
+ghost use Rattle.std.specs.Result.{IsErrAnd};
+ghost use Rattle.cell_format.specs.declared.cell.Cell.{Cell};
+ghost use Rattle.recovery.specs.Recovers.{Recovers};
+ghost use Rattle.recovery.specs.declared.seen.OpenFault.{OpenFault};
 ghost use Rattle.cell_format.specs.Spelling.{header_text};
 ghost use Rattle.recovery.specs.Headers.{HasHeader, FailsHead};
-ghost use Rattle.recovery.specs.Faults.{IsFault};
+ghost use Rattle.recovery.specs.Faults.{IsFault, IsInBytes};
 ghost use Rattle.recovery.specs.Reading.{OnlyReads, IsFoundIn};
-ghost use Rattle.recovery.specs.Found.{IsFound};
+ghost use Rattle.recovery.specs.Found.{IsFound, IsFree};
 
 use crate::reading::walk_cells;
 use crate::seen::{OpenFault, Seen};
@@ -31,6 +35,10 @@ pub fn inspect<D: LogDisk>(
 
     ensures found { IfOk result (IsFound width most (D.drive disk.old)) }
     ensures fault { IfErr result (λ e. (bytes : List ℕ) → (D.drive disk.old).bytes ≡ Some bytes → IsFault width most bytes e) }
+    ensures exact { (bytes : List ℕ) (fault : OpenFault) → (D.drive disk.old).bytes ≡ Some bytes → IsInBytes fault → IsFault width most bytes fault
+        → IsErrAnd result (λ e. (e ≡ fault) ⊎ IsFree (D.drive disk.old) (D.drive disk.new) e) }
+    ensures whole { (bytes : List ℕ) (cells : List Cell) → (D.drive disk.old).bytes ≡ Some bytes → Recovers width cells bytes → length cells ≤ most
+        → IfErr result (IsFree (D.drive disk.old) (D.drive disk.new)) }
     ensures reads { OnlyReads (D.drive disk.old) (D.drive disk.new) result }
 {
     let found = read_log(alloc, disk, width, most)?;

@@ -1,4 +1,10 @@
 //! Makes a log, says what the cells of one stand for, and opens one.
+//!
+//! Contracts see what is found (`Seen`) as the state of a list of legal cells: objects, leaves, open splits, begins. `open` and
+//! `inspect` answer `Ok` where the bytes recover to at most so many cells, and else the first place at fault; at each moment of
+//! `open` a crash leaves what recovers to the same cells. `init` makes a log of no cells.
+//!
+//! Not here: appends (`split_log`), the bytes of a cell (`cell_format`), the history that a book writes (`commit_book`).
 #![tactic(auto)]
 
 mod inspecting;

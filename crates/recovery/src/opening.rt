@@ -1,12 +1,14 @@
 //! Opens a log for appends.
 ghost use Rattle.std.specs.Prelude.{◌≡◌, ◌≢◌, ◌⊎◌, ◌≤◌, ◌+◌, ◌*◌, ◌^◌, ℕ, List, Some, None, is_some, take, length, OnOk, IfOk, IfErr, IsErrOf, MatchResult};
+ghost use Rattle.std.specs.Result.{IsErrAnd};
+ghost use Rattle.recovery.specs.declared.seen.OpenFault.{OpenFault};
 ghost use Rattle.causes.specs.Causes.{Rose};
 ghost use Rattle.cell_format.specs.declared.cell.Cell.{Cell};
 ghost use Rattle.disk_trait.specs.Drive.{Only, CountsFaults};
 ghost use Rattle.disk_trait.specs.Moments.{LeavesNow, LeavesOnly};
 ghost use Rattle.recovery.specs.Recovers.{Recovers};
-ghost use Rattle.recovery.specs.Faults.{IsFault};
-ghost use Rattle.recovery.specs.Found.{IsFound};
+ghost use Rattle.recovery.specs.Faults.{IsFault, IsInBytes};
+ghost use Rattle.recovery.specs.Found.{IsFound, IsFree};
 ghost use Rattle.recovery.specs.Opening.{KeepsCells, IsUntouched, IsReady};
 
 use crate::inspecting::read_log;
@@ -32,6 +34,10 @@ pub fn open<D: LogDisk>(
     ensures log { IfOk result (λ o. (o.log.cells ≡ o.seen.cells) × (o.log.failed ≡ None)) }
     ensures start { IfOk result (λ o. o.start.value ≡ disk) }
     ensures fault { IfErr result (λ e. (bytes : List ℕ) → (D.drive disk).bytes ≡ Some bytes → IsFault width most bytes e.cause) }
+    ensures exact { (bytes : List ℕ) (fault : OpenFault) → (D.drive disk).bytes ≡ Some bytes → IsInBytes fault → IsFault width most bytes fault
+        → IsErrAnd result (λ e. (e.cause ≡ fault) ⊎ IsFree (D.drive disk) (D.drive e.disk) e.cause) }
+    ensures whole { (bytes : List ℕ) (cells : List Cell) → (D.drive disk).bytes ≡ Some bytes → Recovers width cells bytes → length cells ≤ most
+        → IfErr result (λ e. IsFree (D.drive disk) (D.drive e.disk) e.cause) }
     ensures untouched { IfErr result (λ e. e.cause ≢ OpenFault.Disk → IsUntouched (D.drive disk) (D.drive e.disk)) }
     ensures any_moment { MatchResult result (λ o. KeepsCells width (D.drive disk) (D.drive o.log.disk)) (λ e. KeepsCells width (D.drive disk) (D.drive e.disk)) }
     ensures rose { IfErr result (λ e. e.cause ≡ OpenFault.Disk → Rose (D.drive disk).faults (D.drive e.disk).faults) }

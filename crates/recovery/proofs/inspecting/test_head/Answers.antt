@@ -1,4 +1,4 @@
-use Rattle.std.proofs.Common.{◌≡◌, List, ℕ, inl, inr, length, slice_index, take, drop, refl, sym, ap, ◌∙◌, ⊎_elim}
+use Rattle.std.proofs.Common.{List, ℕ, inl, inr, take, drop, refl, sym, ap, ◌∙◌, ⊎_elim}
 use Rattle.recovery.proofs.Heads.{bytes_differ, bytes_same, header_word, header_zeros, is_header}
 use Rattle.recovery.proofs.inspecting.test_head.Goals.{then-ne-via-then-ne, then-ne-via-else-ne+then-ne-2, then-head-ne1-via-then-head-ne1, then-head-ne1-via-else-head-ne1+then-head-width}
 use Rattle.recovery.proofs.inspecting.test_head.Goals as goal

@@ -1,4 +1,4 @@
-use Rattle.std.proofs.Common.{◌≡◌, ◌≤◌, ℕ, List, Some, length, take, drop, sym, ap, ◌∙◌, arith, subst}
+use Rattle.std.proofs.Common.{◌≤◌, ℕ, List, length, sym, ◌∙◌, arith, subst}
 use Rattle.std.proofs.lemmas.Result.{IfErr-weaker}
 use Rattle.recovery.specs.Headers.{FailsHead}
 use Rattle.recovery.proofs.Heads.{read_head, head_fails, head_stands, on_ok_weaker}

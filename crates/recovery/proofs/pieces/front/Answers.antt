@@ -1,4 +1,4 @@
-use Rattle.std.proofs.Common.{length, take, arith, length-take}
+use Rattle.std.proofs.Common.{arith, length-take}
 use Rattle.recovery.proofs.pieces.front.Goals as goal
 
 pub slice_bounds-copy_from_slice-end-2 : goal.slice_bounds-copy_from_slice-end-2

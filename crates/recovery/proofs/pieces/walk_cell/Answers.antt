@@ -1,4 +1,4 @@
-use Rattle.std.proofs.Common.{◌≡◌, ◌<◌, ℕ, Ok, refl, sym, ap, ◌∙◌}
+use Rattle.std.proofs.Common.{refl, sym, ap, ◌∙◌}
 use Rattle.cell_format.specs.Decoding.{decoded}
 use Rattle.recovery.proofs.pieces.walk_cell.Goals as goal
 

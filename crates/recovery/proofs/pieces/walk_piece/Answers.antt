@@ -1,4 +1,4 @@
-use Rattle.std.proofs.Common.{◌≤◌, length, ap, sym, arith}
+use Rattle.std.proofs.Common.{◌≤◌, length, arith}
 use Rattle.recovery.proofs.PieceLemmas.{comes_more, breaks, passed_on}
 use Rattle.recovery.proofs.pieces.walk_piece.Goals as goal
 

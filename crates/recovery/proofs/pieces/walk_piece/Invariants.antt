@@ -1,4 +1,4 @@
-use Rattle.std.proofs.Common.{◌≡◌, ◌⊎◌, ℕ, ◌≤◌, ◌<◌, slice_index, length, ◌+◌, ◌-◌}
+use Rattle.std.proofs.Common.{◌-◌}
 use Rattle.recovery.specs.Pieces.{Comes}
 use Rattle.recovery.proofs.pieces.walk_piece.Given as goal
 

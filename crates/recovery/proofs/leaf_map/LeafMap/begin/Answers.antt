@@ -1,11 +1,10 @@
-use Rattle.std.proofs.Common.{◌≡◌, List, map, Some, refl, sym, ap, ◌∙◌}
+use Rattle.std.proofs.Common.{◌≡◌, ap, ◌∙◌}
 use Rattle.std.specs.Ordering.{nat_cmp}
 use Rattle.std.specs.BTreeMap.{insert_entry, is_at}
 use Rattle.std.specs.Map.{lookup}
 use Rattle.zorder.specs.Name.{first_key}
 use Rattle.plain_list.proofs.MemberMaps.{inserted_there}
-use Rattle.recovery.specs.declared.leaf_map.MarkedLeaf.{MarkedLeaf}
-use Rattle.recovery.specs.LeafMap.{leaves_of, keyed, with_begun}
+use Rattle.recovery.specs.LeafMap.{leaves_of, with_begun}
 use Rattle.recovery.proofs.LeafMaps.{lookup-leaf, keyed-with_begun, leaves_of-keyed, IsLeafMap-with_begun}
 use Rattle.recovery.proofs.leaf_map.LeafMap.begin.Goals as goal
 

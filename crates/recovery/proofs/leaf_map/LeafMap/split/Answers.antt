@@ -1,6 +1,4 @@
-use Rattle.std.proofs.Common.{◌≡◌, ◌+◌, ◌≤◌, true, false, length, [], ◌∷◌, ◌++◌, sym, ap, ◌∙◌, arith, subst}
-use Rattle.plain_list.specs.State.{is_leaf, split_leaf}
-use Rattle.recovery.specs.LeafMap.{names_of, halved, KeepsMarks}
+use Rattle.std.proofs.Common.{◌≡◌, ◌+◌, ◌≤◌, length, arith}
 use Rattle.recovery.proofs.LeafMaps.{first_half_leaf, second_half_leaf, keeps-three, keeps-quartered, keeps-halved, names_of-halved, names_of-quartered}
 use Rattle.recovery.proofs.leaf_map.LeafMap.split.Goals as goal
 

@@ -1,4 +1,4 @@
-use Rattle.std.proofs.Common.{◌≡◌, ◌++◌, map}
+use Rattle.std.proofs.Common.{◌≡◌, ◌++◌}
 use Rattle.recovery.specs.LeafMap.{names_of}
 use Rattle.recovery.proofs.leaf_map.LeafMap.to_leaves.Given as goal
 

@@ -1,6 +1,6 @@
 use Rattle.std.proofs.Common.{sym, ap, ◌∙◌, Some}
 use Rattle.std.proofs.lemmas.Bool.{true≢false}
-use Rattle.zorder.specs.SameName.{same_name, same_name-decides}
+use Rattle.zorder.specs.SameName.{same_name-decides}
 use Rattle.recovery.proofs.SplitMaps.{without_split-there, without_split-other, none_found, found_same}
 use Rattle.recovery.proofs.split_map.SplitMap.remove_named.Goals as goal
 

@@ -1,5 +1,5 @@
-use Rattle.std.proofs.Common.{◌≡◌, ◌+◌, true, false, is_some, sym, ap, ◌∙◌, arith, List, [], ◌∷◌, ◌++◌, Bool}
-use Rattle.plain_list.specs.State.{is_leaf, OpenSplit}
+use Rattle.std.proofs.Common.{◌≡◌, ◌+◌, is_some, sym, ap, ◌∙◌, arith, List, [], ◌∷◌, ◌++◌}
+use Rattle.plain_list.specs.State.{OpenSplit}
 use Rattle.recovery.specs.LeafMap.{names_of}
 use Rattle.recovery.proofs.LeafMaps.{leaf_marked, is_leaf-marked, names_of-with_begun}
 use Rattle.recovery.proofs.Walks.{below, without_name-split, IsWalk-filter, IsWalk-begun, refuses_no_leaf, begins}

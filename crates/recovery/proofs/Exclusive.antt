@@ -1,0 +1,308 @@
+-- Bytes tell one thing at most: the cells that they recover to, or one fault.
+use Rattle.std.proofs.Common.{◌≡◌, ℕ, ◌+◌, ◌<◌, ◌≤◌, true, ◌⊎◌, inl, inr, ⊎_elim, List, [], ◌∷◌, ◌++◌, length, take, drop, replicate, refl, sym, ◌∙◌, ap, subst, arith, append_assoc, length-append}
+use Rattle.std.specs.Prelude.{slice_index, Result, Ok, Err}
+use Rattle.std.specs.Result.{IsErrAnd}
+use Rattle.causes.specs.Causes.{Rose}
+use Rattle.disk_trait.specs.Drive.{Drive}
+use Rattle.std.specs.List.{flat_map, AllByRecursion}
+use Rattle.std.specs.Cmp.{first_so, second_so}
+use Rattle.std.proofs.lemmas.Bool.{true≢false}
+use Rattle.std.proofs.lemmas.List.{take_at, drop_at}
+use Rattle.cell_format.specs.declared.cell.Cell.{Cell}
+use Rattle.cell_format.specs.declared.cell.Cause.{Cause}
+use Rattle.cell_format.specs.declared.cell.Cause.TheVariants as cause
+use Rattle.cell_format.specs.declared.cell.CellFault.{CellFault}
+use Rattle.cell_format.specs.declared.cell.CellFault.TheVariants as cell_fault
+use Rattle.cell_format.specs.Decoding.{decoded}
+use Rattle.cell_format.specs.Spelling.{IsCell, spelling, header_text}
+use Rattle.cell_format.proofs.Decoded.{same_cell, length-spelling, decoded-spelling}
+use Rattle.plain_list.specs.State.{State, empty_state, step}
+use Rattle.split_log.specs.LogText.{front_of}
+use Rattle.split_log.proofs.Cells.{length-header}
+use Rattle.recovery.specs.declared.seen.OpenFault.{OpenFault}
+use Rattle.recovery.specs.declared.seen.OpenFault.TheVariants as fault
+use Rattle.recovery.specs.Recovers.{Recovers, is_legal_cells, is_possible_cell, entry_of, cells_after, state_of}
+use Rattle.recovery.specs.Faults.{BeginsWith, IsWrong, IsDamaged, IsTooLong, IsNotLog, IsOldLog, IsFault, IsInBytes}
+use Rattle.recovery.specs.Found.{IsFree}
+use Rattle.recovery.specs.Headers.{HasHeader}
+use Rattle.recovery.proofs.ReadingLemmas.{behind_cells, set_some}
+
+-- one list of cells goes on with this cell where the other ends
+record Longer (w : ℕ) (s : State) (first second : List Cell) (tail rest : List ℕ) : Type 0 where
+  next : Cell
+  more : List Cell
+  second_is : second ≡ first ++ next ∷ more
+  tail_is : tail ≡ spelling next ++ (flat_map spelling more ++ rest)
+  fits : IsCell next
+  possible : is_possible_cell w (cells_after w s first) next ≡ true
+
+longer : (w : ℕ) (s : State) (c : Cell) (first second : List Cell) (tail rest : List ℕ) → Longer w (step w s (entry_of c)) first second tail rest → Longer w s (c ∷ first) (c ∷ second) tail rest
+longer w s c first second tail rest l = record { next = l.next; more = l.more; second_is = ap (λ cs. c ∷ cs) l.second_is; tail_is = l.tail_is; fits = l.fits; possible = l.possible }
+
+abbrev Compared : ℕ → State → List Cell → List Cell → List ℕ → List ℕ → Type 0
+Compared w s first second tail rest = ((first ≡ second) × (tail ≡ rest)) ⊎ (Longer w s first second tail rest ⊎ Longer w s second first rest tail)
+
+compared_more : (w : ℕ) (s : State) (c : Cell) (first second : List Cell) (tail rest : List ℕ) → Compared w (step w s (entry_of c)) first second tail rest → Compared w s (c ∷ first) (c ∷ second) tail rest
+compared_more w s c first second tail rest (inl same) = inl (ap (λ cs. c ∷ cs) same.0, same.1)
+compared_more w s c first second tail rest (inr (inl l)) = inr (inl (longer w s c first second tail rest l))
+compared_more w s c first second tail rest (inr (inr l)) = inr (inr (longer w s c second first rest tail l))
+
+compared : (w : ℕ) (s : State) (first second : List Cell) (tail rest : List ℕ) → AllByRecursion IsCell first → AllByRecursion IsCell second → is_legal_cells w s first ≡ true → is_legal_cells w s second ≡ true
+    → flat_map spelling first ++ tail ≡ flat_map spelling second ++ rest → Compared w s first second tail rest
+compared w s [] [] tail rest af bf al bl e = inl (refl, e)
+compared w s [] (d ∷ second) tail rest af bf al bl e =
+    inr (inl (record {
+      next = d;
+      more = second;
+      second_is = refl;
+      tail_is = e ∙ append_assoc (spelling d) (flat_map spelling second) rest;
+      fits = bf.0;
+      possible = first_so (is_possible_cell w s d) (is_legal_cells w (step w s (entry_of d)) second) bl;
+    }))
+compared w s (c ∷ first) [] tail rest af bf al bl e =
+    inr (inr (record {
+      next = c;
+      more = first;
+      second_is = refl;
+      tail_is = sym e ∙ append_assoc (spelling c) (flat_map spelling first) tail;
+      fits = af.0;
+      possible = first_so (is_possible_cell w s c) (is_legal_cells w (step w s (entry_of c)) first) al;
+    }))
+compared w s (c ∷ first) (d ∷ second) tail rest af bf al bl e =
+    let parts : spelling c ++ (flat_map spelling first ++ tail) ≡ spelling d ++ (flat_map spelling second ++ rest)
+    = sym (append_assoc (spelling c) (flat_map spelling first) tail) ∙ e ∙ append_assoc (spelling d) (flat_map spelling second) rest in
+    let heads : spelling c ≡ spelling d =
+    sym (take_at (spelling c) (flat_map spelling first ++ tail) 32 (length-spelling c)) ∙ ap (take 32) parts ∙ take_at (spelling d) (flat_map spelling second ++ rest) 32 (length-spelling d) in
+    let tails : flat_map spelling first ++ tail ≡ flat_map spelling second ++ rest =
+    sym (drop_at (spelling c) (flat_map spelling first ++ tail) 32 (length-spelling c)) ∙ ap (drop 32) parts ∙ drop_at (spelling d) (flat_map spelling second ++ rest) 32 (length-spelling d) in
+    let one : c ≡ d = same_cell c d af.0 bf.0 heads in
+    let legal : is_legal_cells w (step w s (entry_of c)) second ≡ true =
+    subst (λ x. is_legal_cells w (step w s (entry_of x)) second ≡ true) (sym one) (second_so (is_possible_cell w s d) (is_legal_cells w (step w s (entry_of d)) second) bl) in
+    subst (λ x. Compared w s (c ∷ first) (x ∷ second) tail rest) one
+    (compared_more w s c first second tail rest (compared w (step w s (entry_of c)) first second tail rest af.1 bf.1 (second_so (is_possible_cell w s c) (is_legal_cells w (step w s (entry_of c)) first) al) legal tails))
+
+-- where a reading ends: no possible cell that would be read stands behind the cells
+record IsEnd (w most : ℕ) (cells : List Cell) (tail bytes : List ℕ) : Type 0 where
+  begins : BeginsWith w cells tail bytes
+  some : 1 ≤ length tail
+  few : length cells ≤ most
+  stuck : (next : Cell) (rest : List ℕ) → IsCell next → tail ≡ spelling next ++ rest → 1 ≤ length rest → is_possible_cell w (state_of w cells) next ≡ true → length cells < most → ⊥
+
+no_longer : (w most : ℕ) (first second : List Cell) (tail rest bytes : List ℕ) → IsEnd w most first tail bytes → IsEnd w most second rest bytes → Longer w empty_state first second tail rest → ⊥
+no_longer w most first second tail rest bytes a b l =
+    a.stuck l.next (flat_map spelling l.more ++ rest) l.fits l.tail_is (omega (arith, b.some, length-append (flat_map spelling l.more) rest)) l.possible
+    (omega (arith, ap length l.second_is, length-append first (l.next ∷ l.more), b.few))
+
+-- a reading ends at one place
+one_end : (w most : ℕ) (first second : List Cell) (tail rest bytes : List ℕ) → IsEnd w most first tail bytes → IsEnd w most second rest bytes → (first ≡ second) × (tail ≡ rest)
+one_end w most first second tail rest bytes a b =
+    let behind : (cells : List Cell) (t : List ℕ) → BeginsWith w cells t bytes → bytes ≡ header_text w ++ (flat_map spelling cells ++ t) = λ cells t begins. begins.parts ∙ append_assoc (header_text w) (flat_map spelling cells) t in
+    let tails : flat_map spelling first ++ tail ≡ flat_map spelling second ++ rest =
+    sym (drop_at (header_text w) (flat_map spelling first ++ tail) 16 (length-header w)) ∙ ap (drop 16) (sym (behind first tail a.begins) ∙ behind second rest b.begins)
+    ∙ drop_at (header_text w) (flat_map spelling second ++ rest) 16 (length-header w) in
+    elim (compared w empty_state first second tail rest a.begins.cells_fit b.begins.cells_fit a.begins.legal b.begins.legal tails) [
+      | inl same ↦ same
+      | inr other ↦ elim other [
+        | inl l ↦ absurd (no_longer w most first second tail rest bytes a b l)
+        | inr l ↦ absurd (no_longer w most second first rest tail bytes b a l)
+      ]
+    ]
+
+spelled_first : (next : Cell) (rest tail : List ℕ) → tail ≡ spelling next ++ rest → (slice_index tail 0 ≡ 1) × (take 32 tail ≡ spelling next) × (length tail ≡ 32 + length rest)
+spelled_first next rest tail is = (ap (λ (l : List ℕ). slice_index l 0) is, ap (take 32) is ∙ take_at (spelling next) rest 32 (length-spelling next), omega (arith, ap length is, length-append (spelling next) rest, length-spelling next))
+
+kind_reserved : ◌≡◌ {A = Result Cell CellFault} (Err cell_fault.Kind) (Err cell_fault.Reserved) → ⊥
+kind_reserved e = cc e
+
+kind_name : ◌≡◌ {A = Result Cell CellFault} (Err cell_fault.Kind) (Err cell_fault.BadName) → ⊥
+kind_name e = cc e
+
+reserved_name : ◌≡◌ {A = Result Cell CellFault} (Err cell_fault.Reserved) (Err cell_fault.BadName) → ⊥
+reserved_name e = cc e
+
+err_ok : (f : CellFault) (c : Cell) → ◌≡◌ {A = Result Cell CellFault} (Err f) (Ok c) → ⊥
+err_ok f c e = cc e
+
+not_wrong : (w : ℕ) (s : State) (next : Cell) (rest tail : List ℕ) (why : Cause) → IsCell next → tail ≡ spelling next ++ rest → 1 ≤ length rest → is_possible_cell w s next ≡ true → IsWrong w s tail why → ⊥
+not_wrong w s next rest tail why fits is some possible wrong =
+    let first = spelled_first next rest tail is in
+    let reads : decoded (take 32 tail) ≡ Ok next = ap decoded first.1 ∙ decoded-spelling next fits in
+    by_cause reads why wrong
+  where
+    by_cause : decoded (take 32 tail) ≡ Ok next → (why : Cause) → IsWrong w s tail why → ⊥
+    by_cause reads cause.ShortCell wrong = omega (arith, wrong, (spelled_first next rest tail is).2, some)
+    by_cause reads cause.Kind wrong = err_ok cell_fault.Kind next (sym wrong.1 ∙ reads)
+    by_cause reads cause.Reserved wrong = err_ok cell_fault.Reserved next (sym wrong.1 ∙ reads)
+    by_cause reads cause.BadName wrong = err_ok cell_fault.BadName next (sym wrong.1 ∙ reads)
+    by_cause reads cause.Impossible wrong =
+        let e : ◌≡◌ {A = Result Cell CellFault} (Ok wrong.1) (Ok next) = sym wrong.2 ∙ reads in
+        let same : wrong.1 ≡ next = cc e in
+        true≢false (sym possible ∙ sym (ap (is_possible_cell w s) same) ∙ wrong.3)
+
+-- the ends: a clear commit byte, a cell at fault, a set commit byte behind the last cell that is read
+recovers_end : (w most : ℕ) (cells : List Cell) (bytes : List ℕ) (recovers : Recovers w cells bytes) → length cells ≤ most → IsEnd w most cells (recovers.holds.text.commit_byte ∷ recovers.holds.rest) bytes
+recovers_end w most cells bytes recovers few = record {
+  begins = record {
+    cells_fit = recovers.holds.text.cells_fit;
+    legal = recovers.legal;
+    parts = recovers.holds.parts ∙ ap (λ (l : List ℕ). l ++ recovers.holds.rest) recovers.holds.text.text ∙ append_assoc (front_of w cells) (recovers.holds.text.commit_byte ∷ []) recovers.holds.rest;
+  };
+  some = omega arith;
+  few = few;
+  stuck = λ next rest fits is some possible lt. recovers.holds.text.clear (spelled_first next rest (recovers.holds.text.commit_byte ∷ recovers.holds.rest) is).0;
+}
+
+damaged_end : (w most : ℕ) (bytes : List ℕ) (number : ℕ) (why : Cause) (d : IsDamaged w most bytes number why) → IsEnd w most d.cells d.tail bytes
+damaged_end w most bytes number why d = record {
+  begins = d.begins;
+  some = set_some d.tail d.commit_byte;
+  few = omega (arith, d.place, d.few);
+  stuck = λ next rest fits is some possible lt. not_wrong w (state_of w d.cells) next rest d.tail why fits is some possible d.wrong;
+}
+
+long_end : (w most : ℕ) (bytes : List ℕ) (l : IsTooLong w most bytes) → IsEnd w most l.cells l.tail bytes
+long_end w most bytes l = record {
+  begins = l.begins;
+  some = set_some l.tail l.commit_byte;
+  few = omega (arith, l.place);
+  stuck = λ next rest fits is some possible lt. omega (arith, lt, l.place);
+}
+
+-- a log's header is no other head, and no other version or width
+has_header : (w : ℕ) (cells : List Cell) (tail bytes : List ℕ) → BeginsWith w cells tail bytes → 1 ≤ length tail → HasHeader w bytes
+has_header w cells tail bytes begins some = record {
+  rest = flat_map spelling cells ++ tail;
+  parts = begins.parts ∙ append_assoc (header_text w) (flat_map spelling cells) tail;
+  long = omega (arith, (behind_cells w cells tail bytes begins).1, some);
+}
+
+header_word : (w : ℕ) (rest : List ℕ) → take 8 (header_text w ++ rest) ≡ take 8 (header_text 1)
+unfolding header_text
+header_word w rest = refl
+
+header_zeros : (w : ℕ) (rest : List ℕ) → take 6 (drop 10 (header_text w ++ rest)) ≡ replicate 6 0
+unfolding header_text
+header_zeros w rest = refl
+
+header_version : (w : ℕ) (rest : List ℕ) → (slice_index (header_text w ++ rest) 8 ≡ 1) × (slice_index (header_text w ++ rest) 9 ≡ w)
+unfolding header_text
+header_version w rest = (refl, refl)
+
+header_is_log : (w : ℕ) (bytes : List ℕ) → HasHeader w bytes → IsNotLog bytes → ⊥
+header_is_log w bytes has not_log = ⊎_elim (λ short. omega (arith, short, has.long)) (λ other. ⊎_elim
+    (λ word. word (ap (take 8) has.parts ∙ header_word w has.rest))
+    (λ zeros. zeros (ap (λ (l : List ℕ). take 6 (drop 10 l)) has.parts ∙ header_zeros w has.rest)) other) not_log
+
+header_is_new : (w : ℕ) (bytes : List ℕ) (version width : ℕ) → HasHeader w bytes → IsOldLog w bytes version width → ⊥
+header_is_new w bytes version width has old = ⊎_elim
+    (λ other. other (old.version_is ∙ ap (λ (l : List ℕ). slice_index l 8) has.parts ∙ (header_version w has.rest).0))
+    (λ other. other (old.width_is ∙ ap (λ (l : List ℕ). slice_index l 9) has.parts ∙ (header_version w has.rest).1)) old.other
+
+end_header : (w most : ℕ) (cells : List Cell) (tail bytes : List ℕ) → IsEnd w most cells tail bytes → HasHeader w bytes
+end_header w most cells tail bytes end = has_header w cells tail bytes end.begins end.some
+
+-- bytes that recover to few enough cells show no fault
+pub recovers_no_fault : (w most : ℕ) (cells : List Cell) (bytes : List ℕ) (e : OpenFault) → Recovers w cells bytes → length cells ≤ most → IsInBytes e → IsFault w most bytes e → ⊥
+recovers_no_fault w most cells bytes fault.NotLog recovers few shown holds =
+    header_is_log w bytes (end_header w most cells _ bytes (recovers_end w most cells bytes recovers few)) holds
+recovers_no_fault w most cells bytes (fault.OldLog version width) recovers few shown holds =
+    header_is_new w bytes version width (end_header w most cells _ bytes (recovers_end w most cells bytes recovers few)) holds
+recovers_no_fault w most cells bytes (fault.Damaged number why) recovers few shown holds =
+    let same = one_end w most cells holds.cells _ holds.tail bytes (recovers_end w most cells bytes recovers few) (damaged_end w most bytes number why holds) in
+    recovers.holds.text.clear (ap (λ (l : List ℕ). slice_index l 0) same.1 ∙ holds.commit_byte)
+recovers_no_fault w most cells bytes (fault.TooLong limit) recovers few shown holds =
+    let same = one_end w most cells holds.1.cells _ holds.1.tail bytes (recovers_end w most cells bytes recovers few) (long_end w most bytes holds.1) in
+    recovers.holds.text.clear (ap (λ (l : List ℕ). slice_index l 0) same.1 ∙ holds.1.commit_byte)
+recovers_no_fault w most cells bytes fault.Disk recovers few shown holds = shown
+recovers_no_fault w most cells bytes fault.Memory recovers few shown holds = shown
+
+-- what is wrong with a cell is wrong for one reason
+one_cause : (w : ℕ) (s : State) (tail : List ℕ) (why also : Cause) → IsWrong w s tail why → IsWrong w s tail also → why ≡ also
+one_cause w s tail cause.ShortCell cause.ShortCell a b = refl
+one_cause w s tail cause.ShortCell cause.Kind a b = absurd (omega (arith, a, b.0))
+one_cause w s tail cause.ShortCell cause.Reserved a b = absurd (omega (arith, a, b.0))
+one_cause w s tail cause.ShortCell cause.BadName a b = absurd (omega (arith, a, b.0))
+one_cause w s tail cause.ShortCell cause.Impossible a b = absurd (omega (arith, a, b.0))
+one_cause w s tail cause.Kind cause.ShortCell a b = absurd (omega (arith, b, a.0))
+one_cause w s tail cause.Kind cause.Kind a b = refl
+one_cause w s tail cause.Kind cause.Reserved a b = absurd (kind_reserved (sym a.1 ∙ b.1))
+one_cause w s tail cause.Kind cause.BadName a b = absurd (kind_name (sym a.1 ∙ b.1))
+one_cause w s tail cause.Kind cause.Impossible a b = absurd (err_ok cell_fault.Kind b.1 (sym a.1 ∙ b.2))
+one_cause w s tail cause.Reserved cause.ShortCell a b = absurd (omega (arith, b, a.0))
+one_cause w s tail cause.Reserved cause.Kind a b = absurd (kind_reserved (sym b.1 ∙ a.1))
+one_cause w s tail cause.Reserved cause.Reserved a b = refl
+one_cause w s tail cause.Reserved cause.BadName a b = absurd (reserved_name (sym a.1 ∙ b.1))
+one_cause w s tail cause.Reserved cause.Impossible a b = absurd (err_ok cell_fault.Reserved b.1 (sym a.1 ∙ b.2))
+one_cause w s tail cause.BadName cause.ShortCell a b = absurd (omega (arith, b, a.0))
+one_cause w s tail cause.BadName cause.Kind a b = absurd (kind_name (sym b.1 ∙ a.1))
+one_cause w s tail cause.BadName cause.Reserved a b = absurd (reserved_name (sym b.1 ∙ a.1))
+one_cause w s tail cause.BadName cause.BadName a b = refl
+one_cause w s tail cause.BadName cause.Impossible a b = absurd (err_ok cell_fault.BadName b.1 (sym a.1 ∙ b.2))
+one_cause w s tail cause.Impossible cause.ShortCell a b = absurd (omega (arith, b, a.0))
+one_cause w s tail cause.Impossible cause.Kind a b = absurd (err_ok cell_fault.Kind a.1 (sym b.1 ∙ a.2))
+one_cause w s tail cause.Impossible cause.Reserved a b = absurd (err_ok cell_fault.Reserved a.1 (sym b.1 ∙ a.2))
+one_cause w s tail cause.Impossible cause.BadName a b = absurd (err_ok cell_fault.BadName a.1 (sym b.1 ∙ a.2))
+one_cause w s tail cause.Impossible cause.Impossible a b = refl
+
+one_damage : (w most : ℕ) (bytes : List ℕ) (n m : ℕ) (why also : Cause) → IsDamaged w most bytes n why → IsDamaged w most bytes m also → (n ≡ m) × (why ≡ also)
+one_damage w most bytes n m why also a b =
+    let same = one_end w most a.cells b.cells a.tail b.tail bytes (damaged_end w most bytes n why a) (damaged_end w most bytes m also b) in (
+      omega (arith, ap length same.0, a.place, b.place),
+      one_cause w (state_of w b.cells) b.tail why also (subst (λ cs. IsWrong w (state_of w cs) b.tail why) same.0 (subst (λ (l : List ℕ). IsWrong w (state_of w a.cells) l why) same.1 a.wrong)) b.wrong,
+    )
+
+damage_is_first : (w most : ℕ) (bytes : List ℕ) (n : ℕ) (why : Cause) → IsDamaged w most bytes n why → IsTooLong w most bytes → ⊥
+damage_is_first w most bytes n why d l =
+    let same = one_end w most d.cells l.cells d.tail l.tail bytes (damaged_end w most bytes n why d) (long_end w most bytes l) in
+    omega (arith, ap length same.0, d.place, d.few, l.place)
+
+-- bytes show one fault at most
+pub one_fault : (w most : ℕ) (bytes : List ℕ) (e f : OpenFault) → IsInBytes e → IsInBytes f → IsFault w most bytes e → IsFault w most bytes f → e ≡ f
+one_fault w most bytes fault.NotLog fault.NotLog se sf a b = refl
+one_fault w most bytes fault.NotLog (fault.OldLog version width) se sf a b = absurd (b.is_log a)
+one_fault w most bytes fault.NotLog (fault.Damaged n why) se sf a b = absurd (header_is_log w bytes (end_header w most b.cells b.tail bytes (damaged_end w most bytes n why b)) a)
+one_fault w most bytes fault.NotLog (fault.TooLong limit) se sf a b = absurd (header_is_log w bytes (end_header w most b.1.cells b.1.tail bytes (long_end w most bytes b.1)) a)
+one_fault w most bytes fault.NotLog fault.Disk se sf a b = absurd sf
+one_fault w most bytes fault.NotLog fault.Memory se sf a b = absurd sf
+one_fault w most bytes (fault.OldLog version width) fault.NotLog se sf a b = absurd (a.is_log b)
+one_fault w most bytes (fault.OldLog version width) (fault.OldLog v x) se sf a b = λ i. fault.OldLog ((a.version_is ∙ sym b.version_is) i) ((a.width_is ∙ sym b.width_is) i)
+one_fault w most bytes (fault.OldLog version width) (fault.Damaged n why) se sf a b = absurd (header_is_new w bytes version width (end_header w most b.cells b.tail bytes (damaged_end w most bytes n why b)) a)
+one_fault w most bytes (fault.OldLog version width) (fault.TooLong limit) se sf a b = absurd (header_is_new w bytes version width (end_header w most b.1.cells b.1.tail bytes (long_end w most bytes b.1)) a)
+one_fault w most bytes (fault.OldLog version width) fault.Disk se sf a b = absurd sf
+one_fault w most bytes (fault.OldLog version width) fault.Memory se sf a b = absurd sf
+one_fault w most bytes (fault.Damaged n why) fault.NotLog se sf a b = absurd (header_is_log w bytes (end_header w most a.cells a.tail bytes (damaged_end w most bytes n why a)) b)
+one_fault w most bytes (fault.Damaged n why) (fault.OldLog version width) se sf a b = absurd (header_is_new w bytes version width (end_header w most a.cells a.tail bytes (damaged_end w most bytes n why a)) b)
+one_fault w most bytes (fault.Damaged n why) (fault.Damaged m also) se sf a b = let same = one_damage w most bytes n m why also a b in λ i. fault.Damaged (same.0 i) (same.1 i)
+one_fault w most bytes (fault.Damaged n why) (fault.TooLong limit) se sf a b = absurd (damage_is_first w most bytes n why a b.1)
+one_fault w most bytes (fault.Damaged n why) fault.Disk se sf a b = absurd sf
+one_fault w most bytes (fault.Damaged n why) fault.Memory se sf a b = absurd sf
+one_fault w most bytes (fault.TooLong limit) fault.NotLog se sf a b = absurd (header_is_log w bytes (end_header w most a.1.cells a.1.tail bytes (long_end w most bytes a.1)) b)
+one_fault w most bytes (fault.TooLong limit) (fault.OldLog version width) se sf a b = absurd (header_is_new w bytes version width (end_header w most a.1.cells a.1.tail bytes (long_end w most bytes a.1)) b)
+one_fault w most bytes (fault.TooLong limit) (fault.Damaged n why) se sf a b = absurd (damage_is_first w most bytes n why b a.1)
+one_fault w most bytes (fault.TooLong limit) (fault.TooLong other) se sf a b = ap (λ m. fault.TooLong m) (a.0 ∙ sym b.0)
+one_fault w most bytes (fault.TooLong limit) fault.Disk se sf a b = absurd sf
+one_fault w most bytes (fault.TooLong limit) fault.Memory se sf a b = absurd sf
+one_fault w most bytes fault.Disk f se sf a b = absurd se
+one_fault w most bytes fault.Memory f se sf a b = absurd se
+
+module _ (w most : ℕ) (old new : Drive) where
+  -- an answer that isn't free is the one fault, or tells it
+  pub told_fault : (e f : OpenFault) (bytes : List ℕ) → IsFault w most bytes e → (e ≡ fault.Disk → Rose old.faults new.faults) → IsInBytes f → IsFault w most bytes f → (e ≡ f) ⊎ IsFree old new e
+  told_fault fault.Disk f bytes holds rose shown is = inr (inr (rose refl))
+  told_fault fault.Memory f bytes holds rose shown is = inr (inl refl)
+  told_fault fault.NotLog f bytes holds rose shown is = inl (one_fault w most bytes fault.NotLog f tt shown holds is)
+  told_fault (fault.OldLog version width) f bytes holds rose shown is = inl (one_fault w most bytes (fault.OldLog version width) f tt shown holds is)
+  told_fault (fault.Damaged n why) f bytes holds rose shown is = inl (one_fault w most bytes (fault.Damaged n why) f tt shown holds is)
+  told_fault (fault.TooLong limit) f bytes holds rose shown is = inl (one_fault w most bytes (fault.TooLong limit) f tt shown holds is)
+
+  pub told_free : (e : OpenFault) (bytes : List ℕ) (cells : List Cell) → IsFault w most bytes e → (e ≡ fault.Disk → Rose old.faults new.faults) → Recovers w cells bytes → length cells ≤ most → IsFree old new e
+  told_free fault.Disk bytes cells holds rose recovers few = inr (rose refl)
+  told_free fault.Memory bytes cells holds rose recovers few = inl refl
+  told_free fault.NotLog bytes cells holds rose recovers few = absurd (recovers_no_fault w most cells bytes fault.NotLog recovers few tt holds)
+  told_free (fault.OldLog version width) bytes cells holds rose recovers few = absurd (recovers_no_fault w most cells bytes (fault.OldLog version width) recovers few tt holds)
+  told_free (fault.Damaged n why) bytes cells holds rose recovers few = absurd (recovers_no_fault w most cells bytes (fault.Damaged n why) recovers few tt holds)
+  told_free (fault.TooLong limit) bytes cells holds rose recovers few = absurd (recovers_no_fault w most cells bytes (fault.TooLong limit) recovers few tt holds)
+
+pub passed_and : {T : Type 0} (result : Result T OpenFault) (e : OpenFault) (P : OpenFault → Type 0) → IsErrAnd result (λ x. x ≡ e) → P e → IsErrAnd result P
+passed_and (Ok x) e P same holds = same
+passed_and (Err x) e P same holds = subst P (sym same) holds
