@@ -39,7 +39,7 @@ swapped p q x ps qs same false true ea eb = ap (λ t. cond t (x ∷ filter p qs)
 swapped p q x ps qs same true false ea eb = same ∙ sym (ap (λ t. cond t (x ∷ filter q ps) (filter q ps)) eb)
 swapped p q x ps qs same false false ea eb = same
 
-filter-and : {A : Type 0} (p q : A → Bool) (xs : List A) → filter p (filter q xs) ≡ filter q (filter p xs)
+pub filter-and : {A : Type 0} (p q : A → Bool) (xs : List A) → filter p (filter q xs) ≡ filter q (filter p xs)
 filter-and p q [] = refl
 filter-and p q (x ∷ xs) = swapped p q x (filter p xs) (filter q xs) (filter-and p q xs) (p x) (q x) refl refl
 

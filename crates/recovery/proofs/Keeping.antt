@@ -1,0 +1,118 @@
+-- How a log goes on keeping a history while entries are added.
+use Rattle.std.proofs.Common.{◌≡◌, inl, inr, ⊎_elim, ℕ, zero, suc, ◌≤◌, true, List, [], ◌∷◌, ◌++◌, take, Option, Some, None, refl, sym, ◌∙◌, ap, subst, append_assoc}
+use Rattle.std.proofs.lemmas.List.{append-nil}
+use Rattle.std.specs.Cmp.{first_so, second_so}
+use Rattle.std.specs.Cmp.Derive.{both_true}
+use Rattle.zorder.specs.declared.points.Placed.{Placed}
+use Rattle.cell_format.specs.declared.cell.Cell.{Cell}
+use Rattle.plain_list.specs.declared.entries.Entry.{Entry}
+use Rattle.plain_list.specs.State.{State, empty_state, step}
+use Rattle.disk_trait.specs.Drive.{Drive}
+use Rattle.disk_trait.specs.Moments.{LeavesOnly, LeavesNow, LeavesSince}
+use Rattle.split_log.specs.LogText.{IsLog, HoldsCells, HoldsEither}
+use Rattle.recovery.specs.Recovers.{Recovers, IsLegalCells, is_legal_cells, is_possible_cell, cells_after, entry_of}
+use Rattle.recovery.specs.Changes.{cells_of, failed_cells, IsPrefixRecovered}
+use Rattle.recovery.specs.Keeps.{KeepsHistory, RecoversEither}
+
+-- a front of a list is a front of a longer one
+more_taken : {A : Type 0} (xs ys : List A) (m : ℕ) → (k : ℕ) × (take m xs ≡ take k (xs ++ ys))
+more_taken [] ys zero = (0, refl)
+more_taken [] ys (suc m) = (0, refl)
+more_taken (x ∷ xs) ys zero = (0, refl)
+more_taken (x ∷ xs) ys (suc m) = let (k, e) = more_taken xs ys m in (suc k, ap (λ l. x ∷ l) e)
+
+all_taken : {A : Type 0} (xs ys : List A) → (k : ℕ) × (xs ≡ take k (xs ++ ys))
+all_taken [] ys = (0, refl)
+all_taken (x ∷ xs) ys = let (k, e) = all_taken xs ys in (suc k, ap (λ l. x ∷ l) e)
+
+-- cells are legal whose later ones are legal behind the earlier ones, and the other way round
+pub legal-append : (w : ℕ) (s : State) (cells more : List Cell) → is_legal_cells w s cells ≡ true → is_legal_cells w (cells_after w s cells) more ≡ true
+    → is_legal_cells w s (cells ++ more) ≡ true
+legal-append w s [] more first later = later
+legal-append w s (c ∷ cells) more first later =
+    both_true (first_so (is_possible_cell w s c) (is_legal_cells w (step w s (entry_of c)) cells) first)
+    (legal-append w (step w s (entry_of c)) cells more (second_so (is_possible_cell w s c) (is_legal_cells w (step w s (entry_of c)) cells) first) later)
+
+legal-front : (w : ℕ) (s : State) (cells more : List Cell) → is_legal_cells w s (cells ++ more) ≡ true → is_legal_cells w s cells ≡ true
+legal-front w s [] more legal = refl
+legal-front w s (c ∷ cells) more legal =
+    both_true (first_so (is_possible_cell w s c) (is_legal_cells w (step w s (entry_of c)) (cells ++ more)) legal)
+    (legal-front w (step w s (entry_of c)) cells more (second_so (is_possible_cell w s c) (is_legal_cells w (step w s (entry_of c)) (cells ++ more)) legal))
+
+-- an image that recovers to a front of the cells of a history does so of a history with more of them
+widened : (w : ℕ) (first : List Cell) (world : List Placed) (h g : List Entry) (more : List Cell) (c : List ℕ)
+    → cells_of world g ++ failed_cells g ≡ (cells_of world h ++ failed_cells h) ++ more
+    → IsPrefixRecovered w first world h c → IsPrefixRecovered w first world g c
+widened w first world h g more c same (m, recovers) =
+    let (k, e) = more_taken (cells_of world h ++ failed_cells h) more m in
+    (k, subst (λ l. Recovers w (first ++ l) c) (e ∙ ap (take k) (sym same)) recovers)
+
+module _ (w : ℕ) (first : List Cell) (world : List Placed) (h : List Entry) (e : Entry) (cell : Cell) (t : ℕ) (d0 d1 : Drive) (earlier : t ≤ d0.moment)
+    (sound : failed_cells h ≡ [])
+    (legal : IsLegalCells w (first ++ (cells_of world h ++ cell ∷ [])))
+    (kept : KeepsHistory w first world h t d0 None)
+    (any_moment : LeavesOnly d0 d1 (HoldsEither w (first ++ cells_of world h) cell)) where
+  legal_before : IsLegalCells w (first ++ cells_of world h)
+  legal_before = legal-front w empty_state (first ++ cells_of world h) (cell ∷ []) (ap (is_legal_cells w empty_state) (append_assoc first (cells_of world h) (cell ∷ [])) ∙ legal)
+
+  -- what holds the cells, or one more, recovers to them
+  pub recovers : (c : List ℕ) → HoldsEither w (first ++ cells_of world h) cell c → RecoversEither w (first ++ cells_of world h) cell c
+  recovers c (inl holds) = inl (record { holds = holds; legal = legal_before })
+  recovers c (inr holds) = inr (record { holds = holds; legal = ap (is_legal_cells w empty_state) (append_assoc first (cells_of world h) (cell ∷ [])) ∙ legal })
+
+  -- at any moment of the append a crash leaves the cells that stood at its start, or one more
+  pub either_since : LeavesOnly d0 d1 (RecoversEither w (first ++ cells_of world h) cell)
+  either_since = record {
+    later = any_moment.later;
+    each = λ c left. recovers c (any_moment.each c left);
+    before = λ s c le left. ⊎_elim (λ was. inl was) (λ now. inr (recovers c now)) (any_moment.before s c le left);
+  }
+
+  module _ (g : List Entry) (same : cells_of world g ++ failed_cells g ≡ cells_of world h ++ cell ∷ []) where
+    same_more : cells_of world g ++ failed_cells g ≡ (cells_of world h ++ failed_cells h) ++ cell ∷ []
+    same_more = same ∙ ap (λ l. l ++ cell ∷ []) (sym (append-nil (cells_of world h)) ∙ ap (λ l. cells_of world h ++ l) (sym sound))
+
+    either_prefix : (c : List ℕ) → RecoversEither w (first ++ cells_of world h) cell c → IsPrefixRecovered w first world g c
+    either_prefix c (inl before) = let (k, e) = all_taken (cells_of world h) (cell ∷ []) in
+        (k, subst (λ l. Recovers w (first ++ l) c) (e ∙ ap (take k) (sym same)) before)
+    either_prefix c (inr after) = let (k, e) = all_taken (cells_of world h ++ cell ∷ []) [] in
+        (k, subst (λ l. Recovers w l c) (append_assoc first (cells_of world h) (cell ∷ []) ∙ ap (λ l. first ++ l) (e ∙ ap (take k) (append-nil (cells_of world h ++ cell ∷ []) ∙ sym same))) after)
+
+    pub since_then : LeavesSince d1 t (IsPrefixRecovered w first world g)
+    since_then c left = elim (any_moment.before t c earlier left) [
+      | inl was ↦ widened w first world h g (cell ∷ []) c same_more (kept.any_moment c was)
+      | inr now ↦ either_prefix c (recovers c now)
+    ]
+
+    -- the cell was added
+    pub kept_added : cells_of world g ≡ cells_of world h ++ cell ∷ [] → LeavesNow d1 (HoldsCells w (first ++ (cells_of world h ++ cell ∷ []))) → (failed : Option ℕ)
+        → IsLog w ((first ++ cells_of world h) ++ cell ∷ []) d1 → KeepsHistory w first world g t d1 failed
+    kept_added cells now failed log = record {
+      any_moment = since_then;
+      at_end = λ c left. inl (record { holds = subst (λ l. HoldsCells w (first ++ l) c) (sym cells) (now c left); legal = ap (λ l. is_legal_cells w empty_state (first ++ l)) cells ∙ legal });
+      log = λ none. subst (λ l. IsLog w l d1) (append_assoc first (cells_of world h) (cell ∷ []) ∙ ap (λ l. first ++ l) (sym cells)) log;
+    }
+
+    -- its append failed, and the history says so
+    pub kept_failed : cells_of world g ≡ cells_of world h → (number : ℕ) → LeavesNow d1 (HoldsEither w (first ++ cells_of world h) cell)
+        → KeepsHistory w first world g t d1 (Some number)
+    kept_failed cells number now = record {
+      any_moment = since_then;
+      at_end = λ c left. ⊎_elim
+          (λ before. inl (subst (λ l. Recovers w (first ++ l) c) (sym cells) before))
+          (λ after. inr (subst (λ l. Recovers w l c) (append_assoc first (cells_of world h) (cell ∷ []) ∙ ap (λ l. first ++ l) (sym same)) after))
+          (recovers c (now c left));
+      log = λ none. absurd (cc none);
+    }
+
+-- an entry without a cell leaves all as it was
+pub kept_quiet : (w : ℕ) (first : List Cell) (world : List Placed) (h g : List Entry) (t : ℕ) (drive : Drive) (failed : Option ℕ)
+    → cells_of world g ≡ cells_of world h → failed_cells g ≡ failed_cells h → KeepsHistory w first world h t drive failed → KeepsHistory w first world g t drive failed
+kept_quiet w first world h g t drive failed cells lost kept = record {
+  any_moment = λ c left. let (m, r) = kept.any_moment c left in (m, subst (λ l. Recovers w (first ++ take m l) c) (λ i. sym cells i ++ sym lost i) r);
+  at_end = λ c left. ⊎_elim
+      (λ before. inl (subst (λ l. Recovers w (first ++ l) c) (sym cells) before))
+      (λ after. inr (subst (λ l. Recovers w (first ++ l) c) (λ i. sym cells i ++ sym lost i) after))
+      (kept.at_end c left);
+  log = λ none. subst (λ l. IsLog w (first ++ l) drive) (sym cells) (kept.log none);
+}

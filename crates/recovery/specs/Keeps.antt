@@ -1,0 +1,21 @@
+-- What a log keeps of the history since it was opened.
+use Rattle.std.specs.Prelude.{◌≡◌, ◌⊎◌, ℕ, List, [], ◌∷◌, ◌++◌, Option, None}
+use Rattle.zorder.specs.declared.points.Placed.{Placed}
+use Rattle.cell_format.specs.declared.cell.Cell.{Cell}
+use Rattle.plain_list.specs.declared.entries.Entry.{Entry}
+use Rattle.disk_trait.specs.Drive.{Drive}
+use Rattle.disk_trait.specs.Moments.{LeavesNow, LeavesSince}
+use Rattle.split_log.specs.LogText.{IsLog}
+use Rattle.recovery.specs.Recovers.{Recovers}
+use Rattle.recovery.specs.Changes.{cells_of, IsPrefixRecovered, IsWhollyRecovered}
+
+-- A crash at any moment since a moment left the cells that stood first and some of the history's, and a crash now leaves all of them. While no
+-- append has failed the file is their text.
+pub record KeepsHistory (w : ℕ) (first : List Cell) (world : List Placed) (h : List Entry) (since : ℕ) (drive : Drive) (failed : Option ℕ) : Type 0 where
+  pub any_moment : LeavesSince drive since (IsPrefixRecovered w first world h)
+  pub at_end : LeavesNow drive (IsWhollyRecovered w first world h)
+  pub log : failed ≡ None → IsLog w (first ++ cells_of world h) drive
+
+-- an image recovers to these cells, or to these and one more
+abbrev pub RecoversEither : ℕ → List Cell → Cell → List ℕ → Type 0
+RecoversEither w cells cell image = Recovers w cells image ⊎ Recovers w (cells ++ cell ∷ []) image
