@@ -1,0 +1,4 @@
+pub mod Starting
+pub mod Adding
+pub mod Appending
+pub mod StepCells

@@ -1,0 +1,47 @@
+-- A log that was just opened keeps the empty history.
+use Rattle.std.proofs.Common.{◌≡◌, ℕ, List, [], ◌++◌, Some, sym, ◌∙◌, inl, subst, arith}
+use Rattle.std.proofs.lemmas.List.{append-nil}
+use Rattle.cell_format.specs.declared.cell.Cell.{Cell}
+use Rattle.plain_list.specs.State.{State}
+use Rattle.disk_trait.specs.Drive.{Drive, IsSettled}
+use Rattle.disk_trait.specs.Moments.{LeavesNow}
+use Rattle.split_log.specs.LogText.{IsLog, HoldsCells}
+use Rattle.split_log.proofs.Unique.{holds-same}
+use Rattle.recovery.specs.Recovers.{Recovers}
+use Rattle.kept_log.specs.KeptView.{KeptView}
+use Rattle.kept_log.specs.Kept.{StartsWith, KeepsSince, Keeps, IsOpened}
+
+-- where nothing is pending, a crash leaves what the bytes recover to
+pub starts-settled : (w : ℕ) (first : List Cell) (drive : Drive) (bytes : List ℕ) → IsSettled drive → drive.bytes ≡ Some bytes → Recovers w first bytes → StartsWith w first drive
+starts-settled w first drive bytes settled told recovers = record {
+  bytes = bytes;
+  told = told;
+  recovers = recovers;
+  images = λ c left. subst (Recovers w first) (sym (settled bytes told c left)) recovers;
+}
+
+-- a crash leaves a log's cells
+pub leaves-log : (w : ℕ) (cells : List Cell) (drive : Drive) → IsLog w cells drive → LeavesNow drive (HoldsCells w cells)
+leaves-log w cells drive log c left = record { front = log.bytes; rest = []; parts = log.durable c left ∙ sym (append-nil log.bytes); text = log.text }
+
+since-opened : (w : ℕ) (s : State) (first : List Cell) (start now : Drive) (failed : _) → IsOpened w s start now → StartsWith w first start → KeepsSince w first s [] start now failed
+since-opened w s first start now failed opened starts =
+    let (cells, recovers, log) = opened.log starts.bytes starts.told in
+    let same : first ++ [] ≡ first = append-nil first in
+    let is_log : IsLog w first now = subst (λ (l : List Cell). IsLog w l now) (holds-same w cells first starts.bytes recovers.holds starts.recovers.holds) log in
+    let any_moment = opened.any_moment starts.bytes first starts.told starts.images in
+    record {
+      opening = opened.state starts.bytes first starts.told starts.recovers;
+      later = any_moment.later;
+      history = record {
+        any_moment = λ c left. (0, subst (λ (l : List Cell). Recovers w l c) (sym same) (any_moment.each c left));
+        at_end = λ c left. inl (subst (λ (l : List Cell). Recovers w l c) (sym same) (record { holds = leaves-log w first now is_log c left; legal = starts.recovers.legal }));
+        log = λ none. subst (λ (l : List Cell). IsLog w l now) (sym same) is_log;
+      };
+    }
+
+pub kept-opened : {D : Type 0} (drive : D → Drive) (w : ℕ) (s : State) (log : KeptView D) → log.cells ≡ log.first → IsOpened w s (drive log.start) (drive log.disk) → Keeps drive w s [] log
+kept-opened drive w s log same opened = record {
+  count = omega (arith, same);
+  since = λ first starts. since-opened w s first (drive log.start) (drive log.disk) log.failed opened starts;
+}

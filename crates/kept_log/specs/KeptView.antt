@@ -1,0 +1,11 @@
+-- What a clause sees of a kept log.
+use Rattle.std.specs.Prelude.{ℕ, Option}
+
+-- the drive, how many cells the log has, and the one whose append failed; the drive as it was when the log was opened, and how many cells there
+-- were then
+pub record KeptView (D : Type 0) : Type 0 where
+  pub disk : D
+  pub cells : ℕ
+  pub failed : Option ℕ
+  pub start : D
+  pub first : ℕ

@@ -1,0 +1,13 @@
+//! A log and what it has kept since it was opened.
+//!
+//! Contracts see a `KeptLog` as its drive, its cells and the append that failed, beside the drive as it was at the opening and the number
+//! of cells then. `append` goes on with any history that the log keeps (`Keeps`): after `Ok` it keeps that history with the entry that the
+//! cell is of, and after a disk fault the history that ends with the failed append.
+//!
+//! Not here: which entries there are and when they are made, and how a log is opened (`recovery`).
+#![tactic(auto)]
+
+mod log;
+mod sending;
+
+pub use log::KeptLog;
