@@ -1,4 +1,4 @@
 pub mod Starting
+pub mod StepCells
 pub mod Adding
 pub mod Appending
-pub mod StepCells

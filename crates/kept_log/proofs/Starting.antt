@@ -1,15 +1,18 @@
 -- A log that was just opened keeps the empty history.
-use Rattle.std.proofs.Common.{◌≡◌, ℕ, List, [], ◌++◌, Some, sym, ◌∙◌, inl, subst, arith}
+use Rattle.std.proofs.Common.{◌≡◌, ℕ, List, [], ◌++◌, Some, sym, ◌∙◌, ap, inl, subst, arith}
 use Rattle.std.proofs.lemmas.List.{append-nil}
 use Rattle.cell_format.specs.declared.cell.Cell.{Cell}
-use Rattle.plain_list.specs.State.{State}
+use Rattle.plain_list.specs.State.{State, at_rest}
 use Rattle.disk_trait.specs.Drive.{Drive, IsSettled}
 use Rattle.disk_trait.specs.Moments.{LeavesNow}
 use Rattle.split_log.specs.LogText.{IsLog, HoldsCells}
 use Rattle.split_log.proofs.Unique.{holds-same}
-use Rattle.recovery.specs.Recovers.{Recovers}
+use Rattle.recovery.specs.Recovers.{Recovers, state_of}
+use Rattle.recovery.specs.Found.{IsFound}
+use Rattle.recovery.specs.Opening.{KeepsCells, IsReady}
+use Rattle.recovery.specs.declared.seen.Seen.{Seen}
 use Rattle.kept_log.specs.KeptView.{KeptView}
-use Rattle.kept_log.specs.Kept.{StartsWith, KeepsSince, Keeps, IsOpened}
+use Rattle.kept_log.specs.Kept.{StartsWith, KeepsSince, Keeps, IsOpened, found_state}
 
 -- where nothing is pending, a crash leaves what the bytes recover to
 pub starts-settled : (w : ℕ) (first : List Cell) (drive : Drive) (bytes : List ℕ) → IsSettled drive → drive.bytes ≡ Some bytes → Recovers w first bytes → StartsWith w first drive
@@ -44,4 +47,14 @@ pub kept-opened : {D : Type 0} (drive : D → Drive) (w : ℕ) (s : State) (log 
 kept-opened drive w s log same opened = record {
   count = omega (arith, same);
   since = λ first starts. since-opened w s first (drive log.start) (drive log.disk) log.failed opened starts;
+}
+
+-- what the opening of a log answers says that it was opened at the state that was found
+pub opened-found : (w most : ℕ) (start now : Drive) (seen : Seen) → IsFound w most start seen → IsReady w seen start now → KeepsCells w start now → IsOpened w (found_state seen) start now
+opened-found w most start now seen found ready any_moment = record {
+  state = λ bytes first told recovers.
+      let same : first ≡ found.cells = holds-same w first found.cells bytes recovers.holds (found.recovers bytes told).holds in
+      ap (λ cells. at_rest (state_of w cells)) same ∙ (λ i. record { world = sym found.finds.world i; leaves = sym found.finds.leaves i; splits = []; begun = sym found.finds.begun i });
+  log = λ bytes told. let (cells, count, recovers, log) = ready.log bytes told in (cells, recovers, log);
+  any_moment = any_moment;
 }

@@ -1,14 +1,16 @@
 -- What a log has kept since it was opened.
-use Rattle.std.specs.Prelude.{◌≡◌, ℕ, ◌+◌, ◌≤◌, List, length, Option, Some}
+use Rattle.std.specs.Prelude.{◌≡◌, ℕ, ◌+◌, ◌≤◌, List, [], length, Option, Some}
 use Rattle.cell_format.specs.declared.cell.Cell.{Cell}
 use Rattle.plain_list.specs.declared.entries.Entry.{Entry}
 use Rattle.plain_list.specs.State.{State, at_rest}
 use Rattle.disk_trait.specs.Drive.{Drive}
-use Rattle.disk_trait.specs.Moments.{LeavesNow, LeavesOnly}
+use Rattle.disk_trait.specs.Moments.{LeavesNow}
 use Rattle.split_log.specs.LogText.{IsLog}
 use Rattle.recovery.specs.Recovers.{Recovers, state_of}
 use Rattle.recovery.specs.Changes.{cells_of}
 use Rattle.recovery.specs.Keeps.{KeepsHistory}
+use Rattle.recovery.specs.Opening.{KeepsCells}
+use Rattle.recovery.specs.declared.seen.Seen.{Seen}
 use Rattle.kept_log.specs.KeptView.{KeptView}
 
 -- the drive's bytes are known and recover to these cells, and so does all that a crash may leave
@@ -30,8 +32,12 @@ pub record Keeps {D : Type 0} (drive : D → Drive) (w : ℕ) (s : State) (h : L
   pub count : log.cells ≡ log.first + length (cells_of s.world h)
   pub since : (first : List Cell) → StartsWith w first (drive log.start) → KeepsSince w first s h (drive log.start) (drive log.disk) log.failed
 
--- a log was opened at a state: where the drive's bytes were known, their cells left that state, and the file is the text of these cells alone
+-- the state that was found in a log, with no split open
+abbrev pub found_state : Seen → State
+found_state seen = record { world = seen.world; leaves = seen.leaves; splits = []; begun = seen.begun }
+
+-- A log was opened at a state: where the drive's bytes were known, their cells left that state, and the file is the text of these cells alone.
 pub record IsOpened (w : ℕ) (s : State) (start now : Drive) : Type 0 where
   pub state : (bytes : List ℕ) (first : List Cell) → start.bytes ≡ Some bytes → Recovers w first bytes → at_rest (state_of w first) ≡ s
   pub log : (bytes : List ℕ) → start.bytes ≡ Some bytes → (cells : List Cell) × Recovers w cells bytes × IsLog w cells now
-  pub any_moment : (bytes : List ℕ) (cells : List Cell) → start.bytes ≡ Some bytes → LeavesNow start (Recovers w cells) → LeavesOnly start now (Recovers w cells)
+  pub any_moment : KeepsCells w start now

@@ -1,5 +1,7 @@
 //! A log, and the drive as it was when the log was opened.
-ghost use Rattle.std.specs.Prelude.{◌≡◌, ◌≤◌, ◌^◌, ◌↔◌, ℕ, true, Err, OnOk};
+ghost use Rattle.std.specs.Prelude.{◌≡◌, ◌≤◌, ◌^◌, ◌↔◌, ℕ, true, [], None, Err, OnOk};
+ghost use Rattle.plain_list.specs.State.{State};
+ghost use Rattle.kept_log.specs.Kept.{IsOpened, Keeps};
 ghost use Rattle.kept_log.specs.Steps.{Appended, AppendFailed, IsSince, LeavesEither};
 
 use cell_format::Cell;
@@ -31,7 +33,8 @@ impl<D: LogDisk> Model for KeptLog<D> {
 impl<D: LogDisk> KeptLog<D> {
     /// A log as it was opened on this drive.
     pub fn new(log: SplitLog<D>, start: Snapshot<D>) -> KeptLog<D>
-        ensures { result ≡ record { disk = log.disk; cells = log.cells; failed = log.failed; start = start.value; first = log.cells } }
+        ensures value { result ≡ record { disk = log.disk; cells = log.cells; failed = log.failed; start = start.value; first = log.cells } }
+        ensures keeps { (w : ℕ) (s : State) → IsOpened w s (D.drive start.value) (D.drive log.disk) → Keeps D.drive w s [] result }
     {
         let first = log.cells();
         KeptLog { log, start, first }
@@ -71,7 +74,7 @@ impl<D: LogDisk> KeptLog<D> {
     pub fn is_full(&self) -> bool
         ensures { (result ≡ true) ↔ (self.now.cells ≡ 2 ^ 24) }
     {
-        self.log.cells() == MOST_CELLS
+        self.cells() == MOST_CELLS
     }
 
     /// The drive, whatever stands on it.
