@@ -26,7 +26,7 @@ use Rattle.kept_log.specs.KeptView.{KeptView}
 use Rattle.kept_log.specs.Kept.{KeepsSince, Keeps}
 use Rattle.kept_log.specs.Steps.{IsNext}
 use Rattle.kept_log.proofs.Starting.{leaves-log}
-use Rattle.kept_log.proofs.StepCells.{call-no_cells}
+use Rattle.kept_log.proofs.StepCells.{call-no_cells, cells-fail}
 
 not_last : (h : List Entry) (e : Entry) → is_empty (h ++ e ∷ []) ≡ false
 not_last [] e = refl
@@ -82,16 +82,18 @@ module _ (w : ℕ) (s : State) (h : List Entry) (e : Entry) (cell : Cell) (next 
         opening = kept.opening;
         later = omega (arith, kept.later, any_moment.later);
         history = kept_added w first s.world h e cell start.moment d0 d1 kept.later none_lost legal_with kept.history any_moment (h ++ e ∷ [])
-            (ap (λ l. cells_of s.world (h ++ e ∷ []) ++ l) (failed_cells-append h (e ∷ []) sound ∙ lost_none (world_after s.world h) e cell next.cells) ∙ append-nil (cells_of s.world (h ++ e ∷ [])) ∙ cells_with)
+            (ap (λ l. cells_of s.world (h ++ e ∷ []) ++ l) (failed_cells-append h (e ∷ []) sound ∙ lost_none (world_after s.world h) e cell next.cells)
+            ∙ append-nil (cells_of s.world (h ++ e ∷ [])) ∙ cells_with)
             cells_with
-            (λ c left. subst (λ l. HoldsCells w l c) (append_assoc first (cells_of s.world h) (cell ∷ [])) (leaves-log w ((first ++ cells_of s.world h) ++ cell ∷ []) d1 log c left))
+            (λ c left. subst (λ l. HoldsCells w l c) (append_assoc first (cells_of s.world h) (cell ∷ []))
+            (leaves-log w ((first ++ cells_of s.world h) ++ cell ∷ []) d1 log c left))
             None log;
       }
 
       pub since-failed : (number : ℕ) (lost : Lost) → lost_cells lost ≡ cell ∷ [] → LeavesNow d1 (HoldsEither w (first ++ cells_of s.world h) cell)
           → KeepsSince w first s (h ++ Fail number lost ∷ []) start d1 (Some number)
       since-failed number lost one now =
-          let same : cells_of s.world (h ++ Fail number lost ∷ []) ≡ cells_of s.world h = cells_of-append s.world h (Fail number lost ∷ []) ∙ append-nil (cells_of s.world h) in
+          let same : cells_of s.world (h ++ Fail number lost ∷ []) ≡ cells_of s.world h = cells-fail s.world h number lost in
           record {
             opening = kept.opening;
             later = omega (arith, kept.later, any_moment.later);
@@ -101,11 +103,13 @@ module _ (w : ℕ) (s : State) (h : List Entry) (e : Entry) (cell : Cell) (next 
           }
 
 -- an entry without a cell leaves all as it was
-pub kept-quiet : {D : Type 0} (drive : D → Drive) (w : ℕ) (s : State) (h : List Entry) (e : Entry) (log : KeptView D) → IsLegal w s (h ++ e ∷ []) → cells_of (world_after s.world h) (e ∷ []) ≡ []
+pub kept-quiet : {D : Type 0} (drive : D → Drive) (w : ℕ) (s : State) (h : List Entry) (e : Entry) (log : KeptView D) → IsLegal w s (h ++ e ∷ [])
+    → cells_of (world_after s.world h) (e ∷ []) ≡ []
     → is_fail e ≡ false → Keeps drive w s h log → Keeps drive w s (h ++ e ∷ []) log
 kept-quiet drive w s h e log legal none going kept =
     let sound : has_failed h ≡ false = sound-push w s h e legal in
-    let cells : cells_of s.world (h ++ e ∷ []) ≡ cells_of s.world h = cells_of-append s.world h (e ∷ []) ∙ ap (λ l. cells_of s.world h ++ l) none ∙ append-nil (cells_of s.world h) in
+    let cells : cells_of s.world (h ++ e ∷ []) ≡ cells_of s.world h =
+    cells_of-append s.world h (e ∷ []) ∙ ap (λ l. cells_of s.world h ++ l) none ∙ append-nil (cells_of s.world h) in
     let lost : failed_cells (h ++ e ∷ []) ≡ failed_cells h = failed_cells-append h (e ∷ []) sound ∙ lost_going e going ∙ sym (failed_cells-none h sound) in
     record {
       count = kept.count ∙ ap (λ l. log.first + length l) (sym cells);
@@ -126,6 +130,8 @@ kept-quiet drive w s h e log legal none going kept =
     lost_going (Abandon number) going = refl
 
 -- a call that changes nothing has no cell
-pub kept-call : {D : Type 0} (drive : D → Drive) (w : ℕ) (s : State) (h : List Entry) (session row : ℕ) (op : Op) (log : KeptView D) → IsLegal w s (h ++ Call session row op ∷ [])
+pub kept-call : {D : Type 0} (drive : D → Drive) (w : ℕ) (s : State) (h : List Entry) (session row : ℕ) (op : Op) (log : KeptView D)
+    → IsLegal w s (h ++ Call session row op ∷ [])
     → is_change (answer_of (world_after s.world h) op) ≡ false → Keeps drive w s h log → Keeps drive w s (h ++ Call session row op ∷ []) log
-kept-call drive w s h session row op log legal none = kept-quiet drive w s h (Call session row op) log legal (call-no_cells (world_after s.world h) session row op none) refl
+kept-call drive w s h session row op log legal none =
+    kept-quiet drive w s h (Call session row op) log legal (call-no_cells (world_after s.world h) session row op none) refl

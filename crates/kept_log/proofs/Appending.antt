@@ -1,25 +1,19 @@
 -- What an append makes of each history that a log keeps.
-use Rattle.std.proofs.Common.{◌≡◌, ℕ, List, [], ◌∷◌, ◌++◌, length, Option, Some, None, Result, Ok, Err, OnOk, refl, sym, ◌∙◌, ap, subst, arith, length-append}
-use Rattle.std.proofs.lemmas.List.{append-nil}
+use Rattle.std.proofs.Common.{◌≡◌, ℕ, List, [], ◌∷◌, ◌++◌, length, Option, Some, None, refl, sym, ◌∙◌, ap, subst, arith, length-append}
 use Rattle.cell_format.specs.declared.cell.Cell.{Cell}
 use Rattle.plain_list.specs.declared.entries.Entry.{Entry}
 use Rattle.plain_list.specs.declared.entries.Entry.TheVariants.{Fail}
 use Rattle.plain_list.specs.State.{State}
 use Rattle.disk_trait.specs.Drive.{Drive}
 use Rattle.disk_trait.specs.Moments.{LeavesOnly}
-use Rattle.split_log.specs.declared.log.AppendFault.{AppendFault}
 use Rattle.split_log.specs.LogText.{IsLog, HoldsEither}
 use Rattle.split_log.specs.Append.{Adds, Fails}
 use Rattle.recovery.specs.Changes.{cells_of}
-use Rattle.recovery.proofs.PlacedChanges.{cells_of-append}
 use Rattle.kept_log.specs.KeptView.{KeptView}
 use Rattle.kept_log.specs.Kept.{StartsWith, KeepsSince, Keeps}
 use Rattle.kept_log.specs.Steps.{IsSince, Appended, AppendFailed, LeavesEither}
+use Rattle.kept_log.proofs.StepCells.{cells-fail}
 use Rattle.kept_log.proofs.Adding.{cells_with, either-kept, since-added, since-failed}
-
-pub on_ok : (r : Result (Unit {0}) AppendFault) (P Q : Type 0) → (P → Q) → OnOk r P → OnOk r Q
-on_ok (Ok x) P Q so p = so p
-on_ok (Err e) P Q so p = tt
 
 module _ {D : Type 0} (drive : D → Drive) (cell : Cell) (old new : KeptView D) (sound : old.failed ≡ None) (opened : IsSince old new)
     (any_moment : (w : ℕ) (cells : List Cell) → IsLog w cells (drive old.disk) → LeavesOnly (drive old.disk) (drive new.disk) (HoldsEither w cells cell)) where
@@ -44,7 +38,8 @@ module _ {D : Type 0} (drive : D → Drive) (cell : Cell) (old new : KeptView D)
 
   pub leaves-either : LeavesEither drive cell old new
   leaves-either w s h e first next kept starts =
-      either-kept w s h e cell next first (drive old.start) (drive old.disk) (drive new.disk) starts.recovers.legal (still w s h kept first starts) (during w s h kept first starts)
+      either-kept w s h e cell next first (drive old.start) (drive old.disk) (drive new.disk) starts.recovers.legal
+      (still w s h kept first starts) (during w s h kept first starts)
 
   pub appended : Adds cell old.cells new.cells new.failed (drive old.disk) (drive new.disk) → Appended drive cell old new
   appended adds = record {
@@ -53,7 +48,8 @@ module _ {D : Type 0} (drive : D → Drive) (cell : Cell) (old new : KeptView D)
     keeps = λ w s h e next kept. record {
       count = omega (arith, adds.count, kept.count, opened.first, ap length (cells_with w s h e cell next), length-append (cells_of s.world h) (cell ∷ []));
       since = since-same w s (h ++ e ∷ []) None adds.whole (λ first starts.
-          since-added w s h e cell next first (drive old.start) (drive old.disk) (drive new.disk) starts.recovers.legal (still w s h kept first starts) (during w s h kept first starts)
+          since-added w s h e cell next first (drive old.start) (drive old.disk) (drive new.disk) starts.recovers.legal
+          (still w s h kept first starts) (during w s h kept first starts)
           (adds.log w (first ++ cells_of s.world h) (log_of w s h kept first starts)));
     };
   }
@@ -67,11 +63,12 @@ module _ {D : Type 0} (drive : D → Drive) (cell : Cell) (old new : KeptView D)
         count = fails.count;
         rose = fails.rose;
         keeps = λ w s h e lost next one kept.
-            let same : cells_of s.world (h ++ Fail number lost ∷ []) ≡ cells_of s.world h = cells_of-append s.world h (Fail number lost ∷ []) ∙ append-nil (cells_of s.world h) in
+            let same : cells_of s.world (h ++ Fail number lost ∷ []) ≡ cells_of s.world h = cells-fail s.world h number lost in
             record {
               count = omega (arith, fails.count, kept.count, opened.first, ap length same);
               since = since-same w s (h ++ Fail number lost ∷ []) (Some number) closed (λ first starts.
-                  since-failed w s h e cell next first (drive old.start) (drive old.disk) (drive new.disk) starts.recovers.legal (still w s h kept first starts) (during w s h kept first starts)
+                  since-failed w s h e cell next first (drive old.start) (drive old.disk) (drive new.disk) starts.recovers.legal
+                  (still w s h kept first starts) (during w s h kept first starts)
                   number lost one (fails.either w (first ++ cells_of s.world h) (log_of w s h kept first starts)));
             };
       }

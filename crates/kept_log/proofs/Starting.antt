@@ -15,7 +15,8 @@ use Rattle.kept_log.specs.KeptView.{KeptView}
 use Rattle.kept_log.specs.Kept.{StartsWith, KeepsSince, Keeps, IsOpened, found_state}
 
 -- where nothing is pending, a crash leaves what the bytes recover to
-pub starts-settled : (w : ℕ) (first : List Cell) (drive : Drive) (bytes : List ℕ) → IsSettled drive → drive.bytes ≡ Some bytes → Recovers w first bytes → StartsWith w first drive
+pub starts-settled : (w : ℕ) (first : List Cell) (drive : Drive) (bytes : List ℕ) → IsSettled drive → drive.bytes ≡ Some bytes
+    → Recovers w first bytes → StartsWith w first drive
 starts-settled w first drive bytes settled told recovers = record {
   bytes = bytes;
   told = told;
@@ -27,7 +28,8 @@ starts-settled w first drive bytes settled told recovers = record {
 pub leaves-log : (w : ℕ) (cells : List Cell) (drive : Drive) → IsLog w cells drive → LeavesNow drive (HoldsCells w cells)
 leaves-log w cells drive log c left = record { front = log.bytes; rest = []; parts = log.durable c left ∙ sym (append-nil log.bytes); text = log.text }
 
-since-opened : (w : ℕ) (s : State) (first : List Cell) (start now : Drive) (failed : _) → IsOpened w s start now → StartsWith w first start → KeepsSince w first s [] start now failed
+since-opened : (w : ℕ) (s : State) (first : List Cell) (start now : Drive) (failed : _) → IsOpened w s start now → StartsWith w first start
+    → KeepsSince w first s [] start now failed
 since-opened w s first start now failed opened starts =
     let (cells, recovers, log) = opened.log starts.bytes starts.told in
     let same : first ++ [] ≡ first = append-nil first in
@@ -38,23 +40,27 @@ since-opened w s first start now failed opened starts =
       later = any_moment.later;
       history = record {
         any_moment = λ c left. (0, subst (λ (l : List Cell). Recovers w l c) (sym same) (any_moment.each c left));
-        at_end = λ c left. inl (subst (λ (l : List Cell). Recovers w l c) (sym same) (record { holds = leaves-log w first now is_log c left; legal = starts.recovers.legal }));
+        at_end = λ c left. inl (subst (λ (l : List Cell). Recovers w l c) (sym same)
+            (record { holds = leaves-log w first now is_log c left; legal = starts.recovers.legal }));
         log = λ none. subst (λ (l : List Cell). IsLog w l now) (sym same) is_log;
       };
     }
 
-pub kept-opened : {D : Type 0} (drive : D → Drive) (w : ℕ) (s : State) (log : KeptView D) → log.cells ≡ log.first → IsOpened w s (drive log.start) (drive log.disk) → Keeps drive w s [] log
+pub kept-opened : {D : Type 0} (drive : D → Drive) (w : ℕ) (s : State) (log : KeptView D) → log.cells ≡ log.first
+    → IsOpened w s (drive log.start) (drive log.disk) → Keeps drive w s [] log
 kept-opened drive w s log same opened = record {
   count = omega (arith, same);
   since = λ first starts. since-opened w s first (drive log.start) (drive log.disk) log.failed opened starts;
 }
 
 -- what the opening of a log answers says that it was opened at the state that was found
-pub opened-found : (w most : ℕ) (start now : Drive) (seen : Seen) → IsFound w most start seen → IsReady w seen start now → KeepsCells w start now → IsOpened w (found_state seen) start now
+pub opened-found : (w most : ℕ) (start now : Drive) (seen : Seen) → IsFound w most start seen → IsReady w seen start now → KeepsCells w start now
+    → IsOpened w (found_state seen) start now
 opened-found w most start now seen found ready any_moment = record {
   state = λ bytes first told recovers.
       let same : first ≡ found.cells = holds-same w first found.cells bytes recovers.holds (found.recovers bytes told).holds in
-      ap (λ cells. at_rest (state_of w cells)) same ∙ (λ i. record { world = sym found.finds.world i; leaves = sym found.finds.leaves i; splits = []; begun = sym found.finds.begun i });
+      ap (λ cells. at_rest (state_of w cells)) same
+      ∙ (λ i. record { world = sym found.finds.world i; leaves = sym found.finds.leaves i; splits = []; begun = sym found.finds.begun i });
   log = λ bytes told. let (cells, count, recovers, log) = ready.log bytes told in (cells, recovers, log);
   any_moment = any_moment;
 }

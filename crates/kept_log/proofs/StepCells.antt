@@ -16,15 +16,18 @@ use Rattle.recovery.proofs.PlacedChanges.{cells_of-append}
 use Rattle.kept_log.specs.Steps.{IsNext}
 
 -- a call that changes the world has the cell of its operation
-pub call-cells : (world : List Placed) (session row : ℕ) (op : Op) → is_change (answer_of world op) ≡ true → cells_of world (Call session row op ∷ []) ≡ change_cells op
+pub call-cells : (world : List Placed) (session row : ℕ) (op : Op) → is_change (answer_of world op) ≡ true
+    → cells_of world (Call session row op ∷ []) ≡ change_cells op
 call-cells world session row op change = ap (λ b. cond b (change_cells op) [] ++ []) change ∙ append-nil (change_cells op)
 
 -- another has none
-pub call-no_cells : (world : List Placed) (session row : ℕ) (op : Op) → is_change (answer_of world op) ≡ false → cells_of world (Call session row op ∷ []) ≡ []
+pub call-no_cells : (world : List Placed) (session row : ℕ) (op : Op) → is_change (answer_of world op) ≡ false
+    → cells_of world (Call session row op ∷ []) ≡ []
 call-no_cells world session row op change = ap (λ b. cond b (change_cells op) [] ++ []) change
 
 -- a call that is the cell's may come next
-pub next-call : (w : ℕ) (s : State) (h : List Entry) (session row : ℕ) (op : Op) (cell : Cell) → IsLegal w s (h ++ Call session row op ∷ []) → is_change (answer_of (world_after s.world h) op) ≡ true
+pub next-call : (w : ℕ) (s : State) (h : List Entry) (session row : ℕ) (op : Op) (cell : Cell) → IsLegal w s (h ++ Call session row op ∷ [])
+    → is_change (answer_of (world_after s.world h) op) ≡ true
     → change_cells op ≡ cell ∷ [] → IsNext w s h (Call session row op) cell
 next-call w s h session row op cell legal change one = record { legal = legal; cells = call-cells (world_after s.world h) session row op change ∙ one }
 
@@ -32,15 +35,19 @@ next-call w s h session row op cell legal change one = record { legal = legal; c
 pub cells-call : (world : List Placed) (h : List Entry) (session row : ℕ) (op : Op)
     → cells_of world (h ++ Call session row op ∷ []) ≡ cells_of world h ++ cond (is_change (answer_of (world_after world h) op)) (change_cells op) []
 cells-call world h session row op =
-    cells_of-append world h (Call session row op ∷ []) ∙ ap (λ l. cells_of world h ++ l) (append-nil (cond (is_change (answer_of (world_after world h) op)) (change_cells op) []))
+    cells_of-append world h (Call session row op ∷ [])
+    ∙ ap (λ l. cells_of world h ++ l) (append-nil (cond (is_change (answer_of (world_after world h) op)) (change_cells op) []))
 
-pub cells-begin : (world : List Placed) (h : List Entry) (number : ℕ) (name : List Bool) → cells_of world (h ++ Begin number name ∷ []) ≡ cells_of world h ++ cell.Begin number name ∷ []
+pub cells-begin : (world : List Placed) (h : List Entry) (number : ℕ) (name : List Bool)
+    → cells_of world (h ++ Begin number name ∷ []) ≡ cells_of world h ++ cell.Begin number name ∷ []
 cells-begin world h number name = cells_of-append world h (Begin number name ∷ [])
 
-pub cells-install : (world : List Placed) (h : List Entry) (number : ℕ) → cells_of world (h ++ Install number ∷ []) ≡ cells_of world h ++ cell.Install number ∷ []
+pub cells-install : (world : List Placed) (h : List Entry) (number : ℕ)
+    → cells_of world (h ++ Install number ∷ []) ≡ cells_of world h ++ cell.Install number ∷ []
 cells-install world h number = cells_of-append world h (Install number ∷ [])
 
-pub cells-abandon : (world : List Placed) (h : List Entry) (number : ℕ) → cells_of world (h ++ Abandon number ∷ []) ≡ cells_of world h ++ cell.Abandon number ∷ []
+pub cells-abandon : (world : List Placed) (h : List Entry) (number : ℕ)
+    → cells_of world (h ++ Abandon number ∷ []) ≡ cells_of world h ++ cell.Abandon number ∷ []
 cells-abandon world h number = cells_of-append world h (Abandon number ∷ [])
 
 -- a failed append has none

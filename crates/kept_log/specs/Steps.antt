@@ -41,5 +41,5 @@ pub record AppendFailed {D : Type 0} (drive : D → Drive) (cell : Cell) (number
 
 -- at each moment of an append a crash leaves the cells that stood at its start, or these and the new one
 abbrev pub LeavesEither : {D : Type 0} → (D → Drive) → Cell → KeptView D → KeptView D → Type 0
-LeavesEither drive cell old new = (w : ℕ) (s : State) (h : List Entry) (e : Entry) (first : List Cell) → IsNext w s h e cell → Keeps drive w s h old → StartsWith w first (drive old.start)
-    → LeavesOnly (drive old.disk) (drive new.disk) (RecoversEither w (first ++ cells_of s.world h) cell)
+LeavesEither drive cell old new = (w : ℕ) (s : State) (h : List Entry) (e : Entry) (first : List Cell) → IsNext w s h e cell → Keeps drive w s h old
+    → StartsWith w first (drive old.start) → LeavesOnly (drive old.disk) (drive new.disk) (RecoversEither w (first ++ cells_of s.world h) cell)
