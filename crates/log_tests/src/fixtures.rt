@@ -3,6 +3,8 @@ ghost use Rattle.std.specs.Prelude.{◌≡◌, None, IfOk};
 
 use cell_format::{Cell, encode, header};
 use disk_mem::{Fail, MemDisk};
+use kept_log::KeptLog;
+use recovery::open;
 use split_log::SplitLog;
 use std::alloc::{AllocError, Global};
 use zorder::Memory;
@@ -41,4 +43,15 @@ fn log_bytes(alloc: Global, cells: &[Cell], tail: &[u8]) -> Result<Vec<u8>, Allo
     }
     bytes.extend_from_slice(tail)?;
     Ok(bytes)
+}
+
+/// A new log of width 1, as it was opened.
+pub fn opened_log(alloc: Global) -> Result<KeptLog<MemDisk>, Memory>
+    ensures { IfOk result (λ log. log.failed ≡ None) }
+{
+    let disk = log_of(alloc, &[], &[0])?;
+    match open(alloc, disk, 1, 16) {
+        Ok(opened) => Ok(KeptLog::new(opened.log, opened.start)),
+        Err(_) => Err(Memory),
+    }
 }

@@ -1,5 +1,5 @@
 //! What one append leaves, and what a crash may.
-use crate::fixtures::empty_log;
+use crate::fixtures::{empty_log, opened_log};
 use cell_format::Cell;
 use disk_mem::{DiskCall, Fail as Failing, PickFault};
 use split_log::AppendFault;
@@ -23,6 +23,17 @@ fn an_append_leaves_the_worked_bytes(rt: HostRuntime) -> Result<(), Fail> {
     assert_eq!(rt; disk.bytes(), text.as_slice());
     let image = disk.pick(disk.moments(), 0, &[9])?;
     assert_eq!(rt; image.as_slice(), text.as_slice());
+    Ok(())
+}
+
+#[test]
+fn an_opened_log_keeps_the_worked_cell(rt: HostRuntime) -> Result<(), Fail> {
+    let mut log = opened_log(rt.alloc())?;
+    assert_eq!(rt; log.append(&PUT_7), Ok(()));
+    assert_eq!(rt; log.cells(), 1);
+    assert_eq!(rt; log.failed(), None);
+    assert!(rt; !log.is_full());
+    assert_eq!(rt; log.give_back().bytes().len(), 49);
     Ok(())
 }
 
