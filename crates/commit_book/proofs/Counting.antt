@@ -18,7 +18,7 @@ use Rattle.index_layer.proofs.Puts.{where_is}
 use Rattle.plain_list.specs.World.{IsRising}
 use Rattle.plain_list.specs.World.{IsAbove as IsAboveId}
 use Rattle.plain_list.specs.Size.{count_in_name}
-use Rattle.commit_book.proofs.MemberMaps.{place_of-above}
+use Rattle.plain_list.proofs.MemberMaps.{place_of-above}
 use Rattle.commit_book.proofs.Standing.{HasLess}
 use Rattle.commit_book.proofs.StandingLess.{rows_without_gone, rows_past_gone}
 

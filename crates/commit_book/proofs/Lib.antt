@@ -11,7 +11,8 @@ pub mod FoundLeaves
 pub mod FullLemmas
 pub mod KeptLemmas
 pub mod KeyPlaces
-pub mod MemberMaps
+pub mod MemberSteps
+pub mod Readied
 pub mod RefusalLemmas
 pub mod Rising
 pub mod SplitCalls

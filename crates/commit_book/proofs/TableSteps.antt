@@ -26,7 +26,7 @@ use Rattle.commit_book.specs.Crowds.{crowded_of}
 use Rattle.commit_book.proofs.Covered.{Tiles, tiles, none_under, below_next, only_under}
 use Rattle.commit_book.proofs.CrowdLemmas.{crowded_of-replaced}
 use Rattle.commit_book.proofs.FoundLeaves.{found_named}
-use Rattle.commit_book.proofs.MemberMaps.{IsAbove-lower, without-absent, with_moved-absent, place_of-above}
+use Rattle.plain_list.proofs.MemberMaps.{IsAbove-lower, without-absent, with_moved-absent, place_of-above}
 use Rattle.commit_book.proofs.Standing.{found_has, find-names_of, rows_after_put}
 use Rattle.commit_book.proofs.StandingLess.{rows_after_gone}
 

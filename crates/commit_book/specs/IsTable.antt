@@ -10,9 +10,9 @@ use Rattle.commit_book.specs.declared.table.Table.TheInside.{Inside}
 
 -- the objects of the map are the rows of the leaves, and the leaves to be split are known
 pub record IsTable {I : Type 0} (leaves : I → List Leaf) (w : ℕ) (t : Inside I) : Type 0 where
-  pub world : IsWorld t.members
-  pub rows : AllByRecursion (HasRowsOf t.members) (leaves t.index)
+  pub world : IsWorld t.members.world
+  pub rows : AllByRecursion (HasRowsOf t.members.world) (leaves t.index)
   pub crowded : t.crowded.names ≡ crowded_of w t.size (leaves t.index)
 
 abbrev pub table_of : {I : Type 0} → Inside I → TableView I
-table_of t = record { index = t.index; world = t.members; size = t.size; room = t.crowded.room }
+table_of t = record { index = t.index; world = t.members.world; size = t.size; room = t.crowded.room; ready = t.members.ready }

@@ -1,4 +1,5 @@
 pub mod Answers
+pub mod Beside
 pub mod BookInside
 pub mod BookView
 pub mod Changes
@@ -12,6 +13,8 @@ pub mod IsBook
 pub mod IsTable
 pub mod KeptBases
 pub mod Members
+pub mod MembersInside
+pub mod Readied
 pub mod Refusals
 pub mod SplitSteps
 pub mod Splits

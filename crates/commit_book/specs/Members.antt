@@ -1,11 +1,8 @@
--- A map from ids to points, seen as a world.
-use Rattle.std.specs.Prelude.{ℕ, List, map}
-use Rattle.zorder.specs.declared.points.Point.{Point}
+-- What a clause sees of a map of objects.
+use Rattle.std.specs.Prelude.{Bool, List}
 use Rattle.zorder.specs.declared.points.Placed.{Placed}
 
--- an entry as an object
-abbrev pub placed_of : ℕ × Point → Placed
-placed_of e = record { id = e.0; at = e.1 }
-
-abbrev pub world_of : List (ℕ × Point) → List Placed
-world_of entries = map placed_of entries
+-- the objects, and whether one more is sure to find room
+pub record MembersView : Type 0 where
+  pub world : List Placed
+  pub ready : Bool

@@ -17,6 +17,7 @@ mod history;
 mod members;
 mod open_splits;
 mod table;
+mod updates;
 
 pub use book::{Book, BookParts, Done, Snapshot};
 pub use faults::BookFault;

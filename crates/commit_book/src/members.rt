@@ -1,79 +1,116 @@
-//! The map from ids to points, seen as a world.
-ghost use Rattle.std.specs.Prelude.{◌≡◌, ◌≤◌, ◌<◌, ◌+◌, [], length, Some, None, OnOk, OnErr, Option};
+//! The map from ids to points, seen as a world, with an object that is put without taking memory.
+ghost use Rattle.std.specs.Prelude.{◌≡◌, ◌≤◌, ◌<◌, ◌+◌, [], length, true, false, Some, None, OnOk, OnErr, Option};
 ghost use Rattle.zorder.specs.declared.points.Point.{Point};
 ghost use Rattle.plain_list.specs.World.{IsWorld, place_of};
 ghost use Rattle.plain_list.specs.Answer.{with_member, with_moved, without};
+ghost use Rattle.commit_book.specs.Beside.{place_of_latest};
 
+use plain_list::MemberMap;
 use std::alloc::{AllocError, Global};
-use std::collections::BTreeMap;
 use std::marker::Model;
-use zorder::Point;
+use zorder::{Placed, Point};
 
 /// Where each object is, by its id.
+///
+/// An insert into the map may take memory, and a put must not once its record is in the log. So the object that was put last stands beside
+/// the map, and the next put's reservation takes it in.
 #[derive(Drop)]
 pub(crate) struct Members {
-    points: BTreeMap<u64, Point>,
+    points: MemberMap,
+    latest: Option<Placed>,
 }
 
 impl Model for Members {
-    ghost use Rattle.std.specs.Prelude.{List};
-    ghost use Rattle.zorder.specs.declared.points.Placed.{Placed};
+    ghost use Rattle.commit_book.specs.Members.{MembersView};
 
-    ghost Value = { List Placed };
+    ghost Value = { MembersView };
 
-    ghost use Rattle.commit_book.specs.Members.{world_of};
-    ghost use Rattle.plain_list.specs.World.{IsWorld};
+    ghost use Rattle.commit_book.specs.MembersInside.{members_of, IsMembers};
 
-    ghost view = { λ m. world_of m.points.entries };
+    ghost view = { members_of };
 
-    ghost invariant = { λ m. IsWorld (world_of m.points.entries) };
+    ghost invariant = { IsMembers };
 }
 
 impl Members {
     pub(crate) fn new(alloc: Global) -> Members
-        ensures { result ≡ [] }
+        ensures { result ≡ record { world = []; ready = true } }
     {
         Members {
-            points: BTreeMap::new(alloc),
+            points: MemberMap::new(alloc),
+            latest: None,
         }
     }
 
     pub(crate) fn len(&self) -> usize
-        ensures len { result ≡ length self.now }
-        ensures world { IsWorld self.now }
+        ensures len { result ≡ length self.now.world }
+        ensures world { IsWorld self.now.world }
     {
-        self.points.len()
+        match self.latest {
+            Some(_) => self.points.len() + 1,
+            None => self.points.len(),
+        }
     }
 
     pub(crate) fn place(&self, id: u64) -> Option<Point>
-        ensures { result ≡ place_of self.now id }
+        ensures { result ≡ place_of self.now.world id }
     {
-        self.points.get(&id).copied()
+        match place_of_latest(&self.latest, id) {
+            Some(at) => Some(at),
+            None => self.points.place(id),
+        }
     }
 
-    /// Adds an object, which isn't there.
-    pub(crate) fn insert(&mut self, id: u64, at: Point) -> Result<(), AllocError>
-        requires absent { place_of self.old id ≡ None }
-        requires room { length self.old < 1048576 }
-        ensures ok { OnOk result (self.new ≡ with_member (record { id = id; at = at }) self.old) }
+    /// Takes the memory to put one object.
+    pub(crate) fn reserve(&mut self) -> Result<(), AllocError>
+        ensures ok { OnOk result (self.new ≡ record self.old { ready = true }) }
         ensures err { OnErr result (self.new ≡ self.old) }
     {
-        self.points.insert(id, at)?;
+        if let Some(latest) = self.latest {
+            self.points.insert(latest.id, latest.at)?;
+            self.latest = None;
+        }
         Ok(())
+    }
+
+    /// Adds an object, which isn't there, and takes no memory.
+    pub(crate) fn insert(&mut self, id: u64, at: Point)
+        requires absent { place_of self.old.world id ≡ None }
+        requires room { length self.old.world < 1048576 }
+        requires ready { self.old.ready ≡ true }
+        ensures { self.new ≡ record { world = with_member (record { id = id; at = at }) self.old.world; ready = false } }
+    {
+        self.latest = Some(Placed { id, at });
     }
 
     /// Moves an object, which is there, and takes no memory.
     pub(crate) fn replace(&mut self, id: u64, old: Point, at: Point)
-        requires { place_of self.old id ≡ Some old }
-        ensures { self.new ≡ with_moved id at self.old }
+        requires { place_of self.old.world id ≡ Some old }
+        ensures { self.new ≡ record self.old { world = with_moved id at self.old.world } }
     {
-        let _ = self.points.insert(id, at);
+        match place_of_latest(&self.latest, id) {
+            Some(_) => self.latest = Some(Placed { id, at }),
+            None => self.points.replace(id, old, at),
+        }
     }
 
     /// Takes an object out, if it is there.
     pub(crate) fn remove(&mut self, id: u64)
-        ensures { self.new ≡ without id self.old }
+        ensures { self.new.world ≡ without id self.old.world }
     {
-        self.points.remove(&id);
+        match place_of_latest(&self.latest, id) {
+            Some(_) => self.latest = None,
+            None => self.points.remove(id),
+        }
+    }
+}
+
+// Where the latest object is, if it has this id.
+fn place_of_latest(latest: &Option<Placed>, id: u64) -> Option<Point>
+    ensures { result ≡ place_of_latest latest.now id }
+{
+    match latest {
+        Some(latest) if latest.id == id => Some(latest.at),
+        _ => None,
     }
 }

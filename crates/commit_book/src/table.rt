@@ -12,13 +12,15 @@ ghost use Rattle.index_layer.specs.Stands.{HasRowsOf};
 ghost use Rattle.commit_book.specs.Answers.{IsUpdate};
 ghost use Rattle.commit_book.specs.Changes.{bases_of};
 ghost use Rattle.commit_book.specs.Updates.{Updates};
+ghost use Rattle.commit_book.specs.Readied.{CanPut, CanMove, CanRemove, CanDo, IsReadied, Readies, after_effect, names_set};
 ghost use Rattle.commit_book.specs.Divisions.{Folds, IsDivided, SomeLeaf};
 
-use crate::changes::{with_row, without_row};
-use crate::crowded::Crowded;
+use crate::changes::{Changed, with_row, without_row};
+use crate::crowded::{Crowded, Mark};
 use crate::divisions::{Divided, Folded, with_children, with_folded};
 use crate::members::Members;
 use crate::open_splits::OpenSplits;
+use crate::updates::{Effect, Moved, Readied, without_effect};
 use bucket_versions::{Bucket, Row};
 use index_layer::{Index, Part};
 use plain_list::{Answer, Op};
@@ -94,73 +96,6 @@ impl<I: Index> Table<I> {
         self.members.place(id)
     }
 
-    /// Adds an object, which isn't there.
-    pub(crate) fn put(&mut self, id: u64, at: Point) -> Result<(), Memory>
-        requires absent { place_of self.old.world id ≡ None }
-        requires room { length self.old.world < 1048576 }
-        ensures world { OnOk result (self.new.world ≡ with_member (record { id = id; at = at }) self.old.world) }
-        ensures leaves { OnOk result (bases_of (I.leaves self.new.index) ≡ bases_of (I.leaves self.old.index)) }
-        ensures size { self.new.size ≡ self.old.size }
-        ensures room { self.new.room ≡ self.old.room }
-        ensures err { OnErr result (self.new ≡ self.old) }
-    {
-        let row = Row { key: key(at), id };
-        let changed = with_row(self.alloc, &self.index, self.size, row)?;
-        let Ok(()) = self.crowded.reserve(1) else {
-            return Err(Memory);
-        };
-        let Ok(()) = self.members.insert(id, at) else {
-            self.crowded.release(1);
-            return Err(Memory);
-        };
-        self.crowded.set(&changed.name, changed.crowded);
-        self.index = changed.index;
-        Ok(())
-    }
-
-    /// Moves an object, which is there.
-    pub(crate) fn relocate(&mut self, id: u64, old: Point, at: Point) -> Result<(), Memory>
-        requires { place_of self.old.world id ≡ Some old }
-        ensures world { OnOk result (self.new.world ≡ with_moved id at self.old.world) }
-        ensures leaves { OnOk result (bases_of (I.leaves self.new.index) ≡ bases_of (I.leaves self.old.index)) }
-        ensures size { self.new.size ≡ self.old.size }
-        ensures room { self.new.room ≡ self.old.room }
-        ensures err { OnErr result (self.new ≡ self.old) }
-    {
-        let row = Row { key: key(old), id };
-        let gone = without_row(self.alloc, &self.index, self.size, row)?;
-        let row = Row { key: key(at), id };
-        let put = with_row(self.alloc, &gone.index, self.size, row)?;
-        let Ok(()) = self.crowded.reserve(2) else {
-            return Err(Memory);
-        };
-        self.crowded.set(&gone.name, gone.crowded);
-        self.crowded.set(&put.name, put.crowded);
-        self.members.replace(id, old, at);
-        self.index = put.index;
-        Ok(())
-    }
-
-    /// Takes an object out, which is there.
-    pub(crate) fn remove(&mut self, id: u64, old: Point) -> Result<(), Memory>
-        requires { place_of self.old.world id ≡ Some old }
-        ensures world { OnOk result (self.new.world ≡ without id self.old.world) }
-        ensures leaves { OnOk result (bases_of (I.leaves self.new.index) ≡ bases_of (I.leaves self.old.index)) }
-        ensures size { self.new.size ≡ self.old.size }
-        ensures room { self.new.room ≡ self.old.room }
-        ensures err { OnErr result (self.new ≡ self.old) }
-    {
-        let row = Row { key: key(old), id };
-        let gone = without_row(self.alloc, &self.index, self.size, row)?;
-        let Ok(()) = self.crowded.reserve(1) else {
-            return Err(Memory);
-        };
-        self.crowded.set(&gone.name, gone.crowded);
-        self.members.remove(id);
-        self.index = gone.index;
-        Ok(())
-    }
-
     /// Answers a change or a find as one plain list does.
     pub(crate) fn update(&mut self, op: &Op) -> Result<Answer, Memory>
         requires { IsUpdate op.now }
@@ -169,56 +104,213 @@ impl<I: Index> Table<I> {
         ensures room { self.new.room ≡ self.old.room }
         ensures err { OnErr result (self.new ≡ self.old) }
     {
+        let readied = self.readied(op)?;
+        Ok(self.apply(readied))
+    }
+
+    /// Takes all memory to answer a change or a find. The table stays as it is but for room, for `apply` or `give_up`: between the two a
+    /// record may go to the log, or fail to.
+    pub(crate) fn readied(&mut self, op: &Op) -> Result<Readied<I>, Memory>
+        requires { IsUpdate op.now }
+        ensures ok { IfOk result (λ s. Readies I.leaves I.WIDTH self.old self.new op.now s) }
+        ensures err { OnErr result (self.new ≡ self.old) }
+    {
         match *op {
-            Op::Put { id, at } => self.update_put(id, at),
-            Op::Move { id, at } => self.update_move(id, at),
-            Op::Remove { id } => self.update_remove(id),
-            Op::Find { id } => Ok(self.find(id)),
+            Op::Put { id, at } => self.readied_put(id, at),
+            Op::Move { id, at } => self.readied_move(id, at),
+            Op::Remove { id } => self.readied_remove(id),
+            Op::Find { id } => Ok(without_effect(*op, self.find(id))),
             Op::Within { .. } => unreachable!(),
             Op::Near { .. } => unreachable!(),
         }
     }
 
-    fn update_put(&mut self, id: u64, at: Point) -> Result<Answer, Memory>
-        ensures ok { IfOk result (λ answer. Updates (I.leaves self.old.index) (I.leaves self.new.index) self.old.world self.new.world (Op.Put id at) answer) }
-        ensures size { self.new.size ≡ self.old.size }
-        ensures room { self.new.room ≡ self.old.room }
+    fn readied_put(&mut self, id: u64, at: Point) -> Result<Readied<I>, Memory>
+        ensures ok { IfOk result (λ s. Readies I.leaves I.WIDTH self.old self.new (Op.Put id at) s) }
         ensures err { OnErr result (self.new ≡ self.old) }
     {
+        let op = Op::Put { id, at };
         if let Some(place) = self.place(id) {
-            return Ok(Answer::Present(place));
+            return Ok(without_effect(op, Answer::Present(place)));
         }
         if self.len() >= 1_048_576 {
-            return Ok(Answer::Full);
+            return Ok(without_effect(op, Answer::Full));
         }
-        self.put(id, at)?;
-        Ok(Answer::Done)
+        let leaf = self.prepare_put(id, at)?;
+        Ok(Readied {
+            op,
+            answer: Answer::Done,
+            effect: Effect::Put { id, at, leaf },
+        })
     }
 
-    fn update_move(&mut self, id: u64, at: Point) -> Result<Answer, Memory>
-        ensures ok { IfOk result (λ answer. Updates (I.leaves self.old.index) (I.leaves self.new.index) self.old.world self.new.world (Op.Move id at) answer) }
-        ensures size { self.new.size ≡ self.old.size }
-        ensures room { self.new.room ≡ self.old.room }
+    fn readied_move(&mut self, id: u64, at: Point) -> Result<Readied<I>, Memory>
+        ensures ok { IfOk result (λ s. Readies I.leaves I.WIDTH self.old self.new (Op.Move id at) s) }
         ensures err { OnErr result (self.new ≡ self.old) }
     {
+        let op = Op::Move { id, at };
         let Some(old) = self.place(id) else {
-            return Ok(Answer::Absent);
+            return Ok(without_effect(op, Answer::Absent));
         };
-        self.relocate(id, old, at)?;
-        Ok(Answer::Moved(old))
+        let leaves = self.prepare_move(id, old, at)?;
+        Ok(Readied {
+            op,
+            answer: Answer::Moved(old),
+            effect: Effect::Move {
+                id,
+                old,
+                at,
+                leaves,
+            },
+        })
     }
 
-    fn update_remove(&mut self, id: u64) -> Result<Answer, Memory>
-        ensures ok { IfOk result (λ answer. Updates (I.leaves self.old.index) (I.leaves self.new.index) self.old.world self.new.world (Op.Remove id) answer) }
-        ensures size { self.new.size ≡ self.old.size }
-        ensures room { self.new.room ≡ self.old.room }
+    fn readied_remove(&mut self, id: u64) -> Result<Readied<I>, Memory>
+        ensures ok { IfOk result (λ s. Readies I.leaves I.WIDTH self.old self.new (Op.Remove id) s) }
         ensures err { OnErr result (self.new ≡ self.old) }
     {
+        let op = Op::Remove { id };
         let Some(old) = self.place(id) else {
-            return Ok(Answer::Absent);
+            return Ok(without_effect(op, Answer::Absent));
         };
-        self.remove(id, old)?;
-        Ok(Answer::Gone(old))
+        let leaf = self.prepare_remove(id, old)?;
+        Ok(Readied {
+            op,
+            answer: Answer::Gone(old),
+            effect: Effect::Remove { id, leaf },
+        })
+    }
+
+    // Takes all memory to add an object, which isn't there.
+    fn prepare_put(&mut self, id: u64, at: Point) -> Result<Changed<I>, Memory>
+        requires absent { place_of self.old.world id ≡ None }
+        requires few { length self.old.world < 1048576 }
+        ensures can { IfOk result (λ leaf. CanPut I.leaves I.WIDTH self.new id at leaf) }
+        ensures ok { OnOk result (self.new ≡ record self.old { room = self.old.room + 1; ready = true }) }
+        ensures err { OnErr result (self.new ≡ self.old) }
+    {
+        let row = Row { key: key(at), id };
+        let changed = with_row(self.alloc, &self.index, self.size, row)?;
+        let Ok(()) = self.crowded.reserve(1) else {
+            return Err(Memory);
+        };
+        let Ok(()) = self.members.reserve() else {
+            self.crowded.release(1);
+            return Err(Memory);
+        };
+        Ok(changed)
+    }
+
+    // Takes all memory to move an object, which is there.
+    fn prepare_move(&mut self, id: u64, old: Point, at: Point) -> Result<Moved<I>, Memory>
+        requires { place_of self.old.world id ≡ Some old }
+        ensures can { IfOk result (λ leaves. CanMove I.leaves I.WIDTH self.new id old at leaves) }
+        ensures ok { OnOk result (self.new ≡ record self.old { room = self.old.room + 2 }) }
+        ensures err { OnErr result (self.new ≡ self.old) }
+    {
+        let row = Row { key: key(old), id };
+        let gone = without_row(self.alloc, &self.index, self.size, row)?;
+        let row = Row { key: key(at), id };
+        let to = with_row(self.alloc, &gone.index, self.size, row)?;
+        let Ok(()) = self.crowded.reserve(2) else {
+            return Err(Memory);
+        };
+        let from = Mark {
+            name: gone.name,
+            crowded: gone.crowded,
+        };
+        Ok(Moved { from, to })
+    }
+
+    // Takes all memory to take an object out, which is there.
+    fn prepare_remove(&mut self, id: u64, old: Point) -> Result<Changed<I>, Memory>
+        requires { place_of self.old.world id ≡ Some old }
+        ensures can { IfOk result (λ leaf. CanRemove I.leaves I.WIDTH self.new id leaf) }
+        ensures ok { OnOk result (self.new ≡ record self.old { room = self.old.room + 1 }) }
+        ensures err { OnErr result (self.new ≡ self.old) }
+    {
+        let row = Row { key: key(old), id };
+        let gone = without_row(self.alloc, &self.index, self.size, row)?;
+        let Ok(()) = self.crowded.reserve(1) else {
+            return Err(Memory);
+        };
+        Ok(gone)
+    }
+
+    /// Does a readied update, and takes no memory.
+    pub(crate) fn apply(&mut self, readied: Readied<I>) -> Answer
+        requires { IsReadied I.leaves I.WIDTH self.old readied }
+        ensures updates { Updates (I.leaves self.old.index) (I.leaves self.new.index) self.old.world self.new.world readied.op result }
+        ensures size { self.new.size ≡ self.old.size }
+        ensures room { self.new.room ≡ self.old.room - names_set readied.effect }
+    {
+        self.put_in_place(readied.effect);
+        readied.answer
+    }
+
+    /// Gives up the room that was taken for a readied update.
+    pub(crate) fn give_up(&mut self, readied: Readied<I>)
+        requires { IsReadied I.leaves I.WIDTH self.old readied }
+        ensures { self.new ≡ record self.old { room = self.old.room - names_set readied.effect } }
+    {
+        self.crowded.release(readied.effect.names());
+    }
+
+    fn put_in_place(&mut self, effect: Effect<I>)
+        requires { CanDo I.leaves I.WIDTH self.old effect }
+        ensures world { self.new.world ≡ after_effect effect self.old.world }
+        ensures leaves { bases_of (I.leaves self.new.index) ≡ bases_of (I.leaves self.old.index) }
+        ensures size { self.new.size ≡ self.old.size }
+        ensures room { self.new.room ≡ self.old.room - names_set effect }
+    {
+        match effect {
+            Effect::Nothing => {}
+            Effect::Put { id, at, leaf } => self.put(id, at, leaf),
+            Effect::Move {
+                id,
+                old,
+                at,
+                leaves,
+            } => self.relocate(id, old, at, leaves),
+            Effect::Remove { id, leaf } => self.remove(id, leaf),
+        }
+    }
+
+    fn put(&mut self, id: u64, at: Point, leaf: Changed<I>)
+        requires { CanPut I.leaves I.WIDTH self.old id at leaf }
+        ensures world { self.new.world ≡ with_member (record { id = id; at = at }) self.old.world }
+        ensures leaves { bases_of (I.leaves self.new.index) ≡ bases_of (I.leaves self.old.index) }
+        ensures size { self.new.size ≡ self.old.size }
+        ensures room { self.new.room ≡ self.old.room - 1 }
+    {
+        self.crowded.set(&leaf.name, leaf.crowded);
+        self.members.insert(id, at);
+        self.index = leaf.index;
+    }
+
+    fn relocate(&mut self, id: u64, old: Point, at: Point, leaves: Moved<I>)
+        requires { CanMove I.leaves I.WIDTH self.old id old at leaves }
+        ensures world { self.new.world ≡ with_moved id at self.old.world }
+        ensures leaves { bases_of (I.leaves self.new.index) ≡ bases_of (I.leaves self.old.index) }
+        ensures size { self.new.size ≡ self.old.size }
+        ensures room { self.new.room ≡ self.old.room - 2 }
+    {
+        self.crowded.set(&leaves.from.name, leaves.from.crowded);
+        self.crowded.set(&leaves.to.name, leaves.to.crowded);
+        self.members.replace(id, old, at);
+        self.index = leaves.to.index;
+    }
+
+    fn remove(&mut self, id: u64, leaf: Changed<I>)
+        requires { CanRemove I.leaves I.WIDTH self.old id leaf }
+        ensures world { self.new.world ≡ without id self.old.world }
+        ensures leaves { bases_of (I.leaves self.new.index) ≡ bases_of (I.leaves self.old.index) }
+        ensures size { self.new.size ≡ self.old.size }
+        ensures room { self.new.room ≡ self.old.room - 1 }
+    {
+        self.crowded.set(&leaf.name, leaf.crowded);
+        self.members.remove(id);
+        self.index = leaf.index;
     }
 
     fn find(&self, id: u64) -> Answer

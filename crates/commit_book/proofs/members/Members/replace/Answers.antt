@@ -1,21 +1,29 @@
 use Rattle.std.proofs.Common.{◌≡◌, sym, ap, ◌∙◌, Some}
-use Rattle.commit_book.specs.Members.{world_of}
-use Rattle.commit_book.proofs.members.Members.replace.Goals as goal
-use Rattle.std.specs.BTreeMap.{insert_entry}
-use Rattle.std.specs.Ordering.{nat_cmp}
 use Rattle.plain_list.specs.World.{place_of}
-use Rattle.commit_book.proofs.MemberMaps.{place_of-world_of, world_of-insert_entry-there, inserted_there, IsWorld-with_moved}
+use Rattle.plain_list.proofs.Worlds.{IsWorld-with_moved}
+use Rattle.commit_book.specs.Beside.{world_with, is_free}
+use Rattle.commit_book.proofs.MemberSteps.{place_of-others, moves_latest, world_with-moved, beside-moved}
+use Rattle.commit_book.proofs.members.Members.replace.Goals as goal
 
-pub invariant_of-self : goal.invariant_of-self
-invariant_of-self c =
-    let es = c.self.inside.points.entries in
-    let there : place_of (world_of es) c.args.id ≡ Some c.args.old = rw (← c.self.view_is) at c.requires in
-    let new : c.insert.new.self.entries ≡ insert_entry nat_cmp es c.args.id c.args.at = inserted_there c.insert.result _ _ _ c.insert.ensures.entries c.insert.ensures.absent (sym (place_of-world_of es c.args.id) ∙ there) in
-    rw (new, world_of-insert_entry-there c.args.id c.args.old c.args.at es c.self.invariant.rising there) (IsWorld-with_moved c.args.id c.args.at (world_of es) c.self.invariant)
+pub replace-requires : goal.replace-requires
+replace-requires c =
+    let there : place_of (world_with c.self.inside.latest c.self.inside.points) c.args.id ≡ Some c.args.old = rw (← c.self.view_is) at c.requires in
+    sym (place_of-others c.self.inside.latest c.self.inside.points c.args.id c.self.invariant.latest (sym c.in-None.ensures)) ∙ there
 
-pub returns : goal.returns
-returns c =
-    let es = c.self.inside.points.entries in
-    let there : place_of (world_of es) c.args.id ≡ Some c.args.old = rw (← c.self.view_is) at c.requires in
-    let new : c.insert.new.self.entries ≡ insert_entry nat_cmp es c.args.id c.args.at = inserted_there c.insert.result _ _ _ c.insert.ensures.entries c.insert.ensures.absent (sym (place_of-world_of es c.args.id) ∙ there) in
-    rw (← c.self.view_is) (ap world_of new ∙ world_of-insert_entry-there c.args.id c.args.old c.args.at es c.self.invariant.rising there)
+pub invariant_of-self-in-None : goal.invariant_of-self-in-None
+invariant_of-self-in-None c =
+    record {
+      points = rw c.replace.ensures (IsWorld-with_moved c.args.id c.args.at c.self.inside.points c.self.invariant.points);
+      latest = rw c.replace.ensures (beside-moved c.self.inside.latest c.self.inside.points c.args.id c.args.at c.self.invariant.latest (sym c.in-None.ensures));
+    }
+
+pub returns-in-Some : goal.returns-in-Some
+returns-in-Some c =
+    let moves = moves_latest c.self.inside.latest c.self.inside.points c.args.id c.args.at c.in-Some.field-0 c.self.invariant.latest (sym c.in-Some.ensures) in
+    rw (← c.self.view_is) (λ i. record { world = moves.world i; ready = sym moves.free i })
+
+pub returns-in-None : goal.returns-in-None
+returns-in-None c =
+    let latest = c.self.inside.latest in
+    let moved = ap (world_with latest) c.replace.ensures ∙ world_with-moved latest c.self.inside.points c.args.id c.args.at (sym c.in-None.ensures) in
+    rw (← c.self.view_is) (λ i. record { world = moved i; ready = is_free latest })

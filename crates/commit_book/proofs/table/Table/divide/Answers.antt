@@ -21,7 +21,7 @@ pub invariant_of-self : goal.invariant_of-self
 invariant_of-self g c =
     let leaves = g.I.Index.leaves c.self.inside.index in
     let new = g.I.Index.leaves c.args.divided.index in
-    let world = c.self.inside.members in
+    let world = c.self.inside.members.world in
     let w = g.I.Index.WIDTH in
     let size = c.self.inside.size in
     let name = c.args.divided.name in
@@ -46,4 +46,4 @@ returns g c =
     let it = rw (← c.self.view_is) at c.requires.divided in
     let count = marks_count g.I.Index.WIDTH c.self.inside.size c.args.divided.name _ _ c.args.divided.marks.items it in
     let room : c.set_each.new.self.room ≡ c.self.inside.crowded.room - 2 ^ g.I.Index.WIDTH = ap (λ (v : Crowd). v.room) c.set_each.ensures ∙ ap (λ (n : ℕ). c.self.inside.crowded.room - n) count in
-    rw (← c.self.view_is) (λ i. record { index = c.args.divided.index; world = c.self.inside.members; size = c.self.inside.size; room = room i })
+    rw (← c.self.view_is) (λ i. record { index = c.args.divided.index; world = c.self.inside.members.world; size = c.self.inside.size; room = room i; ready = c.self.inside.members.ready })

@@ -8,7 +8,7 @@ use Rattle.commit_book.proofs.table.Table.fold.Goals as goal
 pub invariant_of-self : goal.invariant_of-self
 invariant_of-self g c =
     let leaves = g.I.Index.leaves c.self.inside.index in
-    let world = c.self.inside.members in
+    let world = c.self.inside.members.world in
     let w = g.I.Index.WIDTH in
     let size = c.self.inside.size in
     let name = c.args.folded.name in

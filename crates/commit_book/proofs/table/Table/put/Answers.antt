@@ -1,40 +1,26 @@
-use Rattle.std.proofs.Common.{◌≡◌, None, ap, ◌∙◌, ◌<◌, length}
-use Rattle.zorder.specs.declared.points.Placed.{Placed}
-use Rattle.plain_list.specs.World.{place_of}
+use Rattle.std.proofs.Common.{ap, ◌∙◌}
 use Rattle.plain_list.proofs.Worlds.{IsWorld-with_member}
-use Rattle.commit_book.specs.Crowded.{Crowd, remarked}
-use Rattle.commit_book.proofs.TableSteps.{put_steps, row_absent}
+use Rattle.commit_book.specs.Crowded.{Crowd}
+use Rattle.commit_book.specs.IsTable.{table_of}
+use Rattle.commit_book.proofs.Readied.{kept_in, put_keeps}
 use Rattle.commit_book.proofs.table.Table.put.Goals as goal
 
-pub with_row-requires : goal.with_row-requires
-with_row-requires g c =
-    let none : place_of c.self.inside.members c.args.id ≡ None = rw (← c.self.view_is) at c.requires.absent in
-    rw c.key.ensures.sum (row_absent c.self.inside.members (g.I.Index.leaves c.self.inside.index) c.args.id c.args.at c.self.invariant.rows none)
-
-pub invariant_of-self-2 : goal.invariant_of-self-2
-invariant_of-self-2 g c =
-    let old = g.I.Index.leaves c.self.inside.index in
-    let world = c.self.inside.members in
-    let m : Placed = record { id = c.args.id; at = c.args.at } in
-    let none : place_of world c.args.id ≡ None = rw (← c.self.view_is) at c.requires.absent in
-    let few : length world < 1048576 = rw (← c.self.view_is) at c.requires.room in
-    let change = rw c.key.ensures.sum at c.in_ok-changed.ensures in
-    let steps = put_steps g.I.Index.WIDTH c.self.inside.size old (g.I.Index.leaves c.in_ok-changed.changed.index) world m c.in_ok-changed.changed.name c.in_ok-changed.changed.crowded c.self.inside.crowded.names
-    (g.met.I.Index.are_leaves c.self.inside.index) c.self.invariant.rows none change c.self.invariant.crowded in
+pub invariant_of-self : goal.invariant_of-self
+invariant_of-self g c =
+    let w = g.I.Index.WIDTH in
+    let can = rw (← c.self.view_is) at c.requires in
+    let kept = kept_in g.I.Index.leaves w c.self.inside g.met.I.Index.are_leaves c.self.invariant in
+    let steps = put_keeps g.I.Index.leaves w (table_of c.self.inside) c.self.inside.crowded.names c.args.id c.args.at c.args.leaf kept can in
     record {
-      world = rw c.in-Ok-insert.ensures.ok (IsWorld-with_member m world c.self.invariant.world none few);
-      rows = rw c.in-Ok-insert.ensures.ok steps.rows;
-      crowded =
-          ap (λ (v : Crowd). v.names) c.set.ensures ∙ ap (λ (v : Crowd). remarked c.in_ok-changed.changed.crowded c.in_ok-changed.changed.name v.names) c.in-Ok.ensures.ok ∙ steps.crowded;
+      world = rw c.insert.ensures (IsWorld-with_member (record { id = c.args.id; at = c.args.at }) c.self.inside.members.world c.self.invariant.world can.absent can.few);
+      rows = rw c.insert.ensures steps.rows;
+      crowded = ap (λ (v : Crowd). v.names) c.set.ensures ∙ steps.crowded;
     }
 
 pub returns-clause-leaves : goal.returns-clause-leaves
 returns-clause-leaves g c =
-    let old = g.I.Index.leaves c.self.inside.index in
-    let world = c.self.inside.members in
-    let m : Placed = record { id = c.args.id; at = c.args.at } in
-    let none : place_of world c.args.id ≡ None = rw (← c.self.view_is) at c.requires.absent in
-    let change = rw c.key.ensures.sum at c.in_ok-changed.ensures in
-    let steps = put_steps g.I.Index.WIDTH c.self.inside.size old (g.I.Index.leaves c.in_ok-changed.changed.index) world m c.in_ok-changed.changed.name c.in_ok-changed.changed.crowded c.self.inside.crowded.names
-    (g.met.I.Index.are_leaves c.self.inside.index) c.self.invariant.rows none change c.self.invariant.crowded in
+    let w = g.I.Index.WIDTH in
+    let can = rw (← c.self.view_is) at c.requires in
+    let kept = kept_in g.I.Index.leaves w c.self.inside g.met.I.Index.are_leaves c.self.invariant in
+    let steps = put_keeps g.I.Index.leaves w (table_of c.self.inside) c.self.inside.crowded.names c.args.id c.args.at c.args.leaf kept can in
     rw (← c.self.view_is) steps.bases
