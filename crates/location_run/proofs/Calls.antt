@@ -1,5 +1,5 @@
 -- A history and its calls alone.
-use Rattle.std.proofs.Common.{◌≡◌, ℕ, zero, suc, ◌+◌, ◌==◌, cond, List, [], ◌∷◌, ◌++◌, length, Option, Some, None, refl, sym, ◌∙◌, ap}
+use Rattle.std.proofs.Common.{◌≡◌, ℕ, zero, suc, ◌+◌, ◌==◌, cond, List, [], ◌∷◌, ◌++◌, Option, Some, None, refl, ◌∙◌, ap}
 use Rattle.std.specs.Prelude.{slice_get}
 use Rattle.std.specs.List.{flat_map, range_with_len}
 use Rattle.zorder.specs.declared.points.Placed.{Placed}
@@ -8,7 +8,7 @@ use Rattle.plain_list.specs.declared.ops.Answer.{Answer}
 use Rattle.plain_list.specs.declared.entries.Entry.{Entry}
 use Rattle.plain_list.specs.declared.entries.Entry.TheVariants.{Fail, Call, Begin, Install, Abandon}
 use Rattle.plain_list.specs.Answer.{answer_of, after_of}
-use Rattle.plain_list.specs.History.{replies, world_after, call_count}
+use Rattle.plain_list.specs.History.{replies, world_after}
 use Rattle.plain_list.specs.Played.{calls_of}
 use Rattle.csv_rows.specs.Lines.{title_line}
 use Rattle.location_run.specs.Lines.{lines_of, line_at, line_if, row_place, row_place_from}

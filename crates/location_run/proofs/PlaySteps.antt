@@ -1,8 +1,6 @@
 -- Rows that are answered one after the other, with splits between them.
-use Rattle.std.proofs.Common.{◌≡◌, ◌⊎◌, inl, inr, ℕ, suc, ◌+◌, ◌<◌, ◌≤◌, true, List, [], ◌∷◌, ◌++◌, length, get_or, take, refl, sym, ◌∙◌, ap, subst, arith, add-zero, length-append}
-use Rattle.std.specs.List.{AllByRecursion}
-use Rattle.std.proofs.lemmas.List.{append-nil, take_more, length-take}
-use Rattle.zorder.specs.declared.points.Placed.{Placed}
+use Rattle.std.proofs.Common.{◌≡◌, inl, inr, ℕ, suc, ◌+◌, ◌<◌, List, [], ◌∷◌, ◌++◌, length, get_or, take, refl, sym, ◌∙◌, ap, subst, arith, add-zero, length-append}
+use Rattle.std.proofs.lemmas.List.{take_more, length-take}
 use Rattle.plain_list.specs.declared.ops.Answer.{Answer}
 use Rattle.plain_list.specs.declared.entries.Entry.{Entry}
 use Rattle.plain_list.specs.declared.entries.Entry.TheVariants.{Call}
@@ -11,7 +9,7 @@ use Rattle.plain_list.specs.History.{replies, world_after}
 use Rattle.plain_list.specs.State.{State, empty_state, state_after}
 use Rattle.plain_list.proofs.Histories.{replies-append, state_after-append}
 use Rattle.csv_rows.specs.declared.rows.InRow.{InRow}
-use Rattle.csv_rows.specs.InRows.{IsInRow, AreInRows}
+use Rattle.csv_rows.specs.InRows.{AreInRows}
 use Rattle.table_share.specs.Worlds.{AreAtPoints}
 use Rattle.commit_book.specs.BookView.{BookView}
 use Rattle.location_run.specs.Lines.{entries_from}

@@ -1,13 +1,13 @@
 -- The objects of rows stand at points of 32 bits.
-use Rattle.std.proofs.Common.{◌≡◌, ℕ, zero, suc, ◌+◌, ◌<◌, Bool, true, false, not, cond, ◌==◌, List, [], ◌∷◌, length, get_or, take, map, arith}
+use Rattle.std.proofs.Common.{ℕ, zero, suc, ◌+◌, Bool, true, false, not, cond, ◌==◌, List, [], ◌∷◌, take}
 use Rattle.std.specs.Prelude.{nat_lt}
-use Rattle.std.specs.List.{AllByRecursion, filter}
+use Rattle.std.specs.List.{AllByRecursion}
 use Rattle.zorder.specs.declared.points.Point.{Point}
 use Rattle.zorder.specs.declared.points.Placed.{Placed}
 use Rattle.zorder.specs.Key.{IsPoint}
 use Rattle.plain_list.specs.declared.ops.Op.{Op}
 use Rattle.plain_list.specs.declared.ops.Op.TheVariants.{Put, Move, Remove, Find, Within, Near}
-use Rattle.plain_list.specs.Answer.{answer_of, after_of, changed, is_change, with_member, with_moved, moved_to, without}
+use Rattle.plain_list.specs.Answer.{answer_of, after_of, changed, is_change, with_member, with_moved, without}
 use Rattle.plain_list.specs.History.{world_after}
 use Rattle.csv_rows.specs.declared.rows.InRow.{InRow}
 use Rattle.csv_rows.specs.InRows.{FitsOp, IsInRow}

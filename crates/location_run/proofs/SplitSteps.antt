@@ -1,35 +1,27 @@
 -- A split of the first leaf over the size, where none is open: what it meets, and what it leaves.
-use Rattle.std.proofs.Common.{◌≡◌, ◌≢◌, ◌⊎◌, inl, inr, ℕ, suc, ◌+◌, ◌<◌, ◌≤◌, ◌==◌, Bool, true, false, not, ◌&&◌, ◌||◌, cond, List, [], ◌∷◌, ◌++◌, length, Option, Some, None, Result, Ok, Err, refl, sym, ◌∙◌, ap, subst, arith, append_assoc, length-append}
+use Rattle.std.proofs.Common.{◌≡◌, ◌≢◌, ◌⊎◌, inl, inr, ℕ, ◌+◌, ◌<◌, ◌≤◌, ◌==◌, Bool, true, false, not, ◌&&◌, cond, List, [], ◌∷◌, ◌++◌, length, Option, Some, None, Result, Ok, Err, refl, sym, ◌∙◌, ap, subst, arith, append_assoc, length-append}
 use mathlib.Core.Bool.{true≢false}
-use Rattle.std.specs.Prelude.{nat_lt, nat_le, IfOk, MatchResult}
-use Rattle.std.specs.List.{find, list_any, list_all, AllByRecursion}
+use Rattle.std.specs.Prelude.{nat_lt, IfOk, MatchResult}
+use Rattle.std.specs.List.{find, list_all}
 use Rattle.std.proofs.lemmas.List.{append-nil}
-use Rattle.std.specs.Option.{option_map, option_map_or}
-use Rattle.std.specs.Cmp.{first_so, second_so}
+use Rattle.std.specs.Option.{option_map_or}
 use Rattle.std.specs.Cmp.Derive.{both_true}
-use Rattle.std.specs.Cmp.Lexicographic.{pointwise}
 use Rattle.std.proofs.lemmas.Bool.Decides.{nat_tests, Decides-eqb}
 use Rattle.zorder.specs.declared.points.Placed.{Placed}
 use Rattle.zorder.specs.SameName.{same_name, same_name-decides}
-use Rattle.bucket_versions.specs.declared.row.Row.{Row}
-use Rattle.bucket_versions.specs.Rows.{Rows, same_row, as_base}
-use Rattle.index_layer.specs.Leaves.{Leaf, AreLeaves, AreUnder, leaf_named, replaced, with_bucket}
 use Rattle.plain_list.specs.declared.entries.Entry.{Entry}
 use Rattle.plain_list.specs.declared.entries.Entry.TheVariants.{Begin, Install}
-use Rattle.plain_list.specs.State.{State, OpenSplit, is_leaf, is_splitting, split_name, without_name, without_number, step, state_after, empty_state}
+use Rattle.plain_list.specs.State.{State, OpenSplit, is_splitting, without_name, without_number, state_after, empty_state}
 use Rattle.plain_list.specs.Size.{is_over, full_leaf, IsSized}
 use Rattle.plain_list.specs.History.{world_after}
 use Rattle.plain_list.proofs.Histories.{state_after-append, state_after-world}
 use Rattle.commit_book.specs.declared.faults.BookFault.{BookFault}
-use Rattle.commit_book.specs.declared.faults.BookFault.TheVariants.{HistoryFull, Memory, Room, Splitting, Deep, NoLeaf, Stale}
+use Rattle.commit_book.specs.declared.faults.BookFault.TheVariants.{HistoryFull, Memory, Room}
 use Rattle.commit_book.specs.Refusals.{begin_refusal, call_refusal}
 use Rattle.commit_book.proofs.SplitCalls.{begin-full}
-use Rattle.commit_book.specs.Divisions.{Folds}
 use Rattle.commit_book.specs.BookView.{BookView}
-use Rattle.index_layer.proofs.LeafNames.{find-among}
-use Rattle.index_layer.proofs.Worlds.{among-all}
 use Rattle.location_run.specs.Splits.{is_full_leaf}
-use Rattle.location_run.specs.Tidy.{calls_alone, are_tidy, IsTidy, Tidies, SplitsLeaf}
+use Rattle.location_run.specs.Tidy.{calls_alone, are_tidy, IsTidy, SplitsLeaf}
 use Rattle.location_run.proofs.Calls.{calls_alone-append}
 use Rattle.location_run.proofs.TidySteps.{are_tidy-append}
 

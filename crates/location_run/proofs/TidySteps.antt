@@ -1,5 +1,5 @@
 -- Histories whose splits are those of full leaves, each installed, with some entries more.
-use Rattle.std.proofs.Common.{◌≡◌, ℕ, suc, ◌+◌, Bool, true, false, not, ◌&&◌, ◌||◌, cond, List, [], ◌∷◌, ◌++◌, length, Option, Some, None, refl, sym, ◌∙◌, ap, subst, arith}
+use Rattle.std.proofs.Common.{◌≡◌, ℕ, suc, Bool, true, false, not, ◌||◌, cond, List, [], ◌∷◌, ◌++◌, refl, sym, ◌∙◌, ap, subst, arith}
 use mathlib.Core.Bool.{true≢false}
 use Rattle.std.specs.List.{list_any}
 use Rattle.std.specs.Cmp.{first_so, second_so}
@@ -8,7 +8,7 @@ use Rattle.plain_list.specs.declared.entries.Entry.{Entry}
 use Rattle.plain_list.specs.declared.entries.Entry.TheVariants.{Fail, Call, Begin, Install, Abandon}
 use Rattle.plain_list.specs.State.{State, step, state_after, empty_state}
 use Rattle.commit_book.specs.BookView.{BookView}
-use Rattle.location_run.specs.Splits.{abandons, is_full_leaf, is_stray, stray_begins, IsSettled}
+use Rattle.location_run.specs.Splits.{abandons, is_full_leaf, stray_begins, IsSettled}
 use Rattle.location_run.specs.Tidy.{is_tidy, are_tidy, IsTidy, IsSizedOrFull}
 
 pub are_tidy-append : (w size : ℕ) (s : State) (h g : List Entry) → are_tidy w size s h ≡ true → are_tidy w size (state_after w s h) g ≡ true → are_tidy w size s (h ++ g) ≡ true

@@ -1,5 +1,5 @@
 -- Worked words, places and splits, computed.
-use Rattle.std.specs.Prelude.{◌≡◌, ℕ, true, false, List, [], ◌∷◌, Some, None, codes}
+use Rattle.std.specs.Prelude.{◌≡◌, List, [], ◌∷◌, Some, None, codes}
 use Rattle.std.proofs.Common.{refl, inl, inr}
 use Rattle.zorder.specs.Examples.{pt}
 use Rattle.plain_list.specs.declared.ops.Op.TheVariants as op

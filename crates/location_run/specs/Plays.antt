@@ -5,7 +5,6 @@ use Rattle.plain_list.specs.declared.entries.Entry.{Entry}
 use Rattle.plain_list.specs.declared.entries.Entry.TheVariants.{Call}
 use Rattle.plain_list.specs.Answer.{answer_of}
 use Rattle.plain_list.specs.History.{replies, world_after}
-use Rattle.plain_list.specs.State.{IsLegal, empty_state}
 use Rattle.csv_rows.specs.declared.rows.InRow.{InRow}
 use Rattle.commit_book.specs.BookView.{BookView}
 use Rattle.location_run.specs.Lines.{entries_from}

@@ -1,4 +1,4 @@
-use Rattle.std.proofs.Common.{◌≤◌, length, take, refl, subst, arith}
+use Rattle.std.proofs.Common.{take, refl, subst, arith}
 use Rattle.std.proofs.lemmas.List.{take_all}
 use Rattle.location_run.specs.Plays.{IsPlay}
 use Rattle.location_run.proofs.PlaySteps.{IsPlay-settled}

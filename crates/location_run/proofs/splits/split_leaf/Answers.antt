@@ -1,6 +1,4 @@
-use Rattle.std.proofs.Common.{◌≡◌, ◌+◌, ◌<◌, ◌++◌, [], ◌∷◌, None, length, length-append, ◌∙◌, ap, arith}
-use Rattle.std.specs.Arc.{arc_value}
-use Rattle.plain_list.specs.declared.entries.Entry.{Entry}
+use Rattle.std.proofs.Common.{◌<◌, ◌++◌, [], ◌∷◌, length, length-append, ◌∙◌, ap, arith}
 use Rattle.plain_list.specs.declared.entries.Entry.TheVariants.{Begin, Install}
 use Rattle.split_prepare.specs.Prepared.{PreparedView}
 use Rattle.commit_book.specs.Refusals.{install_refusal}

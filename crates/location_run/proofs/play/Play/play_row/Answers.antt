@@ -1,7 +1,7 @@
-use Rattle.std.proofs.Common.{◌≡◌, ◌+◌, take, Result, Ok, Err, sym, ◌∙◌, subst, arith}
+use Rattle.std.proofs.Common.{◌+◌, take, Result, Ok, Err, ◌∙◌, subst}
 use Rattle.std.specs.Prelude.{OnErr}
 use Rattle.std.proofs.lemmas.Result.{on_ok_weaker, on_err_weaker}
-use Rattle.location_run.specs.Plays.{IsPlay, HasCalled}
+use Rattle.location_run.specs.Plays.{IsPlay}
 use Rattle.location_run.proofs.PlaySteps.{AreAtPoints-calls, IsTidy-noted, IsPlay-more, HasCalled-may, HasCalled-noted, row-next, row-number}
 use Rattle.location_run.proofs.play.Play.play_row.Goals as goal
 
