@@ -6,4 +6,5 @@ pub mod Records
 pub mod Pieces
 pub mod Lines
 pub mod RowLines
+pub mod LogLines
 pub mod Examples

@@ -2,14 +2,16 @@
 //!
 //! Contracts see the rows of an input as `rows_of` its bytes: a list of rows, or the first place at fault, both taken
 //! from the records that `csv` reads. `read_rows` answers exactly that, or want of memory. `Rows` is seen as a list of
-//! rows that each keep the rules of their columns. `write_line`, `refusal_line` and `write_rows` put exactly the texts
-//! of `Lines` and `RowLines`, take no memory, and what `write_rows` puts reads again as the same rows.
+//! rows that each keep the rules of their columns. `write_line`, `refusal_line`, `write_made`, `write_counts` and
+//! `write_rows` put exactly the texts of `Lines`, `LogLines` and `RowLines`, take no memory, and what `write_rows` puts
+//! reads again as the same rows.
 //!
 //! Not here: what an operation answers (`plain_list`), which refusal comes when (`location_run`).
 #![tactic(auto)]
 
 mod fields;
 mod lines;
+mod log_lines;
 mod numbers;
 mod pieces;
 mod read;
@@ -20,7 +22,8 @@ mod rows;
 mod tests;
 
 pub use lines::{refusal_line, write_line, write_title};
+pub use log_lines::{write_counts, write_made};
 pub use numbers::number_in;
 pub use read::read_rows;
 pub use row_lines::write_rows;
-pub use rows::{InRow, Refusal, Rows, RowsFault};
+pub use rows::{InRow, LogCounts, Refusal, Rows, RowsFault};

@@ -88,6 +88,15 @@ pub enum Refusal {
     InUse { len: u64 },
 }
 
+/// How many of each a log was found to have: cells, points after them, leaves, and splits that haven't ended.
+#[derive(Clone, Copy, Debug, PartialEq, Eq)]
+pub struct LogCounts {
+    pub cells: u64,
+    pub points: u64,
+    pub leaves: u64,
+    pub unfinished: u64,
+}
+
 /// What is wrong with a record: it hasn't seven fields, or a column breaks its rule.
 #[derive(Clone, Copy, Debug, PartialEq, Eq)]
 pub enum Wrong {

@@ -1,0 +1,16 @@
+-- The texts of commands over a log.
+use Rattle.std.specs.Prelude.{ℕ, List, ◌++◌, codes}
+use Rattle.std.specs.Fmt.{decimal}
+use Rattle.csv_rows.specs.declared.rows.LogCounts.{LogCounts}
+
+-- the line of a log that was made
+abbrev pub made_line : List ℕ
+made_line = codes "made\n"
+
+-- a word and a number
+abbrev pub count_line : List ℕ → ℕ → List ℕ
+count_line word n = word ++ decimal n ++ codes "\n"
+
+-- the four lines of what was found in a log
+unfoldable pub counts_text : LogCounts → List ℕ
+counts_text c = count_line (codes "cells ") c.cells ++ count_line (codes "points ") c.points ++ count_line (codes "leaves ") c.leaves ++ count_line (codes "unfinished ") c.unfinished

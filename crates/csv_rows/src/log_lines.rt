@@ -1,0 +1,43 @@
+//! The lines of commands over a log.
+ghost use Rattle.std.specs.Prelude.{◌≡◌, ◌≤◌, ◌+◌, ◌++◌, length};
+ghost use Rattle.arrayvec.specs.ArrayString.{array_string_len};
+ghost use Rattle.causes.specs.Causes.{Counts};
+ghost use Rattle.io_edge.specs.Puts.{Puts};
+ghost use Rattle.csv_rows.specs.LogLines.{made_line, count_line, counts_text};
+
+use crate::pieces::{Piece, add_number};
+use crate::rows::LogCounts;
+use io_edge::{Sink, SinkFault};
+
+/// Writes that a log was made.
+pub fn write_made<K: Sink>(sink: &mut K) -> Result<(), SinkFault>
+    ensures bytes { Puts (K.taken sink.old) (K.taken sink.new) made_line result }
+    ensures cause { Counts (K.faults sink.old) (K.faults sink.new) result }
+{
+    sink.put(b"made\n")
+}
+
+/// Writes the four lines of what was found in a log, as one piece.
+pub fn write_counts<K: Sink>(sink: &mut K, counts: &LogCounts) -> Result<(), SinkFault>
+    ensures bytes { Puts (K.taken sink.old) (K.taken sink.new) (counts_text counts.now) result }
+    ensures cause { Counts (K.faults sink.old) (K.faults sink.new) result }
+{
+    let mut piece = Piece::new();
+    add_count(&mut piece, "cells ", counts.cells);
+    add_count(&mut piece, "points ", counts.points);
+    add_count(&mut piece, "leaves ", counts.leaves);
+    add_count(&mut piece, "unfinished ", counts.unfinished);
+    sink.put(piece.as_str().as_bytes())
+}
+
+/// Adds the line of a count.
+fn add_count(piece: &mut Piece, word: &str, count: u64)
+    requires room { array_string_len piece.old ≤ 1024 }
+    requires word { length word.now ≤ 16 }
+    ensures bytes { piece.new.bytes ≡ piece.old.bytes ++ count_line word.now count }
+    ensures len { array_string_len piece.new ≤ array_string_len piece.old + 37 }
+{
+    piece.push_str(word);
+    add_number(piece, count);
+    piece.push_str("\n");
+}
