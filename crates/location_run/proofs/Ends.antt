@@ -19,7 +19,8 @@ use Rattle.location_run.specs.Lines.{lines_of, lines_from, entries_from, session
 use Rattle.location_run.specs.Status.{status_of, WritesLines}
 use Rattle.location_run.specs.Tidy.{calls_alone}
 use Rattle.location_run.specs.Plays.{HasCalled}
-use Rattle.location_run.specs.Run.{AnswersAsOneList, TakesLine}
+use Rattle.location_run.specs.Taking.{TakesLine}
+use Rattle.location_run.specs.Run.{AnswersAsOneList}
 use Rattle.location_run.proofs.Calls.{calls_of-calls, replies-calls, lines_of-calls}
 use Rattle.location_run.proofs.Writing.{lines_of-entries, replies-entries}
 

@@ -6,3 +6,7 @@ pub mod SplitSteps
 pub mod Points
 pub mod PlaySteps
 pub mod Ends
+pub mod WordsFacts
+pub mod MakingFacts
+pub mod CheckingFacts
+pub mod DriveSteps

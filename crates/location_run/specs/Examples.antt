@@ -7,14 +7,14 @@ use Rattle.plain_list.specs.declared.entries.Entry.{Entry}
 use Rattle.plain_list.specs.declared.entries.Entry.TheVariants as entry
 use Rattle.plain_list.specs.State.{empty_state}
 use Rattle.csv_rows.specs.Numbers.{number_in, is_between, is_number}
-use Rattle.location_run.specs.Words.{AsksFor}
+use Rattle.location_run.specs.Words.{AsksToPlay}
 use Rattle.location_run.specs.Lines.{row_place}
 use Rattle.location_run.specs.Splits.{stray_begins}
 
-asks_for_64 : AsksFor (codes "play" ∷ codes "-" ∷ []) 64
+asks_for_64 : AsksToPlay (codes "play" ∷ codes "-" ∷ []) 64
 asks_for_64 = inl (refl, refl)
 
-asks_for_4 : AsksFor (codes "play" ∷ codes "-" ∷ codes "--bucket" ∷ codes "004" ∷ []) 4
+asks_for_4 : AsksToPlay (codes "play" ∷ codes "-" ∷ codes "--bucket" ∷ codes "004" ∷ []) 4
 unfolding is_between is_number
 asks_for_4 = inr (codes "004", refl, refl)
 

@@ -1,6 +1,11 @@
 pub mod Words
+pub mod Asked
 pub mod Judged
 pub mod Status
+pub mod Taking
+pub mod Ending
+pub mod Making
+pub mod Checking
 pub mod Lines
 pub mod Splits
 pub mod Tidy
@@ -9,3 +14,6 @@ pub mod Plays
 pub mod Run
 pub mod Examples
 pub use Rattle.causes.specs.Causes
+pub use Rattle.disk_trait.specs.Drive
+pub use Rattle.recovery.specs.Recovers
+pub use Rattle.recovery.specs.Faults

@@ -1,7 +1,8 @@
 -- What a run promises.
-use Rattle.std.specs.Prelude.{◌≡◌, ◌⊎◌, ℕ, List, [], take, length, Option, Some, Ok, Err}
+use Rattle.std.specs.Prelude.{◌≡◌, ◌⊎◌, ℕ, List, [], take, length, Option, Some, Ok, Err, ⊤}
 use Rattle.std.specs.Io.KnownBytes.{Appends}
 use Rattle.causes.specs.Causes.{Rose}
+use Rattle.disk_trait.specs.Drive.{Drive}
 use Rattle.plain_list.specs.declared.entries.Entry.{Entry}
 use Rattle.plain_list.specs.State.{IsLegal, empty_state}
 use Rattle.plain_list.specs.Played.{IsPlayed, IsPlayedWhole}
@@ -9,9 +10,13 @@ use Rattle.csv_rows.specs.declared.rows.InRow.{InRow}
 use Rattle.csv_rows.specs.declared.rows.Refusal.{Refusal}
 use Rattle.csv_rows.specs.declared.rows.Refusal.TheVariants as refusal
 use Rattle.csv_rows.specs.Lines.{refusal_text}
+use Rattle.location_run.specs.Words.{IsAccepted, IsInit, IsCheck, IsPlay}
 use Rattle.location_run.specs.Judged.{judged}
 use Rattle.location_run.specs.Lines.{lines_of, session_rows}
 use Rattle.location_run.specs.Status.{status_of, WritesLines}
+use Rattle.location_run.specs.Taking.{TakesLine}
+use Rattle.location_run.specs.Making.{IsMakingCause}
+use Rattle.location_run.specs.Checking.{IsCheckingCause}
 
 -- There is one legal history. In it stands a call for each row of a front of the rows, in order, and for each row once where lines are
 -- written. For each row the line has the place of its call, and the answer of one plain list of objects there.
@@ -28,32 +33,35 @@ pub record PlaysOneList (left rest : Option (List ℕ)) (h : List Entry) (status
   pub input : WritesLines status → (bytes : List ℕ) → left ≡ Some bytes → (judged bytes ≡ Ok rows) × (rest ≡ Some [])
   pub answers : AnswersAsOneList rows h status before after
 
--- the sink took a line, or its count of faults rose and it took a front of the line
-abbrev pub TakesLine : List ℕ → Option (List ℕ) → Option (List ℕ) → ℕ → ℕ → Type 0
-TakesLine line before after old_faults faults = Appends before after line ⊎ (Rose old_faults faults × ((n : ℕ) × Appends before after (take n line)))
+-- why rows aren't played, where these bytes were left in the source, and where its count rose
+abbrev pub IsPlayCause : Option (List ℕ) → Type 0 → Refusal → Type 0
+IsPlayCause left rose refusal.Usage = ⊥
+IsPlayCause left rose refusal.Source = rose
+IsPlayCause left rose refusal.Memory = ⊤
+IsPlayCause left rose refusal.Header = (bytes : List ℕ) → left ≡ Some bytes → judged bytes ≡ Err refusal.Header
+IsPlayCause left rose (refusal.Csv row) = (bytes : List ℕ) → left ≡ Some bytes → judged bytes ≡ Err (refusal.Csv row)
+IsPlayCause left rose (refusal.Field row column) = (bytes : List ℕ) → left ≡ Some bytes → judged bytes ≡ Err (refusal.Field row column)
+IsPlayCause left rose refusal.LongInput = (bytes : List ℕ) → left ≡ Some bytes → judged bytes ≡ Err refusal.LongInput
+IsPlayCause left rose refusal.ManyRows = (bytes : List ℕ) → left ≡ Some bytes → judged bytes ≡ Err refusal.ManyRows
+-- rows are played over no log
+IsPlayCause left rose refusal.NotLog = ⊥
+IsPlayCause left rose (refusal.OldLog version width) = ⊥
+IsPlayCause left rose (refusal.Damaged cell cause) = ⊥
+IsPlayCause left rose (refusal.Disk cell) = ⊥
+IsPlayCause left rose refusal.LongLog = ⊥
+IsPlayCause left rose (refusal.InUse len) = ⊥
 
--- why a run refuses, where the words are accepted or aren't, where these bytes were left in the source, and where its count rose
-abbrev pub IsCause : Type 0 → Option (List ℕ) → Type 0 → Refusal → Type 0
-IsCause Accepted left rose refusal.Usage = Accepted → ⊥
-IsCause Accepted left rose refusal.Source = Accepted × rose
-IsCause Accepted left rose refusal.Memory = Accepted
-IsCause Accepted left rose refusal.Header = Accepted × ((bytes : List ℕ) → left ≡ Some bytes → judged bytes ≡ Err refusal.Header)
-IsCause Accepted left rose (refusal.Csv row) = Accepted × ((bytes : List ℕ) → left ≡ Some bytes → judged bytes ≡ Err (refusal.Csv row))
-IsCause Accepted left rose (refusal.Field row column) = Accepted × ((bytes : List ℕ) → left ≡ Some bytes → judged bytes ≡ Err (refusal.Field row column))
-IsCause Accepted left rose refusal.LongInput = Accepted × ((bytes : List ℕ) → left ≡ Some bytes → judged bytes ≡ Err refusal.LongInput)
-IsCause Accepted left rose refusal.ManyRows = Accepted × ((bytes : List ℕ) → left ≡ Some bytes → judged bytes ≡ Err refusal.ManyRows)
--- no command reads a log
-IsCause Accepted left rose refusal.NotLog = ⊥
-IsCause Accepted left rose (refusal.OldLog version width) = ⊥
-IsCause Accepted left rose (refusal.Damaged cell cause) = ⊥
-IsCause Accepted left rose (refusal.Disk cell) = ⊥
-IsCause Accepted left rose refusal.LongLog = ⊥
-IsCause Accepted left rose (refusal.InUse len) = ⊥
+-- why a run with these words refuses, where these bytes were left in the source, where its count rose, and of what the drive was and is
+pub data IsCause (words : List (List ℕ)) (left : Option (List ℕ)) (rose : Type 0) (old new : Drive) (why : Refusal) : Type 0 where
+  usage : (IsAccepted words → ⊥) → why ≡ refusal.Usage → IsCause words left rose old new why
+  init : IsInit words → IsMakingCause old new why → IsCause words left rose old new why
+  check : IsCheck words → IsCheckingCause old new why → IsCause words left rose old new why
+  play : IsPlay words → IsPlayCause left rose why → IsCause words left rose old new why
 
 -- a run that writes no lines puts the line of the refusal whose cause held
-pub record Refuses (Accepted : Type 0) (left : Option (List ℕ)) (rose : Type 0) (status : ℕ) (before after : Option (List ℕ)) (old_faults faults : ℕ) : Type 0 where
+pub record Refuses (words : List (List ℕ)) (left : Option (List ℕ)) (rose : Type 0) (old new : Drive) (status : ℕ) (before after : Option (List ℕ)) (old_faults faults : ℕ) : Type 0 where
   pub why : Refusal
-  pub cause : IsCause Accepted left rose why
+  pub cause : IsCause words left rose old new why
   pub status_is : status ≡ status_of why
   pub line : TakesLine (refusal_text why) before after old_faults faults
 

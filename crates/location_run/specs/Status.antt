@@ -1,5 +1,5 @@
 -- The status of each refusal.
-use Rattle.std.specs.Prelude.{◌≡◌, ◌⊎◌, ℕ}
+use Rattle.std.specs.Prelude.{◌≡◌, ◌⊎◌, ℕ, Result, Ok, Err}
 use Rattle.csv_rows.specs.declared.rows.Refusal.{Refusal}
 use Rattle.csv_rows.specs.declared.rows.Refusal.TheVariants as refusal
 
@@ -22,3 +22,8 @@ status_of (refusal.InUse len) = 10
 -- whether a status is one of a run that wrote its lines, all of them or a front
 abbrev pub WritesLines : ℕ → Type 0
 WritesLines status = (status ≡ 0) ⊎ (status ≡ 6)
+
+-- the status of lines that were written, all of them or a front
+abbrev pub written_status : {T E : Type 0} → Result T E → ℕ
+written_status (Ok x) = 0
+written_status (Err e) = 6

@@ -1,12 +1,9 @@
-//! What a run is asked for by its words and its source, or why there is nothing to play.
-ghost use Rattle.std.specs.Prelude.{◌≡◌, ◌≢◌, ◌≤◌, List, [], ℕ, map, Some, Ok, Err, IfOk, IfErr, length, ⊤};
-ghost use Rattle.std.specs.String.{string_bytes};
+//! The rows of a source, or why there is nothing to play.
+ghost use Rattle.std.specs.Prelude.{◌≡◌, ◌≢◌, ◌≤◌, List, [], ℕ, Some, Ok, Err, IfOk, IfErr, length};
 ghost use Rattle.causes.specs.Causes.{Rose};
-ghost use Rattle.location_run.specs.Words.{AsksFor, IsAccepted};
 ghost use Rattle.location_run.specs.Judged.{judged, first_other, refusal_of};
-ghost use Rattle.location_run.specs.Run.{IsCause};
+ghost use Rattle.location_run.specs.Run.{IsPlayCause};
 
-use crate::words::bucket_in;
 use csv_rows::{InRow, Refusal, Rows, RowsFault, read_rows};
 use io_edge::{ReadFault, Source, read_all};
 use std::alloc::Global;
@@ -14,37 +11,10 @@ use std::alloc::Global;
 // How many bytes an input may have.
 const MOST_BYTES: usize = 16_777_216;
 
-/// Rows to play, and how many points a bucket should have at most.
-#[derive(Drop)]
-pub(crate) struct Task {
-    pub(crate) size: u32,
-    pub(crate) rows: Rows,
-}
-
-/// What there is to play. The order of refusals: words, source, length of the input, rows.
-pub(crate) fn read_task<S: Source>(
-    alloc: Global,
-    words: &[String],
-    source: &mut S,
-) -> Result<Task, Refusal>
-    ensures size { IfOk result (λ task. AsksFor (map string_bytes words.now) task.size) }
-    ensures rows { IfOk result (λ task. (bytes : List ℕ) → S.left source.old ≡ Some bytes → (judged bytes ≡ Ok task.rows) × (S.left source.new ≡ Some [])) }
-    ensures cause { IfErr result (λ why. IsCause (IsAccepted (map string_bytes words.now)) (S.left source.old) (Rose (S.faults source.old) (S.faults source.new)) why) }
-    ensures later { S.faults source.old ≤ S.faults source.new }
-{
-    match bucket_in(words) {
-        Some(size) => {
-            let rows = read_judged(alloc, source)?;
-            Ok(Task { size, rows })
-        }
-        None => Err(Refusal::Usage),
-    }
-}
-
-// The rows of the source.
-fn read_judged<S: Source>(alloc: Global, source: &mut S) -> Result<Rows, Refusal>
+/// The rows of the source. The order of refusals: source, length of the input, rows.
+pub(crate) fn read_judged<S: Source>(alloc: Global, source: &mut S) -> Result<Rows, Refusal>
     ensures rows { IfOk result (λ rows. (bytes : List ℕ) → S.left source.old ≡ Some bytes → (judged bytes ≡ Ok rows) × (S.left source.new ≡ Some [])) }
-    ensures cause { IfErr result (λ why. IsCause ⊤ (S.left source.old) (Rose (S.faults source.old) (S.faults source.new)) why) }
+    ensures cause { IfErr result (IsPlayCause (S.left source.old) (Rose (S.faults source.old) (S.faults source.new))) }
     ensures later { S.faults source.old ≤ S.faults source.new }
 {
     match read_all(alloc, source, MOST_BYTES) {

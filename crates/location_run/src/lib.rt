@@ -10,11 +10,15 @@
 //! (`range_query`, `knn_query`), `main` (`mdloc`).
 #![tactic(auto)]
 
+mod checking;
 mod faults;
 mod input;
+mod log_faults;
+mod making;
 mod outcome;
 mod output;
 mod play;
+mod playing;
 mod queries;
 mod refusals;
 mod replies;
@@ -24,6 +28,3 @@ mod words;
 
 pub use outcome::Outcome;
 pub use top::run;
-
-#[cfg(test)]
-mod tests;

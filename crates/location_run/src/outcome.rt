@@ -1,11 +1,20 @@
 //! What a run leaves.
 use plain_list::Entries;
 
-/// The exit status of a run, and its history: the calls of its rows, and none where no row was played.
+/// The exit status of a run, both drives back, and its history: the calls of its rows, and none where no row was played.
 ///
-/// Statuses: 0 all done, 2 usage, 3 input, 5 source, 6 sink, 8 limit, 9 memory.
+/// Statuses: 0 all done, 2 usage, 3 input, 4 log, 5 source, 6 sink, 7 disk, 8 limit, 9 memory, 10 in use.
 #[derive(Drop)]
-pub struct Outcome {
+pub struct Outcome<D: Drop> {
     pub status: u8,
+    pub disk: D,
+    pub other: D,
     pub events: Entries,
+}
+
+/// How the rows of a run end: a status and a history.
+#[derive(Drop)]
+pub(crate) struct Ended {
+    pub(crate) status: u8,
+    pub(crate) events: Entries,
 }

@@ -1,7 +1,8 @@
-//! Plays rows of standard input, writes their lines to standard output, and ends with the status.
+//! Runs the words of the command line over standard input and output and two files of the machine, and ends with the status.
 #![tactic(auto)]
 
 use csv_rows::{Refusal, refusal_line};
+use disk_file::FileDisk;
 use io_edge::{StdSink, StdSource};
 use location_run::run;
 use std::process::ExitCode;
@@ -13,11 +14,18 @@ const NO_MEMORY: u8 = 9;
 fn main(rt: HostRuntime) -> ExitCode {
     let mut source = StdSource::new(rt.reader());
     let mut sink = StdSink::new(io::writer(&rt));
-    let Ok(words) = words(&rt) else {
+    let (Ok(words), Ok(disk), Ok(other)) = (words(&rt), drive(&rt), drive(&rt)) else {
         let _ = refusal_line(&mut sink, &Refusal::Memory);
         return ExitCode::from(NO_MEMORY);
     };
-    let outcome = run(rt.alloc(), words.as_slice(), &mut source, &mut sink);
+    let outcome = run(
+        rt.alloc(),
+        words.as_slice(),
+        &mut source,
+        &mut sink,
+        disk,
+        other,
+    );
     ExitCode::from(outcome.status)
 }
 
@@ -28,4 +36,9 @@ fn words(rt: &HostRuntime) -> io::Result<Vec<String>> {
         Err(e) if e.kind() == io::ErrorKind::InvalidData => Ok(Vec::new(rt.alloc())),
         Err(e) => Err(e),
     }
+}
+
+// A drive without a file.
+fn drive(rt: &HostRuntime) -> io::Result<FileDisk<HostRuntime>> {
+    Ok(FileDisk::new(rt.clone()?))
 }

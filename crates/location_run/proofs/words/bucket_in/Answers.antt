@@ -2,7 +2,7 @@ use Rattle.std.proofs.Common.{◌≡◌, inl, inr, ℕ, ◌<◌, ◌≤◌, List
 use Rattle.std.specs.Prelude.{codes, MatchOption}
 use Rattle.std.specs.String.{string_bytes}
 use Rattle.csv_rows.specs.Numbers.{number_in}
-use Rattle.location_run.specs.Words.{AsksFor, IsAccepted}
+use Rattle.location_run.specs.Words.{AsksFor, IsPlay, Play}
 use Rattle.location_run.proofs.words.bucket_in.Goals as goal
 
 four : {X : Type 0} (ws : List X) (a b c d : X) → 4 ≤ length ws → length ws < 5 → a ≡ get_or ws 0 a → b ≡ get_or ws 1 b → c ≡ get_or ws 2 c → d ≡ get_or ws 3 d → ws ≡ a ∷ b ∷ c ∷ d ∷ []
@@ -15,11 +15,11 @@ four (v ∷ w ∷ x ∷ y ∷ z ∷ zs) a b c d low high e f g h = absurd (omega
 
 asks_sized : (words : List (List ℕ)) (command file option number : List ℕ) (result : Option ℕ) → words ≡ command ∷ file ∷ option ∷ number ∷ [] → command ≡ codes "play" → file ≡ codes "-"
     → MatchOption result (option ≡ codes "--bucket" → (size : ℕ) → number_in 4 4096 number ≡ Some size → ⊥) (λ size. (option ≡ codes "--bucket") × (number_in 4 4096 number ≡ Some size))
-    → MatchOption result (IsAccepted words → ⊥) (AsksFor words)
+    → MatchOption result (IsPlay words → ⊥) (λ size. AsksFor words (Play size))
 asks_sized words command file option number (Some size) words_are play dash is = inr (number, words_are ∙ (λ i. play i ∷ dash i ∷ is.0 i ∷ number ∷ []), is.1)
 asks_sized words command file option number None words_are play dash none = λ accepted. by_form accepted.0 accepted.1
   where
-    by_form : (size : ℕ) → AsksFor words size → ⊥
+    by_form : (size : ℕ) → AsksFor words (Play size) → ⊥
     by_form size (inl two) = let short : command ∷ file ∷ option ∷ number ∷ [] ≡ codes "play" ∷ codes "-" ∷ [] = sym words_are ∙ two.0 in absurd (omega (arith, ap length short))
     by_form size (inr sized) =
         let same : command ∷ file ∷ option ∷ number ∷ [] ≡ codes "play" ∷ codes "-" ∷ codes "--bucket" ∷ sized.0 ∷ [] = sym words_are ∙ sized.1 in

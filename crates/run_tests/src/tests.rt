@@ -1,6 +1,7 @@
 //! Runs over sources and sinks in memory: worked inputs, each refusal's line, and faults of both ends.
-use crate::{Outcome, run};
+use disk_mem::MemDisk;
 use io_edge::{MemSink, MemSource};
+use location_run::{Outcome, run};
 use std::alloc::{AllocError, Global};
 use std::test::Fail;
 
@@ -14,13 +15,34 @@ fn words(alloc: Global, all: &[&str]) -> Result<Vec<String>, AllocError> {
     Ok(words)
 }
 
+fn drive(alloc: Global) -> Result<MemDisk, Fail> {
+    Ok(MemDisk::new(alloc, Vec::new(alloc), 0, 0, Vec::new(alloc))?)
+}
+
+// A run over drives that fail at each call.
+fn run_apart(
+    alloc: Global,
+    words: &[String],
+    source: &mut MemSource,
+    sink: &mut MemSink,
+) -> Result<Outcome<MemDisk>, Fail> {
+    Ok(run(
+        alloc,
+        words,
+        source,
+        sink,
+        drive(alloc)?,
+        drive(alloc)?,
+    ))
+}
+
 // What `play -` makes of an input, over ends that fail at the listed calls: the status and what the sink took.
 fn play(alloc: Global, input: &str, reads: &[u64], puts: &[u64]) -> Result<(u8, Vec<u8>), Fail> {
     let words = words(alloc, &["play", "-"])?;
     let mut source = MemSource::new(input.as_bytes().to_vec(alloc)?, reads.to_vec(alloc)?);
     let mut sink = MemSink::new(alloc, 1 << 16, puts.to_vec(alloc)?)?;
-    let Outcome { status, events: _ } = run(alloc, words.as_slice(), &mut source, &mut sink);
-    Ok((status, sink.bytes().to_vec(alloc)?))
+    let outcome = run_apart(alloc, words.as_slice(), &mut source, &mut sink)?;
+    Ok((outcome.status, sink.bytes().to_vec(alloc)?))
 }
 
 fn text(alloc: Global, rows: &str) -> Result<String, AllocError> {
@@ -88,7 +110,7 @@ fn ask(alloc: Global, all: &[&str], input: &str) -> Result<(u8, usize, Vec<u8>),
     let words = words(alloc, all)?;
     let mut source = MemSource::new(input.as_bytes().to_vec(alloc)?, Vec::new(alloc));
     let mut sink = MemSink::new(alloc, 1 << 16, Vec::new(alloc))?;
-    let Outcome { status, events } = run(alloc, words.as_slice(), &mut source, &mut sink);
+    let Outcome { status, events, .. } = run_apart(alloc, words.as_slice(), &mut source, &mut sink)?;
     Ok((status, events.as_slice().len(), sink.bytes().to_vec(alloc)?))
 }
 
@@ -96,10 +118,13 @@ fn ask(alloc: Global, all: &[&str], input: &str) -> Result<(u8, usize, Vec<u8>),
 fn other_words_are_usage(rt: HostRuntime) -> Result<(), Fail> {
     let alloc = rt.alloc();
     let none: &[&str] = &["play"];
+    let unnamed: &[&str] = &["init", "-"];
+    let empty: &[&str] = &["check", ""];
+    let kept: &[&str] = &["play", "log"];
     let small: &[&str] = &["play", "-", "--bucket", "3"];
     let large: &[&str] = &["play", "-", "--bucket", "4097"];
     let before: &[&str] = &["play", "--bucket", "4", "-"];
-    for words in [none, small, large, before] {
+    for words in [none, unnamed, empty, kept, small, large, before] {
         let (status, events, taken) = ask(alloc, words, HEADER)?;
         assert_eq!(rt; status, 2);
         assert_eq!(rt; events, 0);

@@ -7,7 +7,7 @@ use Rattle.location_run.specs.Lines.{lines_from}
 use Rattle.location_run.specs.Tidy.{calls_alone}
 use Rattle.location_run.proofs.Ends.{answers-all, answers-some, replies-count, no-lines}
 use Rattle.location_run.proofs.TidySteps.{IsSettled-tidy}
-use Rattle.location_run.proofs.top.play_rows.Goals as goal
+use Rattle.location_run.proofs.playing.play_rows.Goals as goal
 
 pub write_lines-requires : goal.write_lines-requires
 write_lines-requires g c =

@@ -1,0 +1,14 @@
+use Rattle.std.proofs.Common.{inr}
+use Rattle.location_run.proofs.CheckingFacts.{decided-refused}
+use Rattle.location_run.proofs.checking.check_log.Goals as goal
+
+pub returns-in-Err : goal.returns-in-Err
+returns-in-Err g c =
+    let told = c.put_refusal.ensures in
+    record {
+      ends = record {
+        ends = inr (c.in-Err.why, c.in-Err.ensures.cause, told.status, told.line);
+        decided = decided-refused _ _ c.in-Err.why _ _ _ _ _ c.in-Err.ensures.decided told.status told.line;
+        stays = c.in-Err.ensures.stays;
+      };
+    }
