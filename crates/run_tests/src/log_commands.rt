@@ -8,6 +8,7 @@ use std::test::Fail;
 const EMPTY_LOG: &[u8] = b"MDLOCLOG\x01\x01\0\0\0\0\0\0\0";
 
 // What a command left: the status, what the sink took, and what the drive held.
+#[derive(Drop)]
 struct Left {
     status: u8,
     taken: Vec<u8>,
