@@ -69,7 +69,8 @@ fn check_tells_four_lines_or_what_is_wrong(rt: HostRuntime) -> Result<(), Fail> 
     let alloc = rt.alloc();
     let set = b"MDLOCLOG\x01\x01\0\0\0\0\0\0\x01";
     let old = b"MDLOCLOG\x03\x01\0\0\0\0\0\0\0";
-    let put = b"MDLOCLOG\x01\x01\0\0\0\0\0\0\x01\x01\0\0\0\0\0\0\0\x07\0\0\0\x03\0\0\0\x05\0\0\0\0\0\0\0\0\0\0\0\0\0\0\0";
+    let put =
+        b"MDLOCLOG\x01\x01\0\0\0\0\0\0\x01\x01\0\0\0\0\0\0\0\x07\0\0\0\x03\0\0\0\x05\0\0\0\0\0\0\0\0\0\0\0\0\0\0\0";
     let none: &[u8] = b"cells 0\npoints 0\nleaves 1\nunfinished 0\n";
     let one: &[u8] = b"cells 1\npoints 1\nleaves 1\nunfinished 0\n";
     let worked: [(&[u8], u8, &[u8]); 5] = [
@@ -91,7 +92,12 @@ fn check_tells_four_lines_or_what_is_wrong(rt: HostRuntime) -> Result<(), Fail> 
 #[test]
 fn faults_of_the_drive_and_the_sink_have_their_statuses(rt: HostRuntime) -> Result<(), Fail> {
     let alloc = rt.alloc();
-    let attach = || vec![in alloc; Failing { call: DiskCall::Attach, number: 1 }];
+    let attach = || vec![in alloc;
+        Failing {
+            call: DiskCall::Attach,
+            number: 1
+        },
+    ];
     for command in ["init", "check"] {
         let left = ask(alloc, command, EMPTY_LOG, attach()?, &[])?;
         assert_eq!(rt; left.status, 7);

@@ -26,14 +26,7 @@ fn run_apart(
     source: &mut MemSource,
     sink: &mut MemSink,
 ) -> Result<Outcome<MemDisk>, Fail> {
-    Ok(run(
-        alloc,
-        words,
-        source,
-        sink,
-        drive(alloc)?,
-        drive(alloc)?,
-    ))
+    Ok(run(alloc, words, source, sink, drive(alloc)?, drive(alloc)?))
 }
 
 // What `play -` makes of an input, over ends that fail at the listed calls: the status and what the sink took.
@@ -110,7 +103,12 @@ fn ask(alloc: Global, all: &[&str], input: &str) -> Result<(u8, usize, Vec<u8>),
     let words = words(alloc, all)?;
     let mut source = MemSource::new(input.as_bytes().to_vec(alloc)?, Vec::new(alloc));
     let mut sink = MemSink::new(alloc, 1 << 16, Vec::new(alloc))?;
-    let Outcome { status, events, .. } = run_apart(alloc, words.as_slice(), &mut source, &mut sink)?;
+    let Outcome { status, events, .. } = run_apart(
+        alloc,
+        words.as_slice(),
+        &mut source,
+        &mut sink,
+    )?;
     Ok((status, events.as_slice().len(), sink.bytes().to_vec(alloc)?))
 }
 
