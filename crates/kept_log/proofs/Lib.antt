@@ -2,3 +2,4 @@ pub mod Starting
 pub mod StepCells
 pub mod Adding
 pub mod Appending
+pub mod InJournal

@@ -1,6 +1,7 @@
 pub mod KeptView
 pub mod Kept
 pub mod Steps
+pub mod Journal
 pub use Rattle.recovery.specs.Keeps
 pub use Rattle.recovery.specs.Changes
 pub use Rattle.recovery.specs.Opening

@@ -7,7 +7,9 @@
 //! Not here: which entries there are and when they are made, and how a log is opened (`recovery`).
 #![tactic(auto)]
 
+mod journal;
 mod log;
 mod sending;
 
+pub use journal::{AppendLost, Journal};
 pub use log::KeptLog;

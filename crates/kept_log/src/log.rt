@@ -11,7 +11,7 @@ use std::marker::Model;
 use std::snapshot::Snapshot;
 
 /// The most cells that a log may have.
-const MOST_CELLS: u64 = 1 << 24;
+pub(crate) const MOST_CELLS: u64 = 1 << 24;
 
 /// A log that was opened.
 #[derive(Drop)]
@@ -34,6 +34,7 @@ impl<D: LogDisk> KeptLog<D> {
     /// A log as it was opened on this drive.
     pub fn new(log: SplitLog<D>, start: Snapshot<D>) -> KeptLog<D>
         ensures value { result ≡ record { disk = log.disk; cells = log.cells; failed = log.failed; start = start.value; first = log.cells } }
+        ensures most { result.cells ≤ 2 ^ 24 }
         ensures keeps { (w : ℕ) (s : State) → IsOpened w s (D.drive start.value) (D.drive log.disk) → Keeps D.drive w s [] result }
     {
         let first = log.cells();

@@ -1,4 +1,5 @@
-//! A kept log may be sent between threads where its drive may.
+//! A kept log, and a journal, may be sent between threads where its drive may.
+use crate::journal::Journal;
 use crate::log::KeptLog;
 use disk_trait::LogDisk;
 
@@ -6,4 +7,5 @@ fn sent<T: Send>() {}
 
 fn may_be_sent<D: LogDisk + Send>() {
     sent::<KeptLog<D>>();
+    sent::<Journal<D>>();
 }

@@ -1,0 +1,168 @@
+-- What an append makes of each history that a journal keeps, and the cell that a history's failed append names.
+use Rattle.std.proofs.Common.{◌≡◌, ℕ, ◌^◌, ◌<◌, ◌≤◌, true, false, List, [], ◌∷◌, ◌++◌, Option, Some, None, is_some, refl, sym, ◌∙◌, ap, subst, arith}
+use Rattle.std.proofs.lemmas.Bool.{true≢false}
+use Rattle.causes.specs.Causes.{Rose}
+use Rattle.zorder.specs.declared.points.Placed.{Placed}
+use Rattle.cell_format.specs.declared.cell.Cell.{Cell}
+use Rattle.plain_list.specs.declared.entries.Entry.{Entry}
+use Rattle.plain_list.specs.declared.entries.Entry.TheVariants.{Fail, Call, Begin, Install, Abandon}
+use Rattle.plain_list.specs.declared.entries.Lost.{Lost}
+use Rattle.plain_list.specs.declared.ops.Op.{Op}
+use Rattle.plain_list.specs.Answer.{answer_of, is_change}
+use Rattle.plain_list.specs.History.{world_after}
+use Rattle.plain_list.specs.State.{State, is_fail, IsLegal}
+use Rattle.plain_list.proofs.Histories.{has_failed}
+use Rattle.disk_trait.specs.Drive.{Drive}
+use Rattle.recovery.specs.Changes.{cells_of, failed_cells}
+use Rattle.kept_log.specs.KeptView.{KeptView}
+use Rattle.kept_log.specs.Kept.{Keeps}
+use Rattle.kept_log.specs.Steps.{IsSince, Appended, AppendFailed}
+use Rattle.kept_log.specs.Journal.{failed_cell, KeepsIn, Added, Missed}
+use Rattle.kept_log.proofs.StepCells.{call-no_cells}
+use Rattle.kept_log.proofs.Adding.{sound-push, kept-quiet}
+
+-- where no append has failed, none names a cell
+pub failed_cell-none : (h : List Entry) → has_failed h ≡ false → failed_cell h ≡ None
+failed_cell-none [] sound = refl
+failed_cell-none (Call session row op ∷ h) sound = failed_cell-none h sound
+failed_cell-none (Begin number name ∷ h) sound = failed_cell-none h sound
+failed_cell-none (Install number ∷ h) sound = failed_cell-none h sound
+failed_cell-none (Abandon number ∷ h) sound = failed_cell-none h sound
+failed_cell-none (Fail number lost ∷ h) sound = absurd (true≢false sound)
+
+-- and the other way round
+pub has_failed-none : (h : List Entry) → failed_cell h ≡ None → has_failed h ≡ false
+has_failed-none [] none = refl
+has_failed-none (Call session row op ∷ h) none = has_failed-none h none
+has_failed-none (Begin number name ∷ h) none = has_failed-none h none
+has_failed-none (Install number ∷ h) none = has_failed-none h none
+has_failed-none (Abandon number ∷ h) none = has_failed-none h none
+has_failed-none (Fail number lost ∷ h) none = absurd (cc none)
+
+-- behind a history without a failed append only the last entry may name a cell
+pub failed_cell-push : (h : List Entry) (e : Entry) → has_failed h ≡ false → failed_cell (h ++ e ∷ []) ≡ failed_cell (e ∷ [])
+failed_cell-push [] e sound = refl
+failed_cell-push (Call session row op ∷ h) e sound = failed_cell-push h e sound
+failed_cell-push (Begin number name ∷ h) e sound = failed_cell-push h e sound
+failed_cell-push (Install number ∷ h) e sound = failed_cell-push h e sound
+failed_cell-push (Abandon number ∷ h) e sound = failed_cell-push h e sound
+failed_cell-push (Fail number lost ∷ h) e sound = absurd (true≢false sound)
+
+pub failed_cell-last : (h : List Entry) (number : ℕ) (lost : Lost) → has_failed h ≡ false → failed_cell (h ++ Fail number lost ∷ []) ≡ Some number
+failed_cell-last h number lost = failed_cell-push h (Fail number lost)
+
+-- where no cell is named, none was lost
+pub failed_cells-none : (h : List Entry) → failed_cell h ≡ None → failed_cells h ≡ []
+failed_cells-none [] none = refl
+failed_cells-none (Call session row op ∷ h) none = failed_cells-none h none
+failed_cells-none (Begin number name ∷ h) none = failed_cells-none h none
+failed_cells-none (Install number ∷ h) none = failed_cells-none h none
+failed_cells-none (Abandon number ∷ h) none = failed_cells-none h none
+failed_cells-none (Fail number lost ∷ h) none = absurd (cc none)
+
+-- an entry that is no failed append names no cell
+going_cell : (e : Entry) → is_fail e ≡ false → failed_cell (e ∷ []) ≡ None
+going_cell (Fail number lost) going = absurd (true≢false going)
+going_cell (Call session row op) going = refl
+going_cell (Begin number name) going = refl
+going_cell (Install number) going = refl
+going_cell (Abandon number) going = refl
+
+-- nor does one that has a cell
+with_cell : (world : List Placed) (e : Entry) (cell : Cell) → cells_of world (e ∷ []) ≡ cell ∷ [] → failed_cell (e ∷ []) ≡ None
+with_cell world (Fail number lost) cell one = absurd (cc one)
+with_cell world (Call session row op) cell one = refl
+with_cell world (Begin number name) cell one = refl
+with_cell world (Install number) cell one = refl
+with_cell world (Abandon number) cell one = refl
+
+-- where no cell is named, no count need rise
+unnamed : {A : Type 0} (cell : Option ℕ) → cell ≡ None → is_some cell ≡ true → A
+unnamed None none told = absurd (true≢false (sym told))
+unnamed (Some number) none told = absurd (cc none)
+
+-- a count that rose since later has risen
+rose_since : (a b c : ℕ) → a ≤ b → Rose b c → Rose a c
+rose_since a b c before rose = omega (arith, before, rose)
+
+-- a journal with no log keeps the empty history
+pub in-none : {D : Type 0} (drive : D → Drive) (w : ℕ) (s : State) → KeepsIn drive w s [] None
+in-none drive w s = refl
+
+-- an entry without a cell leaves all as it was
+pub in-quiet : {D : Type 0} (drive : D → Drive) (w : ℕ) (s : State) (h : List Entry) (e : Entry) (log : Option (KeptView D)) → IsLegal w s (h ++ e ∷ [])
+    → cells_of (world_after s.world h) (e ∷ []) ≡ []
+    → is_fail e ≡ false → KeepsIn drive w s h log → KeepsIn drive w s (h ++ e ∷ []) log
+in-quiet drive w s h e None legal none going kept = failed_cell-push h e (sound-push w s h e legal) ∙ going_cell e going
+in-quiet drive w s h e (Some log) legal none going kept =
+    let sound : has_failed h ≡ false = sound-push w s h e legal in
+    let unfailed : failed_cell (h ++ e ∷ []) ≡ None = failed_cell-push h e sound ∙ going_cell e going in
+    record {
+      keeps = kept-quiet drive w s h e log legal none going kept.keeps;
+      failed = kept.failed ∙ failed_cell-none h sound ∙ sym unfailed;
+      most = kept.most;
+      later = kept.later;
+      rose = unnamed (failed_cell (h ++ e ∷ [])) unfailed;
+    }
+
+-- a call that changes nothing has no cell
+pub in-call : {D : Type 0} (drive : D → Drive) (w : ℕ) (s : State) (h : List Entry) (session row : ℕ) (op : Op) (log : Option (KeptView D))
+    → IsLegal w s (h ++ Call session row op ∷ [])
+    → is_change (answer_of (world_after s.world h) op) ≡ false → KeepsIn drive w s h log → KeepsIn drive w s (h ++ Call session row op ∷ []) log
+in-call drive w s h session row op log legal none =
+    in-quiet drive w s h (Call session row op) log legal (call-no_cells (world_after s.world h) session row op none) refl
+
+-- a log that was just opened keeps the empty history
+pub in-opened : {D : Type 0} (drive : D → Drive) (w : ℕ) (s : State) (opened log : KeptView D) → log ≡ opened → Keeps drive w s [] log
+    → log.cells ≤ 2 ^ 24 → opened.failed ≡ None → (drive opened.start).faults ≤ (drive opened.disk).faults → KeepsIn drive w s [] (Some log)
+in-opened {D} drive w s opened log is keeps most sound later = record {
+  keeps = keeps;
+  failed = ap (λ (v : KeptView D). v.failed) is ∙ sound;
+  most = most;
+  later = subst (λ (v : KeptView D). (drive v.start).faults ≤ (drive v.disk).faults) (sym is) later;
+  rose = unnamed None refl;
+}
+
+-- without a log nothing is added, and nothing need be kept
+pub added-none : {D : Type 0} (drive : D → Drive) (cell : Cell) → Added drive cell None None
+added-none drive cell = record {
+  count = omega arith;
+  keeps = λ w s h e next kept. failed_cell-push h e (has_failed-none h kept) ∙ with_cell (world_after s.world h) e cell next.cells;
+}
+
+module _ {D : Type 0} (drive : D → Drive) (cell : Cell) (old new : KeptView D) (room : old.cells < 2 ^ 24) (opened : IsSince old new)
+    (later : (drive old.disk).faults ≤ (drive new.disk).faults) where
+  still_later : (drive old.start).faults ≤ (drive old.disk).faults → (drive new.start).faults ≤ (drive new.disk).faults
+  still_later was = omega (arith, was, later, ap (λ (d : D). (drive d).faults) opened.start)
+
+  pub added : Appended drive cell old new → Added drive cell (Some old) (Some new)
+  added appended = record {
+    count = omega (arith, appended.count);
+    keeps = λ w s h e next kept.
+        let sound : has_failed h ≡ false = sound-push w s h e next.legal in
+        let unfailed : failed_cell (h ++ e ∷ []) ≡ None = failed_cell-push h e sound ∙ with_cell (world_after s.world h) e cell next.cells in
+        record {
+          keeps = appended.keeps w s h e next kept.keeps;
+          failed = appended.whole ∙ sym unfailed;
+          most = omega (arith, room, appended.count);
+          later = still_later kept.later;
+          rose = unnamed (failed_cell (h ++ e ∷ [])) unfailed;
+        };
+  }
+
+  pub missed : (number : ℕ) → AppendFailed drive cell number old new → Missed drive cell number (Some old) (Some new)
+  missed number failed = record {
+    named = failed.named;
+    count = failed.count;
+    rose = failed.rose;
+    keeps = λ w s h e lost next one kept.
+        let last : failed_cell (h ++ Fail number lost ∷ []) ≡ Some number = failed_cell-last h number lost (sound-push w s h e next.legal) in
+        record {
+          keeps = failed.keeps w s h e lost next one kept.keeps;
+          failed = failed.closed ∙ sym last;
+          most = omega (arith, room, failed.count);
+          later = still_later kept.later;
+          rose = λ told. rose_since (drive new.start).faults (drive old.disk).faults (drive new.disk).faults
+              (omega (arith, kept.later, ap (λ (d : D). (drive d).faults) opened.start)) failed.rose;
+        };
+  }

@@ -1,0 +1,76 @@
+-- What the log of a store that may have none keeps.
+use Rattle.std.specs.Prelude.{◌≡◌, ℕ, ◌+◌, ◌^◌, ◌≤◌, true, List, [], ◌∷◌, ◌++◌, Option, Some, None, is_some, ⊤}
+use Rattle.causes.specs.Causes.{Rose}
+use Rattle.cell_format.specs.declared.cell.Cell.{Cell}
+use Rattle.plain_list.specs.declared.entries.Entry.{Entry}
+use Rattle.plain_list.specs.declared.entries.Entry.TheVariants.{Fail, Call, Begin, Install, Abandon}
+use Rattle.plain_list.specs.declared.entries.Lost.{Lost}
+use Rattle.plain_list.specs.State.{State}
+use Rattle.disk_trait.specs.Drive.{Drive}
+use Rattle.recovery.specs.Changes.{lost_cells}
+use Rattle.kept_log.specs.KeptView.{KeptView}
+use Rattle.kept_log.specs.Kept.{Keeps}
+use Rattle.kept_log.specs.Steps.{IsNext, IsSince}
+
+-- the cell that a history's failed append names
+abbrev pub failed_cell : List Entry → Option ℕ
+failed_cell [] = None
+failed_cell (Fail cell lost ∷ h) = Some cell
+failed_cell (Call session row op ∷ h) = failed_cell h
+failed_cell (Begin number name ∷ h) = failed_cell h
+failed_cell (Install number ∷ h) = failed_cell h
+failed_cell (Abandon number ∷ h) = failed_cell h
+
+-- how many cells there are: none without a log
+abbrev pub cells_in : {D : Type 0} → Option (KeptView D) → ℕ
+cells_in None = 0
+cells_in (Some log) = log.cells
+
+-- the cell whose append failed
+abbrev pub failed_in : {D : Type 0} → Option (KeptView D) → Option ℕ
+failed_in None = None
+failed_in (Some log) = log.failed
+
+-- the drive, where there is a log
+abbrev pub disk_in : {D : Type 0} → Option (KeptView D) → Option D
+disk_in None = None
+disk_in (Some log) = Some log.disk
+
+-- a log keeps the history; it failed where the history says so, and then its drive has failed since the opening
+pub record KeepsLog {D : Type 0} (drive : D → Drive) (w : ℕ) (s : State) (h : List Entry) (log : KeptView D) : Type 0 where
+  pub keeps : Keeps drive w s h log
+  pub failed : log.failed ≡ failed_cell h
+  pub most : log.cells ≤ 2 ^ 24
+  pub later : (drive log.start).faults ≤ (drive log.disk).faults
+  pub rose : is_some (failed_cell h) ≡ true → Rose (drive log.start).faults (drive log.disk).faults
+
+-- the log keeps the history, where there is one; else no append has failed
+abbrev pub KeepsIn : {D : Type 0} → (D → Drive) → ℕ → State → List Entry → Option (KeptView D) → Type 0
+KeepsIn drive w s h None = failed_cell h ≡ None
+KeepsIn drive w s h (Some log) = KeepsLog drive w s h log
+
+-- the same opening, or no log at all
+abbrev pub IsSinceIn : {D : Type 0} → Option (KeptView D) → Option (KeptView D) → Type 0
+IsSinceIn None None = ⊤
+IsSinceIn (Some old) (Some new) = IsSince old new
+IsSinceIn None (Some new) = ⊥
+IsSinceIn (Some old) None = ⊥
+
+-- the count of the log's drive rose
+abbrev pub RoseIn : {D : Type 0} → (D → Drive) → Option (KeptView D) → Option (KeptView D) → Type 0
+RoseIn drive None new = ⊥
+RoseIn drive (Some old) None = ⊥
+RoseIn drive (Some old) (Some new) = Rose (drive old.disk).faults (drive new.disk).faults
+
+-- the cell was added where there is a log, and the history with any entry that it is the cell of is kept
+pub record Added {D : Type 0} (drive : D → Drive) (cell : Cell) (old new : Option (KeptView D)) : Type 0 where
+  pub count : cells_in new ≤ cells_in old + 1
+  pub keeps : (w : ℕ) (s : State) (h : List Entry) (e : Entry) → IsNext w s h e cell → KeepsIn drive w s h old → KeepsIn drive w s (h ++ e ∷ []) new
+
+-- a device call failed at the cell of this number, and the history that ends with that is kept, whatever entry it would have been
+pub record Missed {D : Type 0} (drive : D → Drive) (cell : Cell) (number : ℕ) (old new : Option (KeptView D)) : Type 0 where
+  pub named : number ≡ cells_in old
+  pub count : cells_in new ≡ cells_in old
+  pub rose : RoseIn drive old new
+  pub keeps : (w : ℕ) (s : State) (h : List Entry) (e : Entry) (lost : Lost) → IsNext w s h e cell → lost_cells lost ≡ cell ∷ []
+      → KeepsIn drive w s h old → KeepsIn drive w s (h ++ Fail number lost ∷ []) new
