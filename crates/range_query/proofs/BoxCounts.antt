@@ -1,8 +1,5 @@
 -- How many rows of the leaves stand for an object in a box.
-use Rattle.std.proofs.Common.{◌≡◌, ℕ, ◌+◌, ◌-◌, ◌<◌, ◌≤◌, ◌^◌, min, Bool, true, false, cond, List, [], ◌∷◌, ◌++◌, length, refl, sym, ap, ◌∙◌, arith}
-use Rattle.std.specs.Prelude.{◌&&◌}
-use Rattle.std.specs.List.{AllByRecursion}
-use Rattle.std.specs.Cmp.{first_so, second_so}
+use Rattle.std.proofs.Common.{◌≡◌, ℕ, ◌+◌, ◌-◌, ◌<◌, ◌≤◌, ◌^◌, min, Bool, true, false, cond, List, [], ◌∷◌, ◌++◌, length, refl, ap, ◌∙◌, arith}
 use Rattle.std.proofs.lemmas.List.Sorted.{length_permutation}
 use Rattle.zorder.specs.declared.points.Point.{Point}
 use Rattle.zorder.specs.declared.points.Placed.{Placed}
@@ -13,19 +10,18 @@ use Rattle.zorder.proofs.Places.{key_of-point_of, IsPoint-point_of}
 use Rattle.prefix_names.specs.Regions.{SharePoint, AllPointsIn}
 use Rattle.bucket_versions.specs.declared.row.Row.{Row}
 use Rattle.index_layer.specs.Leaves.{Leaf, all_rows}
-use Rattle.index_layer.specs.Stands.{Stands, HasRowsOf, world_has}
+use Rattle.index_layer.specs.Stands.{Stands}
 use Rattle.index_layer.proofs.LeafKeys.{false_if}
-use Rattle.index_layer.proofs.Worlds.{world_key-lt}
 use Rattle.plain_list.specs.World.{IsWorld}
 use Rattle.plain_list.specs.Answer.{members_in}
 use Rattle.table_share.specs.Objects.{placed_of, objects_of}
 use Rattle.table_share.specs.Worlds.{AreAtPoints}
 use Rattle.table_share.proofs.RowObjects.{objects-permutation}
-use Rattle.table_share.proofs.TableRows.{table_of, all_from_has}
+use Rattle.table_share.proofs.TableRows.{table_of}
 use Rattle.table_share.specs.KeysUnder.{AreKeysUnder, AreAllKeysUnder}
 use Rattle.range_query.specs.Cut.{number_in, is_cut, leaves_cut}
 
-length_if : {X : Type 0} (b : Bool) (x : X) (xs : List X) → length (cond b (x ∷ xs) xs) ≡ cond b 1 0 + length xs
+pub length_if : {X : Type 0} (b : Bool) (x : X) (xs : List X) → length (cond b (x ∷ xs) xs) ≡ cond b 1 0 + length xs
 length_if true x xs = omega arith
 length_if false x xs = omega arith
 

@@ -1,15 +1,15 @@
-use Rattle.std.proofs.Common.{◌≡◌, ◌∙◌, ap, subst, List, rules}
+use Rattle.std.proofs.Common.{◌≡◌, ◌∙◌, subst, List, rules}
 use Rattle.std.specs.List.Sorted.{IsPermutation}
 use Rattle.std.proofs.lemmas.Fn.{always_returns_same}
 use Rattle.std.proofs.lemmas.List.Sorted.{IsPermutation-trans}
 use Rattle.zorder.specs.declared.points.Placed.{Placed}
 use Rattle.zorder.specs.Region.{has_point}
-use Rattle.bucket_versions.specs.declared.row.Row.{Row}
 use Rattle.index_layer.specs.Leaves.{Leaf, all_rows}
 use Rattle.plain_list.specs.Answer.{members_in}
 use Rattle.table_share.specs.Objects.{objects_of}
+use Rattle.table_share.proofs.LeafRows.{leaves_under}
 use Rattle.table_share.proofs.RowObjects.{objects-permutation}
-use Rattle.table_share.proofs.TableRows.{table_of, rows_between-all}
+use Rattle.table_share.proofs.TableRows.{table_of}
 use Rattle.range_query.proofs.InOrder.{same_as_rising, IsRising-members_in}
 use Rattle.range_query.proofs.ranges.range.Goals as goal
 
@@ -19,9 +19,7 @@ returns-clause-objects g c world names is_world points stands =
     let region = c.args.region.now in
     let table = table_of leaves world names stands in
     let ys : List Placed = c.sort_unstable_by_key.new.self.items in
-    let rows : c.in_ok-rows.rows.items ≡ all_rows leaves = c.in_ok-rows.ensures.rows ∙ rows_between-all world (all_rows leaves) table in
-    let found : c.in-Ok.found.items ≡ members_in region (objects_of (all_rows leaves)) =
-    c.in-Ok.ensures ∙ ap (λ (rs : List Row). members_in region (objects_of rs)) (c.deref.ensures.value ∙ rows) in
+    let found : c.in-Ok.found.items ≡ members_in region (objects_of (all_rows leaves)) = c.in-Ok.ensures.objects (leaves_under world leaves stands.rows) in
     let perm : IsPermutation (members_in region world) ys =
     IsPermutation-trans (members_in region world) (members_in region (objects_of (all_rows leaves))) ys
     (objects-permutation (λ (m : Placed). has_point region m.at) world (all_rows leaves) is_world.rising points table.ordered table.has)
