@@ -1,5 +1,5 @@
 -- A book keeps what holds of it through each kind of step.
-use Rattle.std.proofs.Common.{◌≡◌, ◌⊎◌, inl, inr, ℕ, ◌+◌, ◌-◌, ◌<◌, ◌≤◌, Bool, true, false, not, List, [], ◌∷◌, ◌++◌, length, length-append, Option, Some, refl, sym, ap, subst, ◌∙◌, arith}
+use Rattle.std.proofs.Common.{◌≡◌, ◌⊎◌, inl, inr, ℕ, ◌+◌, ◌-◌, ◌<◌, ◌≤◌, Bool, true, false, not, List, [], ◌∷◌, ◌++◌, length, length-append, Option, Some, None, refl, sym, ap, subst, ◌∙◌, arith}
 use Rattle.std.specs.Prelude.{◌&&◌, is_some}
 use Rattle.std.specs.List.{AllByRecursion}
 use Rattle.std.specs.Cmp.Derive.{both_true}
@@ -14,119 +14,129 @@ use Rattle.index_layer.proofs.LeafKeys.{false_if}
 use Rattle.index_layer.proofs.LeafChanges.{names_of-replaced}
 use Rattle.plain_list.specs.declared.ops.Op.{Op}
 use Rattle.plain_list.specs.declared.entries.Entry.{Entry}
-use Rattle.plain_list.specs.declared.entries.Entry.TheVariants.{Call, Begin, Install, Abandon}
+use Rattle.plain_list.specs.declared.entries.Entry.TheVariants.{Fail, Call, Begin, Install, Abandon}
+use Rattle.plain_list.specs.declared.entries.Lost.{Lost}
 use Rattle.plain_list.specs.Answer.{after_of}
 use Rattle.plain_list.specs.History.{world_after}
-use Rattle.plain_list.specs.State.{State, OpenSplit, IsLegal, empty_state, state_after, step, is_possible, is_free, is_fail, may_split, is_splitting, split_name, split_leaf, installed, without_number}
+use Rattle.plain_list.specs.State.{State, OpenSplit, IsLegal, state_after, step, is_possible, is_free, may_split, is_splitting, split_name, split_leaf, installed, without_number}
 use Rattle.plain_list.proofs.Histories.{has_failed, state_after-append, state_after-world, is_legal-push}
+use Rattle.disk_trait.specs.Drive.{Drive}
+use Rattle.kept_log.specs.Journal.{failed_cell, KeepsIn}
+use Rattle.kept_log.proofs.InJournal.{has_failed-none, failed_cell-last}
 use Rattle.commit_book.specs.BookInside.{IsInside, book_of}
 use Rattle.commit_book.specs.Changes.{bases_of}
 use Rattle.commit_book.specs.Divisions.{Folds, Divides}
 use Rattle.commit_book.specs.IsBook.{IsBook, most_events}
 use Rattle.commit_book.specs.KeptBases.{KeepsBase}
 use Rattle.commit_book.specs.declared.book.Book.TheInside.{Inside}
-use Rattle.commit_book.proofs.BookSteps.{has_failed-push, same_names}
+use Rattle.commit_book.proofs.BookSteps.{same_names}
 use Rattle.commit_book.proofs.KeptLemmas.{KeepsBases-push, KeepsBase-bases, KeepsBase-begun, KeepsBase-replaced, KeepsBase-split}
 use Rattle.commit_book.proofs.SplitHistories.{tidy-history, begun-number}
 use Rattle.commit_book.proofs.SplitStates.{without_name-none, splitting-found, left-open, left-apart, length-without, found-push}
 
 -- a step that is possible and free is legal after each history that hasn't failed
-pub record StepsOn (w : ℕ) (h : List Entry) (e : Entry) : Type 0 where
-  pub legal : IsLegal w empty_state (h ++ e ∷ [])
-  pub sound : has_failed (h ++ e ∷ []) ≡ false
-  pub after : state_after w empty_state (h ++ e ∷ []) ≡ step w (state_after w empty_state h) e
+pub record StepsOn (w : ℕ) (o : State) (h : List Entry) (e : Entry) : Type 0 where
+  pub legal : IsLegal w o (h ++ e ∷ [])
+  pub after : state_after w o (h ++ e ∷ []) ≡ step w (state_after w o h) e
 
-pub steps_on : (w : ℕ) (h : List Entry) (e : Entry) → IsLegal w empty_state h → has_failed h ≡ false → (is_possible w (state_after w empty_state h) e && is_free (state_after w empty_state h) e) ≡ true → is_fail e ≡ false → StepsOn w h e
-steps_on w h e legal sound may none = record {
-  legal = is_legal-push w empty_state h e sound legal may;
-  sound = has_failed-push h e sound none;
-  after = state_after-append w empty_state h (e ∷ []);
+pub steps_on : (w : ℕ) (o : State) (h : List Entry) (e : Entry) → IsLegal w o h → has_failed h ≡ false → (is_possible w (state_after w o h) e && is_free (state_after w o h) e) ≡ true → StepsOn w o h e
+steps_on w o h e legal sound may = record {
+  legal = is_legal-push w o h e sound legal may;
+  after = state_after-append w o h (e ∷ []);
 }
 
 -- what holds of a book whose table stands for its world
-pub is_book : {I : Type 0} (leaves : I → List Leaf) (w : ℕ) (b : Inside I) → IsInside leaves w b → AreLeaves (leaves b.table.index) → AllByRecursion (HasRowsOf b.table.world) (leaves b.table.index) → IsBook leaves w (book_of b)
-is_book leaves w b inside are rows = record {
+pub is_book : {I D : Type 0} (leaves : I → List Leaf) (drive : D → Drive) (w : ℕ) (b : Inside I D) → IsInside leaves drive w b.opening b → AreLeaves (leaves b.table.index) → AllByRecursion (HasRowsOf b.table.world) (leaves b.table.index) → IsBook leaves drive w (book_of b)
+is_book leaves drive w b inside are rows = record {
+  opening = inside.opening;
   legal = inside.legal;
   stands = record {
     names_are = inside.names;
     are_leaves = are;
-    rows = subst (λ (ms : List Placed). AllByRecursion (HasRowsOf ms) (leaves b.table.index)) (inside.world ∙ state_after-world w empty_state b.history.entries) rows;
+    rows = subst (λ (ms : List Placed). AllByRecursion (HasRowsOf ms) (leaves b.table.index)) (inside.world ∙ state_after-world w b.opening b.history.entries) rows;
   };
   bases = inside.bases;
   few = inside.few;
+  on_log = inside.on_log;
 }
 
 one_more : (h : List Entry) (e : Entry) → length h < most_events → length (h ++ e ∷ []) ≤ most_events
 one_more h e few = omega (arith, length-append h (e ∷ []), few)
 
-module _ {I : Type 0} (leaves : I → List Leaf) (w : ℕ) (old new : Inside I) (inside : IsInside leaves w old) where
+module _ {I D : Type 0} (leaves : I → List Leaf) (drive : D → Drive) (w : ℕ) (o : State) (old new : Inside I D) (inside : IsInside leaves drive w o old)
+    (going : failed_cell old.history.entries ≡ None) (on_log : KeepsIn drive w o new.history.entries new.journal) where
   abbrev pub h : List Entry
   h = old.history.entries
 
   abbrev pub s : State
-  s = state_after w empty_state h
+  s = state_after w o h
+
+  sound : has_failed h ≡ false
+  sound = has_failed-none h going
 
   -- a call
   pub inside-call : (session row : ℕ) (op : Op) → length h < most_events → new.history.entries ≡ h ++ Call session row op ∷ [] → new.history.room ≡ old.history.room
-      → new.table.world ≡ after_of old.table.world op → bases_of (leaves new.table.index) ≡ bases_of (leaves old.table.index) → new.splits ≡ old.splits → IsInside leaves w new
+      → new.table.world ≡ after_of old.table.world op → bases_of (leaves new.table.index) ≡ bases_of (leaves old.table.index) → new.splits ≡ old.splits → IsInside leaves drive w o new
   inside-call session row op few entries room world bases splits =
       let e : Entry = Call session row op in
-      let steps = steps_on w h e inside.legal inside.sound refl refl in
+      let steps = steps_on w o h e inside.legal sound refl in
       record {
+        opening = inside.opening;
         legal = rw entries steps.legal;
-        sound = rw entries steps.sound;
         world = rw entries (world ∙ ap (λ (ms : List Placed). after_of ms op) inside.world ∙ sym (ap (λ (t : State). t.world) steps.after));
         names = rw entries (same_names _ _ bases ∙ inside.names ∙ sym (ap (λ (t : State). t.leaves) steps.after));
         splits = rw entries (ap (λ v. v.splits) splits ∙ inside.splits ∙ sym (ap (λ (t : State). t.splits) steps.after));
         begun = rw entries (ap (λ v. v.begun) splits ∙ inside.begun ∙ sym (ap (λ (t : State). t.begun) steps.after));
-        bases = rw entries (KeepsBases-push w h e (leaves old.table.index) (leaves new.table.index) (record {
+        bases = rw entries (KeepsBases-push w o h e (leaves old.table.index) (leaves new.table.index) (record {
           begun = λ number name is. absurd (not_begin number name is);
           was = λ before after number name there now. ap (λ (t : State). split_name t.splits number) (sym steps.after) ∙ now;
           keeps = λ number name was now ms kept. KeepsBase-bases (leaves old.table.index) (leaves new.table.index) ms name bases kept;
         }) inside.bases);
         few = rw entries (one_more h e few);
-        room = room ∙ inside.room ∙ ap (λ v. length v.splits) (sym splits);
+        room = λ _. room ∙ inside.room going ∙ ap (λ v. length v.splits) (sym splits);
+        on_log = on_log;
       }
     where
       not_begin : (number : ℕ) (name : List Bool) → Begin number name ≡ Call session row op → ⊥
       not_begin number name is = cc is
 
   -- the begin of a split
-  pub inside-begin : (name : List Bool) (bucket : Rows) → length h < most_events → AreLeaves (leaves old.table.index) → AllByRecursion (HasRowsOf (world_after [] h)) (leaves old.table.index)
+  pub inside-begin : (name : List Bool) (bucket : Rows) → length h < most_events → AreLeaves (leaves old.table.index) → AllByRecursion (HasRowsOf (world_after o.world h)) (leaves old.table.index)
       → Folds name (leaves old.table.index) (leaves new.table.index) bucket → may_split w s name ≡ true → is_splitting s.splits name ≡ false
       → new.history.entries ≡ h ++ Begin (old.splits.begun + 1) name ∷ [] → new.history.room ≡ old.history.room + 1 → new.table.world ≡ old.table.world
-      → new.splits.splits ≡ old.splits.splits ++ record { number = old.splits.begun + 1; name = name } ∷ [] → new.splits.begun ≡ old.splits.begun + 1 → IsInside leaves w new
+      → new.splits.splits ≡ old.splits.splits ++ record { number = old.splits.begun + 1; name = name } ∷ [] → new.splits.begun ≡ old.splits.begun + 1 → IsInside leaves drive w o new
   inside-begin name bucket few are rows folds may none entries room world splits begun =
       let number : ℕ = old.splits.begun + 1 in
       let e : Entry = Begin number name in
       let next : number ≡ s.begun + 1 = ap (λ n. n + 1) inside.begun in
-      let steps = steps_on w h e inside.legal inside.sound (both_true (both_true (eq-eqb number (s.begun + 1) next) may) (ap not none)) refl in
-      let now : (state_after w empty_state (h ++ e ∷ [])).splits ≡ s.splits ++ record { number = number; name = name } ∷ [] =
+      let steps = steps_on w o h e inside.legal sound (both_true (both_true (eq-eqb number (s.begun + 1) next) may) (ap not none)) in
+      let now : (state_after w o (h ++ e ∷ [])).splits ≡ s.splits ++ record { number = number; name = name } ∷ [] =
       ap (λ (t : State). t.splits) steps.after ∙ ap (λ (os : List OpenSplit). os ++ record { number = number; name = name } ∷ []) (without_name-none name s.splits none) in
       record {
+        opening = inside.opening;
         legal = rw entries steps.legal;
-        sound = rw entries steps.sound;
         world = rw entries (world ∙ inside.world ∙ sym (ap (λ (t : State). t.world) steps.after));
         names = rw entries (ap names_of folds.leaves ∙ names_of-replaced name (as_base folds.leaf.bucket.rows) (leaves old.table.index) ∙ inside.names ∙ sym (ap (λ (t : State). t.leaves) steps.after));
         splits = rw entries (splits ∙ ap (λ (os : List OpenSplit). os ++ record { number = number; name = name } ∷ []) inside.splits ∙ sym now);
         begun = rw entries (begun ∙ next ∙ sym (ap (λ (t : State). t.begun) steps.after));
-        bases = rw entries (KeepsBases-push w h e (leaves old.table.index) (leaves new.table.index) (record {
-          begun = λ n nm is. subst (λ (nm : List Bool). KeepsBase (leaves new.table.index) (world_after [] h) nm) (sym (same_begin n nm is)) begun_base;
+        bases = rw entries (KeepsBases-push w o h e (leaves old.table.index) (leaves new.table.index) (record {
+          begun = λ n nm is. subst (λ (nm : List Bool). KeepsBase (leaves new.table.index) (world_after o.world h) nm) (sym (same_begin n nm is)) begun_base;
           was = λ before after n nm there open_now. by_split before after n nm there (found-push s.splits (record { number = number; name = name }) n nm (ap (λ (os : List OpenSplit). split_name os n) (sym now) ∙ open_now));
           keeps = λ n nm was open_now ms kept.
               subst (λ (ls : List Leaf). KeepsBase ls ms nm) (sym folds.leaves) (KeepsBase-replaced (leaves old.table.index) ms nm name (as_base folds.leaf.bucket.rows) (other nm (splitting-found s.splits n nm was)) kept);
         }) inside.bases);
         few = rw entries (one_more h e few);
-        room = omega (arith, room, inside.room, ap length splits, length-append old.splits.splits (record { number = number; name = name } ∷ []));
+        room = λ _. omega (arith, room, inside.room going, ap length splits, length-append old.splits.splits (record { number = number; name = name } ∷ []));
+        on_log = on_log;
       }
     where
       same_begin : (n : ℕ) (nm : List Bool) → Begin n nm ≡ Begin (old.splits.begun + 1) name → nm ≡ name
       same_begin n nm is = cc is
 
-      begun_base : KeepsBase (leaves new.table.index) (world_after [] h) name
+      begun_base : KeepsBase (leaves new.table.index) (world_after o.world h) name
       begun_base =
-          subst (λ (ls : List Leaf). KeepsBase ls (world_after [] h) name) (sym folds.leaves)
-          (KeepsBase-begun (leaves old.table.index) (world_after [] h) name folds.leaf are rows folds.named)
+          subst (λ (ls : List Leaf). KeepsBase ls (world_after o.world h) name) (sym folds.leaves)
+          (KeepsBase-begun (leaves old.table.index) (world_after o.world h) name folds.leaf are rows folds.named)
 
       other : (nm : List Bool) → is_splitting s.splits nm ≡ true → same_name nm name ≡ false
       other nm is = false_if (same_name nm name) (λ same. true≢false (sym is ∙ ap (is_splitting s.splits) ((same_name-decides nm name).0 same) ∙ none))
@@ -134,28 +144,28 @@ module _ {I : Type 0} (leaves : I → List Leaf) (w : ℕ) (old new : Inside I) 
       by_split : (before after : List Entry) (n : ℕ) (nm : List Bool) → h ≡ before ++ Begin n nm ∷ after → (split_name s.splits n ≡ Some nm) ⊎ ((old.splits.begun + 1 ≡ n) × (name ≡ nm)) → split_name s.splits n ≡ Some nm
       by_split before after n nm there (inl was) = was
       by_split before after n nm there (inr last) =
-          let least = begun-number w empty_state before n nm after (subst (λ (g : List Entry). IsLegal w empty_state g) there inside.legal) in
-          let at_most : n ≤ s.begun = subst (λ (g : List Entry). n ≤ (state_after w empty_state g).begun) (sym there) least in
+          let least = begun-number w o before n nm after (subst (λ (g : List Entry). IsLegal w o g) there inside.legal) in
+          let at_most : n ≤ s.begun = subst (λ (g : List Entry). n ≤ (state_after w o g).begun) (sym there) least in
           absurd (omega (arith, at_most, last.0, inside.begun))
 
   -- the install of a split
   pub inside-install : (number : ℕ) (name : List Bool) → length h < most_events → AreLeaves (leaves new.table.index) → Divides w name (leaves old.table.index) (leaves new.table.index)
       → split_name old.splits.splits number ≡ Some name → names_of (leaves new.table.index) ≡ split_leaf w name (names_of (leaves old.table.index))
       → new.history.entries ≡ h ++ Install number ∷ [] → new.history.room ≡ old.history.room - 1 → new.table.world ≡ old.table.world
-      → new.splits.splits ≡ without_number number old.splits.splits → new.splits.begun ≡ old.splits.begun → IsInside leaves w new
+      → new.splits.splits ≡ without_number number old.splits.splits → new.splits.begun ≡ old.splits.begun → IsInside leaves drive w o new
   inside-install number name few are divides found names entries room world splits begun =
       let e : Entry = Install number in
       let open_one : split_name s.splits number ≡ Some name = ap (λ (os : List OpenSplit). split_name os number) (sym inside.splits) ∙ found in
-      let steps = steps_on w h e inside.legal inside.sound (both_true (ap (λ (o : Option (List Bool)). is_some o) open_one) refl) refl in
-      let tidy = tidy-history w h inside.legal in
+      let steps = steps_on w o h e inside.legal sound (both_true (ap (λ (n : Option (List Bool)). is_some n) open_one) refl) in
+      let tidy = tidy-history w o h inside.opening.rests inside.legal in
       record {
+        opening = inside.opening;
         legal = rw entries steps.legal;
-        sound = rw entries steps.sound;
         world = rw entries (world ∙ inside.world ∙ sym (ap (λ (t : State). t.world) steps.after));
-        names = rw entries (names ∙ ap (split_leaf w name) inside.names ∙ ap (λ (o : Option (List Bool)). installed w o s.leaves) (sym open_one) ∙ sym (ap (λ (t : State). t.leaves) steps.after));
+        names = rw entries (names ∙ ap (split_leaf w name) inside.names ∙ ap (λ (n : Option (List Bool)). installed w n s.leaves) (sym open_one) ∙ sym (ap (λ (t : State). t.leaves) steps.after));
         splits = rw entries (splits ∙ ap (without_number number) inside.splits ∙ sym (ap (λ (t : State). t.splits) steps.after));
         begun = rw entries (begun ∙ inside.begun ∙ sym (ap (λ (t : State). t.begun) steps.after));
-        bases = rw entries (KeepsBases-push w h e (leaves old.table.index) (leaves new.table.index) (record {
+        bases = rw entries (KeepsBases-push w o h e (leaves old.table.index) (leaves new.table.index) (record {
           begun = λ n nm is. absurd (not_begin n nm is);
           was = λ before after n nm there now. left-open s.splits number n nm (ap (λ (t : State). split_name t.splits n) (sym steps.after) ∙ now);
           keeps = λ n nm was now ms kept.
@@ -164,7 +174,8 @@ module _ {I : Type 0} (leaves : I → List Leaf) (w : ℕ) (old new : Inside I) 
               (left-apart s.splits number n name nm tidy.apart open_one (ap (λ (t : State). split_name t.splits n) (sym steps.after) ∙ now)) kept);
         }) inside.bases);
         few = rw entries (one_more h e few);
-        room = omega (arith, room, inside.room, ap length splits, ap length inside.splits, ap (λ (os : List OpenSplit). length (without_number number os)) inside.splits, length-without s.splits number name tidy.apart open_one);
+        room = λ _. omega (arith, room, inside.room going, ap length splits, ap length inside.splits, ap (λ (os : List OpenSplit). length (without_number number os)) inside.splits, length-without s.splits number name tidy.apart open_one);
+        on_log = on_log;
       }
     where
       not_begin : (n : ℕ) (nm : List Bool) → Begin n nm ≡ Install number → ⊥
@@ -173,27 +184,58 @@ module _ {I : Type 0} (leaves : I → List Leaf) (w : ℕ) (old new : Inside I) 
   -- the abandonment of a split
   pub inside-abandon : (number : ℕ) (name : List Bool) → length h < most_events → split_name old.splits.splits number ≡ Some name → new.table ≡ old.table
       → new.history.entries ≡ h ++ Abandon number ∷ [] → new.history.room ≡ old.history.room - 1
-      → new.splits.splits ≡ without_number number old.splits.splits → new.splits.begun ≡ old.splits.begun → IsInside leaves w new
+      → new.splits.splits ≡ without_number number old.splits.splits → new.splits.begun ≡ old.splits.begun → IsInside leaves drive w o new
   inside-abandon number name few found table entries room splits begun =
       let e : Entry = Abandon number in
       let open_one : split_name s.splits number ≡ Some name = ap (λ (os : List OpenSplit). split_name os number) (sym inside.splits) ∙ found in
-      let steps = steps_on w h e inside.legal inside.sound (both_true (ap (λ (o : Option (List Bool)). is_some o) open_one) refl) refl in
-      let tidy = tidy-history w h inside.legal in
+      let steps = steps_on w o h e inside.legal sound (both_true (ap (λ (n : Option (List Bool)). is_some n) open_one) refl) in
+      let tidy = tidy-history w o h inside.opening.rests inside.legal in
       record {
+        opening = inside.opening;
         legal = rw entries steps.legal;
-        sound = rw entries steps.sound;
         world = rw entries (ap (λ v. v.world) table ∙ inside.world ∙ sym (ap (λ (t : State). t.world) steps.after));
         names = rw entries (ap (λ v. names_of (leaves v.index)) table ∙ inside.names ∙ sym (ap (λ (t : State). t.leaves) steps.after));
         splits = rw entries (splits ∙ ap (without_number number) inside.splits ∙ sym (ap (λ (t : State). t.splits) steps.after));
         begun = rw entries (begun ∙ inside.begun ∙ sym (ap (λ (t : State). t.begun) steps.after));
-        bases = rw entries (KeepsBases-push w h e (leaves old.table.index) (leaves new.table.index) (record {
+        bases = rw entries (KeepsBases-push w o h e (leaves old.table.index) (leaves new.table.index) (record {
           begun = λ n nm is. absurd (not_begin n nm is);
           was = λ before after n nm there now. left-open s.splits number n nm (ap (λ (t : State). split_name t.splits n) (sym steps.after) ∙ now);
           keeps = λ n nm was now ms kept. KeepsBase-bases (leaves old.table.index) (leaves new.table.index) ms nm (ap (λ v. bases_of (leaves v.index)) table) kept;
         }) inside.bases);
         few = rw entries (one_more h e few);
-        room = omega (arith, room, inside.room, ap length splits, ap length inside.splits, ap (λ (os : List OpenSplit). length (without_number number os)) inside.splits, length-without s.splits number name tidy.apart open_one);
+        room = λ _. omega (arith, room, inside.room going, ap length splits, ap length inside.splits, ap (λ (os : List OpenSplit). length (without_number number os)) inside.splits, length-without s.splits number name tidy.apart open_one);
+        on_log = on_log;
       }
     where
       not_begin : (n : ℕ) (nm : List Bool) → Begin n nm ≡ Abandon number → ⊥
       not_begin n nm is = cc is
+
+  -- the failed append of a step
+  pub inside-fail : (cell : ℕ) (lost : Lost) → length h < most_events → new.history.entries ≡ h ++ Fail cell lost ∷ []
+      → new.table.world ≡ old.table.world → leaves new.table.index ≡ leaves old.table.index
+      → new.splits.splits ≡ old.splits.splits → new.splits.begun ≡ old.splits.begun → IsInside leaves drive w o new
+  inside-fail cell lost few entries world index splits begun =
+      let e : Entry = Fail cell lost in
+      let steps = steps_on w o h e inside.legal sound refl in
+      record {
+        opening = inside.opening;
+        legal = rw entries steps.legal;
+        world = rw entries (world ∙ inside.world ∙ sym (ap (λ (t : State). t.world) steps.after));
+        names = rw entries (ap names_of index ∙ inside.names ∙ sym (ap (λ (t : State). t.leaves) steps.after));
+        splits = rw entries (splits ∙ inside.splits ∙ sym (ap (λ (t : State). t.splits) steps.after));
+        begun = rw entries (begun ∙ inside.begun ∙ sym (ap (λ (t : State). t.begun) steps.after));
+        bases = rw entries (KeepsBases-push w o h e (leaves old.table.index) (leaves new.table.index) (record {
+          begun = λ n nm is. absurd (not_begin n nm is);
+          was = λ before after n nm there now. ap (λ (t : State). split_name t.splits n) (sym steps.after) ∙ now;
+          keeps = λ n nm was now ms kept. subst (λ (ls : List Leaf). KeepsBase ls ms nm) (sym index) kept;
+        }) inside.bases);
+        few = rw entries (one_more h e few);
+        room = λ none. absurd (not_none (sym (failed_cell-last h cell lost sound) ∙ ap failed_cell (sym entries) ∙ none));
+        on_log = on_log;
+      }
+    where
+      not_begin : (n : ℕ) (nm : List Bool) → Begin n nm ≡ Fail cell lost → ⊥
+      not_begin n nm is = cc is
+
+      not_none : Some cell ≡ None → ⊥
+      not_none is = cc is

@@ -15,7 +15,7 @@ use Rattle.index_layer.proofs.LeafKeys.{false_if, first_key-under, first_key-fit
 use Rattle.index_layer.proofs.LeafNames.{IsAmong, later_leaf, find-among, among-any, some_found, short-among, one-leaf}
 use Rattle.plain_list.specs.declared.entries.Entry.{Entry}
 use Rattle.plain_list.specs.declared.entries.Entry.TheVariants.{Begin}
-use Rattle.plain_list.specs.State.{split_name, empty_state, state_after}
+use Rattle.plain_list.specs.State.{State, split_name, state_after}
 use Rattle.plain_list.specs.History.{world_after}
 use Rattle.commit_book.specs.Changes.{LeafBase, base_of, bases_of}
 use Rattle.commit_book.specs.Divisions.{Folds}
@@ -52,21 +52,21 @@ last_or_earlier (x ∷ h) (b ∷ before) after e f same = by_rest (head x b (h +
     by_rest first (inr more) = inr (more.0, λ i. first i ∷ more.1 i)
 
 -- what keeps the bases through a step: the new split's leaf has its base, and each leaf of a split that was open and stays open keeps it
-pub record KeepsOn (w : ℕ) (h : List Entry) (e : Entry) (old new : List Leaf) : Type 0 where
-  pub begun : (number : ℕ) (name : List Bool) → Begin number name ≡ e → KeepsBase new (world_after [] h) name
-  pub was : (before after : List Entry) (number : ℕ) (name : List Bool) → h ≡ before ++ Begin number name ∷ after → split_name (state_after w empty_state (h ++ e ∷ [])).splits number ≡ Some name
-      → split_name (state_after w empty_state h).splits number ≡ Some name
-  pub keeps : (number : ℕ) (name : List Bool) → split_name (state_after w empty_state h).splits number ≡ Some name → split_name (state_after w empty_state (h ++ e ∷ [])).splits number ≡ Some name
+pub record KeepsOn (w : ℕ) (o : State) (h : List Entry) (e : Entry) (old new : List Leaf) : Type 0 where
+  pub begun : (number : ℕ) (name : List Bool) → Begin number name ≡ e → KeepsBase new (world_after o.world h) name
+  pub was : (before after : List Entry) (number : ℕ) (name : List Bool) → h ≡ before ++ Begin number name ∷ after → split_name (state_after w o (h ++ e ∷ [])).splits number ≡ Some name
+      → split_name (state_after w o h).splits number ≡ Some name
+  pub keeps : (number : ℕ) (name : List Bool) → split_name (state_after w o h).splits number ≡ Some name → split_name (state_after w o (h ++ e ∷ [])).splits number ≡ Some name
       → (world : List Placed) → KeepsBase old world name → KeepsBase new world name
 
-pub KeepsBases-push : (w : ℕ) (h : List Entry) (e : Entry) (old new : List Leaf) → KeepsOn w h e old new → KeepsBases w old h → KeepsBases w new (h ++ e ∷ [])
-KeepsBases-push w h e old new on kept before after number name same now = by_place (last_or_earlier h before after e (Begin number name) same)
+pub KeepsBases-push : (w : ℕ) (o : State) (h : List Entry) (e : Entry) (old new : List Leaf) → KeepsOn w o h e old new → KeepsBases w o old h → KeepsBases w o new (h ++ e ∷ [])
+KeepsBases-push w o h e old new on kept before after number name same now = by_place (last_or_earlier h before after e (Begin number name) same)
   where
-    by_place : (before ≡ h) × (Begin number name ≡ e) ⊎ ((rest : List Entry) × (h ≡ before ++ Begin number name ∷ rest)) → KeepsBase new (world_after [] before) name
-    by_place (inl last) = subst (λ (b : List Entry). KeepsBase new (world_after [] b) name) (sym last.0) (on.begun number name last.1)
+    by_place : (before ≡ h) × (Begin number name ≡ e) ⊎ ((rest : List Entry) × (h ≡ before ++ Begin number name ∷ rest)) → KeepsBase new (world_after o.world before) name
+    by_place (inl last) = subst (λ (b : List Entry). KeepsBase new (world_after o.world b) name) (sym last.0) (on.begun number name last.1)
     by_place (inr earlier) =
         let was = on.was before earlier.0 number name earlier.1 now in
-        on.keeps number name was now (world_after [] before) (kept before earlier.0 number name earlier.1 was)
+        on.keeps number name was now (world_after o.world before) (kept before earlier.0 number name earlier.1 was)
 
 -- a leaf among others that have the same names and bases
 pub record SameBase (name : List Bool) (new : List Leaf) (b : LeafBase) : Type 0 where

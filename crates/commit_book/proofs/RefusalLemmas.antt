@@ -1,5 +1,5 @@
 -- The cause that comes first, by the tests of the code.
-use Rattle.std.proofs.Common.{◌≡◌, ℕ, ◌+◌, ◌<◌, ◌≤◌, Bool, true, false, cond, not, List, [], ◌∷◌, length, Option, Some, None, Ok, Err, refl, sym, ap, ◌∙◌, arith}
+use Rattle.std.proofs.Common.{◌≡◌, ℕ, ◌+◌, ◌<◌, ◌≤◌, Bool, true, false, cond, not, List, [], ◌∷◌, length, Option, Some, None, Result, Ok, Err, refl, sym, ap, subst, ◌∙◌, arith}
 use Rattle.std.specs.Prelude.{nat_lt, ◌==◌, ◌&&◌, ◌||◌, is_some}
 use Rattle.std.specs.Option.{option_map, option_map_or}
 use Rattle.std.specs.Cmp.Lexicographic.{pointwise_decides}
@@ -11,11 +11,13 @@ use Rattle.bucket_versions.proofs.RowOrder.{same_row-eq, same_row-refl}
 use Rattle.bucket_versions.specs.declared.row.Row.{Row}
 use Rattle.index_layer.specs.Leaves.{Leaf, names_of, has_name, leaf_named}
 use Rattle.plain_list.specs.declared.entries.Entry.{Entry}
-use Rattle.plain_list.specs.State.{State, OpenSplit, split_name, is_splitting, is_leaf, empty_state, state_after}
+use Rattle.plain_list.specs.State.{State, OpenSplit, split_name, is_splitting, is_leaf, state_after}
 use Rattle.commit_book.specs.IsBook.{most_events}
-use Rattle.commit_book.specs.Refusals.{IsRefusedOnlyBy, most_events_to_begin, split_number, leaf_refusal, begin_refusal, is_open, same_rows, has_base, install_refusal}
+use Rattle.kept_log.specs.Journal.{failed_cell, cells_in}
+use Rattle.commit_book.specs.BookView.{BookView}
+use Rattle.commit_book.specs.Refusals.{IsRefusedBy, IsNoFault, first_of, closed_refusal, events_refusal, call_refusal, end_refusal, room_refusal, most_cells, most_events_to_begin, most_cells_to_begin, split_number, leaf_refusal, begin_refusal, is_open, same_rows, has_base, install_refusal, abandon_refusal}
 use Rattle.commit_book.specs.declared.faults.BookFault.{BookFault}
-use Rattle.commit_book.specs.declared.faults.BookFault.TheVariants.{HistoryFull, Room, Splitting, Deep, NoLeaf, Stale}
+use Rattle.commit_book.specs.declared.faults.BookFault.TheVariants.{Closed, HistoryFull, LogFull, Room, Splitting, Deep, NoLeaf, Stale, NotOpen}
 
 -- two rows are one exactly where key and id are
 same_row-decides : (a b : Row) → (same_row a b ≡ true → a ≡ b) × (a ≡ b → same_row a b ≡ true)
@@ -25,16 +27,16 @@ pub same_rows-decides : (a b : List Row) → (same_rows a b ≡ true → a ≡ b
 same_rows-decides = pointwise_decides same_row-decides
 
 -- a check that was passed knows of no cause
-pub passed : {A : Type 0} (o : Option BookFault) (value : A) → IsRefusedOnlyBy o (Ok value) → o ≡ None
+pub passed : {A : Type 0} (o : Option BookFault) (value : A) → IsRefusedBy IsNoFault o (Ok value) → o ≡ None
 passed (Some cause) value is = cc is
 passed None value is = refl
 
 -- what a check answers where a cause comes first
-pub told_only : (A : Type 0) (o : Option BookFault) (cause : BookFault) → o ≡ Some cause → IsRefusedOnlyBy {A = A} o (Err cause)
+pub told_only : (A : Type 0) (o : Option BookFault) (cause : BookFault) → o ≡ Some cause → IsRefusedBy {A = A} IsNoFault o (Err cause)
 told_only A o cause is = rw is refl
 
 -- and where there is none
-pub done_only : {A : Type 0} (o : Option BookFault) (value : A) → o ≡ None → IsRefusedOnlyBy o (Ok value)
+pub done_only : {A : Type 0} (o : Option BookFault) (value : A) → o ≡ None → IsRefusedBy IsNoFault o (Ok value)
 done_only o value is = rw is tt
 
 -- a name of a leaf, by the leaves and by their names
@@ -60,12 +62,6 @@ number-none (o ∷ splits) name none = by_test (same_name o.name name) none (num
     by_test false rest later = later rest
 
 -- why a split doesn't begin
-pub begin-few : (w : ℕ) (entries : List Entry) (name : List Bool) → length entries ≤ most_events_to_begin → begin_refusal w entries name ≡ leaf_refusal w (state_after w empty_state entries) name
-begin-few w entries name few = λ i. cond (le_not (length entries) few i) (Some (Room 0 (length entries))) (leaf_refusal w (state_after w empty_state entries) name)
-  where
-    le_not : (n : ℕ) → n ≤ most_events_to_begin → nat_lt most_events_to_begin n ≡ false
-    le_not n le = grind (arith, nat_tests)
-
 pub leaf-none : (w : ℕ) (s : State) (name : List Bool) → is_leaf s.leaves name ≡ false → leaf_refusal w s name ≡ Some NoLeaf
 leaf-none w s name none = λ i. cond (not (none i)) (Some NoLeaf) (cond (nat_lt 64 (length name + w)) (Some Deep) (option_map Splitting (split_number s.splits name)))
 
@@ -85,16 +81,71 @@ leaf-split w s name is short =
     (λ i. cond (not (is i)) (Some NoLeaf) (cond (nat_lt 64 (length name + w)) (Some Deep) (option_map Splitting (split_number s.splits name))))
     ∙ (λ i. cond (le_64 (length name + w) short i) (Some Deep) (option_map Splitting (split_number s.splits name)))
 
--- what lets a split begin
-pub record MayBegin (w : ℕ) (entries : List Entry) (name : List Bool) : Type 0 where
-  pub few : length entries ≤ most_events_to_begin
-  pub leaf : is_leaf (state_after w empty_state entries).leaves name ≡ true
-  pub short : length name + w ≤ 64
-  pub free : is_splitting (state_after w empty_state entries).splits name ≡ false
+-- of two causes the first one comes
+pub first_told : (A B : Type 0) (first later : Option BookFault) (fault : BookFault) → IsRefusedBy {A = A} IsNoFault first (Err fault) → IsRefusedBy {A = B} IsNoFault (first_of first later) (Err fault)
+first_told A B (Some cause) later fault is = again fault cause (same fault cause is)
+  where
+    same : (a b : BookFault) → IsRefusedBy {A = A} IsNoFault (Some b) (Err a) → a ≡ b
+    same a b e = cc e
 
-pub may_begin : (w : ℕ) (entries : List Entry) (name : List Bool) → begin_refusal w entries name ≡ None → MayBegin w entries name
-may_begin w entries name none =
-    by_room (nat_lt most_events_to_begin (length entries)) (is_leaf (state_after w empty_state entries).leaves name) (nat_lt 64 (length name + w)) refl refl refl none
+    again : (a b : BookFault) → a ≡ b → IsRefusedBy {A = B} IsNoFault (Some b) (Err a)
+    again a b e = λ i. Err (e i)
+first_told A B None later fault is = absurd is
+
+-- and where the first one isn't, the later one
+pub first_passed : (first later : Option BookFault) → first ≡ None → first_of first later ≡ later
+first_passed first later none = ap (λ (o : Option BookFault). first_of o later) none
+
+pub refused_later : {A : Type 0} (first later : Option BookFault) (result : Result A BookFault) → first ≡ None → IsRefusedBy IsNoFault later result → IsRefusedBy IsNoFault (first_of first later) result
+refused_later first later result none is = subst (λ (o : Option BookFault). IsRefusedBy IsNoFault o result) (sym (first_passed first later none)) is
+
+-- where neither comes
+pub neither : (first later : Option BookFault) → first_of first later ≡ None → (first ≡ None) × (later ≡ None)
+neither (Some cause) later none = cc none
+neither None later none = (refl, none)
+
+-- a book that is going on has seen no append fail
+pub going_on : (entries : List Entry) → closed_refusal entries ≡ None → failed_cell entries ≡ None
+going_on entries none = no_cell (failed_cell entries) none
+  where
+    no_cell : (o : Option ℕ) → option_map Closed o ≡ None → o ≡ None
+    no_cell (Some n) e = cc e
+    no_cell None e = refl
+
+-- what lets a call be made
+pub record MayCall (entries : List Entry) : Type 0 where
+  pub going : failed_cell entries ≡ None
+  pub few : length entries < most_events
+
+pub may_call : (entries : List Entry) → length entries ≤ most_events → call_refusal entries ≡ None → MayCall entries
+may_call entries most none =
+    let both = neither (closed_refusal entries) (events_refusal entries) none in
+    record { going = going_on entries both.0; few = by_test (length entries == most_events) refl both.1 }
+  where
+    below : (n : ℕ) → n ≤ most_events → (n == most_events) ≡ false → n < most_events
+    below n le e = grind (arith, nat_tests)
+
+    by_test : (b : Bool) → (length entries == most_events) ≡ b → cond b (Some HistoryFull) None ≡ None → length entries < most_events
+    by_test true is e = cc e
+    by_test false is e = below (length entries) most is
+
+-- what lets a split begin
+pub record MayBegin (w : ℕ) (s : State) (entries : List Entry) (cells : ℕ) (name : List Bool) : Type 0 where
+  pub going : failed_cell entries ≡ None
+  pub few : length entries ≤ most_events_to_begin
+  pub room : cells ≤ most_cells_to_begin
+  pub leaf : is_leaf s.leaves name ≡ true
+  pub short : length name + w ≤ 64
+  pub free : is_splitting s.splits name ≡ false
+
+pub may_begin : {I D : Type 0} (w : ℕ) (b : BookView I D) (name : List Bool) → begin_refusal w b name ≡ None → MayBegin w (state_after w b.opening b.entries) b.entries (cells_in b.log) name
+may_begin w b name none =
+    let s = state_after w b.opening b.entries in
+    let cells = cells_in b.log in
+    let n = length b.entries in
+    let first = neither (closed_refusal b.entries) (first_of (room_refusal cells n) (leaf_refusal w s name)) none in
+    let later = neither (room_refusal cells n) (leaf_refusal w s name) first.1 in
+    by_room s n cells (going_on b.entries first.0) (nat_lt most_cells_to_begin cells) (nat_lt most_events_to_begin n) (is_leaf s.leaves name) (nat_lt 64 (length name + w)) refl refl refl refl later.0 later.1
   where
     not_lt : (m n : ℕ) → nat_lt m n ≡ false → n ≤ m
     not_lt m n e = grind (arith, nat_tests)
@@ -103,38 +154,72 @@ may_begin w entries name none =
     no_split (Some n) e = cc e
     no_split None e = refl
 
-    by_room : (room leaf deep : Bool) → nat_lt most_events_to_begin (length entries) ≡ room → is_leaf (state_after w empty_state entries).leaves name ≡ leaf → nat_lt 64 (length name + w) ≡ deep
-        → cond room (Some (Room 0 (length entries))) (cond (not leaf) (Some NoLeaf) (cond deep (Some Deep) (option_map Splitting (split_number (state_after w empty_state entries).splits name)))) ≡ None → MayBegin w entries name
-    by_room true leaf deep r l d e = cc e
-    by_room false false deep r l d e = cc e
-    by_room false true true r l d e = cc e
-    by_room false true false r l d e = record {
-      few = not_lt most_events_to_begin (length entries) r;
+    by_room : (s : State) (n cells : ℕ) → failed_cell b.entries ≡ None → (much many leaf deep : Bool) → nat_lt most_cells_to_begin cells ≡ much → nat_lt most_events_to_begin (length b.entries) ≡ many
+        → is_leaf s.leaves name ≡ leaf → nat_lt 64 (length name + w) ≡ deep
+        → cond (much || many) (Some (Room cells n)) None ≡ None
+        → cond (not leaf) (Some NoLeaf) (cond deep (Some Deep) (option_map Splitting (split_number s.splits name))) ≡ None → MayBegin w s b.entries cells name
+    by_room s n cells going true many leaf deep m r l d room e = cc room
+    by_room s n cells going false true leaf deep m r l d room e = cc room
+    by_room s n cells going false false false deep m r l d room e = cc e
+    by_room s n cells going false false true true m r l d room e = cc e
+    by_room s n cells going false false true false m r l d room e = record {
+      going = going;
+      few = not_lt most_events_to_begin (length b.entries) r;
+      room = not_lt most_cells_to_begin cells m;
       leaf = l;
       short = not_lt 64 (length name + w) d;
-      free = splitting-none (state_after w empty_state entries).splits name (no_split (split_number (state_after w empty_state entries).splits name) e);
+      free = splitting-none s.splits name (no_split (split_number s.splits name) e);
     }
 
--- what lets a split be installed
-pub record MayInstall (w : ℕ) (leaves : List Leaf) (entries : List Entry) (number : ℕ) (name : List Bool) (base : List Row) : Type 0 where
+-- what lets a split end
+pub record MayEnd (entries : List Entry) (cells : ℕ) : Type 0 where
+  pub going : failed_cell entries ≡ None
   pub few : length entries < most_events
-  pub is_open_one : is_open (state_after w empty_state entries).splits number name ≡ true
-  pub has : has_base leaves name base ≡ true
+  pub room : (cells == most_cells) ≡ false
 
-pub may_install : (w : ℕ) (leaves : List Leaf) (entries : List Entry) (number : ℕ) (name : List Bool) (base : List Row) → length entries ≤ most_events
-    → install_refusal w leaves entries number name base ≡ None → MayInstall w leaves entries number name base
-may_install w leaves entries number name base most none =
-    by_tests (length entries == most_events) (is_open (state_after w empty_state entries).splits number name) (has_base leaves name base) refl refl refl none
+pub may_end : (entries : List Entry) (cells : ℕ) → length entries ≤ most_events → end_refusal cells entries ≡ None → MayEnd entries cells
+may_end entries cells most none =
+    let both = neither (call_refusal entries) (cond (cells == most_cells) (Some LogFull) None) none in
+    let call = may_call entries most both.0 in
+    record { going = call.going; few = call.few; room = by_test (cells == most_cells) both.1 }
   where
-    below : (n : ℕ) → n ≤ most_events → (n == most_events) ≡ false → n < most_events
-    below n le e = grind (arith, nat_tests)
+    by_test : (b : Bool) → cond b (Some LogFull) None ≡ None → b ≡ false
+    by_test true e = cc e
+    by_test false e = refl
 
-    by_tests : (full it has : Bool) → (length entries == most_events) ≡ full → is_open (state_after w empty_state entries).splits number name ≡ it → has_base leaves name base ≡ has
-        → cond full (Some HistoryFull) (cond (it && has) None (Some (Stale number))) ≡ None → MayInstall w leaves entries number name base
-    by_tests true it has f o b e = cc e
-    by_tests false false has f o b e = cc e
-    by_tests false true false f o b e = cc e
-    by_tests false true true f o b e = record { few = below (length entries) most f; is_open_one = o; has = b }
+-- what lets a split be installed
+pub record MayInstall {I D : Type 0} (w : ℕ) (leaves : I → List Leaf) (b : BookView I D) (number : ℕ) (name : List Bool) (base : List Row) : Type 0 where
+  pub may : MayEnd b.entries (cells_in b.log)
+  pub is_open_one : is_open (state_after w b.opening b.entries).splits number name ≡ true
+  pub has : has_base (leaves b.index) name base ≡ true
+
+pub may_install : {I D : Type 0} (w : ℕ) (leaves : I → List Leaf) (b : BookView I D) (number : ℕ) (name : List Bool) (base : List Row) → length b.entries ≤ most_events
+    → install_refusal w leaves b number name base ≡ None → MayInstall w leaves b number name base
+may_install w leaves b number name base most none =
+    let it = is_open (state_after w b.opening b.entries).splits number name && has_base (leaves b.index) name base in
+    let both = neither (end_refusal (cells_in b.log) b.entries) (cond it None (Some (Stale number))) none in
+    by_tests (may_end b.entries (cells_in b.log) most both.0) (is_open (state_after w b.opening b.entries).splits number name) (has_base (leaves b.index) name base) refl refl both.1
+  where
+    by_tests : MayEnd b.entries (cells_in b.log) → (it has : Bool) → is_open (state_after w b.opening b.entries).splits number name ≡ it → has_base (leaves b.index) name base ≡ has
+        → cond (it && has) None (Some (Stale number)) ≡ None → MayInstall w leaves b number name base
+    by_tests may false has o b e = cc e
+    by_tests may true false o b e = cc e
+    by_tests may true true o b e = record { may = may; is_open_one = o; has = b }
+
+-- what lets a split be abandoned
+pub record MayAbandon {I D : Type 0} (w : ℕ) (b : BookView I D) (number : ℕ) : Type 0 where
+  pub may : MayEnd b.entries (cells_in b.log)
+  pub is_open_one : is_some (split_name (state_after w b.opening b.entries).splits number) ≡ true
+
+pub may_abandon : {I D : Type 0} (w : ℕ) (b : BookView I D) (number : ℕ) → length b.entries ≤ most_events → abandon_refusal w b number ≡ None → MayAbandon w b number
+may_abandon w b number most none =
+    let it = is_some (split_name (state_after w b.opening b.entries).splits number) in
+    let both = neither (end_refusal (cells_in b.log) b.entries) (cond it None (Some (NotOpen number))) none in
+    record { may = may_end b.entries (cells_in b.log) most both.0; is_open_one = by_test it both.1 }
+  where
+    by_test : (b : Bool) → cond b None (Some (NotOpen number)) ≡ None → b ≡ true
+    by_test true e = refl
+    by_test false e = cc e
 
 -- what there is
 pub some_of : {A : Type 0} (o : Option A) → is_some o ≡ true → (a : A) × (o ≡ Some a)

@@ -10,18 +10,19 @@ use Rattle.std.proofs.lemmas.Bool.Decides.{nat_tests}
 use Rattle.zorder.specs.SameName.{same_name, same_name-decides}
 use Rattle.bucket_versions.specs.Rows.{Rows, as_base}
 use Rattle.index_layer.specs.Leaves.{Leaf, leaf_named}
-use Rattle.plain_list.specs.declared.entries.Entry.{Entry}
 use Rattle.plain_list.specs.declared.entries.Entry.TheVariants.{Begin}
-use Rattle.plain_list.specs.State.{State, OpenSplit, split_name, is_splitting, is_leaf, without_name, empty_state, state_after}
+use Rattle.plain_list.specs.State.{State, OpenSplit, split_name, is_splitting, is_leaf, without_name, state_after}
 use Rattle.plain_list.specs.Size.{is_over, full_leaf}
 use Rattle.plain_list.proofs.Histories.{state_after-append}
 use Rattle.split_prepare.specs.declared.ticket.SplitTicket.{SplitTicket}
 use Rattle.commit_book.specs.BookView.{BookView}
-use Rattle.commit_book.specs.IsBook.{IsBook, most_events}
-use Rattle.commit_book.specs.Refusals.{call_refusal, most_events_to_begin, begin_refusal, is_open, has_base, install_refusal}
+use Rattle.disk_trait.specs.Drive.{Drive}
+use Rattle.kept_log.specs.Journal.{failed_cell, cells_in}
+use Rattle.commit_book.specs.IsBook.{AreBooks}
+use Rattle.commit_book.specs.Refusals.{first_of, room_refusal, leaf_refusal, end_refusal, begin_refusal, is_open, has_base, install_refusal}
 use Rattle.commit_book.specs.SplitSteps.{Begins}
 use Rattle.commit_book.specs.declared.faults.BookFault.{BookFault}
-use Rattle.commit_book.specs.declared.faults.BookFault.TheVariants.{HistoryFull, Room, Splitting, Stale}
+use Rattle.commit_book.specs.declared.faults.BookFault.TheVariants.{Closed, Splitting, Stale}
 use Rattle.commit_book.proofs.KeptLemmas.{leaf_named-replaced}
 use Rattle.commit_book.proofs.RefusalLemmas.{number-none, leaf-split, has_base-named, same_rows-decides}
 use Rattle.commit_book.proofs.SplitHistories.{not-false, tidy-history}
@@ -62,14 +63,20 @@ full_leaf-free w size s name full = let parts = found s.leaves full in record { 
             (ap (λ b. b || is_leaf names name) ((same_name-decides n name).1 one), subst (λ (m : List Bool). length m + w ≤ 64) one parts.0, ap (is_splitting s.splits) (sym one) ∙ parts.1)
         by_test false is there later = let rest = later there in (or-true (same_name n name) (is_leaf names name) rest.0, rest.1, rest.2)
 
--- the begin of a full leaf is refused for want of room alone
-pub begin-full : (w size : ℕ) (entries : List Entry) (name : List Bool) → full_leaf w size (state_after w empty_state entries) ≡ Some name
-    → begin_refusal w entries name ≡ cond (nat_lt most_events_to_begin (length entries)) (Some (Room 0 (length entries))) None
-begin-full w size entries name full =
-    let s = state_after w empty_state entries in
+-- the begin of a full leaf is refused for want of room alone, while no append has failed
+pub begin-full : {I D : Type 0} (w size : ℕ) (b : BookView I D) (name : List Bool) → failed_cell b.entries ≡ None → full_leaf w size (state_after w b.opening b.entries) ≡ Some name
+    → begin_refusal w b name ≡ room_refusal (cells_in b.log) (length b.entries)
+begin-full w size b name going full =
+    let s = state_after w b.opening b.entries in
     let free = full_leaf-free w size s name full in
-    ap (λ (o : Option BookFault). cond (nat_lt most_events_to_begin (length entries)) (Some (Room 0 (length entries))) o)
-    (leaf-split w s name free.leaf free.short ∙ ap (option_map Splitting) (number-none s.splits name free.free))
+    let room = room_refusal (cells_in b.log) (length b.entries) in
+    (λ i. first_of (option_map Closed (going i)) (first_of room (leaf_refusal w s name)))
+    ∙ ap (first_of room) (leaf-split w s name free.leaf free.short ∙ ap (option_map Splitting) (number-none s.splits name free.free))
+    ∙ no_later room
+  where
+    no_later : (o : Option BookFault) → first_of o None ≡ o
+    no_later (Some cause) = refl
+    no_later None = refl
 
 -- a split that was begun last is open
 last_open : (splits : List OpenSplit) (number : ℕ) (name : List Bool) → split_name splits number ≡ None → split_name (splits ++ record { number = number; name = name } ∷ []) number ≡ Some name
@@ -93,23 +100,24 @@ all-without : (name : List Bool) (begun : ℕ) (splits : List OpenSplit) → All
 all-without name begun splits all = all-filter (λ (o : OpenSplit). o.number ≤ begun) (λ (o : OpenSplit). not (same_name o.name name)) splits all
 
 -- a split that was begun is open
-pub open-begun : {I : Type 0} (leaves : I → List Leaf) (w : ℕ) (old new : BookView I) (name : List Bool) (ticket : SplitTicket) → Begins leaves w old new name ticket → IsBook leaves w old
-    → split_name (state_after w empty_state new.entries).splits ticket.number ≡ Some name
-open-begun leaves w old new name ticket begins book =
-    let s = state_after w empty_state old.entries in
+pub open-begun : {I D : Type 0} (leaves : I → List Leaf) (drive : D → Drive) (w : ℕ) (old new : BookView I D) (name : List Bool) (ticket : SplitTicket) → Begins leaves w old new name ticket
+    → AreBooks leaves drive w old new → split_name (state_after w new.opening new.entries).splits ticket.number ≡ Some name
+open-begun leaves drive w old new name ticket begins books =
+    let s = state_after w old.opening old.entries in
     let kept = without_name name s.splits in
-    let tidy = tidy-history w old.entries book.legal in
+    let tidy = tidy-history w old.opening old.entries books.before.opening.rests books.before.legal in
     let none : split_name kept ticket.number ≡ None = ap (split_name kept) begins.number_is ∙ none_above kept s.begun (all-without name s.begun s.splits tidy.numbered) in
-    ap (λ (h : List Entry). split_name (state_after w empty_state h).splits ticket.number) begins.entries
-    ∙ ap (λ (u : State). split_name u.splits ticket.number) (state_after-append w empty_state old.entries (Begin ticket.number name ∷ [])) ∙ last_open kept ticket.number name none
+    (λ i. split_name (state_after w (books.origin.opening i) (begins.entries i)).splits ticket.number)
+    ∙ ap (λ (u : State). split_name u.splits ticket.number) (state_after-append w old.opening old.entries (Begin ticket.number name ∷ [])) ∙ last_open kept ticket.number name none
 
 -- a split that was begun, and prepared at once, is never stale
-pub install-begun : {I : Type 0} (leaves : I → List Leaf) (w : ℕ) (old new : BookView I) (name : List Bool) (ticket : SplitTicket) → Begins leaves w old new name ticket → IsBook leaves w old
-    → install_refusal w (leaves new.index) new.entries ticket.number ticket.name (arc_value ticket.bucket).base ≡ call_refusal new.entries
-install-begun leaves w old new name ticket begins book =
-    let t = state_after w empty_state new.entries in
+pub install-begun : {I D : Type 0} (leaves : I → List Leaf) (drive : D → Drive) (w : ℕ) (old new : BookView I D) (name : List Bool) (ticket : SplitTicket) → Begins leaves w old new name ticket
+    → AreBooks leaves drive w old new
+    → install_refusal w leaves new ticket.number ticket.name (arc_value ticket.bucket).base ≡ end_refusal (cells_in new.log) new.entries
+install-begun leaves drive w old new name ticket begins books =
+    let t = state_after w new.opening new.entries in
     let base = (arc_value ticket.bucket).base in
-    let found : split_name t.splits ticket.number ≡ Some name = open-begun leaves w old new name ticket begins book in
+    let found : split_name t.splits ticket.number ≡ Some name = open-begun leaves drive w old new name ticket begins books in
     let it : is_open t.splits ticket.number ticket.name ≡ true =
     ap (λ (o : Option (List Bool)). option_map_or (λ (n : List Bool). same_name n ticket.name) o false) found ∙ (same_name-decides name ticket.name).1 (sym begins.name_is) in
     let leaf : Leaf = record { name = begins.folds.leaf.name; bucket = as_base begins.folds.leaf.bucket.rows } in
@@ -117,4 +125,9 @@ install-begun leaves w old new name ticket begins book =
     (λ i. leaf_named (begins.name_is i) (begins.folds.leaves i)) ∙ leaf_named-replaced name (as_base begins.folds.leaf.bucket.rows) (leaves old.index) begins.folds.leaf begins.folds.named in
     let has : has_base (leaves new.index) ticket.name base ≡ true =
     has_base-named (leaves new.index) ticket.name base leaf named ∙ (same_rows-decides begins.folds.leaf.bucket.rows base).1 (ap (λ (b : Rows). b.base) (sym begins.folds.bucket_is)) in
-    λ i. cond (length new.entries == most_events) (Some HistoryFull) (cond (it i && has i) None (Some (Stale ticket.number)))
+    let end = end_refusal (cells_in new.log) new.entries in
+    (λ i. first_of end (cond (it i && has i) None (Some (Stale ticket.number)))) ∙ no_later end
+  where
+    no_later : (o : Option BookFault) → first_of o None ≡ o
+    no_later (Some cause) = refl
+    no_later None = refl

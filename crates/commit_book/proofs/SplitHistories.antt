@@ -10,7 +10,7 @@ use Rattle.zorder.specs.SameName.{same_name, same_name-decides}
 use Rattle.index_layer.proofs.LeafKeys.{false_if}
 use Rattle.plain_list.specs.declared.entries.Entry.{Entry}
 use Rattle.plain_list.specs.declared.entries.Entry.TheVariants.{Fail, Call, Begin, Install, Abandon}
-use Rattle.plain_list.specs.State.{State, OpenSplit, is_splitting, is_leaf, may_split, without_name, empty_state, state_after, step, is_possible, is_free, is_fail, is_empty, is_legal_history}
+use Rattle.plain_list.specs.State.{State, OpenSplit, is_splitting, is_leaf, may_split, without_name, state_after, step, is_possible, is_free, is_fail, is_empty, is_legal_history}
 use Rattle.commit_book.proofs.SplitStates.{IsApart, AreApart, IsTidy, all-filter, apart-filter, all-push, all-map, apart-push, none_named, without_name-none}
 
 pub not-false : (b : Bool) → not b ≡ true → b ≡ false
@@ -62,8 +62,12 @@ tidy-step w s (Begin number name) may free tidy =
           (all-push (λ (o : OpenSplit). length o.name + w ≤ 64) s.splits new tidy.short room);
     }
 
-tidy-empty : (w : ℕ) → IsTidy w empty_state
-tidy-empty w = record { apart = tt; numbered = tt; short = tt }
+tidy-rest : (w : ℕ) (s : State) → s.splits ≡ [] → IsTidy w s
+tidy-rest w s none = record {
+  apart = subst AreApart (sym none) tt;
+  numbered = subst (AllByRecursion (λ (o : OpenSplit). o.number ≤ s.begun)) (sym none) tt;
+  short = subst (AllByRecursion (λ (o : OpenSplit). length o.name + w ≤ 64)) (sym none) tt;
+}
 
 -- the parts of a legal history's first step
 pub record FirstStep (w : ℕ) (s : State) (e : Entry) (h : List Entry) : Type 0 where
@@ -96,9 +100,9 @@ tidy-after w s (e ∷ h) legal tidy =
     by_rest (f ∷ g) (inl last) now later = absurd (true≢false (sym last.1))
     by_rest g (inr more) now later = later more now
 
--- the open splits of a legal history from the empty state
-pub tidy-history : (w : ℕ) (h : List Entry) → is_legal_history w empty_state h ≡ true → IsTidy w (state_after w empty_state h)
-tidy-history w h legal = tidy-after w empty_state h legal (tidy-empty w)
+-- the open splits of a legal history from a state with none
+pub tidy-history : (w : ℕ) (o : State) (h : List Entry) → o.splits ≡ [] → is_legal_history w o h ≡ true → IsTidy w (state_after w o h)
+tidy-history w o h none legal = tidy-after w o h legal (tidy-rest w o none)
 
 -- splits are begun one at a time
 pub begun-le : (w : ℕ) (s : State) (h : List Entry) → (state_after w s h).begun ≤ s.begun + length h

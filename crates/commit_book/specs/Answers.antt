@@ -6,7 +6,7 @@ use Rattle.plain_list.specs.declared.ops.Answer.{Answer}
 use Rattle.plain_list.specs.declared.entries.Entry.TheVariants.{Call}
 use Rattle.plain_list.specs.Answer.{answer_of}
 use Rattle.plain_list.specs.History.{world_after, call_count}
-use Rattle.plain_list.specs.State.{empty_state, state_after}
+use Rattle.plain_list.specs.State.{state_after}
 use Rattle.plain_list.specs.Size.{full_leaf}
 use Rattle.commit_book.specs.BookView.{BookView}
 
@@ -29,13 +29,12 @@ IsQuery (Within region) = ⊤
 IsQuery (Near at k) = ⊤
 
 -- the history has one entry more, of this call
-pub record Notes {I : Type 0} (old new : BookView I) (session row : ℕ) (op : Op) (place : ℕ) : Type 0 where
+pub record Notes {I D : Type 0} (old new : BookView I D) (session row : ℕ) (op : Op) (place : ℕ) : Type 0 where
   pub entries : new.entries ≡ old.entries ++ Call session row op ∷ []
   pub place_is : place ≡ call_count new.entries
-  pub bucket : new.bucket ≡ old.bucket
 
 -- the reply at its place, and the leaf that is to be split next
-pub record Replies {I : Type 0} (w : ℕ) (old new : BookView I) (session row : ℕ) (op : Op) (place : ℕ) (answer : Answer) (full : Option (List Bool)) : Type 0 where
+pub record Replies {I D : Type 0} (w : ℕ) (old new : BookView I D) (session row : ℕ) (op : Op) (place : ℕ) (answer : Answer) (full : Option (List Bool)) : Type 0 where
   pub notes : Notes old new session row op place
-  pub answer_is : answer ≡ answer_of (world_after [] old.entries) op
-  pub full_is : full ≡ full_leaf w new.bucket (state_after w empty_state new.entries)
+  pub answer_is : answer ≡ answer_of (world_after old.opening.world old.entries) op
+  pub full_is : full ≡ full_leaf w new.bucket (state_after w new.opening new.entries)

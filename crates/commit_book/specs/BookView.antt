@@ -1,9 +1,13 @@
 -- What a clause sees of a book.
-use Rattle.std.specs.Prelude.{ℕ, List}
+use Rattle.std.specs.Prelude.{ℕ, List, Option}
 use Rattle.plain_list.specs.declared.entries.Entry.{Entry}
+use Rattle.plain_list.specs.State.{State}
+use Rattle.kept_log.specs.KeptView.{KeptView}
 
--- the index, the history of this run, and how many rows a bucket should have at most
-pub record BookView (I : Type 0) : Type 0 where
+-- the index, the state at which the book began, the history of this run, how many rows a bucket should have at most, and the log
+pub record BookView (I D : Type 0) : Type 0 where
   pub index : I
+  pub opening : State
   pub entries : List Entry
   pub bucket : ℕ
+  pub log : Option (KeptView D)

@@ -1,9 +1,11 @@
 -- What holds of each book.
-use Rattle.std.specs.Prelude.{ℕ, ◌≤◌, List, [], length}
-use Rattle.plain_list.specs.State.{IsLegal, empty_state, state_after}
+use Rattle.std.specs.Prelude.{◌≡◌, ℕ, ◌≤◌, List, [], length}
+use Rattle.plain_list.specs.State.{State, IsLegal, state_after}
 use Rattle.plain_list.specs.History.{world_after}
 use Rattle.index_layer.specs.Leaves.{Leaf}
 use Rattle.index_layer.specs.Stands.{Stands}
+use Rattle.disk_trait.specs.Drive.{Drive}
+use Rattle.kept_log.specs.Journal.{KeepsIn, IsSinceIn}
 use Rattle.commit_book.specs.BookView.{BookView}
 use Rattle.commit_book.specs.KeptBases.{KeepsBases}
 
@@ -11,15 +13,29 @@ use Rattle.commit_book.specs.KeptBases.{KeepsBases}
 abbrev pub most_events : ℕ
 most_events = 4194304
 
--- the history is legal from the empty state, the index stands for its world, with its leaves, and the base of each leaf whose split is
--- open has exactly the rows that stood there when it was begun
-pub record IsBook {I : Type 0} (leaves : I → List Leaf) (w : ℕ) (b : BookView I) : Type 0 where
-  pub legal : IsLegal w empty_state b.entries
-  pub stands : Stands (leaves b.index) (world_after [] b.entries) (state_after w empty_state b.entries).leaves
-  pub bases : KeepsBases w (leaves b.index) b.entries
+-- a state at which a book may begin: no split is open, and no more were begun than a log has cells
+pub record IsOpening (s : State) : Type 0 where
+  pub rests : s.splits ≡ []
+  pub begun : s.begun ≤ 16777216
+
+-- The history is legal from the state at which the book began, the index stands for its world, with its leaves, and the base of each leaf
+-- whose split is open has exactly the rows that stood there when it was begun. The log keeps the history, where there is one.
+pub record IsBook {I D : Type 0} (leaves : I → List Leaf) (drive : D → Drive) (w : ℕ) (b : BookView I D) : Type 0 where
+  pub opening : IsOpening b.opening
+  pub legal : IsLegal w b.opening b.entries
+  pub stands : Stands (leaves b.index) (world_after b.opening.world b.entries) (state_after w b.opening b.entries).leaves
+  pub bases : KeepsBases w b.opening (leaves b.index) b.entries
   pub few : length b.entries ≤ most_events
+  pub on_log : KeepsIn drive w b.opening b.entries b.log
+
+-- no call changes at which state a book began, the size of its buckets, and the opening of its log
+pub record SameOrigin {I D : Type 0} (old new : BookView I D) : Type 0 where
+  pub opening : new.opening ≡ old.opening
+  pub bucket : new.bucket ≡ old.bucket
+  pub log : IsSinceIn old.log new.log
 
 -- both books are, before a call and after it
-pub record AreBooks {I : Type 0} (leaves : I → List Leaf) (w : ℕ) (old new : BookView I) : Type 0 where
-  pub before : IsBook leaves w old
-  pub after : IsBook leaves w new
+pub record AreBooks {I D : Type 0} (leaves : I → List Leaf) (drive : D → Drive) (w : ℕ) (old new : BookView I D) : Type 0 where
+  pub before : IsBook leaves drive w old
+  pub after : IsBook leaves drive w new
+  pub origin : SameOrigin old new

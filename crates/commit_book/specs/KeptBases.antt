@@ -1,5 +1,5 @@
 -- What stands under a leaf while its split is open.
-use Rattle.std.specs.Prelude.{◌≡◌, ℕ, ◌&&◌, Bool, List, [], ◌∷◌, ◌++◌, Some}
+use Rattle.std.specs.Prelude.{◌≡◌, ℕ, ◌&&◌, Bool, List, ◌∷◌, ◌++◌, Some}
 use Rattle.zorder.specs.Key.{is_under}
 use Rattle.zorder.specs.declared.points.Placed.{Placed}
 use Rattle.bucket_versions.specs.declared.row.Row.{Row}
@@ -8,7 +8,7 @@ use Rattle.index_layer.specs.Leaves.{Leaf, leaf_named}
 use Rattle.index_layer.specs.Stands.{world_has}
 use Rattle.plain_list.specs.declared.entries.Entry.{Entry}
 use Rattle.plain_list.specs.declared.entries.Entry.TheVariants.{Begin}
-use Rattle.plain_list.specs.State.{split_name, empty_state, state_after}
+use Rattle.plain_list.specs.State.{State, split_name, state_after}
 use Rattle.plain_list.specs.History.{world_after}
 
 -- the base of a leaf has the rows of a world that are under its name, in order, and no others
@@ -23,7 +23,7 @@ pub record KeepsBase (leaves : List Leaf) (world : List Placed) (name : List Boo
   pub base : HasBaseOf world leaf
 
 -- each leaf whose split is still open has the base of the world in which it was begun
-abbrev pub KeepsBases : ℕ → List Leaf → List Entry → Type 0
-KeepsBases w leaves entries =
+abbrev pub KeepsBases : ℕ → State → List Leaf → List Entry → Type 0
+KeepsBases w s leaves entries =
     (before after : List Entry) (number : ℕ) (name : List Bool) → entries ≡ before ++ Begin number name ∷ after
-    → split_name (state_after w empty_state entries).splits number ≡ Some name → KeepsBase leaves (world_after [] before) name
+    → split_name (state_after w s entries).splits number ≡ Some name → KeepsBase leaves (world_after s.world before) name

@@ -1,4 +1,5 @@
 pub mod Answers
+pub mod Appends
 pub mod Beside
 pub mod BookInside
 pub mod BookView

@@ -1,36 +1,115 @@
 -- Why a call of a book is refused: the cause that comes first.
-use Rattle.std.specs.Prelude.{◌≡◌, ℕ, ◌+◌, nat_lt, ◌==◌, Bool, false, not, ◌&&◌, List, [], ◌∷◌, length, if◌then◌else◌, Option, Some, None, is_some, Result, Ok, Err, ⊤}
+use Rattle.std.specs.Prelude.{◌≡◌, ◌⊎◌, ℕ, ◌+◌, nat_lt, ◌==◌, Bool, false, not, ◌&&◌, ◌||◌, List, [], ◌∷◌, ◌++◌, length, if◌then◌else◌, Option, Some, None, is_some, Result, Ok, Err, ⊤}
 use Rattle.std.specs.Option.{option_map, option_map_or}
 use Rattle.std.specs.Cmp.Lexicographic.{pointwise}
 use Rattle.zorder.specs.SameName.{same_name}
 use Rattle.bucket_versions.specs.declared.row.Row.{Row}
 use Rattle.bucket_versions.specs.Rows.{same_row}
 use Rattle.index_layer.specs.Leaves.{Leaf, leaf_named}
+use Rattle.plain_list.specs.declared.ops.Op.{Op}
 use Rattle.plain_list.specs.declared.entries.Entry.{Entry}
-use Rattle.plain_list.specs.State.{State, OpenSplit, split_name, is_leaf, empty_state, state_after}
+use Rattle.plain_list.specs.declared.entries.Entry.TheVariants.{Fail}
+use Rattle.plain_list.specs.declared.entries.Lost.{Lost}
+use Rattle.plain_list.specs.Answer.{answer_of, is_change}
+use Rattle.plain_list.specs.History.{world_after}
+use Rattle.plain_list.specs.State.{State, OpenSplit, split_name, is_leaf, state_after}
+use Rattle.disk_trait.specs.Drive.{Drive}
+use Rattle.kept_log.specs.Journal.{failed_cell, cells_in, RoseIn}
+use Rattle.commit_book.specs.BookView.{BookView}
 use Rattle.commit_book.specs.IsBook.{most_events}
 use Rattle.commit_book.specs.declared.faults.BookFault.{BookFault}
-use Rattle.commit_book.specs.declared.faults.BookFault.TheVariants.{HistoryFull, Memory, Room, Splitting, Deep, NoLeaf, Stale, NotOpen}
+use Rattle.commit_book.specs.declared.faults.BookFault.TheVariants.{Closed, Disk, HistoryFull, LogFull, Memory, Room, Splitting, Deep, NoLeaf, Stale, NotOpen}
 
--- the call is refused by this cause; where there is none, it is done, or memory ran out
-abbrev pub IsRefusedBy : {A : Type 0} → Option BookFault → Result A BookFault → Type 0
-IsRefusedBy (Some cause) result = result ≡ Err cause
-IsRefusedBy None (Ok value) = ⊤
-IsRefusedBy None (Err fault) = fault ≡ Memory
+-- the drive failed
+abbrev pub IsDisk : BookFault → Type 0
+IsDisk (Disk cell) = ⊤
+IsDisk (Closed cell) = ⊥
+IsDisk HistoryFull = ⊥
+IsDisk LogFull = ⊥
+IsDisk Memory = ⊥
+IsDisk (Room cells events) = ⊥
+IsDisk (Splitting number) = ⊥
+IsDisk Deep = ⊥
+IsDisk NoLeaf = ⊥
+IsDisk (Stale number) = ⊥
+IsDisk (NotOpen number) = ⊥
 
--- the call is refused by this cause; where there is none, it is done
-abbrev pub IsRefusedOnlyBy : {A : Type 0} → Option BookFault → Result A BookFault → Type 0
-IsRefusedOnlyBy (Some cause) result = result ≡ Err cause
-IsRefusedOnlyBy None (Ok value) = ⊤
-IsRefusedOnlyBy None (Err fault) = ⊥
+-- memory ran out
+abbrev pub IsMemory : BookFault → Type 0
+IsMemory fault = fault ≡ Memory
 
--- a change, a find or a query
+-- memory ran out, or the drive failed
+abbrev pub IsMemoryOrDisk : BookFault → Type 0
+IsMemoryOrDisk fault = IsMemory fault ⊎ IsDisk fault
+
+-- nothing else comes in the way
+abbrev pub IsNoFault : BookFault → Type 0
+IsNoFault fault = ⊥
+
+-- the call is refused by this cause; where there is none, it is done, or a fault came in the way that is free to come
+abbrev pub IsRefusedBy : {A : Type 0} → (BookFault → Type 0) → Option BookFault → Result A BookFault → Type 0
+IsRefusedBy IsFree (Some cause) result = result ≡ Err cause
+IsRefusedBy IsFree None (Ok value) = ⊤
+IsRefusedBy IsFree None (Err fault) = IsFree fault
+
+-- The append of a cell failed: the book has the one entry that carries the lost step, and is closed.
+pub record Closes {I D : Type 0} (drive : D → Drive) (lost : Lost) (old new : BookView I D) (cell : ℕ) : Type 0 where
+  pub entries : new.entries ≡ old.entries ++ Fail cell lost ∷ []
+  pub cell_is : cell ≡ cells_in old.log
+  pub index : new.index ≡ old.index
+  pub rose : RoseIn drive old.log new.log
+
+-- what a refused call leaves: where the drive failed, a closed book, and else the book as it was
+abbrev pub LeavesRefused : {I D : Type 0} → (D → Drive) → Lost → BookView I D → BookView I D → BookFault → Type 0
+LeavesRefused drive lost old new (Disk cell) = Closes drive lost old new cell
+LeavesRefused drive lost old new (Closed cell) = new ≡ old
+LeavesRefused drive lost old new HistoryFull = new ≡ old
+LeavesRefused drive lost old new LogFull = new ≡ old
+LeavesRefused drive lost old new Memory = new ≡ old
+LeavesRefused drive lost old new (Room cells events) = new ≡ old
+LeavesRefused drive lost old new (Splitting number) = new ≡ old
+LeavesRefused drive lost old new Deep = new ≡ old
+LeavesRefused drive lost old new NoLeaf = new ≡ old
+LeavesRefused drive lost old new (Stale number) = new ≡ old
+LeavesRefused drive lost old new (NotOpen number) = new ≡ old
+
+-- the cause that comes first
+abbrev pub first_of : Option BookFault → Option BookFault → Option BookFault
+first_of (Some cause) later = Some cause
+first_of None later = later
+
+-- an append has failed
+abbrev pub closed_refusal : List Entry → Option BookFault
+closed_refusal entries = option_map Closed (failed_cell entries)
+
+abbrev pub events_refusal : List Entry → Option BookFault
+events_refusal entries = if length entries == most_events then Some HistoryFull else None
+
+-- a query
 abbrev pub call_refusal : List Entry → Option BookFault
-call_refusal entries = if length entries == most_events then Some HistoryFull else None
+call_refusal entries = first_of (closed_refusal entries) (events_refusal entries)
+
+-- the most cells of a log
+abbrev pub most_cells : ℕ
+most_cells = 16777216
+
+-- the end of a split
+abbrev pub end_refusal : ℕ → List Entry → Option BookFault
+end_refusal cells entries = first_of (call_refusal entries) (if cells == most_cells then Some LogFull else None)
+
+-- a change or a find; a find, or a call that changes nothing, has no cell
+abbrev pub update_refusal : {I D : Type 0} → BookView I D → Op → Option BookFault
+update_refusal b op =
+    first_of (call_refusal b.entries)
+    (if (cells_in b.log == most_cells) && is_change (answer_of (world_after b.opening.world b.entries) op) then Some LogFull else None)
 
 -- past so many events no split begins
 abbrev pub most_events_to_begin : ℕ
 most_events_to_begin = 4000000
+
+-- nor past so many cells
+abbrev pub most_cells_to_begin : ℕ
+most_cells_to_begin = 16000000
 
 -- the number of the open split of this name
 abbrev pub split_number : List OpenSplit → List Bool → Option ℕ
@@ -44,11 +123,17 @@ leaf_refusal w s name =
     else if nat_lt 64 (length name + w) then Some Deep
     else option_map Splitting (split_number s.splits name)
 
+-- whether there are too many cells or events for a further split
+abbrev pub has_no_room : ℕ → ℕ → Bool
+has_no_room cells events = nat_lt most_cells_to_begin cells || nat_lt most_events_to_begin events
+
+abbrev pub room_refusal : ℕ → ℕ → Option BookFault
+room_refusal cells events = if has_no_room cells events then Some (Room cells events) else None
+
 -- the begin of a split
-abbrev pub begin_refusal : ℕ → List Entry → List Bool → Option BookFault
-begin_refusal w entries name =
-    if nat_lt most_events_to_begin (length entries) then Some (Room 0 (length entries))
-    else leaf_refusal w (state_after w empty_state entries) name
+abbrev pub begin_refusal : {I D : Type 0} → ℕ → BookView I D → List Bool → Option BookFault
+begin_refusal w b name =
+    first_of (closed_refusal b.entries) (first_of (room_refusal (cells_in b.log) (length b.entries)) (leaf_refusal w (state_after w b.opening b.entries) name))
 
 -- whether two lists of rows are one
 abbrev pub same_rows : List Row → List Row → Bool
@@ -63,15 +148,12 @@ abbrev pub has_base : List Leaf → List Bool → List Row → Bool
 has_base leaves name base = option_map_or (λ (l : Leaf). same_rows l.bucket.base base) (leaf_named name leaves) false
 
 -- the install of a split with this number and name, for which this base was cut
-abbrev pub install_refusal : ℕ → List Leaf → List Entry → ℕ → List Bool → List Row → Option BookFault
-install_refusal w leaves entries number name base =
-    if length entries == most_events then Some HistoryFull
-    else if is_open (state_after w empty_state entries).splits number name && has_base leaves name base then None
-    else Some (Stale number)
+abbrev pub install_refusal : {I D : Type 0} → ℕ → (I → List Leaf) → BookView I D → ℕ → List Bool → List Row → Option BookFault
+install_refusal w leaves b number name base =
+    first_of (end_refusal (cells_in b.log) b.entries)
+    (if is_open (state_after w b.opening b.entries).splits number name && has_base (leaves b.index) name base then None else Some (Stale number))
 
 -- the abandonment of a split
-abbrev pub abandon_refusal : ℕ → List Entry → ℕ → Option BookFault
-abandon_refusal w entries number =
-    if length entries == most_events then Some HistoryFull
-    else if is_some (split_name (state_after w empty_state entries).splits number) then None
-    else Some (NotOpen number)
+abbrev pub abandon_refusal : {I D : Type 0} → ℕ → BookView I D → ℕ → Option BookFault
+abandon_refusal w b number =
+    first_of (end_refusal (cells_in b.log) b.entries) (if is_some (split_name (state_after w b.opening b.entries).splits number) then None else Some (NotOpen number))

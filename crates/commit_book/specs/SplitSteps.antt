@@ -3,18 +3,17 @@ use Rattle.std.specs.Prelude.{◌≡◌, ℕ, ◌+◌, ◌≤◌, Bool, List, []
 use Rattle.std.specs.Arc.{arc_value}
 use Rattle.index_layer.specs.Leaves.{Leaf, AreUnder}
 use Rattle.plain_list.specs.declared.entries.Entry.TheVariants.{Begin, Install, Abandon}
-use Rattle.plain_list.specs.State.{empty_state, state_after}
+use Rattle.plain_list.specs.State.{state_after}
 use Rattle.split_prepare.specs.declared.ticket.SplitTicket.{SplitTicket}
 use Rattle.commit_book.specs.BookView.{BookView}
 use Rattle.commit_book.specs.Divisions.{Folds, Divides}
 
 -- the split has the next number, and the leaf's rows are its base, in the bucket that is handed out
-pub record Begins {I : Type 0} (leaves : I → List Leaf) (w : ℕ) (old new : BookView I) (name : List Bool) (ticket : SplitTicket) : Type 0 where
+pub record Begins {I D : Type 0} (leaves : I → List Leaf) (w : ℕ) (old new : BookView I D) (name : List Bool) (ticket : SplitTicket) : Type 0 where
   pub entries : new.entries ≡ old.entries ++ Begin ticket.number name ∷ []
-  pub number_is : ticket.number ≡ (state_after w empty_state old.entries).begun + 1
+  pub number_is : ticket.number ≡ (state_after w old.opening old.entries).begun + 1
   pub name_is : ticket.name ≡ name
   pub folds : Folds name (leaves old.index) (leaves new.index) (arc_value ticket.bucket)
-  pub bucket : new.bucket ≡ old.bucket
 
 -- the ticket of a split may be prepared
 pub record CanPrepare (w : ℕ) (ticket : SplitTicket) : Type 0 where
@@ -22,13 +21,11 @@ pub record CanPrepare (w : ℕ) (ticket : SplitTicket) : Type 0 where
   pub under : AreUnder ticket.name (arc_value ticket.bucket).base
 
 -- the leaf's children stand in its place, each with the leaf's rows that are under its own name
-pub record Installs {I : Type 0} (leaves : I → List Leaf) (w : ℕ) (old new : BookView I) (number : ℕ) (name : List Bool) : Type 0 where
+pub record Installs {I D : Type 0} (leaves : I → List Leaf) (w : ℕ) (old new : BookView I D) (number : ℕ) (name : List Bool) : Type 0 where
   pub entries : new.entries ≡ old.entries ++ Install number ∷ []
   pub divides : Divides w name (leaves old.index) (leaves new.index)
-  pub bucket : new.bucket ≡ old.bucket
 
 -- the split is ended, and the index is as it was
-pub record Abandons {I : Type 0} (old new : BookView I) (number : ℕ) : Type 0 where
+pub record Abandons {I D : Type 0} (old new : BookView I D) (number : ℕ) : Type 0 where
   pub entries : new.entries ≡ old.entries ++ Abandon number ∷ []
   pub index : new.index ≡ old.index
-  pub bucket : new.bucket ≡ old.bucket

@@ -1,21 +1,30 @@
-//! The book: an index, a map by id and the history of a run, kept in step.
-ghost use Rattle.std.specs.Prelude.{◌≡◌, [], length, IfOk, OnErr};
+//! The book: an index, a map by id, the history of a run and its log, kept in step.
+ghost use Rattle.std.specs.Prelude.{◌≡◌, ◌≤◌, ◌^◌, [], Some, None, length, IfOk, IfErr};
 ghost use Rattle.plain_list.specs.Size.{full_leaf};
 ghost use Rattle.plain_list.specs.State.{empty_state, state_after};
-ghost use Rattle.commit_book.specs.IsBook.{IsBook, AreBooks};
-ghost use Rattle.commit_book.specs.Refusals.{IsRefusedBy, call_refusal};
 ghost use Rattle.plain_list.specs.History.{world_after};
 ghost use Rattle.index_layer.specs.Stands.{Stands};
+ghost use Rattle.recovery.specs.Found.{IsFound};
+ghost use Rattle.kept_log.specs.Kept.{IsOpened, found_state};
+ghost use Rattle.kept_log.specs.Journal.{failed_cell, cells_in, disk_in};
+ghost use Rattle.plain_list.specs.declared.entries.Lost.{Lost};
+ghost use Rattle.commit_book.specs.IsBook.{IsBook, AreBooks};
+ghost use Rattle.commit_book.specs.Refusals.{IsRefusedBy, IsMemory, IsMemoryOrDisk, IsNoFault, LeavesRefused, call_refusal, update_refusal};
 ghost use Rattle.commit_book.specs.Answers.{IsUpdate, IsQuery, Notes, Replies};
 
 mod splits;
 
+use crate::appends::append_call;
 use crate::faults::BookFault;
 use crate::history::History;
 use crate::open_splits::OpenSplits;
+use crate::opening::Opening;
 use crate::table::Table;
+use disk_trait::LogDisk;
 use index_layer::Index;
-use plain_list::{Answer, Entries, Op};
+use kept_log::Journal;
+use plain_list::{Answer, Entries, Entry, Lost, Op};
+use recovery::Opened;
 use std::alloc::Global;
 use std::marker::Model;
 use zorder::{Memory, Name};
@@ -42,58 +51,108 @@ pub struct Snapshot<I: Index> {
 
 /// What a book was made of.
 #[derive(Drop)]
-pub struct BookParts<I: Index> {
+pub struct BookParts<I: Index, D: LogDisk> {
     /// The index at the end.
     pub index: I,
+    /// The drive of the log, where there is one.
+    pub disk: Option<D>,
     /// The history of the run.
     pub entries: Entries,
 }
 
-/// The sequential core of the store.
+/// The sequential core of the store. A change or a step of a split is done once its cell is in the log, where there is one.
 #[derive(Drop)]
-pub struct Book<I: Index> {
+pub struct Book<I: Index, D: LogDisk> {
     table: Table<I>,
     splits: OpenSplits,
     history: History,
+    journal: Journal<D>,
+    /// For contracts alone.
+    opening: Opening<I>,
 }
 
-impl<I: Index> Model for Book<I> {
+impl<I: Index, D: LogDisk> Model for Book<I, D> {
     ghost use Rattle.commit_book.specs.BookView.{BookView};
 
-    ghost Value = { BookView I };
+    ghost Value = { BookView I D };
 
     ghost use Rattle.commit_book.specs.BookInside.{IsInside, book_of};
 
     ghost view = { λ b. book_of b };
 
-    ghost invariant = { λ b. IsInside I.leaves I.WIDTH b };
+    ghost invariant = { λ b. IsInside I.leaves D.drive I.WIDTH b.opening b };
 }
 
-impl<I: Index> Book<I> {
-    /// A book with no points and no entries. `bucket` is from 4 to 4,096.
-    pub fn fresh(alloc: Global, bucket: u32) -> Result<Book<I>, Memory>
-        ensures { IfOk result (λ b. (b.entries ≡ []) × (b.bucket ≡ bucket)) }
+impl<I: Index, D: LogDisk> Book<I, D> {
+    /// A book with no points, no entries and no log. `bucket` is from 4 to 4,096.
+    pub fn fresh(alloc: Global, bucket: u32) -> Result<Book<I, D>, Memory>
+        ensures { IfOk result (λ b. (b.opening ≡ empty_state) × (b.entries ≡ []) × (b.bucket ≡ bucket) × (b.log ≡ None)) }
     {
         let table = Table::fresh(alloc, bucket)?;
         Ok(Book {
+            opening: Opening::of(&table, 0),
             table,
-            splits: OpenSplits::new(alloc),
+            splits: OpenSplits::after(alloc, 0),
             history: History::new(alloc),
+            journal: Journal::none(),
+        })
+    }
+
+    /// A book that goes on with a log as it was opened: with its points and leaves, no open split and no entries. `bucket` is from 4 to
+    /// 4,096. Where memory runs out, what was opened is handed back.
+    pub fn opened(alloc: Global, opened: Opened<D>, bucket: u32) -> Result<Book<I, D>, Opened<D>>
+        requires log { (opened.log.cells ≡ opened.seen.cells) × (opened.log.failed ≡ None) }
+        requires found { IsFound I.WIDTH (2 ^ 24) (D.drive opened.start.value) opened.seen }
+        requires ready { IsOpened I.WIDTH (found_state opened.seen) (D.drive opened.start.value) (D.drive opened.log.disk) }
+        requires later { (D.drive opened.start.value).faults ≤ (D.drive opened.log.disk).faults }
+        ensures opening { IfOk result (λ b. (b.opening ≡ found_state opened.seen) × (b.entries ≡ []) × (b.bucket ≡ bucket)) }
+        ensures log { IfOk result (λ b. b.log ≡ Some (record { disk = opened.log.disk; cells = opened.log.cells; failed = None; start = opened.start.value; first = opened.log.cells })) }
+        ensures back { IfErr result (λ back. back ≡ opened) }
+    {
+        let begun = opened.seen.begun;
+        let leaves = opened.seen.leaves.as_slice();
+        let Ok(table) = Table::built(alloc, &opened.seen.world, leaves, bucket) else {
+            return Err(opened);
+        };
+        Ok(Book {
+            opening: Opening::of(&table, begun),
+            table,
+            splits: OpenSplits::after(alloc, begun),
+            history: History::new(alloc),
+            journal: Journal::opened(opened.log, opened.start),
         })
     }
 
     /// How many entries there are.
     pub fn events(&self) -> u64
         ensures events { result ≡ length self.now.entries }
-        ensures book { IsBook I.leaves I.WIDTH self.now }
+        ensures book { IsBook I.leaves D.drive I.WIDTH self.now }
     {
         self.keep();
         self.history.len() as u64
     }
 
+    /// How many cells the log has: 0 without a log.
+    pub fn cells(&self) -> u64
+        ensures cells { result ≡ cells_in self.now.log }
+        ensures book { IsBook I.leaves D.drive I.WIDTH self.now }
+    {
+        self.keep();
+        self.journal.cells()
+    }
+
+    /// The cell whose append failed, where one did: the book takes no more calls.
+    pub fn closed(&self) -> Option<u64>
+        ensures closed { result ≡ failed_cell self.now.entries }
+        ensures book { IsBook I.leaves D.drive I.WIDTH self.now }
+    {
+        self.keep();
+        self.journal.closed()
+    }
+
     // Tells what the type keeps.
     fn keep(&self)
-        ensures { IsBook I.leaves I.WIDTH self.now }
+        ensures { IsBook I.leaves D.drive I.WIDTH self.now }
     {
         // The table tells that its index stands for its world.
         let _points = self.table.len();
@@ -101,31 +160,40 @@ impl<I: Index> Book<I> {
 
     /// The first leaf in key order that has more than `bucket` points, bits left and no open split.
     pub fn full(&self) -> Option<Name>
-        ensures full { result ≡ full_leaf I.WIDTH self.now.bucket (state_after I.WIDTH empty_state self.now.entries) }
-        ensures book { IsBook I.leaves I.WIDTH self.now }
+        ensures full { result ≡ full_leaf I.WIDTH self.now.bucket (state_after I.WIDTH self.now.opening self.now.entries) }
+        ensures book { IsBook I.leaves D.drive I.WIDTH self.now }
     {
         self.keep();
         self.table.first_free(&self.splits)
     }
 
-    /// Answers a change or a find, and notes the call. After a refusal the book is as it was.
+    /// Answers a change or a find, and notes the call. All memory is taken before the log is written.
     pub fn update(&mut self, session: u8, row: u32, op: &Op) -> Result<Done, BookFault>
         requires { IsUpdate op.now }
         ensures ok { IfOk result (λ d. Replies I.WIDTH self.old self.new session row op.now d.place d.answer d.full) }
-        ensures refused { IsRefusedBy (call_refusal self.old.entries) result }
-        ensures err { OnErr result (self.new ≡ self.old) }
-        ensures book { AreBooks I.leaves I.WIDTH self.old self.new }
+        ensures refused { IsRefusedBy IsMemoryOrDisk (update_refusal self.old op.now) result }
+        ensures err { IfErr result (LeavesRefused D.drive (Lost.Call session row op.now) self.old self.new) }
+        ensures book { AreBooks I.leaves D.drive I.WIDTH self.old self.new }
     {
-        if self.events() >= 4_194_304 {
-            return Err(BookFault::HistoryFull);
-        }
+        self.keep();
+        self.check_update(op)?;
         let Ok(()) = self.history.reserve(1) else {
             return Err(BookFault::Memory);
         };
-        let Ok(answer) = self.table.update(op) else {
+        let Ok(readied) = self.table.readied(op) else {
             self.history.release();
             return Err(BookFault::Memory);
         };
+        // All memory is taken: only the drive can fail from here on.
+        if let Err(at) = append_call(&mut self.journal, op, &readied.answer) {
+            self.table.give_up(readied);
+            let op = *op;
+            self.history
+                .push_fail(at.cell, Lost::Call { session, row, op });
+            self.keep();
+            return Err(BookFault::Disk { cell: at.cell });
+        }
+        let answer = self.table.apply(readied);
         self.history.push_call(session, row, op);
         let place = self.history.calls();
         Ok(Done {
@@ -135,18 +203,39 @@ impl<I: Index> Book<I> {
         })
     }
 
-    /// Notes a call that is answered outside, and hands out the index as it is. After a refusal the book is as it was.
-    pub fn snapshot(&mut self, session: u8, row: u32, op: &Op) -> Result<Snapshot<I>, BookFault>
-        requires { IsQuery op.now }
-        ensures ok { IfOk result (λ s. Notes self.old self.new session row op.now s.place) }
-        ensures index { IfOk result (λ s. Stands (I.leaves s.index) (world_after [] self.new.entries) (state_after I.WIDTH empty_state self.new.entries).leaves) }
-        ensures refused { IsRefusedBy (call_refusal self.old.entries) result }
-        ensures err { OnErr result (self.new ≡ self.old) }
-        ensures book { AreBooks I.leaves I.WIDTH self.old self.new }
+    fn check_update(&self, op: &Op) -> Result<(), BookFault>
+        ensures { IsRefusedBy IsNoFault (update_refusal self.now op.now) result }
     {
+        self.check_call()?;
+        if self.journal.is_full() && self.table.would_change(op) {
+            return Err(BookFault::LogFull);
+        }
+        Ok(())
+    }
+
+    fn check_call(&self) -> Result<(), BookFault>
+        ensures { IsRefusedBy IsNoFault (call_refusal self.now.entries) result }
+    {
+        if let Some(cell) = self.closed() {
+            return Err(BookFault::Closed { cell });
+        }
         if self.events() >= 4_194_304 {
             return Err(BookFault::HistoryFull);
         }
+        Ok(())
+    }
+
+    /// Notes a call that is answered outside, and hands out the index as it is.
+    pub fn snapshot(&mut self, session: u8, row: u32, op: &Op) -> Result<Snapshot<I>, BookFault>
+        requires { IsQuery op.now }
+        ensures ok { IfOk result (λ s. Notes self.old self.new session row op.now s.place) }
+        ensures index { IfOk result (λ s. Stands (I.leaves s.index) (world_after self.new.opening.world self.new.entries) (state_after I.WIDTH self.new.opening self.new.entries).leaves) }
+        ensures refused { IsRefusedBy IsMemory (call_refusal self.old.entries) result }
+        ensures err { IfErr result (λ _. self.new ≡ self.old) }
+        ensures book { AreBooks I.leaves D.drive I.WIDTH self.old self.new }
+    {
+        self.keep();
+        self.check_call()?;
         let Ok(()) = self.history.reserve(1) else {
             return Err(BookFault::Memory);
         };
@@ -161,11 +250,12 @@ impl<I: Index> Book<I> {
     }
 
     /// The parts that the book holds.
-    pub fn into_parts(self) -> BookParts<I>
-        ensures { result ≡ record { index = self.index; entries = self.entries } }
+    pub fn into_parts(self) -> BookParts<I, D>
+        ensures { result ≡ record { index = self.index; disk = disk_in self.log; entries = self.entries } }
     {
         BookParts {
             index: self.table.into_index(),
+            disk: self.journal.give_back(),
             entries: Entries::from_vec(self.history.into_entries()),
         }
     }

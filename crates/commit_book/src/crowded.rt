@@ -46,6 +46,14 @@ impl Crowded {
         }
     }
 
+    /// Names in the order of their keys, with no room for more.
+    pub(crate) fn from_names(names: Vec<Name>) -> Crowded
+        requires { AreRising names.items }
+        ensures { result ≡ record { names = names.items; room = 0 } }
+    {
+        Crowded { names, room: 0 }
+    }
+
     /// The first name in the order of keys that has no open split.
     pub(crate) fn first_free(&self, splits: &OpenSplits) -> Option<Name>
         ensures { result ≡ first_free splits.now.splits self.now.names }

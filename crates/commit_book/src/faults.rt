@@ -1,15 +1,27 @@
-//! Why a book did nothing.
+//! Why a book did nothing, or closed.
 
-/// Why a book did nothing. After each the book is as it was.
+/// Why a book did nothing. After each but `Disk` the book is as it was. A book without a log never answers `Closed`, `Disk` or `LogFull`.
 #[derive(Clone, Copy, Debug, PartialEq, Eq)]
 pub enum BookFault {
+    /// An earlier call answered `Disk` for this cell.
+    Closed {
+        /// The cell whose append failed.
+        cell: u64,
+    },
+    /// The drive failed while this cell was appended. From then on the book is closed: its last entry says which step was lost.
+    Disk {
+        /// The cell whose append failed, which may stand in the log or not.
+        cell: u64,
+    },
     /// There are 4,194,304 events.
     HistoryFull,
+    /// The log has 16,777,216 cells, and the step would need one.
+    LogFull,
     /// Memory ran out.
     Memory,
-    /// There are more than 4,000,000 events, so no split begins any more.
+    /// There are more than 16,000,000 cells or 4,000,000 events, so no split begins any more.
     Room {
-        /// How many log records there are: none without a log.
+        /// How many cells the log has: none without a log.
         cells: u64,
         /// How many events there are.
         events: u64,

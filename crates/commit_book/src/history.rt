@@ -95,6 +95,14 @@ impl History {
         push_within(&mut self.entries, entry);
     }
 
+    /// Appends an entry that was reserved, of a step whose append to the log failed.
+    pub(crate) fn push_fail(&mut self, cell: u64, lost: Lost)
+        requires { 0 < self.old.room }
+        ensures { self.new ≡ record { entries = self.old.entries ++ Entry.Fail cell lost ∷ []; room = self.old.room - 1 } }
+    {
+        self.push_step(Entry::Fail { cell, lost });
+    }
+
     pub(crate) fn into_entries(self) -> Vec<Entry>
         ensures { result.items ≡ self.entries }
     {

@@ -1,13 +1,16 @@
 //! The book: the sequential core of the store, one state machine over any index.
 //!
-//! Contracts see a book as its index, its history and its bucket size. Its type keeps that the history is legal, that the index
-//! stands for the world of that history, with its leaves, and that the base of a leaf whose split is open has the rows of its begin
-//! (`Book::events`, `book`). `update` and `snapshot` append one call each; `update` answers what one plain list answers there.
-//! `begin`, `install` and `abandon` append the steps of a split and leave the world. A refusal changes nothing.
+//! Contracts see a book as its index, the state at which it began, its history since, its bucket size and its log. Its type keeps that
+//! the history is legal, that the index stands for the world of that history, with its leaves, that the base of a leaf whose split is
+//! open has the rows of its begin, and that the log, where there is one, keeps the history (`Book::events`, `book`). `update` and
+//! `snapshot` append one call each; `update` answers what one plain list answers there. `begin`, `install` and `abandon` append the
+//! steps of a split and leave the world. A refusal changes nothing, unless the drive failed: then the history ends with the step that
+//! was lost, and the book is closed.
 //!
-//! Not here yet: the log. Not here: who may call, and when (`book_lock`), and how a bucket is cut (`split_prepare`).
+//! Not here: how a log is opened (`recovery`), who may call, and when (`book_lock`), and how a bucket is cut (`split_prepare`).
 #![tactic(auto)]
 
+mod appends;
 mod book;
 mod changes;
 mod crowded;
@@ -16,6 +19,7 @@ mod faults;
 mod history;
 mod members;
 mod open_splits;
+mod opening;
 mod table;
 mod updates;
 

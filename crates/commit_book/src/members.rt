@@ -1,11 +1,11 @@
 //! The map from ids to points, seen as a world, with an object that is put without taking memory.
-ghost use Rattle.std.specs.Prelude.{◌≡◌, ◌≤◌, ◌<◌, ◌+◌, [], length, true, false, Some, None, OnOk, OnErr, Option};
+ghost use Rattle.std.specs.Prelude.{◌≡◌, ◌≤◌, ◌<◌, ◌+◌, [], length, true, false, Some, None, OnOk, OnErr, IfOk, Option};
 ghost use Rattle.zorder.specs.declared.points.Point.{Point};
 ghost use Rattle.plain_list.specs.World.{IsWorld, place_of};
 ghost use Rattle.plain_list.specs.Answer.{with_member, with_moved, without};
 ghost use Rattle.commit_book.specs.Beside.{place_of_latest};
 
-use plain_list::MemberMap;
+use plain_list::{MemberMap, World};
 use std::alloc::{AllocError, Global};
 use std::marker::Model;
 use zorder::{Placed, Point};
@@ -40,6 +40,17 @@ impl Members {
             points: MemberMap::new(alloc),
             latest: None,
         }
+    }
+
+    /// The objects of a world, in the order of their ids.
+    pub(crate) fn from_world(alloc: Global, world: &World) -> Result<Members, AllocError>
+        ensures members { IfOk result (λ m. m ≡ record { world = world.now; ready = true }) }
+        ensures world { IsWorld world.now }
+    {
+        Ok(Members {
+            points: points_of(alloc, world.as_slice())?,
+            latest: None,
+        })
     }
 
     pub(crate) fn len(&self) -> usize
@@ -103,6 +114,18 @@ impl Members {
             None => self.points.remove(id),
         }
     }
+}
+
+// A map of the objects of a world, one after the other.
+fn points_of(alloc: Global, world: &[Placed]) -> Result<MemberMap, AllocError>
+    requires { IsWorld world.now }
+    ensures { IfOk result (λ points. points ≡ world.now) }
+{
+    let mut points = MemberMap::new(alloc);
+    for member in world {
+        points.insert(member.id, member.at)?;
+    }
+    Ok(points)
 }
 
 // Where the latest object is, if it has this id.

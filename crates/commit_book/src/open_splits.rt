@@ -37,12 +37,13 @@ impl Model for OpenSplits {
 }
 
 impl OpenSplits {
-    pub(crate) fn new(alloc: Global) -> OpenSplits
-        ensures { result ≡ record { splits = []; begun = 0; room = 0 } }
+    /// No open split, where so many were begun before.
+    pub(crate) fn after(alloc: Global, begun: u64) -> OpenSplits
+        ensures { result ≡ record { splits = []; begun = begun; room = 0 } }
     {
         OpenSplits {
             splits: Vec::new(alloc),
-            begun: 0,
+            begun,
             room: 0,
         }
     }
@@ -90,11 +91,18 @@ impl OpenSplits {
         Ok(())
     }
 
-    /// Begins a split, for which memory was taken, and gives its number.
-    pub(crate) fn push(&mut self, name: &Name) -> u64
+    /// The number of the split that is begun next.
+    pub(crate) fn next_number(&self) -> u64
+        requires { self.now.begun < 2 ^ 63 }
+        ensures { result ≡ self.now.begun + 1 }
+    {
+        self.begun + 1
+    }
+
+    /// Begins a split, for which memory was taken.
+    pub(crate) fn push(&mut self, name: &Name)
         requires room { 0 < self.old.room }
         requires few { self.old.begun < 2 ^ 63 }
-        ensures number { result ≡ self.old.begun + 1 }
         ensures splits { self.new.splits ≡ self.old.splits ++ record { number = self.old.begun + 1; name = name.now } ∷ [] }
         ensures begun { self.new.begun ≡ self.old.begun + 1 }
     {
@@ -104,7 +112,6 @@ impl OpenSplits {
             number: self.begun,
             name: *name,
         });
-        self.begun
     }
 
     /// Ends a split.

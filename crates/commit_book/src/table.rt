@@ -3,7 +3,7 @@ ghost use Rattle.std.specs.Prelude.{◌≡◌, ◌+◌, ◌-◌, ◌<◌, ◌≤
 ghost use Rattle.std.specs.Arc.{arc_value};
 ghost use Rattle.std.specs.List.{AllByRecursion, find};
 ghost use Rattle.plain_list.specs.World.{IsWorld, place_of};
-ghost use Rattle.plain_list.specs.Answer.{with_member, with_moved, without, answer_of};
+ghost use Rattle.plain_list.specs.Answer.{with_member, with_moved, without, answer_of, is_change};
 ghost use Rattle.plain_list.specs.Size.{is_over};
 ghost use Rattle.plain_list.specs.State.{is_splitting, split_leaf};
 ghost use Rattle.split_prepare.specs.Cut.{cut};
@@ -14,6 +14,8 @@ ghost use Rattle.commit_book.specs.Changes.{bases_of};
 ghost use Rattle.commit_book.specs.Updates.{Updates};
 ghost use Rattle.commit_book.specs.Readied.{CanPut, CanMove, CanRemove, CanDo, IsReadied, Readies, after_effect, names_set};
 ghost use Rattle.commit_book.specs.Divisions.{Folds, IsDivided, SomeLeaf};
+
+mod built;
 
 use crate::changes::{Changed, with_row, without_row};
 use crate::crowded::{Crowded, Mark};
@@ -96,16 +98,18 @@ impl<I: Index> Table<I> {
         self.members.place(id)
     }
 
-    /// Answers a change or a find as one plain list does.
-    pub(crate) fn update(&mut self, op: &Op) -> Result<Answer, Memory>
-        requires { IsUpdate op.now }
-        ensures ok { IfOk result (λ answer. Updates (I.leaves self.old.index) (I.leaves self.new.index) self.old.world self.new.world op.now answer) }
-        ensures size { self.new.size ≡ self.old.size }
-        ensures room { self.new.room ≡ self.old.room }
-        ensures err { OnErr result (self.new ≡ self.old) }
+    /// Whether an operation would change the world.
+    pub(crate) fn would_change(&self, op: &Op) -> bool
+        ensures { result ≡ is_change (answer_of self.now.world op.now) }
     {
-        let readied = self.readied(op)?;
-        Ok(self.apply(readied))
+        match *op {
+            Op::Put { id, .. } => self.place(id).is_none() && self.len() < 1_048_576,
+            Op::Move { id, .. } => self.place(id).is_some(),
+            Op::Remove { id } => self.place(id).is_some(),
+            Op::Find { .. } => false,
+            Op::Within { .. } => false,
+            Op::Near { .. } => false,
+        }
     }
 
     /// Takes all memory to answer a change or a find. The table stays as it is but for room, for `apply` or `give_up`: between the two a

@@ -1,6 +1,5 @@
 //! Changes of a table that have all their memory.
 ghost use Rattle.std.specs.Prelude.{◌≡◌};
-ghost use Rattle.plain_list.specs.Answer.{is_change};
 ghost use Rattle.commit_book.specs.Readied.{names_set};
 
 use crate::changes::Changed;
@@ -44,18 +43,6 @@ pub(crate) struct Readied<I: Index> {
     pub(crate) op: Op,
     pub(crate) answer: Answer,
     pub(crate) effect: Effect<I>,
-}
-
-impl<I: Index> Readied<I> {
-    /// Whether the operation changes the world.
-    pub(crate) fn is_change(&self) -> bool
-        ensures { result ≡ is_change self.now.answer }
-    {
-        matches!(
-            self.answer,
-            Answer::Done | Answer::Moved(_) | Answer::Gone(_)
-        )
-    }
 }
 
 impl<I: Index> Effect<I> {

@@ -1,25 +1,30 @@
 //! The steps of a split: its begin, and its install or its abandonment.
-ghost use Rattle.std.specs.Prelude.{◌≡◌, IfOk, OnOk, OnErr};
+ghost use Rattle.std.specs.Prelude.{◌≡◌, ◌+◌, length, IfOk, IfErr, OnOk};
+ghost use Rattle.plain_list.specs.State.{state_after};
+ghost use Rattle.plain_list.specs.declared.entries.Lost.{Lost};
 ghost use Rattle.commit_book.specs.IsBook.{AreBooks};
-ghost use Rattle.commit_book.specs.Refusals.{IsRefusedBy, IsRefusedOnlyBy, begin_refusal, has_base, install_refusal, abandon_refusal};
+ghost use Rattle.commit_book.specs.Refusals.{IsRefusedBy, IsDisk, IsMemoryOrDisk, IsNoFault, LeavesRefused, begin_refusal, room_refusal, leaf_refusal, end_refusal, has_base, install_refusal, abandon_refusal};
+ghost use Rattle.kept_log.specs.Journal.{cells_in};
 ghost use Rattle.commit_book.specs.SplitSteps.{Begins, CanPrepare, Installs, Abandons};
 
 use crate::book::Book;
 use crate::faults::BookFault;
 use bucket_versions::Row;
+use cell_format::Cell;
+use disk_trait::LogDisk;
 use index_layer::Index;
-use plain_list::Entry;
+use plain_list::{Entry, Lost};
 use split_prepare::{Prepared, SplitTicket};
 use zorder::Name;
 
-impl<I: Index> Book<I> {
+impl<I: Index, D: LogDisk> Book<I, D> {
     /// Begins a split: the leaf's rows become its base, and stay that until the split ends. The entry that ends it has its memory.
     pub fn begin(&mut self, name: &Name) -> Result<SplitTicket, BookFault>
         ensures ok { IfOk result (λ t. Begins I.leaves I.WIDTH self.old self.new name.now t) }
         ensures ticket { IfOk result (λ t. CanPrepare I.WIDTH t) }
-        ensures refused { IsRefusedBy (begin_refusal I.WIDTH self.old.entries name.now) result }
-        ensures err { OnErr result (self.new ≡ self.old) }
-        ensures book { AreBooks I.leaves I.WIDTH self.old self.new }
+        ensures refused { IsRefusedBy IsMemoryOrDisk (begin_refusal I.WIDTH self.old name.now) result }
+        ensures err { IfErr result (LeavesRefused D.drive (Lost.Begin ((state_after I.WIDTH self.old.opening self.old.entries).begun + 1) name.now) self.old self.new) }
+        ensures book { AreBooks I.leaves D.drive I.WIDTH self.old self.new }
     {
         self.keep();
         self.check_begin(name)?;
@@ -32,10 +37,17 @@ impl<I: Index> Book<I> {
         let Ok(()) = self.history.reserve(2) else {
             return Err(BookFault::Memory);
         };
-        // All memory is taken: nothing fails from here on.
-        let bucket = self.table.fold(folded);
-        let number = self.splits.push(name);
+        // All memory is taken: only the drive can fail from here on.
+        let number = self.splits.next_number();
         let name = *name;
+        if let Err(at) = self.journal.append(&Cell::Begin { number, name }) {
+            self.history
+                .push_fail(at.cell, Lost::Begin { number, name });
+            self.keep();
+            return Err(BookFault::Disk { cell: at.cell });
+        }
+        let bucket = self.table.fold(folded);
+        self.splits.push(&name);
         self.history.push_step(Entry::Begin { number, name });
         self.keep();
         Ok(SplitTicket {
@@ -46,12 +58,29 @@ impl<I: Index> Book<I> {
     }
 
     fn check_begin(&self, name: &Name) -> Result<(), BookFault>
-        ensures { IsRefusedOnlyBy (begin_refusal I.WIDTH self.now.entries name.now) result }
+        ensures { IsRefusedBy IsNoFault (begin_refusal I.WIDTH self.now name.now) result }
     {
-        let events = self.events();
-        if events > 4_000_000 {
-            return Err(BookFault::Room { cells: 0, events });
+        if let Some(cell) = self.closed() {
+            return Err(BookFault::Closed { cell });
         }
+        self.check_room()?;
+        self.check_leaf(name)
+    }
+
+    fn check_room(&self) -> Result<(), BookFault>
+        ensures { IsRefusedBy IsNoFault (room_refusal (cells_in self.now.log) (length self.now.entries)) result }
+    {
+        let cells = self.cells();
+        let events = self.events();
+        if cells > 16_000_000 || events > 4_000_000 {
+            return Err(BookFault::Room { cells, events });
+        }
+        Ok(())
+    }
+
+    fn check_leaf(&self, name: &Name) -> Result<(), BookFault>
+        ensures { IsRefusedBy IsNoFault (leaf_refusal I.WIDTH (state_after I.WIDTH self.now.opening self.now.entries) name.now) result }
+    {
         if !self.table.has_leaf(name) {
             return Err(BookFault::NoLeaf);
         }
@@ -68,9 +97,9 @@ impl<I: Index> Book<I> {
     pub fn install(&mut self, prepared: &Prepared) -> Result<(), BookFault>
         requires { prepared.now.width ≡ I.WIDTH }
         ensures ok { OnOk result (Installs I.leaves I.WIDTH self.old self.new prepared.now.number prepared.now.name) }
-        ensures refused { IsRefusedBy (install_refusal I.WIDTH (I.leaves self.old.index) self.old.entries prepared.now.number prepared.now.name prepared.now.base) result }
-        ensures err { OnErr result (self.new ≡ self.old) }
-        ensures book { AreBooks I.leaves I.WIDTH self.old self.new }
+        ensures refused { IsRefusedBy IsMemoryOrDisk (install_refusal I.WIDTH I.leaves self.old prepared.now.number prepared.now.name prepared.now.base) result }
+        ensures err { IfErr result (LeavesRefused D.drive (Lost.Install prepared.now.number) self.old self.new) }
+        ensures book { AreBooks I.leaves D.drive I.WIDTH self.old self.new }
     {
         self.keep();
         self.check_install(prepared)?;
@@ -78,21 +107,25 @@ impl<I: Index> Book<I> {
         let Ok(divided) = self.table.divided(&name, prepared.children()) else {
             return Err(BookFault::Memory);
         };
-        // All memory is taken: nothing fails from here on.
-        self.table.divide(divided);
-        self.splits.remove(prepared.number());
+        // All memory is taken: only the drive can fail from here on.
         let number = prepared.number();
+        if let Err(at) = self.journal.append(&Cell::Install { number }) {
+            self.table.release();
+            self.history.push_fail(at.cell, Lost::Install { number });
+            self.keep();
+            return Err(BookFault::Disk { cell: at.cell });
+        }
+        self.table.divide(divided);
+        self.splits.remove(number);
         self.history.push_step(Entry::Install { number });
         self.keep();
         Ok(())
     }
 
     fn check_install(&self, prepared: &Prepared) -> Result<(), BookFault>
-        ensures { IsRefusedOnlyBy (install_refusal I.WIDTH (I.leaves self.now.index) self.now.entries prepared.now.number prepared.now.name prepared.now.base) result }
+        ensures { IsRefusedBy IsNoFault (install_refusal I.WIDTH I.leaves self.now prepared.now.number prepared.now.name prepared.now.base) result }
     {
-        if self.events() >= 4_194_304 {
-            return Err(BookFault::HistoryFull);
-        }
+        self.check_end()?;
         let number = prepared.number();
         let name = prepared.name();
         if self.splits.is_open(number, &name) && self.has_base(&name, prepared.base_rows()) {
@@ -100,6 +133,17 @@ impl<I: Index> Book<I> {
         } else {
             Err(BookFault::Stale { number })
         }
+    }
+
+    // Whether a split may end: the book isn't closed, and has room for an entry and a cell.
+    fn check_end(&self) -> Result<(), BookFault>
+        ensures { IsRefusedBy IsNoFault (end_refusal (cells_in self.now.log) self.now.entries) result }
+    {
+        self.check_call()?;
+        if self.journal.is_full() {
+            return Err(BookFault::LogFull);
+        }
+        Ok(())
     }
 
     // Whether the leaf of a name has this base.
@@ -112,22 +156,33 @@ impl<I: Index> Book<I> {
         }
     }
 
-    /// Ends a split, and leaves the index as it is.
+    /// Ends a split, and leaves the index as it is. It takes no memory.
     pub fn abandon(&mut self, number: u64) -> Result<(), BookFault>
         ensures ok { OnOk result (Abandons self.old self.new number) }
-        ensures refused { IsRefusedOnlyBy (abandon_refusal I.WIDTH self.old.entries number) result }
-        ensures err { OnErr result (self.new ≡ self.old) }
-        ensures book { AreBooks I.leaves I.WIDTH self.old self.new }
+        ensures refused { IsRefusedBy IsDisk (abandon_refusal I.WIDTH self.old number) result }
+        ensures err { IfErr result (LeavesRefused D.drive (Lost.Abandon number) self.old self.new) }
+        ensures book { AreBooks I.leaves D.drive I.WIDTH self.old self.new }
     {
-        if self.events() >= 4_194_304 {
-            return Err(BookFault::HistoryFull);
-        }
-        if self.splits.name(number).is_none() {
-            return Err(BookFault::NotOpen { number });
+        self.keep();
+        self.check_abandon(number)?;
+        if let Err(at) = self.journal.append(&Cell::Abandon { number }) {
+            self.history.push_fail(at.cell, Lost::Abandon { number });
+            self.keep();
+            return Err(BookFault::Disk { cell: at.cell });
         }
         self.splits.remove(number);
         self.history.push_step(Entry::Abandon { number });
         self.keep();
         Ok(())
+    }
+
+    fn check_abandon(&self, number: u64) -> Result<(), BookFault>
+        ensures { IsRefusedBy IsNoFault (abandon_refusal I.WIDTH self.now number) result }
+    {
+        self.check_end()?;
+        match self.splits.name(number) {
+            Some(_) => Ok(()),
+            None => Err(BookFault::NotOpen { number }),
+        }
     }
 }

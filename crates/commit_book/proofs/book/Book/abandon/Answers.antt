@@ -1,14 +1,41 @@
-use Rattle.std.proofs.Common.{◌≡◌, ◌<◌, not, length, refl, sym, ap, ◌∙◌, arith}
+use Rattle.std.proofs.Common.{◌≡◌, List, [], ◌∷◌, ◌++◌, Some, refl, ap, ◌∙◌}
+use Rattle.cell_format.specs.declared.cell.Cell.TheVariants as cell
+use Rattle.plain_list.specs.declared.entries.Entry.TheVariants.{Fail, Abandon}
+use Rattle.plain_list.specs.declared.entries.Lost.TheVariants as lost
+use Rattle.plain_list.specs.State.{OpenSplit, split_name, state_after}
+use Rattle.commit_book.specs.BookInside.{book_of}
 use Rattle.commit_book.specs.Events.{Events}
-use Rattle.commit_book.specs.IsBook.{most_events}
-use Rattle.commit_book.proofs.BookStates.{inside-abandon}
-use Rattle.commit_book.proofs.RefusalLemmas.{some_of}
+use Rattle.commit_book.proofs.BookStates.{inside-abandon, inside-fail}
+use Rattle.commit_book.proofs.RefusalLemmas.{MayAbandon, may_abandon, passed, some_of}
+use Rattle.commit_book.proofs.SplitCells.{abandon_may, keeps-added, keeps-missed}
 use Rattle.commit_book.proofs.book.Book.abandon.Goals as goal
 
 pub invariant_of-self : goal.invariant_of-self
 invariant_of-self g c =
-    let name = some_of c.name.result (c.is_none.ensures ∙ ap not c.if-is_none.false) in
-    let events : c.events.result ≡ length c.self.inside.history.entries = rw (← c.self.view_is) at c.events.ensures.events in
-    let few : length c.self.inside.history.entries < most_events = omega (arith, events, c.if-events-ge4194304.false) in
-    inside-abandon g.I.Index.leaves g.I.Index.WIDTH c.self.inside _ c.self.invariant c.args.number name.0 few (sym c.name.ensures ∙ name.1) refl
-    (ap (λ (v : Events). v.entries) c.push_step.ensures) (ap (λ (v : Events). v.room) c.push_step.ensures) c.remove.ensures.splits c.remove.ensures.begun
+    let w = g.I.Index.WIDTH in
+    let number = c.args.number in
+    let o = c.self.inside.opening in
+    let h = c.self.inside.history.entries in
+    let s = state_after w o h in
+    let may : MayAbandon w (book_of c.self.inside) number = may_abandon w (book_of c.self.inside) number c.self.invariant.few (passed _ _ (rw (← c.self.view_is) at c.in_ok-check_abandon.ensures)) in
+    let name = some_of (split_name s.splits number) may.is_open_one in
+    let entries : c.push_fail.new.self.entries ≡ h ++ Fail c.in-Err.at.cell (lost.Abandon number) ∷ [] = ap (λ (v : Events). v.entries) c.push_fail.ensures in
+    inside-fail g.I.Index.leaves g.D.LogDisk.drive w o c.self.inside _ c.self.invariant may.may.going
+    (keeps-missed g.D.LogDisk.drive w o h _ _ c.self.invariant.legal may.may.going c.self.invariant.on_log (Abandon number) (cell.Abandon number) refl (abandon_may w s number name.0 name.1)
+    _ _ (lost.Abandon number) entries refl c.in-Err.ensures.lost)
+    c.in-Err.at.cell (lost.Abandon number) may.may.few entries refl refl refl refl
+
+pub invariant_of-self-2 : goal.invariant_of-self-2
+invariant_of-self-2 g c =
+    let w = g.I.Index.WIDTH in
+    let number = c.args.number in
+    let o = c.self.inside.opening in
+    let h = c.self.inside.history.entries in
+    let s = state_after w o h in
+    let may : MayAbandon w (book_of c.self.inside) number = may_abandon w (book_of c.self.inside) number c.self.invariant.few (passed _ _ (rw (← c.self.view_is) at c.in_ok-check_abandon.ensures)) in
+    let name = some_of (split_name s.splits number) may.is_open_one in
+    let found : split_name c.self.inside.splits.splits number ≡ Some name.0 = ap (λ (os : List OpenSplit). split_name os number) c.self.invariant.splits ∙ name.1 in
+    let entries : c.push_step.new.self.entries ≡ h ++ Abandon number ∷ [] = ap (λ (v : Events). v.entries) c.push_step.ensures in
+    inside-abandon g.I.Index.leaves g.D.LogDisk.drive w o c.self.inside _ c.self.invariant may.may.going
+    (keeps-added g.D.LogDisk.drive w o h _ _ c.self.invariant.legal may.may.going c.self.invariant.on_log (Abandon number) (cell.Abandon number) refl (abandon_may w s number name.0 name.1) _ entries c.in_default.ensures.ok)
+    number name.0 may.may.few found refl entries (ap (λ (v : Events). v.room) c.push_step.ensures) c.remove.ensures.splits c.remove.ensures.begun

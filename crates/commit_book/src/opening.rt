@@ -1,0 +1,37 @@
+//! The state at which a book began.
+ghost use Rattle.std.specs.Prelude.{◌≡◌, []};
+ghost use Rattle.index_layer.specs.Leaves.{names_of};
+
+use crate::table::Table;
+use index_layer::Index;
+use std::marker::Model;
+use std::snapshot::Snapshot;
+
+/// The state at which a book began, for contracts alone.
+#[derive(Drop)]
+pub(crate) struct Opening<I: Index> {
+    table: Snapshot<Table<I>>,
+    begun: Snapshot<u64>,
+}
+
+impl<I: Index> Model for Opening<I> {
+    ghost use Rattle.std.specs.Prelude.{[]};
+    ghost use Rattle.index_layer.specs.Leaves.{names_of};
+    ghost use Rattle.plain_list.specs.State.{State};
+
+    ghost Value = { State };
+
+    ghost view = { λ o. record { world = o.table.value.world; leaves = names_of (I.leaves o.table.value.index); splits = []; begun = o.begun.value } };
+}
+
+impl<I: Index> Opening<I> {
+    /// The state of a table at which no split is open, where so many were begun before.
+    pub(crate) fn of(table: &Table<I>, begun: u64) -> Opening<I>
+        ensures { result ≡ record { world = table.now.world; leaves = names_of (I.leaves table.now.index); splits = []; begun = begun } }
+    {
+        Opening {
+            table: Snapshot::of(table),
+            begun: Snapshot::of(&begun),
+        }
+    }
+}
