@@ -56,13 +56,13 @@ row_place-calls n row (Abandon number ∷ h) = row_place-calls n row h
 row_place-calls n row (Fail cell lost ∷ h) = row_place-calls n row h
 
 -- so are the lines
-pub lines_of-calls : (rows : ℕ) (h : List Entry) → lines_of [] rows h ≡ lines_of [] rows (calls_alone h)
-lines_of-calls rows h = λ i. title_line ++ flat_map (λ row. each row i) (range_with_len 1 rows)
+pub lines_of-calls : (world : List Placed) (rows : ℕ) (h : List Entry) → lines_of world rows h ≡ lines_of world rows (calls_alone h)
+lines_of-calls world rows h = λ i. title_line ++ flat_map (λ row. each row i) (range_with_len 1 rows)
   where
-    by_place : (row : ℕ) (p : Option ℕ) → line_at [] h row p ≡ line_at [] (calls_alone h) row p
+    by_place : (row : ℕ) (p : Option ℕ) → line_at world h row p ≡ line_at world (calls_alone h) row p
     by_place row None = refl
     by_place row (Some zero) = refl
-    by_place row (Some (suc n)) = ap (λ (l : List Answer). line_if row (suc n) (slice_get l n)) (replies-calls [] h)
+    by_place row (Some (suc n)) = ap (λ (l : List Answer). line_if row (suc n) (slice_get l n)) (replies-calls world h)
 
-    each : (row : ℕ) → line_at [] h row (row_place row h) ≡ line_at [] (calls_alone h) row (row_place row (calls_alone h))
-    each row = ap (line_at [] h row) (row_place-calls 0 row h) ∙ by_place row (row_place row (calls_alone h))
+    each : (row : ℕ) → line_at world h row (row_place row h) ≡ line_at world (calls_alone h) row (row_place row (calls_alone h))
+    each row = ap (line_at world h row) (row_place-calls 0 row h) ∙ by_place row (row_place row (calls_alone h))

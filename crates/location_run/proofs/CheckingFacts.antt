@@ -1,14 +1,10 @@
 -- How `check` ends.
-use Rattle.std.proofs.Common.{◌≡◌, ◌⊎◌, inl, inr, ◌∙◌, ℕ, ◌≤◌, List, length, Option, Some, None, Result, Ok, Err, refl, sym, ap, subst, arith}
+use Rattle.std.proofs.Common.{◌≡◌, ◌⊎◌, inl, inr, ◌∙◌, ℕ, List, length, Option, Some, None, Ok, Err, refl, ap, subst, arith}
 use Rattle.causes.specs.Causes.{Rose}
-use Rattle.disk_trait.specs.Drive.{Drive, Stays}
-use Rattle.cell_format.specs.declared.cell.Cell.{Cell}
-use Rattle.recovery.specs.Found.{IsFound, IsFree}
-use Rattle.recovery.specs.Recovers.{Recovers}
-use Rattle.recovery.specs.Faults.{IsFault, IsInBytes}
+use Rattle.disk_trait.specs.Drive.{Drive}
+use Rattle.recovery.specs.Found.{IsFound}
 use Rattle.recovery.specs.declared.seen.Seen.{Seen}
 use Rattle.recovery.specs.declared.seen.OpenFault.{OpenFault}
-use Rattle.recovery.specs.declared.seen.OpenFault.TheVariants as open_fault
 use Rattle.csv_rows.specs.declared.rows.LogCounts.{LogCounts}
 use Rattle.csv_rows.specs.declared.rows.Refusal.{Refusal}
 use Rattle.csv_rows.specs.declared.rows.Refusal.TheVariants as refusal
@@ -17,7 +13,7 @@ use Rattle.csv_rows.specs.LogLines.{counts_text}
 use Rattle.location_run.specs.Status.{status_of, WritesLines}
 use Rattle.location_run.specs.Taking.{TakesLine}
 use Rattle.location_run.specs.Ending.{EndsWriting, EndsRefused}
-use Rattle.location_run.specs.Checking.{IsCheckingCause, IsDecided, IsDecidedBy, EndsChecking, FindsCells, TellsCells, counts_after, counts_of, log_refusal, most_cells}
+use Rattle.location_run.specs.Checking.{IsCheckingCause, IsDecided, IsDecidedBy, TellsCells, counts_after, counts_of, log_refusal, most_cells}
 
 -- the counts of what was found are those of its cells
 found-counts : (old : Drive) (seen : Seen) (found : IsFound 1 most_cells old seen) → counts_of seen ≡ counts_after found.cells
@@ -76,7 +72,7 @@ checking-status old new status before after old_faults faults (inr (why, cause, 
     by_cause (inr (inr (inr e))) = record { accepted = λ s. omega (arith, is, e, s); unread = λ s. omega (arith, is, e, s); sink = λ s. absurd (omega (arith, is, e, s)); drive = λ s. absurd (omega (arith, is, e, s)) }
 
 -- the lines are written of what was found
-pub decided-found : (old new : Drive) (seen : Seen) (text : List ℕ) (status : ℕ) (before after : Option (List ℕ)) (old_faults faults : ℕ) → IsDecidedBy {T = Seen} old new (Ok seen) → EndsWriting text status before after old_faults faults
+pub decided-found : (old new : Drive) (seen : Seen) (text : List ℕ) (status : ℕ) (before after : Option (List ℕ)) (old_faults faults : ℕ) → IsDecidedBy {T = Seen} most_cells old new (Ok seen) → EndsWriting text status before after old_faults faults
     → IsDecided old new status before after old_faults faults
 decided-found old new seen text status before after old_faults faults by ends = record {
   exact = λ bytes fault told shown is calm. absurd (by.exact bytes fault told shown is calm);
@@ -88,7 +84,7 @@ decided-found old new seen text status before after old_faults faults by ends = 
     written (inr (e, rose, front)) quiet = absurd (quiet rose)
 
 -- the line of a refusal is put
-pub decided-refused : (old new : Drive) (why : Refusal) (status : ℕ) (before after : Option (List ℕ)) (old_faults faults : ℕ) → IsDecidedBy {T = Seen} old new (Err why) → status ≡ status_of why
+pub decided-refused : (old new : Drive) (why : Refusal) (status : ℕ) (before after : Option (List ℕ)) (old_faults faults : ℕ) → IsDecidedBy {T = Seen} most_cells old new (Err why) → status ≡ status_of why
     → TakesLine (refusal_text why) before after old_faults faults → IsDecided old new status before after old_faults faults
 decided-refused old new why status before after old_faults faults by is line = record {
   exact = λ bytes fault told shown wrong calm. named fault (by.exact bytes fault told shown wrong calm);

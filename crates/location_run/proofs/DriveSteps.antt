@@ -1,5 +1,5 @@
 -- What an attach and what follows it come to.
-use Rattle.std.proofs.Common.{◌≡◌, ◌⊎◌, inl, inr, ◌∙◌, ℕ, ◌≤◌, List, length, Some, Result, Ok, Err, refl, sym, ap, subst, arith}
+use Rattle.std.proofs.Common.{◌≡◌, ◌⊎◌, inl, inr, ◌∙◌, ℕ, ◌≤◌, List, length, Some, Result, Ok, Err, refl, ap, subst, arith}
 use Rattle.std.specs.Prelude.{IfErr}
 use Rattle.std.specs.Result.{IsErrAnd}
 use Rattle.causes.specs.Causes.{Rose}
@@ -17,9 +17,8 @@ use Rattle.recovery.specs.declared.seen.InitFault.{InitFault}
 use Rattle.recovery.specs.declared.seen.InitFault.TheVariants as init_fault
 use Rattle.recovery.specs.declared.seen.OpenFault.{OpenFault}
 use Rattle.recovery.specs.declared.seen.OpenFault.TheVariants as open_fault
-use Rattle.recovery.proofs.OnlyReading.{stays-trans, rose-earlier}
+use Rattle.recovery.proofs.OnlyReading.{rose-earlier}
 use Rattle.recovery.proofs.OpeningLemmas.{leaves-trans, leaves-stays}
-use Rattle.csv_rows.specs.declared.rows.Refusal.{Refusal}
 use Rattle.csv_rows.specs.declared.rows.Refusal.TheVariants as refusal
 use Rattle.location_run.specs.Making.{IsMakingCause, making_refusal}
 use Rattle.location_run.specs.Checking.{IsCheckingCause, IsDecidedBy, attach_refusal, log_refusal, most_cells}
@@ -76,7 +75,7 @@ Whole : Drive → Drive → Result Seen OpenFault → Type 0
 Whole b c result = (bytes : List ℕ) (cells : List Cell) → b.bytes ≡ Some bytes → Recovers 1 cells bytes → length cells ≤ most_cells → IfErr result (IsFree b c)
 
 pub decided-ok : (a b c : Drive) (seen : Seen) (result : Result Seen OpenFault) → result ≡ Ok seen → Stays a b → ((bytes : List ℕ) (fault : OpenFault) → b.bytes ≡ Some bytes → IsInBytes fault → IsFault 1 most_cells bytes fault
-    → IsErrAnd result (λ e. (e ≡ fault) ⊎ IsFree b c e)) → IsDecidedBy {T = Seen} a c (Ok seen)
+    → IsErrAnd result (λ e. (e ≡ fault) ⊎ IsFree b c e)) → IsDecidedBy {T = Seen} most_cells a c (Ok seen)
 decided-ok a b c seen result is stays exact = record {
   exact = λ bytes fault told shown wrong calm. absurd (subst (λ (r : Result Seen OpenFault). IsErrAnd r (λ e. (e ≡ fault) ⊎ IsFree b c e)) is (exact bytes fault (stays.bytes ∙ told) shown wrong));
   whole = λ bytes cells told text few calm. tt;
@@ -88,7 +87,7 @@ calm-free a b c fault later calm (inr rose) = absurd (calm (rose-earlier a.fault
 
 pub decided-err : (a b c : Drive) (why : OpenFault) (result : Result Seen OpenFault) → result ≡ Err why → Stays a b → a.faults ≤ b.faults
     → ((bytes : List ℕ) (fault : OpenFault) → b.bytes ≡ Some bytes → IsInBytes fault → IsFault 1 most_cells bytes fault → IsErrAnd result (λ e. (e ≡ fault) ⊎ IsFree b c e))
-    → ((bytes : List ℕ) (cells : List Cell) → b.bytes ≡ Some bytes → Recovers 1 cells bytes → length cells ≤ most_cells → IfErr result (IsFree b c)) → IsDecidedBy {T = Seen} a c (Err (log_refusal why))
+    → ((bytes : List ℕ) (cells : List Cell) → b.bytes ≡ Some bytes → Recovers 1 cells bytes → length cells ≤ most_cells → IfErr result (IsFree b c)) → IsDecidedBy {T = Seen} most_cells a c (Err (log_refusal why))
 decided-err a b c why result is stays later exact whole = record {
   exact = λ bytes fault told shown wrong calm.
       named fault calm (subst (λ (r : Result Seen OpenFault). IsErrAnd r (λ e. (e ≡ fault) ⊎ IsFree b c e)) is (exact bytes fault (stays.bytes ∙ told) shown wrong));
@@ -100,7 +99,7 @@ decided-err a b c why result is stays later exact whole = record {
     named fault calm (inr free) = inr (calm-free a b c why later calm free)
 
 -- a file that wasn't attached: the count rose, or memory ran out
-pub decided-attach : {T : Type 0} (a b : Drive) (result : Result T AttachFault) (fault : AttachFault) → result ≡ Err fault → CountsAttach a b result → IsDecidedBy {T = Seen} a b (Err (attach_refusal fault))
+pub decided-attach : {T : Type 0} (a b : Drive) (result : Result T AttachFault) (fault : AttachFault) → result ≡ Err fault → CountsAttach a b result → IsDecidedBy {T = Seen} most_cells a b (Err (attach_refusal fault))
 decided-attach a b result fault is counts = record {
   exact = λ bytes wrong told shown at calm. inr (memory calm fault is);
   whole = λ bytes cells told text few calm. memory calm fault is;

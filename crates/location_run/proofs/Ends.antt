@@ -7,8 +7,8 @@ use Rattle.io_edge.specs.Puts.{Puts}
 use Rattle.plain_list.specs.declared.ops.Op.{Op}
 use Rattle.plain_list.specs.declared.ops.Answer.{Answer}
 use Rattle.plain_list.specs.declared.entries.Entry.{Entry}
-use Rattle.plain_list.specs.declared.entries.Entry.TheVariants.{Call}
-use Rattle.plain_list.specs.State.{IsLegal, empty_state}
+use Rattle.zorder.specs.declared.points.Placed.{Placed}
+use Rattle.plain_list.specs.State.{State, IsLegal}
 use Rattle.plain_list.specs.Played.{calls_of, IsPlayed, IsPlayedWhole}
 use Rattle.plain_list.specs.History.{replies}
 use Rattle.csv_rows.specs.declared.rows.InRow.{InRow}
@@ -56,14 +56,14 @@ played-some rows h some s =
 played-all : (rows : List InRow) (h : List Entry) → calls_alone h ≡ entries_from 1 rows → IsPlayedWhole (session_rows rows) h
 played-all rows h calls s = calls-rows rows h s calls
 
-replies-all : (rows : List InRow) (h : List Entry) → calls_alone h ≡ entries_from 1 rows → replies [] h ≡ replies [] (entries_from 1 rows)
-replies-all rows h calls = replies-calls [] h ∙ ap (replies []) calls
+replies-all : (world : List Placed) (rows : List InRow) (h : List Entry) → calls_alone h ≡ entries_from 1 rows → replies world h ≡ replies world (entries_from 1 rows)
+replies-all world rows h calls = replies-calls world h ∙ ap (replies world) calls
 
 -- all rows were answered, and their lines are written, or a front of them
-pub answers-all : (rows : List InRow) (h : List Entry) (answers : List Answer) (status : ℕ) (before after : Option (List ℕ)) → IsLegal 1 empty_state h → calls_alone h ≡ entries_from 1 rows → answers ≡ replies [] h
+pub answers-all : (s : State) (rows : List InRow) (h : List Entry) (answers : List Answer) (status : ℕ) (before after : Option (List ℕ)) → IsLegal 1 s h → calls_alone h ≡ entries_from 1 rows → answers ≡ replies s.world h
     → (status ≡ 0 → Appends before after (title_line ++ lines_from 1 answers)) → (status ≡ 6 → (n : ℕ) × Appends before after (take n (title_line ++ lines_from 1 answers)))
-    → AnswersAsOneList rows h status before after
-answers-all rows h answers status before after legal calls all whole front = record {
+    → AnswersAsOneList s rows h status before after
+answers-all s rows h answers status before after legal calls all whole front = record {
   legal = legal;
   played = λ s. ([], append-nil (calls_of s h) ∙ played-all rows h calls s);
   whole = λ writes. played-all rows h calls;
@@ -71,16 +71,16 @@ answers-all rows h answers status before after legal calls all whole front = rec
   part = λ e. let taken = front e in (taken.0, subst (λ l. Appends before after (take taken.0 l)) text taken.1);
 }
   where
-    text : title_line ++ lines_from 1 answers ≡ lines_of [] (length rows) h
-    text = ap (λ l. title_line ++ lines_from 1 l) (all ∙ replies-all rows h calls) ∙ sym (lines_of-entries rows) ∙ ap (lines_of [] (length rows)) (sym calls) ∙ sym (lines_of-calls (length rows) h)
+    text : title_line ++ lines_from 1 answers ≡ lines_of s.world (length rows) h
+    text = ap (λ l. title_line ++ lines_from 1 l) (all ∙ replies-all s.world rows h calls) ∙ sym (lines_of-entries s.world rows) ∙ ap (lines_of s.world (length rows)) (sym calls) ∙ sym (lines_of-calls s.world (length rows) h)
 
 -- there are as many replies as rows
-pub replies-count : (rows : List InRow) (h : List Entry) (answers : List Answer) → calls_alone h ≡ entries_from 1 rows → answers ≡ replies [] h → length answers ≡ length rows
-replies-count rows h answers calls all = ap length (all ∙ replies-all rows h calls) ∙ replies-entries [] 1 rows
+pub replies-count : (world : List Placed) (rows : List InRow) (h : List Entry) (answers : List Answer) → calls_alone h ≡ entries_from 1 rows → answers ≡ replies world h → length answers ≡ length rows
+replies-count world rows h answers calls all = ap length (all ∙ replies-all world rows h calls) ∙ replies-entries world 1 rows
 
 -- no lines are written
-pub answers-some : (rows : List InRow) (h : List Entry) (status : ℕ) (before after : Option (List ℕ)) → IsLegal 1 empty_state h → HasCalled rows h → (WritesLines status → ⊥) → AnswersAsOneList rows h status before after
-answers-some rows h status before after legal some none = record {
+pub answers-some : (s : State) (rows : List InRow) (h : List Entry) (status : ℕ) (before after : Option (List ℕ)) → IsLegal 1 s h → HasCalled rows h → (WritesLines status → ⊥) → AnswersAsOneList s rows h status before after
+answers-some s rows h status before after legal some none = record {
   legal = legal;
   played = played-some rows h some;
   whole = λ writes. absurd (none writes);

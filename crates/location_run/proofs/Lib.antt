@@ -1,5 +1,6 @@
 pub mod Writing
 pub mod Calls
+pub mod Origins
 pub mod Refused
 pub mod TidySteps
 pub mod SplitSteps
@@ -10,3 +11,7 @@ pub mod WordsFacts
 pub mod MakingFacts
 pub mod CheckingFacts
 pub mod DriveSteps
+pub mod OpeningFacts
+pub mod CrashFacts
+pub mod BookEnds
+pub mod LogEnds

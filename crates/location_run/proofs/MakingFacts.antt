@@ -1,12 +1,11 @@
 -- How `init` ends.
-use Rattle.std.proofs.Common.{◌≡◌, ◌⊎◌, inl, inr, ◌∙◌, ℕ, ◌<◌, ◌≤◌, List, length, Option, Some, None, Result, Ok, Err, refl, sym, subst, arith}
+use Rattle.std.proofs.Common.{◌≡◌, ◌⊎◌, inl, inr, ◌∙◌, ℕ, ◌<◌, ◌≤◌, List, length, Option, Some, None, Result, Ok, Err, refl, subst, arith}
 use Rattle.causes.specs.Causes.{Rose, Counts}
 use Rattle.io_edge.specs.Puts.{Puts}
 use Rattle.disk_trait.specs.Drive.{Drive}
 use Rattle.recovery.specs.Making.{Makes, KeepsSmall}
 use Rattle.csv_rows.specs.declared.rows.Refusal.{Refusal}
 use Rattle.csv_rows.specs.declared.rows.Refusal.TheVariants as refusal
-use Rattle.csv_rows.specs.LogLines.{made_line}
 use Rattle.location_run.specs.Status.{status_of, written_status, WritesLines}
 use Rattle.location_run.specs.Ending.{EndsWriting, EndsRefused}
 use Rattle.location_run.specs.Making.{IsMakingCause, MakesOrRefuses, EndsMaking}

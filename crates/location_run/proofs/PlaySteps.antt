@@ -1,20 +1,25 @@
 -- Rows that are answered one after the other, with splits between them.
-use Rattle.std.proofs.Common.{◌≡◌, inl, inr, ℕ, suc, ◌+◌, ◌<◌, List, [], ◌∷◌, ◌++◌, length, get_or, take, refl, sym, ◌∙◌, ap, subst, arith, add-zero, length-append}
+use Rattle.std.proofs.Common.{◌≡◌, ◌⊎◌, inl, inr, ℕ, suc, ◌+◌, ◌<◌, List, [], ◌∷◌, ◌++◌, length, get_or, take, None, refl, sym, ◌∙◌, ap, subst, arith, add-zero, length-append}
 use Rattle.std.proofs.lemmas.List.{take_more, length-take}
+use Rattle.zorder.specs.declared.points.Placed.{Placed}
 use Rattle.plain_list.specs.declared.ops.Answer.{Answer}
 use Rattle.plain_list.specs.declared.entries.Entry.{Entry}
 use Rattle.plain_list.specs.declared.entries.Entry.TheVariants.{Call}
 use Rattle.plain_list.specs.Answer.{answer_of}
 use Rattle.plain_list.specs.History.{replies, world_after}
-use Rattle.plain_list.specs.State.{State, empty_state, state_after}
+use Rattle.plain_list.specs.State.{State, state_after}
 use Rattle.plain_list.proofs.Histories.{replies-append, state_after-append}
 use Rattle.csv_rows.specs.declared.rows.InRow.{InRow}
 use Rattle.csv_rows.specs.InRows.{AreInRows}
 use Rattle.table_share.specs.Worlds.{AreAtPoints}
+use Rattle.kept_log.specs.Journal.{failed_cell}
+use Rattle.kept_log.proofs.InJournal.{failed_cell-push, has_failed-none}
 use Rattle.commit_book.specs.BookView.{BookView}
+use Rattle.commit_book.specs.IsBook.{SameOrigin}
 use Rattle.location_run.specs.Lines.{entries_from}
 use Rattle.location_run.specs.Tidy.{calls_alone, are_tidy, IsTidy, Tidies}
-use Rattle.location_run.specs.Plays.{NotesRow, MayNote, IsPlay, HasCalled}
+use Rattle.location_run.specs.Plays.{NotesRow, StopsRow, IsPlay, HasCalled}
+use Rattle.location_run.specs.declared.faults.PlayFault.{PlayFault}
 use Rattle.location_run.specs.declared.play.Play.{Play}
 use Rattle.location_run.proofs.Calls.{calls_alone-append, replies-calls, world_after-calls}
 use Rattle.location_run.proofs.TidySteps.{are_tidy-append}
@@ -37,46 +42,66 @@ calls-noted rows row number h g place calls noted =
     ∙ ap (λ k. entries_from 1 rows ++ Call row.session k row.op ∷ []) place
     ∙ sym (entries_from-append 1 rows (row ∷ []))
 
+-- no append has failed in a history with a call more
+pub going-noted : {I D : Type 0} (number : ℕ) (row : InRow) (old new : BookView I D) → failed_cell old.entries ≡ None → NotesRow old new number row → failed_cell new.entries ≡ None
+going-noted number row old new going noted = ap failed_cell noted.entries ∙ failed_cell-push old.entries (Call row.session number row.op) (has_failed-none old.entries going)
+
 -- a call leaves a book as tidy
-pub IsTidy-noted : {I : Type 0} (w number : ℕ) (row : InRow) (old new : BookView I) → IsTidy w old → NotesRow old new number row → IsTidy w new
-IsTidy-noted w number row old new tidy noted =
+pub IsTidy-noted : {I D : Type 0} (w number : ℕ) (row : InRow) (old new : BookView I D) → IsTidy w old → SameOrigin old new → NotesRow old new number row → IsTidy w new
+IsTidy-noted w number row old new tidy origin noted =
     let e : List Entry = Call row.session number row.op ∷ [] in
     record {
-      tidy = (λ i. are_tidy w (noted.bucket i) empty_state (noted.entries i)) ∙ are_tidy-append w old.bucket empty_state old.entries e tidy.tidy refl;
-      ended = ap (λ (h : List Entry). (state_after w empty_state h).splits) noted.entries ∙ ap (λ (s : State). s.splits) (state_after-append w empty_state old.entries e) ∙ tidy.ended;
+      tidy = (λ i. are_tidy w (origin.bucket i) (origin.opening i) (noted.entries i)) ∙ are_tidy-append w old.bucket old.opening old.entries e tidy.tidy refl;
+      ended = (λ i. (state_after w (origin.opening i) (noted.entries i)).splits) ∙ ap (λ (s : State). s.splits) (state_after-append w old.opening old.entries e) ∙ tidy.ended;
+      going = going-noted number row old new tidy.going noted;
     }
 
 -- a row is answered behind others, and then leaves are split
-pub IsPlay-more : {I : Type 0} (w number : ℕ) (rows : List InRow) (row : InRow) (answer : Answer) (old new : Play I) (mid : BookView I) → number ≡ 1 + length rows → IsPlay w rows old → NotesRow old.book mid number row
-    → answer ≡ answer_of (world_after [] old.book.entries) row.op → Tidies w mid new.book → new.replies.items ≡ old.replies.items ++ answer ∷ [] → IsPlay w (rows ++ row ∷ []) new
-IsPlay-more w number rows row answer old new mid place before noted is splits pushed =
+pub IsPlay-more : {I D : Type 0} (w number : ℕ) (rows : List InRow) (row : InRow) (answer : Answer) (old new : Play I D) (mid : BookView I D) → number ≡ 1 + length rows → IsPlay w rows old → NotesRow old.book mid number row
+    → answer ≡ answer_of (world_after old.book.opening.world old.book.entries) row.op → Tidies w mid new.book → new.book.opening ≡ old.book.opening → new.replies.items ≡ old.replies.items ++ answer ∷ []
+    → IsPlay w (rows ++ row ∷ []) new
+IsPlay-more w number rows row answer old new mid place before noted is splits opening pushed =
     let e : Entry = Call row.session number row.op in
-    let same : replies [] new.book.entries ≡ replies [] mid.entries = replies-calls [] new.book.entries ∙ ap (replies []) splits.calls ∙ sym (replies-calls [] mid.entries) in
+    let world : List Placed = old.book.opening.world in
+    let same : replies world new.book.entries ≡ replies world mid.entries = replies-calls world new.book.entries ∙ ap (replies world) splits.calls ∙ sym (replies-calls world mid.entries) in
     let more : length mid.entries ≡ length old.book.entries + 1 = ap length noted.entries ∙ length-append old.book.entries (e ∷ []) in
+    let count : length (rows ++ row ∷ []) ≡ length rows + 1 = length-append rows (row ∷ []) in
     record {
       calls = splits.calls ∙ calls-noted rows row number old.book.entries mid.entries place before.calls noted.entries;
       answers =
           pushed
           ∙ ap (λ (a : Answer). old.replies.items ++ a ∷ []) is
-          ∙ ap (λ (l : List Answer). l ++ answer_of (world_after [] old.book.entries) row.op ∷ []) before.answers
-          ∙ sym (replies-append [] old.book.entries (e ∷ []))
-          ∙ ap (replies []) (sym noted.entries)
-          ∙ sym same;
+          ∙ ap (λ (l : List Answer). l ++ answer_of (world_after world old.book.entries) row.op ∷ []) before.answers
+          ∙ sym (replies-append world old.book.entries (e ∷ []))
+          ∙ ap (replies world) (sym noted.entries)
+          ∙ sym same
+          ∙ ap (λ (o : State). replies o.world new.book.entries) (sym opening);
       tidy = splits.tidy;
-      few = splits.few (4000002 + length (rows ++ row ∷ [])) (omega arith) (omega (arith, before.few, more, length-append rows (row ∷ [])));
+      few = splits.few (4000002 + length (rows ++ row ∷ [])) (omega arith) (omega (arith, before.few, more, count));
+      few_cells = splits.few_cells (16000002 + length (rows ++ row ∷ [])) (omega arith) (omega (arith, before.few_cells, noted.count, count));
     }
 
-pub IsPlay-settled : {I : Type 0} (w : ℕ) (rows : List InRow) (old new : Play I) → IsPlay w rows old → Tidies w old.book new.book → new.replies.items ≡ old.replies.items → IsPlay w rows new
-IsPlay-settled w rows old new before splits same = record {
-  calls = splits.calls ∙ before.calls;
-  answers = same ∙ before.answers ∙ replies-calls [] old.book.entries ∙ ap (replies []) (sym splits.calls) ∙ sym (replies-calls [] new.book.entries);
-  tidy = splits.tidy;
-  few = splits.few (4000002 + length rows) (omega arith) before.few;
-}
+pub IsPlay-settled : {I D : Type 0} (w : ℕ) (rows : List InRow) (old new : Play I D) → IsPlay w rows old → Tidies w old.book new.book → new.book.opening ≡ old.book.opening → new.replies.items ≡ old.replies.items → IsPlay w rows new
+IsPlay-settled w rows old new before splits opening same =
+    let world : List Placed = old.book.opening.world in
+    record {
+      calls = splits.calls ∙ before.calls;
+      answers =
+          same
+          ∙ before.answers
+          ∙ replies-calls world old.book.entries
+          ∙ ap (replies world) (sym splits.calls)
+          ∙ sym (replies-calls world new.book.entries)
+          ∙ ap (λ (o : State). replies o.world new.book.entries) (sym opening);
+      tidy = splits.tidy;
+      few = splits.few (4000002 + length rows) (omega arith) before.few;
+      few_cells = splits.few_cells (16000002 + length rows) (omega arith) before.few_cells;
+    }
 
 -- the objects of a history stand at points
-pub AreAtPoints-calls : (rows : List InRow) (i : ℕ) (h : List Entry) → AreInRows rows → calls_alone h ≡ entries_from 1 (take i rows) → AreAtPoints (world_after [] h)
-AreAtPoints-calls rows i h rules calls = subst AreAtPoints (sym (world_after-calls [] h ∙ ap (world_after []) calls)) (AreAtPoints-rows 1 (take i rows) [] (rules-take i rows rules.each) tt)
+pub AreAtPoints-calls : (rows : List InRow) (i : ℕ) (world : List Placed) (h : List Entry) → AreInRows rows → AreAtPoints world → calls_alone h ≡ entries_from 1 (take i rows) → AreAtPoints (world_after world h)
+AreAtPoints-calls rows i world h rules points calls =
+    subst AreAtPoints (sym (world_after-calls world h ∙ ap (world_after world) calls)) (AreAtPoints-rows 1 (take i rows) world (rules-take i rows rules.each) points)
 
 -- the row at a place is behind those before it
 pub row-next : (rows : List InRow) (i : ℕ) (d : InRow) → i < length rows → take i rows ++ get_or rows i d ∷ [] ≡ take (i + 1) rows
@@ -85,10 +110,26 @@ row-next rows i d lt = sym (take_more rows i d lt)
 pub row-number : (rows : List InRow) (i : ℕ) → i < length rows → i + 1 ≡ 1 + length (take i rows)
 row-number rows i lt = omega (arith, length-take i rows)
 
--- where memory runs out, the call of the row stands in the history, or doesn't
-pub HasCalled-noted : (rows : List InRow) (i : ℕ) (d : InRow) (h g : List Entry) → i < length rows → calls_alone h ≡ entries_from 1 (take i rows) → g ≡ h ++ Call (get_or rows i d).session (i + 1) (get_or rows i d).op ∷ [] → HasCalled rows g
-HasCalled-noted rows i d h g lt calls noted = (i + 1, calls-noted (take i rows) (get_or rows i d) (i + 1) h g (row-number rows i lt) calls noted ∙ ap (entries_from 1) (row-next rows i d lt))
+-- where a play stops, the call of the row stands in the history, or doesn't
+pub HasCalled-noted : (rows : List InRow) (i : ℕ) (d : InRow) (h g : List Entry) → i < length rows → calls_alone h ≡ entries_from 1 (take i rows)
+    → calls_alone g ≡ calls_alone h ++ Call (get_or rows i d).session (i + 1) (get_or rows i d).op ∷ [] → HasCalled rows g
+HasCalled-noted rows i d h g lt calls noted = (
+  i + 1,
+  noted
+      ∙ ap (λ (l : List Entry). l ++ Call (get_or rows i d).session (i + 1) (get_or rows i d).op ∷ []) calls
+      ∙ ap (λ k. entries_from 1 (take i rows) ++ Call (get_or rows i d).session k (get_or rows i d).op ∷ []) (row-number rows i lt)
+      ∙ sym (entries_from-append 1 (take i rows) (get_or rows i d ∷ []))
+      ∙ ap (entries_from 1) (row-next rows i d lt),
+)
 
-pub HasCalled-may : {I : Type 0} (rows : List InRow) (i : ℕ) (d : InRow) (old new : BookView I) → i < length rows → calls_alone old.entries ≡ entries_from 1 (take i rows) → MayNote old new (i + 1) (get_or rows i d) → HasCalled rows new.entries
-HasCalled-may rows i d old new lt calls (inl same) = (i, ap calls_alone same ∙ calls)
-HasCalled-may rows i d old new lt calls (inr noted) = HasCalled-noted rows i d old.entries new.entries lt calls noted
+pub HasCalled-may : {I D : Type 0} (rows : List InRow) (i : ℕ) (d : InRow) (fault : PlayFault) (old new : BookView I D) → i < length rows → calls_alone old.entries ≡ entries_from 1 (take i rows)
+    → StopsRow old new (i + 1) (get_or rows i d) fault → HasCalled rows new.entries
+HasCalled-may rows i d fault old new lt calls stops = by_calls stops.calls
+  where
+    by_calls : (calls_alone new.entries ≡ calls_alone old.entries) ⊎ (calls_alone new.entries ≡ calls_alone old.entries ++ Call (get_or rows i d).session (i + 1) (get_or rows i d).op ∷ []) → HasCalled rows new.entries
+    by_calls (inl same) = (i, same ∙ calls)
+    by_calls (inr noted) = HasCalled-noted rows i d old.entries new.entries lt calls noted
+
+-- the calls with one row's more
+pub calls-row : {I D : Type 0} (number : ℕ) (row : InRow) (old new : BookView I D) → NotesRow old new number row → calls_alone new.entries ≡ calls_alone old.entries ++ Call row.session number row.op ∷ []
+calls-row number row old new noted = ap calls_alone noted.entries ∙ calls_alone-append old.entries (Call row.session number row.op ∷ [])

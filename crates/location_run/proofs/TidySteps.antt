@@ -1,15 +1,15 @@
 -- Histories whose splits are those of full leaves, each installed, with some entries more.
-use Rattle.std.proofs.Common.{◌≡◌, ℕ, suc, Bool, true, false, not, ◌||◌, cond, List, [], ◌∷◌, ◌++◌, refl, sym, ◌∙◌, ap, subst, arith}
+use Rattle.std.proofs.Common.{◌≡◌, ℕ, suc, Bool, true, false, not, ◌||◌, cond, List, [], ◌∷◌, ◌++◌, None, refl, sym, ◌∙◌, ap}
 use mathlib.Core.Bool.{true≢false}
 use Rattle.std.specs.List.{list_any}
 use Rattle.std.specs.Cmp.{first_so, second_so}
 use Rattle.std.specs.Cmp.Derive.{both_true}
 use Rattle.plain_list.specs.declared.entries.Entry.{Entry}
 use Rattle.plain_list.specs.declared.entries.Entry.TheVariants.{Fail, Call, Begin, Install, Abandon}
-use Rattle.plain_list.specs.State.{State, step, state_after, empty_state}
-use Rattle.commit_book.specs.BookView.{BookView}
-use Rattle.location_run.specs.Splits.{abandons, is_full_leaf, stray_begins, IsSettled}
-use Rattle.location_run.specs.Tidy.{is_tidy, are_tidy, IsTidy, IsSizedOrFull}
+use Rattle.plain_list.specs.State.{State, step, state_after}
+use Rattle.kept_log.specs.Journal.{failed_cell}
+use Rattle.location_run.specs.Splits.{abandons, is_full_leaf, stray_begins}
+use Rattle.location_run.specs.Tidy.{is_tidy, are_tidy}
 
 pub are_tidy-append : (w size : ℕ) (s : State) (h g : List Entry) → are_tidy w size s h ≡ true → are_tidy w size (state_after w s h) g ≡ true → are_tidy w size s (h ++ g) ≡ true
 are_tidy-append w size s [] g first second = second
@@ -42,10 +42,12 @@ stray_begins-tidy w size s (Install number ∷ h) tidy = stray_begins-tidy w siz
 stray_begins-tidy w size s (Abandon number ∷ h) tidy = absurd (true≢false (sym tidy))
 stray_begins-tidy w size s (Fail cell lost ∷ h) tidy = absurd (true≢false (sym tidy))
 
--- so a tidy book whose leaves are sized has settled
-pub IsSettled-tidy : {I : Type 0} (size : ℕ) (book : BookView I) (h : List Entry) → h ≡ book.entries → book.bucket ≡ size → IsTidy 1 book → IsSizedOrFull 1 book → IsSettled size h
-IsSettled-tidy size book h same bucket tidy sized = subst (IsSettled size) (sym same) (subst (λ n. IsSettled n book.entries) bucket (record {
-  ended = tidy.ended;
-  sized = sized;
-  stray = rw (stray_begins-tidy 1 book.bucket empty_state book.entries tidy.tidy) (omega arith);
-}))
+-- no append has failed in it
+pub going-tidy : (w size : ℕ) (s : State) (h : List Entry) → are_tidy w size s h ≡ true → failed_cell h ≡ None
+going-tidy w size s [] tidy = refl
+going-tidy w size s (Call session row op ∷ h) tidy = going-tidy w size (step w s (Call session row op)) h tidy
+going-tidy w size s (Begin number name ∷ h) tidy =
+    going-tidy w size (step w s (Begin number name)) h (second_so (is_full_leaf w size s name) (are_tidy w size (step w s (Begin number name)) h) tidy)
+going-tidy w size s (Install number ∷ h) tidy = going-tidy w size (step w s (Install number)) h tidy
+going-tidy w size s (Abandon number ∷ h) tidy = absurd (true≢false (sym tidy))
+going-tidy w size s (Fail cell lost ∷ h) tidy = absurd (true≢false (sym tidy))

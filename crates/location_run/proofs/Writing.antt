@@ -97,20 +97,20 @@ replies-entries world n [] = refl
 replies-entries world n (r ∷ rows) = ap suc (replies-entries (after_of world r.op) (n + 1) rows)
 
 -- the lines from row k + 1 on
-lines-tail : (rows : List InRow) (m k : ℕ) → k + m ≡ length rows
-    → flat_map (λ row. line_at [] (entries_from 1 rows) row (row_place row (entries_from 1 rows))) (range_with_len (k + 1) m) ≡ lines_from (k + 1) (drop k (replies [] (entries_from 1 rows)))
-lines-tail rows zero k total = ap (lines_from (k + 1)) (sym (drop_all k (replies [] (entries_from 1 rows)) (omega (arith, total, replies-entries [] 1 rows))))
-lines-tail rows (suc m) k total =
+lines-tail : (world : List Placed) (rows : List InRow) (m k : ℕ) → k + m ≡ length rows
+    → flat_map (λ row. line_at world (entries_from 1 rows) row (row_place row (entries_from 1 rows))) (range_with_len (k + 1) m) ≡ lines_from (k + 1) (drop k (replies world (entries_from 1 rows)))
+lines-tail world rows zero k total = ap (lines_from (k + 1)) (sym (drop_all k (replies world (entries_from 1 rows)) (omega (arith, total, replies-entries world 1 rows))))
+lines-tail world rows (suc m) k total =
     let h = entries_from 1 rows in
-    let all = replies [] h in
-    let lt : k < length all = omega (arith, total, replies-entries [] 1 rows) in
+    let all = replies world h in
+    let lt : k < length all = omega (arith, total, replies-entries world 1 rows) in
     let place : row_place (k + 1) h ≡ Some (k + 1) = row_place-entries 0 1 (k + 1) k rows (omega arith) (omega arith) (omega (arith, total)) in
-    let reply : reply_at [] h (k + 1) ≡ Some (get_or all k Done) = ap (reply_at [] h) (add-one k) ∙ slice_get-at all k Done lt in
-    let head : line_at [] h (k + 1) (row_place (k + 1) h) ≡ line_text (k + 1) (k + 1) (get_or all k Done) = ap (line_at [] h (k + 1)) place ∙ ap (line_if (k + 1) (k + 1)) reply in
-    (λ i. head i ++ flat_map (λ row. line_at [] h row (row_place row h)) (range_with_len (k + 1 + 1) m))
-    ∙ ap (λ l. line_text (k + 1) (k + 1) (get_or all k Done) ++ l) (lines-tail rows m (k + 1) (omega (arith, total)))
+    let reply : reply_at world h (k + 1) ≡ Some (get_or all k Done) = ap (reply_at world h) (add-one k) ∙ slice_get-at all k Done lt in
+    let head : line_at world h (k + 1) (row_place (k + 1) h) ≡ line_text (k + 1) (k + 1) (get_or all k Done) = ap (line_at world h (k + 1)) place ∙ ap (line_if (k + 1) (k + 1)) reply in
+    (λ i. head i ++ flat_map (λ row. line_at world h row (row_place row h)) (range_with_len (k + 1 + 1) m))
+    ∙ ap (λ l. line_text (k + 1) (k + 1) (get_or all k Done) ++ l) (lines-tail world rows m (k + 1) (omega (arith, total)))
     ∙ ap (lines_from (k + 1)) (sym (drop_more all k Done lt))
 
 -- the lines of a history whose calls are the rows, one after the other
-pub lines_of-entries : (rows : List InRow) → lines_of [] (length rows) (entries_from 1 rows) ≡ title_line ++ lines_from 1 (replies [] (entries_from 1 rows))
-lines_of-entries rows = ap (λ l. title_line ++ l) (lines-tail rows (length rows) 0 (omega arith))
+pub lines_of-entries : (world : List Placed) (rows : List InRow) → lines_of world (length rows) (entries_from 1 rows) ≡ title_line ++ lines_from 1 (replies world (entries_from 1 rows))
+lines_of-entries world rows = ap (λ l. title_line ++ l) (lines-tail world rows (length rows) 0 (omega arith))

@@ -38,23 +38,27 @@ log_refusal open_fault.Disk = refusal.Disk None
 log_refusal open_fault.Memory = refusal.Memory
 log_refusal (open_fault.TooLong most) = refusal.LongLog
 
--- why a log isn't told: what is first at fault in its bytes, the drive's count rose, or memory ran out
+-- why a log of at most so many cells isn't read: what is first at fault in its bytes, the drive's count rose, or memory ran out
+abbrev pub IsReadingCause : ℕ → Drive → Drive → Refusal → Type 0
+IsReadingCause most old new refusal.Usage = ⊥
+IsReadingCause most old new refusal.Header = ⊥
+IsReadingCause most old new (refusal.Csv row) = ⊥
+IsReadingCause most old new (refusal.Field row column) = ⊥
+IsReadingCause most old new refusal.NotLog = (bytes : List ℕ) → old.bytes ≡ Some bytes → IsNotLog bytes
+IsReadingCause most old new (refusal.OldLog version width) = (bytes : List ℕ) → old.bytes ≡ Some bytes → IsOldLog 1 bytes version width
+IsReadingCause most old new (refusal.Damaged cell cause) = (bytes : List ℕ) → old.bytes ≡ Some bytes → IsDamaged 1 most bytes cell cause
+IsReadingCause most old new refusal.Source = ⊥
+IsReadingCause most old new (refusal.Disk (Some cell)) = ⊥
+IsReadingCause most old new (refusal.Disk None) = Rose old.faults new.faults
+IsReadingCause most old new refusal.LongInput = ⊥
+IsReadingCause most old new refusal.ManyRows = ⊥
+IsReadingCause most old new refusal.LongLog = (bytes : List ℕ) → old.bytes ≡ Some bytes → IsTooLong 1 most bytes
+IsReadingCause most old new refusal.Memory = ⊤
+IsReadingCause most old new (refusal.InUse len) = ⊥
+
+-- why a log isn't told
 abbrev pub IsCheckingCause : Drive → Drive → Refusal → Type 0
-IsCheckingCause old new refusal.Usage = ⊥
-IsCheckingCause old new refusal.Header = ⊥
-IsCheckingCause old new (refusal.Csv row) = ⊥
-IsCheckingCause old new (refusal.Field row column) = ⊥
-IsCheckingCause old new refusal.NotLog = (bytes : List ℕ) → old.bytes ≡ Some bytes → IsNotLog bytes
-IsCheckingCause old new (refusal.OldLog version width) = (bytes : List ℕ) → old.bytes ≡ Some bytes → IsOldLog 1 bytes version width
-IsCheckingCause old new (refusal.Damaged cell cause) = (bytes : List ℕ) → old.bytes ≡ Some bytes → IsDamaged 1 most_cells bytes cell cause
-IsCheckingCause old new refusal.Source = ⊥
-IsCheckingCause old new (refusal.Disk (Some cell)) = ⊥
-IsCheckingCause old new (refusal.Disk None) = Rose old.faults new.faults
-IsCheckingCause old new refusal.LongInput = ⊥
-IsCheckingCause old new refusal.ManyRows = ⊥
-IsCheckingCause old new refusal.LongLog = (bytes : List ℕ) → old.bytes ≡ Some bytes → IsTooLong 1 most_cells bytes
-IsCheckingCause old new refusal.Memory = ⊤
-IsCheckingCause old new (refusal.InUse len) = ⊥
+IsCheckingCause old new why = IsReadingCause most_cells old new why
 
 -- legal cells, few enough; where the drive's content is known, its bytes recover to them
 pub record FindsCells (old : Drive) (cells : List Cell) : Type 0 where
@@ -82,11 +86,11 @@ pub record IsDecided (old new : Drive) (status : ℕ) (before after : Option (Li
   pub whole : (bytes : List ℕ) (cells : List Cell) → old.bytes ≡ Some bytes → Recovers 1 cells bytes → length cells ≤ most_cells → (Rose old.faults new.faults → ⊥) → (Rose old_faults faults → ⊥)
       → (status ≡ 0) ⊎ (status ≡ 9)
 
--- the same of the answer that the lines are written of
-pub record IsDecidedBy {T : Type 0} (old new : Drive) (result : Result T Refusal) : Type 0 where
-  pub exact : (bytes : List ℕ) (fault : OpenFault) → old.bytes ≡ Some bytes → IsInBytes fault → IsFault 1 most_cells bytes fault → (Rose old.faults new.faults → ⊥)
+-- the same of the answer, where at most so many cells are read
+pub record IsDecidedBy {T : Type 0} (most : ℕ) (old new : Drive) (result : Result T Refusal) : Type 0 where
+  pub exact : (bytes : List ℕ) (fault : OpenFault) → old.bytes ≡ Some bytes → IsInBytes fault → IsFault 1 most bytes fault → (Rose old.faults new.faults → ⊥)
       → IsErrAnd result (λ why. (why ≡ log_refusal fault) ⊎ (why ≡ refusal.Memory))
-  pub whole : (bytes : List ℕ) (cells : List Cell) → old.bytes ≡ Some bytes → Recovers 1 cells bytes → length cells ≤ most_cells → (Rose old.faults new.faults → ⊥) → IfErr result (λ why. why ≡ refusal.Memory)
+  pub whole : (bytes : List ℕ) (cells : List Cell) → old.bytes ≡ Some bytes → Recovers 1 cells bytes → length cells ≤ most → (Rose old.faults new.faults → ⊥) → IfErr result (λ why. why ≡ refusal.Memory)
 
 -- the four lines or the line of a refusal; the drive's bytes and images stay
 pub record EndsChecking (old new : Drive) (status : ℕ) (before after : Option (List ℕ)) (old_faults faults : ℕ) : Type 0 where

@@ -7,11 +7,15 @@ pub mod Ending
 pub mod Making
 pub mod Checking
 pub mod Lines
+pub mod Origin
 pub mod Splits
 pub mod Tidy
 pub mod Room
+pub mod Stops
 pub mod Plays
+pub mod Playing
 pub mod Run
+pub mod Crash
 pub mod Examples
 pub use Rattle.causes.specs.Causes
 pub use Rattle.disk_trait.specs.Drive

@@ -1,13 +1,16 @@
 -- What a run's splits come to.
-use Rattle.std.specs.Prelude.{◌≡◌, ◌⊎◌, ℕ, suc, ◌<◌, ◌≤◌, ◌==◌, Bool, false, not, ◌||◌, List, [], ◌∷◌, length, if◌then◌else◌}
+use Rattle.std.specs.Prelude.{◌≡◌, ◌⊎◌, ℕ, suc, ◌+◌, ◌<◌, ◌≤◌, ◌==◌, Bool, false, not, ◌||◌, List, [], ◌∷◌, length, if◌then◌else◌, None}
 use Rattle.std.specs.List.{list_any}
 use Rattle.std.specs.Option.{option_map_or}
 use Rattle.zorder.specs.SameName.{same_name}
 use Rattle.plain_list.specs.declared.entries.Entry.{Entry}
 use Rattle.plain_list.specs.declared.entries.Entry.TheVariants.{Fail, Call, Begin, Install, Abandon}
 use Rattle.plain_list.specs.History.{world_after, call_count}
-use Rattle.plain_list.specs.State.{State, empty_state, state_after, step}
+use Rattle.plain_list.specs.State.{State, state_after, step}
 use Rattle.plain_list.specs.Size.{IsSized, full_leaf}
+use Rattle.recovery.specs.Changes.{cells_of}
+use Rattle.kept_log.specs.Journal.{failed_cell}
+use Rattle.location_run.specs.Origin.{Origin}
 
 -- whether an entry abandons the split of this number
 abbrev pub abandons : ℕ → Entry → Bool
@@ -34,9 +37,15 @@ abbrev pub stray_begins : ℕ → ℕ → State → List Entry → ℕ
 stray_begins w size s [] = 0
 stray_begins w size s (e ∷ h) = if is_stray w size s e h then suc (stray_begins w size (step w s e) h) else stray_begins w size (step w s e) h
 
--- At the end no split is open. No leaf that may be split has more points than the size, or there are more than 4,000,000 entries. Stray begins
--- are no more than the calls, so room is used up only by splits of leaves that were over the size.
-pub record IsSettled (size : ℕ) (h : List Entry) : Type 0 where
-  pub ended : (state_after 1 empty_state h).splits ≡ []
-  pub sized : IsSized 1 size (world_after [] h) (state_after 1 empty_state h).leaves ⊎ (4000000 < length h)
-  pub stray : stray_begins 1 size empty_state h ≤ call_count h
+-- how many cells the log has after a history from an origin: none without a log
+abbrev pub cells_now : Origin → List Entry → ℕ
+cells_now o h = option_map_or (λ (n : ℕ). n + length (cells_of o.state.world h)) o.cells 0
+
+-- At the end no split is open, and no append has failed. No leaf that may be split has more points than the size, or there are more than
+-- 4,000,000 entries or more than 16,000,000 cells. Stray begins are no more than the calls, so room is used up only by splits of leaves that
+-- were over the size.
+pub record IsSettled (size : ℕ) (o : Origin) (h : List Entry) : Type 0 where
+  pub ended : (state_after 1 o.state h).splits ≡ []
+  pub going : failed_cell h ≡ None
+  pub sized : IsSized 1 size (world_after o.state.world h) (state_after 1 o.state h).leaves ⊎ ((4000000 < length h) ⊎ (16000000 < cells_now o h))
+  pub stray : stray_begins 1 size o.state h ≤ call_count h

@@ -34,7 +34,7 @@ pub(crate) fn check_log<K: Sink, D: LogDisk>(
 fn find<D: LogDisk>(alloc: Global, file: &str, disk: &mut D) -> Result<Seen, Refusal>
     ensures found { IfOk result (IsFound 1 most_cells (D.drive disk.old)) }
     ensures cause { IfErr result (IsCheckingCause (D.drive disk.old) (D.drive disk.new)) }
-    ensures decided { IsDecidedBy (D.drive disk.old) (D.drive disk.new) result }
+    ensures decided { IsDecidedBy most_cells (D.drive disk.old) (D.drive disk.new) result }
     ensures stays { Stays (D.drive disk.old) (D.drive disk.new) }
     ensures later { (D.drive disk.old).faults ≤ (D.drive disk.new).faults }
 {

@@ -2,7 +2,7 @@
 ghost use Rattle.std.specs.Prelude.{◌≡◌, ◌≢◌, ◌≤◌, List, [], ℕ, Some, Ok, Err, IfOk, IfErr, length};
 ghost use Rattle.causes.specs.Causes.{Rose};
 ghost use Rattle.location_run.specs.Judged.{judged, first_other, refusal_of};
-ghost use Rattle.location_run.specs.Run.{IsPlayCause};
+ghost use Rattle.location_run.specs.Playing.{IsInputCause};
 
 use csv_rows::{InRow, Refusal, Rows, RowsFault, read_rows};
 use io_edge::{ReadFault, Source, read_all};
@@ -14,7 +14,7 @@ const MOST_BYTES: usize = 16_777_216;
 /// The rows of the source. The order of refusals: source, length of the input, rows.
 pub(crate) fn read_judged<S: Source>(alloc: Global, source: &mut S) -> Result<Rows, Refusal>
     ensures rows { IfOk result (λ rows. (bytes : List ℕ) → S.left source.old ≡ Some bytes → (judged bytes ≡ Ok rows) × (S.left source.new ≡ Some [])) }
-    ensures cause { IfErr result (IsPlayCause (S.left source.old) (Rose (S.faults source.old) (S.faults source.new))) }
+    ensures cause { IfErr result (IsInputCause (S.left source.old) (Rose (S.faults source.old) (S.faults source.new))) }
     ensures later { S.faults source.old ≤ S.faults source.new }
 {
     match read_all(alloc, source, MOST_BYTES) {

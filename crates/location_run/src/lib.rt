@@ -1,23 +1,26 @@
 //! The program as one call: words, input and output, a status, and the history of what took place.
 //!
-//! Contracts see the history as a list of entries, the rows as those of all bytes that the source had left, and the
-//! output as what the sink took. `run` promises that with status 0 this is the line of each row, with its place in the
-//! one history and the answer that one plain list of objects gives there. It also promises which cause each other
-//! status has, and the refusal's line. The rows are answered over a book, whose leaves are split as they fill: `splits`
-//! says what the splits come to.
+//! Contracts see the history as a list of entries, the rows as those of all bytes that the source had left, the output as what the sink
+//! took, and the drive by its bytes and what a crash may leave of them. `run` promises that with status 0 the output is the line of each
+//! row, with its place in the one history and the answer that one plain list of objects gives there, which over a log begins with what
+//! the log says; that a crash at any moment leaves a log of a front of the changes (`crash`); what splits come to (`splits`); and which
+//! cause each other status has.
 //!
-//! Not here: what a row is and how a line reads (`csv_rows`), the book (`commit_book`), the queries of its index
-//! (`range_query`, `knn_query`), `main` (`mdloc`).
+//! Not here: what a row is and how a line reads (`csv_rows`), the book (`commit_book`), the queries of its index (`range_query`,
+//! `knn_query`), how a log is opened (`recovery`), `main` (`mdloc`).
 #![tactic(auto)]
 
 mod checking;
 mod faults;
 mod input;
+mod log_book;
 mod log_faults;
 mod making;
 mod outcome;
 mod output;
 mod play;
+mod play_book;
+mod play_log;
 mod playing;
 mod queries;
 mod refusals;

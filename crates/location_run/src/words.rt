@@ -2,7 +2,7 @@
 ghost use Rattle.std.specs.Prelude.{◌≡◌, ◌↔◌, ◌≤◌, ℕ, List, Some, map, IsTrue, MatchOption, codes};
 ghost use Rattle.std.specs.String.{string_bytes};
 ghost use Rattle.csv_rows.specs.Numbers.{number_in};
-ghost use Rattle.location_run.specs.Words.{AsksFor, AsksToPlay, IsAccepted, IsPlay, NamesFile, is_file_name};
+ghost use Rattle.location_run.specs.Words.{AsksFor, SpellsPlay, IsAccepted, IsPlay, NamesFile, is_file_name};
 ghost use Rattle.location_run.specs.Asked.{command_of};
 
 use csv_rows::number_in;
@@ -19,6 +19,15 @@ pub(crate) enum Command<'a> {
     Check(&'a str),
     /// To play rows over no log, with buckets of this size.
     Play(u32),
+    /// To play rows over the log in this file, with buckets of this size.
+    PlayLog(&'a str, u32),
+}
+
+/// The word in the place of a log's file, and the bucket size.
+#[derive(Clone, Copy, Drop)]
+struct PlayWords<'a> {
+    log: &'a str,
+    size: u32,
 }
 
 /// The command that the words ask for.
@@ -31,8 +40,7 @@ pub(crate) fn command_in(words: &[String]) -> Option<Command<'_>>
     if let Some(file) = file_after("check", words) {
         return Some(Command::Check(file));
     }
-    let size = bucket_in(words)?;
-    Some(Command::Play(size))
+    play_in(words)
 }
 
 // The file that the words name behind a command.
@@ -64,33 +72,50 @@ fn is_file_name(word: &str) -> bool
     }
 }
 
-// The bucket size that the words ask for: `play -`, and behind them `--bucket` and a number, or nothing.
-fn bucket_in(words: &[String]) -> Option<u32>
-    ensures { MatchOption result (IsPlay (map string_bytes words.now) → ⊥) (λ size. AsksToPlay (map string_bytes words.now) size) }
+// What the words ask for, where it is to play rows.
+fn play_in(words: &[String]) -> Option<Command<'_>>
+    ensures { MatchOption result (IsPlay (map string_bytes words.now) → ⊥) (λ c. AsksFor (map string_bytes words.now) (command_of c)) }
+{
+    let Some(play) = play_words(words) else {
+        return None;
+    };
+    if play.log == "-" {
+        return Some(Command::Play(play.size));
+    }
+    if is_file_name(play.log) {
+        return Some(Command::PlayLog(play.log, play.size));
+    }
+    None
+}
+
+// The word for a log, and the bucket size: behind the word `--bucket` and a number, or nothing.
+fn play_words(words: &[String]) -> Option<PlayWords<'_>>
+    ensures { MatchOption result ((log : List ℕ) (size : ℕ) → SpellsPlay (map string_bytes words.now) log size → ⊥) (λ play. SpellsPlay (map string_bytes words.now) play.log.now play.size) }
 {
     match words {
-        [command, file] => {
-            if plays_no_log(command.as_str(), file.as_str()) {
-                Some(BUCKET)
+        [command, log] => {
+            if is_word(command.as_str(), "play") {
+                Some(PlayWords {
+                    log: log.as_str(),
+                    size: BUCKET,
+                })
             } else {
                 None
             }
         }
-        [command, file, option, number] => {
-            if plays_no_log(command.as_str(), file.as_str()) {
-                size_in(option.as_str(), number.as_str())
+        [command, log, option, number] => {
+            if is_word(command.as_str(), "play") {
+                let size = size_in(option.as_str(), number.as_str())?;
+                Some(PlayWords {
+                    log: log.as_str(),
+                    size,
+                })
             } else {
                 None
             }
         }
         _ => None,
     }
-}
-
-fn plays_no_log(command: &str, file: &str) -> bool
-    ensures { IsTrue result ↔ ((command.now ≡ codes "play") × (file.now ≡ codes "-")) }
-{
-    command == "play" && file == "-"
 }
 
 fn size_in(option: &str, number: &str) -> Option<u32>

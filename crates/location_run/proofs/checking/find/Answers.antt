@@ -1,7 +1,7 @@
 use Rattle.std.proofs.Common.{Err, sym, subst}
 use Rattle.recovery.specs.declared.seen.Seen.{Seen}
 use Rattle.csv_rows.specs.declared.rows.Refusal.{Refusal}
-use Rattle.location_run.specs.Checking.{IsCheckingCause, IsDecidedBy}
+use Rattle.location_run.specs.Checking.{IsCheckingCause, IsDecidedBy, most_cells}
 use Rattle.location_run.proofs.DriveSteps.{checking-after, decided-err}
 use Rattle.location_run.proofs.checking.find.Goals as goal
 
@@ -16,5 +16,5 @@ pub returns-in-Err-inspect-clause-decided : goal.returns-in-Err-inspect-clause-d
 returns-in-Err-inspect-clause-decided g c =
     let old = g.D.LogDisk.drive c.args.disk.now in
     let new = g.D.LogDisk.drive c.inspect.new.disk in
-    subst (λ (why : Refusal). IsDecidedBy {T = Seen} old new (Err why)) (sym c.log_refusal.ensures)
+    subst (λ (why : Refusal). IsDecidedBy {T = Seen} most_cells old new (Err why)) (sym c.log_refusal.ensures)
     (decided-err old (g.D.LogDisk.drive c.attach.new.self) new c.in-Err-inspect.fault c.inspect.result c.in-Err-inspect.is c.attach.ensures.stays c.attach.ensures.cause.later c.inspect.ensures.exact c.inspect.ensures.whole)

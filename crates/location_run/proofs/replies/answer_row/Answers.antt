@@ -1,29 +1,44 @@
-use Rattle.std.proofs.Common.{[], sym, ◌∙◌, ap, arith}
-use Rattle.plain_list.specs.World.{IsWorld}
+use Rattle.std.proofs.Common.{inr, sym, ◌∙◌, ap}
 use Rattle.plain_list.specs.Answer.{answer_of}
 use Rattle.plain_list.specs.History.{world_after}
 use Rattle.plain_list.proofs.Worlds.{IsWorld-world_after}
+use Rattle.location_run.proofs.PlaySteps.{calls-row, going-noted}
 use Rattle.location_run.proofs.replies.answer_row.Goals as goal
 
-none : IsWorld []
-none = record { rising = tt; size = omega arith }
-
-pub returns-in_ok-within-in-Within-clause-ok : goal.returns-in_ok-within-in-Within-clause-ok
-returns-in_ok-within-in-Within-clause-ok g c =
-    let world = world_after [] c.args.book.now.entries in
+pub returns-in-Ok-clause-ok : goal.returns-in-Ok-clause-ok
+returns-in-Ok-clause-ok g c =
+    let book = c.args.book.now in
+    let world = world_after book.opening.world book.entries in
     let seen = c.in_ok-seen-in-Within.ensures in
     record {
       notes = seen.ok;
-      answer_is = c.in_ok-within-in-Within.ensures world _ (IsWorld-world_after [] c.args.book.now.entries none) c.requires.points seen.index ∙ ap (answer_of world) (sym c.in-Within.is);
+      answer_is = c.in-Ok.ensures world _ (IsWorld-world_after book.opening.world book.entries c.requires.world) c.requires.points seen.index ∙ ap (answer_of world) (sym c.in-Within.is);
       full_is = tt;
     }
 
-pub returns-in_ok-near-in-Near-clause-ok : goal.returns-in_ok-near-in-Near-clause-ok
-returns-in_ok-near-in-Near-clause-ok g c =
-    let world = world_after [] c.args.book.now.entries in
+pub returns-in_default-clause-err : goal.returns-in_default-clause-err
+returns-in_default-clause-err g c =
+    let noted = c.in_ok-seen-in-Within.ensures.ok in
+    record {
+      calls = inr (calls-row c.args.number c.args.row.now c.args.book.now c.look.new.book noted);
+      stops = going-noted c.args.number c.args.row.now c.args.book.now c.look.new.book c.requires.room.going noted;
+    }
+
+pub returns-in-Ok-near-clause-ok : goal.returns-in-Ok-near-clause-ok
+returns-in-Ok-near-clause-ok g c =
+    let book = c.args.book.now in
+    let world = world_after book.opening.world book.entries in
     let seen = c.in_ok-seen-in-Near.ensures in
     record {
       notes = seen.ok;
-      answer_is = c.in_ok-near-in-Near.ensures world _ (IsWorld-world_after [] c.args.book.now.entries none) c.requires.points seen.index ∙ ap (answer_of world) (sym c.in-Near.is);
+      answer_is = c.in-Ok-near.ensures world _ (IsWorld-world_after book.opening.world book.entries c.requires.world) c.requires.points seen.index ∙ ap (answer_of world) (sym c.in-Near.is);
       full_is = tt;
+    }
+
+pub returns-in_default-near-clause-err : goal.returns-in_default-near-clause-err
+returns-in_default-near-clause-err g c =
+    let noted = c.in_ok-seen-in-Near.ensures.ok in
+    record {
+      calls = inr (calls-row c.args.number c.args.row.now c.args.book.now c.look-in-Near.new.book noted);
+      stops = going-noted c.args.number c.args.row.now c.args.book.now c.look-in-Near.new.book c.requires.room.going noted;
     }

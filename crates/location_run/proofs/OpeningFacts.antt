@@ -1,0 +1,97 @@
+-- What the opening of a log comes to.
+use Rattle.std.proofs.Common.{◌≡◌, ◌⊎◌, inl, inr, ◌∙◌, ℕ, ◌+◌, ◌<◌, ◌≤◌, List, length, take, get_or, Some, Result, Ok, Err, refl, sym, ap, subst}
+use Rattle.std.specs.Prelude.{IfErr}
+use Rattle.std.proofs.lemmas.List.{take_more}
+use Rattle.causes.specs.Causes.{Rose}
+use Rattle.zorder.specs.declared.points.Placed.{Placed}
+use Rattle.zorder.specs.Key.{IsPoint}
+use Rattle.table_share.specs.Worlds.{AreAtPoints}
+use Rattle.disk_trait.specs.declared.disk.AttachFault.{AttachFault}
+use Rattle.disk_trait.specs.declared.disk.AttachFault.TheVariants as attach_fault
+use Rattle.disk_trait.specs.Drive.{Drive, KeepsLaws, Stays, CountsAttach}
+use Rattle.cell_format.specs.declared.cell.Cell.{Cell}
+use Rattle.recovery.specs.Recovers.{Recovers}
+use Rattle.recovery.specs.Faults.{IsFault, IsInBytes}
+use Rattle.recovery.specs.Found.{IsFree}
+use Rattle.recovery.specs.Opening.{KeepsCells}
+use Rattle.recovery.specs.declared.seen.OpenFault.{OpenFault}
+use Rattle.recovery.specs.declared.seen.OpenFault.TheVariants as open_fault
+use Rattle.recovery.proofs.OnlyReading.{rose-earlier}
+use Rattle.recovery.proofs.OpeningLemmas.{leaves-trans, leaves-stays}
+use Rattle.recovery.proofs.PieceLemmas.{all_append}
+use Rattle.csv_rows.specs.declared.rows.Refusal.{Refusal}
+use Rattle.csv_rows.specs.declared.rows.Refusal.TheVariants as refusal
+use Rattle.location_run.specs.Checking.{IsReadingCause, attach_refusal, log_refusal}
+use Rattle.location_run.specs.Origin.{most_played}
+use Rattle.location_run.specs.Playing.{IsNotOpened}
+
+-- one object more at a point
+pub points-more : (world : List Placed) (i : ℕ) (d : Placed) → i < length world → AreAtPoints (take i world) → IsPoint (get_or world i d).at → AreAtPoints (take (i + 1) world)
+points-more world i d lt all at = subst AreAtPoints (sym (take_more world i d lt)) (all_append (λ (m : Placed). IsPoint m.at) (take i world) _ all (at, tt))
+
+-- a call that only reads leaves what recovers
+pub keeps-stays-cells : (w : ℕ) (a b : Drive) → KeepsLaws a → Stays a b → KeepsCells w a b
+keeps-stays-cells w a b laws stays bytes cells told now = leaves-stays a b (Recovers w cells) laws now stays
+
+pub keeps-cells-after : (w : ℕ) (a b c : Drive) → KeepsLaws a → Stays a b → KeepsCells w b c → KeepsCells w a c
+keeps-cells-after w a b c laws stays keeps bytes cells told now =
+    leaves-trans a b c (Recovers w cells) (leaves-stays a b (Recovers w cells) laws now stays)
+    (keeps bytes cells (stays.bytes ∙ told) (λ x left. now x (stays.images x left)))
+
+-- why a log isn't opened
+reading-after : (most : ℕ) (a b c : Drive) (cause : OpenFault) → Stays a b → a.faults ≤ b.faults → ((bytes : List ℕ) → b.bytes ≡ Some bytes → IsFault 1 most bytes cause)
+    → (cause ≡ open_fault.Disk → Rose b.faults c.faults) → IsReadingCause most a c (log_refusal cause)
+reading-after most a b c open_fault.NotLog stays later wrong rose = λ bytes told. wrong bytes (stays.bytes ∙ told)
+reading-after most a b c (open_fault.OldLog version width) stays later wrong rose = λ bytes told. wrong bytes (stays.bytes ∙ told)
+reading-after most a b c (open_fault.Damaged cell cause) stays later wrong rose = λ bytes told. wrong bytes (stays.bytes ∙ told)
+reading-after most a b c open_fault.Disk stays later wrong rose = rose-earlier a.faults b.faults c.faults later (rose refl)
+reading-after most a b c open_fault.Memory stays later wrong rose = tt
+reading-after most a b c (open_fault.TooLong limit) stays later wrong rose = λ bytes told. (wrong bytes (stays.bytes ∙ told)).1
+
+-- an answer that the bytes don't decide is want of memory where the count didn't rise
+free-memory : (a b c : Drive) (cause : OpenFault) → a.faults ≤ b.faults → (Rose a.faults c.faults → ⊥) → IsFree b c cause → log_refusal cause ≡ refusal.Memory
+free-memory a b c cause later calm (inl e) = ap log_refusal e
+free-memory a b c cause later calm (inr rose) = absurd (calm (rose-earlier a.faults b.faults c.faults later rose))
+
+pub open-refused : (a b c : Drive) (why : OpenFault) → KeepsLaws a → Stays a b → a.faults ≤ b.faults → ((bytes : List ℕ) → b.bytes ≡ Some bytes → IsFault 1 most_played bytes why)
+    → ((bytes : List ℕ) (fault : OpenFault) → b.bytes ≡ Some bytes → IsInBytes fault → IsFault 1 most_played bytes fault → (why ≡ fault) ⊎ IsFree b c why)
+    → ((bytes : List ℕ) (cells : List Cell) → b.bytes ≡ Some bytes → Recovers 1 cells bytes → length cells ≤ most_played → IsFree b c why)
+    → KeepsCells 1 b c → (why ≡ open_fault.Disk → Rose b.faults c.faults) → IsNotOpened a c (log_refusal why)
+open-refused a b c why laws stays later wrong exact whole keeps rose = record {
+  cause = reading-after most_played a b c why stays later wrong rose;
+  exact = λ bytes fault told shown at calm. named fault calm (exact bytes fault (stays.bytes ∙ told) shown at);
+  whole = λ good. free-memory a b c why later good.calm (whole good.bytes good.first (stays.bytes ∙ good.told) good.recovers good.few);
+  keeps = keeps-cells-after 1 a b c laws stays keeps;
+}
+  where
+    named : (fault : OpenFault) → (Rose a.faults c.faults → ⊥) → (why ≡ fault) ⊎ IsFree b c why → (log_refusal why ≡ log_refusal fault) ⊎ (log_refusal why ≡ refusal.Memory)
+    named fault calm (inl same) = inl (ap log_refusal same)
+    named fault calm (inr free) = inr (free-memory a b c why later calm free)
+
+-- a file that wasn't attached
+pub attach-refused : {T : Type 0} (a b : Drive) (result : Result T AttachFault) (fault : AttachFault) → result ≡ Err fault → KeepsLaws a → Stays a b → CountsAttach a b result → IsNotOpened a b (attach_refusal fault)
+attach-refused a b result attach_fault.Disk is laws stays counts = record {
+  cause = counts.failed is;
+  exact = λ bytes fault told shown at calm. absurd (calm (counts.failed is));
+  whole = λ good. absurd (good.calm (counts.failed is));
+  keeps = keeps-stays-cells 1 a b laws stays;
+}
+attach-refused a b result attach_fault.Memory is laws stays counts = record {
+  cause = tt;
+  exact = λ bytes fault told shown at calm. inr refl;
+  whole = λ good. refl;
+  keeps = keeps-stays-cells 1 a b laws stays;
+}
+
+-- memory ran out once the log was open
+pub memory-refused : (a c : Drive) (why : Refusal) → why ≡ refusal.Memory → KeepsCells 1 a c → IsNotOpened a c why
+memory-refused a c why memory keeps = subst (IsNotOpened a c) (sym memory) (record {
+  cause = tt;
+  exact = λ bytes fault told shown at calm. inr refl;
+  whole = λ good. refl;
+  keeps = keeps;
+})
+
+pub if-err : {A B : Type 0} (P Q : B → Type 0) (result : Result A B) → ((b : B) → P b → Q b) → IfErr result P → IfErr result Q
+if-err P Q (Ok a) weaker holds = tt
+if-err P Q (Err b) weaker holds = weaker b holds

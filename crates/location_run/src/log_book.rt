@@ -1,0 +1,89 @@
+//! A book over the log in a file.
+ghost use Rattle.std.specs.Prelude.{◌≡◌, ◌≤◌, Some, None, IfOk, IfErr};
+ghost use Rattle.zorder.specs.Key.{IsPoint};
+ghost use Rattle.table_share.specs.Worlds.{AreAtPoints};
+ghost use Rattle.plain_list.specs.World.{IsWorld};
+ghost use Rattle.kept_log.specs.Kept.{IsOpened, found_state};
+ghost use Rattle.recovery.specs.Found.{IsFound};
+ghost use Rattle.location_run.specs.Origin.{most_played};
+ghost use Rattle.location_run.specs.Playing.{IsNewBook, OpensBook, IsNotOpened};
+
+use crate::log_faults::{attach_refusal, log_refusal};
+use crate::making::Unmade;
+use commit_book::Book;
+use csv_rows::Refusal;
+use disk_trait::LogDisk;
+use flat_index::FlatIndex;
+use plain_list::World;
+use recovery::{OpenRefused, Opened, open};
+use std::alloc::Global;
+use zorder::Point;
+
+// How many cells a log may have over which rows are played.
+const MOST_PLAYED: u64 = 16_000_000;
+
+/// A book over the log in a file of this name, with buckets of this size.
+pub(crate) fn open_book<D: LogDisk>(
+    alloc: Global,
+    file: &str,
+    size: u32,
+    mut disk: D,
+) -> Result<Book<FlatIndex, D>, Unmade<D>>
+    ensures opened { IfOk result (OpensBook D.drive (D.drive disk) size) }
+    ensures new { IfOk result (λ b. IsNewBook b) }
+    ensures refused { IfErr result (λ e. IsNotOpened (D.drive disk) (D.drive e.disk) e.why) }
+{
+    if let Err(fault) = disk.attach(alloc, file, false) {
+        let why = attach_refusal(fault);
+        return Err(Unmade { disk, why });
+    }
+    match open(alloc, disk, 1, MOST_PLAYED) {
+        Ok(opened) => book_of(alloc, opened, size),
+        Err(OpenRefused { disk, cause }) => {
+            let why = log_refusal(cause);
+            Err(Unmade { disk, why })
+        }
+    }
+}
+
+// A book that goes on with a log as it was opened.
+fn book_of<D: LogDisk>(
+    alloc: Global,
+    opened: Opened<D>,
+    size: u32,
+) -> Result<Book<FlatIndex, D>, Unmade<D>>
+    requires log { (opened.log.cells ≡ opened.seen.cells) × (opened.log.failed ≡ None) }
+    requires found { IsFound 1 most_played (D.drive opened.start.value) opened.seen }
+    requires ready { IsOpened 1 (found_state opened.seen) (D.drive opened.start.value) (D.drive opened.log.disk) }
+    requires later { (D.drive opened.start.value).faults ≤ (D.drive opened.log.disk).faults }
+    ensures opening { IfOk result (λ b. (b.opening ≡ found_state opened.seen) × (b.bucket ≡ size)) }
+    ensures log { IfOk result (λ b. b.log ≡ Some (record { disk = opened.log.disk; cells = opened.log.cells; failed = None; start = opened.start.value; first = opened.log.cells })) }
+    ensures new { IfOk result (λ b. IsNewBook b) }
+    ensures back { IfErr result (λ e. (e.disk ≡ opened.log.disk) × (e.why ≡ Refusal.Memory)) }
+{
+    keep_points(&opened.seen.world);
+    match Book::opened(alloc, opened, size) {
+        Ok(book) => Ok(book),
+        Err(back) => Err(Unmade {
+            disk: back.log.give_back(),
+            why: Refusal::Memory,
+        }),
+    }
+}
+
+// Tells what the type of an object says of its point.
+fn keep_points(world: &World)
+    ensures points { AreAtPoints world.now }
+    ensures world { IsWorld world.now }
+{
+    for member in world.as_slice() {
+        keep_point(member.at);
+    }
+}
+
+fn keep_point(at: Point)
+    ensures { IsPoint at }
+{
+    let _x = at.x;
+    let _y = at.y;
+}
