@@ -1,26 +1,29 @@
 //! Worked calls of a book.
+//!
+//! Functions over the bounds of an index and a drive make the calls, so that nothing of a drive is known where they are proved.
+use crate::fixtures::put;
 use bucket_versions::Row;
-use commit_book::{Book, BookFault, Done};
+use commit_book::{Book, BookFault};
+use disk_mem::MemDisk;
+use disk_trait::LogDisk;
 use flat_index::FlatIndex;
 use index_layer::{Index, Part};
 use plain_list::{Answer, Op};
 use split_prepare::prepare;
+use std::alloc::Global;
+use std::process::Abort;
 use std::test::Fail;
 use zorder::{Name, Point, Region, child, key};
 
 const HALF: u32 = 2147483648;
 
-fn put(book: &mut Book<FlatIndex>, row: u32, id: u64, x: u32, y: u32) -> Result<Done, BookFault> {
-    let at = Point { x, y };
-    book.update(1, row, &Op::Put { id, at })
-}
-
-#[test]
-fn a_book_answers_as_one_list(rt: HostRuntime) -> Result<(), Fail> {
-    let mut book = Book::<FlatIndex>::fresh(rt.alloc(), 64)?;
-    let done = put(&mut book, 1, 7, 3, 5)?;
+fn answers_as_one_list<I: Index, D: LogDisk>(
+    rt: &impl Abort,
+    book: &mut Book<I, D>,
+) -> Result<(), Fail> {
+    let done = put(book, 1, 7, 3, 5)?;
     assert!(rt; done.place == 1 && matches!(done.answer, Answer::Done));
-    let done = put(&mut book, 2, 7, 8, 8)?;
+    let done = put(book, 2, 7, 8, 8)?;
     assert!(rt; done.place == 2 && matches!(done.answer, Answer::Present(Point { x: 3, y: 5 })));
     let at = Point { x: 8, y: 8 };
     let done = book.update(1, 3, &Op::Move { id: 7, at })?;
@@ -34,21 +37,35 @@ fn a_book_answers_as_one_list(rt: HostRuntime) -> Result<(), Fail> {
 }
 
 #[test]
-fn the_fifth_point_makes_a_bucket_of_four_full(rt: HostRuntime) -> Result<(), Fail> {
-    let mut book = Book::<FlatIndex>::fresh(rt.alloc(), 4)?;
+fn a_book_answers_as_one_list(rt: HostRuntime) -> Result<(), Fail> {
+    let mut book = Book::<FlatIndex, MemDisk>::fresh(rt.alloc(), 64)?;
+    answers_as_one_list(&rt, &mut book)
+}
+
+fn fills_a_bucket_of_four<I: Index, D: LogDisk>(
+    rt: &impl Abort,
+    book: &mut Book<I, D>,
+) -> Result<(), Fail> {
     for id in 1..5u32 {
-        let done = put(&mut book, id, u64::from(id), id, 0)?;
+        let done = put(book, id, u64::from(id), id, 0)?;
         assert!(rt; done.full.is_none(), "after {id}");
     }
-    let done = put(&mut book, 5, 5, 1, 1)?;
+    let done = put(book, 5, 5, 1, 1)?;
     assert!(rt; done.full.is_some_and(|name| name.len() == 0));
     assert!(rt; book.full().is_some_and(|name| name.len() == 0));
     Ok(())
 }
 
 #[test]
-fn a_snapshot_keeps_its_rows_while_the_book_goes_on(rt: HostRuntime) -> Result<(), Fail> {
-    let mut book = Book::<FlatIndex>::fresh(rt.alloc(), 64)?;
+fn the_fifth_point_makes_a_bucket_of_four_full(rt: HostRuntime) -> Result<(), Fail> {
+    let mut book = Book::<FlatIndex, MemDisk>::fresh(rt.alloc(), 4)?;
+    fills_a_bucket_of_four(&rt, &mut book)
+}
+
+fn keeps_the_rows_of_a_snapshot<I: Index, D: LogDisk>(
+    rt: &impl Abort,
+    mut book: Book<I, D>,
+) -> Result<(), Fail> {
     let _first = put(&mut book, 1, 7, 3, 5)?;
     let lo = Point { x: 0, y: 0 };
     let hi = Point { x: 9, y: 9 };
@@ -63,12 +80,18 @@ fn a_snapshot_keeps_its_rows_while_the_book_goes_on(rt: HostRuntime) -> Result<(
     Ok(())
 }
 
+#[test]
+fn a_snapshot_keeps_its_rows_while_the_book_goes_on(rt: HostRuntime) -> Result<(), Fail> {
+    let book = Book::<FlatIndex, MemDisk>::fresh(rt.alloc(), 64)?;
+    keeps_the_rows_of_a_snapshot(&rt, book)
+}
+
 fn row(id: u64, x: u32, y: u32) -> Row {
     let key = key(Point { x, y });
     Row { key, id }
 }
 
-fn has_row(index: &FlatIndex, name: &Name, row: &Row) -> bool {
+fn has_row<I: Index>(index: &I, name: &Name, row: &Row) -> bool {
     match index.part(name) {
         Part::Leaf(bucket) => bucket.holds(row),
         Part::Inner => false,
@@ -76,13 +99,14 @@ fn has_row(index: &FlatIndex, name: &Name, row: &Row) -> bool {
     }
 }
 
-fn is_inner(index: &FlatIndex, name: &Name) -> bool {
+fn is_inner<I: Index>(index: &I, name: &Name) -> bool {
     matches!(index.part(name), Part::Inner)
 }
 
-#[test]
-fn a_split_is_refused_by_the_cause_that_comes_first(rt: HostRuntime) -> Result<(), Fail> {
-    let mut book = Book::<FlatIndex>::fresh(rt.alloc(), 4)?;
+fn refuses_splits<I: Index, D: LogDisk>(
+    rt: &impl Abort,
+    book: &mut Book<I, D>,
+) -> Result<(), Fail> {
     let whole = Name::whole();
     let lower = child(&whole, false);
     assert_eq!(rt; book.begin(&lower).err(), Some(BookFault::NoLeaf));
@@ -106,11 +130,19 @@ fn a_split_is_refused_by_the_cause_that_comes_first(rt: HostRuntime) -> Result<(
 }
 
 #[test]
-fn a_point_that_comes_during_a_split_stands_in_its_child(rt: HostRuntime) -> Result<(), Fail> {
-    let mut book = Book::<FlatIndex>::fresh(rt.alloc(), 4)?;
+fn a_split_is_refused_by_the_cause_that_comes_first(rt: HostRuntime) -> Result<(), Fail> {
+    let mut book = Book::<FlatIndex, MemDisk>::fresh(rt.alloc(), 4)?;
+    refuses_splits(&rt, &mut book)
+}
+
+fn takes_a_point_during_a_split<I: Index, D: LogDisk>(
+    rt: &impl Abort,
+    alloc: Global,
+    mut book: Book<I, D>,
+) -> Result<(), Fail> {
     let whole = Name::whole();
     let ticket = book.begin(&whole)?;
-    let prepared = prepare(rt.alloc(), &ticket, 1)?;
+    let prepared = prepare(alloc, &ticket, I::WIDTH)?;
     let _late = put(&mut book, 1, 9, HALF, 0)?;
     book.install(&prepared)?;
     assert_eq!(rt;
@@ -127,8 +159,16 @@ fn a_point_that_comes_during_a_split_stands_in_its_child(rt: HostRuntime) -> Res
 }
 
 #[test]
-fn five_points_are_spread_over_the_two_children(rt: HostRuntime) -> Result<(), Fail> {
-    let mut book = Book::<FlatIndex>::fresh(rt.alloc(), 4)?;
+fn a_point_that_comes_during_a_split_stands_in_its_child(rt: HostRuntime) -> Result<(), Fail> {
+    let book = Book::<FlatIndex, MemDisk>::fresh(rt.alloc(), 4)?;
+    takes_a_point_during_a_split(&rt, rt.alloc(), book)
+}
+
+fn spreads_five_points<I: Index, D: LogDisk>(
+    rt: &impl Abort,
+    alloc: Global,
+    mut book: Book<I, D>,
+) -> Result<(), Fail> {
     let points = [
         (1, 0, 0),
         (2, HALF, 0),
@@ -141,7 +181,7 @@ fn five_points_are_spread_over_the_two_children(rt: HostRuntime) -> Result<(), F
     }
     let whole = Name::whole();
     let ticket = book.begin(&whole)?;
-    let prepared = prepare(rt.alloc(), &ticket, 1)?;
+    let prepared = prepare(alloc, &ticket, I::WIDTH)?;
     book.install(&prepared)?;
     assert!(rt; book.full().is_none());
     let index = book.into_parts().index;
@@ -155,4 +195,10 @@ fn five_points_are_spread_over_the_two_children(rt: HostRuntime) -> Result<(), F
         );
     }
     Ok(())
+}
+
+#[test]
+fn five_points_are_spread_over_the_two_children(rt: HostRuntime) -> Result<(), Fail> {
+    let book = Book::<FlatIndex, MemDisk>::fresh(rt.alloc(), 4)?;
+    spreads_five_points(&rt, rt.alloc(), book)
 }
