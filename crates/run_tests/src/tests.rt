@@ -1,19 +1,10 @@
 //! Runs over sources and sinks in memory: worked inputs, each refusal's line, and faults of both ends.
+use crate::fixtures::{HEADER, text, words};
 use disk_mem::MemDisk;
 use io_edge::{MemSink, MemSource};
 use location_run::{Outcome, run};
 use std::alloc::{AllocError, Global};
 use std::test::Fail;
-
-const HEADER: &str = "session,op,id,x,y,a,b\n";
-
-fn words(alloc: Global, all: &[&str]) -> Result<Vec<String>, AllocError> {
-    let mut words = Vec::new(alloc);
-    for word in all {
-        words.push(String::from_str(alloc, word)?)?;
-    }
-    Ok(words)
-}
 
 fn drive(alloc: Global) -> Result<MemDisk, Fail> {
     Ok(MemDisk::new(alloc, Vec::new(alloc), 0, 0, Vec::new(alloc))?)
@@ -36,10 +27,6 @@ fn play(alloc: Global, input: &str, reads: &[u64], puts: &[u64]) -> Result<(u8, 
     let mut sink = MemSink::new(alloc, 1 << 16, puts.to_vec(alloc)?)?;
     let outcome = run_apart(alloc, words.as_slice(), &mut source, &mut sink)?;
     Ok((outcome.status, sink.bytes().to_vec(alloc)?))
-}
-
-fn text(alloc: Global, rows: &str) -> Result<String, AllocError> {
-    format!(in alloc; "{HEADER}{rows}")
 }
 
 #[test]
@@ -118,11 +105,12 @@ fn other_words_are_usage(rt: HostRuntime) -> Result<(), Fail> {
     let none: &[&str] = &["play"];
     let unnamed: &[&str] = &["init", "-"];
     let empty: &[&str] = &["check", ""];
-    let kept: &[&str] = &["play", "log"];
+    let option: &[&str] = &["play", "-log"];
+    let nameless: &[&str] = &["play", "", "--bucket", "4"];
     let small: &[&str] = &["play", "-", "--bucket", "3"];
     let large: &[&str] = &["play", "-", "--bucket", "4097"];
     let before: &[&str] = &["play", "--bucket", "4", "-"];
-    for words in [none, unnamed, empty, kept, small, large, before] {
+    for words in [none, unnamed, empty, option, nameless, small, large, before] {
         let (status, events, taken) = ask(alloc, words, HEADER)?;
         assert_eq!(rt; status, 2);
         assert_eq!(rt; events, 0);
@@ -130,26 +118,6 @@ fn other_words_are_usage(rt: HostRuntime) -> Result<(), Fail> {
     }
     let (status, _, _) = ask(alloc, &["play", "-", "--bucket", "4096"], HEADER)?;
     assert_eq!(rt; status, 0);
-    Ok(())
-}
-
-#[test]
-fn five_ids_on_one_point_are_split_64_times(rt: HostRuntime) -> Result<(), Fail> {
-    let alloc = rt.alloc();
-    let rows = text(
-        alloc,
-        "1,put,1,3,5,,\n1,put,2,3,5,,\n1,put,3,3,5,,\n1,put,4,3,5,,\n1,put,5,3,5,,\n",
-    )?;
-    let (status, events, taken) = ask(alloc, &["play", "-", "--bucket", "4"], &rows)?;
-    assert_eq!(rt; status, 0);
-    assert_eq!(rt; events, 133);
-    assert_eq!(rt;
-        taken.as_slice(),
-        b"row,place,answer,detail\n1,1,done,\n2,2,done,\n3,3,done,\n4,4,done,\n5,5,done,\n".as_slice()
-    );
-    let (status, events, _) = ask(alloc, &["play", "-"], &rows)?;
-    assert_eq!(rt; status, 0);
-    assert_eq!(rt; events, 5);
     Ok(())
 }
 
