@@ -1,5 +1,5 @@
 //! Rows that are played over a log: what is kept, what a later run finds, and faults of each end.
-use crate::fixtures::{EMPTY_LOG, Faults, HEADER, Left, NO_FAULTS, PUT_LOG, run_on, text};
+use crate::fixtures::{EMPTY_LOG, Faults, Left, NO_FAULTS, PUT_LOG, run_on, text};
 use disk_mem::{DiskCall, Fail as Failing, MemDisk};
 use plain_list::{Entry, Lost, Op};
 use std::alloc::Global;
