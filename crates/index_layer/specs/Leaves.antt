@@ -1,5 +1,5 @@
 -- The leaves of an index: names that tile the key space, with the rows of a bucket under each.
-use Rattle.std.specs.Prelude.{ℕ, Bool, List, [], ◌∷◌, ◌++◌, map, Option, if◌then◌else◌, IsTrue, ⊤}
+use Rattle.std.specs.Prelude.{ℕ, Bool, List, [], ◌∷◌, ◌++◌, map, Option, if◌then◌else◌, ⊤}
 use Rattle.std.specs.List.{list_any, find, flat_map, AllByRecursion}
 use Rattle.zorder.specs.Key.{is_under}
 use Rattle.zorder.specs.SameName.{same_name}

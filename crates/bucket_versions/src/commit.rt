@@ -1,0 +1,44 @@
+//! The step that a change of an index waits for.
+ghost use Rattle.std.specs.Prelude.{◌≡◌, ⊤, IsTrue, IsFalse};
+
+/// A step that may fail, as the append of a record. Who is handed one takes it when all memory is there, and before anything changes.
+pub trait Commit {
+    /// What it needs.
+    ghost can: { Self → Type 0 };
+
+    /// What succeeding makes of it.
+    ghost done: { Self → Self → Type 0 };
+
+    /// What failing makes of it.
+    ghost lost: { Self → Self → Type 0 };
+
+    /// Takes the step, and answers whether it succeeded.
+    fn commit(&mut self) -> bool
+        requires { can self.old }
+        ensures done { IsTrue result → done self.old self.new }
+        ensures lost { IsFalse result → lost self.old self.new };
+}
+
+/// No step: a change that waits for nothing.
+pub struct AtOnce;
+
+impl Commit for AtOnce {
+    ghost can = { λ s. ⊤ };
+
+    ghost done = { λ old new. new ≡ old };
+
+    ghost lost = { λ old new. ⊥ };
+
+    fn commit(&mut self) -> bool {
+        true
+    }
+}
+
+/// Why nothing was changed.
+#[derive(Clone, Copy, Debug, PartialEq, Eq)]
+pub enum Undone {
+    /// The step failed.
+    Lost,
+    /// Memory ran out, and the step was not taken.
+    Memory,
+}
