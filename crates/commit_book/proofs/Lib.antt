@@ -21,6 +21,7 @@ pub mod Readied
 pub mod RefusalLemmas
 pub mod Rising
 pub mod RisingMembers
+pub mod Sent
 pub mod SplitCalls
 pub mod SplitCells
 pub mod SplitHistories

@@ -20,6 +20,7 @@ mod history;
 mod members;
 mod open_splits;
 mod opening;
+mod sending;
 mod table;
 mod updates;
 
