@@ -150,6 +150,16 @@ impl Bucket {
         Bucket::from_rows(self.alloc, places::between(&from.rows, lo, hi))
     }
 
+    /// This bucket, under a pointer that indexes share.
+    pub fn into_shared(self) -> Result<Arc<Bucket>, Memory>
+        ensures { IfOk result (λ b. arc_value b ≡ self) }
+    {
+        match Arc::new(self.alloc, self) {
+            Ok(bucket) => Ok(bucket),
+            Err(refused) => Err(AllocError::from(refused).into()),
+        }
+    }
+
     /// The rows of the base, in order.
     pub fn base_rows(&self) -> &[Row]
         ensures base { result.now ≡ self.now.base }

@@ -4,8 +4,10 @@ ghost use Rattle.std.specs.Arc.{arc_value};
 ghost use Rattle.bucket_versions.specs.Told.{Told};
 ghost use Rattle.index_layer.specs.Leaves.{Leaf, AreLeaves, one_leaf, has_name, leaf_under, replaced, split, AreUnder, AreAllUnder};
 ghost use Rattle.index_layer.specs.Part.{IsPart};
+ghost use Rattle.index_layer.specs.RowChanges.{ChangesAt, Moves, Holds};
+ghost use Rattle.bucket_versions.specs.Rows.{put_row, gone_row};
 
-use bucket_versions::{Bucket, Commit, Undone};
+use bucket_versions::{Bucket, Commit, Row, Undone};
 use std::alloc::Global;
 use std::sync::Arc;
 use zorder::{Memory, Name};
@@ -35,8 +37,8 @@ pub enum IndexFault {
 
 /// Leaves whose names tile the key space, each with a bucket of rows under its name.
 ///
-/// Indexes share what they have in common, and a call on one changes no other. `replace`, `replace_two` and `divide` change the
-/// index itself, in place where an index can do better than make a new one; on an `Err` its leaves are as before.
+/// Indexes share what they have in common, and a call on one changes no other. The calls that wait for a step change the index
+/// itself, in place where a form can do better than make a new one; on an `Err` its leaves are as before.
 pub trait Index: Sized + Drop {
     /// The leaves, in the order of their keys.
     ghost leaves: { Self → List Leaf };
@@ -78,6 +80,38 @@ pub trait Index: Sized + Drop {
         ensures ok { IfOk result (λ index. leaves index ≡ split WIDTH name.now (map arc_value children.now) (leaves self.now)) }
         ensures no_leaf { IsErrOf result (IndexFault.NoLeaf name.now) ↔ (has_name name.now (leaves self.now) ≡ false) }
         ensures fault { IfErr result (λ e. (e ≡ IndexFault.NoLeaf name.now) ⊎ (e ≡ IndexFault.Memory)) };
+
+    /// The index with a row more in the leaf of its key.
+    fn with_row(&self, row: Row) -> Result<Self, Memory>
+        requires { Holds row (leaves self.now) false }
+        ensures { IfOk result (λ index. ChangesAt row.key (put_row row) (leaves self.now) (leaves index)) }
+    {
+        let (name, bucket) = self.leaf_of(row.key);
+        let Ok(bucket) = bucket.with_put(row) else {
+            return Err(Memory);
+        };
+        let bucket = bucket.into_shared()?;
+        let Ok(index) = self.replaced(&name, bucket) else {
+            return Err(Memory);
+        };
+        Ok(index)
+    }
+
+    /// The index with a row less in the leaf of its key.
+    fn without_row(&self, row: &Row) -> Result<Self, Memory>
+        requires { Holds row.now (leaves self.now) true }
+        ensures { IfOk result (λ index. ChangesAt row.now.key (gone_row row.now) (leaves self.now) (leaves index)) }
+    {
+        let (name, bucket) = self.leaf_of(row.key);
+        let Ok(bucket) = bucket.with_gone(*row) else {
+            return Err(Memory);
+        };
+        let bucket = bucket.into_shared()?;
+        let Ok(index) = self.replaced(&name, bucket) else {
+            return Err(Memory);
+        };
+        Ok(index)
+    }
 
     /// Puts another bucket under a leaf's name, once the step has succeeded.
     fn replace<C: Commit>(
@@ -149,6 +183,64 @@ pub trait Index: Sized + Drop {
         ensures told { Told C.done C.lost commit.old commit.new result }
     {
         let Ok(index) = self.split(name, children) else {
+            return Err(Undone::Memory);
+        };
+        if !commit.commit() {
+            return Err(Undone::Lost);
+        }
+        *self = index;
+        Ok(())
+    }
+
+    /// Adds a row to the leaf of its key, once the step has succeeded.
+    fn put_row<C: Commit>(&mut self, row: Row, commit: &mut C) -> Result<(), Undone>
+        requires can { C.can commit.old }
+        requires absent { Holds row (leaves self.old) false }
+        ensures ok { OnOk result (ChangesAt row.key (put_row row) (leaves self.old) (leaves self.new)) }
+        ensures err { OnErr result (leaves self.new ≡ leaves self.old) }
+        ensures told { Told C.done C.lost commit.old commit.new result }
+    {
+        let Ok(index) = self.with_row(row) else {
+            return Err(Undone::Memory);
+        };
+        if !commit.commit() {
+            return Err(Undone::Lost);
+        }
+        *self = index;
+        Ok(())
+    }
+
+    /// Takes a row out of the leaf of its key, once the step has succeeded.
+    fn take_row<C: Commit>(&mut self, row: &Row, commit: &mut C) -> Result<(), Undone>
+        requires can { C.can commit.old }
+        requires present { Holds row.now (leaves self.old) true }
+        ensures ok { OnOk result (ChangesAt row.now.key (gone_row row.now) (leaves self.old) (leaves self.new)) }
+        ensures err { OnErr result (leaves self.new ≡ leaves self.old) }
+        ensures told { Told C.done C.lost commit.old commit.new result }
+    {
+        let Ok(index) = self.without_row(row) else {
+            return Err(Undone::Memory);
+        };
+        if !commit.commit() {
+            return Err(Undone::Lost);
+        }
+        *self = index;
+        Ok(())
+    }
+
+    /// Takes a row out of the leaf of its key and adds another one to that of its own, once the step has succeeded.
+    fn move_row<C: Commit>(&mut self, from: &Row, to: Row, commit: &mut C) -> Result<(), Undone>
+        requires can { C.can commit.old }
+        requires present { Holds from.now (leaves self.old) true }
+        requires absent { Holds to (leaves self.old) false }
+        ensures ok { OnOk result (Moves from.now to (leaves self.old) (leaves self.new)) }
+        ensures err { OnErr result (leaves self.new ≡ leaves self.old) }
+        ensures told { Told C.done C.lost commit.old commit.new result }
+    {
+        let Ok(between) = self.without_row(from) else {
+            return Err(Undone::Memory);
+        };
+        let Ok(index) = between.with_row(to) else {
             return Err(Undone::Memory);
         };
         if !commit.commit() {

@@ -1,0 +1,21 @@
+-- Leaves of which one has a row more or less.
+use Rattle.std.specs.Prelude.{◌≡◌, ℕ, Bool, List, Some, IfSome}
+use Rattle.bucket_versions.specs.declared.row.Row.{Row}
+use Rattle.bucket_versions.specs.Rows.{Rows, has_row, put_row, gone_row}
+use Rattle.index_layer.specs.Leaves.{Leaf, leaf_under, replaced}
+
+-- whether a row is there, in the leaf that its key is under
+abbrev pub Holds : Row → List Leaf → Bool → Type 0
+Holds r leaves there = IfSome (leaf_under r.key leaves) (λ (l : Leaf). has_row r l.bucket.rows ≡ there)
+
+-- the bucket of the leaf that a key is under is changed
+pub record ChangesAt (key : ℕ) (change : Rows → Rows) (old new : List Leaf) : Type 0 where
+  pub leaf : Leaf
+  pub found : leaf_under key old ≡ Some leaf
+  pub leaves : new ≡ replaced leaf.name (change leaf.bucket) old
+
+-- a row goes out of the leaf of its key, and then another one into that of its own
+pub record Moves (from to : Row) (old new : List Leaf) : Type 0 where
+  pub between : List Leaf
+  pub takes : ChangesAt from.key (gone_row from) old between
+  pub puts : ChangesAt to.key (put_row to) between new
