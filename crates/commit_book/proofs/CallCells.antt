@@ -8,7 +8,7 @@ use Rattle.plain_list.specs.declared.entries.Lost.TheVariants as lost
 use Rattle.plain_list.specs.Answer.{answer_of, is_change}
 use Rattle.plain_list.specs.History.{world_after}
 use Rattle.disk_trait.specs.Drive.{Drive}
-use Rattle.recovery.specs.Changes.{change_cells}
+use Rattle.log_state.specs.Changes.{change_cells}
 use Rattle.kept_log.specs.KeptView.{KeptView}
 use Rattle.kept_log.specs.Journal.{Added, Missed}
 use Rattle.kept_log.proofs.StepCells.{next-call}

@@ -6,7 +6,7 @@ use Rattle.cell_format.specs.declared.cell.Cell.TheVariants.{Put, Move, Remove, 
 use Rattle.disk_trait.specs.Drive.{Drive}
 use Rattle.plain_list.specs.State.{State, empty_state, step, is_possible}
 use Rattle.recovery.specs.declared.seen.Seen.{Seen}
-use Rattle.recovery.specs.Recovers.{entry_of, is_possible_cell, is_legal_cells, cells_after, state_of}
+use Rattle.log_state.specs.Recovers.{entry_of, is_possible_cell, is_legal_cells, cells_after, state_of}
 use Rattle.recovery.specs.Found.{IsFound}
 use Rattle.index_build.specs.Grown.{IsGrown}
 use Rattle.index_build.proofs.GrownStates.{IsGrownState, grown-empty, grown-step}

@@ -10,7 +10,7 @@ use Rattle.plain_list.specs.declared.entries.Lost.{Lost}
 use Rattle.plain_list.specs.History.{world_after}
 use Rattle.plain_list.specs.State.{State, IsLegal, state_after, is_possible, is_free, split_name}
 use Rattle.disk_trait.specs.Drive.{Drive}
-use Rattle.recovery.specs.Changes.{cells_of, lost_cells}
+use Rattle.log_state.specs.Changes.{cells_of, lost_cells}
 use Rattle.kept_log.specs.KeptView.{KeptView}
 use Rattle.kept_log.specs.Steps.{IsNext}
 use Rattle.kept_log.specs.Journal.{failed_cell, KeepsIn, Added, Missed}

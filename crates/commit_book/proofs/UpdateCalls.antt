@@ -7,7 +7,7 @@ use Rattle.plain_list.specs.declared.ops.Op.{Op}
 use Rattle.plain_list.specs.declared.ops.Op.TheVariants.{Put, Move, Remove, Find, Within, Near}
 use Rattle.plain_list.specs.Answer.{answer_of, is_change}
 use Rattle.plain_list.specs.History.{world_after}
-use Rattle.recovery.specs.Changes.{change_cells}
+use Rattle.log_state.specs.Changes.{change_cells}
 use Rattle.kept_log.specs.Journal.{cells_in}
 use Rattle.commit_book.specs.Answers.{IsQuery}
 use Rattle.commit_book.specs.BookView.{BookView}

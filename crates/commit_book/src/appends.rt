@@ -1,7 +1,7 @@
 //! The append of a change's cell.
 ghost use Rattle.std.specs.Prelude.{◌≡◌, ◌<◌, ◌^◌, ◌∷◌, [], true, None, MatchOption, OnOk, IfErr};
 ghost use Rattle.plain_list.specs.Answer.{is_change};
-ghost use Rattle.recovery.specs.Changes.{change_cells};
+ghost use Rattle.log_state.specs.Changes.{change_cells};
 ghost use Rattle.kept_log.specs.Journal.{cells_in, failed_in, IsSinceIn};
 ghost use Rattle.commit_book.specs.Appends.{AddsCall, MissesCall};
 

@@ -16,12 +16,12 @@ use Rattle.plain_list.proofs.Histories.{has_failed}
 use Rattle.disk_trait.specs.Drive.{Drive}
 use Rattle.disk_trait.specs.Moments.{LeavesOnly, LeavesNow}
 use Rattle.split_log.specs.LogText.{IsLog, HoldsCells, HoldsEither}
-use Rattle.recovery.specs.Recovers.{IsLegalCells}
-use Rattle.recovery.specs.Changes.{cells_of, failed_cells, lost_cells}
-use Rattle.recovery.specs.Keeps.{RecoversEither}
-use Rattle.recovery.proofs.Keeping.{either_since, kept_added, kept_failed, kept_quiet}
-use Rattle.recovery.proofs.LegalBehind.{legal_behind}
-use Rattle.recovery.proofs.PlacedChanges.{cells_of-append, failed_cells-append, failed_cells-none}
+use Rattle.log_state.specs.Recovers.{IsLegalCells}
+use Rattle.log_state.specs.Changes.{cells_of, failed_cells, lost_cells}
+use Rattle.log_state.specs.Keeps.{RecoversEither}
+use Rattle.log_state.proofs.Keeping.{either_since, kept_added, kept_failed, kept_quiet}
+use Rattle.log_state.proofs.LegalBehind.{legal_behind}
+use Rattle.log_state.proofs.PlacedChanges.{cells_of-append, failed_cells-append, failed_cells-none}
 use Rattle.kept_log.specs.KeptView.{KeptView}
 use Rattle.kept_log.specs.Kept.{KeepsSince, Keeps}
 use Rattle.kept_log.specs.Steps.{IsNext}

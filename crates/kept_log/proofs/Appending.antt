@@ -8,7 +8,7 @@ use Rattle.disk_trait.specs.Drive.{Drive}
 use Rattle.disk_trait.specs.Moments.{LeavesOnly}
 use Rattle.split_log.specs.LogText.{IsLog, HoldsEither}
 use Rattle.split_log.specs.Append.{Adds, Fails}
-use Rattle.recovery.specs.Changes.{cells_of}
+use Rattle.log_state.specs.Changes.{cells_of}
 use Rattle.kept_log.specs.KeptView.{KeptView}
 use Rattle.kept_log.specs.Kept.{StartsWith, KeepsSince, Keeps}
 use Rattle.kept_log.specs.Steps.{IsSince, Appended, AppendFailed, LeavesEither}

@@ -13,7 +13,7 @@ use Rattle.plain_list.specs.History.{world_after}
 use Rattle.plain_list.specs.State.{State, is_fail, IsLegal}
 use Rattle.plain_list.proofs.Histories.{has_failed}
 use Rattle.disk_trait.specs.Drive.{Drive}
-use Rattle.recovery.specs.Changes.{cells_of, failed_cells}
+use Rattle.log_state.specs.Changes.{cells_of, failed_cells}
 use Rattle.kept_log.specs.KeptView.{KeptView}
 use Rattle.kept_log.specs.Kept.{Keeps}
 use Rattle.kept_log.specs.Steps.{IsSince, Appended, AppendFailed}

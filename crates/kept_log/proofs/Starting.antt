@@ -7,7 +7,7 @@ use Rattle.disk_trait.specs.Drive.{Drive, IsSettled}
 use Rattle.disk_trait.specs.Moments.{LeavesNow}
 use Rattle.split_log.specs.LogText.{IsLog, HoldsCells}
 use Rattle.split_log.proofs.Unique.{holds-same}
-use Rattle.recovery.specs.Recovers.{Recovers, state_of}
+use Rattle.log_state.specs.Recovers.{Recovers, state_of}
 use Rattle.recovery.specs.Found.{IsFound}
 use Rattle.recovery.specs.Opening.{KeepsCells, IsReady}
 use Rattle.recovery.specs.declared.seen.Seen.{Seen}

@@ -11,8 +11,8 @@ use Rattle.plain_list.specs.declared.entries.Lost.{Lost}
 use Rattle.plain_list.specs.Answer.{answer_of, is_change}
 use Rattle.plain_list.specs.History.{world_after}
 use Rattle.plain_list.specs.State.{State, IsLegal}
-use Rattle.recovery.specs.Changes.{cells_of, change_cells}
-use Rattle.recovery.proofs.PlacedChanges.{cells_of-append}
+use Rattle.log_state.specs.Changes.{cells_of, change_cells}
+use Rattle.log_state.proofs.PlacedChanges.{cells_of-append}
 use Rattle.kept_log.specs.Steps.{IsNext}
 
 -- a call that changes the world has the cell of its operation

@@ -7,7 +7,7 @@ use Rattle.plain_list.specs.declared.entries.Entry.TheVariants.{Fail, Call, Begi
 use Rattle.plain_list.specs.declared.entries.Lost.{Lost}
 use Rattle.plain_list.specs.State.{State}
 use Rattle.disk_trait.specs.Drive.{Drive}
-use Rattle.recovery.specs.Changes.{lost_cells}
+use Rattle.log_state.specs.Changes.{lost_cells}
 use Rattle.kept_log.specs.KeptView.{KeptView}
 use Rattle.kept_log.specs.Kept.{Keeps}
 use Rattle.kept_log.specs.Steps.{IsNext, IsSince}

@@ -6,9 +6,9 @@ use Rattle.plain_list.specs.State.{State, at_rest}
 use Rattle.disk_trait.specs.Drive.{Drive}
 use Rattle.disk_trait.specs.Moments.{LeavesNow}
 use Rattle.split_log.specs.LogText.{IsLog}
-use Rattle.recovery.specs.Recovers.{Recovers, state_of}
-use Rattle.recovery.specs.Changes.{cells_of}
-use Rattle.recovery.specs.Keeps.{KeepsHistory}
+use Rattle.log_state.specs.Recovers.{Recovers, state_of}
+use Rattle.log_state.specs.Changes.{cells_of}
+use Rattle.log_state.specs.Keeps.{KeepsHistory}
 use Rattle.recovery.specs.Opening.{KeepsCells}
 use Rattle.recovery.specs.declared.seen.Seen.{Seen}
 use Rattle.kept_log.specs.KeptView.{KeptView}

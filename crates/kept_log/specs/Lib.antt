@@ -2,8 +2,8 @@ pub mod KeptView
 pub mod Kept
 pub mod Steps
 pub mod Journal
-pub use Rattle.recovery.specs.Keeps
-pub use Rattle.recovery.specs.Changes
+pub use Rattle.log_state.specs.Keeps
+pub use Rattle.log_state.specs.Changes
 pub use Rattle.recovery.specs.Opening
-pub use Rattle.recovery.specs.Recovers
+pub use Rattle.log_state.specs.Recovers
 pub use Rattle.causes.specs.Causes

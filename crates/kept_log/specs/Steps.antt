@@ -9,8 +9,8 @@ use Rattle.plain_list.specs.History.{world_after}
 use Rattle.plain_list.specs.State.{State, IsLegal}
 use Rattle.disk_trait.specs.Drive.{Drive}
 use Rattle.disk_trait.specs.Moments.{LeavesOnly}
-use Rattle.recovery.specs.Changes.{cells_of, lost_cells}
-use Rattle.recovery.specs.Keeps.{RecoversEither}
+use Rattle.log_state.specs.Changes.{cells_of, lost_cells}
+use Rattle.log_state.specs.Keeps.{RecoversEither}
 use Rattle.kept_log.specs.KeptView.{KeptView}
 use Rattle.kept_log.specs.Kept.{StartsWith, Keeps}
 

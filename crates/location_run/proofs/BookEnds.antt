@@ -8,8 +8,8 @@ use Rattle.plain_list.specs.declared.entries.Entry.{Entry}
 use Rattle.plain_list.specs.State.{State, IsLegal, state_after, at_rest}
 use Rattle.plain_list.specs.History.{world_after, replies}
 use Rattle.plain_list.specs.Size.{IsSized}
-use Rattle.recovery.specs.Recovers.{state_of}
-use Rattle.recovery.specs.Changes.{cells_of}
+use Rattle.log_state.specs.Recovers.{state_of}
+use Rattle.log_state.specs.Changes.{cells_of}
 use Rattle.recovery.specs.Faults.{IsFault, IsInBytes}
 use Rattle.recovery.specs.Found.{IsFound}
 use Rattle.recovery.specs.declared.seen.Seen.{Seen}

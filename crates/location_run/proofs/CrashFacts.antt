@@ -6,11 +6,11 @@ use Rattle.cell_format.specs.declared.cell.Cell.{Cell}
 use Rattle.plain_list.specs.declared.entries.Entry.{Entry}
 use Rattle.plain_list.specs.State.{State}
 use Rattle.disk_trait.specs.Drive.{Drive, KeepsLaws, Stays, IsSettled}
-use Rattle.recovery.specs.Recovers.{Recovers, state_of}
-use Rattle.recovery.specs.Changes.{cells_of, failed_cells, IsPrefixRecovered}
-use Rattle.recovery.specs.Keeps.{KeepsHistory}
+use Rattle.log_state.specs.Recovers.{Recovers, state_of}
+use Rattle.log_state.specs.Changes.{cells_of, failed_cells, IsPrefixRecovered}
+use Rattle.log_state.specs.Keeps.{KeepsHistory}
 use Rattle.recovery.specs.Opening.{KeepsCells}
-use Rattle.recovery.proofs.Tiling.{leaves_tile}
+use Rattle.log_state.proofs.Tiling.{leaves_tile}
 use Rattle.kept_log.specs.KeptView.{KeptView}
 use Rattle.kept_log.specs.Steps.{IsSince}
 use Rattle.kept_log.specs.Journal.{failed_cell, KeepsLog}

@@ -8,7 +8,7 @@ use Rattle.disk_trait.specs.declared.disk.AttachFault.TheVariants as attach_faul
 use Rattle.disk_trait.specs.Drive.{Drive, KeepsLaws, Stays, CountsAttach}
 use Rattle.cell_format.specs.declared.cell.Cell.{Cell}
 use Rattle.recovery.specs.Making.{Makes, RefusesInit, KeepsSmall, IsSmall}
-use Rattle.recovery.specs.Recovers.{Recovers}
+use Rattle.log_state.specs.Recovers.{Recovers}
 use Rattle.recovery.specs.Faults.{IsFault, IsInBytes}
 use Rattle.recovery.specs.Found.{IsFound, IsFree}
 use Rattle.recovery.specs.Reading.{OnlyReads}

@@ -10,7 +10,7 @@ use Rattle.disk_trait.specs.declared.disk.AttachFault.{AttachFault}
 use Rattle.disk_trait.specs.declared.disk.AttachFault.TheVariants as attach_fault
 use Rattle.disk_trait.specs.Drive.{Drive, KeepsLaws, Stays, CountsAttach}
 use Rattle.cell_format.specs.declared.cell.Cell.{Cell}
-use Rattle.recovery.specs.Recovers.{Recovers}
+use Rattle.log_state.specs.Recovers.{Recovers}
 use Rattle.recovery.specs.Faults.{IsFault, IsInBytes}
 use Rattle.recovery.specs.Found.{IsFree}
 use Rattle.recovery.specs.Opening.{KeepsCells}

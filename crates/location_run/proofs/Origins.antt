@@ -10,8 +10,8 @@ use Rattle.plain_list.specs.Answer.{answer_of, is_change}
 use Rattle.plain_list.specs.History.{world_after}
 use Rattle.index_layer.specs.Leaves.{Leaf}
 use Rattle.disk_trait.specs.Drive.{Drive}
-use Rattle.recovery.specs.Changes.{cells_of, change_cells}
-use Rattle.recovery.proofs.PlacedChanges.{cells_of-append}
+use Rattle.log_state.specs.Changes.{cells_of, change_cells}
+use Rattle.log_state.proofs.PlacedChanges.{cells_of-append}
 use Rattle.kept_log.specs.KeptView.{KeptView}
 use Rattle.kept_log.specs.Journal.{cells_in, KeepsIn, IsSinceIn}
 use Rattle.commit_book.specs.BookView.{BookView}

@@ -6,7 +6,7 @@ use Rattle.disk_trait.specs.Drive.{Drive, Stays}
 use Rattle.disk_trait.specs.declared.disk.AttachFault.{AttachFault}
 use Rattle.disk_trait.specs.declared.disk.AttachFault.TheVariants as attach_fault
 use Rattle.cell_format.specs.declared.cell.Cell.{Cell}
-use Rattle.recovery.specs.Recovers.{IsLegalCells, Recovers, state_of}
+use Rattle.log_state.specs.Recovers.{IsLegalCells, Recovers, state_of}
 use Rattle.recovery.specs.Faults.{IsFault, IsInBytes, IsNotLog, IsOldLog, IsDamaged, IsTooLong}
 use Rattle.recovery.specs.declared.seen.Seen.{Seen}
 use Rattle.recovery.specs.declared.seen.OpenFault.{OpenFault}

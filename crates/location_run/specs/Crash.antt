@@ -6,8 +6,8 @@ use Rattle.cell_format.specs.declared.cell.Cell.{Cell}
 use Rattle.plain_list.specs.declared.entries.Entry.{Entry}
 use Rattle.disk_trait.specs.Drive.{Drive, IsSettled}
 use Rattle.disk_trait.specs.Moments.{LeavesNow, LeavesSince}
-use Rattle.recovery.specs.Recovers.{Recovers, state_of}
-use Rattle.recovery.specs.Changes.{cells_of, failed_cells, IsWhollyRecovered}
+use Rattle.log_state.specs.Recovers.{Recovers, state_of}
+use Rattle.log_state.specs.Changes.{cells_of, failed_cells, IsWhollyRecovered}
 
 -- an image that recovers to these cells, whose leaves tile the key space
 pub record RecoversTo (cells : List Cell) (image : List ℕ) : Type 0 where

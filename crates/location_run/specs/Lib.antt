@@ -19,5 +19,5 @@ pub mod Crash
 pub mod Examples
 pub use Rattle.causes.specs.Causes
 pub use Rattle.disk_trait.specs.Drive
-pub use Rattle.recovery.specs.Recovers
+pub use Rattle.log_state.specs.Recovers
 pub use Rattle.recovery.specs.Faults

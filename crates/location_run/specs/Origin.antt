@@ -3,7 +3,7 @@ use Rattle.std.specs.Prelude.{◌≡◌, ℕ, ◌≤◌, List, length, Option, S
 use Rattle.cell_format.specs.declared.cell.Cell.{Cell}
 use Rattle.plain_list.specs.State.{State, empty_state, at_rest}
 use Rattle.disk_trait.specs.Drive.{Drive}
-use Rattle.recovery.specs.Recovers.{IsLegalCells, Recovers, state_of}
+use Rattle.log_state.specs.Recovers.{IsLegalCells, Recovers, state_of}
 use Rattle.location_run.specs.Words.{IsUnlogged, IsLogged}
 
 -- how many cells a log may have over which rows are played

@@ -9,7 +9,7 @@ use Rattle.plain_list.specs.World.{IsWorld}
 use Rattle.table_share.specs.Worlds.{AreAtPoints}
 use Rattle.cell_format.specs.declared.cell.Cell.{Cell}
 use Rattle.recovery.specs.declared.seen.OpenFault.{OpenFault}
-use Rattle.recovery.specs.Recovers.{Recovers}
+use Rattle.log_state.specs.Recovers.{Recovers}
 use Rattle.recovery.specs.Faults.{IsTooLong, IsFault, IsInBytes}
 use Rattle.recovery.specs.Opening.{KeepsCells}
 use Rattle.kept_log.specs.KeptView.{KeptView}

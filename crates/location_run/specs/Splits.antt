@@ -8,7 +8,7 @@ use Rattle.plain_list.specs.declared.entries.Entry.TheVariants.{Fail, Call, Begi
 use Rattle.plain_list.specs.History.{world_after, call_count}
 use Rattle.plain_list.specs.State.{State, state_after, step}
 use Rattle.plain_list.specs.Size.{IsSized, full_leaf}
-use Rattle.recovery.specs.Changes.{cells_of}
+use Rattle.log_state.specs.Changes.{cells_of}
 use Rattle.kept_log.specs.Journal.{failed_cell}
 use Rattle.location_run.specs.Origin.{Origin}
 

@@ -21,7 +21,7 @@ use Rattle.split_log.specs.LogText.{front_of}
 use Rattle.split_log.proofs.Cells.{length-header}
 use Rattle.recovery.specs.declared.seen.OpenFault.{OpenFault}
 use Rattle.recovery.specs.declared.seen.OpenFault.TheVariants as fault
-use Rattle.recovery.specs.Recovers.{Recovers, is_legal_cells, is_possible_cell, entry_of, cells_after, state_of}
+use Rattle.log_state.specs.Recovers.{Recovers, is_legal_cells, is_possible_cell, entry_of, cells_after, state_of}
 use Rattle.recovery.specs.Faults.{BeginsWith, IsWrong, IsDamaged, IsTooLong, IsNotLog, IsOldLog, IsFault, IsInBytes}
 use Rattle.recovery.specs.Found.{IsFree}
 use Rattle.recovery.specs.Headers.{HasHeader}

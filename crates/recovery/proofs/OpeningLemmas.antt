@@ -11,7 +11,7 @@ use Rattle.split_log.specs.LogText.{IsLogText, HoldsCells}
 use Rattle.split_log.proofs.Cells.{length-log}
 use Rattle.split_log.proofs.Unique.{holds-same}
 use Rattle.recovery.specs.declared.seen.Seen.{Seen}
-use Rattle.recovery.specs.Recovers.{Recovers}
+use Rattle.log_state.specs.Recovers.{Recovers}
 use Rattle.recovery.specs.Opening.{KeepsCells, IsReady}
 use Rattle.recovery.specs.Reading.{IsFoundIn}
 

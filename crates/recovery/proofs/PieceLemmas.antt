@@ -12,20 +12,10 @@ use Rattle.cell_format.specs.Spelling.{IsCell, spelling}
 use Rattle.plain_list.specs.State.{State, step}
 use Rattle.recovery.specs.declared.seen.OpenFault.{OpenFault}
 use Rattle.recovery.specs.declared.pieces.Stop.{Stop}
-use Rattle.recovery.specs.Recovers.{is_legal_cells, cells_after, is_possible_cell, entry_of}
+use Rattle.log_state.specs.Recovers.{is_legal_cells, cells_after, is_possible_cell, entry_of}
+use Rattle.log_state.proofs.LegalCells.{cells_after-append, legal-append}
 use Rattle.recovery.specs.Walk.{WalkView}
 use Rattle.recovery.specs.Pieces.{Passes, PassesOne, Comes, FailsAt, StopsAt, Walks, Breaks}
-
--- cells followed by cells
-pub cells_after-append : (w : ℕ) (s : State) (first second : List Cell) → cells_after w s (first ++ second) ≡ cells_after w (cells_after w s first) second
-cells_after-append w s [] second = refl
-cells_after-append w s (c ∷ first) second = cells_after-append w (step w s (entry_of c)) first second
-
-pub is_legal-append : (w : ℕ) (s : State) (first second : List Cell) → is_legal_cells w s first ≡ true → is_legal_cells w (cells_after w s first) second ≡ true → is_legal_cells w s (first ++ second) ≡ true
-is_legal-append w s [] second legal more = more
-is_legal-append w s (c ∷ first) second legal more =
-    both_true (first_so (is_possible_cell w s c) (is_legal_cells w (step w s (entry_of c)) first) legal)
-    (is_legal-append w (step w s (entry_of c)) first second (second_so (is_possible_cell w s c) (is_legal_cells w (step w s (entry_of c)) first) legal) more)
 
 pub all_append : {A : Type 0} (P : A → Type 0) (xs ys : List A) → AllByRecursion P xs → AllByRecursion P ys → AllByRecursion P (xs ++ ys)
 all_append P [] ys all more = more
@@ -35,7 +25,7 @@ all_append P (x ∷ xs) ys all more = (all.0, all_append P xs ys all.1 more)
 pub passes-append : (w : ℕ) (s : State) (first second : List Cell) (piece middle tail : List ℕ) → Passes w s first piece middle → Passes w (cells_after w s first) second middle tail → Passes w s (first ++ second) piece tail
 passes-append w s first second piece middle tail a b = record {
   cells_fit = all_append IsCell first second a.cells_fit b.cells_fit;
-  legal = is_legal-append w s first second a.legal b.legal;
+  legal = legal-append w s first second a.legal b.legal;
   parts = a.parts ∙ ap (λ (l : List ℕ). flat_map spelling first ++ l) b.parts ∙ sym (append_assoc (flat_map spelling first) (flat_map spelling second) tail)
       ∙ ap (λ (l : List ℕ). l ++ tail) (sym (flat_map-append spelling first second));
 }

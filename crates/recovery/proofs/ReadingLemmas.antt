@@ -16,14 +16,15 @@ use Rattle.split_log.proofs.Cells.{length-front_of, length-cells}
 use Rattle.recovery.specs.declared.seen.OpenFault.{OpenFault}
 use Rattle.recovery.specs.declared.seen.OpenFault.TheVariants as fault
 use Rattle.recovery.specs.declared.pieces.Stop.TheVariants.{Clear, Set}
-use Rattle.recovery.specs.Recovers.{Recovers, IsLegalCells, is_legal_cells, state_of, cells_after}
+use Rattle.log_state.specs.Recovers.{Recovers, IsLegalCells, is_legal_cells, state_of, cells_after}
 use Rattle.recovery.specs.Faults.{BeginsWith, IsWrong, IsDamaged, IsFault}
 use Rattle.recovery.specs.Walk.{WalkView}
 use Rattle.recovery.specs.Pieces.{Passes, FailsAt, Walks, Breaks}
 use Rattle.recovery.specs.Reading.{Reaches, Ends, ReadsPiece}
 use Rattle.recovery.specs.Headers.{HasHeader}
 use Rattle.recovery.proofs.Heads.{begins_first}
-use Rattle.recovery.proofs.PieceLemmas.{cells_after-append, is_legal-append, all_append}
+use Rattle.recovery.proofs.PieceLemmas.{all_append}
+use Rattle.log_state.proofs.LegalCells.{cells_after-append, legal-append}
 
 -- what stands behind a front tells the first byte and the cell at its front
 pub first_byte : (tail more : List ℕ) → 1 ≤ length tail → slice_index (tail ++ more) 0 ≡ slice_index tail 0
@@ -67,7 +68,7 @@ pub begins_more : (w : ℕ) (first second : List Cell) (bytes piece rest tail mo
     → BeginsWith w (first ++ second) (tail ++ more) bytes
 begins_more w first second bytes piece rest tail more begins parts passes = record {
   cells_fit = all_append IsCell first second begins.cells_fit passes.cells_fit;
-  legal = is_legal-append w empty_state first second begins.legal passes.legal;
+  legal = legal-append w empty_state first second begins.legal passes.legal;
   parts = begins.parts ∙ ap (λ (l : List ℕ). front_of w first ++ l) (parts ∙ ap (λ (l : List ℕ). l ++ more) passes.parts ∙ append_assoc (flat_map spelling second) tail more)
       ∙ sym (append_assoc (front_of w first) (flat_map spelling second) (tail ++ more))
       ∙ ap (λ (l : List ℕ). l ++ (tail ++ more)) (append_assoc (header_text w) (flat_map spelling first) (flat_map spelling second) ∙ ap (λ (l : List ℕ). header_text w ++ l) (sym (flat_map-append spelling first second)));
@@ -97,7 +98,7 @@ module _ (most len n got : ℕ) (drive : Drive) (old : WalkView) (buffer : List 
     all_state = ap (λ s. cells_after old.width s cells) came.state ∙ sym (cells_after-append old.width empty_state came.cells cells)
 
     all_legal : IsLegalCells old.width all_cells
-    all_legal = is_legal-append old.width empty_state came.cells cells came.legal (subst (λ s. is_legal_cells old.width s cells ≡ true) came.state passed.legal)
+    all_legal = legal-append old.width empty_state came.cells cells came.legal (subst (λ s. is_legal_cells old.width s cells ≡ true) came.state passed.legal)
 
     all_count : length all_cells ≡ n + length cells
     all_count = omega (arith, length-append came.cells cells, came.count)

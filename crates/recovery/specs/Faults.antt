@@ -11,7 +11,7 @@ use Rattle.split_log.specs.LogText.{front_of}
 use Rattle.plain_list.specs.State.{State}
 use Rattle.recovery.specs.declared.seen.OpenFault.{OpenFault}
 use Rattle.recovery.specs.declared.seen.OpenFault.TheVariants.{NotLog, OldLog, Damaged, Disk, Memory, TooLong}
-use Rattle.recovery.specs.Recovers.{IsLegalCells, is_possible_cell, state_of}
+use Rattle.log_state.specs.Recovers.{IsLegalCells, is_possible_cell, state_of}
 
 -- the bytes begin with a header and these cells, which are legal, and this stands behind them
 pub record BeginsWith (w : ℕ) (cells : List Cell) (tail bytes : List ℕ) : Type 0 where

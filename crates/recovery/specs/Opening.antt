@@ -5,7 +5,7 @@ use Rattle.disk_trait.specs.Drive.{Drive}
 use Rattle.disk_trait.specs.Moments.{LeavesNow, LeavesOnly}
 use Rattle.split_log.specs.LogText.{IsLog}
 use Rattle.recovery.specs.declared.seen.Seen.{Seen}
-use Rattle.recovery.specs.Recovers.{Recovers}
+use Rattle.log_state.specs.Recovers.{Recovers}
 
 -- where a crash leaves bytes that recover to these cells, it does so at each moment
 abbrev pub KeepsCells : ℕ → Drive → Drive → Type 0

@@ -12,7 +12,7 @@ use Rattle.recovery.specs.declared.seen.OpenFault.{OpenFault}
 use Rattle.recovery.specs.declared.seen.OpenFault.TheVariants.{NotLog, OldLog, Damaged, Disk, Memory, TooLong}
 use Rattle.recovery.specs.declared.pieces.Stop.{Stop}
 use Rattle.recovery.specs.declared.pieces.Stop.TheVariants.{Clear, Set}
-use Rattle.recovery.specs.Recovers.{is_legal_cells, cells_after, is_possible_cell, entry_of}
+use Rattle.log_state.specs.Recovers.{is_legal_cells, cells_after, is_possible_cell, entry_of}
 use Rattle.recovery.specs.Faults.{IsWrong}
 use Rattle.recovery.specs.Walk.{WalkView}
 

@@ -7,7 +7,7 @@ use Rattle.recovery.specs.declared.seen.OpenFault.{OpenFault}
 use Rattle.recovery.specs.declared.seen.OpenFault.TheVariants.{Disk}
 use Rattle.recovery.specs.declared.pieces.Stop.{Stop}
 use Rattle.recovery.specs.declared.pieces.Stop.TheVariants.{Clear, Set}
-use Rattle.recovery.specs.Recovers.{IsLegalCells, Recovers, state_of}
+use Rattle.log_state.specs.Recovers.{IsLegalCells, Recovers, state_of}
 use Rattle.recovery.specs.declared.seen.Seen.{Seen}
 use Rattle.recovery.specs.Faults.{BeginsWith}
 use Rattle.recovery.specs.Found.{IsFound}

@@ -6,7 +6,7 @@ use Rattle.plain_list.specs.State.{State, OpenSplit, step}
 use Rattle.recovery.specs.declared.leaf_map.MarkedLeaf.{MarkedLeaf}
 use Rattle.recovery.specs.declared.walk.StepFault.{StepFault}
 use Rattle.recovery.specs.declared.walk.StepFault.TheVariants.{Impossible}
-use Rattle.recovery.specs.Recovers.{entry_of, is_possible_cell}
+use Rattle.log_state.specs.Recovers.{entry_of, is_possible_cell}
 use Rattle.recovery.specs.SplitMap.{IsRisingSplits}
 use Rattle.recovery.specs.LeafMap.{split_at}
 

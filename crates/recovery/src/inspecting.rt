@@ -2,7 +2,7 @@
 ghost use Rattle.std.specs.Prelude.{◌≡◌, ◌⊎◌, ◌≤◌, ◌<◌, ◌^◌, ℕ, List, Some, length, slice_index, take, drop, replicate, OnOk, IfOk, IfErr};
 ghost use Rattle.std.specs.Result.{IsErrAnd};
 ghost use Rattle.cell_format.specs.declared.cell.Cell.{Cell};
-ghost use Rattle.recovery.specs.Recovers.{Recovers};
+ghost use Rattle.log_state.specs.Recovers.{Recovers};
 ghost use Rattle.recovery.specs.declared.seen.OpenFault.{OpenFault};
 ghost use Rattle.cell_format.specs.Spelling.{header_text};
 ghost use Rattle.recovery.specs.Headers.{HasHeader, FailsHead};

@@ -6,7 +6,7 @@ ghost use Rattle.causes.specs.Causes.{Rose};
 ghost use Rattle.cell_format.specs.declared.cell.Cell.{Cell};
 ghost use Rattle.disk_trait.specs.Drive.{Only, CountsFaults};
 ghost use Rattle.disk_trait.specs.Moments.{LeavesNow, LeavesOnly};
-ghost use Rattle.recovery.specs.Recovers.{Recovers};
+ghost use Rattle.log_state.specs.Recovers.{Recovers};
 ghost use Rattle.recovery.specs.Faults.{IsFault, IsInBytes};
 ghost use Rattle.recovery.specs.Found.{IsFound, IsFree};
 ghost use Rattle.recovery.specs.Opening.{KeepsCells, IsUntouched, IsReady};

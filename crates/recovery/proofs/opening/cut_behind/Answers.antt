@@ -1,4 +1,4 @@
-use Rattle.recovery.specs.Recovers.{Recovers}
+use Rattle.log_state.specs.Recovers.{Recovers}
 use Rattle.recovery.proofs.OpeningLemmas.{leaves-trans, leaves-sync, leaves-cut}
 use Rattle.recovery.proofs.opening.cut_behind.Goals as goal
 

@@ -6,8 +6,8 @@ use Rattle.plain_list.specs.declared.entries.Entry.{Entry}
 use Rattle.disk_trait.specs.Drive.{Drive}
 use Rattle.disk_trait.specs.Moments.{LeavesNow, LeavesSince}
 use Rattle.split_log.specs.LogText.{IsLog}
-use Rattle.recovery.specs.Recovers.{Recovers}
-use Rattle.recovery.specs.Changes.{cells_of, IsPrefixRecovered, IsWhollyRecovered}
+use Rattle.log_state.specs.Recovers.{Recovers}
+use Rattle.log_state.specs.Changes.{cells_of, IsPrefixRecovered, IsWhollyRecovered}
 
 -- A crash at any moment since a moment left the cells that stood first and some of the history's, and a crash now leaves all of them. While no
 -- append has failed the file is their text.

@@ -17,8 +17,8 @@ use Rattle.plain_list.specs.declared.entries.Entry.{Entry}
 use Rattle.plain_list.specs.declared.entries.Entry.TheVariants as entry
 use Rattle.plain_list.specs.Answer.{answer_of, after_of, is_change, changed}
 use Rattle.plain_list.specs.State.{State, OpenSplit, step, state_after, is_possible, is_free, is_legal_history, split_name, without_name, without_number, may_split, installed, is_leaf}
-use Rattle.recovery.specs.Recovers.{entry_of, is_possible_cell, cells_after, is_legal_cells}
-use Rattle.recovery.specs.Changes.{cells_of, change_cells}
+use Rattle.log_state.specs.Recovers.{entry_of, is_possible_cell, cells_after, is_legal_cells}
+use Rattle.log_state.specs.Changes.{cells_of, change_cells}
 
 -- whether a split was begun after this many
 abbrev pub is_later : ℕ → OpenSplit → Bool

@@ -11,10 +11,10 @@ use Rattle.zorder.specs.SameName.{same_name}
 use Rattle.plain_list.specs.declared.entries.Entry.{Entry}
 use Rattle.plain_list.specs.declared.entries.Entry.TheVariants as entry
 use Rattle.plain_list.specs.State.{State, OpenSplit, empty_state, at_rest, step, is_possible, may_split, without_name, is_legal_history}
-use Rattle.recovery.specs.Recovers.{IsLegalCells, is_legal_cells, is_possible_cell, cells_after, entry_of, state_of}
-use Rattle.recovery.specs.Changes.{cells_of}
-use Rattle.recovery.proofs.Goes_on.{Follows, is_later, goes_on, filter-and}
-use Rattle.recovery.proofs.Keeping.{legal-append}
+use Rattle.log_state.specs.Recovers.{IsLegalCells, is_legal_cells, is_possible_cell, cells_after, entry_of, state_of}
+use Rattle.log_state.specs.Changes.{cells_of}
+use Rattle.log_state.proofs.Goes_on.{Follows, is_later, goes_on, filter-and}
+use Rattle.log_state.proofs.LegalCells.{legal-append}
 
 -- no open split has a number above that of the last begin
 abbrev AreEarlier : ℕ → List OpenSplit → Type 0

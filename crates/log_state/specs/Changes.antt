@@ -10,7 +10,7 @@ use Rattle.plain_list.specs.declared.entries.Lost.TheVariants as lost
 use Rattle.plain_list.specs.declared.entries.Entry.{Entry}
 use Rattle.plain_list.specs.declared.entries.Entry.TheVariants as entry
 use Rattle.plain_list.specs.Answer.{answer_of, after_of, is_change}
-use Rattle.recovery.specs.Recovers.{Recovers}
+use Rattle.log_state.specs.Recovers.{Recovers}
 
 -- the cell of an operation that changes a world
 abbrev pub change_cells : Op → List Cell

@@ -7,7 +7,7 @@ use Rattle.plain_list.specs.declared.entries.Entry.TheVariants.{Fail, Call, Begi
 use Rattle.plain_list.specs.Answer.{answer_of, after_of, is_change}
 use Rattle.plain_list.specs.History.{world_after}
 use Rattle.plain_list.proofs.Histories.{has_failed}
-use Rattle.recovery.specs.Changes.{cells_of, change_cells, failed_cells}
+use Rattle.log_state.specs.Changes.{cells_of, change_cells, failed_cells}
 
 pub cells_of-append : (world : List Placed) (h g : List Entry) → cells_of world (h ++ g) ≡ cells_of world h ++ cells_of (world_after world h) g
 cells_of-append world [] g = refl

@@ -6,8 +6,8 @@ use Rattle.cell_format.specs.declared.cell.Cell.TheVariants as cell
 use Rattle.plain_list.specs.Examples.{history}
 use Rattle.plain_list.specs.State.{empty_state}
 use Rattle.split_log.specs.LogText.{log_text}
-use Rattle.recovery.specs.Recovers.{Recovers, state_of, is_legal_cells, IsLegalCells}
-use Rattle.recovery.specs.Changes.{cells_of}
+use Rattle.log_state.specs.Recovers.{Recovers, state_of, is_legal_cells, IsLegalCells}
+use Rattle.log_state.specs.Changes.{cells_of}
 
 -- the cells of put 7, a split of the whole space, and where 7
 cells_of_history : cells_of [] history ≡ cell.Put 7 (pt 3 5) ∷ cell.Begin 1 [] ∷ cell.Install 1 ∷ []

@@ -1,18 +1,17 @@
 -- How a log goes on keeping a history while entries are added.
-use Rattle.std.proofs.Common.{◌≡◌, inl, inr, ⊎_elim, ℕ, zero, suc, ◌≤◌, true, List, [], ◌∷◌, ◌++◌, take, Option, Some, None, refl, sym, ◌∙◌, ap, subst, append_assoc}
+use Rattle.std.proofs.Common.{◌≡◌, inl, inr, ⊎_elim, ℕ, zero, suc, ◌≤◌, List, [], ◌∷◌, ◌++◌, take, Option, Some, None, refl, sym, ◌∙◌, ap, subst, append_assoc}
 use Rattle.std.proofs.lemmas.List.{append-nil}
-use Rattle.std.specs.Cmp.{first_so, second_so}
-use Rattle.std.specs.Cmp.Derive.{both_true}
 use Rattle.zorder.specs.declared.points.Placed.{Placed}
 use Rattle.cell_format.specs.declared.cell.Cell.{Cell}
 use Rattle.plain_list.specs.declared.entries.Entry.{Entry}
-use Rattle.plain_list.specs.State.{State, empty_state, step}
+use Rattle.plain_list.specs.State.{empty_state}
 use Rattle.disk_trait.specs.Drive.{Drive}
 use Rattle.disk_trait.specs.Moments.{LeavesOnly, LeavesNow, LeavesSince}
 use Rattle.split_log.specs.LogText.{IsLog, HoldsCells, HoldsEither}
-use Rattle.recovery.specs.Recovers.{Recovers, IsLegalCells, is_legal_cells, is_possible_cell, cells_after, entry_of}
-use Rattle.recovery.specs.Changes.{cells_of, failed_cells, IsPrefixRecovered}
-use Rattle.recovery.specs.Keeps.{KeepsHistory, RecoversEither}
+use Rattle.log_state.specs.Recovers.{Recovers, IsLegalCells, is_legal_cells}
+use Rattle.log_state.specs.Changes.{cells_of, failed_cells, IsPrefixRecovered}
+use Rattle.log_state.specs.Keeps.{KeepsHistory, RecoversEither}
+use Rattle.log_state.proofs.LegalCells.{legal-front}
 
 -- a front of a list is a front of a longer one
 more_taken : {A : Type 0} (xs ys : List A) (m : ℕ) → (k : ℕ) × (take m xs ≡ take k (xs ++ ys))
@@ -24,20 +23,6 @@ more_taken (x ∷ xs) ys (suc m) = let (k, e) = more_taken xs ys m in (suc k, ap
 all_taken : {A : Type 0} (xs ys : List A) → (k : ℕ) × (xs ≡ take k (xs ++ ys))
 all_taken [] ys = (0, refl)
 all_taken (x ∷ xs) ys = let (k, e) = all_taken xs ys in (suc k, ap (λ l. x ∷ l) e)
-
--- cells are legal whose later ones are legal behind the earlier ones, and the other way round
-pub legal-append : (w : ℕ) (s : State) (cells more : List Cell) → is_legal_cells w s cells ≡ true → is_legal_cells w (cells_after w s cells) more ≡ true
-    → is_legal_cells w s (cells ++ more) ≡ true
-legal-append w s [] more first later = later
-legal-append w s (c ∷ cells) more first later =
-    both_true (first_so (is_possible_cell w s c) (is_legal_cells w (step w s (entry_of c)) cells) first)
-    (legal-append w (step w s (entry_of c)) cells more (second_so (is_possible_cell w s c) (is_legal_cells w (step w s (entry_of c)) cells) first) later)
-
-legal-front : (w : ℕ) (s : State) (cells more : List Cell) → is_legal_cells w s (cells ++ more) ≡ true → is_legal_cells w s cells ≡ true
-legal-front w s [] more legal = refl
-legal-front w s (c ∷ cells) more legal =
-    both_true (first_so (is_possible_cell w s c) (is_legal_cells w (step w s (entry_of c)) (cells ++ more)) legal)
-    (legal-front w (step w s (entry_of c)) cells more (second_so (is_possible_cell w s c) (is_legal_cells w (step w s (entry_of c)) (cells ++ more)) legal))
 
 -- an image that recovers to a front of the cells of a history does so of a history with more of them
 widened : (w : ℕ) (first : List Cell) (world : List Placed) (h g : List Entry) (more : List Cell) (c : List ℕ)

@@ -11,7 +11,7 @@ use Rattle.zorder.proofs.Tiles.{tiles_from-children}
 use Rattle.cell_format.specs.declared.cell.Cell.{Cell}
 use Rattle.cell_format.specs.declared.cell.Cell.TheVariants as cell
 use Rattle.plain_list.specs.State.{State, OpenSplit, empty_state, step, may_split, is_leaf, split_name, split_leaf, installed, without_name}
-use Rattle.recovery.specs.Recovers.{IsLegalCells, is_legal_cells, is_possible_cell, cells_after, entry_of, state_of}
+use Rattle.log_state.specs.Recovers.{IsLegalCells, is_legal_cells, is_possible_cell, cells_after, entry_of, state_of}
 
 split_at : (w k : ℕ) (leaf name : List Bool) (leaves : List (List Bool)) (t : Bool) → (t ≡ true → leaf ≡ name) → length name + w ≤ 64
     → ((j : ℕ) → tiles_from j (split_leaf w name leaves) ≡ tiles_from j leaves)

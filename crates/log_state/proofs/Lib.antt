@@ -1,0 +1,6 @@
+pub mod LegalCells
+pub mod Goes_on
+pub mod Keeping
+pub mod LegalBehind
+pub mod PlacedChanges
+pub mod Tiling
