@@ -4,9 +4,12 @@ ghost use Rattle.std.specs.List.{insert, remove};
 ghost use Rattle.std.specs.Arc.{arc_value};
 ghost use Rattle.bucket_versions.specs.Rows.{IsRows, AreRows, has_row, as_base, with_rows, put_row, gone_row, rows_between, row_place};
 
+mod in_place;
+
 use crate::places;
 use crate::row::Row;
 use crate::walk::BucketRows;
+pub use in_place::{pass, put, shift, take};
 use std::alloc::{AllocError, Global};
 use std::marker::Model;
 use std::sync::Arc;

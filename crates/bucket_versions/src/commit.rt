@@ -20,6 +20,7 @@ pub trait Commit {
 }
 
 /// No step: a change that waits for nothing.
+#[derive(Clone, Copy, Debug)]
 pub struct AtOnce;
 
 impl Commit for AtOnce {

@@ -9,13 +9,14 @@
 
 mod bucket;
 mod commit;
+mod own_rows;
 mod places;
 mod row;
 #[cfg(test)]
 mod tests;
 mod walk;
 
-pub use bucket::{Bucket, BucketFault};
+pub use bucket::{Bucket, BucketFault, pass, put, shift, take};
 pub use commit::{AtOnce, Commit, Undone};
 pub use places::between;
 pub use row::Row;

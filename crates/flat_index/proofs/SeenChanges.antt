@@ -1,5 +1,5 @@
 -- The list of leaves with another leaf, or others, at a place.
-use Rattle.std.proofs.Common.{◌≡◌, ℕ, ◌+◌, ◌-◌, ◌<◌, Bool, true, List, [], ◌∷◌, ◌++◌, length, map, take, drop, get_or, sym, ◌∙◌, ap, arith, append_assoc}
+use Rattle.std.proofs.Common.{◌≡◌, ℕ, ◌+◌, ◌-◌, ◌<◌, Bool, true, List, [], ◌∷◌, ◌++◌, length, take, drop, get_or, sym, ◌∙◌, ap, append_assoc}
 use Rattle.std.proofs.lemmas.List.{take-append-drop, drop_more, take_rest}
 use Rattle.zorder.specs.Tile.{tiles_from, children}
 use Rattle.bucket_versions.specs.Rows.{Rows}
@@ -42,10 +42,3 @@ two_more all left right xs i front =
     ∙ (λ j. seen-append all (left ∷ []) j ++ seen_leaf right ∷ seen-drop (i + 1) xs j)
     ∙ append_assoc (seen all) (seen_leaf left ∷ []) (seen_leaf right ∷ drop (i + 1) (seen xs))
     ∙ (λ j. front j ++ seen_leaf left ∷ seen_leaf right ∷ drop (i + 1) (seen xs))
-
--- a list of two, by what was read of it
-pub two_items : {A B : Type 0} (f : A → B) (xs : List A) (x y : A) → length xs ≡ 2 → x ≡ get_or xs 0 x → y ≡ get_or xs 1 y → map f xs ≡ f x ∷ f y ∷ []
-two_items f [] x y long first second = absurd (omega arith)
-two_items f (a ∷ []) x y long first second = absurd (omega arith)
-two_items f (a ∷ b ∷ []) x y long first second = λ j. f (sym first j) ∷ f (sym second j) ∷ []
-two_items f (a ∷ b ∷ e ∷ xs) x y long first second = absurd (omega arith)

@@ -9,5 +9,6 @@
 mod flat;
 mod leaf;
 mod places;
+mod sending;
 
 pub use flat::FlatIndex;

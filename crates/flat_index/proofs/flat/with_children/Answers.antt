@@ -5,11 +5,12 @@ use Rattle.std.proofs.lemmas.List.{length-map}
 use Rattle.zorder.specs.Tile.{children}
 use Rattle.bucket_versions.specs.Rows.{Rows, IsRows}
 use Rattle.index_layer.specs.Leaves.{Leaf, AreLeaves, leaves_of, split}
+use Rattle.index_layer.proofs.Children.{two_items}
 use Rattle.index_layer.proofs.LeafChanges.{leaf_at, AreLeaves-split}
 use Rattle.flat_index.specs.declared.leaf.FlatLeaf.{FlatLeaf}
 use Rattle.flat_index.specs.Seen.{seen, seen_leaf}
 use Rattle.flat_index.proofs.SeenLeaves.{length-seen}
-use Rattle.flat_index.proofs.SeenChanges.{two_more, two_items, split-place}
+use Rattle.flat_index.proofs.SeenChanges.{two_more, split-place}
 use Rattle.flat_index.proofs.flat.with_children.Goals as goal
 
 pub returns : goal.returns

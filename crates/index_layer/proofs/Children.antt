@@ -1,0 +1,9 @@
+-- The buckets of a leaf's two children.
+use Rattle.std.proofs.Common.{◌≡◌, List, [], ◌∷◌, length, map, get_or, sym, arith}
+
+-- a list of two, by what was read of it
+pub two_items : {A B : Type 0} (f : A → B) (xs : List A) (x y : A) → length xs ≡ 2 → x ≡ get_or xs 0 x → y ≡ get_or xs 1 y → map f xs ≡ f x ∷ f y ∷ []
+two_items f [] x y long first second = absurd (omega arith)
+two_items f (a ∷ []) x y long first second = absurd (omega arith)
+two_items f (a ∷ b ∷ []) x y long first second = λ j. f (sym first j) ∷ f (sym second j) ∷ []
+two_items f (a ∷ b ∷ e ∷ xs) x y long first second = absurd (omega arith)

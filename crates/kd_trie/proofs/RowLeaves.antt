@@ -1,0 +1,108 @@
+-- A trie with a row more or less in one leaf has leaves that are changed at that leaf.
+use Rattle.std.proofs.Common.{◌≡◌, ℕ, ◌<◌, ◌≤◌, ◌^◌, Bool, true, false, List, [], ◌∷◌, Some, IfSome, Result, Ok, Err, OnOk, refl, sym, ◌∙◌, ap, subst}
+use Rattle.std.specs.List.{AllByRecursion}
+use Rattle.zorder.specs.Bits.{low_bits}
+use Rattle.zorder.specs.Key.{is_under}
+use Rattle.bucket_versions.specs.declared.row.Row.{Row}
+use Rattle.bucket_versions.specs.Rows.{Rows, IsRows, has_row, put_row, gone_row}
+use Rattle.bucket_versions.proofs.RowOrder.{IsRows-with_row, IsRows-without_row}
+use Rattle.index_layer.specs.Leaves.{Leaf, AreLeaves, AreUnder, replaced, leaf_under}
+use Rattle.index_layer.proofs.LeafKeys.{all_at}
+use Rattle.index_layer.proofs.FoundLeaves.{AreUnder-with_row, AreUnder-without_row}
+use Rattle.index_layer.proofs.LeafChanges.{leaf_at, AreLeaves-replaced}
+use Rattle.kd_trie.specs.Tries.{Trie, tip, fork, height, leaves_under, put_at, name_at, bucket_at, rows_at, changed_at}
+use Rattle.index_layer.specs.RowChanges.{ChangesAt, Moves}
+use Rattle.kd_trie.proofs.TrieLeaves.{hole, within, name-under, leaves-put, leaf-at_key}
+use Rattle.kd_trie.proofs.TrieRows.{height-changed, rows-bucket}
+
+changed-put : (path : List Bool) (change : Rows → Rows) (t : Trie) (a : Rows) → bucket_at path t ≡ Some a → changed_at path change t ≡ put_at path (change a) t
+changed-put path change (tip b) a e = ap (λ (r : Rows). tip (change r)) (some b a e)
+  where
+    some : (x y : Rows) → Some x ≡ Some y → x ≡ y
+    some x y s = cc s
+changed-put [] change (fork z o) a e = absurd (cc e)
+changed-put (true ∷ path) change (fork z o) a e = ap (λ (s : Trie). fork z s) (changed-put path change o a e)
+changed-put (false ∷ path) change (fork z o) a e = ap (λ (s : Trie). fork s o) (changed-put path change z a e)
+
+-- the leaf that a key is under, and what holds of it
+pub record Found (key : ℕ) (t : Trie) : Type 0 where
+  pub name : List Bool
+  pub bucket : Rows
+  pub named : name_at (low_bits 64 key) t ≡ name
+  pub held : bucket_at (low_bits 64 key) t ≡ Some bucket
+  pub under : is_under name key ≡ true
+  pub found : leaf_under key (leaves_under [] t) ≡ Some (leaf_at name bucket)
+  pub in_order : IsRows bucket.rows
+  pub all_under : AreUnder name bucket.rows
+
+pub find-leaf : (key : ℕ) (t : Trie) → key < 2 ^ 64 → height t ≤ 64 → AreLeaves (leaves_under [] t) → Found key t
+find-leaf key t lt h are =
+    let none : Rows = record { base = []; rows = [] } in
+    let r = hole [] (low_bits 64 key) none t (within key t h) in
+    let name : List Bool = name_at (low_bits 64 key) t in
+    let l : Leaf = leaf_at name r.old in
+    record {
+      name = name;
+      bucket = r.old;
+      named = refl;
+      held = r.held;
+      under = name-under key t;
+      found = leaf-at_key key r.old t h are.tile lt r.held;
+      in_order = all_at (λ (m : Leaf). IsRows m.bucket.rows) r.front l r.back (subst (λ (ls : List Leaf). AllByRecursion (λ (m : Leaf). IsRows m.bucket.rows) ls) r.before are.rows);
+      all_under = all_at (λ (m : Leaf). AreUnder m.name m.bucket.rows) r.front l r.back (subst (λ (ls : List Leaf). AllByRecursion (λ (m : Leaf). AreUnder m.name m.bucket.rows) ls) r.before are.under);
+    }
+
+-- a trie that is changed at the leaf of a key
+pub record Changed (key : ℕ) (change : Rows → Rows) (old new : Trie) : Type 0 where
+  pub short : height new ≤ 64
+  pub are_leaves : AreLeaves (leaves_under [] new)
+  pub changes : ChangesAt key change (leaves_under [] old) (leaves_under [] new)
+
+changes : (key : ℕ) (change : Rows → Rows) (t : Trie) (f : Found key t) → height t ≤ 64 → AreLeaves (leaves_under [] t) → IsRows (change f.bucket).rows → AreUnder f.name (change f.bucket).rows
+    → Changed key change t (changed_at (low_bits 64 key) change t)
+changes key change t f h are rising under =
+    let path : List Bool = low_bits 64 key in
+    let leaves : leaves_under [] (changed_at path change t) ≡ replaced f.name (change f.bucket) (leaves_under [] t) =
+    ap (leaves_under []) (changed-put path change t f.bucket f.held)
+    ∙ leaves-put key (change f.bucket) t h are.tile
+    ∙ ap (λ (n : List Bool). replaced n (change f.bucket) (leaves_under [] t)) f.named in
+    record {
+      short = subst (λ n. n ≤ 64) (sym (height-changed path change t)) h;
+      are_leaves = subst AreLeaves (sym leaves) (AreLeaves-replaced f.name (change f.bucket) (leaves_under [] t) are rising under);
+      changes = record { leaf = leaf_at f.name f.bucket; found = f.found; leaves = leaves };
+    }
+
+-- a row is in the leaf of its key exactly where it is in that leaf of the list
+pub rows-found : (key : ℕ) (t : Trie) (row : Row) (b : Bool) → key < 2 ^ 64 → height t ≤ 64 → AreLeaves (leaves_under [] t) → IfSome (leaf_under key (leaves_under [] t)) (λ l. has_row row l.bucket.rows ≡ b)
+    → has_row row (rows_at (low_bits 64 key) t) ≡ b
+rows-found key t row b lt h are has =
+    let f = find-leaf key t lt h are in
+    ap (has_row row) (rows-bucket (low_bits 64 key) t f.bucket f.held) ∙ subst (λ o. IfSome o (λ (l : Leaf). has_row row l.bucket.rows ≡ b)) f.found has
+
+pub puts : (row : Row) (t : Trie) → row.key < 2 ^ 64 → height t ≤ 64 → AreLeaves (leaves_under [] t) → has_row row (rows_at (low_bits 64 row.key) t) ≡ false
+    → Changed row.key (put_row row) t (changed_at (low_bits 64 row.key) (put_row row) t)
+puts row t lt h are absent =
+    let f = find-leaf row.key t lt h are in
+    let none : has_row row f.bucket.rows ≡ false = ap (has_row row) (sym (rows-bucket (low_bits 64 row.key) t f.bucket f.held)) ∙ absent in
+    changes row.key (put_row row) t f h are (IsRows-with_row row f.bucket.rows none f.in_order) (AreUnder-with_row f.name row f.bucket.rows f.under f.all_under)
+
+pub takes : (row : Row) (t : Trie) → row.key < 2 ^ 64 → height t ≤ 64 → AreLeaves (leaves_under [] t)
+    → Changed row.key (gone_row row) t (changed_at (low_bits 64 row.key) (gone_row row) t)
+takes row t lt h are =
+    let f = find-leaf row.key t lt h are in
+    changes row.key (gone_row row) t f h are (IsRows-without_row row f.bucket.rows f.in_order) (AreUnder-without_row f.name row f.bucket.rows f.all_under)
+
+-- what holds after a change that was made or not
+pub changes-made : {A E : Type 0} (r : Result A E) (key : ℕ) (change : Rows → Rows) (leaves : List Leaf) (old made new : Trie) → leaves_under [] old ≡ leaves → Changed key change old made
+    → OnOk r (new ≡ made) → OnOk r (ChangesAt key change leaves (leaves_under [] new))
+changes-made (Ok x) key change leaves old made new same d ok = subst (λ (ls : List Leaf). ChangesAt key change ls (leaves_under [] new)) same (subst (λ (t : Trie). ChangesAt key change (leaves_under [] old) (leaves_under [] t)) (sym ok) d.changes)
+changes-made (Err e) key change leaves old made new same d ok = tt
+
+pub moves-made : {A E : Type 0} (r : Result A E) (from to : Row) (leaves : List Leaf) (old once twice new : Trie) → leaves_under [] old ≡ leaves → Changed from.key (gone_row from) old once → Changed to.key (put_row to) once twice
+    → OnOk r (new ≡ twice) → OnOk r (Moves from to leaves (leaves_under [] new))
+moves-made (Ok x) from to leaves old once twice new same d e ok = record {
+  between = leaves_under [] once;
+  takes = subst (λ (ls : List Leaf). ChangesAt from.key (gone_row from) ls (leaves_under [] once)) same d.changes;
+  puts = subst (λ (t : Trie). ChangesAt to.key (put_row to) (leaves_under [] once) (leaves_under [] t)) (sym ok) e.changes;
+}
+moves-made (Err x) from to leaves old once twice new same d e ok = tt

@@ -1,0 +1,225 @@
+-- A trie with another bucket on a path has the leaves with another bucket under one name.
+use Rattle.std.proofs.Common.{◌≡◌, ℕ, zero, suc, ◌+◌, ◌<◌, ◌≤◌, Bool, true, false, ◌||◌, List, [], ◌∷◌, ◌++◌, length, take, Some, Ok, Err, max, refl, sym, ◌∙◌, ap, subst, arith, append_assoc, append-nil, ◌^◌, Result, OnOk, OnErr}
+use Rattle.std.specs.List.{starts_with, list_any}
+use mathlib.Core.Bool.{beq}
+use Rattle.zorder.specs.Bits.{low_bits}
+use Rattle.zorder.specs.Name.{first_key, length-low_bits}
+use Rattle.zorder.specs.Key.{key_bits, is_under}
+use Rattle.zorder.specs.SameName.{same_name, same_name-decides}
+use Rattle.zorder.specs.Tile.{tiles_from}
+use Rattle.bucket_versions.specs.Rows.{Rows, IsRows}
+use Rattle.index_layer.specs.Leaves.{Leaf, AreLeaves, AreUnder, AreAllUnder, names_of, has_name, replaced, split, leaf_under}
+use Rattle.index_layer.proofs.LeafChanges.{leaf_at, replaced-at, split-at, names_of-replaced, AreLeaves-replaced, AreLeaves-split}
+use Rattle.index_layer.proofs.LeafKeys.{leaf_under-at, first_key-fits, first_key-under}
+use Rattle.index_layer.proofs.LeafNames.{any-among, one-leaf, short-among}
+use Rattle.kd_trie.specs.Tries.{Trie, tip, fork, height, leaves_under, put_at, name_at, bucket_at, graft, twins}
+
+-- the leaves in front of the one on this path, those behind it, and its bucket
+pub record Hole (name path : List Bool) (b : Rows) (t : Trie) : Type 0 where
+  pub front : List Leaf
+  pub back : List Leaf
+  pub old : Rows
+  pub before : leaves_under name t ≡ front ++ leaf_at (name ++ name_at path t) old ∷ back
+  pub after : leaves_under name (put_at path b t) ≡ front ++ leaf_at (name ++ name_at path t) b ∷ back
+  pub held : bucket_at path t ≡ Some old
+  pub cut : (a c : Rows) → leaves_under name (graft path (twins a c) t) ≡ front ++ leaf_at ((name ++ name_at path t) ++ false ∷ []) a ∷ leaf_at ((name ++ name_at path t) ++ true ∷ []) c ∷ back
+
+height_zero : (z o : Trie) (n : ℕ) → height (fork z o) ≤ suc n → height z ≤ n
+height_zero z o n h = omega (arith, h)
+
+height_one : (z o : Trie) (n : ℕ) → height (fork z o) ≤ suc n → height o ≤ n
+height_one z o n h = omega (arith, h)
+
+pub hole : (name path : List Bool) (b : Rows) (t : Trie) → height t ≤ length path → Hole name path b t
+hole name path b (tip a) h = record {
+  front = [];
+  back = [];
+  old = a;
+  before = λ i. leaf_at (sym (append-nil name) i) a ∷ [];
+  after = λ i. leaf_at (sym (append-nil name) i) b ∷ [];
+  held = refl;
+  cut = λ a c i. leaf_at (sym (append-nil name) i ++ false ∷ []) a ∷ leaf_at (sym (append-nil name) i ++ true ∷ []) c ∷ [];
+}
+hole name [] b (fork z o) h = absurd (omega (arith, h))
+hole name (true ∷ path) b (fork z o) h =
+    let r = hole (name ++ true ∷ []) path b o (height_one z o (length path) h) in
+    let first : List Leaf = leaves_under (name ++ false ∷ []) z in
+    let named : (name ++ true ∷ []) ++ name_at path o ≡ name ++ true ∷ name_at path o = append_assoc name (true ∷ []) (name_at path o) in
+    let place : (c : Rows) → first ++ (r.front ++ leaf_at ((name ++ true ∷ []) ++ name_at path o) c ∷ r.back) ≡ (first ++ r.front) ++ leaf_at (name ++ true ∷ name_at path o) c ∷ r.back =
+    λ c. (λ i. first ++ (r.front ++ leaf_at (named i) c ∷ r.back)) ∙ sym (append_assoc first r.front (leaf_at (name ++ true ∷ name_at path o) c ∷ r.back)) in
+    record {
+      front = first ++ r.front;
+      back = r.back;
+      old = r.old;
+      before = ap (λ (l : List Leaf). first ++ l) r.before ∙ place r.old;
+      after = ap (λ (l : List Leaf). first ++ l) r.after ∙ place b;
+      held = r.held;
+      cut = λ a c. ap (λ (l : List Leaf). first ++ l) (r.cut a c)
+          ∙ (λ i. first ++ (r.front ++ leaf_at (named i ++ false ∷ []) a ∷ leaf_at (named i ++ true ∷ []) c ∷ r.back))
+          ∙ sym (append_assoc first r.front (leaf_at ((name ++ true ∷ name_at path o) ++ false ∷ []) a ∷ leaf_at ((name ++ true ∷ name_at path o) ++ true ∷ []) c ∷ r.back));
+    }
+hole name (false ∷ path) b (fork z o) h =
+    let r = hole (name ++ false ∷ []) path b z (height_zero z o (length path) h) in
+    let last : List Leaf = leaves_under (name ++ true ∷ []) o in
+    let named : (name ++ false ∷ []) ++ name_at path z ≡ name ++ false ∷ name_at path z = append_assoc name (false ∷ []) (name_at path z) in
+    let place : (c : Rows) → (r.front ++ leaf_at ((name ++ false ∷ []) ++ name_at path z) c ∷ r.back) ++ last ≡ r.front ++ leaf_at (name ++ false ∷ name_at path z) c ∷ (r.back ++ last) =
+    λ c. append_assoc r.front (leaf_at ((name ++ false ∷ []) ++ name_at path z) c ∷ r.back) last ∙ (λ i. r.front ++ leaf_at (named i) c ∷ (r.back ++ last)) in
+    record {
+      front = r.front;
+      back = r.back ++ last;
+      old = r.old;
+      before = ap (λ (l : List Leaf). l ++ last) r.before ∙ place r.old;
+      after = ap (λ (l : List Leaf). l ++ last) r.after ∙ place b;
+      held = r.held;
+      cut = λ a c. ap (λ (l : List Leaf). l ++ last) (r.cut a c)
+          ∙ append_assoc r.front (leaf_at (((name ++ false ∷ []) ++ name_at path z) ++ false ∷ []) a ∷ leaf_at (((name ++ false ∷ []) ++ name_at path z) ++ true ∷ []) c ∷ r.back) last
+          ∙ (λ i. r.front ++ leaf_at (named i ++ false ∷ []) a ∷ leaf_at (named i ++ true ∷ []) c ∷ (r.back ++ last));
+    }
+
+-- the name on a path begins the path
+name_begins : (path : List Bool) (t : Trie) → starts_with beq path (name_at path t) ≡ true
+name_begins path (tip a) = refl
+name_begins [] (fork z o) = refl
+name_begins (true ∷ path) (fork z o) = name_begins path o
+name_begins (false ∷ path) (fork z o) = name_begins path z
+
+pub height-put : (path : List Bool) (b : Rows) (t : Trie) → height (put_at path b t) ≡ height t
+height-put path b (tip a) = refl
+height-put [] b (fork z o) = refl
+height-put (true ∷ path) b (fork z o) = ap (λ n. suc (max (height z) n)) (height-put path b o)
+height-put (false ∷ path) b (fork z o) = ap (λ n. suc (max n (height o))) (height-put path b z)
+
+-- a key has 64 bits
+pub within : (key : ℕ) (t : Trie) → height t ≤ 64 → height t ≤ length (low_bits 64 key)
+within key t h = omega (arith, h, length-low_bits 64 key)
+
+pub name-under : (key : ℕ) (t : Trie) → is_under (name_at (low_bits 64 key) t) key ≡ true
+unfolding key_bits
+name-under key t = name_begins (low_bits 64 key) t
+
+-- another bucket on a key's path is another bucket under the name there
+pub leaves-put : (key : ℕ) (b : Rows) (t : Trie) → height t ≤ 64 → tiles_from 0 (names_of (leaves_under [] t)) ≡ true
+    → leaves_under [] (put_at (low_bits 64 key) b t) ≡ replaced (name_at (low_bits 64 key) t) b (leaves_under [] t)
+leaves-put key b t h tile =
+    let r = hole [] (low_bits 64 key) b t (within key t h) in
+    let tiled : tiles_from 0 (names_of (r.front ++ leaf_at (name_at (low_bits 64 key) t) r.old ∷ r.back)) ≡ true = ap (λ (l : List Leaf). tiles_from 0 (names_of l)) (sym r.before) ∙ tile in
+    r.after
+    ∙ sym (replaced-at 0 (name_at (low_bits 64 key) t) b r.front (leaf_at (name_at (low_bits 64 key) t) r.old) r.back tiled refl)
+    ∙ ap (replaced (name_at (low_bits 64 key) t) b) (sym r.before)
+
+-- the leaf that a key is under
+pub leaf-at_key : (key : ℕ) (a : Rows) (t : Trie) → height t ≤ 64 → tiles_from 0 (names_of (leaves_under [] t)) ≡ true → key < 2 ^ 64 → bucket_at (low_bits 64 key) t ≡ Some a
+    → leaf_under key (leaves_under [] t) ≡ Some (leaf_at (name_at (low_bits 64 key) t) a)
+leaf-at_key key a t h tile lt held =
+    let r = hole [] (low_bits 64 key) a t (within key t h) in
+    let same : r.old ≡ a = some_same (sym r.held ∙ held) in
+    let tiled : tiles_from 0 (names_of (r.front ++ leaf_at (name_at (low_bits 64 key) t) r.old ∷ r.back)) ≡ true = ap (λ (l : List Leaf). tiles_from 0 (names_of l)) (sym r.before) ∙ tile in
+    ap (leaf_under key) r.before
+    ∙ leaf_under-at 0 key r.front (leaf_at (name_at (low_bits 64 key) t) r.old) r.back tiled lt (name-under key t)
+    ∙ ap (λ (b : Rows). Some (leaf_at (name_at (low_bits 64 key) t) b)) same
+  where
+    some_same : {x y : Rows} → Some x ≡ Some y → x ≡ y
+    some_same e = cc e
+
+-- the first key of a leaf's name leads to that leaf
+pub name-found : (name : List Bool) (t : Trie) → height t ≤ 64 → tiles_from 0 (names_of (leaves_under [] t)) ≡ true → has_name name (leaves_under [] t) ≡ true
+    → name_at (low_bits 64 (first_key name)) t ≡ name
+name-found name t h tile there =
+    let key : ℕ = first_key name in
+    let none : Rows = record { base = []; rows = [] } in
+    let r = hole [] (low_bits 64 key) none t (within key t h) in
+    let l : Leaf = leaf_at (name_at (low_bits 64 key) t) r.old in
+    let m = any-among (λ (n : Leaf). same_name n.name name) (leaves_under [] t) there in
+    let named : m.0.name ≡ name = (same_name-decides m.0.name name).0 m.2 in
+    let few : length m.0.name ≤ 64 = short-among (leaves_under [] t) m.0 tile m.1 in
+    let fits : key < 2 ^ 64 = subst (λ (n : List Bool). first_key n < 2 ^ 64) named (first_key-fits m.0.name few) in
+    let over : is_under m.0.name key ≡ true = ap (is_under m.0.name) (ap first_key (sym named)) ∙ first_key-under m.0.name few in
+    let same : l ≡ m.0 = one-leaf (leaves_under [] t) l m.0 key tile fits (r.front, r.back, r.before) m.1 (name-under key t) over in
+    ap (λ (n : Leaf). n.name) same ∙ named
+
+-- a trie that differs from another one in one leaf's bucket
+pub record Differs (name : List Bool) (b : Rows) (old new : Trie) : Type 0 where
+  pub short : height new ≤ 64
+  pub are_leaves : AreLeaves (leaves_under [] new)
+  pub leaves : leaves_under [] new ≡ replaced name b (leaves_under [] old)
+
+pub differs-put : (name : List Bool) (key : ℕ) (b : Rows) (t : Trie) → key ≡ first_key name → height t ≤ 64 → AreLeaves (leaves_under [] t) → IsRows b.rows → AreUnder name b.rows → has_name name (leaves_under [] t) ≡ true
+    → Differs name b t (put_at (low_bits 64 key) b t)
+differs-put name key b t first h are rising under there =
+    let path : List Bool = low_bits 64 key in
+    let found : name_at path t ≡ name = ap (λ k. name_at (low_bits 64 k) t) first ∙ name-found name t h are.tile there in
+    let leaves : leaves_under [] (put_at path b t) ≡ replaced name b (leaves_under [] t) = leaves-put key b t h are.tile ∙ ap (λ (n : List Bool). replaced n b (leaves_under [] t)) found in
+    record {
+      short = subst (λ n. n ≤ 64) (sym (height-put path b t)) h;
+      are_leaves = subst AreLeaves (sym leaves) (AreLeaves-replaced name b (leaves_under [] t) are rising under);
+      leaves = leaves;
+    }
+
+-- what holds of a trie whether a change of it was made or not
+pub short-kept : {A E : Type 0} (r : Result A E) (old made new : Trie) → height made ≤ 64 → height old ≤ 64 → OnOk r (new ≡ made) → OnErr r (new ≡ old) → height new ≤ 64
+short-kept (Ok x) old made new hm ho ok err = subst (λ (t : Trie). height t ≤ 64) (sym ok) hm
+short-kept (Err e) old made new hm ho ok err = subst (λ (t : Trie). height t ≤ 64) (sym err) ho
+
+pub are_leaves-kept : {A E : Type 0} (r : Result A E) (old made new : Trie) → AreLeaves (leaves_under [] made) → AreLeaves (leaves_under [] old) → OnOk r (new ≡ made) → OnErr r (new ≡ old) → AreLeaves (leaves_under [] new)
+are_leaves-kept (Ok x) old made new am ao ok err = subst (λ (t : Trie). AreLeaves (leaves_under [] t)) (sym ok) am
+are_leaves-kept (Err e) old made new am ao ok err = subst (λ (t : Trie). AreLeaves (leaves_under [] t)) (sym err) ao
+
+pub leaves-made : {A E : Type 0} (r : Result A E) (made new : Trie) (leaves : List Leaf) → leaves_under [] made ≡ leaves → OnOk r (new ≡ made) → OnOk r (leaves_under [] new ≡ leaves)
+leaves-made (Ok x) made new leaves e ok = ap (leaves_under []) ok ∙ e
+leaves-made (Err x) made new leaves e ok = tt
+
+-- two puts, under the names of two leaves
+pub differs-again : (first second : List Bool) (a b : Rows) (old made : Trie) → Differs first a old made → has_name second (leaves_under [] old) ≡ true → has_name second (leaves_under [] made) ≡ true
+differs-again first second a b old made d there = ap (has_name second) d.leaves ∙ names_same second (replaced first a (leaves_under [] old)) (leaves_under [] old) (names_of-replaced first a (leaves_under [] old)) ∙ there
+  where
+    of_names : (name : List Bool) (ls : List Leaf) → has_name name ls ≡ list_any (λ (n : List Bool). same_name n name) (names_of ls)
+    of_names name [] = refl
+    of_names name (l ∷ ls) = ap (λ (b : Bool). same_name l.name name || b) (of_names name ls)
+
+    names_same : (name : List Bool) (xs ys : List Leaf) → names_of xs ≡ names_of ys → has_name name xs ≡ has_name name ys
+    names_same name xs ys e = of_names name xs ∙ ap (list_any (λ (n : List Bool). same_name n name)) e ∙ sym (of_names name ys)
+
+-- the name on a path is its first bits
+pub name-front : (path : List Bool) (t : Trie) → take (length (name_at path t)) path ≡ name_at path t
+name-front path (tip a) = refl
+name-front [] (fork z o) = refl
+name-front (true ∷ path) (fork z o) = ap (λ (n : List Bool). true ∷ n) (name-front path o)
+name-front (false ∷ path) (fork z o) = ap (λ (n : List Bool). false ∷ n) (name-front path z)
+
+-- two leaves in the place of one make the name one bit longer, and no other
+pub height-graft : (path : List Bool) (a c : Rows) (t : Trie) (n : ℕ) → height t ≤ n → length (name_at path t) + 1 ≤ n → height (graft path (twins a c) t) ≤ n
+height-graft path a c (tip b) n h short = short
+height-graft [] a c (fork z o) n h short = h
+height-graft (true ∷ path) a c (fork z o) zero h short = absurd (omega (arith, h))
+height-graft (true ∷ path) a c (fork z o) (suc n) h short =
+    let rest : height (graft path (twins a c) o) ≤ n = height-graft path a c o n (height_one z o n h) (omega (arith, short)) in
+    omega (arith, height_zero z o n h, rest)
+height-graft (false ∷ path) a c (fork z o) zero h short = absurd (omega (arith, h))
+height-graft (false ∷ path) a c (fork z o) (suc n) h short =
+    let rest : height (graft path (twins a c) z) ≤ n = height-graft path a c z n (height_zero z o n h) (omega (arith, short)) in
+    omega (arith, height_one z o n h, rest)
+
+-- a trie that has a leaf's children in its place
+pub record Divides (name : List Bool) (a c : Rows) (old new : Trie) : Type 0 where
+  pub short : height new ≤ 64
+  pub are_leaves : AreLeaves (leaves_under [] new)
+  pub leaves : leaves_under [] new ≡ split 1 name (a ∷ c ∷ []) (leaves_under [] old)
+
+pub divides-graft : (name : List Bool) (key : ℕ) (a c : Rows) (t : Trie) → key ≡ first_key name → height t ≤ 64 → AreLeaves (leaves_under [] t) → IsRows a.rows → IsRows c.rows
+    → length name + 1 ≤ 64 → AreAllUnder 1 name (a ∷ c ∷ []) → has_name name (leaves_under [] t) ≡ true → Divides name a c t (graft (low_bits 64 key) (twins a c) t)
+divides-graft name key a c t first h are rising_a rising_c short under there =
+    let path : List Bool = low_bits 64 key in
+    let found : name_at path t ≡ name = ap (λ k. name_at (low_bits 64 k) t) first ∙ name-found name t h are.tile there in
+    let r = hole [] path a t (within key t h) in
+    let l : Leaf = leaf_at (name_at path t) r.old in
+    let tiled : tiles_from 0 (names_of (r.front ++ l ∷ r.back)) ≡ true = ap (λ (ls : List Leaf). tiles_from 0 (names_of ls)) (sym r.before) ∙ are.tile in
+    let leaves : leaves_under [] (graft path (twins a c) t) ≡ split 1 name (a ∷ c ∷ []) (leaves_under [] t) =
+    r.cut a c
+    ∙ (λ i. r.front ++ leaf_at (found i ++ false ∷ []) a ∷ leaf_at (found i ++ true ∷ []) c ∷ r.back)
+    ∙ sym (split-at 0 1 name (a ∷ c ∷ []) r.front l r.back tiled found)
+    ∙ ap (split 1 name (a ∷ c ∷ [])) (sym r.before) in
+    record {
+      short = height-graft path a c t 64 h (subst (λ (n : List Bool). length n + 1 ≤ 64) (sym found) short);
+      are_leaves = subst AreLeaves (sym leaves) (AreLeaves-split 1 name (a ∷ c ∷ []) short refl (leaves_under [] t) are (rising_a, (rising_c, tt)) under);
+      leaves = leaves;
+    }

@@ -1,0 +1,15 @@
+//! An index as a binary trie, whose nodes and buckets its versions share.
+//!
+//! Contracts see a `KdTrie` as the list of its leaves, as the trait says. `share` copies one pointer. A change in place goes
+//! down to its leaf by the bits of a key; what another trie shares on that path is copied, and no more. Then it takes its
+//! step, and writes. `replaced` and `split` are a share and the same change on it.
+//!
+//! Not here: which leaves there are to be (`index_build`, `commit_book`), the rows of a bucket (`bucket_versions`).
+#![tactic(auto)]
+
+mod node;
+mod rows;
+mod sending;
+mod trie;
+
+pub use trie::KdTrie;

@@ -1,0 +1,224 @@
+//! Rows that are put, taken and moved in a trie that is changed in place.
+ghost use Rattle.std.specs.Prelude.{◌≡◌, ◌≤◌, true, false, OnOk, OnErr};
+ghost use Rattle.std.specs.Arc.{arc_value};
+ghost use Rattle.zorder.specs.Bits.{low_bits};
+ghost use Rattle.bucket_versions.specs.Rows.{has_row, put_row, gone_row};
+ghost use Rattle.bucket_versions.specs.Told.{Told};
+ghost use Rattle.kd_trie.specs.Tries.{height, changed_at, rows_at};
+ghost use Rattle.kd_trie.specs.Nodes.{seen};
+
+use crate::node::{Node, Pair, next_bit, own};
+use bucket_versions::{Bucket, Commit, Row, Undone, pass, put, shift, take};
+use std::alloc::Global;
+use std::sync::Arc;
+
+/// Adds a row to the leaf that the last `left` bits of its key lead to, once the step has succeeded.
+pub(crate) fn put_row<C: Commit>(
+    alloc: Global,
+    node: &mut Node,
+    row: Row,
+    left: u8,
+    commit: &mut C,
+) -> Result<(), Undone>
+    requires can { C.can commit.old }
+    requires height { height (seen node.old) ≤ left }
+    requires most { left ≤ 64 }
+    requires absent { has_row row (rows_at (low_bits left row.key) (seen node.old)) ≡ false }
+    ensures ok { OnOk result (seen node.new ≡ changed_at (low_bits left row.key) (put_row row) (seen node.old)) }
+    ensures err { OnErr result (seen node.new ≡ seen node.old) }
+    ensures told { Told C.done C.lost commit.old commit.new result }
+{
+    match node {
+        Node::Leaf(leaf) => put(leaf, row, commit),
+        Node::Inner(pair) => {
+            let Ok(()) = own(alloc, pair) else {
+                return Err(Undone::Memory);
+            };
+            let Some(pair) = Arc::get_mut(pair) else {
+                return Err(Undone::Memory);
+            };
+            if next_bit(row.key, left) {
+                put_row(alloc, &mut pair.one, row, left - 1, commit)
+            } else {
+                put_row(alloc, &mut pair.zero, row, left - 1, commit)
+            }
+        }
+    }
+}
+
+/// Takes a row out of the leaf that the last `left` bits of its key lead to, once the step has succeeded.
+pub(crate) fn take_row<C: Commit>(
+    alloc: Global,
+    node: &mut Node,
+    row: &Row,
+    left: u8,
+    commit: &mut C,
+) -> Result<(), Undone>
+    requires can { C.can commit.old }
+    requires height { height (seen node.old) ≤ left }
+    requires most { left ≤ 64 }
+    requires present { has_row row.now (rows_at (low_bits left row.now.key) (seen node.old)) ≡ true }
+    ensures ok { OnOk result (seen node.new ≡ changed_at (low_bits left row.now.key) (gone_row row.now) (seen node.old)) }
+    ensures err { OnErr result (seen node.new ≡ seen node.old) }
+    ensures told { Told C.done C.lost commit.old commit.new result }
+{
+    match node {
+        Node::Leaf(leaf) => take(leaf, row, commit),
+        Node::Inner(pair) => {
+            let Ok(()) = own(alloc, pair) else {
+                return Err(Undone::Memory);
+            };
+            let Some(pair) = Arc::get_mut(pair) else {
+                return Err(Undone::Memory);
+            };
+            if next_bit(row.key, left) {
+                take_row(alloc, &mut pair.one, row, left - 1, commit)
+            } else {
+                take_row(alloc, &mut pair.zero, row, left - 1, commit)
+            }
+        }
+    }
+}
+
+/// Takes a row out and adds another one, once the step has succeeded.
+pub(crate) fn shift_row<C: Commit>(
+    alloc: Global,
+    node: &mut Node,
+    from: &Row,
+    to: Row,
+    left: u8,
+    commit: &mut C,
+) -> Result<(), Undone>
+    requires can { C.can commit.old }
+    requires height { height (seen node.old) ≤ left }
+    requires most { left ≤ 64 }
+    requires present { has_row from.now (rows_at (low_bits left from.now.key) (seen node.old)) ≡ true }
+    requires absent { has_row to (rows_at (low_bits left to.key) (changed_at (low_bits left from.now.key) (gone_row from.now) (seen node.old))) ≡ false }
+    ensures ok { OnOk result (seen node.new ≡ changed_at (low_bits left to.key) (put_row to) (changed_at (low_bits left from.now.key) (gone_row from.now) (seen node.old))) }
+    ensures err { OnErr result (seen node.new ≡ seen node.old) }
+    ensures told { Told C.done C.lost commit.old commit.new result }
+{
+    match node {
+        Node::Leaf(leaf) => shift(leaf, from, to, commit),
+        Node::Inner(pair) => {
+            let Ok(()) = own(alloc, pair) else {
+                return Err(Undone::Memory);
+            };
+            let Some(pair) = Arc::get_mut(pair) else {
+                return Err(Undone::Memory);
+            };
+            if next_bit(from.key, left) {
+                if next_bit(to.key, left) {
+                    shift_row(alloc, &mut pair.one, from, to, left - 1, commit)
+                } else {
+                    let Pair { zero, one } = pair;
+                    pass_row(alloc, one, from, left - 1, zero, to, left - 1, commit)
+                }
+            } else if next_bit(to.key, left) {
+                let Pair { zero, one } = pair;
+                pass_row(alloc, zero, from, left - 1, one, to, left - 1, commit)
+            } else {
+                shift_row(alloc, &mut pair.zero, from, to, left - 1, commit)
+            }
+        }
+    }
+}
+
+// Takes a row out of one node and adds one to another.
+fn pass_row<C: Commit>(
+    alloc: Global,
+    node: &mut Node,
+    from: &Row,
+    left: u8,
+    other: &mut Node,
+    to: Row,
+    other_left: u8,
+    commit: &mut C,
+) -> Result<(), Undone>
+    requires can { C.can commit.old }
+    requires height { height (seen node.old) ≤ left }
+    requires most { left ≤ 64 }
+    requires other_height { height (seen other.old) ≤ other_left }
+    requires other_most { other_left ≤ 64 }
+    requires present { has_row from.now (rows_at (low_bits left from.now.key) (seen node.old)) ≡ true }
+    requires absent { has_row to (rows_at (low_bits other_left to.key) (seen other.old)) ≡ false }
+    ensures ok { OnOk result (seen node.new ≡ changed_at (low_bits left from.now.key) (gone_row from.now) (seen node.old)) }
+    ensures other { OnOk result (seen other.new ≡ changed_at (low_bits other_left to.key) (put_row to) (seen other.old)) }
+    ensures err { OnErr result (seen node.new ≡ seen node.old) }
+    ensures other_err { OnErr result (seen other.new ≡ seen other.old) }
+    ensures told { Told C.done C.lost commit.old commit.new result }
+{
+    match node {
+        Node::Leaf(leaf) => pass_on(alloc, leaf, from, other, to, other_left, commit),
+        Node::Inner(pair) => {
+            let Ok(()) = own(alloc, pair) else {
+                return Err(Undone::Memory);
+            };
+            let Some(pair) = Arc::get_mut(pair) else {
+                return Err(Undone::Memory);
+            };
+            if next_bit(from.key, left) {
+                pass_row(
+                    alloc,
+                    &mut pair.one,
+                    from,
+                    left - 1,
+                    other,
+                    to,
+                    other_left,
+                    commit,
+                )
+            } else {
+                pass_row(
+                    alloc,
+                    &mut pair.zero,
+                    from,
+                    left - 1,
+                    other,
+                    to,
+                    other_left,
+                    commit,
+                )
+            }
+        }
+    }
+}
+
+// Takes a row out of a leaf and adds one to a node.
+fn pass_on<C: Commit>(
+    alloc: Global,
+    leaf: &mut Arc<Bucket>,
+    from: &Row,
+    node: &mut Node,
+    to: Row,
+    left: u8,
+    commit: &mut C,
+) -> Result<(), Undone>
+    requires can { C.can commit.old }
+    requires height { height (seen node.old) ≤ left }
+    requires most { left ≤ 64 }
+    requires present { has_row from.now (arc_value leaf.old).rows ≡ true }
+    requires absent { has_row to (rows_at (low_bits left to.key) (seen node.old)) ≡ false }
+    ensures leaf { OnOk result (arc_value leaf.new ≡ gone_row from.now (arc_value leaf.old)) }
+    ensures ok { OnOk result (seen node.new ≡ changed_at (low_bits left to.key) (put_row to) (seen node.old)) }
+    ensures leaf_err { OnErr result (arc_value leaf.new ≡ arc_value leaf.old) }
+    ensures err { OnErr result (seen node.new ≡ seen node.old) }
+    ensures told { Told C.done C.lost commit.old commit.new result }
+{
+    match node {
+        Node::Leaf(other) => pass(leaf, from, other, to, commit),
+        Node::Inner(pair) => {
+            let Ok(()) = own(alloc, pair) else {
+                return Err(Undone::Memory);
+            };
+            let Some(pair) = Arc::get_mut(pair) else {
+                return Err(Undone::Memory);
+            };
+            if next_bit(to.key, left) {
+                pass_on(alloc, leaf, from, &mut pair.one, to, left - 1, commit)
+            } else {
+                pass_on(alloc, leaf, from, &mut pair.zero, to, left - 1, commit)
+            }
+        }
+    }
+}
