@@ -5,6 +5,7 @@ use Rattle.std.proofs.lemmas.Bool.Decides.{nat_tests}
 use Rattle.std.proofs.lemmas.Grind.{common_steps}
 use Rattle.zorder.specs.declared.points.Point.{Point}
 use Rattle.zorder.specs.declared.points.Placed.{Placed}
+use Rattle.zorder.specs.Key.{IsPoint}
 use Rattle.plain_list.specs.World.{IsWorld, IsRising, IsAbove, place_of}
 use Rattle.plain_list.specs.Answer.{with_member, with_moved, without}
 use Rattle.plain_list.proofs.Worlds.{IsWorld-with_member, length-with_member}
@@ -80,7 +81,7 @@ without-other m id (n ∷ ns) rising other =
 -- the objects and the one beside them are a world
 pub IsWorld-with : (o : Option Placed) (ms : List Placed) → IsWorld ms → IsBeside o ms → IsWorld (world_with o ms)
 IsWorld-with None ms w beside = w
-IsWorld-with (Some m) ms w beside = IsWorld-with_member m ms w beside.0 beside.1
+IsWorld-with (Some m) ms w beside = IsWorld-with_member m ms w beside.0 beside.1 beside.2
 
 -- what is found in them
 pub place_of-latest : (o : Option Placed) (ms : List Placed) (id : ℕ) (at : Point) → IsBeside o ms → place_of_latest o id ≡ Some at → place_of (world_with o ms) id ≡ Some at
@@ -107,14 +108,14 @@ pub record MovesLatest (o : Option Placed) (ms : List Placed) (id : ℕ) (at : P
   pub free : is_free o ≡ false
   pub beside : IsBeside (Some (record { id = id; at = at })) ms
 
-pub moves_latest : (o : Option Placed) (ms : List Placed) (id : ℕ) (at p : Point) → IsBeside o ms → place_of_latest o id ≡ Some p → MovesLatest o ms id at
-moves_latest None ms id at p beside e = cc
-moves_latest (Some m) ms id at p beside e =
+pub moves_latest : (o : Option Placed) (ms : List Placed) (id : ℕ) (at p : Point) → IsBeside o ms → place_of_latest o id ≡ Some p → IsPoint at → MovesLatest o ms id at
+moves_latest None ms id at p beside e fits = cc
+moves_latest (Some m) ms id at p beside e fits =
     let same : m.id ≡ id = same_id m id p e in
     record {
       world = (λ i. with_member (record { id = sym same i; at = at }) ms) ∙ sym (with_moved-latest m at ms beside.0) ∙ (λ i. with_moved (same i) at (with_member m ms));
       free = refl;
-      beside = (ap (place_of ms) (sym same) ∙ beside.0, beside.1);
+      beside = (ap (place_of ms) (sym same) ∙ beside.0, beside.1, fits);
     }
 
 -- another object moves
@@ -128,7 +129,7 @@ length-moved id at (m ∷ ms) = ap suc (length-moved id at ms)
 
 pub beside-moved : (o : Option Placed) (ms : List Placed) (id : ℕ) (at : Point) → IsBeside o ms → place_of_latest o id ≡ None → IsBeside o (with_moved id at ms)
 beside-moved None ms id at beside e = tt
-beside-moved (Some m) ms id at beside e = (place_of-with_moved-other id m.id at ms (other_id m id e) ∙ beside.0, omega (arith, beside.1, length-moved id at ms))
+beside-moved (Some m) ms id at beside e = (place_of-with_moved-other id m.id at ms (other_id m id e) ∙ beside.0, omega (arith, beside.1, length-moved id at ms), beside.2)
 
 -- the latest object goes
 pub without_latest : (o : Option Placed) (ms : List Placed) (id : ℕ) (p : Point) → IsBeside o ms → place_of_latest o id ≡ Some p → ms ≡ without id (world_with o ms)
@@ -149,7 +150,7 @@ length-without id (m ∷ ms) =
 pub beside-without : (o : Option Placed) (ms : List Placed) (id : ℕ) → IsBeside o ms → place_of_latest o id ≡ None → IsBeside o (without id ms)
 beside-without None ms id beside e = tt
 beside-without (Some m) ms id beside e =
-    (place_of-without id ms m.id ∙ none (id == m.id) (place_of ms m.id) beside.0, omega (arith, beside.1, length-without id ms))
+    (place_of-without id ms m.id ∙ none (id == m.id) (place_of ms m.id) beside.0, omega (arith, beside.1, length-without id ms), beside.2)
   where
     none : (b : Bool) (o : Option Point) → o ≡ None → cond b None o ≡ None
     none true o e = refl

@@ -4,7 +4,7 @@ use Rattle.zorder.specs.declared.points.Point.{Point}
 use Rattle.zorder.specs.declared.points.Placed.{Placed}
 use Rattle.zorder.specs.Key.{key_of}
 use Rattle.plain_list.specs.declared.ops.Op.{Op}
-use Rattle.plain_list.specs.World.{place_of}
+use Rattle.plain_list.specs.World.{most_members, place_of}
 use Rattle.plain_list.specs.Answer.{answer_of, after_of, with_member, with_moved, without}
 use Rattle.bucket_versions.specs.Rows.{put_row, gone_row}
 use Rattle.index_layer.specs.Leaves.{Leaf}
@@ -23,7 +23,7 @@ PutsRow leaves w size id at index c = ChangesLeaf w size (key_of at) (put_row (r
 -- a table that an object can be put into, without taking memory
 pub record CanPut {I : Type 0} (leaves : I → List Leaf) (w : ℕ) (t : TableView I) (id : ℕ) (at : Point) (leaf : Changed I) : Type 0 where
   pub absent : place_of t.world id ≡ None
-  pub few : length t.world < 1048576
+  pub few : length t.world < most_members
   pub leaf_is : PutsRow leaves w t.size id at t.index leaf
   pub room : 1 ≤ t.room
   pub ready : t.ready ≡ true

@@ -1,14 +1,14 @@
 //! The map from ids to points, seen as a world, with an object that is put without taking memory.
 ghost use Rattle.std.specs.Prelude.{◌≡◌, ◌≤◌, ◌<◌, ◌+◌, [], length, true, false, Some, None, OnOk, OnErr, IfOk, Option};
 ghost use Rattle.zorder.specs.declared.points.Point.{Point};
-ghost use Rattle.plain_list.specs.World.{IsWorld, place_of};
+ghost use Rattle.plain_list.specs.World.{most_members, IsWorld, place_of};
 ghost use Rattle.plain_list.specs.Answer.{with_member, with_moved, without};
 ghost use Rattle.commit_book.specs.Beside.{place_of_latest};
 
 use plain_list::{MemberMap, World};
 use std::alloc::{AllocError, Global};
 use std::marker::Model;
-use zorder::{Placed, Point};
+use zorder::{Placed, Point, coordinates_fit};
 
 /// Where each object is, by its id.
 ///
@@ -87,10 +87,11 @@ impl Members {
     /// Adds an object, which isn't there, and takes no memory.
     pub(crate) fn insert(&mut self, id: u64, at: Point)
         requires absent { place_of self.old.world id ≡ None }
-        requires room { length self.old.world < 1048576 }
+        requires room { length self.old.world < most_members }
         requires ready { self.old.ready ≡ true }
         ensures { self.new ≡ record { world = with_member (record { id = id; at = at }) self.old.world; ready = false } }
     {
+        coordinates_fit(at);
         self.latest = Some(Placed { id, at });
     }
 
@@ -99,6 +100,7 @@ impl Members {
         requires { place_of self.old.world id ≡ Some old }
         ensures { self.new ≡ record self.old { world = with_moved id at self.old.world } }
     {
+        coordinates_fit(at);
         match place_of_latest(&self.latest, id) {
             Some(_) => self.latest = Some(Placed { id, at }),
             None => self.points.replace(id, old, at),

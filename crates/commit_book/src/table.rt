@@ -2,7 +2,7 @@
 ghost use Rattle.std.specs.Prelude.{◌≡◌, ◌+◌, ◌-◌, ◌<◌, ◌≤◌, ◌^◌, ◌∷◌, ◌&&◌, not, [], List, Some, None, true, false, IfOk, OnOk, OnErr, MatchOption, length};
 ghost use Rattle.std.specs.Arc.{arc_value};
 ghost use Rattle.std.specs.List.{AllByRecursion, find};
-ghost use Rattle.plain_list.specs.World.{IsWorld, place_of};
+ghost use Rattle.plain_list.specs.World.{most_members, IsWorld, place_of};
 ghost use Rattle.plain_list.specs.Answer.{with_member, with_moved, without, answer_of, is_change};
 ghost use Rattle.plain_list.specs.Size.{is_over};
 ghost use Rattle.plain_list.specs.State.{is_splitting, split_leaf};
@@ -29,7 +29,7 @@ use plain_list::{Answer, Op};
 use std::alloc::Global;
 use std::marker::Model;
 use std::sync::Arc;
-use zorder::{Memory, Name, Point, key};
+use zorder::{Memory, Name, Point, coordinates_fit, key};
 
 /// Objects, by their ids and by their keys.
 #[derive(Drop)]
@@ -188,7 +188,7 @@ impl<I: Index> Table<I> {
     // Takes all memory to add an object, which isn't there.
     fn prepare_put(&mut self, id: u64, at: Point) -> Result<Changed<I>, Memory>
         requires absent { place_of self.old.world id ≡ None }
-        requires few { length self.old.world < 1048576 }
+        requires few { length self.old.world < most_members }
         ensures can { IfOk result (λ leaf. CanPut I.leaves I.WIDTH self.new id at leaf) }
         ensures ok { OnOk result (self.new ≡ record self.old { room = self.old.room + 1; ready = true }) }
         ensures err { OnErr result (self.new ≡ self.old) }
@@ -288,6 +288,7 @@ impl<I: Index> Table<I> {
         ensures room { self.new.room ≡ self.old.room - 1 }
     {
         self.crowded.set(&leaf.name, leaf.crowded);
+        coordinates_fit(at);
         self.members.insert(id, at);
         self.index = leaf.index;
     }
@@ -301,6 +302,7 @@ impl<I: Index> Table<I> {
     {
         self.crowded.set(&leaves.from.name, leaves.from.crowded);
         self.crowded.set(&leaves.to.name, leaves.to.crowded);
+        coordinates_fit(at);
         self.members.replace(id, old, at);
         self.index = leaves.to.index;
     }

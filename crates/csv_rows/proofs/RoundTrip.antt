@@ -12,12 +12,12 @@ use Rattle.csv.specs.Reading.{Reached, default_config, records}
 use Rattle.csv.specs.Writing.{default_writer, field_text, fields_text, is_blank, needs_byte, row_text}
 use Rattle.csv.specs.declared.parser.State.TheVariants as st
 use Rattle.csv.proofs.RoundTrip.{read-write-many}
-use Rattle.plain_list.specs.Answer.{IsValid}
+use Rattle.plain_list.specs.Answer.{IsValid, FitsOp}
 use Rattle.plain_list.specs.declared.ops.Op.{Op}
 use Rattle.plain_list.specs.declared.ops.Op.TheVariants as op
 use Rattle.csv_rows.specs.declared.rows.InRow.{InRow}
 use Rattle.csv_rows.specs.Fields.{row_of}
-use Rattle.csv_rows.specs.InRows.{AreInRows, FitsOp, IsInRow}
+use Rattle.csv_rows.specs.InRows.{AreInRows, IsInRow}
 use Rattle.csv_rows.specs.Numbers.{is_between, is_number, number}
 use Rattle.csv_rows.specs.RowLines.{fields_line, header_line, op_fields, row_fields, row_line, rows_text}
 use Rattle.csv_rows.specs.Rows.{header_fields, rows_behind_header, rows_from, rows_of}

@@ -1,12 +1,12 @@
 //! The fields of a record, column by column.
 ghost use Rattle.std.specs.Prelude.{◌≡◌, ◌≢◌, ◌≤◌, ◌<◌, ◌^◌, ◌∷◌, [], true, false, length, IfOk, MatchOption, MatchResult};
 ghost use Rattle.csv.specs.Records.{fields_of};
-ghost use Rattle.plain_list.specs.Answer.{IsValid};
+ghost use Rattle.plain_list.specs.Answer.{IsValid, FitsOp};
 ghost use Rattle.csv_rows.specs.Numbers.{number};
 ghost use Rattle.csv_rows.specs.Fields.{Empty, Between, keeps, word_of, rules_of, first_fault, unless, point_of, coordinate_rule, op_by_word, row_of};
 ghost use Rattle.zorder.specs.Key.{IsPoint};
 ghost use Rattle.csv_rows.specs.Rows.{is_header};
-ghost use Rattle.csv_rows.specs.InRows.{FitsOp, IsInRow};
+ghost use Rattle.csv_rows.specs.InRows.{IsInRow};
 
 use crate::numbers::number_in;
 use crate::rows::{InRow, Wrong};

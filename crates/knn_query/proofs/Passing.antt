@@ -23,7 +23,6 @@ use Rattle.plain_list.specs.Nearest.{rank_of, may_belong, AreOf}
 use Rattle.plain_list.proofs.Ranking.{found_in, ranked_once, IsPermutation-ranked, IsSortedBy-ranked}
 use Rattle.plain_list.proofs.Cuts.{IsPass, with_more, pass_skips}
 use Rattle.table_share.specs.Objects.{placed_of, objects_of}
-use Rattle.table_share.specs.Worlds.{AreAtPoints}
 use Rattle.table_share.specs.KeysUnder.{AreKeysUnder}
 use Rattle.table_share.proofs.TableRows.{table_of}
 use Rattle.table_share.proofs.LeafRows.{leaves_under}
@@ -84,11 +83,11 @@ filter-all [] = refl
 filter-all (x ∷ xs) = ap (λ l. x ∷ l) (filter-all xs)
 
 -- the objects of the leaf of the point first, then those of the others
-objects_first : (leaves : List Leaf) (world : List Placed) (names : List (List Bool)) (home : Leaf) → IsWorld world → AreAtPoints world → Stands leaves world names → IsAmong leaves home
+objects_first : (leaves : List Leaf) (world : List Placed) (names : List (List Bool)) (home : Leaf) → IsWorld world → Stands leaves world names → IsAmong leaves home
     → IsPermutation world (objects_of home.bucket.rows ++ objects_left home.name leaves)
-objects_first leaves world names home is_world points stands (front, back, leaves_are) =
+objects_first leaves world names home is_world stands (front, back, leaves_are) =
     let table = table_of leaves world names stands in
-    let all = objects-permutation (λ (m : Placed). true) world (all_rows leaves) is_world.rising points table.ordered table.has in
+    let all = objects-permutation (λ (m : Placed). true) world (all_rows leaves) is_world.rising is_world.points table.ordered table.has in
     let objects : IsPermutation world (objects_of (all_rows leaves)) =
     subst (λ (l : List Placed). IsPermutation l (objects_of (all_rows leaves))) (filter-all world)
     (subst (λ (l : List Placed). IsPermutation (filter (λ (m : Placed). true) world) l) (filter-all (objects_of (all_rows leaves))) all) in
@@ -115,12 +114,12 @@ before_all p k world ms rising shuffled =
     }
 
 -- behind the leaf of the point the others are still to come
-pub starts : (p : Point) (k : ℕ) (leaves : List Leaf) (world : List Placed) (names : List (List Bool)) (home : Leaf) (old new : Kept) → IsWorld world → AreAtPoints world → Stands leaves world names
+pub starts : (p : Point) (k : ℕ) (leaves : List Leaf) (world : List Placed) (names : List (List Bool)) (home : Leaf) (old new : Kept) → IsWorld world → Stands leaves world names
     → IsAmong leaves home → IsList p k [] None old → Passes (objects_of home.bucket.rows) old new → KeepsWorld p k home.name leaves world new
-starts p k leaves world names home old new is_world points stands among list passes =
+starts p k leaves world names home old new is_world stands among list passes =
     let here = objects_of home.bucket.rows in
     let later = objects_left home.name leaves in
-    let shuffled = objects_first leaves world names home is_world points stands among in
+    let shuffled = objects_first leaves world names home is_world stands among in
     let all : AreOf world (here ++ later) = All-permutation (IsAt world) world (here ++ later) shuffled (found_in world is_world.rising) in
     let before : Keeps p k world (here ++ later) old =
     subst (λ l. IsPass p k world (here ++ later) l (option_map (rank_of p) old.last)) (sym list.list_is)

@@ -4,7 +4,7 @@ pub mod Origins
 pub mod Refused
 pub mod TidySteps
 pub mod SplitSteps
-pub mod Points
+pub mod RowWorlds
 pub mod PlaySteps
 pub mod Ends
 pub mod WordsFacts

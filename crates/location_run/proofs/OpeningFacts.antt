@@ -1,11 +1,7 @@
 -- What the opening of a log comes to.
-use Rattle.std.proofs.Common.{◌≡◌, ◌⊎◌, inl, inr, ◌∙◌, ℕ, ◌+◌, ◌<◌, ◌≤◌, List, length, take, get_or, Some, Result, Ok, Err, refl, sym, ap, subst}
+use Rattle.std.proofs.Common.{◌≡◌, ◌⊎◌, inl, inr, ◌∙◌, ℕ, ◌≤◌, List, length, Some, Result, Ok, Err, refl, sym, ap, subst}
 use Rattle.std.specs.Prelude.{IfErr}
-use Rattle.std.proofs.lemmas.List.{take_more}
 use Rattle.causes.specs.Causes.{Rose}
-use Rattle.zorder.specs.declared.points.Placed.{Placed}
-use Rattle.zorder.specs.Key.{IsPoint}
-use Rattle.table_share.specs.Worlds.{AreAtPoints}
 use Rattle.disk_trait.specs.declared.disk.AttachFault.{AttachFault}
 use Rattle.disk_trait.specs.declared.disk.AttachFault.TheVariants as attach_fault
 use Rattle.disk_trait.specs.Drive.{Drive, KeepsLaws, Stays, CountsAttach}
@@ -18,16 +14,11 @@ use Rattle.recovery.specs.declared.seen.OpenFault.{OpenFault}
 use Rattle.recovery.specs.declared.seen.OpenFault.TheVariants as open_fault
 use Rattle.recovery.proofs.OnlyReading.{rose-earlier}
 use Rattle.recovery.proofs.OpeningLemmas.{leaves-trans, leaves-stays}
-use Rattle.recovery.proofs.PieceLemmas.{all_append}
 use Rattle.csv_rows.specs.declared.rows.Refusal.{Refusal}
 use Rattle.csv_rows.specs.declared.rows.Refusal.TheVariants as refusal
 use Rattle.location_run.specs.Checking.{IsReadingCause, attach_refusal, log_refusal}
 use Rattle.location_run.specs.Origin.{most_played}
 use Rattle.location_run.specs.Playing.{IsNotOpened}
-
--- one object more at a point
-pub points-more : (world : List Placed) (i : ℕ) (d : Placed) → i < length world → AreAtPoints (take i world) → IsPoint (get_or world i d).at → AreAtPoints (take (i + 1) world)
-points-more world i d lt all at = subst AreAtPoints (sym (take_more world i d lt)) (all_append (λ (m : Placed). IsPoint m.at) (take i world) _ all (at, tt))
 
 -- a call that only reads leaves what recovers
 pub keeps-stays-cells : (w : ℕ) (a b : Drive) → KeepsLaws a → Stays a b → KeepsCells w a b

@@ -11,7 +11,7 @@ use Rattle.plain_list.specs.State.{State, state_after}
 use Rattle.plain_list.proofs.Histories.{replies-append, state_after-append}
 use Rattle.csv_rows.specs.declared.rows.InRow.{InRow}
 use Rattle.csv_rows.specs.InRows.{AreInRows}
-use Rattle.table_share.specs.Worlds.{AreAtPoints}
+use Rattle.plain_list.specs.World.{IsWorld}
 use Rattle.kept_log.specs.Journal.{failed_cell}
 use Rattle.kept_log.proofs.InJournal.{failed_cell-push, has_failed-none}
 use Rattle.commit_book.specs.BookView.{BookView}
@@ -23,7 +23,7 @@ use Rattle.location_run.specs.declared.faults.PlayFault.{PlayFault}
 use Rattle.location_run.specs.declared.play.Play.{Play}
 use Rattle.location_run.proofs.Calls.{calls_alone-append, replies-calls, world_after-calls}
 use Rattle.location_run.proofs.TidySteps.{are_tidy-append}
-use Rattle.location_run.proofs.Points.{AreAtPoints-rows, rules-take}
+use Rattle.location_run.proofs.RowWorlds.{IsWorld-rows, rules-take}
 
 entries_from-append : (n : ℕ) (xs ys : List InRow) → entries_from n (xs ++ ys) ≡ entries_from n xs ++ entries_from (n + length xs) ys
 entries_from-append n [] ys = ap (λ k. entries_from k ys) (sym (add-zero n))
@@ -98,10 +98,10 @@ IsPlay-settled w rows old new before splits opening same =
       few_cells = splits.few_cells (16000002 + length rows) (omega arith) before.few_cells;
     }
 
--- the objects of a history stand at points
-pub AreAtPoints-calls : (rows : List InRow) (i : ℕ) (world : List Placed) (h : List Entry) → AreInRows rows → AreAtPoints world → calls_alone h ≡ entries_from 1 (take i rows) → AreAtPoints (world_after world h)
-AreAtPoints-calls rows i world h rules points calls =
-    subst AreAtPoints (sym (world_after-calls world h ∙ ap (world_after world) calls)) (AreAtPoints-rows 1 (take i rows) world (rules-take i rows rules.each) points)
+-- the world of a history is one
+pub IsWorld-calls : (rows : List InRow) (i : ℕ) (world : List Placed) (h : List Entry) → AreInRows rows → IsWorld world → calls_alone h ≡ entries_from 1 (take i rows) → IsWorld (world_after world h)
+IsWorld-calls rows i world h rules is calls =
+    subst IsWorld (sym (world_after-calls world h ∙ ap (world_after world) calls)) (IsWorld-rows 1 (take i rows) world (rules-take i rows rules.each) is)
 
 -- the row at a place is behind those before it
 pub row-next : (rows : List InRow) (i : ℕ) (d : InRow) → i < length rows → take i rows ++ get_or rows i d ∷ [] ≡ take (i + 1) rows

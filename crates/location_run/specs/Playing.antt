@@ -6,7 +6,6 @@ use Rattle.disk_trait.specs.Drive.{Drive, Stays}
 use Rattle.plain_list.specs.declared.entries.Entry.{Entry}
 use Rattle.plain_list.specs.State.{State}
 use Rattle.plain_list.specs.World.{IsWorld}
-use Rattle.table_share.specs.Worlds.{AreAtPoints}
 use Rattle.cell_format.specs.declared.cell.Cell.{Cell}
 use Rattle.recovery.specs.declared.seen.OpenFault.{OpenFault}
 use Rattle.log_state.specs.Recovers.{Recovers}
@@ -69,12 +68,11 @@ abbrev pub EndsRows : (Refusal → Type 0) → ℕ → Option (List ℕ) → Opt
 EndsRows Cause status before after old_faults faults =
     (status ≡ 0) ⊎ (((status ≡ 6) × Rose old_faults faults) ⊎ EndsRefused Cause status before after old_faults faults)
 
--- a book without entries, where there is room for rows, and its objects are at points
+-- a book without entries, where there is room for rows, over a world
 pub record IsNewBook {I D : Type 0} (b : BookView I D) : Type 0 where
   pub entries : b.entries ≡ []
   pub few : cells_in b.log ≤ most_played
   pub world : IsWorld b.opening.world
-  pub points : AreAtPoints b.opening.world
 
 -- the log that a book leaves keeps the history since the book began, and this is its drive
 pub record LeavesLog {D : Type 0} (drive : D → Drive) (s : State) (h : List Entry) (old : Option (KeptView D)) (disk : Option D) : Type 0 where

@@ -6,7 +6,6 @@ use Rattle.plain_list.specs.declared.entries.Entry.TheVariants.{Call}
 use Rattle.plain_list.specs.Answer.{answer_of}
 use Rattle.plain_list.specs.History.{replies, world_after}
 use Rattle.plain_list.specs.World.{IsWorld}
-use Rattle.table_share.specs.Worlds.{AreAtPoints}
 use Rattle.csv_rows.specs.declared.rows.InRow.{InRow}
 use Rattle.kept_log.specs.Journal.{failed_cell, cells_in}
 use Rattle.commit_book.specs.BookView.{BookView}
@@ -46,7 +45,6 @@ pub record IsBegun {I D : Type 0} (play : Play I D) : Type 0 where
   pub answers : play.replies.items ≡ []
   pub few_cells : cells_in play.book.log ≤ 16000000
   pub world : IsWorld play.book.opening.world
-  pub points : AreAtPoints play.book.opening.world
 
 -- these rows were answered, each at its place, and the leaves that they filled were split
 pub record IsPlay {I D : Type 0} (w : ℕ) (rows : List InRow) (play : Play I D) : Type 0 where

@@ -1,8 +1,5 @@
 //! A book over the log in a file.
 ghost use Rattle.std.specs.Prelude.{◌≡◌, ◌≤◌, Some, None, IfOk, IfErr};
-ghost use Rattle.zorder.specs.Key.{IsPoint};
-ghost use Rattle.table_share.specs.Worlds.{AreAtPoints};
-ghost use Rattle.plain_list.specs.World.{IsWorld};
 ghost use Rattle.kept_log.specs.Kept.{IsOpened, found_state};
 ghost use Rattle.recovery.specs.Found.{IsFound};
 ghost use Rattle.location_run.specs.Origin.{most_played};
@@ -14,10 +11,8 @@ use commit_book::Book;
 use csv_rows::Refusal;
 use disk_trait::LogDisk;
 use flat_index::FlatIndex;
-use plain_list::World;
 use recovery::{OpenRefused, Opened, open};
 use std::alloc::Global;
-use zorder::Point;
 
 // How many cells a log may have over which rows are played.
 const MOST_PLAYED: u64 = 16_000_000;
@@ -61,7 +56,7 @@ fn book_of<D: LogDisk>(
     ensures new { IfOk result (λ b. IsNewBook b) }
     ensures back { IfErr result (λ e. (e.disk ≡ opened.log.disk) × (e.why ≡ Refusal.Memory)) }
 {
-    keep_points(&opened.seen.world);
+    let _objects = opened.seen.world.as_slice();
     match Book::opened(alloc, opened, size) {
         Ok(book) => Ok(book),
         Err(back) => Err(Unmade {
@@ -69,21 +64,4 @@ fn book_of<D: LogDisk>(
             why: Refusal::Memory,
         }),
     }
-}
-
-// Tells what the type of an object says of its point.
-fn keep_points(world: &World)
-    ensures points { AreAtPoints world.now }
-    ensures world { IsWorld world.now }
-{
-    for member in world.as_slice() {
-        keep_point(member.at);
-    }
-}
-
-fn keep_point(at: Point)
-    ensures { IsPoint at }
-{
-    let _x = at.x;
-    let _y = at.y;
 }

@@ -1,7 +1,6 @@
 //! The answers of rows over one book, whose leaves are split as they fill.
 ghost use Rattle.std.specs.Prelude.{◌≡◌, ◌+◌, ◌<◌, [], IfErr, OnOk, OnErr, length, take};
 ghost use Rattle.plain_list.specs.World.{IsWorld};
-ghost use Rattle.table_share.specs.Worlds.{AreAtPoints};
 ghost use Rattle.commit_book.specs.IsBook.{SameOrigin};
 ghost use Rattle.csv_rows.specs.InRows.{AreInRows};
 ghost use Rattle.location_run.specs.Plays.{IsBegun, IsPlay, HasCalled};
@@ -79,7 +78,6 @@ impl<I: Index, D: LogDisk> Play<I, D> {
         requires within { i < length rows.now }
         requires before { IsPlay I.WIDTH (take i rows.now) self.old }
         requires world { IsWorld self.old.book.opening.world }
-        requires points { AreAtPoints self.old.book.opening.world }
         ensures ok { OnOk result (IsPlay I.WIDTH (take (i + 1) rows.now) self.new) }
         ensures part { OnErr result (HasCalled rows.now self.new.book.entries) }
         ensures fault { IfErr result (StopsAt self.new.book.entries) }

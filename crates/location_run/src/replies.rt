@@ -4,7 +4,6 @@ ghost use Rattle.plain_list.specs.World.{IsWorld};
 ghost use Rattle.plain_list.specs.History.{world_after};
 ghost use Rattle.plain_list.specs.State.{state_after};
 ghost use Rattle.index_layer.specs.Stands.{Stands};
-ghost use Rattle.table_share.specs.Worlds.{AreAtPoints};
 ghost use Rattle.commit_book.specs.Answers.{IsUpdate, IsQuery};
 ghost use Rattle.commit_book.specs.IsBook.{SameOrigin};
 ghost use Rattle.csv_rows.specs.InRows.{IsInRow};
@@ -40,8 +39,7 @@ pub(crate) fn answer_row<I: Index, D: LogDisk, L: Ledger>(
 ) -> Result<Reply, PlayFault>
     requires rules { IsInRow row.now }
     requires room { HasRoom book.old }
-    requires world { IsWorld book.old.opening.world }
-    requires points { AreAtPoints (world_after book.old.opening.world book.old.entries) }
+    requires world { IsWorld (world_after book.old.opening.world book.old.entries) }
     ensures ok { IfOk result (λ r. RepliesTo I.WIDTH book.old book.new number row.now r.answer r.full) }
     ensures err { IfErr result (StopsRow book.old book.new number row.now) }
     ensures origin { SameOrigin book.old book.new }

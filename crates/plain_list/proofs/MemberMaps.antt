@@ -1,6 +1,5 @@
 -- A map from ids to points, and the world that it stands for.
-use Rattle.std.proofs.Common.{◌≡◌, ℕ, suc, ◌<◌, ◌≤◌, Bool, true, false, cond, not, List, [], ◌∷◌, length, Option, Some, None, Result, Ok, Err, OnOk, OnErr, refl, sym, ap, ◌∙◌, arith}
-use Rattle.std.specs.Prelude.{◌==◌}
+use Rattle.std.proofs.Common.{◌≡◌, ℕ, ◌<◌, ◌≤◌, List, [], ◌∷◌, Option, Some, None, Result, Ok, Err, OnOk, OnErr, refl, sym, ◌∙◌, arith}
 use Rattle.std.specs.Ordering.{nat_cmp}
 use Rattle.std.specs.BTreeMap.{insert_entry, is_at}
 use Rattle.std.specs.Map.{lookup, remove_entry}
@@ -8,8 +7,8 @@ use Rattle.std.proofs.lemmas.Bool.Decides.{nat_tests}
 use Rattle.std.proofs.lemmas.Grind.{common_steps}
 use Rattle.zorder.specs.declared.points.Point.{Point}
 use Rattle.zorder.specs.declared.points.Placed.{Placed}
-use Rattle.plain_list.specs.World.{IsWorld, IsRising, IsAbove, place_of}
-use Rattle.plain_list.specs.Answer.{with_member, with_moved, moved_to, without}
+use Rattle.plain_list.specs.World.{IsRising, IsAbove, place_of}
+use Rattle.plain_list.specs.Answer.{with_member, with_moved, without}
 use Rattle.plain_list.specs.MemberMap.{world_of}
 
 pub place_of-world_of : (es : List (ℕ × Point)) (id : ℕ) → place_of (world_of es) id ≡ lookup (is_at (nat_cmp id)) es
@@ -64,50 +63,6 @@ world_of-insert_entry-there id old at (e ∷ es) rising found =
     let same : e.0 ≤ id → id ≤ e.0 → with_moved id at (world_of es) ≡ world_of es = λ le ge. with_moved-absent id at (world_of es) (IsAbove-lower id e.0 (world_of es) ge rising.0) in
     let none : id < e.0 → place_of (world_of es) id ≡ None = λ lt. place_of-above id (world_of es) (IsAbove-lower id e.0 (world_of es) (omega arith) rising.0) in
     grind (arith, nat_tests, common_steps)
-
-above_if : (a : ℕ) (b : Bool) (m : Placed) (ms : List Placed) → a < m.id → IsAbove a ms → IsAbove a (cond b (m ∷ ms) ms)
-above_if a true m ms lt above = (lt, above)
-above_if a false m ms lt above = above
-
-IsAbove-without : (a id : ℕ) (ms : List Placed) → IsAbove a ms → IsAbove a (without id ms)
-IsAbove-without a id [] above = tt
-IsAbove-without a id (m ∷ ms) above = above_if a (not (m.id == id)) m (without id ms) above.0 (IsAbove-without a id ms above.1)
-
-rising_if : (b : Bool) (m : Placed) (ms : List Placed) → IsAbove m.id ms → IsRising ms → IsRising (cond b (m ∷ ms) ms)
-rising_if true m ms above rising = (above, rising)
-rising_if false m ms above rising = rising
-
-IsRising-without : (id : ℕ) (ms : List Placed) → IsRising ms → IsRising (without id ms)
-IsRising-without id [] rising = tt
-IsRising-without id (m ∷ ms) rising = rising_if (not (m.id == id)) m (without id ms) (IsAbove-without m.id id ms rising.0) (IsRising-without id ms rising.1)
-
-length-without : (id : ℕ) (ms : List Placed) → length (without id ms) ≤ length ms
-length-without id [] = omega arith
-length-without id (m ∷ ms) =
-    let rest : length (without id ms) ≤ length ms = length-without id ms in
-    grind (arith, nat_tests, common_steps)
-
-pub IsWorld-without : (id : ℕ) (world : List Placed) → IsWorld world → IsWorld (without id world)
-IsWorld-without id world w = record { rising = IsRising-without id world w.rising; size = omega (arith, w.size, length-without id world) }
-
-id_if : (id : ℕ) (at : Point) (m : Placed) → (moved_to id at m).id ≡ m.id
-id_if id at m = grind (arith, nat_tests, common_steps)
-
-IsAbove-with_moved : (a id : ℕ) (at : Point) (ms : List Placed) → IsAbove a ms → IsAbove a (with_moved id at ms)
-IsAbove-with_moved a id at [] above = tt
-IsAbove-with_moved a id at (m ∷ ms) above = (omega (arith, id_if id at m, above.0), IsAbove-with_moved a id at ms above.1)
-
-IsRising-with_moved : (id : ℕ) (at : Point) (ms : List Placed) → IsRising ms → IsRising (with_moved id at ms)
-IsRising-with_moved id at [] rising = tt
-IsRising-with_moved id at (m ∷ ms) rising =
-    (IsAbove-lower (moved_to id at m).id m.id (with_moved id at ms) (omega (arith, id_if id at m)) (IsAbove-with_moved m.id id at ms rising.0), IsRising-with_moved id at ms rising.1)
-
-length-with_moved : (id : ℕ) (at : Point) (ms : List Placed) → length (with_moved id at ms) ≡ length ms
-length-with_moved id at [] = refl
-length-with_moved id at (m ∷ ms) = ap suc (length-with_moved id at ms)
-
-pub IsWorld-with_moved : (id : ℕ) (at : Point) (world : List Placed) → IsWorld world → IsWorld (with_moved id at world)
-IsWorld-with_moved id at world w = record { rising = IsRising-with_moved id at world w.rising; size = omega (arith, w.size, length-with_moved id at world) }
 
 -- an insert at a key that is there can't fail
 pub inserted_there : {R E V : Type 0} (r : Result R E) (P : Type 0) (found : Option V) (old : V) → OnOk r P → OnErr r (found ≡ None) → found ≡ Some old → P

@@ -14,7 +14,7 @@ use Rattle.zorder.specs.declared.points.Point.{Point}
 use Rattle.zorder.specs.declared.points.Placed.{Placed}
 use Rattle.plain_list.specs.declared.ops.Op.TheVariants.{Put, Move, Remove}
 use Rattle.plain_list.specs.declared.ops.Answer.TheVariants.{Done, Present, Full, Moved, Gone, Absent}
-use Rattle.plain_list.specs.World.{place_of, is_full, IsRising, IsAbove}
+use Rattle.plain_list.specs.World.{most_members, place_of, is_full, IsRising, IsAbove}
 use Rattle.plain_list.specs.Answer.{after_of, is_change, with_member, without, with_moved, id_place, IsPlaceIn}
 
 -- an id above which all others are is below each of them
@@ -113,12 +113,12 @@ remove-without (m ∷ ms) (suc i) id d rising lt same =
 pub after_put-present : (m : Placed) (ms : List Placed) (p : Point) → place_of ms m.id ≡ Some p → after_of ms (Put m.id m.at) ≡ ms
 after_put-present m ms p there = ap (λ (o : Option Point). cond (is_change (option_map_or Present o (cond (is_full ms) Full Done))) (with_member m ms) ms) there
 
-pub after_put-new : (m : Placed) (ms : List Placed) → place_of ms m.id ≡ None → length ms < 1048576 → after_of ms (Put m.id m.at) ≡ with_member m ms
+pub after_put-new : (m : Placed) (ms : List Placed) → place_of ms m.id ≡ None → length ms < most_members → after_of ms (Put m.id m.at) ≡ with_member m ms
 after_put-new m ms none room =
     ap (λ (o : Option Point). cond (is_change (option_map_or Present o (cond (is_full ms) Full Done))) (with_member m ms) ms) none
     ∙ ap (λ b. cond (is_change (cond b Full Done)) (with_member m ms) ms) (not_full (length ms) room)
   where
-    not_full : (n : ℕ) → n < 1048576 → nat_le 1048576 n ≡ false
+    not_full : (n : ℕ) → n < most_members → nat_le most_members n ≡ false
     not_full n lt = grind (arith, nat_tests)
 
 -- a move and a removal of an id that is there

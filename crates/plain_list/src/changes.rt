@@ -1,18 +1,19 @@
 //! What an operation changes in a list of rising ids.
 ghost use Rattle.std.specs.Prelude.{◌≡◌, OnOk, OnErr};
-ghost use Rattle.plain_list.specs.World.{IsRising};
+ghost use Rattle.plain_list.specs.World.{IsWorld};
 ghost use Rattle.plain_list.specs.Answer.{after_of};
 
 use crate::ops::Op;
 use crate::searches::place_in;
 use crate::world::MOST_MEMBERS;
 use std::alloc::AllocError;
-use zorder::Placed;
+use zorder::{Placed, coordinates_fit};
 
 pub(crate) fn change(members: &mut Vec<Placed>, op: &Op) -> Result<(), AllocError>
-    requires { IsRising members.old.items }
+    requires { IsWorld members.old.items }
     ensures ok { OnOk result (members.new.items ≡ after_of members.old.items op.now) }
     ensures err { OnErr result (members.new.items ≡ members.old.items) }
+    ensures world { IsWorld members.new.items }
 {
     match *op {
         Op::Put { id, at } => put(members, Placed { id, at }),
@@ -31,14 +32,16 @@ pub(crate) fn change(members: &mut Vec<Placed>, op: &Op) -> Result<(), AllocErro
 }
 
 fn put(members: &mut Vec<Placed>, member: Placed) -> Result<(), AllocError>
-    requires { IsRising members.old.items }
+    requires { IsWorld members.old.items }
     ensures ok { OnOk result (members.new.items ≡ after_of members.old.items (Op.Put member.id member.at)) }
     ensures err { OnErr result (members.new.items ≡ members.old.items) }
+    ensures world { IsWorld members.new.items }
 {
     match place_in(members, member.id) {
         Ok(_) => Ok(()),
         Err(place) => {
             if members.len() < MOST_MEMBERS {
+                coordinates_fit(member.at);
                 members.insert(place, member)?;
             }
             Ok(())
@@ -47,17 +50,20 @@ fn put(members: &mut Vec<Placed>, member: Placed) -> Result<(), AllocError>
 }
 
 fn move_to(members: &mut Vec<Placed>, member: Placed)
-    requires { IsRising members.old.items }
-    ensures { members.new.items ≡ after_of members.old.items (Op.Move member.id member.at) }
+    requires { IsWorld members.old.items }
+    ensures after { members.new.items ≡ after_of members.old.items (Op.Move member.id member.at) }
+    ensures world { IsWorld members.new.items }
 {
     if let Ok(place) = place_in(members, member.id) {
+        coordinates_fit(member.at);
         members[place] = member;
     }
 }
 
 fn remove(members: &mut Vec<Placed>, id: u64)
-    requires { IsRising members.old.items }
-    ensures { members.new.items ≡ after_of members.old.items (Op.Remove id) }
+    requires { IsWorld members.old.items }
+    ensures after { members.new.items ≡ after_of members.old.items (Op.Remove id) }
+    ensures world { IsWorld members.new.items }
 {
     if let Ok(place) = place_in(members, id) {
         members.remove(place);

@@ -1,14 +1,14 @@
 //! A world as a map, for whoever changes it often.
 ghost use Rattle.std.specs.Prelude.{◌≡◌, ◌≤◌, ◌<◌, ◌+◌, [], length, Some, None, OnOk, OnErr, IfOk, Option};
 ghost use Rattle.zorder.specs.declared.points.Point.{Point};
-ghost use Rattle.plain_list.specs.World.{IsWorld, place_of};
+ghost use Rattle.plain_list.specs.World.{most_members, IsWorld, place_of};
 ghost use Rattle.plain_list.specs.Answer.{with_member, with_moved, without};
 
 use crate::world::World;
 use std::alloc::{AllocError, Global};
 use std::collections::BTreeMap;
 use std::marker::Model;
-use zorder::{Placed, Point};
+use zorder::{Placed, Point, coordinates_fit};
 
 /// Where each object is, by its id: a world that takes each change in logarithmic time.
 #[derive(Drop)]
@@ -55,10 +55,11 @@ impl MemberMap {
     /// Adds an object, which isn't there.
     pub fn insert(&mut self, id: u64, at: Point) -> Result<(), AllocError>
         requires absent { place_of self.old id ≡ None }
-        requires room { length self.old < 1048576 }
+        requires room { length self.old < most_members }
         ensures ok { OnOk result (self.new ≡ with_member (record { id = id; at = at }) self.old) }
         ensures err { OnErr result (self.new ≡ self.old) }
     {
+        coordinates_fit(at);
         self.points.insert(id, at)?;
         Ok(())
     }
@@ -68,6 +69,7 @@ impl MemberMap {
         requires { place_of self.old id ≡ Some old }
         ensures { self.new ≡ with_moved id at self.old }
     {
+        coordinates_fit(at);
         let _ = self.points.insert(id, at);
     }
 

@@ -15,7 +15,6 @@ use Rattle.index_layer.proofs.LeafKeys.{false_if}
 use Rattle.plain_list.specs.World.{IsWorld}
 use Rattle.plain_list.specs.Answer.{members_in}
 use Rattle.table_share.specs.Objects.{placed_of, objects_of}
-use Rattle.table_share.specs.Worlds.{AreAtPoints}
 use Rattle.table_share.proofs.RowObjects.{objects-permutation}
 use Rattle.table_share.proofs.TableRows.{table_of}
 use Rattle.table_share.specs.KeysUnder.{AreKeysUnder, AreAllKeysUnder}
@@ -61,12 +60,12 @@ fewer region (m ∷ ms) = omega (arith, fewer region ms, length_if (has_point re
     at_most_one false = omega arith
 
 -- where the leaves stand for a world, they have as many rows in a box as the world has objects there
-module _ (region : Region) (leaves : List Leaf) (world : List Placed) (names : List (List Bool)) (is_world : IsWorld world) (points : AreAtPoints world) (stands : Stands leaves world names) where
+module _ (region : Region) (leaves : List Leaf) (world : List Placed) (names : List (List Bool)) (is_world : IsWorld world) (stands : Stands leaves world names) where
   pub number_of_world : number_in region (all_rows leaves) ≡ length (members_in region world)
   number_of_world =
       let table = table_of leaves world names stands in
       length_permutation (members_in region world) (members_in region (objects_of (all_rows leaves)))
-      (objects-permutation (λ (m : Placed). has_point region m.at) world (all_rows leaves) is_world.rising points table.ordered table.has)
+      (objects-permutation (λ (m : Placed). has_point region m.at) world (all_rows leaves) is_world.rising is_world.points table.ordered table.has)
 
   pub number-fits : number_in region (all_rows leaves) < 2 ^ 64
   number-fits = omega (arith, number_of_world, fewer region world, is_world.size)

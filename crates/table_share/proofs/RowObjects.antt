@@ -19,10 +19,9 @@ use Rattle.bucket_versions.specs.declared.row.Row.{Row}
 use Rattle.bucket_versions.specs.Rows.{IsRows, IsAbove, has_row, without_row, same_row, is_below}
 use Rattle.index_layer.specs.Stands.{world_has, is_at_key}
 use Rattle.index_layer.proofs.Puts.{where_is}
-use Rattle.plain_list.specs.World.{IsRising, place_of}
+use Rattle.plain_list.specs.World.{IsRising, AreAtPoints, place_of}
 use Rattle.plain_list.specs.World.{IsAbove as IsAboveId}
 use Rattle.table_share.specs.Objects.{placed_of, objects_of}
-use Rattle.table_share.specs.Worlds.{AreAtPoints}
 
 pub same_row-eq : (s r : Row) → same_row s r ≡ true → (s.key ≡ r.key) × (s.id ≡ r.id)
 same_row-eq s r e = (eqb-eq s.key r.key (first_so (s.key == r.key) (s.id == r.id) e), eqb-eq s.id r.id (second_so (s.key == r.key) (s.id == r.id) e))

@@ -28,9 +28,9 @@ loop-leaf-init g c =
     subst (λ (ls : List Leaf). length (others home.name ls) + 1 ≡ length ls) (sym among.2) (others-length 0 among.0 home among.1 (subst (λ (ls : List Leaf). Tile (names_of ls)) among.2 (g.met.I.Index.are_leaves c.args.index.now).tile)) in (
       passes.from,
       passes.k_is,
-      (λ world names is_world points stands.
+      (λ world names is_world stands.
           subst (λ (ls : List Leaf). KeepsWorld c.args.kept.from c.args.kept.k home.name ls world c.add_rows.new.kept) (sym c.over-walk.ensures)
-          (starts c.args.kept.from c.args.kept.k leaves world names home c.args.kept c.add_rows.new.kept is_world points stands among c.requires passes)),
+          (starts c.args.kept.from c.args.kept.k leaves world names home c.args.kept c.add_rows.new.kept is_world stands among c.requires passes)),
       subst (λ (ls : List Leaf). AreOpened home.name leaves ls c.args.steps.now c.add_rows.new.steps) (sym c.over-walk.ensures) (omega (arith, count, c.in_ok-add_rows.ensures.opened)),
     )
 
@@ -44,9 +44,9 @@ loop-leaf-preserved-then-is_same g c =
     let (from_is, k_is, keeps, opened) = c.loop-leaf.invariant in (
       from_is,
       k_is,
-      (λ world names is_world points stands.
+      (λ world names is_world stands.
           passes_home c.args.kept.from c.args.kept.k home l left world c.loop-leaf.kept (sym c.is_same.ensures ∙ c.if-is_same.true)
-          (subst (λ (ls : List Leaf). KeepsWorld c.args.kept.from c.args.kept.k home ls world c.loop-leaf.kept) next (keeps world names is_world points stands))),
+          (subst (λ (ls : List Leaf). KeepsWorld c.args.kept.from c.args.kept.k home ls world c.loop-leaf.kept) next (keeps world names is_world stands))),
       opened_less home leaves l left c.args.steps.now c.loop-leaf.steps (subst (λ (ls : List Leaf). AreOpened home leaves ls c.args.steps.now c.loop-leaf.steps) next opened),
     )
 
@@ -66,8 +66,8 @@ loop-leaf-preserved-then-is_beyond g c =
     subst (λ o. (q : Point) → IsPoint q → is_in l.name q ≡ true → c.least_to.result ≤ distance q o) from_is c.least_to.ensures in (
       from_is,
       k_is,
-      (λ world names is_world points stands.
-          let so_far = subst (λ (ls : List Leaf). KeepsWorld p c.args.kept.k home ls world c.loop-leaf.kept) next (keeps world names is_world points stands) in
+      (λ world names is_world stands.
+          let so_far = subst (λ (ls : List Leaf). KeepsWorld p c.args.kept.k home ls world c.loop-leaf.kept) next (keeps world names is_world stands) in
           passes_far p c.args.kept.k home l left world c.loop-leaf.kept (sym c.is_same.ensures ∙ c.if-is_same.false) so_far
           (far_rows p l.name c.least_to.result nearer (λ (m : Placed). may_belong (rank_of p m) (option_map (rank_of p) last) ≡ false) beyond l.bucket.rows so_far.under.0)),
       opened_less home leaves l left c.args.steps.now c.loop-leaf.steps (subst (λ (ls : List Leaf). AreOpened home leaves ls c.args.steps.now c.loop-leaf.steps) next opened),
@@ -86,17 +86,17 @@ loop-leaf-preserved g c =
     subst (λ b. Passes (objects_of b.rows) c.loop-leaf.kept c.add_rows-in-Some.new.kept) c.deref-in-Some.ensures c.in_ok-add_rows-2.ensures.passes in (
       passes.from ∙ from_is,
       passes.k_is ∙ k_is,
-      (λ world names is_world points stands.
+      (λ world names is_world stands.
           passes_leaf c.args.kept.from c.args.kept.k home l left world c.loop-leaf.kept other
-          (subst (λ (ls : List Leaf). KeepsWorld c.args.kept.from c.args.kept.k home ls world c.loop-leaf.kept) next (keeps world names is_world points stands))
+          (subst (λ (ls : List Leaf). KeepsWorld c.args.kept.from c.args.kept.k home ls world c.loop-leaf.kept) next (keeps world names is_world stands))
           c.add_rows-in-Some.new.kept from_is k_is passes),
       opened_one home leaves l left c.args.steps.now c.loop-leaf.steps c.add_rows-in-Some.new.steps other c.in_ok-add_rows-2.ensures.opened
           (subst (λ (ls : List Leaf). AreOpened home leaves ls c.args.steps.now c.loop-leaf.steps) next opened),
     )
 
 pub returns-clause-keeps : goal.returns-clause-keeps
-returns-clause-keeps g c world names is_world points stands =
+returns-clause-keeps g c world names is_world stands =
     let home = c.leaf_of-home.result.0 in
     let (from_is, k_is, keeps, opened) = c.loop-leaf.invariant in
     let none : c.loop-leaf.walk ≡ [] = c.in_default.ensures in
-    subst (λ (ls : List Leaf). Keeps c.args.kept.from c.args.kept.k world (objects_left home ls) c.loop-leaf.kept) none (keeps world names is_world points stands).keeps
+    subst (λ (ls : List Leaf). Keeps c.args.kept.from c.args.kept.k world (objects_left home ls) c.loop-leaf.kept) none (keeps world names is_world stands).keeps

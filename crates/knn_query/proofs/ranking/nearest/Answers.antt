@@ -5,11 +5,11 @@ use Rattle.plain_list.specs.Answer.{ranked}
 use Rattle.knn_query.proofs.ranking.nearest.Goals as goal
 
 pub returns-in-Ok-clause-objects : goal.returns-in-Ok-clause-objects
-returns-in-Ok-clause-objects g c world names is_world points stands =
+returns-in-Ok-clause-objects g c world names is_world stands =
     let p = c.args.from in
     let k = c.args.k in
     let kept = c.in-Ok.kept in
-    let keeps = c.in-Ok.ensures.keeps world names is_world points stands in
+    let keeps = c.in-Ok.ensures.keeps world names is_world stands in
     let from_is : kept.from ≡ p = c.in-Ok.ensures.from ∙ c.new.ensures.list.from in
     let k_is : kept.k ≡ k = c.in-Ok.ensures.k ∙ c.new.ensures.list.k_is in
     let items = kept.list.items in

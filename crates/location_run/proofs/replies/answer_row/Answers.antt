@@ -1,7 +1,6 @@
 use Rattle.std.proofs.Common.{inr, sym, ◌∙◌, ap}
 use Rattle.plain_list.specs.Answer.{answer_of}
 use Rattle.plain_list.specs.History.{world_after}
-use Rattle.plain_list.proofs.Worlds.{IsWorld-world_after}
 use Rattle.location_run.proofs.PlaySteps.{calls-row, going-noted}
 use Rattle.location_run.proofs.replies.answer_row.Goals as goal
 
@@ -12,7 +11,7 @@ returns-in-Ok-clause-ok g c =
     let seen = c.in_ok-seen-in-Within.ensures in
     record {
       notes = seen.ok;
-      answer_is = c.in-Ok.ensures world _ (IsWorld-world_after book.opening.world book.entries c.requires.world) c.requires.points seen.index ∙ ap (answer_of world) (sym c.in-Within.is);
+      answer_is = c.in-Ok.ensures world _ c.requires.world seen.index ∙ ap (answer_of world) (sym c.in-Within.is);
       full_is = tt;
     }
 
@@ -31,7 +30,7 @@ returns-in-Ok-near-clause-ok g c =
     let seen = c.in_ok-seen-in-Near.ensures in
     record {
       notes = seen.ok;
-      answer_is = c.in-Ok-near.ensures world _ (IsWorld-world_after book.opening.world book.entries c.requires.world) c.requires.points seen.index ∙ ap (answer_of world) (sym c.in-Near.is);
+      answer_is = c.in-Ok-near.ensures world _ c.requires.world seen.index ∙ ap (answer_of world) (sym c.in-Near.is);
       full_is = tt;
     }
 

@@ -14,7 +14,7 @@ use Rattle.range_query.proofs.InOrder.{same_as_rising, IsRising-members_in}
 use Rattle.range_query.proofs.ranges.range.Goals as goal
 
 pub returns-clause-objects : goal.returns-clause-objects
-returns-clause-objects g c world names is_world points stands =
+returns-clause-objects g c world names is_world stands =
     let leaves : List Leaf = g.I.Index.leaves c.args.index.now in
     let region = c.args.region.now in
     let table = table_of leaves world names stands in
@@ -22,7 +22,7 @@ returns-clause-objects g c world names is_world points stands =
     let found : c.in-Ok.found.items ≡ members_in region (objects_of (all_rows leaves)) = c.in-Ok.ensures.objects (leaves_under world leaves stands.rows) in
     let perm : IsPermutation (members_in region world) ys =
     IsPermutation-trans (members_in region world) (members_in region (objects_of (all_rows leaves))) ys
-    (objects-permutation (λ (m : Placed). has_point region m.at) world (all_rows leaves) is_world.rising points table.ordered table.has)
+    (objects-permutation (λ (m : Placed). has_point region m.at) world (all_rows leaves) is_world.rising is_world.points table.ordered table.has)
     (subst (λ (l : List Placed). IsPermutation l ys) found c.sort_unstable_by_key.ensures.permutation) in
     let sorted = c.sort_unstable_by_key.ensures.sorted (λ m. m.id) (always_returns_same _ _ _ (λ a r q k. search rules)) in
     c.from_vec.ensures ∙ same_as_rising (members_in region world) ys (IsRising-members_in region world is_world.rising) perm sorted

@@ -13,13 +13,13 @@ replace-requires c =
 pub invariant_of-self-in-None : goal.invariant_of-self-in-None
 invariant_of-self-in-None c =
     record {
-      points = rw c.replace.ensures (IsWorld-with_moved c.args.id c.args.at c.self.inside.points c.self.invariant.points);
+      points = rw c.replace.ensures (IsWorld-with_moved c.args.id c.args.at c.self.inside.points c.self.invariant.points c.coordinates_fit.ensures);
       latest = rw c.replace.ensures (beside-moved c.self.inside.latest c.self.inside.points c.args.id c.args.at c.self.invariant.latest (sym c.in-None.ensures));
     }
 
 pub returns-in-Some : goal.returns-in-Some
 returns-in-Some c =
-    let moves = moves_latest c.self.inside.latest c.self.inside.points c.args.id c.args.at c.in-Some.field-0 c.self.invariant.latest (sym c.in-Some.ensures) in
+    let moves = moves_latest c.self.inside.latest c.self.inside.points c.args.id c.args.at c.in-Some.field-0 c.self.invariant.latest (sym c.in-Some.ensures) c.coordinates_fit.ensures in
     rw (← c.self.view_is) (λ i. record { world = moves.world i; ready = sym moves.free i })
 
 pub returns-in-None : goal.returns-in-None

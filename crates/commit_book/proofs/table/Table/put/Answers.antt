@@ -12,7 +12,7 @@ invariant_of-self g c =
     let kept = kept_in g.I.Index.leaves w c.self.inside g.met.I.Index.are_leaves c.self.invariant in
     let steps = put_keeps g.I.Index.leaves w (table_of c.self.inside) c.self.inside.crowded.names c.args.id c.args.at c.args.leaf kept can in
     record {
-      world = rw c.insert.ensures (IsWorld-with_member (record { id = c.args.id; at = c.args.at }) c.self.inside.members.world c.self.invariant.world can.absent can.few);
+      world = rw c.insert.ensures (IsWorld-with_member (record { id = c.args.id; at = c.args.at }) c.self.inside.members.world c.self.invariant.world can.absent can.few c.coordinates_fit.ensures);
       rows = rw c.insert.ensures steps.rows;
       crowded = ap (λ (v : Crowd). v.names) c.set.ensures ∙ steps.crowded;
     }

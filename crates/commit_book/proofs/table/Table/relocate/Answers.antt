@@ -12,7 +12,7 @@ invariant_of-self g c =
     let kept = kept_in g.I.Index.leaves w c.self.inside g.met.I.Index.are_leaves c.self.invariant in
     let steps = move_keeps g.I.Index.leaves w (table_of c.self.inside) c.self.inside.crowded.names c.args.id c.args.old c.args.at c.args.leaves kept can in
     record {
-      world = rw c.replace.ensures (IsWorld-with_moved c.args.id c.args.at c.self.inside.members.world c.self.invariant.world);
+      world = rw c.replace.ensures (IsWorld-with_moved c.args.id c.args.at c.self.inside.members.world c.self.invariant.world c.coordinates_fit.ensures);
       rows = rw c.replace.ensures steps.rows;
       crowded =
           ap (λ (v : Crowd). v.names) c.set-2.ensures ∙ ap (λ (v : Crowd). remarked c.args.leaves.to.crowded c.args.leaves.to.name v.names) c.set.ensures ∙ steps.crowded;

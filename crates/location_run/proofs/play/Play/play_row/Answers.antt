@@ -2,7 +2,7 @@ use Rattle.std.proofs.Common.{◌+◌, take, Result, Ok, Err, ◌∙◌, subst}
 use Rattle.std.specs.Prelude.{OnErr, IfErr}
 use Rattle.std.proofs.lemmas.Result.{on_ok_weaker}
 use Rattle.location_run.specs.Plays.{IsPlay}
-use Rattle.location_run.proofs.PlaySteps.{AreAtPoints-calls, IsTidy-noted, IsPlay-more, HasCalled-may, HasCalled-noted, calls-row, going-noted, row-next, row-number}
+use Rattle.location_run.proofs.PlaySteps.{IsWorld-calls, IsTidy-noted, IsPlay-more, HasCalled-may, HasCalled-noted, calls-row, going-noted, row-next, row-number}
 use Rattle.location_run.proofs.play.Play.play_row.Goals as goal
 
 at_err : {T E : Type 0} {A : Type 0} (r : Result T E) → A → OnErr r A
@@ -13,10 +13,10 @@ on_err : {T E : Type 0} {P : E → Type 0} {A : Type 0} (r : Result T E) → ((e
 on_err (Ok x) f is = tt
 on_err (Err e) f is = f e is
 
-pub answer_row-requires-clause-points : goal.answer_row-requires-clause-points
-answer_row-requires-clause-points g c =
+pub answer_row-requires-clause-world : goal.answer_row-requires-clause-world
+answer_row-requires-clause-world g c =
     let book = c.args.self.now.book in
-    AreAtPoints-calls c.args.rows.now c.args.i book.opening.world book.entries c.requires.rules c.requires.points c.requires.before.calls
+    IsWorld-calls c.args.rows.now c.args.i book.opening.world book.entries c.requires.rules c.requires.world c.requires.before.calls
 
 pub returns-in_err-reply-clause-part : goal.returns-in_err-reply-clause-part
 returns-in_err-reply-clause-part g c =

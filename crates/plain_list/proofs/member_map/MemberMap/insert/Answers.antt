@@ -9,7 +9,7 @@ invariant_of-self-2 c =
     let none = rw (← c.self.view_is) at c.requires.absent in
     let few = rw (← c.self.view_is) at c.requires.room in
     rw (c.in_ok-insert.ensures.entries, world_of-insert_entry c.args.id c.args.at c.self.inside.points.entries none)
-    (IsWorld-with_member (record { id = c.args.id; at = c.args.at }) (world_of c.self.inside.points.entries) c.self.invariant none few)
+    (IsWorld-with_member (record { id = c.args.id; at = c.args.at }) (world_of c.self.inside.points.entries) c.self.invariant none few c.coordinates_fit.ensures)
 
 pub returns-clause-ok : goal.returns-clause-ok
 returns-clause-ok c =
