@@ -4,6 +4,7 @@ use Rattle.std.proofs.Math.Seq.{take-length}
 use Rattle.std.proofs.lemmas.Grind.{flat_map-append}
 use Rattle.std.proofs.lemmas.List.{append-nil, flat_map_more, take_more}
 use Rattle.std.specs.List.{flat_map}
+use Rattle.std.proofs.lemmas.Bool.{true≢false}
 use Rattle.std.specs.Result.{IsErr}
 use Rattle.std.proofs.lemmas.Result.{MatchResult-from_err}
 use Rattle.std.specs.Io.KnownBytes.{Appends}
@@ -78,14 +79,10 @@ pub holds-put : {T E : Type 0} (a b : Option (List ℕ)) (bytes held rest : List
 holds-put a b bytes held rest (Ok x) e none h = rw none (moves-all a b held (subst (λ (l : List ℕ). Appends a b l) e h))
 holds-put a b bytes held rest (Err f) e none h = (drop h.0 held, subst (λ (l : List ℕ). Moves a b l (drop h.0 l)) e (moves-lost a b bytes h.0 h.1 h.2))
 
--- causes of two calls, one after the other
-pub counts-trans : {T E : Type 0} (a b c : ℕ) (result : Result T E) → a ≤ b → Counts b c result → Counts a c result
-counts-trans a b c (Ok x) h g = record { later = omega (arith, g.later); failed = tt }
-counts-trans a b c (Err e) h g = record { later = omega (arith, g.later); failed = let rose : min (b + 1) (2 ^ 64 - 1) ≤ c = g.failed in omega (arith, rose) }
-
-pub counts-lost : {T E : Type 0} (a b c : ℕ) (result : Result T E) → a ≤ b → b ≤ c → Rose b c → Counts a c result
-counts-lost a b c (Ok x) ab bc rose = record { later = omega (arith, ab, bc); failed = tt }
-counts-lost a b c (Err e) ab bc rose = record { later = omega (arith, ab, bc); failed = let more : min (b + 1) (2 ^ 64 - 1) ≤ c = rose in omega (arith, more, ab) }
+-- a fault behind calls that went well
+pub counts-lost : {T E : Type 0} (a b c : ℕ) (result : Result T E) → IsErr result → b ≡ a → b ≤ c → Rose b c → Counts a c result
+counts-lost {T = T} {E = E} a b c (Ok x) err same later rose = absurd (true≢false (sym err))
+counts-lost {T = T} {E = E} a b c (Err e) err same later rose = subst (λ n. Counts {T = T} {E = E} n c (Err e)) same (record { later = later; same = tt; failed = rose })
 
 -- a fault, with the texts at which it came
 pub holds-lost : {T E : Type 0} (a b : Option (List ℕ)) (text rest lost : List ℕ) (result : Result T E) → IsErr result → Moves a b text lost → HoldsBack a b text rest result
@@ -103,22 +100,22 @@ puts-line a b c front held end bytes text result h is whole g =
 -- lines of these items up to an index were added behind a front
 pub record HasAdded {X : Type 0} (line : X → List ℕ) (old now : Option (List ℕ)) (faults later : ℕ) (front : List ℕ) (items : List X) (index : ℕ) (held : List ℕ) : Type 0 where
   pub moved : Moves old now (front ++ flat_map line (take index items)) held
-  pub rises : faults ≤ later
+  pub same : later ≡ faults
   pub room : length held ≤ 4095
 
 module _ {X : Type 0} (line : X → List ℕ) (old : Option (List ℕ)) (faults : ℕ) (front : List ℕ) (items : List X) where
   pub added-none : length front ≤ 4095 → HasAdded line old old faults faults front items 0 front
-  added-none room = record { moved = subst (λ (l : List ℕ). Moves old old l front) (sym (append-nil front)) (moves-none old front); rises = omega arith; room = room }
+  added-none room = record { moved = subst (λ (l : List ℕ). Moves old old l front) (sym (append-nil front)) (moves-none old front); same = refl; room = room }
 
   pub added-more : (mid now : Option (List ℕ)) (later last : ℕ) (index : ℕ) (held kept more : List ℕ) (d : X) → HasAdded line old mid faults later front items index held
-      → Moves mid now held kept → later ≤ last → more ≡ kept ++ line (get_or items index d) → index < length items → length more ≤ 4095 → HasAdded line old now faults last front items (index + 1) more
-  added-more mid now later last index held kept more d h step rises is lt room =
+      → Moves mid now held kept → last ≡ later → more ≡ kept ++ line (get_or items index d) → index < length items → length more ≤ 4095 → HasAdded line old now faults last front items (index + 1) more
+  added-more mid now later last index held kept more d h step same is lt room =
       let text : (front ++ flat_map line (take index items)) ++ line (get_or items index d) ≡ front ++ flat_map line (take (index + 1) items) =
       flat_map_more line front (take index items) (get_or items index d) ∙ ap (λ (l : List X). front ++ flat_map line l) (sym (take_more items index d lt)) in
       let moved = moves-more old now (front ++ flat_map line (take index items)) kept (line (get_or items index d)) (moves-trans old mid now (front ++ flat_map line (take index items)) held kept h.moved step) in
       record {
         moved = subst (λ (l : List ℕ). Moves old now l more) text (subst (λ (l : List ℕ). Moves old now ((front ++ flat_map line (take index items)) ++ line (get_or items index d)) l) (sym is) moved);
-        rises = omega (arith, h.rises, rises);
+        same = same ∙ h.same;
         room = room;
       }
 

@@ -17,8 +17,8 @@ use zorder::Placed;
 
 /// Writes the first line of answers.
 pub fn write_title<K: Sink>(sink: &mut K) -> Result<(), SinkFault>
-    ensures bytes { Puts (K.taken sink.old) (K.taken sink.new) title_line result }
-    ensures cause { Counts (K.faults sink.old) (K.faults sink.new) result }
+    ensures bytes { Puts (K.output sink.old).taken (K.output sink.new).taken title_line result }
+    ensures cause { Counts (K.output sink.old).faults (K.output sink.new).faults result }
 {
     sink.put(b"row,place,answer,detail\n")
 }
@@ -30,8 +30,8 @@ pub fn write_line<K: Sink>(
     place: u64,
     answer: &Answer,
 ) -> Result<(), SinkFault>
-    ensures bytes { Puts (K.taken sink.old) (K.taken sink.new) (line_text row place answer.now) result }
-    ensures cause { Counts (K.faults sink.old) (K.faults sink.new) result }
+    ensures bytes { Puts (K.output sink.old).taken (K.output sink.new).taken (line_text row place answer.now) result }
+    ensures cause { Counts (K.output sink.old).faults (K.output sink.new).faults result }
 {
     let mut piece = Piece::new();
     add_number(&mut piece, u64::from(row));
@@ -64,8 +64,8 @@ fn word_of(answer: &Answer) -> &'static str
 
 fn add_detail<K: Sink>(sink: &mut K, piece: &mut Piece, answer: &Answer) -> Result<(), SinkFault>
     requires { array_string_len piece.old ≤ 64 }
-    ensures bytes { HoldsBack (K.taken sink.old) (K.taken sink.new) (piece.old.bytes ++ detail_text answer.now) piece.new.bytes result }
-    ensures cause { Counts (K.faults sink.old) (K.faults sink.new) result }
+    ensures bytes { HoldsBack (K.output sink.old).taken (K.output sink.new).taken (piece.old.bytes ++ detail_text answer.now) piece.new.bytes result }
+    ensures cause { Counts (K.output sink.old).faults (K.output sink.new).faults result }
     ensures room { OnOk result (array_string_len piece.new ≤ 4095) }
 {
     match answer {
@@ -84,8 +84,8 @@ fn add_detail<K: Sink>(sink: &mut K, piece: &mut Piece, answer: &Answer) -> Resu
 
 fn add_list<K: Sink>(sink: &mut K, piece: &mut Piece, list: &[Placed]) -> Result<(), SinkFault>
     requires { array_string_len piece.old ≤ 64 }
-    ensures bytes { HoldsBack (K.taken sink.old) (K.taken sink.new) (piece.old.bytes ++ join_by placed_text (codes ";") list.now) piece.new.bytes result }
-    ensures cause { Counts (K.faults sink.old) (K.faults sink.new) result }
+    ensures bytes { HoldsBack (K.output sink.old).taken (K.output sink.new).taken (piece.old.bytes ++ join_by placed_text (codes ";") list.now) piece.new.bytes result }
+    ensures cause { Counts (K.output sink.old).faults (K.output sink.new).faults result }
     ensures room { OnOk result (array_string_len piece.new ≤ 4095) }
 {
     let Some((first, rest)) = list.split_first() else {
@@ -112,8 +112,8 @@ fn add_placed(piece: &mut Piece, placed: &Placed)
 
 /// Writes the line of a refusal, as one piece.
 pub fn refusal_line<K: Sink>(sink: &mut K, refusal: &Refusal) -> Result<(), SinkFault>
-    ensures bytes { Puts (K.taken sink.old) (K.taken sink.new) (refusal_text refusal.now) result }
-    ensures cause { Counts (K.faults sink.old) (K.faults sink.new) result }
+    ensures bytes { Puts (K.output sink.old).taken (K.output sink.new).taken (refusal_text refusal.now) result }
+    ensures cause { Counts (K.output sink.old).faults (K.output sink.new).faults result }
 {
     let mut piece = Piece::new();
     piece.push_str("refused ");

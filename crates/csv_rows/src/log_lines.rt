@@ -11,16 +11,16 @@ use io_edge::{Sink, SinkFault};
 
 /// Writes that a log was made.
 pub fn write_made<K: Sink>(sink: &mut K) -> Result<(), SinkFault>
-    ensures bytes { Puts (K.taken sink.old) (K.taken sink.new) made_line result }
-    ensures cause { Counts (K.faults sink.old) (K.faults sink.new) result }
+    ensures bytes { Puts (K.output sink.old).taken (K.output sink.new).taken made_line result }
+    ensures cause { Counts (K.output sink.old).faults (K.output sink.new).faults result }
 {
     sink.put(b"made\n")
 }
 
 /// Writes the four lines of what was found in a log, as one piece.
 pub fn write_counts<K: Sink>(sink: &mut K, counts: &LogCounts) -> Result<(), SinkFault>
-    ensures bytes { Puts (K.taken sink.old) (K.taken sink.new) (counts_text counts.now) result }
-    ensures cause { Counts (K.faults sink.old) (K.faults sink.new) result }
+    ensures bytes { Puts (K.output sink.old).taken (K.output sink.new).taken (counts_text counts.now) result }
+    ensures cause { Counts (K.output sink.old).faults (K.output sink.new).faults result }
 {
     let mut piece = Piece::new();
     add_count(&mut piece, "cells ", counts.cells);

@@ -18,8 +18,8 @@ const ROOM_FOR_ONE: usize = 3968;
 
 /// Puts the piece where it is nearly full, and begins the next.
 pub(crate) fn make_room<K: Sink>(sink: &mut K, piece: &mut Piece) -> Result<(), SinkFault>
-    ensures bytes { HoldsBack (K.taken sink.old) (K.taken sink.new) piece.old.bytes piece.new.bytes result }
-    ensures cause { Counts (K.faults sink.old) (K.faults sink.new) result }
+    ensures bytes { HoldsBack (K.output sink.old).taken (K.output sink.new).taken piece.old.bytes piece.new.bytes result }
+    ensures cause { Counts (K.output sink.old).faults (K.output sink.new).faults result }
     ensures room { OnOk result (array_string_len piece.new ≤ 3968) }
 {
     if piece.len() <= ROOM_FOR_ONE {

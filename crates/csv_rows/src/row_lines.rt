@@ -15,8 +15,8 @@ use zorder::{Point, Region};
 
 /// Writes the header and the rows, in pieces of up to 4 KiB.
 pub fn write_rows<K: Sink>(sink: &mut K, rows: &Rows) -> Result<(), SinkFault>
-    ensures bytes { Puts (K.taken sink.old) (K.taken sink.new) (rows_text rows.now) result }
-    ensures cause { Counts (K.faults sink.old) (K.faults sink.new) result }
+    ensures bytes { Puts (K.output sink.old).taken (K.output sink.new).taken (rows_text rows.now) result }
+    ensures cause { Counts (K.output sink.old).faults (K.output sink.new).faults result }
     ensures again { rows_of (rows_text rows.now) ≡ Ok rows.now }
 {
     let mut piece = Piece::new();

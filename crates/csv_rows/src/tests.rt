@@ -30,9 +30,7 @@ impl Kept {
 }
 
 impl Sink for Kept {
-    ghost taken = { λ _. None };
-
-    ghost faults = { λ s. s.faults };
+    ghost output = { λ s. record { taken = None; faults = s.faults } };
 
     fn put(&mut self, piece: &[u8]) -> Result<(), SinkFault> {
         if self.puts_left == 0 || self.bytes.extend_from_slice(piece).is_err() {

@@ -88,7 +88,7 @@ impl<R: Files + Drop> LogDisk for FileDisk<R> {
     fn attach(&mut self, _alloc: Global, name: &str, make: bool) -> Result<(), AttachFault>
         ensures attaches { Attaches self.old self.new result }
         ensures stays { Stays (file_drive self.old) (file_drive self.new) }
-        ensures cause { CountsAttach (file_drive self.old) (file_drive self.new) result }
+        ensures cause { CountsAttach name.now make (file_drive self.old) (file_drive self.new) result }
     {
         match opened(&self.rt, name, make) {
             Ok(file) => {

@@ -1,5 +1,6 @@
 -- What is known of a drive in memory.
-use Rattle.std.specs.Prelude.{◌≡◌, ℕ, ◌+◌, ◌-◌, ◌≤◌, ◌^◌, nat_le, min, Bool, ◌&&◌, if◌then◌else◌, List, [], ◌∷◌, ◌++◌, length, take, Some, Result, is_ok}
+use Rattle.std.specs.Prelude.{◌≡◌, ℕ, ◌+◌, ◌≤◌, nat_le, Bool, ◌&&◌, if◌then◌else◌, List, [], ◌∷◌, ◌++◌, length, take, Some, Result, is_ok}
+use Rattle.causes.specs.Causes.{one_more}
 use Rattle.disk_trait.specs.Drive.{Drive}
 use Rattle.disk_mem.specs.declared.plans.DiskCall.{DiskCall}
 use Rattle.disk_mem.specs.declared.plans.DiskCall.TheVariants.{Write, Cut, Sync}
@@ -24,7 +25,7 @@ file_at d m = changed_by (started d.first) (take m d.changes)
 abbrev pub file_now : DiskView → File
 file_now d = changed_by (started d.first) d.changes
 
--- a crash may leave the images of the file, now or at each moment
+-- A crash may leave the images of the file, now or at each moment. The one file has each name.
 abbrev pub drive_by : List ℕ → List Change → ℕ → Drive
 drive_by first changes faults = record {
   bytes = Some (changed_by (started first) changes).held;
@@ -32,6 +33,7 @@ drive_by first changes faults = record {
   moment = length changes;
   since = λ t c. (m : ℕ) × (t ≤ m) × (m ≤ length changes) × IsImage (changed_by (started first) (take m changes)).pending c;
   faults = faults;
+  attached = λ name make. Unit {0};
 }
 
 abbrev pub mem_drive : DiskView → Drive
@@ -58,7 +60,7 @@ pub record Makes {T E : Type 0} (call : DiskCall) (ok : Bool) (done : List Chang
     first = old.first;
     changes = old.changes ++ done;
     room = old.room;
-    faults = if ok then old.faults else min (old.faults + 1) (2 ^ 64 - 1);
+    faults = if ok then old.faults else one_more old.faults;
   }
 
 -- the next call of a kind that changes nothing

@@ -1,5 +1,6 @@
 //! The drive in memory.
-ghost use Rattle.std.specs.Prelude.{◌≡◌, ℕ, ◌+◌, ◌*◌, ◌-◌, ◌^◌, ◌<◌, ◌≤◌, ◌↔◌, min, [], length, take, drop, IfOk, OnOk, OnErr, Result, Ok, Err};
+ghost use Rattle.std.specs.Prelude.{◌≡◌, ℕ, ◌+◌, ◌*◌, ◌-◌, ◌^◌, ◌<◌, ◌≤◌, ◌↔◌, min, [], length, take, drop, IfOk, OnOk, OnErr, Result, Ok, Err, MatchResult};
+ghost use Rattle.causes.specs.Causes.{one_more};
 
 use crate::plans::{DiskCall, Fail, Plan, Verdict};
 use crate::recorded::RecordedFile;
@@ -40,7 +41,7 @@ impl Model for MemDisk {
 
 /// Raises a count of faults, which stays at its end.
 fn fault(faults: &mut u64) -> DiskFault
-    ensures { faults.new ≡ min (faults.old + 1) (2 ^ 64 - 1) }
+    ensures { faults.new ≡ one_more faults.old }
 {
     *faults = faults.saturating_add(1);
     DiskFault
@@ -50,6 +51,7 @@ fn fault(faults: &mut u64) -> DiskFault
 fn copy_out(held: &[u8], at: usize, into: &mut [u8]) -> usize
     ensures count { result ≡ min (length into.old) (length held.now - at) }
     ensures bytes { take result into.new ≡ take result (drop at held.now) }
+    ensures rest { drop result into.new ≡ drop result into.old }
 {
     let from = at.min(held.len());
     let count = into.len().min(held.len() - from);
@@ -196,12 +198,14 @@ impl LogDisk for MemDisk {
     ghost keeps_laws = { mem_laws };
 
     /// The file is there whatever it is called.
-    fn attach(&mut self, _alloc: Global, _name: &str, _make: bool) -> Result<(), AttachFault>
+    fn attach(&mut self, _alloc: Global, name: &str, make: bool) -> Result<(), AttachFault>
         ensures makes { MakesPlain DiskCall.Attach self.old self.new result }
         ensures disk { OnErr result (result ≡ Err AttachFault.Disk) }
         ensures stays { Stays (mem_drive self.old) (mem_drive self.new) }
-        ensures cause { CountsAttach (mem_drive self.old) (mem_drive self.new) result }
+        ensures cause { CountsAttach name.now make (mem_drive self.old) (mem_drive self.new) result }
     {
+        let _ = name;
+        let _ = make;
         match self.make_plain(DiskCall::Attach) {
             Ok(()) => Ok(()),
             Err(DiskFault) => Err(AttachFault::Disk),
@@ -221,6 +225,7 @@ impl LogDisk for MemDisk {
     fn read(&mut self, at: u64, into: &mut [u8]) -> Result<usize, DiskFault>
         ensures makes { MakesPlain DiskCall.Read self.old self.new result }
         ensures bytes { Reads (mem_drive self.old) at into.old into.new result }
+        ensures rest { MatchResult result (λ n. drop n into.new ≡ drop n into.old) (λ _. into.new ≡ into.old) }
         ensures stays { Stays (mem_drive self.old) (mem_drive self.new) }
         ensures cause { CountsFaults (mem_drive self.old) (mem_drive self.new) result }
     {

@@ -1,18 +1,21 @@
 -- A drive with one file, and what its calls do to it. A crash image is what the file may hold after a crash.
-use Rattle.std.specs.Prelude.{◌≡◌, ◌⊎◌, ℕ, ◌+◌, ◌-◌, ◌≤◌, min, max, List, ◌++◌, length, take, drop, Option, Some, is_some, Result, OnOk, OnErr, IsErrOf, IfOk}
+use Rattle.std.specs.Prelude.{◌≡◌, ◌⊎◌, ℕ, Bool, ◌+◌, ◌-◌, ◌≤◌, min, max, List, ◌++◌, length, take, drop, Option, Some, is_some, Result, OnOk, OnErr, IsErrOf, IfOk}
 use Rattle.causes.specs.Causes.{Rose}
 use Rattle.disk_trait.specs.declared.disk.AttachFault.{AttachFault}
-use Rattle.disk_trait.specs.declared.disk.AttachFault.TheVariants.{Disk}
+use Rattle.disk_trait.specs.declared.disk.AttachFault.TheVariants.{Disk, Memory}
 use Rattle.disk_trait.specs.declared.disk.DiskFault.{DiskFault}
 
 -- what is known of a drive: the bytes that a read gives, none where its content isn't known; the images that a crash now may leave; the
--- clock, a number of moments; the images that a crash at some moment since an earlier one might have left; how often it has failed
+-- clock, a number of moments; the images that a crash at some moment since an earlier one might have left; how often it has failed; and
+-- that the last attach that answered Ok had this name, and might make the file or not. A drive that keeps no names says that of each, and
+-- who knows no more of a drive than the trait says it only of the name that was passed.
 pub record Drive : Type 1 where
   pub bytes : Option (List ℕ)
   pub images : List ℕ → Type 0
   pub moment : ℕ
   pub since : ℕ → List ℕ → Type 0
   pub faults : ℕ
+  pub attached : List ℕ → Bool → Type 0
 
 -- new is old with these bytes at this place
 abbrev pub Holds : List ℕ → ℕ → List ℕ → List ℕ → Type 0
@@ -39,8 +42,7 @@ Follows step old new = (c : List ℕ) → new c → (d : List ℕ) × old d × s
 abbrev pub Only : List ℕ → (List ℕ → Type 0) → Type 0
 Only bytes images = (c : List ℕ) → images c → c ≡ bytes
 
--- Time goes on: a crash since t might have left what it might have left before, or what it may leave now or by a step from what it
--- might have left before.
+-- Time goes on: a crash since t might have left what it might have left before, or what it may leave now.
 pub record Elapses (old new : Drive) : Type 0 where
   pub later : old.moment ≤ new.moment
   pub nothing_else : (t : ℕ) (c : List ℕ) → t ≤ old.moment → new.since t c → old.since t c ⊎ new.images c
@@ -54,15 +56,25 @@ pub record Stays (old new : Drive) : Type 0 where
   pub since : (t : ℕ) (c : List ℕ) → new.since t c → old.since t c
   pub keeps : (t : ℕ) (c : List ℕ) → old.since t c → new.since t c
 
--- the count doesn't fall, and a fault comes only where it rose
+-- the file that was attached is still the one
+abbrev pub SameFile : Drive → Drive → Type 0
+SameFile old new = (name : List ℕ) (make : Bool) → old.attached name make → new.attached name make
+
+-- a call on the attached file: the count doesn't fall, a success leaves it, and a fault comes only where it rose
 pub record CountsFaults {T : Type 0} (old new : Drive) (result : Result T DiskFault) : Type 0 where
   pub later : old.faults ≤ new.faults
+  pub same : OnOk result (new.faults ≡ old.faults)
   pub failed : OnErr result (Rose old.faults new.faults)
+  pub file : SameFile old new
 
--- the same where a file was attached: want of memory raises no count
-pub record CountsAttach {T : Type 0} (old new : Drive) (result : Result T AttachFault) : Type 0 where
+-- an attach: its file is the one from then on, or at a fault the one before; want of memory raises no count
+pub record CountsAttach {T : Type 0} (name : List ℕ) (make : Bool) (old new : Drive) (result : Result T AttachFault) : Type 0 where
   pub later : old.faults ≤ new.faults
+  pub same : OnOk result (new.faults ≡ old.faults)
+  pub memory : IsErrOf result Memory → new.faults ≡ old.faults
   pub failed : IsErrOf result Disk → Rose old.faults new.faults
+  pub named : OnOk result (new.attached name make)
+  pub kept : OnErr result (SameFile old new)
 
 -- this place is at most the file's length, where that is known
 abbrev pub IsWithin : Drive → ℕ → Type 0

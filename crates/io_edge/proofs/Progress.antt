@@ -10,12 +10,12 @@ use Rattle.io_edge.specs.Reads.{ConsumesUpTo}
 pub record HasRead (most : ℕ) (old now : Option (List ℕ)) (all : List ℕ) (faults_old faults_now : ℕ) : Type 0 where
   pub few : length all ≤ most
   pub taken : Consumes old now all
-  pub later : faults_old ≤ faults_now
+  pub same : faults_now ≡ faults_old
 
 -- one more piece, the first n bytes of what was filled
 pub HasRead-more : {most : ℕ} {old now new : Option (List ℕ)} {all more : List ℕ} {f g h : ℕ} (n : ℕ) (filled whole rest : List ℕ) → HasRead most old now all f g
-    → Consumes now new (take n filled) → n ≤ length filled → n ≤ most - length all → whole ≡ filled ++ rest → more ≡ all ++ take n whole → g ≤ h → HasRead most old new more f h
-HasRead-more {most = most} {old = old} {now = now} {new = new} {all = all} {more = more} n filled whole rest read consumed within fits whole_is more_is later =
+    → Consumes now new (take n filled) → n ≤ length filled → n ≤ most - length all → whole ≡ filled ++ rest → more ≡ all ++ take n whole → h ≡ g → HasRead most old new more f h
+HasRead-more {most = most} {old = old} {now = now} {new = new} {all = all} {more = more} n filled whole rest read consumed within fits whole_is more_is same_count =
     let same : take n whole ≡ take n filled = ap (take n) whole_is ∙ take-append-le n filled rest within in
     let all_is : more ≡ all ++ take n filled = more_is ∙ ap (λ l. all ++ l) same in
     let P : List ℕ → Type 0 = λ l. Consumes old new l in
@@ -24,7 +24,7 @@ HasRead-more {most = most} {old = old} {now = now} {new = new} {all = all} {more
           let had = read.few in
           let short = length-take-le n filled within in omega arith;
       taken = subst P (sym all_is) (Consumes-trans old now new all (take n filled) read.taken consumed);
-      later = let was = read.later in omega arith;
+      same = same_count ∙ read.same;
     }
 
 -- the turn that ends in a refusal took at most one byte above the bound

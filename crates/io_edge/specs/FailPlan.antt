@@ -1,15 +1,12 @@
 -- Which calls of an object in memory are to fail, and how many came and failed so far.
-use Rattle.std.specs.Prelude.{ℕ, ◌+◌, ◌-◌, ◌^◌, min, List, Contains}
+use Rattle.std.specs.Prelude.{ℕ, List, Contains}
+use Rattle.causes.specs.Causes.{one_more}
 
 pub record FailPlan : Type 0 where
   -- the numbers of the calls that fail, counted from 1
   pub failing : List ℕ
   pub calls : ℕ
   pub faults : ℕ
-
--- one more, up to the greatest number of 64 bits
-abbrev pub one_more : ℕ → ℕ
-one_more n = min (n + 1) (2 ^ 64 - 1)
 
 -- before any call
 abbrev pub planned : List ℕ → FailPlan

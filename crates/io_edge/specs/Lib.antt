@@ -1,3 +1,4 @@
+pub mod Streams
 pub mod FailPlan
 pub mod Views
 pub mod Puts

@@ -52,9 +52,7 @@ impl MemSink {
 }
 
 impl Sink for MemSink {
-    ghost taken = { λ s. Some s.taken };
-
-    ghost faults = { λ s. s.plan.faults };
+    ghost output = { λ s. record { taken = Some s.taken; faults = s.plan.faults } };
 
     fn put(&mut self, piece: &[u8]) -> Result<(), SinkFault>
         ensures bytes { Puts (Some self.old.taken) (Some self.new.taken) piece.now result }

@@ -39,9 +39,7 @@ impl MemSource {
 }
 
 impl Source for MemSource {
-    ghost left = { λ s. Some s.left };
-
-    ghost faults = { λ s. s.plan.faults };
+    ghost input = { λ s. record { left = Some s.left; faults = s.plan.faults } };
 
     fn read(&mut self, into: &mut [u8]) -> Result<usize, SourceFault>
         ensures bound { IfOk result (λ n. n ≤ length into.old) }

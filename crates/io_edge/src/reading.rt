@@ -1,5 +1,5 @@
 //! Reading to the end, up to a bound.
-ghost use Rattle.std.specs.Prelude.{◌≡◌, ◌+◌, ◌≤◌, ◌<◌, List, [], ℕ, Some, IfOk, IsErrOf, IsOkUnless, OnOk, ◌++◌, length};
+ghost use Rattle.std.specs.Prelude.{◌≡◌, ◌≢◌, ◌+◌, ◌≤◌, ◌<◌, List, [], ℕ, Some, IfOk, IsErrOf, IsOkUnless, MatchResult, OnOk, ◌++◌, length};
 ghost use Rattle.causes.specs.Causes.{Rose};
 ghost use Rattle.io_edge.specs.Reads.{ConsumesUpTo};
 
@@ -12,18 +12,22 @@ const PIECE: usize = 65_536;
 /// All that `source` has left, where that is at most `most` bytes. It takes at most one byte more, to see the end.
 pub fn read_all<S: Source>(alloc: Global, source: &mut S, most: usize) -> Result<Vec<u8>, ReadFault>
     // Ok has all that was left, and leaves nothing.
-    ensures all { IfOk result (λ v. (xs : List ℕ) → S.left source.old ≡ Some xs → (v.items ≡ xs) × (S.left source.new ≡ Some [])) }
+    ensures all { IfOk result (λ v. (xs : List ℕ) → (S.input source.old).left ≡ Some xs → (v.items ≡ xs) × ((S.input source.new).left ≡ Some [])) }
 
     // More than `most` bytes are never Ok, and TooLong comes for nothing else.
     ensures few { IfOk result (λ v. length v.items ≤ most) }
-    ensures too_long { IsErrOf result ReadFault.TooLong → (xs : List ℕ) → S.left source.old ≡ Some xs → most < length xs }
+    ensures too_long { IsErrOf result ReadFault.TooLong → (xs : List ℕ) → (S.input source.old).left ≡ Some xs → most < length xs }
 
     // Whatever the answer, a rest is left.
-    ensures taken { ConsumesUpTo (most + 1) (S.left source.old) (S.left source.new) }
+    ensures taken { ConsumesUpTo (most + 1) (S.input source.old).left (S.input source.new).left }
 
     // The source's fault comes only where its count rose.
-    ensures source { IsErrOf result ReadFault.Source → Rose (S.faults source.old) (S.faults source.new) }
-    ensures later { S.faults source.old ≤ S.faults source.new }
+    ensures source { IsErrOf result ReadFault.Source → Rose (S.input source.old).faults (S.input source.new).faults }
+    ensures later { (S.input source.old).faults ≤ (S.input source.new).faults }
+
+    // A read that failed is never passed over.
+    ensures same { MatchResult result (λ _. (S.input source.new).faults ≡ (S.input source.old).faults)
+        (λ e. e ≢ ReadFault.Source → (S.input source.new).faults ≡ (S.input source.old).faults) }
 {
     let mut buffer = buffer(alloc)?;
     let piece = buffer.as_mut_slice();

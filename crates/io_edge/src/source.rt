@@ -1,7 +1,8 @@
 //! Where bytes come from.
-ghost use Rattle.std.specs.Prelude.{◌≤◌, List, ℕ, Option, IfOk, length};
+ghost use Rattle.std.specs.Prelude.{◌≤◌, IfOk, length};
 ghost use Rattle.std.specs.Io.KnownBytes.{ReadConsumes};
 ghost use Rattle.causes.specs.Causes.{Counts};
+ghost use Rattle.io_edge.specs.Streams.{Input};
 
 /// A read failed, and took nothing.
 #[derive(Clone, Copy, Debug, PartialEq, Eq)]
@@ -20,15 +21,12 @@ pub enum ReadFault {
 
 /// Where bytes come from, a piece at a time.
 pub trait Source {
-    /// The bytes that are left, where they are known.
-    ghost left: { Self → Option (List ℕ) };
-
-    /// How often it has failed.
-    ghost faults: { Self → ℕ };
+    /// The bytes that are left, where they are known, and how often it has failed.
+    ghost input: { Self → Input };
 
     /// Fills a front of `into` and answers its length. 0 into a slice that isn't empty is the end of input.
     fn read(&mut self, into: &mut [u8]) -> Result<usize, SourceFault>
         ensures bound { IfOk result (λ n. n ≤ length into.old) }
-        ensures bytes { ReadConsumes (left self.old) (left self.new) result into.new }
-        ensures cause { Counts (faults self.old) (faults self.new) result };
+        ensures bytes { ReadConsumes (input self.old).left (input self.new).left result into.new }
+        ensures cause { Counts (input self.old).faults (input self.new).faults result };
 }

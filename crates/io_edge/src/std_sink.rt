@@ -15,17 +15,14 @@ pub struct StdSink<W> {
 impl<W: Write> StdSink<W> {
     /// A sink over `writer`, behind what that holds.
     pub fn new(writer: W) -> StdSink<W>
-        ensures taken { ⟦<StdSink<W> as Sink>⟧.taken result ≡ W.contents writer }
-        ensures faults { ⟦<StdSink<W> as Sink>⟧.faults result ≡ 0 }
+        ensures { ⟦<StdSink<W> as Sink>⟧.output result ≡ record { taken = W.contents writer; faults = 0 } }
     {
         StdSink { writer, faults: 0 }
     }
 }
 
 impl<W: Write> Sink for StdSink<W> {
-    ghost taken = { λ s. W.contents s.writer };
-
-    ghost faults = { λ s. s.faults };
+    ghost output = { λ s. record { taken = W.contents s.writer; faults = s.faults } };
 
     fn put(&mut self, piece: &[u8]) -> Result<(), SinkFault> {
         let mut at = 0;

@@ -15,17 +15,14 @@ pub struct StdSource<R> {
 impl<R: Read> StdSource<R> {
     /// A source over `reader`, from where that stands.
     pub fn new(reader: R) -> StdSource<R>
-        ensures left { ⟦<StdSource<R> as Source>⟧.left result ≡ R.remaining reader }
-        ensures faults { ⟦<StdSource<R> as Source>⟧.faults result ≡ 0 }
+        ensures { ⟦<StdSource<R> as Source>⟧.input result ≡ record { left = R.remaining reader; faults = 0 } }
     {
         StdSource { reader, faults: 0 }
     }
 }
 
 impl<R: Read> Source for StdSource<R> {
-    ghost left = { λ s. R.remaining s.reader };
-
-    ghost faults = { λ s. s.faults };
+    ghost input = { λ s. record { left = R.remaining s.reader; faults = s.faults } };
 
     fn read(&mut self, into: &mut [u8]) -> Result<usize, SourceFault> {
         match self.reader.read(into) {

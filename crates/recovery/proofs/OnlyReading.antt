@@ -1,9 +1,9 @@
 -- Calls that only read, one after the other.
 use Rattle.std.proofs.Common.{◌≡◌, ℕ, ◌≤◌, List, length, Some, sym, ◌∙◌, ap, subst, arith}
-use Rattle.std.specs.Prelude.{Result, Ok, Err, IsErrOf}
+use Rattle.std.specs.Prelude.{Result, Ok, Err, OnOk, IsErrOf}
 use Rattle.std.specs.Result.{IsErrAnd}
 use Rattle.causes.specs.Causes.{Rose}
-use Rattle.disk_trait.specs.Drive.{Drive, Stays}
+use Rattle.disk_trait.specs.Drive.{Drive, SameFile, Stays}
 use Rattle.recovery.specs.declared.seen.OpenFault.{OpenFault}
 use Rattle.recovery.specs.declared.seen.OpenFault.TheVariants.{Disk}
 use Rattle.recovery.specs.declared.pieces.Stop.TheVariants.{Set}
@@ -27,20 +27,28 @@ err_same : {T : Type 0} (result : Result T OpenFault) (fault : OpenFault) → Is
 err_same (Ok x) fault same is = cc is
 err_same (Err e) fault same is = let e_is : e ≡ Disk = cc is in sym e_is ∙ same
 
+no_ok : {T : Type 0} (result : Result T OpenFault) (P : OpenFault → Type 0) (Q : Type 0) → IsErrAnd result P → OnOk result Q
+no_ok (Ok x) P Q is = absurd is
+no_ok (Err e) P Q is = tt
+
 -- the fault of a later call, passed on
-pub reads_passed : {T U : Type 0} (a b c : Drive) (first : Result T OpenFault) (result : Result U OpenFault) (fault : OpenFault) → Stays a b → a.faults ≤ b.faults → first ≡ Err fault → OnlyReads b c first
+pub reads_passed : {T U : Type 0} (a b c : Drive) (first : Result T OpenFault) (result : Result U OpenFault) (fault : OpenFault) → Stays a b → b.faults ≡ a.faults → SameFile a b → first ≡ Err fault → OnlyReads b c first
     → IsErrAnd result (λ e. e ≡ fault) → OnlyReads a c result
-reads_passed a b c first result fault stays later is reads same = record {
+reads_passed a b c first result fault stays same file is reads passed = record {
   stays = stays-trans a b c stays reads.stays;
-  later = omega (arith, later, reads.later);
-  failed = λ disk. rose-earlier a.faults b.faults c.faults later (reads.failed (is ∙ sym (ap (λ e. Err e) (err_same result fault same disk))));
+  later = omega (arith, same, reads.later);
+  same = no_ok result _ _ passed;
+  failed = λ disk. rose-earlier a.faults b.faults c.faults (omega (arith, same)) (reads.failed (is ∙ sym (ap (λ e. Err e) (err_same result fault passed disk))));
+  file = λ name make at. reads.file name make (file name make at);
 }
 
-pub reads_ok : {T U : Type 0} (a b c : Drive) (first : Result T OpenFault) (x : U) → Stays a b → a.faults ≤ b.faults → OnlyReads b c first → OnlyReads a c (Ok x)
-reads_ok a b c first x stays later reads = record {
+pub reads_ok : {T U : Type 0} (a b c : Drive) (first : Result T OpenFault) (x : U) → Stays a b → b.faults ≡ a.faults → SameFile a b → c.faults ≡ b.faults → OnlyReads b c first → OnlyReads a c (Ok x)
+reads_ok a b c first x stays same file next reads = record {
   stays = stays-trans a b c stays reads.stays;
-  later = omega (arith, later, reads.later);
+  later = omega (arith, same, reads.later);
+  same = next ∙ same;
   failed = λ disk. cc disk;
+  file = λ name make at. reads.file name make (file name make at);
 }
 
 reaches_stays : (most len n : ℕ) (b c : Drive) (walk : WalkView) → Stays b c → Reaches most len n b walk → Reaches most len n c walk
@@ -55,12 +63,13 @@ reaches_stays most len n b c walk stays came = record {
 }
 
 module _ (most len n : ℕ) (before now : Drive) (first walk : WalkView) (buffer : List ℕ) (reading : IsReading most len n before now first walk buffer) where
-  pub reading_next : {T : Type 0} (m : ℕ) (after : Drive) (new : WalkView) (piece : List ℕ) (result : Result T OpenFault) → GoesOn most len n now new (Set m) → OnlyReads now after result → new.width ≡ walk.width → length piece ≡ 65537
+  pub reading_next : {T : Type 0} (m : ℕ) (after : Drive) (new : WalkView) (piece : List ℕ) (result : Result T OpenFault) → GoesOn most len n now new (Set m) → OnlyReads now after result → new.width ≡ walk.width → length piece ≡ 65537 → after.faults ≡ now.faults
       → IsReading most len m before after first new piece
-  reading_next m after new piece result on reads width long = record {
+  reading_next m after new piece result on reads width long same = record {
     came = reaches_stays most len m now after new reads.stays on.1;
     stays = stays-trans before now after reading.stays reads.stays;
-    later = omega (arith, reading.later, reads.later);
+    same = same ∙ reading.same;
+    file = λ name make at. reads.file name make (reading.file name make at);
     width = width ∙ reading.width;
     long = long;
   }

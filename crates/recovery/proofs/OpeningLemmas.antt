@@ -4,7 +4,7 @@ use Rattle.std.specs.Prelude.{Result}
 use Rattle.std.proofs.lemmas.List.{take_at, take-append-drop}
 use Rattle.cell_format.specs.declared.cell.Cell.{Cell}
 use Rattle.disk_trait.specs.declared.disk.DiskFault.{DiskFault}
-use Rattle.disk_trait.specs.Drive.{Drive, KeepsLaws, Stays, Shortened, Cuts, Syncs, Only}
+use Rattle.disk_trait.specs.Drive.{Drive, SameFile, KeepsLaws, Stays, Shortened, Cuts, Syncs, Only}
 use Rattle.disk_trait.specs.Moments.{LeavesNow, LeavesOnly}
 use Rattle.disk_trait.proofs.Stretches.{started, goes_on}
 use Rattle.split_log.specs.LogText.{IsLogText, HoldsCells}
@@ -12,7 +12,8 @@ use Rattle.split_log.proofs.Cells.{length-log}
 use Rattle.split_log.proofs.Unique.{holds-same}
 use Rattle.recovery.specs.declared.seen.Seen.{Seen}
 use Rattle.log_state.specs.Recovers.{Recovers}
-use Rattle.recovery.specs.Opening.{KeepsCells, IsReady}
+use Rattle.recovery.specs.declared.seen.OpenFault.{OpenFault}
+use Rattle.recovery.specs.Opening.{KeepsCells, IsUntouched, LeavesUnopened, IsReady}
 use Rattle.recovery.specs.Reading.{IsFoundIn}
 
 -- one stretch after another
@@ -30,6 +31,26 @@ leaves-stays a b P laws now stays = record {
   each = λ x left. now x (laws.only_now x (stays.since a.moment x left));
   before = λ t x le left. inl (stays.since t x left);
 }
+
+-- a sync leaves the file untouched
+pub untouched-sync : {T : Type 0} (a b : Drive) (result : Result T DiskFault) → Syncs a b result → IsUntouched a b
+untouched-sync a b result syncs = record {
+  bytes = syncs.bytes;
+  images = syncs.crash;
+  since = λ t x le left. ⊎_elim (λ before. inl before) (λ now. inr (syncs.crash x now)) (syncs.time.nothing_else t x le left);
+}
+
+-- and so do calls that only read
+pub untouched-stays : (a b c : Drive) → IsUntouched a b → Stays b c → IsUntouched a c
+untouched-stays a b c first stays = record {
+  bytes = stays.bytes ∙ first.bytes;
+  images = λ x left. first.images x (stays.images x left);
+  since = λ t x le left. first.since t x le (stays.since t x left);
+}
+
+-- whatever the reason is
+pub unopened : (w most : ℕ) (a b : Drive) (why : OpenFault) → IsUntouched a b → LeavesUnopened w most a b why
+unopened w most a b why left = record { unfailed = λ other. left; no_log = λ bytes told none. left }
 
 -- a sync
 pub leaves-sync : {T : Type 0} (a b : Drive) (P : List ℕ → Type 0) (result : Result T DiskFault) → KeepsLaws a → LeavesNow a P → Syncs a b result → LeavesOnly a b P
@@ -81,9 +102,11 @@ module _ (w most len : ℕ) (d0 d1 d2 : Drive) (seen : Seen) (laws0 : KeepsLaws 
       leaves-trans d0 d2 d3 (Recovers w cells) (leaves-trans d0 d1 d2 (Recovers w cells) first second) (cut w cells (found_cells bytes cells told now) now2)
 
   -- cut where they end, the file is their log
-  pub is_ready : (d3 : Drive) → ((bytes : List ℕ) → d0.bytes ≡ Some bytes → Only bytes d1.images) → is_some d3.bytes ≡ is_some d2.bytes
+  pub is_ready : (d3 : Drive) → d3.faults ≡ d0.faults → SameFile d0 d3 → ((bytes : List ℕ) → d0.bytes ≡ Some bytes → Only bytes d1.images) → is_some d3.bytes ≡ is_some d2.bytes
       → ((xs : List ℕ) → d2.bytes ≡ Some xs → Only xs d2.images → (d3.bytes ≡ Some (take (17 + 32 * seen.cells) xs)) × Only (take (17 + 32 * seen.cells) xs) d3.images) → IsReady w seen d0 d3
-  is_ready d3 only told_kept cut = record {
+  is_ready d3 same file only told_kept cut = record {
+    same = same;
+    file = file;
     told = told_kept ∙ ap is_some (stays.bytes ∙ bytes_kept);
     log = λ bytes told.
         let recovers = in_file.found.recovers bytes (bytes_kept ∙ told) in

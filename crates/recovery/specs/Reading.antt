@@ -1,8 +1,8 @@
 -- How far the reading of a log has come.
-use Rattle.std.specs.Prelude.{◌≡◌, ℕ, ◌+◌, ◌*◌, ◌-◌, ◌<◌, ◌≤◌, min, List, length, take, drop, Some, Result, IsErrOf}
+use Rattle.std.specs.Prelude.{◌≡◌, ℕ, ◌+◌, ◌*◌, ◌-◌, ◌<◌, ◌≤◌, min, List, length, take, drop, Some, Result, OnOk, IsErrOf}
 use Rattle.causes.specs.Causes.{Rose}
 use Rattle.cell_format.specs.declared.cell.Cell.{Cell}
-use Rattle.disk_trait.specs.Drive.{Drive, Stays}
+use Rattle.disk_trait.specs.Drive.{Drive, SameFile, Stays}
 use Rattle.recovery.specs.declared.seen.OpenFault.{OpenFault}
 use Rattle.recovery.specs.declared.seen.OpenFault.TheVariants.{Disk}
 use Rattle.recovery.specs.declared.pieces.Stop.{Stop}
@@ -38,11 +38,14 @@ abbrev pub GoesOn : ℕ → ℕ → ℕ → Drive → WalkView → Stop → Type
 GoesOn most len before drive walk (Clear n) = Ends most len n drive walk
 GoesOn most len before drive walk (Set n) = (before < n) × Reaches most len n drive walk
 
--- a call that only reads: the bytes and the images stay, the count doesn't fall, and the drive's fault comes only where it rose
+-- a call that only reads: the bytes and the images stay, the count doesn't fall, a success leaves it, and the drive's fault comes only
+-- where it rose
 pub record OnlyReads {T : Type 0} (old new : Drive) (result : Result T OpenFault) : Type 0 where
   pub stays : Stays old new
   pub later : old.faults ≤ new.faults
+  pub same : OnOk result (new.faults ≡ old.faults)
   pub failed : IsErrOf result Disk → Rose old.faults new.faults
+  pub file : SameFile old new
 
 -- the bytes read from a place into the first of so much room
 abbrev pub ReadsPiece : Drive → ℕ → ℕ → List ℕ → ℕ → Type 0
@@ -52,7 +55,8 @@ ReadsPiece drive at room after got = (got ≤ room) × ((xs : List ℕ) → driv
 pub record IsReading (most len number : ℕ) (before now : Drive) (first walk : WalkView) (buffer : List ℕ) : Type 0 where
   pub came : Reaches most len number now walk
   pub stays : Stays before now
-  pub later : before.faults ≤ now.faults
+  pub same : now.faults ≡ before.faults
+  pub file : SameFile before now
   pub width : walk.width ≡ first.width
   pub long : length buffer ≡ 65537
 

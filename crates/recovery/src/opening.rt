@@ -1,5 +1,5 @@
 //! Opens a log for appends.
-ghost use Rattle.std.specs.Prelude.{◌≡◌, ◌≢◌, ◌⊎◌, ◌≤◌, ◌+◌, ◌*◌, ◌^◌, ℕ, List, Some, None, is_some, take, length, OnOk, IfOk, IfErr, IsErrOf, MatchResult};
+ghost use Rattle.std.specs.Prelude.{◌≡◌, ◌⊎◌, ◌≤◌, ◌+◌, ◌*◌, ◌^◌, ℕ, List, Some, None, is_some, take, length, OnOk, IfOk, IfErr, IsErrOf, MatchResult};
 ghost use Rattle.std.specs.Result.{IsErrAnd};
 ghost use Rattle.recovery.specs.declared.seen.OpenFault.{OpenFault};
 ghost use Rattle.causes.specs.Causes.{Rose};
@@ -9,7 +9,7 @@ ghost use Rattle.disk_trait.specs.Moments.{LeavesNow, LeavesOnly};
 ghost use Rattle.log_state.specs.Recovers.{Recovers};
 ghost use Rattle.recovery.specs.Faults.{IsFault, IsInBytes};
 ghost use Rattle.recovery.specs.Found.{IsFound, IsFree};
-ghost use Rattle.recovery.specs.Opening.{KeepsCells, IsUntouched, IsReady};
+ghost use Rattle.recovery.specs.Opening.{KeepsCells, LeavesUnopened, IsReady};
 
 use crate::inspecting::read_log;
 use crate::seen::{OpenFault, OpenRefused, Opened, Seen};
@@ -38,7 +38,7 @@ pub fn open<D: LogDisk>(
         → IsErrAnd result (λ e. (e.cause ≡ fault) ⊎ IsFree (D.drive disk) (D.drive e.disk) e.cause) }
     ensures whole { (bytes : List ℕ) (cells : List Cell) → (D.drive disk).bytes ≡ Some bytes → Recovers width cells bytes → length cells ≤ most
         → IfErr result (λ e. IsFree (D.drive disk) (D.drive e.disk) e.cause) }
-    ensures untouched { IfErr result (λ e. e.cause ≢ OpenFault.Disk → IsUntouched (D.drive disk) (D.drive e.disk)) }
+    ensures untouched { IfErr result (λ e. LeavesUnopened width most (D.drive disk) (D.drive e.disk) e.cause) }
     ensures any_moment { MatchResult result (λ o. KeepsCells width (D.drive disk) (D.drive o.log.disk)) (λ e. KeepsCells width (D.drive disk) (D.drive e.disk)) }
     ensures rose { IfErr result (λ e. e.cause ≡ OpenFault.Disk → Rose (D.drive disk).faults (D.drive e.disk).faults) }
     ensures later { MatchResult result (λ o. (D.drive disk).faults ≤ (D.drive o.log.disk).faults) (λ e. (D.drive disk).faults ≤ (D.drive e.disk).faults) }
@@ -61,7 +61,7 @@ fn settle<D: LogDisk>(alloc: Global, disk: &mut D, width: u8, most: u64) -> Resu
     ensures found { IfOk result (IsFound width most (D.drive disk.old)) }
     ensures ready { IfOk result (λ seen. IsReady width seen (D.drive disk.old) (D.drive disk.new)) }
     ensures fault { IfErr result (λ e. (bytes : List ℕ) → (D.drive disk.old).bytes ≡ Some bytes → IsFault width most bytes e) }
-    ensures untouched { IfErr result (λ e. e ≢ OpenFault.Disk → IsUntouched (D.drive disk.old) (D.drive disk.new)) }
+    ensures untouched { IfErr result (LeavesUnopened width most (D.drive disk.old) (D.drive disk.new)) }
     ensures any_moment { KeepsCells width (D.drive disk.old) (D.drive disk.new) }
     ensures rose { IsErrOf result OpenFault.Disk → Rose (D.drive disk.old).faults (D.drive disk.new).faults }
     ensures later { (D.drive disk.old).faults ≤ (D.drive disk.new).faults }

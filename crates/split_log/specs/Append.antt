@@ -3,7 +3,7 @@ use Rattle.std.specs.Prelude.{◌≡◌, ◌⊎◌, ℕ, ◌+◌, List, [], ◌�
 use Rattle.causes.specs.Causes.{Rose}
 use Rattle.cell_format.specs.declared.cell.Cell.{Cell}
 use Rattle.cell_format.specs.Spelling.{IsCell, body_of}
-use Rattle.disk_trait.specs.Drive.{Drive}
+use Rattle.disk_trait.specs.Drive.{Drive, SameFile}
 use Rattle.disk_trait.specs.Moments.{LeavesOnly, LeavesNow}
 use Rattle.split_log.specs.LogText.{IsLog, HoldsCells, HoldsEither, IsStaged}
 
@@ -19,6 +19,9 @@ pub record Adds (cell : Cell) (before after : ℕ) (failed : Option ℕ) (old ne
   pub whole : failed ≡ None
   pub log : (w : ℕ) (cells : List Cell) → IsLog w cells old → IsLog w (cells ++ cell ∷ []) new
   pub told : is_some new.bytes ≡ is_some old.bytes
+  -- no device call failed, so none was tried again
+  pub same : new.faults ≡ old.faults
+  pub file : SameFile old new
 
 -- A device call failed at the cell of this number.
 pub record Fails (cell : Cell) (number before after : ℕ) (failed : Option ℕ) (old new : Drive) : Type 0 where
@@ -27,6 +30,7 @@ pub record Fails (cell : Cell) (number before after : ℕ) (failed : Option ℕ)
   pub kept : failed ≡ Some before
   pub count : after ≡ before
   pub rose : Rose old.faults new.faults
+  pub file : SameFile old new
   -- a crash now leaves the cells, with the new one or without
   pub either : (w : ℕ) (cells : List Cell) → IsLog w cells old → LeavesNow new (HoldsEither w cells cell)
   -- and no crash leaves the new one, unless it was written and synced behind its commit byte before the fault

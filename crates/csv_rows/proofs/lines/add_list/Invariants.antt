@@ -7,4 +7,4 @@ use Rattle.csv_rows.proofs.lines.add_list.Given as goal
 
 abbrev pub invariant-loop-placed : goal.invariant-loop-placed
 invariant-loop-placed g l =
-    HasAdded (λ (m : Placed). codes ";" ++ placed_text m) (g.K.Sink.taken l.fn.sink) (g.K.Sink.taken l.sink) (g.K.Sink.faults l.fn.sink) (g.K.Sink.faults l.sink) l.initial.piece.bytes l.rest l.placed-index l.piece.bytes
+    HasAdded (λ (m : Placed). codes ";" ++ placed_text m) (g.K.Sink.output l.fn.sink).taken (g.K.Sink.output l.sink).taken (g.K.Sink.output l.fn.sink).faults (g.K.Sink.output l.sink).faults l.initial.piece.bytes l.rest l.placed-index l.piece.bytes

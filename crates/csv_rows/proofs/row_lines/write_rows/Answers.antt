@@ -21,7 +21,7 @@ loop-row-init g c = added-none row_line _ _ c.push_str.new.self.bytes c.as_slice
 
 pub loop-row-preserved : goal.loop-row-preserved
 loop-row-preserved g c =
-    added-more row_line _ _ c.push_str.new.self.bytes c.as_slice-row-items.result.now _ _ _ _ _ _ c.make_room.new.piece.bytes _ blank c.loop-row.invariant c.in_ok-make_room.ensures.bytes c.in_ok-make_room.ensures.cause.later c.add_row.ensures.bytes c.loop-row-test.true
+    added-more row_line _ _ c.push_str.new.self.bytes c.as_slice-row-items.result.now _ _ _ _ _ _ c.make_room.new.piece.bytes _ blank c.loop-row.invariant c.in_ok-make_room.ensures.bytes c.in_ok-make_room.ensures.cause.same c.add_row.ensures.bytes c.loop-row-test.true
     (omega (arith, c.add_row.ensures.len, c.in_ok-make_room.ensures.room))
 
 pub returns-in_err-make_room-clause-bytes : goal.returns-in_err-make_room-clause-bytes
@@ -32,7 +32,7 @@ returns-in_err-make_room-clause-bytes g c =
     (puts-fault _ _ _ _ [] c.from_residual.result c.from_residual.ensures.0 moved)
 
 pub returns-in_err-make_room-clause-cause : goal.returns-in_err-make_room-clause-cause
-returns-in_err-make_room-clause-cause g c = counts-lost _ _ _ c.from_residual.result c.loop-row.invariant.rises c.in_err-make_room.ensures.cause.later c.in_err-make_room.ensures.cause.failed
+returns-in_err-make_room-clause-cause g c = counts-lost _ _ _ c.from_residual.result c.from_residual.ensures.0 c.loop-row.invariant.same c.in_err-make_room.ensures.cause.later c.in_err-make_room.ensures.cause.failed
 
 pub returns-clause-bytes : goal.returns-clause-bytes
 returns-clause-bytes g c =

@@ -12,11 +12,11 @@ returns-in-Ok-clause-taken g c =
 
 pub loop-all-preserved : goal.loop-all-preserved
 loop-all-preserved g c =
-    let same = c.read.auto.into in
+    let long = c.read.auto.into in
     let within = c.in-Ok.ensures.bound in
-    let later = c.in-Ok.ensures.cause.later in
+    let same = c.in-Ok.ensures.cause.same in
     HasRead-more c.in-Ok.n c.read.new.into (c.read.new.into ++ drop (c.min-room.result + 1) c.loop-all.piece) (drop (c.min-room.result + 1) c.loop-all.piece) c.loop-all.invariant c.in-Ok.ensures.bytes.0
-    (omega arith) (omega arith) refl c.in_ok-keep-in-Ok-2.ensures.items later
+    (omega arith) (omega arith) refl c.in_ok-keep-in-Ok-2.ensures.items same
 
 pub returns-in_err-keep-in-Ok-2-clause-taken : goal.returns-in_err-keep-in-Ok-2-clause-taken
 returns-in_err-keep-in-Ok-2-clause-taken g c =

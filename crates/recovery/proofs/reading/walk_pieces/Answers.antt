@@ -11,7 +11,7 @@ returns-in_err-all-clause-err g c =
 pub returns-in_err-all-clause-reads : goal.returns-in_err-all-clause-reads
 returns-in_err-all-clause-reads g c =
     let l = c.loop-all in
-    reads_passed (g.D.LogDisk.drive c.args.disk.now) (g.D.LogDisk.drive l.disk) (g.D.LogDisk.drive c.walk_next.new.disk) c.walk_next.result c.from_residual.result _ l.invariant.stays l.invariant.later
+    reads_passed (g.D.LogDisk.drive c.args.disk.now) (g.D.LogDisk.drive l.disk) (g.D.LogDisk.drive c.walk_next.new.disk) c.walk_next.result c.from_residual.result _ l.invariant.stays l.invariant.same l.invariant.file
     c.in_err-all.was c.walk_next.ensures.reads c.from_residual.ensures.1
 
 pub returns-in-Clear-clause-ok : goal.returns-in-Clear-clause-ok
@@ -23,11 +23,11 @@ returns-in-Clear-clause-ok g c =
 pub returns-in-Clear-clause-reads : goal.returns-in-Clear-clause-reads
 returns-in-Clear-clause-reads g c =
     let l = c.loop-all in
-    reads_ok (g.D.LogDisk.drive c.args.disk.now) (g.D.LogDisk.drive l.disk) (g.D.LogDisk.drive c.walk_next.new.disk) c.walk_next.result c.in-Clear.all l.invariant.stays l.invariant.later c.walk_next.ensures.reads
+    reads_ok (g.D.LogDisk.drive c.args.disk.now) (g.D.LogDisk.drive l.disk) (g.D.LogDisk.drive c.walk_next.new.disk) c.walk_next.result c.in-Clear.all l.invariant.stays l.invariant.same l.invariant.file c.in_ok-all.ensures.reads.same c.walk_next.ensures.reads
 
 pub loop-all-preserved : goal.loop-all-preserved
 loop-all-preserved g c =
     let l = c.loop-all in
     let on = rw c.in-Set.is at c.in_ok-all.ensures.ok in
     reading_next c.args.most c.args.len l.cells (g.D.LogDisk.drive c.args.disk.now) (g.D.LogDisk.drive l.disk) c.args.walk.now l.walk l.buffer l.invariant
-    c.in-Set.next (g.D.LogDisk.drive c.walk_next.new.disk) c.walk_next.new.walk c.walk_next.new.buffer c.walk_next.result on c.walk_next.ensures.reads c.walk_next.ensures.width c.walk_next.ensures.long
+    c.in-Set.next (g.D.LogDisk.drive c.walk_next.new.disk) c.walk_next.new.walk c.walk_next.new.buffer c.walk_next.result on c.walk_next.ensures.reads c.walk_next.ensures.width c.walk_next.ensures.long c.in_ok-all.ensures.reads.same

@@ -21,6 +21,7 @@ returns-then-is_err-clause-disk g c =
       kept = refl;
       count = refl;
       rose = if_err c.place.result _ failed c.place.ensures.cause.failed;
+      file = c.place.ensures.cause.file;
       either = λ w cells log.
           leaves_now (g.D.LogDisk.drive c.self.inside.disk) (g.D.LogDisk.drive c.place.new.disk) (HoldsEither w cells c.args.cell.now) (g.met.D.LogDisk.keeps_laws c.place.new.disk)
           (c.place.ensures.any_moment w cells c.args.cell.now (record { log = log; fits = c.behind_commit_byte.ensures.fits; piece_is = c.behind_commit_byte.ensures.bytes }));
