@@ -127,6 +127,24 @@ module _ {V : Type 0} (entries : V → List Entry) (origin : V → Origin) (star
   unmoved s k i id v at = subst (λ (z : List ℕ × List View). Rule record { words = z.0; homes = s.homes; views = z.1 })
       (λ j. (sym (set-get_or s.words i 0) j, sym (set_again s.views id v at) j)) k
 
+  -- every position up to the length of the history
+  reaches : (log : List Entry) (n m : ℕ) → length log ≡ n → ((p : ℕ) → p < length log → p < m) → length log ≤ m
+  reaches log zero m e all_of = omega arith
+  reaches log (suc n) m e all_of = let b = all_of n (omega arith) in omega arith
+
+  -- where a seat has all parts no other owns anything
+  others_idle : (s : St) (k : Rule s) (id : ℕ) (v : View) → get_elem? s.views id ≡ some v → v.parts ≡ 65536 → (j : ℕ) (u : View) → j ≢ id → get_elem? s.views j ≡ some u → (u.own ≡ []) × (u.holds ≡ false)
+  others_idle s k id v at all j u apart there = let two = total_two parts_of s.views id j v u apart at there in let e = k.parts in (k.each j u there).idle (omega arith)
+
+  -- so it has seen the whole history
+  seen_whole : (s : St) (k : Rule s) (id : ℕ) (v : View) → get_elem? s.views id ≡ some v → v.parts ≡ 65536 → v.seen ≡ k.log
+  seen_whole s k id v at all =
+      let f = k.each id v at in
+      let own : (p : ℕ) → times p v.own ≡ once_below p (length k.log) =
+      (λ p. sym (total_alone (times_of p) s.views id v at (λ j u apart there. ap (times p) (others_idle s k id v at all j u apart there).0)) ∙ k.owned p) in
+      let long : length k.log ≤ length v.seen = reaches k.log (length k.log) (length v.seen) refl (λ p b. let o = own p in let i = once_below-in p (length k.log) b in f.below p (omega arith)) in
+      prefix_whole v.seen k.log f.seen long
+
   pub take_lock : (slots id : ℕ) (me : Sat V) → me.1 ≡ [] → me.0.holds ≡ false → 0 < me.0.parts
       → Allows Rule slots id me 1 (λ n. either (eqb n 0) 1 n) (taken entries origin (step slots 1 0 1 none) me)
   take_lock slots id me free off some_part s k wide at small =
@@ -177,6 +195,7 @@ module _ {V : Type 0} (entries : V → List Entry) (origin : V → Origin) (star
             subst (λ (l : List Entry). OwnsEnds l v.own) (sym h.2) (owns_ends s k id v at),
             f.rises,
             below,
+            (λ all. h.2 ∙ sym (seen_whole s k id v at all)),
           )),
           (λ miss. absurd (miss hit)),
         ),
@@ -495,23 +514,17 @@ module _ {V : Type 0} (entries : V → List Entry) (origin : V → Origin) (star
       → (x : V) × (get_elem? xs 0 ≡ some (Some x)) × (entries x ≡ v.seen) × (origin x ≡ v.origin) × ((p : ℕ) → times p v.own ≡ once_below p (length v.seen))
   close_all id v ws xs all off (s, (k, at), words, count, values) =
       let f = k.each id v at in
-      let idle : (j : ℕ) (u : View) → j ≢ id → get_elem? s.views j ≡ some u → (u.own ≡ []) × (u.holds ≡ false) =
-      (λ j u apart there. let two = total_two parts_of s.views id j v u apart at there in let e = k.parts in (k.each j u there).idle (omega arith)) in
+      let idle = others_idle s k id v at all in
       let no_holder : total hold_of s.views ≡ 0 =
       total_alone hold_of s.views id v at (λ j u apart there. ap (λ (b : Bool). cond b 1 0) (idle j u apart there).1) ∙ ap (λ (b : Bool). cond b 1 0) off in
       let home = k.home (sym k.holding ∙ no_holder) in
       let x : V = home.0 in
       let own : (p : ℕ) → times p v.own ≡ once_below p (length k.log) =
       (λ p. sym (total_alone (times_of p) s.views id v at (λ j u apart there. ap (times p) (idle j u apart there).0)) ∙ k.owned p) in
-      let long : length k.log ≤ length v.seen = reaches (length k.log) refl (λ p b. let o = own p in let i = once_below-in p (length k.log) b in f.below p (omega arith)) in
-      let whole : v.seen ≡ k.log = prefix_whole v.seen k.log f.seen long in (
+      let whole : v.seen ≡ k.log = seen_whole s k id v at all in (
         x,
         values 0 (Some x) (ap (λ (l : List (opt.Option (Option V))). get_elem? l 0) home.1),
         home.2 ∙ sym whole,
         home.3 ∙ sym (f.same (omega arith)),
         λ p. own p ∙ ap (once_below p) (ap length (sym whole)),
       )
-    where
-      reaches : (n : ℕ) → length k.log ≡ n → ((p : ℕ) → p < length k.log → p < length v.seen) → length k.log ≤ length v.seen
-      reaches zero e all_of = omega arith
-      reaches (suc n) e all_of = let b = all_of n (omega arith) in omega arith

@@ -17,10 +17,10 @@ abbrev pub holder : View → List Entry → View
 holder v log = seat_view log v.told v.own v.origin v.parts true
 
 module _ {V : Type 0} where
-  -- the lock was free, and is now the seat's, with the value; or nothing changed
+  -- the lock was free, and is now the seat's, with the value, which has nothing new where the seat has all parts; or nothing changed
   abbrev pub taken : (V → List Entry) → (V → Origin) → Step (Option V) → Sat V → ℕ → Sat V → Type 0
   taken entries origin s me found now =
-      (found ≡ 0 → (x : V) × (now ≡ (holder me.0 (entries x), (0, Some x) ∷ [])) × (origin x ≡ me.0.origin) × IsPrefix me.0.seen (entries x) × OwnsEnds (entries x) me.0.own × Rises me.0.own × IsBelow (length (entries x)) me.0.own)
+      (found ≡ 0 → (x : V) × (now ≡ (holder me.0 (entries x), (0, Some x) ∷ [])) × (origin x ≡ me.0.origin) × IsPrefix me.0.seen (entries x) × OwnsEnds (entries x) me.0.own × Rises me.0.own × IsBelow (length (entries x)) me.0.own × (me.0.parts ≡ 65536 → entries x ≡ me.0.seen))
       × (found ≢ 0 → now ≡ me)
 
   -- the entry was put behind all that was seen, and its position is own

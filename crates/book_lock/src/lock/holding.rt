@@ -54,6 +54,7 @@ impl<V: Held> BookLock<V> {
         ensures pass { pass.new ≡ record pass.old { seen = pass.new.seen; holds = true } }
         ensures ends { OwnsEnds pass.new.seen pass.new.own }
         ensures rises { Rises pass.new.own × IsBelow (length pass.new.seen) pass.new.own }
+        ensures alone { pass.old.parts ≡ 65536 → pass.new.seen ≡ pass.old.seen }
     {
         let seat = &mut pass.seat;
         let shared = &self.table.shared;

@@ -48,3 +48,11 @@ returns-in-Some-slot-clause-ends g c =
     let seen = ap (λ (m : Sat g.row.V.Denot). m.0.seen) c.load.ensures.2.0 ∙ (ap (λ (m : Sat g.row.V.Denot). m.0.seen) c.exchange-slot.ensures.3 ∙ ap (λ (m : Sat g.row.V.Denot). m.0.seen) t.1) in
     let own = ap (λ (m : Sat g.row.V.Denot). m.0.own) c.load.ensures.2.0 ∙ (ap (λ (m : Sat g.row.V.Denot). m.0.own) c.exchange-slot.ensures.3 ∙ ap (λ (m : Sat g.row.V.Denot). m.0.own) t.1) in
     subst (λ (z : List Entry × List ℕ). OwnsEnds z.0 z.1) (λ i. (sym seen i, sym own i)) t.4
+
+pub returns-in-Some-slot-clause-alone : goal.returns-in-Some-slot-clause-alone
+returns-in-Some-slot-clause-alone g c all =
+    let t = c.compare_exchange.ensures.2.0 c.if-compare_exchange-eq0.true in
+    let a = c.loop.invariant in
+    let view = c.pass.view_is in
+    let seen = ap (λ (m : Sat g.row.V.Denot). m.0.seen) c.load.ensures.2.0 ∙ (ap (λ (m : Sat g.row.V.Denot). m.0.seen) c.exchange-slot.ensures.3 ∙ ap (λ (m : Sat g.row.V.Denot). m.0.seen) t.1) in
+    seen ∙ (t.7 (ap (λ (m : Sat g.row.V.Denot). m.0.parts) a.1 ∙ (ap (λ (k : Known). k.parts) view ∙ all)) ∙ (ap (λ (m : Sat g.row.V.Denot). m.0.seen) a.1 ∙ ap (λ (k : Known). k.seen) view))
