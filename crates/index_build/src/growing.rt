@@ -1,5 +1,5 @@
 //! An index whose leaves are split on until they are those that are wanted.
-ghost use Rattle.std.specs.Prelude.{◌≡◌, ◌≤◌, ◌+◌, ◌%◌, [], ◌∷◌, Bool, List, length, true, slice_index_or, IfOk};
+ghost use Rattle.std.specs.Prelude.{◌≡◌, ◌≤◌, ◌+◌, ◌%◌, [], ◌∷◌, Bool, List, length, true, slice_index_or, IfOk, OnOk};
 ghost use Rattle.bucket_versions.specs.Rows.{IsRows};
 ghost use Rattle.index_layer.specs.Leaves.{has_name, split};
 ghost use Rattle.split_prepare.specs.Cut.{cut};
@@ -7,8 +7,8 @@ ghost use Rattle.index_build.specs.Grown.{IsGrown};
 ghost use Rattle.index_build.specs.Growing.{HasGrownTo};
 
 use crate::cuts::buckets_under;
-use bucket_versions::Row;
-use index_layer::{Index, IndexFault};
+use bucket_versions::{AtOnce, Row, Undone};
+use index_layer::Index;
 use split_prepare::child_at;
 use std::alloc::Global;
 use zorder::{Memory, Name};
@@ -35,14 +35,14 @@ pub(crate) fn grow<I: Index>(
     requires leaf { (later : List (List Bool)) × HasGrownTo rows.now leaves.now growing.done (name.now ∷ []) later (I.leaves growing.index) }
     ensures { IfOk result (λ g. (later : List (List Bool)) → HasGrownTo rows.now leaves.now growing.done (name.now ∷ []) later (I.leaves growing.index) → HasGrownTo rows.now leaves.now g.done [] later (I.leaves g.index)) }
 {
-    let Growing { index, done } = growing;
+    let Growing { mut index, done } = growing;
     if leaves[done] == *name {
         return Ok(Growing {
             index,
             done: done + 1,
         });
     }
-    let index = split(alloc, &index, name, rows)?;
+    split(alloc, &mut index, name, rows)?;
     let mut growing = Growing { index, done };
     for place in 0..1 << I::WIDTH {
         growing = grow(
@@ -56,17 +56,17 @@ pub(crate) fn grow<I: Index>(
     Ok(growing)
 }
 
-// The index with a leaf split, the rows shared out among its children.
-fn split<I: Index>(alloc: Global, index: &I, name: &Name, rows: &[Row]) -> Result<I, Memory>
+// Splits a leaf, the rows shared out among its children.
+fn split<I: Index>(alloc: Global, index: &mut I, name: &Name, rows: &[Row]) -> Result<(), Memory>
     requires in_order { IsRows rows.now }
     requires short { length name.now + I.WIDTH ≤ 64 }
-    requires leaf { has_name name.now (I.leaves index.now) ≡ true }
-    ensures { IfOk result (λ i. I.leaves i ≡ split I.WIDTH name.now (cut I.WIDTH name.now rows.now) (I.leaves index.now)) }
+    requires leaf { has_name name.now (I.leaves index.old) ≡ true }
+    ensures { OnOk result (I.leaves index.new ≡ split I.WIDTH name.now (cut I.WIDTH name.now rows.now) (I.leaves index.old)) }
 {
     let children = buckets_under(alloc, rows, name, I::WIDTH)?;
-    match index.split(name, &children) {
-        Ok(index) => Ok(index),
-        Err(IndexFault::Memory) => Err(Memory),
-        Err(IndexFault::NoLeaf { .. }) => unreachable!(),
+    match index.divide(name, &children, &mut AtOnce) {
+        Ok(()) => Ok(()),
+        Err(Undone::Memory) => Err(Memory),
+        Err(Undone::Lost) => unreachable!(),
     }
 }

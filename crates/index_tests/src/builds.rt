@@ -5,6 +5,7 @@ use bucket_versions::Row;
 use flat_index::FlatIndex;
 use index_build::build;
 use index_layer::Index;
+use kd_trie::KdTrie;
 use plain_list::{Op, World, after};
 use std::alloc::Global;
 use std::process::Abort;
@@ -69,10 +70,12 @@ fn builds_one_empty_leaf<I: Index>(rt: &impl Abort, alloc: Global) -> Result<(),
 
 #[test]
 fn five_objects_are_shared_out_among_two_leaves(rt: HostRuntime) -> Result<(), Fail> {
-    builds_two_halves::<FlatIndex>(&rt, rt.alloc())
+    builds_two_halves::<FlatIndex>(&rt, rt.alloc())?;
+    builds_two_halves::<KdTrie>(&rt, rt.alloc())
 }
 
 #[test]
 fn an_empty_world_has_one_empty_leaf(rt: HostRuntime) -> Result<(), Fail> {
-    builds_one_empty_leaf::<FlatIndex>(&rt, rt.alloc())
+    builds_one_empty_leaf::<FlatIndex>(&rt, rt.alloc())?;
+    builds_one_empty_leaf::<KdTrie>(&rt, rt.alloc())
 }

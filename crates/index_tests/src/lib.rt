@@ -1,9 +1,15 @@
-//! The worked values of an index, for every form of one.
+//! The worked values of an index and of queries over it, for every form of one.
 //!
 //! A function over the bound `Index` makes the calls, and each form is handed to it. Nothing else is here.
 #![tactic(auto)]
 
 #[cfg(test)]
+mod buckets;
+#[cfg(test)]
 mod builds;
+#[cfg(test)]
+mod never;
+#[cfg(test)]
+mod queries;
 #[cfg(test)]
 mod tests;

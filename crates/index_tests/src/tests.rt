@@ -1,50 +1,18 @@
 //! Calls of an index through the trait's bound.
-ghost use Rattle.std.specs.Prelude.{◌≡◌, [], ◌∷◌, false, IfOk};
-ghost use Rattle.std.specs.Arc.{arc_value};
+ghost use Rattle.std.specs.Prelude.{◌≡◌, [], IfOk};
+ghost use Rattle.index_layer.specs.Leaves.{one_leaf};
 ghost use Rattle.bucket_versions.specs.Rows.{as_base};
-ghost use Rattle.index_layer.specs.Leaves.{AreUnder};
 
-use bucket_versions::{Bucket, Row};
+use crate::buckets::{empty, three_rows};
+use crate::never::Never;
+use bucket_versions::{AtOnce, Row, Undone};
 use flat_index::FlatIndex;
 use index_layer::{Index, IndexFault, Part};
+use kd_trie::KdTrie;
 use std::alloc::Global;
 use std::process::Abort;
-use std::sync::Arc;
 use std::test::*;
-use zorder::{Memory, Name, child};
-
-fn in_threads<T: Send + Sync>() {}
-
-#[test]
-fn each_form_may_be_shared_and_sent() {
-    in_threads::<FlatIndex>();
-}
-
-fn shared(alloc: Global, bucket: Bucket) -> Result<Arc<Bucket>, Memory>
-    ensures { IfOk result (λ arc. arc_value arc ≡ bucket) }
-{
-    match Arc::new(alloc, bucket) {
-        Ok(arc) => Ok(arc),
-        Err(_) => Err(Memory),
-    }
-}
-
-fn empty(alloc: Global) -> Result<Arc<Bucket>, Memory>
-    ensures { IfOk result (λ arc. arc_value arc ≡ as_base []) }
-{
-    shared(alloc, Bucket::from_rows(alloc, &[])?)
-}
-
-fn three_rows(alloc: Global) -> Result<Arc<Bucket>, Memory>
-    ensures { IfOk result (λ arc. AreUnder (false ∷ []) (arc_value arc).rows) }
-{
-    let rows = [
-        Row { key: 1, id: 9 },
-        Row { key: 2, id: 4 },
-        Row { key: 27, id: 7 },
-    ];
-    shared(alloc, Bucket::from_rows(alloc, &rows)?)
-}
+use zorder::{Name, child};
 
 fn halves<I: Index>(alloc: Global) -> Result<I, Fail>
     requires { I.WIDTH ≡ 1 }
@@ -70,6 +38,7 @@ fn answers_the_worked_calls<I: Index>(rt: &impl Abort, alloc: Global) -> Result<
     assert!(rt; matches!(refused.err(), Some(IndexFault::NoLeaf { name: _ })));
     let filled = index.replaced(&zero, three_rows(alloc)?)?;
     assert_eq!(rt; filled.leaf_of(27).1.count(), 3);
+    assert_eq!(rt; filled.leaf_of(27).1.base_rows().len(), 2);
     assert_eq!(rt; filled.leaf_of(9_223_372_036_854_775_808).1.count(), 0);
     assert_eq!(rt; index.leaf_of(27).1.count(), 0);
     Ok(())
@@ -78,4 +47,44 @@ fn answers_the_worked_calls<I: Index>(rt: &impl Abort, alloc: Global) -> Result<
 #[test]
 fn a_flat_index_answers_the_worked_calls(rt: HostRuntime) -> Result<(), Fail> {
     answers_the_worked_calls::<FlatIndex>(&rt, rt.alloc())
+}
+
+#[test]
+fn a_trie_answers_the_worked_calls(rt: HostRuntime) -> Result<(), Fail> {
+    answers_the_worked_calls::<KdTrie>(&rt, rt.alloc())
+}
+
+fn one_empty_leaf<I: Index>(alloc: Global) -> Result<I, Fail>
+    ensures { IfOk result (λ index. I.leaves index ≡ one_leaf (as_base [])) }
+{
+    Ok(I::whole(alloc, empty(alloc)?)?)
+}
+
+fn keeps_what_is_shared<I: Index>(rt: &impl Abort, alloc: Global) -> Result<(), Fail> {
+    let mut index = one_empty_leaf::<I>(alloc)?;
+    let before = index.share()?;
+    index.put_row(Row { key: 27, id: 7 }, &mut AtOnce)?;
+    assert_eq!(rt; index.leaf_of(27).1.count(), 1);
+    assert_eq!(rt; before.leaf_of(27).1.count(), 0);
+    Ok(())
+}
+
+fn waits_for_its_step<I: Index>(rt: &impl Abort, alloc: Global) -> Result<(), Fail> {
+    let mut index = one_empty_leaf::<I>(alloc)?;
+    let put = index.put_row(Row { key: 27, id: 7 }, &mut Never);
+    assert_eq!(rt; put.err(), Some(Undone::Lost));
+    assert_eq!(rt; index.leaf_of(27).1.count(), 0);
+    Ok(())
+}
+
+#[test]
+fn a_flat_index_is_changed_in_place(rt: HostRuntime) -> Result<(), Fail> {
+    keeps_what_is_shared::<FlatIndex>(&rt, rt.alloc())?;
+    waits_for_its_step::<FlatIndex>(&rt, rt.alloc())
+}
+
+#[test]
+fn a_trie_is_changed_in_place(rt: HostRuntime) -> Result<(), Fail> {
+    keeps_what_is_shared::<KdTrie>(&rt, rt.alloc())?;
+    waits_for_its_step::<KdTrie>(&rt, rt.alloc())
 }

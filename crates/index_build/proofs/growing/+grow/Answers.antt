@@ -95,7 +95,7 @@ loop-place-init g t c =
     } in
     let other : (d : List Bool) → same_name (get_or c.args.leaves.now c.args.growing.done d) c.args.name.now ≡ false =
     λ d. ap (λ (n : List Bool). same_name n c.args.name.now) ((next_there a).at d ∙ sym ((next_there a).at c.index-leaves-done.result) ∙ sym c.index-leaves-done.is) ∙ sym c.eq.ensures ∙ c.if-eq.false in
-    growing-split a other (g.I.Index.leaves c.in_ok-index.index) c.in_ok-index.ensures
+    growing-split a other (g.I.Index.leaves c.split.new.index) c.in_ok-split.ensures
 
 pub child_at-requires-clause-short : goal.child_at-requires-clause-short
 child_at-requires-clause-short g t c =

@@ -1,49 +1,21 @@
 //! Queries of an index through the trait's bound.
-ghost use Rattle.std.specs.Prelude.{◌≡◌, [], ◌∷◌, false, IfOk};
-ghost use Rattle.std.specs.Arc.{arc_value};
-ghost use Rattle.bucket_versions.specs.Rows.{as_base};
-ghost use Rattle.index_layer.specs.Leaves.{AreUnder};
+ghost use Rattle.std.specs.Prelude.{◌≡◌};
 
-use bucket_versions::{Bucket, Row};
+use crate::buckets::{empty, three_rows};
+use bucket_versions::Row;
 use flat_index::FlatIndex;
 use index_layer::Index;
+use kd_trie::KdTrie;
 use knn_query::nearest;
 use range_query::{count_in, range};
 use std::alloc::Global;
 use std::marker::Brand;
 use std::process::Abort;
-use std::sync::Arc;
 use std::sync::ledger::{Blank, Ledger};
 use std::test::*;
 use step_count::Steps;
 use table_share::{for_rows, scan};
-use zorder::{Memory, Name, Placed, Point, Region, child};
-
-fn shared(alloc: Global, bucket: Bucket) -> Result<Arc<Bucket>, Memory>
-    ensures { IfOk result (λ arc. arc_value arc ≡ bucket) }
-{
-    match Arc::new(alloc, bucket) {
-        Ok(arc) => Ok(arc),
-        Err(_) => Err(Memory),
-    }
-}
-
-fn empty(alloc: Global) -> Result<Arc<Bucket>, Memory>
-    ensures { IfOk result (λ arc. arc_value arc ≡ as_base []) }
-{
-    shared(alloc, Bucket::from_rows(alloc, &[])?)
-}
-
-fn three_rows(alloc: Global) -> Result<Arc<Bucket>, Memory>
-    ensures { IfOk result (λ arc. AreUnder (false ∷ []) (arc_value arc).rows) }
-{
-    let rows = [
-        Row { key: 1, id: 9 },
-        Row { key: 2, id: 4 },
-        Row { key: 27, id: 7 },
-    ];
-    shared(alloc, Bucket::from_rows(alloc, &rows)?)
-}
+use zorder::{Name, Placed, Point, Region, child};
 
 // Two leaves, of which the first one has three rows.
 fn filled<I: Index>(alloc: Global) -> Result<I, Fail>
@@ -94,4 +66,9 @@ fn answers_the_worked_queries<I: Index, L: Ledger>(
 #[test]
 fn a_flat_index_answers_the_worked_queries(rt: HostRuntime) -> Result<(), Fail> {
     answers_the_worked_queries::<FlatIndex, Brand>(&rt, rt.alloc(), Blank::new(1))
+}
+
+#[test]
+fn a_trie_answers_the_worked_queries(rt: HostRuntime) -> Result<(), Fail> {
+    answers_the_worked_queries::<KdTrie, Brand>(&rt, rt.alloc(), Blank::new(1))
 }

@@ -1,0 +1,28 @@
+//! Buckets that indexes are made of.
+ghost use Rattle.std.specs.Prelude.{◌≡◌, [], ◌∷◌, false, IfOk};
+ghost use Rattle.std.specs.Arc.{arc_value};
+ghost use Rattle.bucket_versions.specs.Rows.{as_base};
+ghost use Rattle.index_layer.specs.Leaves.{AreUnder};
+
+use bucket_versions::{Bucket, Row};
+use std::alloc::Global;
+use std::sync::Arc;
+use std::test::*;
+use zorder::Memory;
+
+/// No rows.
+pub(crate) fn empty(alloc: Global) -> Result<Arc<Bucket>, Memory>
+    ensures { IfOk result (λ b. arc_value b ≡ as_base []) }
+{
+    Bucket::from_rows(alloc, &[])?.into_shared()
+}
+
+/// Three rows on a base of two.
+pub(crate) fn three_rows(alloc: Global) -> Result<Arc<Bucket>, Fail>
+    ensures { IfOk result (λ b. AreUnder (false ∷ []) (arc_value b).rows) }
+{
+    let two = [Row { key: 1, id: 9 }, Row { key: 27, id: 7 }];
+    let bucket = Bucket::from_rows(alloc, &two)?;
+    let bucket = bucket.with_put(Row { key: 2, id: 4 })?;
+    Ok(bucket.into_shared()?)
+}
