@@ -1,0 +1,3 @@
+pub mod Draws
+pub mod Moves
+pub mod Examples

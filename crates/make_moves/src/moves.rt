@@ -1,0 +1,71 @@
+//! Rows from draws.
+ghost use Rattle.std.specs.Prelude.{◌≡◌, ◌≤◌, ◌<◌, IfOk};
+ghost use Rattle.make_moves.specs.Draws.{state_after};
+ghost use Rattle.make_moves.specs.Moves.{made_rows, made_row, made_op, row_of, box_from};
+
+use crate::draws::Draws;
+use csv_rows::{InRow, Rows};
+use plain_list::Op;
+use std::alloc::Global;
+use zorder::{Memory, Point, Region};
+
+/// How far a box reaches on each axis.
+const REACH: u32 = 16_777_216;
+
+/// The first rows, this many, that this seed makes.
+pub fn make(alloc: Global, n: u32, seed: u64) -> Result<Rows, Memory>
+    requires { n ≤ 65536 }
+    ensures { IfOk result (λ rows. rows ≡ made_rows n seed) }
+{
+    let mut draws = Draws::new(seed);
+    let mut rows = Vec::with_capacity(alloc, n as usize)?;
+    for i in 0..n {
+        rows.push(next_row(&mut draws, i))?;
+    }
+    Ok(Rows::from_vec(rows))
+}
+
+// Each row takes three draws, whatever it uses of them.
+fn next_row(draws: &mut Draws, i: u32) -> InRow
+    ensures row { result ≡ row_of i draws.old.state }
+    ensures state { draws.new.state ≡ state_after 3 draws.old.state }
+{
+    let session = 1 + (i % 16) as u8;
+    let u = draws.draw();
+    let v = draws.draw();
+    let w = draws.draw();
+    InRow {
+        session,
+        op: op_from(session, u, Point { x: v, y: w }),
+    }
+}
+
+fn op_from(session: u8, u: u32, at: Point) -> Op
+    requires { session ≤ 16 }
+    ensures { result ≡ made_op session u at }
+{
+    let r = u / 16;
+    let id = 1000 * u64::from(session) + u64::from(r % 1000);
+    match u % 10 {
+        0..=3 => Op::Put { id, at },
+        4 | 5 => Op::Move { id, at },
+        6 => Op::Remove { id },
+        7 => Op::Find { id },
+        8 => Op::Within {
+            region: box_from(at),
+        },
+        _ => Op::Near { at, k: 1 + r % 8 },
+    }
+}
+
+fn box_from(at: Point) -> Region
+    ensures { result ≡ box_from at }
+{
+    Region {
+        lo: at,
+        hi: Point {
+            x: at.x.saturating_add(REACH),
+            y: at.y.saturating_add(REACH),
+        },
+    }
+}
