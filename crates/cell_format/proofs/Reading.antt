@@ -13,7 +13,7 @@ use Rattle.cell_format.specs.declared.cell.CellFault.{CellFault}
 use Rattle.cell_format.specs.declared.cell.CellFault.TheVariants.{Kind, Reserved, BadName}
 use Rattle.cell_format.specs.Spelling.{Spells, body_of, body, point_bytes, name_bytes}
 use Rattle.cell_format.specs.Decoding.{decoded, cell_or_name_fault, cell_of_kind, long_at, short_at, point_at, name_at, zeros_from, is_kind, has_zeros, is_name}
-use Rattle.cell_format.specs.Faults.{HasKind, HasZeros, HasNoKind, HasReserved}
+use Rattle.cell_format.specs.Faults.{HasKind, HasZeros, HasNoKind, HasReserved, HasBadName}
 use Rattle.cell_format.specs.Decodes.{Decodes}
 use Rattle.cell_format.proofs.Decoded.{decoded-spelling}
 use Rattle.zorder.specs.Name.{IsNoName}
@@ -57,6 +57,31 @@ no_kind bytes none has = true≢false (sym (both_true (le-leb 1 (slice_index byt
 
 begins : (bytes : List ℕ) → slice_index bytes 1 ≡ 4 → HasKind bytes
 begins bytes is = record { first = omega arith; last = omega arith }
+
+a_kind_is : (bytes : List ℕ) → HasKind bytes → is_kind (slice_index bytes 1) ≡ true
+a_kind_is bytes has = both_true (le-leb 1 (slice_index bytes 1) has.first) (le-leb (slice_index bytes 1) 6 has.last)
+
+-- each fault is what the bytes read as
+pub decoded-HasNoKind : (bytes : List ℕ) → HasNoKind bytes → decoded bytes ≡ Err Kind
+decoded-HasNoKind bytes none = by_kind (is_kind (slice_index bytes 1)) refl
+  where
+    by_kind : (b : Bool) → is_kind (slice_index bytes 1) ≡ b → decoded bytes ≡ Err Kind
+    by_kind true is = let (first, last) = has_kind (slice_index bytes 1) is in absurd (none (record { first = first; last = last }))
+    by_kind false is = decoded-no_kind bytes is
+
+pub decoded-HasReserved : (bytes : List ℕ) → HasReserved bytes → decoded bytes ≡ Err Reserved
+decoded-HasReserved bytes has = by_zeros (has_zeros (slice_index bytes 1) bytes) refl
+  where
+    by_zeros : (b : Bool) → has_zeros (slice_index bytes 1) bytes ≡ b → decoded bytes ≡ Err Reserved
+    by_zeros true none = absurd (has.set (zero_behind bytes (zeros_from (slice_index bytes 1)) none has.at has.from))
+    by_zeros false some = decoded-reserved bytes (a_kind_is bytes has.kind) some
+
+pub decoded-HasBadName : (bytes : List ℕ) → length bytes ≡ 32 → HasBadName bytes → decoded bytes ≡ Err BadName
+decoded-HasBadName bytes long has =
+    let kind = a_kind_is bytes (begins bytes has.begin) in
+    let zeros : has_zeros (slice_index bytes 1) bytes ≡ true = none_behind bytes (zeros_from (slice_index bytes 1)) (λ i from within. has.zeros i from (subst (λ n. i < n) long within)) in
+    let bad : is_bad_name bytes ≡ true = both_true (eq-eqb (slice_index bytes 1) 4 has.begin) (ap not (no_name (long_at 10 bytes) (slice_index bytes 18) has.bad)) in
+    decoded-rest bytes kind zeros ∙ ap (λ t. by_name_test t (cell_of_kind (slice_index bytes 1) bytes)) bad
 
 pub decodes-no_kind : (bytes : List ℕ) → is_kind (slice_index bytes 1) ≡ false → Decodes bytes (Err Kind)
 decodes-no_kind bytes none = record {

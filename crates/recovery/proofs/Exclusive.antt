@@ -1,5 +1,5 @@
 -- Bytes tell one thing at most: the cells that they recover to, or one fault.
-use Rattle.std.proofs.Common.{◌≡◌, ℕ, ◌+◌, ◌<◌, ◌≤◌, true, ◌⊎◌, inl, inr, ⊎_elim, List, [], ◌∷◌, ◌++◌, length, take, drop, replicate, refl, sym, ◌∙◌, ap, subst, arith, append_assoc, length-append}
+use Rattle.std.proofs.Common.{◌≡◌, ℕ, ◌+◌, ◌<◌, ◌≤◌, true, false, ◌⊎◌, inl, inr, ⊎_elim, List, [], ◌∷◌, ◌++◌, length, take, drop, replicate, refl, sym, ◌∙◌, ap, subst, arith, append_assoc, length-append}
 use Rattle.std.specs.Prelude.{slice_index, Result, Ok, Err}
 use Rattle.std.specs.Result.{IsErrAnd}
 use Rattle.causes.specs.Causes.{Rose}
@@ -7,7 +7,7 @@ use Rattle.disk_trait.specs.Drive.{Drive}
 use Rattle.std.specs.List.{flat_map, AllByRecursion}
 use Rattle.std.specs.Cmp.{first_so, second_so}
 use Rattle.std.proofs.lemmas.Bool.{true≢false}
-use Rattle.std.proofs.lemmas.List.{take_at, drop_at}
+use Rattle.std.proofs.lemmas.List.{take_at, drop_at, length-take-le}
 use Rattle.cell_format.specs.declared.cell.Cell.{Cell}
 use Rattle.cell_format.specs.declared.cell.Cause.{Cause}
 use Rattle.cell_format.specs.declared.cell.Cause.TheVariants as cause
@@ -16,6 +16,7 @@ use Rattle.cell_format.specs.declared.cell.CellFault.TheVariants as cell_fault
 use Rattle.cell_format.specs.Decoding.{decoded}
 use Rattle.cell_format.specs.Spelling.{IsCell, spelling, header_text}
 use Rattle.cell_format.proofs.Decoded.{same_cell, length-spelling, decoded-spelling}
+use Rattle.cell_format.proofs.Reading.{decoded-HasNoKind, decoded-HasReserved, decoded-HasBadName, decoded-spelled}
 use Rattle.plain_list.specs.State.{State, empty_state, step}
 use Rattle.split_log.specs.LogText.{front_of}
 use Rattle.split_log.proofs.Cells.{length-header}
@@ -123,13 +124,28 @@ reserved_name e = cc e
 err_ok : (f : CellFault) (c : Cell) → ◌≡◌ {A = Result Cell CellFault} (Err f) (Ok c) → ⊥
 err_ok f c e = cc e
 
+-- what is wrong with the cell at the front, as its bytes read
+abbrev ReadsWrong : ℕ → State → List ℕ → Cause → Type 0
+ReadsWrong w s tail cause.ShortCell = length tail < 33
+ReadsWrong w s tail cause.Kind = (33 ≤ length tail) × (decoded (take 32 tail) ≡ Err cell_fault.Kind)
+ReadsWrong w s tail cause.Reserved = (33 ≤ length tail) × (decoded (take 32 tail) ≡ Err cell_fault.Reserved)
+ReadsWrong w s tail cause.BadName = (33 ≤ length tail) × (decoded (take 32 tail) ≡ Err cell_fault.BadName)
+ReadsWrong w s tail cause.Impossible = (33 ≤ length tail) × (next : Cell) × (decoded (take 32 tail) ≡ Ok next) × (is_possible_cell w s next ≡ false)
+
+reads_wrong : (w : ℕ) (s : State) (tail : List ℕ) (why : Cause) → IsWrong w s tail why → ReadsWrong w s tail why
+reads_wrong w s tail cause.ShortCell wrong = wrong
+reads_wrong w s tail cause.Kind wrong = (wrong.0, decoded-HasNoKind (take 32 tail) wrong.1)
+reads_wrong w s tail cause.Reserved wrong = (wrong.0, decoded-HasReserved (take 32 tail) wrong.1)
+reads_wrong w s tail cause.BadName wrong = (wrong.0, decoded-HasBadName (take 32 tail) (length-take-le 32 tail (omega (arith, wrong.0))) wrong.1)
+reads_wrong w s tail cause.Impossible wrong = (wrong.0, wrong.1, decoded-spelled (take 32 tail) wrong.1 wrong.2, wrong.3)
+
 not_wrong : (w : ℕ) (s : State) (next : Cell) (rest tail : List ℕ) (why : Cause) → IsCell next → tail ≡ spelling next ++ rest → 1 ≤ length rest → is_possible_cell w s next ≡ true → IsWrong w s tail why → ⊥
 not_wrong w s next rest tail why fits is some possible wrong =
     let first = spelled_first next rest tail is in
     let reads : decoded (take 32 tail) ≡ Ok next = ap decoded first.1 ∙ decoded-spelling next fits in
-    by_cause reads why wrong
+    by_cause reads why (reads_wrong w s tail why wrong)
   where
-    by_cause : decoded (take 32 tail) ≡ Ok next → (why : Cause) → IsWrong w s tail why → ⊥
+    by_cause : decoded (take 32 tail) ≡ Ok next → (why : Cause) → ReadsWrong w s tail why → ⊥
     by_cause reads cause.ShortCell wrong = omega (arith, wrong, (spelled_first next rest tail is).2, some)
     by_cause reads cause.Kind wrong = err_ok cell_fault.Kind next (sym wrong.1 ∙ reads)
     by_cause reads cause.Reserved wrong = err_ok cell_fault.Reserved next (sym wrong.1 ∙ reads)
@@ -217,32 +233,35 @@ recovers_no_fault w most cells bytes fault.Disk recovers few shown holds = shown
 recovers_no_fault w most cells bytes fault.Memory recovers few shown holds = shown
 
 -- what is wrong with a cell is wrong for one reason
+one_reading : (w : ℕ) (s : State) (tail : List ℕ) (why also : Cause) → ReadsWrong w s tail why → ReadsWrong w s tail also → why ≡ also
+one_reading w s tail cause.ShortCell cause.ShortCell a b = refl
+one_reading w s tail cause.ShortCell cause.Kind a b = absurd (omega (arith, a, b.0))
+one_reading w s tail cause.ShortCell cause.Reserved a b = absurd (omega (arith, a, b.0))
+one_reading w s tail cause.ShortCell cause.BadName a b = absurd (omega (arith, a, b.0))
+one_reading w s tail cause.ShortCell cause.Impossible a b = absurd (omega (arith, a, b.0))
+one_reading w s tail cause.Kind cause.ShortCell a b = absurd (omega (arith, b, a.0))
+one_reading w s tail cause.Kind cause.Kind a b = refl
+one_reading w s tail cause.Kind cause.Reserved a b = absurd (kind_reserved (sym a.1 ∙ b.1))
+one_reading w s tail cause.Kind cause.BadName a b = absurd (kind_name (sym a.1 ∙ b.1))
+one_reading w s tail cause.Kind cause.Impossible a b = absurd (err_ok cell_fault.Kind b.1 (sym a.1 ∙ b.2))
+one_reading w s tail cause.Reserved cause.ShortCell a b = absurd (omega (arith, b, a.0))
+one_reading w s tail cause.Reserved cause.Kind a b = absurd (kind_reserved (sym b.1 ∙ a.1))
+one_reading w s tail cause.Reserved cause.Reserved a b = refl
+one_reading w s tail cause.Reserved cause.BadName a b = absurd (reserved_name (sym a.1 ∙ b.1))
+one_reading w s tail cause.Reserved cause.Impossible a b = absurd (err_ok cell_fault.Reserved b.1 (sym a.1 ∙ b.2))
+one_reading w s tail cause.BadName cause.ShortCell a b = absurd (omega (arith, b, a.0))
+one_reading w s tail cause.BadName cause.Kind a b = absurd (kind_name (sym b.1 ∙ a.1))
+one_reading w s tail cause.BadName cause.Reserved a b = absurd (reserved_name (sym b.1 ∙ a.1))
+one_reading w s tail cause.BadName cause.BadName a b = refl
+one_reading w s tail cause.BadName cause.Impossible a b = absurd (err_ok cell_fault.BadName b.1 (sym a.1 ∙ b.2))
+one_reading w s tail cause.Impossible cause.ShortCell a b = absurd (omega (arith, b, a.0))
+one_reading w s tail cause.Impossible cause.Kind a b = absurd (err_ok cell_fault.Kind a.1 (sym b.1 ∙ a.2))
+one_reading w s tail cause.Impossible cause.Reserved a b = absurd (err_ok cell_fault.Reserved a.1 (sym b.1 ∙ a.2))
+one_reading w s tail cause.Impossible cause.BadName a b = absurd (err_ok cell_fault.BadName a.1 (sym b.1 ∙ a.2))
+one_reading w s tail cause.Impossible cause.Impossible a b = refl
+
 one_cause : (w : ℕ) (s : State) (tail : List ℕ) (why also : Cause) → IsWrong w s tail why → IsWrong w s tail also → why ≡ also
-one_cause w s tail cause.ShortCell cause.ShortCell a b = refl
-one_cause w s tail cause.ShortCell cause.Kind a b = absurd (omega (arith, a, b.0))
-one_cause w s tail cause.ShortCell cause.Reserved a b = absurd (omega (arith, a, b.0))
-one_cause w s tail cause.ShortCell cause.BadName a b = absurd (omega (arith, a, b.0))
-one_cause w s tail cause.ShortCell cause.Impossible a b = absurd (omega (arith, a, b.0))
-one_cause w s tail cause.Kind cause.ShortCell a b = absurd (omega (arith, b, a.0))
-one_cause w s tail cause.Kind cause.Kind a b = refl
-one_cause w s tail cause.Kind cause.Reserved a b = absurd (kind_reserved (sym a.1 ∙ b.1))
-one_cause w s tail cause.Kind cause.BadName a b = absurd (kind_name (sym a.1 ∙ b.1))
-one_cause w s tail cause.Kind cause.Impossible a b = absurd (err_ok cell_fault.Kind b.1 (sym a.1 ∙ b.2))
-one_cause w s tail cause.Reserved cause.ShortCell a b = absurd (omega (arith, b, a.0))
-one_cause w s tail cause.Reserved cause.Kind a b = absurd (kind_reserved (sym b.1 ∙ a.1))
-one_cause w s tail cause.Reserved cause.Reserved a b = refl
-one_cause w s tail cause.Reserved cause.BadName a b = absurd (reserved_name (sym a.1 ∙ b.1))
-one_cause w s tail cause.Reserved cause.Impossible a b = absurd (err_ok cell_fault.Reserved b.1 (sym a.1 ∙ b.2))
-one_cause w s tail cause.BadName cause.ShortCell a b = absurd (omega (arith, b, a.0))
-one_cause w s tail cause.BadName cause.Kind a b = absurd (kind_name (sym b.1 ∙ a.1))
-one_cause w s tail cause.BadName cause.Reserved a b = absurd (reserved_name (sym b.1 ∙ a.1))
-one_cause w s tail cause.BadName cause.BadName a b = refl
-one_cause w s tail cause.BadName cause.Impossible a b = absurd (err_ok cell_fault.BadName b.1 (sym a.1 ∙ b.2))
-one_cause w s tail cause.Impossible cause.ShortCell a b = absurd (omega (arith, b, a.0))
-one_cause w s tail cause.Impossible cause.Kind a b = absurd (err_ok cell_fault.Kind a.1 (sym b.1 ∙ a.2))
-one_cause w s tail cause.Impossible cause.Reserved a b = absurd (err_ok cell_fault.Reserved a.1 (sym b.1 ∙ a.2))
-one_cause w s tail cause.Impossible cause.BadName a b = absurd (err_ok cell_fault.BadName a.1 (sym b.1 ∙ a.2))
-one_cause w s tail cause.Impossible cause.Impossible a b = refl
+one_cause w s tail why also a b = one_reading w s tail why also (reads_wrong w s tail why a) (reads_wrong w s tail also b)
 
 one_damage : (w most : ℕ) (bytes : List ℕ) (n m : ℕ) (why also : Cause) → IsDamaged w most bytes n why → IsDamaged w most bytes m also → (n ≡ m) × (why ≡ also)
 one_damage w most bytes n m why also a b =

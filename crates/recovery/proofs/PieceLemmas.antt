@@ -1,5 +1,5 @@
 -- Walks over pieces of a log.
-use Rattle.std.proofs.Common.{◌≡◌, ℕ, ◌+◌, ◌<◌, ◌≤◌, true, List, [], ◌∷◌, ◌++◌, length, drop, refl, sym, ◌∙◌, ap, subst, arith, append_assoc, length-append, length-drop}
+use Rattle.std.proofs.Common.{◌≡◌, ℕ, ◌+◌, ◌<◌, ◌≤◌, true, List, [], ◌∷◌, ◌++◌, length, take, drop, refl, sym, ◌∙◌, ap, subst, arith, append_assoc, length-append, length-drop}
 use Rattle.std.specs.Prelude.{Result, Ok, Err, IfErr}
 use Rattle.std.specs.Result.{IsErrAnd}
 use Rattle.std.specs.List.{flat_map, AllByRecursion}
@@ -8,14 +8,19 @@ use Rattle.std.specs.Cmp.Derive.{both_true}
 use Rattle.std.proofs.lemmas.List.{append-nil, take-append-drop}
 use Rattle.std.proofs.lemmas.Grind.{flat_map-append}
 use Rattle.cell_format.specs.declared.cell.Cell.{Cell}
+use Rattle.cell_format.specs.declared.cell.CellFault.{CellFault}
+use Rattle.cell_format.specs.declared.cell.CellFault.TheVariants as fault
 use Rattle.cell_format.specs.Spelling.{IsCell, spelling}
+use Rattle.cell_format.specs.Faults.{HasNoKind, HasReserved, HasBadName}
+use Rattle.cell_format.specs.Decodes.{Decodes}
+use Rattle.recovery.specs.Faults.{IsWrong}
 use Rattle.plain_list.specs.State.{State, step}
 use Rattle.recovery.specs.declared.seen.OpenFault.{OpenFault}
 use Rattle.recovery.specs.declared.pieces.Stop.{Stop}
 use Rattle.log_state.specs.Recovers.{is_legal_cells, cells_after, is_possible_cell, entry_of}
 use Rattle.log_state.proofs.LegalCells.{cells_after-append, legal-append}
 use Rattle.recovery.specs.Walk.{WalkView}
-use Rattle.recovery.specs.Pieces.{Passes, PassesOne, Comes, FailsAt, StopsAt, Walks, Breaks}
+use Rattle.recovery.specs.Pieces.{Passes, PassesOne, Comes, FailsAt, StopsAt, Walks, Breaks, cause_of}
 
 pub all_append : {A : Type 0} (P : A → Type 0) (xs ys : List A) → AllByRecursion P xs → AllByRecursion P ys → AllByRecursion P (xs ++ ys)
 all_append P [] ys all more = more
@@ -87,3 +92,9 @@ comes_first most from old piece few some = record {
 pub passed_on : {T : Type 0} (result : Result T OpenFault) (fault : OpenFault) (P : OpenFault → Type 0) → IsErrAnd result (λ e. e ≡ fault) → P fault → IfErr result P
 passed_on (Ok x) fault P same holds = tt
 passed_on (Err e) fault P same holds = subst P (sym same) holds
+
+-- why a cell without a spelling is damaged
+pub wrong_cell : (w : ℕ) (s : State) (tail bytes : List ℕ) (why : CellFault) → bytes ≡ take 32 tail → 33 ≤ length tail → Decodes bytes (Err why) → IsWrong w s tail (cause_of why)
+wrong_cell w s tail bytes fault.Kind is long says = (long, subst HasNoKind is (says.kind.0 refl))
+wrong_cell w s tail bytes fault.Reserved is long says = (long, subst HasReserved is (says.reserved.0 refl))
+wrong_cell w s tail bytes fault.BadName is long says = (long, subst HasBadName is (says.bad_name.0 refl))

@@ -7,8 +7,8 @@ use Rattle.std.proofs.lemmas.Grind.{flat_map-append}
 use Rattle.cell_format.specs.declared.cell.Cell.{Cell}
 use Rattle.cell_format.specs.declared.cell.Cause.{Cause}
 use Rattle.cell_format.specs.declared.cell.Cause.TheVariants as cause
-use Rattle.cell_format.specs.Decoding.{decoded}
-use Rattle.cell_format.specs.Spelling.{IsCell, spelling, header_text}
+use Rattle.cell_format.specs.Faults.{HasNoKind, HasReserved, HasBadName}
+use Rattle.cell_format.specs.Spelling.{IsCell, Spells, spelling, header_text}
 use Rattle.disk_trait.specs.Drive.{Drive}
 use Rattle.plain_list.specs.State.{State, empty_state}
 use Rattle.split_log.specs.LogText.{front_of, log_text}
@@ -37,10 +37,10 @@ set_some (b ∷ tail) set = omega arith
 
 wrong_more : (w : ℕ) (s : State) (tail more : List ℕ) (why : Cause) → 33 ≤ length tail → IsWrong w s tail why → IsWrong w s (tail ++ more) why
 wrong_more w s tail more cause.ShortCell long wrong = absurd (omega (arith, long, wrong))
-wrong_more w s tail more cause.Kind long wrong = (omega (arith, long, length-append tail more), ap decoded (take-append-le 32 tail more (omega (arith, long))) ∙ wrong.1)
-wrong_more w s tail more cause.Reserved long wrong = (omega (arith, long, length-append tail more), ap decoded (take-append-le 32 tail more (omega (arith, long))) ∙ wrong.1)
-wrong_more w s tail more cause.BadName long wrong = (omega (arith, long, length-append tail more), ap decoded (take-append-le 32 tail more (omega (arith, long))) ∙ wrong.1)
-wrong_more w s tail more cause.Impossible long wrong = (omega (arith, long, length-append tail more), wrong.1, ap decoded (take-append-le 32 tail more (omega (arith, long))) ∙ wrong.2, wrong.3)
+wrong_more w s tail more cause.Kind long wrong = (omega (arith, long, length-append tail more), subst HasNoKind (sym (take-append-le 32 tail more (omega (arith, long)))) wrong.1)
+wrong_more w s tail more cause.Reserved long wrong = (omega (arith, long, length-append tail more), subst HasReserved (sym (take-append-le 32 tail more (omega (arith, long)))) wrong.1)
+wrong_more w s tail more cause.BadName long wrong = (omega (arith, long, length-append tail more), subst HasBadName (sym (take-append-le 32 tail more (omega (arith, long)))) wrong.1)
+wrong_more w s tail more cause.Impossible long wrong = (omega (arith, long, length-append tail more), wrong.1, subst (Spells wrong.1) (sym (take-append-le 32 tail more (omega (arith, long)))) wrong.2, wrong.3)
 
 -- a front of cells, and a clear commit byte behind them
 pub recovers_clear : (w : ℕ) (cells : List Cell) (tail bytes : List ℕ) → BeginsWith w cells tail bytes → 1 ≤ length tail → slice_index tail 0 ≢ 1 → Recovers w cells bytes

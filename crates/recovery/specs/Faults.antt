@@ -1,12 +1,11 @@
 -- The first place at fault in the bytes of a log.
-use Rattle.std.specs.Prelude.{◌≡◌, ◌≢◌, ◌⊎◌, ℕ, ◌<◌, ◌≤◌, false, List, ◌++◌, length, take, drop, replicate, slice_index, Ok, Err, ⊤}
+use Rattle.std.specs.Prelude.{◌≡◌, ◌≢◌, ◌⊎◌, ℕ, ◌<◌, ◌≤◌, false, List, ◌++◌, length, take, drop, replicate, slice_index, ⊤}
 use Rattle.std.specs.List.{AllByRecursion}
 use Rattle.cell_format.specs.declared.cell.Cell.{Cell}
 use Rattle.cell_format.specs.declared.cell.Cause.{Cause}
 use Rattle.cell_format.specs.declared.cell.Cause.TheVariants as cause
-use Rattle.cell_format.specs.declared.cell.CellFault.TheVariants as fault
-use Rattle.cell_format.specs.Spelling.{IsCell, header_text}
-use Rattle.cell_format.specs.Decoding.{decoded}
+use Rattle.cell_format.specs.Spelling.{IsCell, Spells, header_text}
+use Rattle.cell_format.specs.Faults.{HasNoKind, HasReserved, HasBadName}
 use Rattle.split_log.specs.LogText.{front_of}
 use Rattle.plain_list.specs.State.{State}
 use Rattle.recovery.specs.declared.seen.OpenFault.{OpenFault}
@@ -22,10 +21,10 @@ pub record BeginsWith (w : ℕ) (cells : List Cell) (tail bytes : List ℕ) : Ty
 -- what is wrong with the cell at the front of these bytes, whose commit byte is set, at a state
 abbrev pub IsWrong : ℕ → State → List ℕ → Cause → Type 0
 IsWrong w s tail cause.ShortCell = length tail < 33
-IsWrong w s tail cause.Kind = (33 ≤ length tail) × (decoded (take 32 tail) ≡ Err fault.Kind)
-IsWrong w s tail cause.Reserved = (33 ≤ length tail) × (decoded (take 32 tail) ≡ Err fault.Reserved)
-IsWrong w s tail cause.BadName = (33 ≤ length tail) × (decoded (take 32 tail) ≡ Err fault.BadName)
-IsWrong w s tail cause.Impossible = (33 ≤ length tail) × (next : Cell) × (decoded (take 32 tail) ≡ Ok next) × (is_possible_cell w s next ≡ false)
+IsWrong w s tail cause.Kind = (33 ≤ length tail) × HasNoKind (take 32 tail)
+IsWrong w s tail cause.Reserved = (33 ≤ length tail) × HasReserved (take 32 tail)
+IsWrong w s tail cause.BadName = (33 ≤ length tail) × HasBadName (take 32 tail)
+IsWrong w s tail cause.Impossible = (33 ≤ length tail) × (next : Cell) × Spells next (take 32 tail) × (is_possible_cell w s next ≡ false)
 
 -- this cell is the first with its commit byte set that is short, has no spelling or is impossible, and its number is below most
 pub record IsDamaged (w most : ℕ) (bytes : List ℕ) (number : ℕ) (why : Cause) : Type 0 where
