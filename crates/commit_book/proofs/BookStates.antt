@@ -30,6 +30,7 @@ use Rattle.commit_book.specs.IsBook.{IsBook, most_events}
 use Rattle.commit_book.specs.KeptBases.{KeepsBase}
 use Rattle.commit_book.specs.declared.book.Book.TheInside.{Inside}
 use Rattle.commit_book.proofs.BookSteps.{same_names}
+use Rattle.commit_book.proofs.OnLog.{in-named}
 use Rattle.commit_book.proofs.KeptLemmas.{KeepsBases-push, KeepsBase-bases, KeepsBase-begun, KeepsBase-replaced, KeepsBase-split}
 use Rattle.commit_book.proofs.SplitHistories.{tidy-history, begun-number}
 use Rattle.commit_book.proofs.SplitStates.{without_name-none, splitting-found, left-open, left-apart, length-without, found-push}
@@ -58,6 +59,7 @@ is_book leaves drive w b inside are rows = record {
   bases = inside.bases;
   few = inside.few;
   on_log = inside.on_log;
+  named = in-named drive w b.opening b.history.entries b.journal inside.on_log;
 }
 
 one_more : (h : List Entry) (e : Entry) → length h < most_events → length (h ++ e ∷ []) ≤ most_events

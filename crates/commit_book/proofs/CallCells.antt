@@ -7,13 +7,14 @@ use Rattle.plain_list.specs.declared.entries.Entry.TheVariants.{Call}
 use Rattle.plain_list.specs.declared.entries.Lost.TheVariants as lost
 use Rattle.plain_list.specs.Answer.{answer_of, is_change}
 use Rattle.plain_list.specs.History.{world_after}
-use Rattle.disk_trait.specs.Drive.{Drive}
+use Rattle.disk_trait.specs.Drive.{Drive, KeepsLaws}
 use Rattle.log_state.specs.Changes.{change_cells}
 use Rattle.kept_log.specs.KeptView.{KeptView}
-use Rattle.kept_log.specs.Journal.{Added, Missed}
+use Rattle.kept_log.specs.Journal.{Added, Missed, LeavesNext}
 use Rattle.kept_log.proofs.StepCells.{next-call}
-use Rattle.kept_log.proofs.InJournal.{in-call, in-quiet}
-use Rattle.commit_book.specs.Appends.{AddsCall, MissesCall}
+use Rattle.kept_log.proofs.InJournal.{in-call, in-quiet, failed_cell-none, leaves-quiet}
+use Rattle.kept_log.proofs.Adding.{sound-push}
+use Rattle.commit_book.specs.Appends.{AddsCall, MissesCall, LeavesCall}
 
 module _ {D : Type 0} (drive : D → Drive) (op : Op) (answer : Answer) where
   pub adds-cell : (cell : Cell) (old new : Option (KeptView D)) → change_cells op ≡ cell ∷ [] → is_change answer ≡ true → Added drive cell old new → AddsCall drive op answer old new
@@ -30,6 +31,15 @@ module _ {D : Type 0} (drive : D → Drive) (op : Op) (answer : Answer) where
     keeps = λ w s h session row legal same kept.
         missed.keeps w s h (Call session row op) (lost.Call session row op) (next-call w s h session row op cell legal (ap is_change (sym same) ∙ change) one) one kept;
   }
+
+  pub leaves-cell : (cell : Cell) (old new : Option (KeptView D)) → change_cells op ≡ cell ∷ [] → is_change answer ≡ true → LeavesNext drive cell old new → LeavesCall drive op answer old new
+  leaves-cell cell old new one change leaves w s h session row legal same kept =
+      leaves w s h (Call session row op) (next-call w s h session row op cell legal (ap is_change (sym same) ∙ change) one) kept
+
+  -- where there is no cell, nothing is written
+  pub leaves-none : ((d : D) → KeepsLaws (drive d)) → (log : Option (KeptView D)) → LeavesCall drive op answer log log
+  leaves-none laws log w s h session row legal same kept =
+      leaves-quiet drive w s h (Call session row op) log laws kept (failed_cell-none h (sound-push w s h (Call session row op) legal))
 
   -- a call that changes nothing has no cell
   pub adds-none : (log : Option (KeptView D)) → is_change answer ≡ false → AddsCall drive op answer log log

@@ -13,7 +13,7 @@ use Rattle.disk_trait.specs.Drive.{Drive}
 use Rattle.log_state.specs.Changes.{cells_of, lost_cells}
 use Rattle.kept_log.specs.KeptView.{KeptView}
 use Rattle.kept_log.specs.Steps.{IsNext}
-use Rattle.kept_log.specs.Journal.{failed_cell, KeepsIn, Added, Missed}
+use Rattle.kept_log.specs.Journal.{failed_cell, KeepsIn, Added, Missed, LeavesNext, LeavesEither}
 use Rattle.kept_log.proofs.InJournal.{has_failed-none}
 use Rattle.commit_book.proofs.BookStates.{steps_on}
 use Rattle.commit_book.proofs.RefusalLemmas.{MayBegin}
@@ -44,3 +44,7 @@ module _ {D : Type 0} (drive : D → Drive) (w : ℕ) (o : State) (h : List Entr
   -- and the history that ends with the append that failed
   pub keeps-missed : (entries : List Entry) (number : ℕ) (lost : Lost) → entries ≡ h ++ Fail number lost ∷ [] → lost_cells lost ≡ cell ∷ [] → Missed drive cell number old new → KeepsIn drive w o entries new
   keeps-missed entries number lost is one missed = subst (λ (g : List Entry). KeepsIn drive w o g new) (sym is) (missed.keeps w o h e lost next one kept)
+
+  -- at every moment of the append a crash leaves the cells that stood there, or these and the entry's own
+  pub leaves-step : LeavesNext drive cell old new → LeavesEither drive w o h e old new
+  leaves-step leaves = leaves w o h e next kept

@@ -10,7 +10,7 @@ use Rattle.plain_list.specs.History.{world_after}
 use Rattle.plain_list.specs.State.{State, IsLegal}
 use Rattle.disk_trait.specs.Drive.{Drive}
 use Rattle.kept_log.specs.KeptView.{KeptView}
-use Rattle.kept_log.specs.Journal.{KeepsIn, RoseIn, cells_in}
+use Rattle.kept_log.specs.Journal.{KeepsIn, RoseIn, cells_in, LeavesEither}
 
 -- the cell was added where the answer is that of a change, and the history with the call is kept
 pub record AddsCall {D : Type 0} (drive : D → Drive) (op : Op) (answer : Answer) (old new : Option (KeptView D)) : Type 0 where
@@ -23,3 +23,9 @@ pub record MissesCall {D : Type 0} (drive : D → Drive) (op : Op) (answer : Ans
   pub rose : RoseIn drive old new
   pub keeps : (w : ℕ) (s : State) (h : List Entry) (session row : ℕ) → IsLegal w s (h ++ Call session row op ∷ [])
       → answer ≡ answer_of (world_after s.world h) op → KeepsIn drive w s h old → KeepsIn drive w s (h ++ Fail number (lost.Call session row op) ∷ []) new
+
+-- at every moment of it a crash leaves the cells of the history, or these and the call's own
+abbrev pub LeavesCall : {D : Type 0} → (D → Drive) → Op → Answer → Option (KeptView D) → Option (KeptView D) → Type 0
+LeavesCall drive op answer old new =
+    (w : ℕ) (s : State) (h : List Entry) (session row : ℕ) → IsLegal w s (h ++ Call session row op ∷ [])
+    → answer ≡ answer_of (world_after s.world h) op → KeepsIn drive w s h old → LeavesEither drive w s h (Call session row op) old new

@@ -4,6 +4,7 @@ pub mod Beside
 pub mod BookInside
 pub mod BookView
 pub mod Changes
+pub mod Crash
 pub mod Crowded
 pub mod CrowdedInside
 pub mod Crowds

@@ -3,7 +3,7 @@ ghost use Rattle.std.specs.Prelude.{◌≡◌, ◌<◌, ◌^◌, ◌∷◌, [], 
 ghost use Rattle.plain_list.specs.Answer.{is_change};
 ghost use Rattle.log_state.specs.Changes.{change_cells};
 ghost use Rattle.kept_log.specs.Journal.{cells_in, failed_in, IsSinceIn};
-ghost use Rattle.commit_book.specs.Appends.{AddsCall, MissesCall};
+ghost use Rattle.commit_book.specs.Appends.{AddsCall, MissesCall, LeavesCall};
 
 use cell_format::Cell;
 use disk_trait::LogDisk;
@@ -20,6 +20,7 @@ pub(crate) fn append_call<D: LogDisk>(
     requires room { is_change answer.now ≡ true → cells_in journal.old < 2 ^ 24 }
     ensures ok { OnOk result (AddsCall D.drive op.now answer.now journal.old journal.new) }
     ensures lost { IfErr result (λ e. MissesCall D.drive op.now answer.now e.cell journal.old journal.new) }
+    ensures any_moment { LeavesCall D.drive op.now answer.now journal.old journal.new }
     ensures since { IsSinceIn journal.old journal.new }
 {
     match change_cell(op) {

@@ -8,6 +8,8 @@ ghost use Rattle.recovery.specs.Found.{IsFound};
 ghost use Rattle.kept_log.specs.Kept.{IsOpened, found_state};
 ghost use Rattle.kept_log.specs.Journal.{failed_cell, cells_in, disk_in};
 ghost use Rattle.plain_list.specs.declared.entries.Lost.{Lost};
+ghost use Rattle.plain_list.specs.declared.entries.Entry.{Entry};
+ghost use Rattle.commit_book.specs.Crash.{LeavesCells};
 ghost use Rattle.commit_book.specs.IsBook.{IsBook, AreBooks};
 ghost use Rattle.commit_book.specs.Refusals.{IsRefusedBy, IsMemory, IsMemoryOrDisk, IsNoFault, LeavesRefused, call_refusal, update_refusal};
 ghost use Rattle.commit_book.specs.Answers.{IsUpdate, IsQuery, Notes, Replies};
@@ -173,6 +175,7 @@ impl<I: Index, D: LogDisk> Book<I, D> {
         ensures ok { IfOk result (λ d. Replies I.WIDTH self.old self.new session row op.now d.place d.answer d.full) }
         ensures refused { IsRefusedBy IsMemoryOrDisk (update_refusal self.old op.now) result }
         ensures err { IfErr result (LeavesRefused D.drive (Lost.Call session row op.now) self.old self.new) }
+        ensures any_moment { LeavesCells D.drive I.WIDTH (Entry.Call session row op.now) self.old self.new }
         ensures book { AreBooks I.leaves D.drive I.WIDTH self.old self.new }
     {
         self.keep();
@@ -230,6 +233,7 @@ impl<I: Index, D: LogDisk> Book<I, D> {
         requires { IsQuery op.now }
         ensures ok { IfOk result (λ s. Notes self.old self.new session row op.now s.place) }
         ensures index { IfOk result (λ s. Stands (I.leaves s.index) (world_after self.new.opening.world self.new.entries) (state_after I.WIDTH self.new.opening self.new.entries).leaves) }
+        ensures leaves { IfOk result (λ s. (I.leaves s.index ≡ I.leaves self.old.index) × (I.leaves self.new.index ≡ I.leaves self.old.index)) }
         ensures refused { IsRefusedBy IsMemory (call_refusal self.old.entries) result }
         ensures err { IfErr result (λ _. self.new ≡ self.old) }
         ensures book { AreBooks I.leaves D.drive I.WIDTH self.old self.new }

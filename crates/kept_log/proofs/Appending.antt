@@ -1,17 +1,20 @@
 -- What an append makes of each history that a log keeps.
-use Rattle.std.proofs.Common.{◌≡◌, ℕ, List, [], ◌∷◌, ◌++◌, length, Option, Some, None, refl, sym, ◌∙◌, ap, subst, arith, length-append}
+use Rattle.std.proofs.Common.{◌≡◌, ◌⊎◌, ℕ, List, [], ◌∷◌, ◌++◌, length, Option, Some, None, refl, sym, ◌∙◌, ap, subst, arith, append_assoc, length-append}
 use Rattle.cell_format.specs.declared.cell.Cell.{Cell}
 use Rattle.plain_list.specs.declared.entries.Entry.{Entry}
 use Rattle.plain_list.specs.declared.entries.Entry.TheVariants.{Fail}
+use Rattle.plain_list.specs.declared.entries.Lost.{Lost}
 use Rattle.plain_list.specs.State.{State}
 use Rattle.disk_trait.specs.Drive.{Drive}
 use Rattle.disk_trait.specs.Moments.{LeavesOnly}
 use Rattle.split_log.specs.LogText.{IsLog, HoldsEither}
 use Rattle.split_log.specs.Append.{Adds, Fails}
-use Rattle.log_state.specs.Changes.{cells_of}
+use Rattle.log_state.specs.Recovers.{Recovers}
+use Rattle.log_state.specs.Changes.{cells_of, lost_cells}
 use Rattle.kept_log.specs.KeptView.{KeptView}
 use Rattle.kept_log.specs.Kept.{StartsWith, KeepsSince, Keeps}
-use Rattle.kept_log.specs.Steps.{IsSince, Appended, AppendFailed, LeavesEither}
+use Rattle.kept_log.specs.Steps.{IsNext, IsSince}
+use Rattle.kept_log.specs.Journal.{RecoversWith}
 use Rattle.kept_log.proofs.StepCells.{cells-fail}
 use Rattle.kept_log.proofs.Adding.{cells_with, either-kept, since-added, since-failed}
 
@@ -36,39 +39,39 @@ module _ {D : Type 0} (drive : D → Drive) (cell : Cell) (old new : KeptView D)
       (subst (λ (d : D). KeepsSince w first s g (drive d) (drive new.disk) failed) (sym opened.start)
       (since first (subst (λ (d : D). StartsWith w first (drive d)) opened.start starts)))
 
-  pub leaves-either : LeavesEither drive cell old new
+  -- at each moment a crash leaves the cells that stood at the start, or these and the new one
+  pub leaves-either : (w : ℕ) (s : State) (h : List Entry) (e : Entry) (first : List Cell) → IsNext w s h e cell → Keeps drive w s h old
+      → StartsWith w first (drive old.start) → LeavesOnly (drive old.disk) (drive new.disk) (RecoversWith w first s.world h e)
   leaves-either w s h e first next kept starts =
-      either-kept w s h e cell next first (drive old.start) (drive old.disk) (drive new.disk) starts.recovers.legal
-      (still w s h kept first starts) (during w s h kept first starts)
+      let same : (first ++ cells_of s.world h) ++ cell ∷ [] ≡ first ++ cells_of s.world (h ++ e ∷ []) =
+      append_assoc first (cells_of s.world h) (cell ∷ []) ∙ ap (λ l. first ++ l) (sym (cells_with w s h e cell next)) in
+      subst (λ (l : List Cell). LeavesOnly (drive old.disk) (drive new.disk) (λ c. Recovers w (first ++ cells_of s.world h) c ⊎ Recovers w l c)) same
+      (either-kept w s h e cell next first (drive old.start) (drive old.disk) (drive new.disk) starts.recovers.legal
+      (still w s h kept first starts) (during w s h kept first starts))
 
-  pub appended : Adds cell old.cells new.cells new.failed (drive old.disk) (drive new.disk) → Appended drive cell old new
-  appended adds = record {
-    count = adds.count;
-    whole = adds.whole;
-    keeps = λ w s h e next kept. record {
-      count = omega (arith, adds.count, kept.count, opened.first, ap length (cells_with w s h e cell next), length-append (cells_of s.world h) (cell ∷ []));
-      since = since-same w s (h ++ e ∷ []) None adds.whole (λ first starts.
-          since-added w s h e cell next first (drive old.start) (drive old.disk) (drive new.disk) starts.recovers.legal
-          (still w s h kept first starts) (during w s h kept first starts)
-          (adds.log w (first ++ cells_of s.world h) (log_of w s h kept first starts)));
-    };
+  -- the history with any entry that the cell is of is kept
+  pub keeps-next : Adds cell old.cells new.cells new.failed (drive old.disk) (drive new.disk)
+      → (w : ℕ) (s : State) (h : List Entry) (e : Entry) → IsNext w s h e cell → Keeps drive w s h old → Keeps drive w s (h ++ e ∷ []) new
+  keeps-next adds w s h e next kept = record {
+    count = omega (arith, adds.count, kept.count, opened.first, ap length (cells_with w s h e cell next), length-append (cells_of s.world h) (cell ∷ []));
+    since = since-same w s (h ++ e ∷ []) None adds.whole (λ first starts.
+        since-added w s h e cell next first (drive old.start) (drive old.disk) (drive new.disk) starts.recovers.legal
+        (still w s h kept first starts) (during w s h kept first starts)
+        (adds.log w (first ++ cells_of s.world h) (log_of w s h kept first starts)));
   }
 
-  pub append-failed : (number : ℕ) → Fails cell number old.cells new.cells new.failed (drive old.disk) (drive new.disk) → AppendFailed drive cell number old new
-  append-failed number fails =
-      let closed : new.failed ≡ Some number = fails.kept ∙ ap Some (sym fails.named) in
-      record {
-        named = fails.named;
-        closed = closed;
-        count = fails.count;
-        rose = fails.rose;
-        keeps = λ w s h e lost next one kept.
-            let same : cells_of s.world (h ++ Fail number lost ∷ []) ≡ cells_of s.world h = cells-fail s.world h number lost in
-            record {
-              count = omega (arith, fails.count, kept.count, opened.first, ap length same);
-              since = since-same w s (h ++ Fail number lost ∷ []) (Some number) closed (λ first starts.
-                  since-failed w s h e cell next first (drive old.start) (drive old.disk) (drive new.disk) starts.recovers.legal
-                  (still w s h kept first starts) (during w s h kept first starts)
-                  number lost one (fails.either w (first ++ cells_of s.world h) (log_of w s h kept first starts)));
-            };
-      }
+  -- the log is closed at the cell
+  pub closed-at : (number : ℕ) → Fails cell number old.cells new.cells new.failed (drive old.disk) (drive new.disk) → new.failed ≡ Some number
+  closed-at number fails = fails.kept ∙ ap Some (sym fails.named)
+
+  -- and the history that ends with the failed append is kept
+  pub keeps-failed : (number : ℕ) → Fails cell number old.cells new.cells new.failed (drive old.disk) (drive new.disk)
+      → (w : ℕ) (s : State) (h : List Entry) (e : Entry) (lost : Lost) → IsNext w s h e cell → lost_cells lost ≡ cell ∷ []
+      → Keeps drive w s h old → Keeps drive w s (h ++ Fail number lost ∷ []) new
+  keeps-failed number fails w s h e lost next one kept = record {
+    count = omega (arith, fails.count, kept.count, opened.first, ap length (cells-fail s.world h number lost));
+    since = since-same w s (h ++ Fail number lost ∷ []) (Some number) (closed-at number fails) (λ first starts.
+        since-failed w s h e cell next first (drive old.start) (drive old.disk) (drive new.disk) starts.recovers.legal
+        (still w s h kept first starts) (during w s h kept first starts)
+        number lost one (fails.either w (first ++ cells_of s.world h) (log_of w s h kept first starts)));
+  }

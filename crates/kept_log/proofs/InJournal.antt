@@ -1,6 +1,7 @@
 -- What an append makes of each history that a journal keeps, and the cell that a history's failed append names.
-use Rattle.std.proofs.Common.{◌≡◌, ℕ, ◌^◌, ◌<◌, ◌≤◌, true, false, List, [], ◌∷◌, ◌++◌, Option, Some, None, is_some, refl, sym, ◌∙◌, ap, subst, arith}
+use Rattle.std.proofs.Common.{◌≡◌, ◌⊎◌, inl, inr, ℕ, ◌^◌, ◌<◌, ◌≤◌, true, false, List, [], ◌∷◌, ◌++◌, Option, Some, None, is_some, refl, sym, ◌∙◌, ap, subst, arith}
 use Rattle.std.proofs.lemmas.Bool.{true≢false}
+use Rattle.std.proofs.lemmas.List.{append-nil}
 use Rattle.causes.specs.Causes.{Rose}
 use Rattle.zorder.specs.declared.points.Placed.{Placed}
 use Rattle.cell_format.specs.declared.cell.Cell.{Cell}
@@ -12,14 +13,20 @@ use Rattle.plain_list.specs.Answer.{answer_of, is_change}
 use Rattle.plain_list.specs.History.{world_after}
 use Rattle.plain_list.specs.State.{State, is_fail, IsLegal}
 use Rattle.plain_list.proofs.Histories.{has_failed}
-use Rattle.disk_trait.specs.Drive.{Drive}
+use Rattle.disk_trait.specs.Drive.{Drive, KeepsLaws}
+use Rattle.disk_trait.specs.Moments.{LeavesOnly}
+use Rattle.split_log.specs.LogText.{IsLog, HoldsEither}
+use Rattle.split_log.specs.Append.{Adds, Fails}
+use Rattle.log_state.specs.Recovers.{Recovers}
 use Rattle.log_state.specs.Changes.{cells_of, failed_cells}
 use Rattle.kept_log.specs.KeptView.{KeptView}
-use Rattle.kept_log.specs.Kept.{Keeps}
-use Rattle.kept_log.specs.Steps.{IsSince, Appended, AppendFailed}
-use Rattle.kept_log.specs.Journal.{failed_cell, KeepsIn, Added, Missed}
+use Rattle.kept_log.specs.Kept.{StartsWith, IsOpened}
+use Rattle.kept_log.specs.Steps.{IsSince}
+use Rattle.kept_log.specs.Journal.{failed_cell, KeepsLog, KeepsIn, Added, Missed, RecoversWith, LeavesEither, LeavesNext}
 use Rattle.kept_log.proofs.StepCells.{call-no_cells}
+use Rattle.kept_log.proofs.Starting.{kept-opened}
 use Rattle.kept_log.proofs.Adding.{sound-push, kept-quiet}
+use Rattle.kept_log.proofs.Appending.{leaves-either, keeps-next, closed-at, keeps-failed}
 
 -- where no append has failed, none names a cell
 pub failed_cell-none : (h : List Entry) → has_failed h ≡ false → failed_cell h ≡ None
@@ -81,6 +88,10 @@ unnamed : {A : Type 0} (cell : Option ℕ) → cell ≡ None → is_some cell �
 unnamed None none told = absurd (true≢false (sym told))
 unnamed (Some number) none told = absurd (cc none)
 
+-- nor has it a number
+no_number : {A : Type 0} (cell : Option ℕ) (n : ℕ) → cell ≡ None → cell ≡ Some n → A
+no_number cell n none some = absurd (cc (none, some))
+
 -- a count that rose since later has risen
 rose_since : (a b c : ℕ) → a ≤ b → Rose b c → Rose a c
 rose_since a b c before rose = omega (arith, before, rose)
@@ -100,6 +111,7 @@ in-quiet drive w s h e (Some log) legal none going kept =
     record {
       keeps = kept-quiet drive w s h e log legal none going kept.keeps;
       failed = kept.failed ∙ failed_cell-none h sound ∙ sym unfailed;
+      named = λ n. no_number (failed_cell (h ++ e ∷ [])) n unfailed;
       most = kept.most;
       later = kept.later;
       rose = unnamed (failed_cell (h ++ e ∷ [])) unfailed;
@@ -113,13 +125,14 @@ in-call drive w s h session row op log legal none =
     in-quiet drive w s h (Call session row op) log legal (call-no_cells (world_after s.world h) session row op none) refl
 
 -- a log that was just opened keeps the empty history
-pub in-opened : {D : Type 0} (drive : D → Drive) (w : ℕ) (s : State) (opened log : KeptView D) → log ≡ opened → Keeps drive w s [] log
-    → log.cells ≤ 2 ^ 24 → opened.failed ≡ None → (drive opened.start).faults ≤ (drive opened.disk).faults → KeepsIn drive w s [] (Some log)
-in-opened {D} drive w s opened log is keeps most sound later = record {
-  keeps = keeps;
-  failed = ap (λ (v : KeptView D). v.failed) is ∙ sound;
+pub in-opened : {D : Type 0} (drive : D → Drive) (w : ℕ) (s : State) (log : KeptView D) → log.cells ≡ log.first → IsOpened w s (drive log.start) (drive log.disk)
+    → log.cells ≤ 2 ^ 24 → log.failed ≡ None → (drive log.start).faults ≤ (drive log.disk).faults → KeepsIn drive w s [] (Some log)
+in-opened drive w s log first opened most sound later = record {
+  keeps = kept-opened drive w s log first opened;
+  failed = sound;
+  named = λ n. no_number None n refl;
   most = most;
-  later = subst (λ (v : KeptView D). (drive v.start).faults ≤ (drive v.disk).faults) (sym is) later;
+  later = later;
   rose = unnamed None refl;
 }
 
@@ -130,39 +143,66 @@ added-none drive cell = record {
   keeps = λ w s h e next kept. failed_cell-push h e (has_failed-none h kept) ∙ with_cell (world_after s.world h) e cell next.cells;
 }
 
-module _ {D : Type 0} (drive : D → Drive) (cell : Cell) (old new : KeptView D) (room : old.cells < 2 ^ 24) (opened : IsSince old new)
-    (later : (drive old.disk).faults ≤ (drive new.disk).faults) where
+module _ {D : Type 0} (drive : D → Drive) (cell : Cell) (old new : KeptView D) (sound_log : old.failed ≡ None) (room : old.cells < 2 ^ 24) (opened : IsSince old new)
+    (later : (drive old.disk).faults ≤ (drive new.disk).faults)
+    (any_moment : (w : ℕ) (cells : List Cell) → IsLog w cells (drive old.disk) → LeavesOnly (drive old.disk) (drive new.disk) (HoldsEither w cells cell)) where
   still_later : (drive old.start).faults ≤ (drive old.disk).faults → (drive new.start).faults ≤ (drive new.disk).faults
   still_later was = omega (arith, was, later, ap (λ (d : D). (drive d).faults) opened.start)
 
-  pub added : Appended drive cell old new → Added drive cell (Some old) (Some new)
-  added appended = record {
-    count = omega (arith, appended.count);
+  pub leaves-next : LeavesNext drive cell (Some old) (Some new)
+  leaves-next w s h e next kept first = leaves-either drive cell old new sound_log opened any_moment w s h e first next kept.keeps
+
+  pub added : Adds cell old.cells new.cells new.failed (drive old.disk) (drive new.disk) → Added drive cell (Some old) (Some new)
+  added adds = record {
+    count = omega (arith, adds.count);
     keeps = λ w s h e next kept.
         let sound : has_failed h ≡ false = sound-push w s h e next.legal in
         let unfailed : failed_cell (h ++ e ∷ []) ≡ None = failed_cell-push h e sound ∙ with_cell (world_after s.world h) e cell next.cells in
         record {
-          keeps = appended.keeps w s h e next kept.keeps;
-          failed = appended.whole ∙ sym unfailed;
-          most = omega (arith, room, appended.count);
+          keeps = keeps-next drive cell old new sound_log opened any_moment adds w s h e next kept.keeps;
+          failed = adds.whole ∙ sym unfailed;
+          named = λ n. no_number (failed_cell (h ++ e ∷ [])) n unfailed;
+          most = omega (arith, room, adds.count);
           later = still_later kept.later;
           rose = unnamed (failed_cell (h ++ e ∷ [])) unfailed;
         };
   }
 
-  pub missed : (number : ℕ) → AppendFailed drive cell number old new → Missed drive cell number (Some old) (Some new)
-  missed number failed = record {
-    named = failed.named;
-    count = failed.count;
-    rose = failed.rose;
+  pub missed : (number : ℕ) → Fails cell number old.cells new.cells new.failed (drive old.disk) (drive new.disk) → Missed drive cell number (Some old) (Some new)
+  missed number fails = record {
+    named = fails.named;
+    count = fails.count;
+    rose = fails.rose;
     keeps = λ w s h e lost next one kept.
         let last : failed_cell (h ++ Fail number lost ∷ []) ≡ Some number = failed_cell-last h number lost (sound-push w s h e next.legal) in
         record {
-          keeps = failed.keeps w s h e lost next one kept.keeps;
-          failed = failed.closed ∙ sym last;
-          most = omega (arith, room, failed.count);
+          keeps = keeps-failed drive cell old new sound_log opened any_moment number fails w s h e lost next one kept.keeps;
+          failed = closed-at drive cell old new sound_log opened any_moment number fails ∙ sym last;
+          named = λ n is. last_named n number (sym is ∙ last) ∙ fails.named ∙ sym fails.count;
+          most = omega (arith, room, fails.count);
           later = still_later kept.later;
           rose = λ told. rose_since (drive new.start).faults (drive old.disk).faults (drive new.disk).faults
-              (omega (arith, kept.later, ap (λ (d : D). (drive d).faults) opened.start)) failed.rose;
+              (omega (arith, kept.later, ap (λ (d : D). (drive d).faults) opened.start)) fails.rose;
         };
   }
+    where
+      last_named : (n number : ℕ) → Some n ≡ Some number → n ≡ number
+      last_named n number same = cc same
+
+-- where nothing is written, a crash leaves the cells that stand there
+pub leaves-quiet : {D : Type 0} (drive : D → Drive) (w : ℕ) (s : State) (h : List Entry) (e : Entry) (log : Option (KeptView D)) → ((d : D) → KeepsLaws (drive d))
+    → KeepsIn drive w s h log → failed_cell h ≡ None → LeavesEither drive w s h e log log
+leaves-quiet drive w s h e None laws kept none = tt
+leaves-quiet drive w s h e (Some log) laws kept none = λ first starts. record {
+  later = omega arith;
+  each = λ c left. inl (stands first starts c ((laws log.disk).only_now c left));
+  before = λ t c early left. inl left;
+}
+  where
+    stands : (first : List Cell) → StartsWith w first (drive log.start) → (c : List ℕ) → (drive log.disk).images c → Recovers w (first ++ cells_of s.world h) c
+    stands first starts c left = placed c ((kept.keeps.since first starts).history.at_end c left)
+      where
+        placed : (c : List ℕ) → Recovers w (first ++ cells_of s.world h) c ⊎ Recovers w (first ++ (cells_of s.world h ++ failed_cells h)) c → Recovers w (first ++ cells_of s.world h) c
+        placed c (inl all) = all
+        placed c (inr more) =
+            subst (λ (l : List Cell). Recovers w (first ++ l) c) (ap (λ (l : List Cell). cells_of s.world h ++ l) (failed_cells-none h none) ∙ append-nil (cells_of s.world h)) more

@@ -1,15 +1,18 @@
 -- What the log of a store that may have none keeps.
-use Rattle.std.specs.Prelude.{◌≡◌, ℕ, ◌+◌, ◌^◌, ◌≤◌, true, List, [], ◌∷◌, ◌++◌, Option, Some, None, is_some, ⊤}
+use Rattle.std.specs.Prelude.{◌≡◌, ◌⊎◌, ℕ, ◌+◌, ◌^◌, ◌≤◌, true, List, [], ◌∷◌, ◌++◌, Option, Some, None, is_some, ⊤}
 use Rattle.causes.specs.Causes.{Rose}
 use Rattle.cell_format.specs.declared.cell.Cell.{Cell}
 use Rattle.plain_list.specs.declared.entries.Entry.{Entry}
 use Rattle.plain_list.specs.declared.entries.Entry.TheVariants.{Fail, Call, Begin, Install, Abandon}
 use Rattle.plain_list.specs.declared.entries.Lost.{Lost}
+use Rattle.zorder.specs.declared.points.Placed.{Placed}
 use Rattle.plain_list.specs.State.{State}
 use Rattle.disk_trait.specs.Drive.{Drive}
-use Rattle.log_state.specs.Changes.{lost_cells}
+use Rattle.disk_trait.specs.Moments.{LeavesOnly}
+use Rattle.log_state.specs.Recovers.{Recovers}
+use Rattle.log_state.specs.Changes.{cells_of, lost_cells}
 use Rattle.kept_log.specs.KeptView.{KeptView}
-use Rattle.kept_log.specs.Kept.{Keeps}
+use Rattle.kept_log.specs.Kept.{StartsWith, Keeps}
 use Rattle.kept_log.specs.Steps.{IsNext, IsSince}
 
 -- the cell that a history's failed append names
@@ -36,10 +39,12 @@ abbrev pub disk_in : {D : Type 0} → Option (KeptView D) → Option D
 disk_in None = None
 disk_in (Some log) = Some log.disk
 
--- a log keeps the history; it failed where the history says so, and then its drive has failed since the opening
+-- A log keeps the history. It failed where the history says so: the failed append names the log's number of cells, and the drive has failed
+-- since the opening.
 pub record KeepsLog {D : Type 0} (drive : D → Drive) (w : ℕ) (s : State) (h : List Entry) (log : KeptView D) : Type 0 where
   pub keeps : Keeps drive w s h log
   pub failed : log.failed ≡ failed_cell h
+  pub named : (n : ℕ) → failed_cell h ≡ Some n → n ≡ log.cells
   pub most : log.cells ≤ 2 ^ 24
   pub later : (drive log.start).faults ≤ (drive log.disk).faults
   pub rose : is_some (failed_cell h) ≡ true → Rose (drive log.start).faults (drive log.disk).faults
@@ -74,3 +79,18 @@ pub record Missed {D : Type 0} (drive : D → Drive) (cell : Cell) (number : ℕ
   pub rose : RoseIn drive old new
   pub keeps : (w : ℕ) (s : State) (h : List Entry) (e : Entry) (lost : Lost) → IsNext w s h e cell → lost_cells lost ≡ cell ∷ []
       → KeepsIn drive w s h old → KeepsIn drive w s (h ++ Fail number lost ∷ []) new
+
+-- an image recovers to the cells of a history behind the first ones, or to these and those of one entry more
+abbrev pub RecoversWith : ℕ → List Cell → List Placed → List Entry → Entry → List ℕ → Type 0
+RecoversWith w first world h e image = Recovers w (first ++ cells_of world h) image ⊎ Recovers w (first ++ cells_of world (h ++ e ∷ [])) image
+
+-- At every moment of a stretch a crash leaves the cells of the history, or these and those of the entry, where it is known what stood first.
+abbrev pub LeavesEither : {D : Type 0} → (D → Drive) → ℕ → State → List Entry → Entry → Option (KeptView D) → Option (KeptView D) → Type 0
+LeavesEither drive w s h e (Some old) (Some new) =
+    (first : List Cell) → StartsWith w first (drive old.start) → LeavesOnly (drive old.disk) (drive new.disk) (RecoversWith w first s.world h e)
+LeavesEither drive w s h e _ _ = ⊤
+
+-- it does so in an append, for each history that is kept and each entry that the cell is of
+abbrev pub LeavesNext : {D : Type 0} → (D → Drive) → Cell → Option (KeptView D) → Option (KeptView D) → Type 0
+LeavesNext drive cell old new =
+    (w : ℕ) (s : State) (h : List Entry) (e : Entry) → IsNext w s h e cell → KeepsIn drive w s h old → LeavesEither drive w s h e old new

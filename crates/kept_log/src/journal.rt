@@ -1,21 +1,23 @@
-//! The log of a store that may have none.
+//! The log of a store that may have none, and what it has kept since it was opened.
 ghost use Rattle.std.specs.Prelude.{◌≡◌, ◌≤◌, ◌<◌, ◌^◌, ◌==◌, ℕ, [], Some, None, OnOk, IfErr};
 ghost use Rattle.plain_list.specs.State.{State};
 ghost use Rattle.kept_log.specs.Kept.{IsOpened};
-ghost use Rattle.kept_log.specs.Steps.{Appended, AppendFailed, IsSince};
-ghost use Rattle.kept_log.specs.Journal.{cells_in, failed_in, disk_in, KeepsIn, IsSinceIn, Added, Missed};
+ghost use Rattle.kept_log.specs.Steps.{IsSince};
+ghost use Rattle.kept_log.specs.Journal.{cells_in, failed_in, disk_in, KeepsIn, IsSinceIn, Added, Missed, LeavesNext};
 
-use crate::log::{KeptLog, MOST_CELLS};
 use cell_format::Cell;
 use disk_trait::LogDisk;
 use split_log::{AppendFault, SplitLog};
 use std::marker::Model;
 use std::snapshot::Snapshot;
 
+/// The most cells that a log may have.
+const MOST_CELLS: u64 = 1 << 24;
+
 /// The log of a store that may have none, and then keeps nothing.
 #[derive(Drop)]
 pub struct Journal<D: LogDisk> {
-    log: Option<KeptLog<D>>,
+    log: Option<Kept<D>>,
 }
 
 impl<D: LogDisk> Model for Journal<D> {
@@ -25,6 +27,23 @@ impl<D: LogDisk> Model for Journal<D> {
     ghost Value = { Option (KeptView D) };
 
     ghost view = { λ j. j.log };
+}
+
+// A log that was opened.
+#[derive(Drop)]
+struct Kept<D: LogDisk> {
+    log: SplitLog<D>,
+    // The drive at the opening, and how many cells there were then: for contracts alone.
+    start: Snapshot<D>,
+    first: Snapshot<u64>,
+}
+
+impl<D: LogDisk> Model for Kept<D> {
+    ghost use Rattle.kept_log.specs.KeptView.{KeptView};
+
+    ghost Value = { KeptView D };
+
+    ghost view = { λ k. record { disk = k.log.disk; cells = k.log.cells; failed = k.log.failed; start = k.start.value; first = k.first.value } };
 }
 
 /// A device call failed while this cell was added.
@@ -47,8 +66,9 @@ impl<D: LogDisk> Journal<D> {
         ensures keeps { (w : ℕ) (s : State) → IsOpened w s (D.drive start.value) (D.drive log.disk) → log.failed ≡ None
             → (D.drive start.value).faults ≤ (D.drive log.disk).faults → KeepsIn D.drive w s [] result }
     {
+        let first = Snapshot::of(&log.cells());
         Journal {
-            log: Some(KeptLog::new(log, start)),
+            log: Some(Kept { log, start, first }),
         }
     }
 
@@ -58,7 +78,7 @@ impl<D: LogDisk> Journal<D> {
         ensures most { cells_in self.now ≤ 2 ^ 24 }
     {
         match &self.log {
-            Some(log) => log.cells(),
+            Some(kept) => kept.log.cells(),
             None => 0,
         }
     }
@@ -68,7 +88,7 @@ impl<D: LogDisk> Journal<D> {
         ensures { result ≡ failed_in self.now }
     {
         match &self.log {
-            Some(log) => log.failed(),
+            Some(kept) => kept.log.failed(),
             None => None,
         }
     }
@@ -87,12 +107,13 @@ impl<D: LogDisk> Journal<D> {
 
         ensures ok { OnOk result (Added D.drive cell.now self.old self.new) }
         ensures lost { IfErr result (λ e. Missed D.drive cell.now e.cell self.old self.new) }
+        ensures any_moment { LeavesNext D.drive cell.now self.old self.new }
         ensures since { IsSinceIn self.old self.new }
     {
-        let Some(log) = &mut self.log else {
+        let Some(kept) = &mut self.log else {
             return Ok(());
         };
-        append_to(log, cell)
+        kept.append(cell)
     }
 
     /// The drive, whatever stands on it.
@@ -100,25 +121,26 @@ impl<D: LogDisk> Journal<D> {
         ensures { result ≡ disk_in self }
     {
         match self.log {
-            Some(log) => Some(log.give_back()),
+            Some(kept) => Some(kept.log.give_back()),
             None => None,
         }
     }
 }
 
-/// Adds a cell to a log that has room for it.
-fn append_to<D: LogDisk>(log: &mut KeptLog<D>, cell: &Cell) -> Result<(), AppendLost>
-    requires open { log.old.failed ≡ None }
-    requires room { log.old.cells < 2 ^ 24 }
+impl<D: LogDisk> Kept<D> {
+    fn append(&mut self, cell: &Cell) -> Result<(), AppendLost>
+        requires open { self.old.failed ≡ None }
+        requires room { self.old.cells < 2 ^ 24 }
 
-    ensures ok { OnOk result (Appended D.drive cell.now log.old log.new) }
-    ensures lost { IfErr result (λ e. AppendFailed D.drive cell.now e.cell log.old log.new) }
-    ensures since { IsSince log.old log.new }
-    ensures later { (D.drive log.old.disk).faults ≤ (D.drive log.new.disk).faults }
-{
-    match log.append(cell) {
-        Ok(()) => Ok(()),
-        Err(AppendFault::Disk { cell: number }) => Err(AppendLost { cell: number }),
-        Err(AppendFault::LogFull) => unreachable!(),
+        ensures ok { OnOk result (Added D.drive cell.now (Some self.old) (Some self.new)) }
+        ensures lost { IfErr result (λ e. Missed D.drive cell.now e.cell (Some self.old) (Some self.new)) }
+        ensures any_moment { LeavesNext D.drive cell.now (Some self.old) (Some self.new) }
+        ensures since { IsSince self.old self.new }
+    {
+        match self.log.append(cell) {
+            Ok(()) => Ok(()),
+            Err(AppendFault::Disk { cell: number }) => Err(AppendLost { cell: number }),
+            Err(AppendFault::LogFull) => unreachable!(),
+        }
     }
 }

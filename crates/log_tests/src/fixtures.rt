@@ -1,9 +1,10 @@
 //! The logs that the tests begin with.
-ghost use Rattle.std.specs.Prelude.{◌≡◌, None, IfOk};
+ghost use Rattle.std.specs.Prelude.{◌≡◌, ◌<◌, ◌^◌, None, IfOk};
+ghost use Rattle.kept_log.specs.Journal.{failed_in, cells_in};
 
 use cell_format::{Cell, encode, header};
 use disk_mem::{Fail, MemDisk};
-use kept_log::KeptLog;
+use kept_log::Journal;
 use recovery::open;
 use split_log::SplitLog;
 use std::alloc::{AllocError, Global};
@@ -46,12 +47,12 @@ fn log_bytes(alloc: Global, cells: &[Cell], tail: &[u8]) -> Result<Vec<u8>, Allo
 }
 
 /// A new log of width 1, as it was opened.
-pub fn opened_log(alloc: Global) -> Result<KeptLog<MemDisk>, Memory>
-    ensures { IfOk result (λ log. log.failed ≡ None) }
+pub fn opened_log(alloc: Global) -> Result<Journal<MemDisk>, Memory>
+    ensures { IfOk result (λ log. (failed_in log ≡ None) × (cells_in log < 2 ^ 24)) }
 {
     let disk = log_of(alloc, &[], &[0])?;
     match open(alloc, disk, 1, 16) {
-        Ok(opened) => Ok(KeptLog::new(opened.log, opened.start)),
+        Ok(opened) => Ok(Journal::opened(opened.log, opened.start)),
         Err(_) => Err(Memory),
     }
 }

@@ -31,9 +31,12 @@ fn an_opened_log_keeps_the_worked_cell(rt: HostRuntime) -> Result<(), Fail> {
     let mut log = opened_log(rt.alloc())?;
     assert_eq!(rt; log.append(&PUT_7), Ok(()));
     assert_eq!(rt; log.cells(), 1);
-    assert_eq!(rt; log.failed(), None);
+    assert_eq!(rt; log.closed(), None);
     assert!(rt; !log.is_full());
-    assert_eq!(rt; log.give_back().bytes().len(), 49);
+    let Some(disk) = log.give_back() else {
+        panic!(rt; "there is no drive");
+    };
+    assert_eq!(rt; disk.bytes().len(), 49);
     Ok(())
 }
 

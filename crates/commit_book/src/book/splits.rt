@@ -2,6 +2,8 @@
 ghost use Rattle.std.specs.Prelude.{◌≡◌, ◌+◌, length, IfOk, IfErr, OnOk};
 ghost use Rattle.plain_list.specs.State.{state_after};
 ghost use Rattle.plain_list.specs.declared.entries.Lost.{Lost};
+ghost use Rattle.plain_list.specs.declared.entries.Entry.{Entry};
+ghost use Rattle.commit_book.specs.Crash.{LeavesCells};
 ghost use Rattle.commit_book.specs.IsBook.{AreBooks};
 ghost use Rattle.commit_book.specs.Refusals.{IsRefusedBy, IsDisk, IsMemoryOrDisk, IsNoFault, LeavesRefused, begin_refusal, room_refusal, leaf_refusal, end_refusal, has_base, install_refusal, abandon_refusal};
 ghost use Rattle.kept_log.specs.Journal.{cells_in};
@@ -24,6 +26,7 @@ impl<I: Index, D: LogDisk> Book<I, D> {
         ensures ticket { IfOk result (λ t. CanPrepare I.WIDTH t) }
         ensures refused { IsRefusedBy IsMemoryOrDisk (begin_refusal I.WIDTH self.old name.now) result }
         ensures err { IfErr result (LeavesRefused D.drive (Lost.Begin ((state_after I.WIDTH self.old.opening self.old.entries).begun + 1) name.now) self.old self.new) }
+        ensures any_moment { LeavesCells D.drive I.WIDTH (Entry.Begin ((state_after I.WIDTH self.old.opening self.old.entries).begun + 1) name.now) self.old self.new }
         ensures book { AreBooks I.leaves D.drive I.WIDTH self.old self.new }
     {
         self.keep();
@@ -99,6 +102,7 @@ impl<I: Index, D: LogDisk> Book<I, D> {
         ensures ok { OnOk result (Installs I.leaves I.WIDTH self.old self.new prepared.now.number prepared.now.name) }
         ensures refused { IsRefusedBy IsMemoryOrDisk (install_refusal I.WIDTH I.leaves self.old prepared.now.number prepared.now.name prepared.now.base) result }
         ensures err { IfErr result (LeavesRefused D.drive (Lost.Install prepared.now.number) self.old self.new) }
+        ensures any_moment { LeavesCells D.drive I.WIDTH (Entry.Install prepared.now.number) self.old self.new }
         ensures book { AreBooks I.leaves D.drive I.WIDTH self.old self.new }
     {
         self.keep();
@@ -161,6 +165,7 @@ impl<I: Index, D: LogDisk> Book<I, D> {
         ensures ok { OnOk result (Abandons self.old self.new number) }
         ensures refused { IsRefusedBy IsDisk (abandon_refusal I.WIDTH self.old number) result }
         ensures err { IfErr result (LeavesRefused D.drive (Lost.Abandon number) self.old self.new) }
+        ensures any_moment { LeavesCells D.drive I.WIDTH (Entry.Abandon number) self.old self.new }
         ensures book { AreBooks I.leaves D.drive I.WIDTH self.old self.new }
     {
         self.keep();

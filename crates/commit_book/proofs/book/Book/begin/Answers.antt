@@ -6,7 +6,8 @@ use Rattle.cell_format.specs.declared.cell.Cell.TheVariants as cell
 use Rattle.plain_list.specs.State.{is_leaf, state_after}
 use Rattle.plain_list.specs.declared.entries.Entry.TheVariants.{Fail, Begin}
 use Rattle.plain_list.specs.declared.entries.Lost.TheVariants as lost
-use Rattle.kept_log.specs.Journal.{cells_in}
+use Rattle.kept_log.specs.Journal.{cells_in, LeavesEither}
+use Rattle.kept_log.proofs.InJournal.{leaves-quiet}
 use Rattle.commit_book.specs.BookInside.{book_of}
 use Rattle.commit_book.specs.Divisions.{Folds}
 use Rattle.commit_book.specs.Events.{Events}
@@ -15,7 +16,7 @@ use Rattle.commit_book.specs.TableView.{TableView}
 use Rattle.commit_book.proofs.BookStates.{inside-begin, inside-fail}
 use Rattle.commit_book.proofs.KeptLemmas.{folded-under}
 use Rattle.commit_book.proofs.RefusalLemmas.{MayBegin, may_begin, passed, is_leaf-names_of}
-use Rattle.commit_book.proofs.SplitCells.{begin_may, keeps-added, keeps-missed}
+use Rattle.commit_book.proofs.SplitCells.{begin_may, keeps-added, keeps-missed, leaves-step}
 use Rattle.commit_book.proofs.SplitHistories.{open-le, begun-le}
 use Rattle.commit_book.proofs.book.Book.begin.Goals as goal
 
@@ -95,3 +96,39 @@ returns-clause-ticket g c =
     let may : MayBegin w (state_after w b.opening b.entries) b.entries (cells_in b.log) name = may_begin w b name (passed _ _ (rw (← c.self.view_is) at c.in_ok-check_begin.ensures)) in
     let under = folded-under name (g.I.Index.leaves c.self.inside.table.index) _ _ (g.met.I.Index.are_leaves c.self.inside.table.index) c.in-Ok.ensures.folds in
     record { short = may.short; under = rw c.fold-bucket.ensures.bucket under }
+
+pub returns-in_err-check_begin-clause-any_moment : goal.returns-in_err-check_begin-clause-any_moment
+returns-in_err-check_begin-clause-any_moment g c =
+    rw (← c.self.view_is)
+    (leaves-quiet g.D.LogDisk.drive g.I.Index.WIDTH c.self.inside.opening c.self.inside.history.entries _ c.self.inside.journal g.met.D.LogDisk.keeps_laws c.self.invariant.on_log)
+
+pub returns-in_default-clause-any_moment : goal.returns-in_default-clause-any_moment
+returns-in_default-clause-any_moment g c =
+    rw (← c.self.view_is)
+    (leaves-quiet g.D.LogDisk.drive g.I.Index.WIDTH c.self.inside.opening c.self.inside.history.entries _ c.self.inside.journal g.met.D.LogDisk.keeps_laws c.self.invariant.on_log)
+
+pub returns-in_default-reserve-clause-any_moment : goal.returns-in_default-reserve-clause-any_moment
+returns-in_default-reserve-clause-any_moment g c =
+    rw (← c.self.view_is)
+    (leaves-quiet g.D.LogDisk.drive g.I.Index.WIDTH c.self.inside.opening c.self.inside.history.entries _ c.self.inside.journal g.met.D.LogDisk.keeps_laws c.self.invariant.on_log)
+
+pub returns-in_default-reserve-2-clause-any_moment : goal.returns-in_default-reserve-2-clause-any_moment
+returns-in_default-reserve-2-clause-any_moment g c =
+    rw (← c.self.view_is)
+    (leaves-quiet g.D.LogDisk.drive g.I.Index.WIDTH c.self.inside.opening c.self.inside.history.entries _ c.self.inside.journal g.met.D.LogDisk.keeps_laws c.self.invariant.on_log)
+
+pub returns-in-Err-clause-any_moment : goal.returns-in-Err-clause-any_moment
+returns-in-Err-clause-any_moment g c =
+    let w = g.I.Index.WIDTH in
+    let b = book_of c.self.inside in
+    let o = c.self.inside.opening in
+    let h = c.self.inside.history.entries in
+    let s = state_after w o h in
+    let name = c.args.name.now in
+    let may : MayBegin w s h (cells_in b.log) name = may_begin w b name (passed _ _ (rw (← c.self.view_is) at c.in_ok-check_begin.ensures)) in
+    let number = c.next_number-number.result in
+    let next : number ≡ s.begun + 1 = c.next_number-number.ensures ∙ ap (λ n. n + 1) (c.in-Ok-reserve.ensures.begun ∙ c.self.invariant.begun) in
+    rw (← c.self.view_is) (λ none.
+    subst (λ n. LeavesEither g.D.LogDisk.drive w o h (Begin n name) c.self.inside.journal c.append.new.self) next
+    (leaves-step g.D.LogDisk.drive w o h _ _ c.self.invariant.legal may.going c.self.invariant.on_log (Begin number name) (cell.Begin number name) refl (begin_may w s h (cells_in b.log) number name may next)
+    c.append.ensures.any_moment))

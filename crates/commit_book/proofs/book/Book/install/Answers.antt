@@ -5,13 +5,15 @@ use Rattle.split_prepare.specs.Cut.{cut}
 use Rattle.plain_list.specs.State.{OpenSplit, split_name, split_leaf, state_after, without_number}
 use Rattle.plain_list.specs.declared.entries.Entry.TheVariants.{Fail, Install}
 use Rattle.plain_list.specs.declared.entries.Lost.TheVariants as lost
+use Rattle.kept_log.specs.Journal.{LeavesEither}
+use Rattle.kept_log.proofs.InJournal.{leaves-quiet}
 use Rattle.commit_book.specs.BookInside.{book_of}
 use Rattle.commit_book.specs.Divisions.{Divides}
 use Rattle.commit_book.specs.Events.{Events}
 use Rattle.commit_book.specs.TableView.{TableView}
 use Rattle.commit_book.proofs.BookStates.{inside-install, inside-fail}
 use Rattle.commit_book.proofs.RefusalLemmas.{MayInstall, may_install, Based, has_base-leaf, is_open-name, passed}
-use Rattle.commit_book.proofs.SplitCells.{install_may, keeps-added, keeps-missed}
+use Rattle.commit_book.proofs.SplitCells.{install_may, keeps-added, keeps-missed, leaves-step}
 use Rattle.commit_book.proofs.book.Book.install.Goals as goal
 
 pub divided-requires-clause-cut : goal.divided-requires-clause-cut
@@ -68,3 +70,29 @@ invariant_of-self-2 g c =
     (raw ∙ ap (λ n. h ++ Install n ∷ []) number) (ap (λ (v : Events). v.room) c.push_step.ensures)
     (ap (λ (t : TableView _). t.world) c.divide.ensures ∙ ap (λ (t : TableView _). t.world) c.in-Ok.ensures.ok)
     (c.remove.ensures.splits ∙ ap (λ n. without_number n c.self.inside.splits.splits) number) c.remove.ensures.begun
+
+pub returns-in_err-check_install-clause-any_moment : goal.returns-in_err-check_install-clause-any_moment
+returns-in_err-check_install-clause-any_moment g c =
+    rw (← c.self.view_is)
+    (leaves-quiet g.D.LogDisk.drive g.I.Index.WIDTH c.self.inside.opening c.self.inside.history.entries _ c.self.inside.journal g.met.D.LogDisk.keeps_laws c.self.invariant.on_log)
+
+pub returns-in_default-clause-any_moment : goal.returns-in_default-clause-any_moment
+returns-in_default-clause-any_moment g c =
+    rw (← c.self.view_is)
+    (leaves-quiet g.D.LogDisk.drive g.I.Index.WIDTH c.self.inside.opening c.self.inside.history.entries _ c.self.inside.journal g.met.D.LogDisk.keeps_laws c.self.invariant.on_log)
+
+pub returns-in-Err-clause-any_moment : goal.returns-in-Err-clause-any_moment
+returns-in-Err-clause-any_moment g c =
+    let w = g.I.Index.WIDTH in
+    let p = c.args.prepared.now in
+    let o = c.self.inside.opening in
+    let h = c.self.inside.history.entries in
+    let s = state_after w o h in
+    let b = book_of c.self.inside in
+    let may : MayInstall w g.I.Index.leaves b p.number p.name p.base = may_install w g.I.Index.leaves b p.number p.name p.base c.self.invariant.few (passed _ _ (rw (← c.self.view_is) at c.in_ok-check_install.ensures)) in
+    let number : c.number-number.result ≡ p.number = c.number-number.ensures in
+    let found : split_name s.splits c.number-number.result ≡ Some p.name = ap (split_name s.splits) number ∙ is_open-name s.splits p.number p.name may.is_open_one in
+    rw (← c.self.view_is) (λ none.
+    subst (λ n. LeavesEither g.D.LogDisk.drive w o h (Install n) c.self.inside.journal c.append.new.self) number
+    (leaves-step g.D.LogDisk.drive w o h _ _ c.self.invariant.legal may.may.going c.self.invariant.on_log (Install c.number-number.result) (cell.Install c.number-number.result) refl
+    (install_may w s c.number-number.result p.name found) c.append.ensures.any_moment))

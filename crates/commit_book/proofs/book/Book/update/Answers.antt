@@ -5,7 +5,7 @@ use Rattle.plain_list.specs.declared.entries.Entry.TheVariants.{Call, Fail}
 use Rattle.plain_list.specs.declared.entries.Lost.TheVariants as lost
 use Rattle.plain_list.specs.Answer.{answer_of, after_of, is_change}
 use Rattle.plain_list.proofs.Histories.{state_after-world}
-use Rattle.kept_log.proofs.InJournal.{has_failed-none}
+use Rattle.kept_log.proofs.InJournal.{has_failed-none, leaves-quiet}
 use Rattle.commit_book.specs.BookInside.{book_of}
 use Rattle.commit_book.specs.Events.{Events}
 use Rattle.commit_book.specs.TableView.{TableView}
@@ -81,3 +81,42 @@ returns-clause-ok g c =
       answer_is = c.apply-answer.ensures.updates.answer_is ∙ (λ i. answer_of (readied.kept i).world (readied.op_is i)) ∙ ap (λ (ms : List Placed). answer_of ms op) world;
       full_is = c.full.ensures.full;
     })
+
+pub returns-in_err-check_update-clause-any_moment : goal.returns-in_err-check_update-clause-any_moment
+returns-in_err-check_update-clause-any_moment g c =
+    rw (← c.self.view_is)
+    (leaves-quiet g.D.LogDisk.drive g.I.Index.WIDTH c.self.inside.opening c.self.inside.history.entries _ c.self.inside.journal g.met.D.LogDisk.keeps_laws c.self.invariant.on_log)
+
+pub returns-in_default-clause-any_moment : goal.returns-in_default-clause-any_moment
+returns-in_default-clause-any_moment g c =
+    rw (← c.self.view_is)
+    (leaves-quiet g.D.LogDisk.drive g.I.Index.WIDTH c.self.inside.opening c.self.inside.history.entries _ c.self.inside.journal g.met.D.LogDisk.keeps_laws c.self.invariant.on_log)
+
+pub returns-in_default-readied-clause-any_moment : goal.returns-in_default-readied-clause-any_moment
+returns-in_default-readied-clause-any_moment g c =
+    rw (← c.self.view_is)
+    (leaves-quiet g.D.LogDisk.drive g.I.Index.WIDTH c.self.inside.opening c.self.inside.history.entries _ c.self.inside.journal g.met.D.LogDisk.keeps_laws c.self.invariant.on_log)
+
+pub returns-in-Err-clause-any_moment : goal.returns-in-Err-clause-any_moment
+returns-in-Err-clause-any_moment g c =
+    let w = g.I.Index.WIDTH in
+    let o = c.self.inside.opening in
+    let h = c.self.inside.history.entries in
+    let op = c.args.op.now in
+    let may = may_update (book_of c.self.inside) op c.self.invariant.few (passed _ _ (rw (← c.self.view_is) at c.in_ok-check_update.ensures)) in
+    let steps = steps_on w o h (Call c.args.session c.args.row op) c.self.invariant.legal (has_failed-none h may.call.going) refl in
+    let world = c.self.invariant.world ∙ state_after-world w o h in
+    rw (← c.self.view_is) (λ none.
+    c.append_call.ensures.any_moment w o h c.args.session c.args.row steps.legal (c.in-Ok-readied.ensures.ok.answer_is ∙ ap (λ (ms : List Placed). answer_of ms op) world) c.self.invariant.on_log)
+
+pub returns-clause-any_moment : goal.returns-clause-any_moment
+returns-clause-any_moment g c =
+    let w = g.I.Index.WIDTH in
+    let o = c.self.inside.opening in
+    let h = c.self.inside.history.entries in
+    let op = c.args.op.now in
+    let may = may_update (book_of c.self.inside) op c.self.invariant.few (passed _ _ (rw (← c.self.view_is) at c.in_ok-check_update.ensures)) in
+    let steps = steps_on w o h (Call c.args.session c.args.row op) c.self.invariant.legal (has_failed-none h may.call.going) refl in
+    let world = c.self.invariant.world ∙ state_after-world w o h in
+    rw (← c.self.view_is) (λ none.
+    c.append_call.ensures.any_moment w o h c.args.session c.args.row steps.legal (c.in-Ok-readied.ensures.ok.answer_is ∙ ap (λ (ms : List Placed). answer_of ms op) world) c.self.invariant.on_log)
