@@ -1,0 +1,356 @@
+-- Calls, as their passes know them.
+use Rattle.std.proofs.Common.{◌≡◌, ◌⊎◌, inl, inr, ℕ, Bool, true, false, cond, List, [], ◌∷◌, ◌++◌, Option, Some, None, Result, Ok, Err, refl, sym, ap, subst, ◌∙◌}
+use mathlib.Core.List.{IsPrefix}
+use Rattle.std.specs.Prelude.{IfErr, IfOk, ⊤, ◌==◌, ◌&&◌, length}
+use Rattle.std.specs.Option.{option_map}
+use Rattle.plain_list.specs.declared.ops.Op.{Op}
+use Rattle.plain_list.specs.declared.ops.Op.TheVariants.{Put, Move, Remove, Find, Within, Near}
+use Rattle.plain_list.specs.declared.ops.Answer.{Answer}
+use Rattle.plain_list.specs.declared.ops.Answer.TheVariants.{Found, Many}
+use Rattle.plain_list.specs.declared.entries.Entry.{Entry}
+use Rattle.plain_list.specs.declared.entries.Entry.TheVariants.{Call, Fail}
+use Rattle.plain_list.specs.declared.entries.Lost.{Lost}
+use Rattle.plain_list.specs.declared.entries.Lost.TheVariants as lost
+use Rattle.plain_list.specs.Answer.{answer_of, is_change, members_in}
+use Rattle.plain_list.specs.History.{world_after, call_count}
+use Rattle.plain_list.specs.State.{State, state_after}
+use Rattle.plain_list.specs.Size.{full_leaf}
+use Rattle.plain_list.specs.World.{IsWorld}
+use Rattle.zorder.specs.declared.points.Placed.{Placed}
+use Rattle.index_layer.specs.Leaves.{Leaf}
+use Rattle.index_layer.specs.Stands.{Stands}
+use Rattle.disk_trait.specs.Drive.{Drive}
+use Rattle.kept_log.specs.Journal.{cells_in, failed_cell}
+use Rattle.commit_book.specs.BookView.{BookView}
+use Rattle.commit_book.specs.IsBook.{AreBooks, most_events}
+use Rattle.commit_book.specs.Answers.{IsUpdate, IsQuery, Notes}
+use Rattle.commit_book.specs.Answers.{Replies as BookReplies}
+use Rattle.commit_book.specs.Refusals.{IsRefusedBy, IsMemory, IsMemoryOrDisk, IsDisk, LeavesRefused, first_of, call_refusal, update_refusal, most_cells}
+use Rattle.commit_book.specs.declared.book.Done.{Done}
+use Rattle.commit_book.specs.declared.book.Snapshot.{Snapshot}
+use Rattle.commit_book.specs.declared.faults.BookFault.{BookFault}
+use Rattle.commit_book.specs.declared.faults.BookFault.TheVariants as book
+use Rattle.book_lock.specs.Pass.{Known}
+use Rattle.book_lock.specs.declared.origin.Origin.{Origin}
+use Rattle.sessions.specs.Shared.{origin_of, start_of, HasWorld}
+use Rattle.sessions.specs.Steps.{AreCells, IsStep, Says, has_entry, has_given, has_added, has_seen, Leaves}
+use Rattle.sessions.specs.Calls.{Updates, Looks, Called, CallLeaves, HasDone, Shows, IsAnswered, IsCallFault, MayCome, call_cause, call_fault, next_full, told_full}
+use Rattle.sessions.specs.Splits.{SamePass}
+use Rattle.sessions.specs.declared.faults.CallFault.{CallFault}
+use Rattle.sessions.specs.declared.faults.CallFault.TheVariants as call
+use Rattle.sessions.proofs.Origins.{same-origin, start-of-origin}
+use Rattle.sessions.proofs.StepLemmas.{WasTaken, BookStep, stepped, call-may, may-give, prefix-later, same-added, same-seen}
+
+told-update : (w : ℕ) (op : Op) (pass : Known) → IsUpdate op → told_full w op pass ≡ next_full w pass
+told-update w (Put id at) pass is = refl
+told-update w (Move id at) pass is = refl
+told-update w (Remove id) pass is = refl
+told-update w (Find id) pass is = refl
+told-update w (Within region) pass is = absurd is
+told-update w (Near at k) pass is = absurd is
+
+told-query : (w : ℕ) (op : Op) (pass : Known) → IsQuery op → told_full w op pass ≡ None
+told-query w (Put id at) pass is = absurd is
+told-query w (Move id at) pass is = absurd is
+told-query w (Remove id) pass is = absurd is
+told-query w (Find id) pass is = absurd is
+told-query w (Within region) pass is = refl
+told-query w (Near at k) pass is = refl
+
+listed-quiet : (b : Bool) (ms : List Placed) (n : ℕ) → is_change (cond b (Found ms) (Many n)) ≡ false
+listed-quiet true ms n = refl
+listed-quiet false ms n = refl
+
+-- a query changes nothing
+query-quiet : (world : List Placed) (op : Op) → IsQuery op → is_change (answer_of world op) ≡ false
+query-quiet world (Put id at) is = absurd is
+query-quiet world (Move id at) is = absurd is
+query-quiet world (Remove id) is = absurd is
+query-quiet world (Find id) is = absurd is
+query-quiet world (Within region) is = listed-quiet _ (members_in region world) (length (members_in region world))
+query-quiet world (Near at k) is = refl
+
+and-false : (b c : Bool) → c ≡ false → (b && c) ≡ false
+and-false true c is = is
+and-false false c is = refl
+
+first-none : (cause : Option BookFault) → first_of cause None ≡ cause
+first-none (Some cause) = refl
+first-none None = refl
+
+-- so the log is never in its way
+query-cause : (origin : Origin) (op : Op) (cells : ℕ) (before : List Entry) → IsQuery op → call_cause origin op cells before ≡ call_refusal before
+query-cause origin op cells before is =
+    let quiet : ((cells == most_cells) && is_change (answer_of (world_after origin.world before) op)) ≡ false =
+    and-false (cells == most_cells) (is_change (answer_of (world_after origin.world before) op)) (query-quiet (world_after origin.world before) op is) in
+    (λ i. first_of (call_refusal before) (cond (quiet i) (Some book.LogFull) None)) ∙ first-none (call_refusal before)
+
+module _ {I D : Type 0} (leaves : I → List Leaf) (drive : D → Drive) (w : ℕ) (b mid : BookView I D) (old took back : Known) (session row : ℕ) (op : Op) (was : WasTaken drive b old took) (books : AreBooks leaves drive w b mid) where
+  update-added : (r : Result Done BookFault) → IfOk r (λ d. BookReplies w b mid session row op d.place d.answer d.full) → Says (λ (d : Done). mid.entries ≡ b.entries ++ Call session row op ∷ []) r
+  update-added (Ok d) ok = ok.notes.entries
+  update-added (Err fault) ok = tt
+
+  pub update-step : (r : Result Done BookFault) → IfOk r (λ d. BookReplies w b mid session row op d.place d.answer d.full) → IsRefusedBy IsMemoryOrDisk (update_refusal b op) r → IfErr r (LeavesRefused drive (lost.Call session row op) b mid)
+      → BookStep drive IsMemoryOrDisk (call_cause old.origin op (cells_in b.log) b.entries) (λ (d : Done). Call session row op) (lost.Call session row op) b mid r
+  update-step r ok refused err = record {
+    refused = subst (λ (o : Origin). IsRefusedBy IsMemoryOrDisk (call_cause o op (cells_in b.log) b.entries) r) was.origin refused;
+    added = update-added r ok;
+    left = err;
+  }
+
+  -- the pass tells the leaf that the book tells
+  back-full : back ≡ has_given took true mid.entries → full_leaf w mid.bucket (state_after w mid.opening mid.entries) ≡ next_full w back
+  back-full given =
+      let seen : back.seen ≡ mid.entries = ap (λ (k : Known). k.seen) given in
+      let origin : back.origin ≡ old.origin = ap (λ (k : Known). k.origin) given ∙ ap (λ (k : Known). k.origin) was.took_is in
+      let same : origin_of drive mid ≡ back.origin = same-origin drive b mid books.origin ∙ was.origin ∙ sym origin in
+      let start : start_of (origin_of drive mid) ≡ mid.opening = start-of-origin drive mid books.after.opening in
+      (λ i. full_leaf w mid.bucket (state_after w (sym start i) mid.entries)) ∙ (λ i. full_leaf w (same i).bucket (state_after w (start_of (same i)) (sym seen i)))
+
+  update-says : (r : Result Done BookFault) → IsUpdate op → IfOk r (λ d. BookReplies w b mid session row op d.place d.answer d.full) → back ≡ has_given took (has_entry r) mid.entries → Says (HasDone w old back op b.entries) r
+  update-says (Ok d) update ok given = record {
+    replies = record {
+      place_is = ok.notes.place_is ∙ ap call_count (sym (ap (λ (k : Known). k.seen) given));
+      answer_is = ok.answer_is ∙ ap (λ (o : Origin). answer_of (world_after o.world b.entries) op) was.origin;
+    };
+    full_is = ok.full_is ∙ back-full given ∙ sym (told-update w op back update);
+  }
+  update-says (Err fault) update ok given = tt
+
+  pub updated : (r : Result Done BookFault) → IsUpdate op → IfOk r (λ d. BookReplies w b mid session row op d.place d.answer d.full) → IsRefusedBy IsMemoryOrDisk (update_refusal b op) r → IfErr r (LeavesRefused drive (lost.Call session row op) b mid)
+      → back ≡ has_given took (has_entry r) mid.entries → Updates w session row op old back r
+  updated r update ok refused err given =
+      stepped leaves drive w IsMemoryOrDisk (call_cause old.origin op) (λ (d : Done). Call session row op) (λ (h : List Entry). lost.Call session row op) (HasDone w old back op) b mid old took back r books.before was
+      (update-step r ok refused err) (update-says r update ok given) given
+
+-- a cause, where there is one, is of these
+pub record AreCauses (P : BookFault → Type 0) (o : Option BookFault) : Type 0 where
+  pub each : (cause : BookFault) → o ≡ Some cause → P cause
+
+causes-none : (P : BookFault → Type 0) → AreCauses P None
+causes-none P = record { each = λ cause is. absurd (cc is) }
+
+causes-some : (P : BookFault → Type 0) (c : BookFault) → P c → AreCauses P (Some c)
+causes-some P c is = record { each = λ cause same. let e : c ≡ cause = cc same in subst P e is }
+
+pub causes-first : (P : BookFault → Type 0) (a b : Option BookFault) → AreCauses P a → AreCauses P b → AreCauses P (first_of a b)
+causes-first P None b one two = two
+causes-first P (Some cause) b one two = one
+
+pub causes-if : (P : BookFault → Type 0) (b : Bool) (cause : BookFault) → P cause → AreCauses P (cond b (Some cause) None)
+causes-if P true cause is = causes-some P cause is
+causes-if P false cause is = causes-none P
+
+pub causes-map : (P : BookFault → Type 0) (f : ℕ → BookFault) (o : Option ℕ) → ((n : ℕ) → P (f n)) → AreCauses P (option_map f o)
+causes-map P f None is = causes-none P
+causes-map P f (Some n) is = causes-some P (f n) (is n)
+
+pub refused-cause : (A : Type 0) (IsFree P : BookFault → Type 0) (cause : Option BookFault) (fault : BookFault) → AreCauses P cause → (IsFree fault → P fault) → IsRefusedBy {A = A} IsFree cause (Err fault) → P fault
+refused-cause A IsFree P None fault are free refused = free refused
+refused-cause A IsFree P (Some cause) fault are free refused = let same : cause ≡ fault = cc refused in subst P same (are.each cause refl)
+
+-- the causes of any step
+pub call-causes : (P : BookFault → Type 0) (h : List Entry) → ((n : ℕ) → P (book.Closed n)) → P book.HistoryFull → AreCauses P (call_refusal h)
+call-causes P h closed full =
+    causes-first P (option_map book.Closed (failed_cell h)) (cond (length h == most_events) (Some book.HistoryFull) None) (causes-map P book.Closed (failed_cell h) closed) (causes-if P (length h == most_events) book.HistoryFull full)
+
+-- any fault but of the drive
+abbrev pub IsCalm : BookFault → Type 0
+IsCalm (book.Disk cell) = ⊥
+IsCalm (book.Closed cell) = ⊤
+IsCalm book.HistoryFull = ⊤
+IsCalm book.LogFull = ⊤
+IsCalm book.Memory = ⊤
+IsCalm (book.Room cells events) = ⊤
+IsCalm (book.Splitting number) = ⊤
+IsCalm book.Deep = ⊤
+IsCalm book.NoLeaf = ⊤
+IsCalm (book.Stale number) = ⊤
+IsCalm (book.NotOpen number) = ⊤
+
+calm-left : {I D : Type 0} (drive : D → Drive) (step : Lost) (b mid : BookView I D) (fault : BookFault) → IsCalm fault → mid ≡ b → LeavesRefused drive step b mid fault
+calm-left drive step b mid (book.Disk cell) calm is = absurd calm
+calm-left drive step b mid (book.Closed cell) calm is = is
+calm-left drive step b mid book.HistoryFull calm is = is
+calm-left drive step b mid book.LogFull calm is = is
+calm-left drive step b mid book.Memory calm is = is
+calm-left drive step b mid (book.Room cells events) calm is = is
+calm-left drive step b mid (book.Splitting number) calm is = is
+calm-left drive step b mid book.Deep calm is = is
+calm-left drive step b mid book.NoLeaf calm is = is
+calm-left drive step b mid (book.Stale number) calm is = is
+calm-left drive step b mid (book.NotOpen number) calm is = is
+
+look-calm : (A : Type 0) (h : List Entry) (fault : BookFault) → IsRefusedBy {A = A} IsMemory (call_refusal h) (Err fault) → IsCalm fault
+look-calm A h fault refused = refused-cause A IsMemory IsCalm (call_refusal h) fault (call-causes IsCalm h (λ n. tt) tt) (λ memory. subst IsCalm (sym memory) tt) refused
+
+module _ {I D : Type 0} (leaves : I → List Leaf) (drive : D → Drive) (w : ℕ) (b mid : BookView I D) (old took back : Known) (session row : ℕ) (op : Op) (was : WasTaken drive b old took) (books : AreBooks leaves drive w b mid) where
+  look-added : (r : Result (Snapshot I) BookFault) → IfOk r (λ s. Notes b mid session row op s.place) → Says (λ (s : Snapshot I). mid.entries ≡ b.entries ++ Call session row op ∷ []) r
+  look-added (Ok s) ok = ok.entries
+  look-added (Err fault) ok = tt
+
+  look-left : (r : Result (Snapshot I) BookFault) → IsRefusedBy IsMemory (call_refusal b.entries) r → IfErr r (λ (f : BookFault). mid ≡ b) → IfErr r (LeavesRefused drive (lost.Call session row op) b mid)
+  look-left (Ok s) refused err = tt
+  look-left (Err fault) refused err = calm-left drive (lost.Call session row op) b mid fault (look-calm (Snapshot I) b.entries fault refused) err
+
+  pub look-step : (r : Result (Snapshot I) BookFault) → IfOk r (λ s. Notes b mid session row op s.place) → IsRefusedBy IsMemory (call_refusal b.entries) r → IfErr r (λ (f : BookFault). mid ≡ b)
+      → BookStep drive IsMemory (call_refusal b.entries) (λ (s : Snapshot I). Call session row op) (lost.Call session row op) b mid r
+  look-step r ok refused err = record { refused = refused; added = look-added r ok; left = look-left r refused err }
+
+  look-says : (names : List (List Bool)) (r : Result (Snapshot I) BookFault) → IfOk r (λ s. Notes b mid session row op s.place) → IfOk r (λ s. Stands (leaves s.index) (world_after b.opening.world b.entries) names) → HasWorld b
+      → back ≡ has_given took (has_entry r) mid.entries → Says (λ (s : Snapshot I). Shows (leaves s.index) old back b.entries s.place) r
+  look-says names (Ok s) ok stands has given =
+      let world : world_after b.opening.world b.entries ≡ world_after old.origin.world b.entries = ap (λ (o : Origin). world_after o.world b.entries) was.origin in
+      record {
+        place_is = ok.place_is ∙ ap call_count (sym (ap (λ (k : Known). k.seen) given));
+        world = subst IsWorld world has.world;
+        names = names;
+        stands = subst (λ (list : List Placed). Stands (leaves s.index) list names) world stands;
+      }
+  look-says names (Err fault) ok stands has given = tt
+
+  pub looked : (names : List (List Bool)) (r : Result (Snapshot I) BookFault) → IfOk r (λ s. Notes b mid session row op s.place) → IfOk r (λ s. Stands (leaves s.index) (world_after b.opening.world b.entries) names) → HasWorld b
+      → IsRefusedBy IsMemory (call_refusal b.entries) r → IfErr r (λ (f : BookFault). mid ≡ b) → back ≡ has_given took (has_entry r) mid.entries → Looks leaves session row op old back r
+  looked names r ok stands has refused err given =
+      stepped leaves drive w IsMemory (λ (cells : ℕ). call_refusal) (λ (s : Snapshot I). Call session row op) (λ (h : List Entry). lost.Call session row op) (λ (h : List Entry) (s : Snapshot I). Shows (leaves s.index) old back h s.place) b mid old took back r
+      books.before was (look-step r ok refused err) (look-says names r ok stands has given) given
+
+-- a call that isn't refused is answered
+answered-ok : {A : Type 0} (IsFree : BookFault → Type 0) (op : Op) (cause : Option BookFault) (value : A) (result : Result Done CallFault) → IsRefusedBy IsFree cause (Ok value) → IsAnswered op None result → IsAnswered op cause result
+answered-ok IsFree op None value result refused answered = answered
+answered-ok IsFree op (Some cause) value result refused answered = absurd (cc refused)
+
+answered-err : (A : Type 0) (IsFree : BookFault → Type 0) (op : Op) (cause : Option BookFault) (fault : BookFault) → (IsFree fault → MayCome op (call_fault fault)) → IsRefusedBy {A = A} IsFree cause (Err fault) → IsAnswered op cause (Err (call_fault fault))
+answered-err A IsFree op None fault free refused = free refused
+answered-err A IsFree op (Some cause) fault free refused = let same : fault ≡ cause = cc refused in ap (λ (f : BookFault). Err (call_fault f)) same
+
+disk-comes : (op : Op) (fault : BookFault) → IsUpdate op → IsDisk fault → MayCome op (call_fault fault)
+disk-comes op (book.Disk cell) update is = update
+disk-comes op (book.Closed cell) update is = absurd is
+disk-comes op book.HistoryFull update is = absurd is
+disk-comes op book.LogFull update is = absurd is
+disk-comes op book.Memory update is = absurd is
+disk-comes op (book.Room cells events) update is = absurd is
+disk-comes op (book.Splitting number) update is = absurd is
+disk-comes op book.Deep update is = absurd is
+disk-comes op book.NoLeaf update is = absurd is
+disk-comes op (book.Stale number) update is = absurd is
+disk-comes op (book.NotOpen number) update is = absurd is
+
+memory-comes : (op : Op) (fault : BookFault) → fault ≡ book.Memory → MayCome op (call_fault fault)
+memory-comes op fault is = subst (λ (f : BookFault). MayCome op (call_fault f)) (sym is) tt
+
+free-comes : (op : Op) (fault : BookFault) → IsUpdate op → IsMemoryOrDisk fault → MayCome op (call_fault fault)
+free-comes op fault update (inl memory) = memory-comes op fault memory
+free-comes op fault update (inr disk) = disk-comes op fault update disk
+
+fault-leaves : (A : Type 0) (w session row : ℕ) (op : Op) (old : Known) (before : List Entry) (new : Known) (fault : BookFault) → Leaves {A = A} (λ value. Call session row op) (λ h. lost.Call session row op) old before new (Err fault)
+    → CallLeaves w session row op old before new (Err (call_fault fault))
+fault-leaves A w session row op old before new (book.Disk cell) left = left
+fault-leaves A w session row op old before new (book.Closed cell) left = left
+fault-leaves A w session row op old before new book.HistoryFull left = left
+fault-leaves A w session row op old before new book.LogFull left = left
+fault-leaves A w session row op old before new book.Memory left = left
+fault-leaves A w session row op old before new (book.Room cells events) left = left
+fault-leaves A w session row op old before new (book.Splitting number) left = left
+fault-leaves A w session row op old before new book.Deep left = left
+fault-leaves A w session row op old before new book.NoLeaf left = left
+fault-leaves A w session row op old before new (book.Stale number) left = left
+fault-leaves A w session row op old before new (book.NotOpen number) left = left
+
+disk-call : (fault : BookFault) → IsDisk fault → IsCallFault fault
+disk-call (book.Disk cell) is = tt
+disk-call (book.Closed cell) is = absurd is
+disk-call book.HistoryFull is = absurd is
+disk-call book.LogFull is = absurd is
+disk-call book.Memory is = absurd is
+disk-call (book.Room cells events) is = absurd is
+disk-call (book.Splitting number) is = absurd is
+disk-call book.Deep is = absurd is
+disk-call book.NoLeaf is = absurd is
+disk-call (book.Stale number) is = absurd is
+disk-call (book.NotOpen number) is = absurd is
+
+free-call : (fault : BookFault) → IsMemoryOrDisk fault → IsCallFault fault
+free-call fault (inl memory) = subst IsCallFault (sym memory) tt
+free-call fault (inr disk) = disk-call fault disk
+
+module _ (w session row : ℕ) (op : Op) (old new : Known) where
+  pub change-fault : (fault : BookFault) → Updates w session row op old new (Err fault) → IsCallFault fault
+  change-fault fault step =
+      let full : Bool = (step.cells == most_cells) && is_change (answer_of (world_after old.origin.world step.before) op) in
+      refused-cause Done IsMemoryOrDisk IsCallFault (call_cause old.origin op step.cells step.before) fault
+      (causes-first IsCallFault (call_refusal step.before) (cond full (Some book.LogFull) None) (call-causes IsCallFault step.before (λ n. tt) tt) (causes-if IsCallFault full book.LogFull tt)) (free-call fault) step.refused
+
+  pub change-ok : (done : Done) → Updates w session row op old new (Ok done) → Called w session row op old new (Ok done)
+  change-ok done step = record {
+    before = step.before;
+    later = step.later;
+    cells = step.cells;
+    are_cells = step.are_cells;
+    answered = answered-ok IsMemoryOrDisk op (call_cause old.origin op step.cells step.before) done (Ok done) step.refused tt;
+    leaves = (step.leaves, step.says);
+  }
+
+  pub change-err : (fault : BookFault) → IsUpdate op → Updates w session row op old new (Err fault) → Called w session row op old new (Err (call_fault fault))
+  change-err fault update step = record {
+    before = step.before;
+    later = step.later;
+    cells = step.cells;
+    are_cells = step.are_cells;
+    answered = answered-err Done IsMemoryOrDisk op (call_cause old.origin op step.cells step.before) fault (free-comes op fault update) step.refused;
+    leaves = fault-leaves Done w session row op old step.before new fault step.leaves;
+  }
+
+module _ {I : Type 0} (leaves : I → List Leaf) (w session row : ℕ) (op : Op) (old new : Known) (query : IsQuery op) where
+  pub look-fault : (fault : BookFault) → Looks leaves session row op old new (Err fault) → IsCallFault fault
+  look-fault fault step =
+      refused-cause (Snapshot I) IsMemory IsCallFault (call_refusal step.before) fault (call-causes IsCallFault step.before (λ n. tt) tt) (λ memory. subst IsCallFault (sym memory) tt) step.refused
+
+  cause-is : (result : Result Done CallFault) (cells : ℕ) (before : List Entry) → IsAnswered op (call_refusal before) result → IsAnswered op (call_cause old.origin op cells before) result
+  cause-is result cells before answered = subst (λ (o : Option BookFault). IsAnswered op o result) (sym (query-cause old.origin op cells before query)) answered
+
+  pub query-err : (fault : BookFault) → Looks leaves session row op old new (Err fault) → Called w session row op old new (Err (call_fault fault))
+  query-err fault step = record {
+    before = step.before;
+    later = step.later;
+    cells = step.cells;
+    are_cells = step.are_cells;
+    answered = cause-is (Err (call_fault fault)) step.cells step.before (answered-err (Snapshot I) IsMemory op (call_refusal step.before) fault (memory-comes op fault) step.refused);
+    leaves = fault-leaves (Snapshot I) w session row op old step.before new fault step.leaves;
+  }
+
+  pub query-memory : (shown : Snapshot I) → Looks leaves session row op old new (Ok shown) → Called w session row op old new (Err (call.Memory (Some shown.place)))
+  query-memory shown step = record {
+    before = step.before;
+    later = step.later;
+    cells = step.cells;
+    are_cells = step.are_cells;
+    answered = cause-is (Err (call.Memory (Some shown.place))) step.cells step.before (answered-ok IsMemory op (call_refusal step.before) shown (Err (call.Memory (Some shown.place))) step.refused query);
+    leaves = (step.leaves, step.says.place_is);
+  }
+
+  pub query-ok : (shown : Snapshot I) (answer : Answer) (step : Looks leaves session row op old new (Ok shown)) → answer ≡ answer_of (world_after old.origin.world step.before) op
+      → Called w session row op old new (Ok (record { place = shown.place; answer = answer; full = None }))
+  query-ok shown answer step is = record {
+    before = step.before;
+    later = step.later;
+    cells = step.cells;
+    are_cells = step.are_cells;
+    answered = cause-is (Ok (record { place = shown.place; answer = answer; full = None })) step.cells step.before
+        (answered-ok IsMemory op (call_refusal step.before) shown (Ok (record { place = shown.place; answer = answer; full = None })) step.refused tt);
+    leaves = (step.leaves, record { replies = record { place_is = step.says.place_is; answer_is = is }; full_is = sym (told-query w op new query) });
+  }
+
+-- a call leaves the pass with more seen and own
+leaves-same : (w session row : ℕ) (op : Op) (old : Known) (before : List Entry) (new : Known) (result : Result Done CallFault) → IsPrefix old.seen before → CallLeaves w session row op old before new result → SamePass old new
+leaves-same w session row op old before new (Ok done) later (is, done_is) = same-added old new before (Call session row op) later is
+leaves-same w session row op old before new (Err (call.Disk cell)) later is = same-added old new before (Fail cell (lost.Call session row op)) later is
+leaves-same w session row op old before new (Err (call.Closed cell)) later is = same-seen old new before later is
+leaves-same w session row op old before new (Err call.HistoryFull) later is = same-seen old new before later is
+leaves-same w session row op old before new (Err call.LogFull) later is = same-seen old new before later is
+leaves-same w session row op old before new (Err (call.Memory None)) later is = same-seen old new before later is
+leaves-same w session row op old before new (Err (call.Memory (Some place))) later (is, place_is) = same-added old new before (Call session row op) later is
+
+pub called-same : (w session row : ℕ) (op : Op) (old new : Known) (result : Result Done CallFault) → Called w session row op old new result → SamePass old new
+called-same w session row op old new result called = leaves-same w session row op old called.before new result called.later called.leaves

@@ -1,0 +1,9 @@
+pub mod WorldSteps
+pub mod Origins
+pub mod Sent
+pub mod SameRows
+pub mod LiveSplits
+pub mod StepLemmas
+pub mod CallLemmas
+pub mod SplitLemmas
+pub mod LaneLemmas

@@ -1,0 +1,50 @@
+-- A store may be shared by threads, and a pass sent between them, where the index and the drive may be sent.
+use denote.RattleType.{RattleType}
+use denote.Param.Send.{IsSend, IsSync, plain_send, view_send, recorded_send, struct_send, recorded_sync, struct_sync, sendable}
+use mathlib.Core.List.{[], ◌∷◌}
+use mir.Syntax.{Sym}
+use denote.Struct.Struct.{Struct}
+use denote.Struct.Declared.{Declared, shape}
+use denote.Struct.Tuple.{TupleAt, type_at}
+use Rattle.index_layer.specs.declared.index.Index.{Ghosts}
+use Rattle.disk_trait.specs.declared.disk.LogDisk.{Ghosts as DriveGhosts}
+use Rattle.commit_book.proofs.Sent.{book_send}
+use Rattle.book_lock.proofs.lock.BookLock.TheSendSync as lock
+use Rattle.book_lock.proofs.pass.Pass.TheSendSync as pass
+use Rattle.std.proofs.Crossing.{crosses}
+use Rattle.book_lock.specs.contracts.pass.Pass as Pass
+use Rattle.sessions.proofs.store.lanes.KeptRow.TheSendSync as kept
+use Rattle.sessions.specs.contracts.store.Store as Store
+use Rattle.sessions.specs.contracts.store.lanes.Lane as Lane
+use Rattle.sessions.specs.contracts.shared.SharedBook as Shared
+use Rattle.sessions.specs.contracts.shared.SharedBook.TheInside as inside
+
+pub shared_send : (I D : RattleType) (g : Ghosts I.Denot) (h : DriveGhosts D.Denot) → IsSend I → IsSend D → IsSend (Shared.the_row I D g h)
+shared_send I D g h i d =
+    view_send (inside.the_row I D g h) _ _ _ _ (recorded_send (inside.the_field I D g h).row _ _ (inside.the_type I D g h).to_one
+    (struct_send (shape (inside.the_type I D g h)) (book_send I D g h i d, tt)))
+
+pub store_send : (I D : RattleType) (g : Ghosts I.Denot) (h : DriveGhosts D.Denot) → IsSend I → IsSend D → IsSend (Store.the_row I D g h)
+store_send I D g h i d = search (sendable, shared_send, lock.the_send) depth 12
+
+pub store_sync : (I D : RattleType) (g : Ghosts I.Denot) (h : DriveGhosts D.Denot) → IsSend I → IsSend D → IsSync (Store.the_row I D g h)
+store_sync I D g h i d = search (sendable, shared_send, lock.the_sync) depth 12
+
+pub pass_send : (I D : RattleType) (g : Ghosts I.Denot) (h : DriveGhosts D.Denot) → IsSend I → IsSend D → IsSend (Pass.the_row (Shared.the_row I D g h))
+pass_send I D g h i d = search (sendable, shared_send, pass.the_send) depth 12
+
+-- each field by itself
+pub lane_send : (I D : RattleType) (g : Ghosts I.Denot) (h : DriveGhosts D.Denot) → IsSend I → IsSend D → IsSend (Lane.the_row I D g h)
+lane_send I D g h i d =
+    let p : IsSend (Pass.the_row (Shared.the_row I D g h)) = pass_send I D g h i d in
+    recorded_send (Lane.the_field I D g h).row _ _ (Lane.the_type I D g h).to_one (struct_send (shape (Lane.the_type I D g h))
+    (plain_send _ _ _ _ _, (p, (search (sendable, crosses) depth 20, (search (sendable, crosses, kept.the_send) depth 20, (search (sendable, crosses) depth 20, tt))))))
+
+-- a closure over four captures
+pub closure_sync : (ν : Sym) (A B C D : RattleType) → IsSync A → IsSync B → IsSync C → IsSync D → IsSync (TupleAt ν (A ∷ B ∷ C ∷ D ∷ []))
+closure_sync ν A B C D a b c d =
+    let T : Declared = type_at ν (A ∷ B ∷ C ∷ D ∷ []) in
+    recorded_sync (Struct (shape T)) T.D T.to T.to_one (struct_sync (shape T) (a, (b, (c, (d, tt)))))
+
+-- for `search`, at each call that asks whether a store or a pass may cross
+pub ruleset crossing = (sendable, shared_send, store_send, store_sync, pass_send, lane_send)

@@ -1,0 +1,203 @@
+-- The steps of a split, as their passes know them.
+use Rattle.std.proofs.Common.{◌≡◌, ◌⊎◌, inl, inr, ℕ, ◌+◌, Bool, true, false, cond, List, [], ◌∷◌, ◌++◌, length, Option, Some, None, Result, Ok, Err, refl, sym, ap, subst, ◌∙◌}
+use mathlib.Core.List.{IsPrefix}
+use Rattle.std.specs.Prelude.{⊤, IfOk, IfErr, OnOk}
+use Rattle.std.specs.Arc.{arc_value}
+use Rattle.std.proofs.lemmas.List.{append-nil}
+use Rattle.bucket_versions.specs.declared.row.Row.{Row}
+use Rattle.bucket_versions.specs.Rows.{as_base}
+use Rattle.plain_list.specs.declared.entries.Entry.{Entry}
+use Rattle.plain_list.specs.declared.entries.Entry.TheVariants.{Begin, Install, Abandon}
+use Rattle.plain_list.specs.declared.entries.Lost.{Lost}
+use Rattle.plain_list.specs.declared.entries.Lost.TheVariants as lost
+use Rattle.plain_list.specs.History.{world_after}
+use Rattle.plain_list.specs.State.{State, state_after}
+use Rattle.index_layer.specs.Leaves.{Leaf}
+use Rattle.disk_trait.specs.Drive.{Drive}
+use Rattle.kept_log.specs.Journal.{cells_in}
+use Rattle.split_prepare.specs.declared.ticket.SplitTicket.{SplitTicket}
+use Rattle.commit_book.specs.BookView.{BookView}
+use Rattle.commit_book.specs.IsBook.{AreBooks}
+use Rattle.commit_book.specs.KeptBases.{HasBaseOf}
+use Rattle.commit_book.specs.SplitSteps.{Begins, Installs, Abandons}
+use Rattle.commit_book.specs.Refusals.{IsRefusedBy, IsDisk, IsMemoryOrDisk, LeavesRefused, begin_refusal, end_refusal, first_of, closed_refusal, room_refusal, leaf_refusal}
+use Rattle.commit_book.specs.declared.faults.BookFault.{BookFault}
+use Rattle.commit_book.specs.declared.faults.BookFault.TheVariants as book
+use Rattle.book_lock.specs.Pass.{Known}
+use Rattle.book_lock.specs.Own.{IsBelow}
+use Rattle.book_lock.specs.Ends.{MayNote}
+use Rattle.book_lock.specs.declared.origin.Origin.{Origin}
+use Rattle.book_lock.proofs.OwnSplits.{may_install, may_abandon}
+use Rattle.sessions.specs.Shared.{origin_of, start_of}
+use Rattle.sessions.specs.Steps.{IsStep, Says, has_entry, has_given}
+use Rattle.sessions.specs.Splits.{HasBegun, BeginsSplit, InstallsSplit, AbandonsSplit, GivesUp, RanOut, NotInstalled, BeginsAs, SplitEnds, IsLasting, IsNotSplit, IsNextSplit, SamePass, begin_cause, number_of, state_of}
+use Rattle.sessions.specs.declared.faults.Split.{Split}
+use Rattle.sessions.specs.declared.faults.Split.TheVariants.{Installed, NotSplit}
+use Rattle.sessions.proofs.Origins.{start-of-origin}
+use Rattle.sessions.proofs.StepLemmas.{WasTaken, BookStep, stepped, step-same, same-later, prefix-later}
+use Rattle.sessions.proofs.LiveSplits.{begun-rows}
+
+-- the begin that was just noted
+pub begun-now : {I D : Type 0} (leaves : I → List Leaf) (drive : D → Drive) (w : ℕ) (b mid : BookView I D) (old took back : Known) (name : List Bool) (ticket : SplitTicket) → Begins leaves w b mid name ticket → AreBooks leaves drive w b mid
+    → WasTaken drive b old took → IsBelow (length took.seen) took.own → back ≡ has_given took true mid.entries → HasBegun back ticket.number name (arc_value ticket.bucket).base
+begun-now leaves drive w b mid old took back name ticket begins books was below back_is =
+    let base = (arc_value ticket.bucket).base in
+    let origin_is : b.opening.world ≡ back.origin.world = ap (λ (o : Origin). o.world) was.origin ∙ ap (λ (k : Known). k.origin.world) (sym was.took_is) ∙ ap (λ (k : Known). k.origin.world) (sym back_is) in
+    let seen : took.seen ++ Begin ticket.number name ∷ [] ≡ back.seen =
+    ap (λ (l : List Entry). l ++ Begin ticket.number name ∷ []) (sym was.entries) ∙ sym begins.entries ∙ ap (λ (k : Known). k.seen) (sym back_is) in
+    record {
+      before = took.seen;
+      own = took.own;
+      seen = ([], append-nil (took.seen ++ Begin ticket.number name ∷ []) ∙ seen);
+      own_is = ap (λ (k : Known). k.own) back_is;
+      below = below;
+      rows = subst (λ (world : _). HasBaseOf world (record { name = name; bucket = as_base base })) (λ i. world_after (origin_is i) (was.entries i)) (begun-rows leaves drive w b mid name ticket begins books);
+    }
+
+-- later it is still so
+pub begun-later : (old new : Known) (number : ℕ) (name : List Bool) (base : List Row) → IsPrefix old.seen new.seen → new.own ≡ old.own → new.origin ≡ old.origin → HasBegun old number name base → HasBegun new number name base
+begun-later old new number name base later own origin begun = record {
+  before = begun.before;
+  own = begun.own;
+  seen = prefix-later (begun.before ++ Begin number name ∷ []) old.seen new.seen begun.seen later;
+  own_is = own ∙ begun.own_is;
+  below = begun.below;
+  rows = subst (λ (o : Origin). HasBaseOf (world_after o.world begun.before) (record { name = name; bucket = as_base base })) (sym origin) begun.rows;
+}
+
+-- so the pass may note its end
+pub begun-install : (pass : Known) (number : ℕ) (name : List Bool) (base : List Row) → HasBegun pass number name base → MayNote pass.seen pass.own (Install number)
+begun-install pass number name base begun = subst (λ (own : List ℕ). MayNote pass.seen own (Install number)) (sym begun.own_is) (may_install begun.before pass.seen begun.own number name begun.seen)
+
+pub begun-abandon : (pass : Known) (number : ℕ) (name : List Bool) (base : List Row) → HasBegun pass number name base → MayNote pass.seen pass.own (Abandon number)
+begun-abandon pass number name base begun = subst (λ (own : List ℕ). MayNote pass.seen own (Abandon number)) (sym begun.own_is) (may_abandon begun.before pass.seen begun.own number name begun.seen)
+
+pub number-entry : (r : Result SplitTicket BookFault) → has_entry (number_of r) ≡ has_entry r
+number-entry (Ok t) = refl
+number-entry (Err (book.Disk cell)) = refl
+number-entry (Err (book.Closed cell)) = refl
+number-entry (Err book.HistoryFull) = refl
+number-entry (Err book.LogFull) = refl
+number-entry (Err book.Memory) = refl
+number-entry (Err (book.Room cells events)) = refl
+number-entry (Err (book.Splitting number)) = refl
+number-entry (Err book.Deep) = refl
+number-entry (Err book.NoLeaf) = refl
+number-entry (Err (book.Stale number)) = refl
+number-entry (Err (book.NotOpen number)) = refl
+
+number-refused : (IsFree : BookFault → Type 0) (cause : Option BookFault) (r : Result SplitTicket BookFault) → IsRefusedBy IsFree cause r → IsRefusedBy IsFree cause (number_of r)
+number-refused IsFree None (Ok t) refused = tt
+number-refused IsFree None (Err fault) refused = refused
+number-refused IsFree (Some cause) (Ok t) refused = absurd (cc refused)
+number-refused IsFree (Some cause) (Err fault) refused = let same : fault ≡ cause = cc refused in ap (λ (f : BookFault). Err f) same
+
+module _ {I D : Type 0} (leaves : I → List Leaf) (drive : D → Drive) (w : ℕ) (b mid : BookView I D) (old took back : Known) (name : List Bool) (was : WasTaken drive b old took) (books : AreBooks leaves drive w b mid) where
+  -- the state that the pass knows is the book's
+  book-state : (h : List Entry) → state_after w b.opening h ≡ state_of w old.origin h
+  book-state h =
+      let start : start_of (origin_of drive b) ≡ b.opening = start-of-origin drive b books.before.opening in
+      (λ i. state_after w (sym start i) h) ∙ (λ i. state_after w (start_of (was.origin i)) h)
+
+  begin-added : (r : Result SplitTicket BookFault) → IfOk r (λ t. Begins leaves w b mid name t) → Says (λ (number : ℕ). mid.entries ≡ b.entries ++ Begin number name ∷ []) (number_of r)
+  begin-added (Ok t) ok = ok.entries
+  begin-added (Err fault) ok = tt
+
+  begin-says : (r : Result SplitTicket BookFault) → IfOk r (λ t. Begins leaves w b mid name t) → Says (IsNextSplit w old.origin b.entries) (number_of r)
+  begin-says (Ok t) ok = ok.number_is ∙ ap (λ (s : State). s.begun + 1) (book-state b.entries)
+  begin-says (Err fault) ok = tt
+
+  begin-left : (r : Result SplitTicket BookFault) → IfErr r (LeavesRefused drive (lost.Begin ((state_after w b.opening b.entries).begun + 1) name) b mid)
+      → IfErr (number_of r) (LeavesRefused drive (lost.Begin ((state_of w old.origin b.entries).begun + 1) name) b mid)
+  begin-left (Ok t) err = tt
+  begin-left (Err fault) err = subst (λ (s : State). LeavesRefused drive (lost.Begin (s.begun + 1) name) b mid fault) (book-state b.entries) err
+
+  begin-refused : (r : Result SplitTicket BookFault) → IsRefusedBy IsMemoryOrDisk (begin_refusal w b name) r → IsRefusedBy IsMemoryOrDisk (begin_cause w old.origin name (cells_in b.log) b.entries) (number_of r)
+  begin-refused r refused =
+      subst (λ (s : State). IsRefusedBy IsMemoryOrDisk (first_of (closed_refusal b.entries) (first_of (room_refusal (cells_in b.log) (length b.entries)) (leaf_refusal w s name))) (number_of r)) (book-state b.entries)
+      (number-refused IsMemoryOrDisk (begin_refusal w b name) r refused)
+
+  pub begun-step : (r : Result SplitTicket BookFault) → IfOk r (λ t. Begins leaves w b mid name t) → IsRefusedBy IsMemoryOrDisk (begin_refusal w b name) r → IfErr r (LeavesRefused drive (lost.Begin ((state_after w b.opening b.entries).begun + 1) name) b mid)
+      → BookStep drive IsMemoryOrDisk (begin_cause w old.origin name (cells_in b.log) b.entries) (λ (number : ℕ). Begin number name) (lost.Begin ((state_of w old.origin b.entries).begun + 1) name) b mid (number_of r)
+  begun-step r ok refused err = record { refused = begin-refused r refused; added = begin-added r ok; left = begin-left r err }
+
+  pub begun : (r : Result SplitTicket BookFault) → IfOk r (λ t. Begins leaves w b mid name t) → IsRefusedBy IsMemoryOrDisk (begin_refusal w b name) r → IfErr r (LeavesRefused drive (lost.Begin ((state_after w b.opening b.entries).begun + 1) name) b mid)
+      → back ≡ has_given took (has_entry r) mid.entries → BeginsSplit w name old back (number_of r)
+  begun r ok refused err given =
+      stepped leaves drive w IsMemoryOrDisk (begin_cause w old.origin name) (λ (number : ℕ). Begin number name) (λ (h : List Entry). lost.Begin ((state_of w old.origin h).begun + 1) name) (IsNextSplit w old.origin) b mid old took back (number_of r)
+      books.before was (begun-step r ok refused err) (begin-says r ok) (given ∙ ap (λ (g : Bool). has_given took g mid.entries) (sym (number-entry r)))
+
+  -- and it has begun the split
+  pub begun-notes : (r : Result SplitTicket BookFault) → IfOk r (λ t. Begins leaves w b mid name t) → IsBelow (length took.seen) took.own → back ≡ has_given took (has_entry r) mid.entries
+      → IfOk r (λ t. HasBegun back t.number name (arc_value t.bucket).base)
+  begun-notes (Ok t) ok below given = begun-now leaves drive w b mid old took back name t ok books was below given
+  begun-notes (Err fault) ok below given = tt
+
+pub begun-name : {I D : Type 0} (leaves : I → List Leaf) (w : ℕ) (b mid : BookView I D) (name : List Bool) (r : Result SplitTicket BookFault) → IfOk r (λ t. Begins leaves w b mid name t) → IfOk r (λ t. t.name ≡ name)
+begun-name leaves w b mid name (Ok t) ok = ok.name_is
+begun-name leaves w b mid name (Err fault) ok = tt
+
+-- the end of a split
+module _ {I D : Type 0} (leaves : I → List Leaf) (drive : D → Drive) (w : ℕ) (b mid : BookView I D) (old took back : Known) (was : WasTaken drive b old took) (books : AreBooks leaves drive w b mid) where
+  none-said : (r : Result (Unit {0}) BookFault) → Says (λ (done : Unit {0}). ⊤) r
+  none-said (Ok done) = tt
+  none-said (Err fault) = tt
+
+  pub end-step : (IsFree : BookFault → Type 0) (cause : Option BookFault) (e : Entry) (step : Lost) (r : Result (Unit {0}) BookFault) → cause ≡ end_refusal (cells_in b.log) b.entries → IsRefusedBy IsFree cause r
+      → OnOk r (mid.entries ≡ b.entries ++ e ∷ []) → IfErr r (LeavesRefused drive step b mid) → BookStep drive IsFree (end_refusal (cells_in b.log) b.entries) (λ (done : Unit {0}). e) step b mid r
+  end-step IsFree cause e step (Ok done) same refused added left = record { refused = subst (λ (o : Option BookFault). IsRefusedBy {A = Unit {0}} IsFree o (Ok done)) same refused; added = added; left = left }
+  end-step IsFree cause e step (Err fault) same refused added left = record { refused = subst (λ (o : Option BookFault). IsRefusedBy {A = Unit {0}} IsFree o (Err fault)) same refused; added = tt; left = left }
+
+  pub ended : (IsFree : BookFault → Type 0) (e : Entry) (step : Lost) (r : Result (Unit {0}) BookFault) → BookStep drive IsFree (end_refusal (cells_in b.log) b.entries) (λ (done : Unit {0}). e) step b mid r
+      → back ≡ has_given took (has_entry r) mid.entries → IsStep IsFree end_refusal (λ (done : Unit {0}). e) (λ (h : List Entry). step) (λ (h : List Entry) (done : Unit {0}). ⊤) old back r
+  ended IsFree e step r it given =
+      stepped leaves drive w IsFree end_refusal (λ (done : Unit {0}). e) (λ (h : List Entry). step) (λ (h : List Entry) (done : Unit {0}). ⊤) b mid old took back r books.before was it (none-said r) given
+
+pub installed-added : {I D : Type 0} (leaves : I → List Leaf) (w : ℕ) (b mid : BookView I D) (number : ℕ) (name : List Bool) (r : Result (Unit {0}) BookFault) → OnOk r (Installs leaves w b mid number name) → OnOk r (mid.entries ≡ b.entries ++ Install number ∷ [])
+installed-added leaves w b mid number name (Ok done) ok = ok.entries
+installed-added leaves w b mid number name (Err fault) ok = tt
+
+pub abandoned-added : {I D : Type 0} (b mid : BookView I D) (number : ℕ) (r : Result (Unit {0}) BookFault) → OnOk r (Abandons b mid number) → OnOk r (mid.entries ≡ b.entries ++ Abandon number ∷ [])
+abandoned-added b mid number (Ok done) ok = ok.entries
+abandoned-added b mid number (Err fault) ok = tt
+
+-- what a split leaves is the pass with more seen and own
+begins-same : (w : ℕ) (name : List Bool) (old new : Known) (r : Result ℕ BookFault) → BeginsSplit w name old new r → SamePass old new
+begins-same w name old new r step =
+    step-same IsMemoryOrDisk (begin_cause w old.origin name) (λ (number : ℕ). Begin number name) (λ (h : List Entry). lost.Begin ((state_of w old.origin h).begun + 1) name) (IsNextSplit w old.origin) old new r step
+
+pub installs-same : (number : ℕ) (old new : Known) (r : Result (Unit {0}) BookFault) → InstallsSplit number old new r → SamePass old new
+installs-same number old new r step = step-same IsMemoryOrDisk end_refusal (λ (done : Unit {0}). Install number) (λ (h : List Entry). lost.Install number) (λ (h : List Entry) (done : Unit {0}). ⊤) old new r step
+
+abandons-same : (number : ℕ) (old new : Known) (r : Result (Unit {0}) BookFault) → AbandonsSplit number old new r → SamePass old new
+abandons-same number old new r step = step-same IsDisk end_refusal (λ (done : Unit {0}). Abandon number) (λ (h : List Entry). lost.Abandon number) (λ (h : List Entry) (done : Unit {0}). ⊤) old new r step
+
+gives-same : (number : ℕ) (old new : Known) (fault : BookFault) → GivesUp number old new fault → SamePass old new
+gives-same number old new fault (inl (memory, step)) = abandons-same number old new (Ok tt) step
+gives-same number old new fault (inr step) = abandons-same number old new (Err fault) step
+
+pub same-none : (pass : Known) → SamePass pass pass
+same-none pass = (([], append-nil pass.seen), refl)
+
+ran-same : (number : ℕ) (mid seen : Known) → RanOut number mid seen → SamePass mid seen
+ran-same number mid seen (inl same) = subst (SamePass mid) (sym same) (same-none mid)
+ran-same number mid seen (inr step) = installs-same number mid seen (Err book.Memory) step
+
+not-same : (number : ℕ) (mid new : Known) (fault : BookFault) → NotInstalled number mid new fault → SamePass mid new
+not-same number mid new fault (inl (lasting, step)) = installs-same number mid new (Err fault) step
+not-same number mid new fault (inr (seen, ran, gives)) = same-later mid seen new (ran-same number mid seen ran) (gives-same number seen new fault gives)
+
+pub split-same : (w : ℕ) (name : List Bool) (old new : Known) (split : Split) → SplitEnds w name old new split → SamePass old new
+split-same w name old new (Installed number) (mid, begins, step) = same-later old mid new (begins-same w name old mid (Ok number) begins) (installs-same number mid new (Ok tt) step)
+split-same w name old new (NotSplit fault) (inl step) = begins-same w name old new (Err fault) step
+split-same w name old new (NotSplit fault) (inr (number, mid, begins, not)) = same-later old mid new (begins-same w name old mid (Ok number) begins) (not-same number mid new fault not)
+
+-- a split that was begun is given up
+pub given-up : (w number : ℕ) (name : List Bool) (old mid seen new : Known) (split : Split) → BeginsAs w name old mid number → RanOut number mid seen → IsNotSplit (GivesUp number seen new) split → SplitEnds w name old new split
+given-up w number name old mid seen new (Installed n) begins ran not = absurd not
+given-up w number name old mid seen new (NotSplit fault) begins ran not = inr (number, mid, begins, inr (seen, ran, not))
+
+-- the pass that has begun a split lost nothing where memory ran out
+pub ran-later : (number : ℕ) (name : List Bool) (base : List Row) (mid seen : Known) → InstallsSplit number mid seen (Err book.Memory) → HasBegun mid number name base → HasBegun seen number name base
+ran-later number name base mid seen step begun =
+    begun-later mid seen number name base (installs-same number mid seen (Err book.Memory) step).0 (ap (λ (k : Known). k.own) step.leaves) (ap (λ (k : Known). k.origin) step.leaves) begun

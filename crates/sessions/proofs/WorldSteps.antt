@@ -1,0 +1,99 @@
+-- The objects behind a lock are a world.
+use Rattle.std.proofs.Common.{◌≡◌, ℕ, Bool, true, false, not, cond, ◌==◌, List, [], ◌∷◌, ◌++◌, sym, subst, ◌∙◌}
+use Rattle.std.specs.Prelude.{nat_lt, ⊤, Ok, Err, Result}
+use Rattle.zorder.specs.declared.points.Placed.{Placed}
+use Rattle.plain_list.specs.declared.ops.Op.{Op}
+use Rattle.plain_list.specs.declared.entries.Entry.{Entry}
+use Rattle.plain_list.specs.declared.entries.Entry.TheVariants.{Call, Begin, Install, Abandon, Fail}
+use Rattle.plain_list.specs.declared.entries.Lost.{Lost}
+use Rattle.plain_list.specs.World.{IsWorld}
+use Rattle.plain_list.specs.Answer.{FitsOp}
+use Rattle.plain_list.specs.History.{world_after, world_step}
+use Rattle.plain_list.proofs.Histories.{world_after-append}
+use Rattle.plain_list.proofs.Worlds.{IsWorld-after_of}
+use Rattle.disk_trait.specs.Drive.{Drive}
+use Rattle.commit_book.specs.BookView.{BookView}
+use Rattle.commit_book.specs.Refusals.{LeavesRefused}
+use Rattle.commit_book.specs.declared.faults.BookFault.{BookFault}
+use Rattle.commit_book.specs.declared.faults.BookFault.TheVariants as book
+use Rattle.std.specs.Prelude.{IfOk, IfErr, OnOk}
+use Rattle.index_layer.specs.Leaves.{Leaf}
+use Rattle.split_prepare.specs.declared.ticket.SplitTicket.{SplitTicket}
+use Rattle.commit_book.specs.SplitSteps.{Begins, Installs, Abandons}
+use Rattle.plain_list.specs.declared.entries.Lost.TheVariants as lost
+use Rattle.index_layer.specs.Stands.{Stands}
+use Rattle.commit_book.specs.Answers.{Notes, Replies, IsQuery}
+use Rattle.commit_book.proofs.BookSteps.{query_keeps}
+use Rattle.commit_book.specs.declared.book.Done.{Done}
+use Rattle.commit_book.specs.declared.book.Snapshot.{Snapshot}
+use Rattle.sessions.specs.Shared.{HasWorld}
+
+-- an entry whose operation fits
+abbrev pub EntryFits : Entry → Type 0
+EntryFits (Call session row op) = FitsOp op
+EntryFits (Begin number name) = ⊤
+EntryFits (Install number) = ⊤
+EntryFits (Abandon number) = ⊤
+EntryFits (Fail cell lost) = ⊤
+
+IsWorld-step : (world : List Placed) (e : Entry) → EntryFits e → IsWorld world → IsWorld (world_step world e)
+IsWorld-step world (Call session row op) fits is = IsWorld-after_of world op fits is
+IsWorld-step world (Begin number name) fits is = is
+IsWorld-step world (Install number) fits is = is
+IsWorld-step world (Abandon number) fits is = is
+IsWorld-step world (Fail cell lost) fits is = is
+
+-- a book with one entry more
+pub world_more : {I D : Type 0} (old new : BookView I D) (e : Entry) → EntryFits e → new.opening ≡ old.opening → new.entries ≡ old.entries ++ e ∷ [] → HasWorld old → HasWorld new
+world_more old new e fits opening entries has =
+    let after : world_after new.opening.world new.entries ≡ world_step (world_after old.opening.world old.entries) e =
+    (λ i. world_after (opening i).world (entries i)) ∙ world_after-append old.opening.world old.entries (e ∷ []) in
+    record { world = subst IsWorld (sym after) (IsWorld-step (world_after old.opening.world old.entries) e fits has.world) }
+
+-- a book that a refused call leaves
+pub world_refused : {I D : Type 0} (drive : D → Drive) (lost : Lost) (old new : BookView I D) (fault : BookFault) → new.opening ≡ old.opening → HasWorld old → LeavesRefused drive lost old new fault → HasWorld new
+world_refused drive lost old new (book.Disk cell) opening has left = world_more old new (Fail cell lost) tt opening left.entries has
+world_refused drive lost old new (book.Closed cell) opening has left = subst HasWorld (sym left) has
+world_refused drive lost old new book.HistoryFull opening has left = subst HasWorld (sym left) has
+world_refused drive lost old new book.LogFull opening has left = subst HasWorld (sym left) has
+world_refused drive lost old new book.Memory opening has left = subst HasWorld (sym left) has
+world_refused drive lost old new (book.Room cells events) opening has left = subst HasWorld (sym left) has
+world_refused drive lost old new (book.Splitting number) opening has left = subst HasWorld (sym left) has
+world_refused drive lost old new book.Deep opening has left = subst HasWorld (sym left) has
+world_refused drive lost old new book.NoLeaf opening has left = subst HasWorld (sym left) has
+world_refused drive lost old new (book.Stale number) opening has left = subst HasWorld (sym left) has
+world_refused drive lost old new (book.NotOpen number) opening has left = subst HasWorld (sym left) has
+
+pub update_world : {I D : Type 0} (w : ℕ) (drive : D → Drive) (old new : BookView I D) (session row : ℕ) (op : Op) (r : Result Done BookFault) → IfOk r (λ d. Replies w old new session row op d.place d.answer d.full)
+    → IfErr r (LeavesRefused drive (lost.Call session row op) old new) → new.opening ≡ old.opening → FitsOp op → HasWorld old → HasWorld new
+update_world w drive old new session row op (Ok d) ok err opening fits has = world_more old new (Call session row op) fits opening ok.notes.entries has
+update_world w drive old new session row op (Err fault) ok err opening fits has = world_refused drive (lost.Call session row op) old new fault opening has err
+
+pub snapshot_world : {I D : Type 0} (old new : BookView I D) (session row : ℕ) (op : Op) (r : Result (Snapshot I) BookFault) → IfOk r (λ s. Notes old new session row op s.place)
+    → IfErr r (λ _. new ≡ old) → new.opening ≡ old.opening → FitsOp op → HasWorld old → HasWorld new
+snapshot_world old new session row op (Ok s) ok err opening fits has = world_more old new (Call session row op) fits opening ok.entries has
+snapshot_world old new session row op (Err fault) ok err opening fits has = subst HasWorld (sym err) has
+
+pub begin_world : {I D : Type 0} (leaves : I → List Leaf) (w n : ℕ) (drive : D → Drive) (old new : BookView I D) (name : List Bool) (r : Result SplitTicket BookFault) → IfOk r (λ t. Begins leaves w old new name t)
+    → IfErr r (LeavesRefused drive (lost.Begin n name) old new) → new.opening ≡ old.opening → HasWorld old → HasWorld new
+begin_world leaves w n drive old new name (Ok t) ok err opening has = world_more old new (Begin t.number name) tt opening ok.entries has
+begin_world leaves w n drive old new name (Err fault) ok err opening has = world_refused drive (lost.Begin n name) old new fault opening has err
+
+pub install_world : {I D : Type 0} {A : Type 0} (leaves : I → List Leaf) (w n : ℕ) (drive : D → Drive) (old new : BookView I D) (name : List Bool) (r : Result A BookFault) → OnOk r (Installs leaves w old new n name)
+    → IfErr r (LeavesRefused drive (lost.Install n) old new) → new.opening ≡ old.opening → HasWorld old → HasWorld new
+install_world leaves w n drive old new name (Ok t) ok err opening has = world_more old new (Install n) tt opening ok.entries has
+install_world leaves w n drive old new name (Err fault) ok err opening has = world_refused drive (lost.Install n) old new fault opening has err
+
+pub abandon_world : {I D : Type 0} {A : Type 0} (n : ℕ) (drive : D → Drive) (old new : BookView I D) (r : Result A BookFault) → OnOk r (Abandons old new n)
+    → IfErr r (LeavesRefused drive (lost.Abandon n) old new) → new.opening ≡ old.opening → HasWorld old → HasWorld new
+abandon_world n drive old new (Ok t) ok err opening has = world_more old new (Abandon n) tt opening ok.entries has
+abandon_world n drive old new (Err fault) ok err opening has = world_refused drive (lost.Abandon n) old new fault opening has err
+
+-- a query leaves the world
+pub snapshot_stands : {I D : Type 0} (leaves : I → List Leaf) (names : List (List Bool)) (old new : BookView I D) (session row : ℕ) (op : Op) (r : Result (Snapshot I) BookFault) → IsQuery op → new.opening ≡ old.opening
+    → IfOk r (λ s. Notes old new session row op s.place) → IfOk r (λ s. Stands (leaves s.index) (world_after new.opening.world new.entries) names) → IfOk r (λ s. Stands (leaves s.index) (world_after old.opening.world old.entries) names)
+snapshot_stands leaves names old new session row op (Ok s) query opening ok index =
+    let world : world_after new.opening.world new.entries ≡ world_after old.opening.world old.entries =
+    (λ i. world_after (opening i).world (ok.entries i)) ∙ world_after-append old.opening.world old.entries (Call session row op ∷ []) ∙ query_keeps op (world_after old.opening.world old.entries) query in
+    subst (λ (w : List Placed). Stands (leaves s.index) w names) world index
+snapshot_stands leaves names old new session row op (Err fault) query opening ok index = tt

@@ -1,0 +1,97 @@
+-- What playing a lane's rows leaves.
+use Rattle.std.specs.Prelude.{◌≡◌, ℕ, ◌+◌, ◌<◌, ◌≤◌, Bool, List, [], ◌∷◌, ◌++◌, length, slice_index_or, vec_len, vec_capacity, take, true, false, Option, Some, None, Ok, Err}
+use Rattle.plain_list.specs.declared.ops.Op.{Op}
+use Rattle.plain_list.specs.Answer.{IsValid}
+use Rattle.atomic_table.specs.Seated.{TableId}
+use Rattle.book_lock.specs.Pass.{Known}
+use Rattle.commit_book.specs.declared.book.Done.{Done}
+use Rattle.sessions.specs.declared.faults.CallFault.{CallFault}
+use Rattle.sessions.specs.declared.faults.Split.{Split}
+use Rattle.sessions.specs.declared.store.lanes.Lane.{Lane}
+use Rattle.sessions.specs.declared.store.lanes.KeptRow.{KeptRow}
+use Rattle.sessions.specs.Calls.{Called}
+use Rattle.sessions.specs.Splits.{SplitEnds, SamePass}
+
+-- the lane has a pass of this lock, and rows that may be asked, none of them kept yet, and room for all of them
+pub record IsReady {I D : Type 0} (lock : TableId) (lane : Lane I D) : Type 0 where
+  pub lock_is : lane.pass.lock ≡ lock
+  pub off : lane.pass.holds ≡ false
+  pub valid : (i : ℕ) (d : ℕ × Op) → i < length lane.rows.items → IsValid (slice_index_or lane.rows.items i d).1
+  pub room : vec_len lane.kept + length lane.rows.items ≤ vec_capacity lane.kept
+  pub kept : lane.kept.items ≡ []
+  pub fault : lane.fault ≡ None
+
+-- a split is tried where a leaf is told, and nothing else is done
+abbrev pub Tries : ℕ → Option (List Bool) → Known → Known → Option Split → Type 0
+Tries w None mid new split = (split ≡ None) × (new ≡ mid)
+Tries w (Some name) mid new split = (s : Split) × (split ≡ Some s) × SplitEnds w name mid new s
+
+-- A row was called, and a split tried where its answer tells a leaf; both answers are kept.
+pub record Keeps (w session : ℕ) (old new : Known) (row : ℕ × Op) (kept : KeptRow) : Type 0 where
+  pub mid : Known
+  pub done : Done
+  pub called : Called w session row.0 row.1 old mid (Ok done)
+  pub row_is : kept.row ≡ row.0
+  pub place_is : kept.place ≡ done.place
+  pub answer_is : kept.answer ≡ done.answer
+  pub tries : Tries w done.full mid new kept.split
+
+-- rows one after another, each kept
+abbrev pub KeepsAll : ℕ → ℕ → Known → List (ℕ × Op) → List KeptRow → Known → Type 0
+KeepsAll w session old [] [] new = new ≡ old
+KeepsAll w session old [] (k ∷ kept) new = ⊥
+KeepsAll w session old (r ∷ rows) [] new = ⊥
+KeepsAll w session old (r ∷ rows) (k ∷ kept) new = (mid : Known) × Keeps w session old mid r k × KeepsAll w session mid rows kept new
+
+-- no row is left, or the next one was refused
+abbrev pub Stops : ℕ → ℕ → Known → Known → List (ℕ × Op) → Option CallFault → Type 0
+Stops w session mid new [] None = new ≡ mid
+Stops w session mid new [] (Some fault) = ⊥
+Stops w session mid new (r ∷ rest) None = ⊥
+Stops w session mid new (r ∷ rest) (Some fault) = Called w session r.0 r.1 mid new (Err fault)
+
+-- A lane was played: its rows from the first on are kept, one after another, and it stopped at the first that was refused, or at the end.
+pub record Plays {I D : Type 0} (w : ℕ) (old new : Lane I D) : Type 0 where
+  pub session : new.session ≡ old.session
+  pub rows : new.rows.items ≡ old.rows.items
+  pub front : List (ℕ × Op)
+  pub rest : List (ℕ × Op)
+  pub mid : Known
+  pub whole : old.rows.items ≡ front ++ rest
+  pub keeps : KeepsAll w old.session old.pass front new.kept.items mid
+  pub stops : Stops w old.session mid new.pass rest new.fault
+
+-- a lane went on by a row, which is kept
+pub record KeepsOne {I D : Type 0} (w i : ℕ) (old new : Lane I D) : Type 0 where
+  pub session : new.session ≡ old.session
+  pub rows : new.rows.items ≡ old.rows.items
+  pub fault : new.fault ≡ None
+  pub count : vec_len new.kept ≡ vec_len old.kept + 1
+  pub room : vec_capacity old.kept ≤ vec_capacity new.kept
+  pub pass : SamePass old.pass new.pass
+  pub kept : KeptRow
+  pub items : new.kept.items ≡ old.kept.items ++ kept ∷ []
+  pub keeps : (d : ℕ × Op) → Keeps w old.session old.pass new.pass (slice_index_or old.rows.items i d) kept
+
+-- a lane stopped at a row
+pub record StopsAt {I D : Type 0} (w i : ℕ) (old new : Lane I D) : Type 0 where
+  pub session : new.session ≡ old.session
+  pub rows : new.rows.items ≡ old.rows.items
+  pub kept : new.kept.items ≡ old.kept.items
+  pub fault : CallFault
+  pub fault_is : new.fault ≡ Some fault
+  pub called : (d : ℕ × Op) → Called w old.session (slice_index_or old.rows.items i d).0 (slice_index_or old.rows.items i d).1 old.pass new.pass (Err fault)
+
+-- either, as is told
+abbrev pub Advances : {I D : Type 0} → ℕ → ℕ → Lane I D → Lane I D → Bool → Type 0
+Advances w i old new true = KeepsOne w i old new
+Advances w i old new false = StopsAt w i old new
+
+-- a lane has played so many rows
+pub record PlaysTo {I D : Type 0} (w i : ℕ) (old new : Lane I D) : Type 0 where
+  pub session : new.session ≡ old.session
+  pub rows : new.rows.items ≡ old.rows.items
+  pub fault : new.fault ≡ None
+  pub room : vec_len new.kept + length old.rows.items ≤ vec_capacity new.kept + i
+  pub pass : SamePass old.pass new.pass
+  pub keeps : KeepsAll w old.session old.pass (take i old.rows.items) new.kept.items new.pass

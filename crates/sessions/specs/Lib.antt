@@ -1,0 +1,5 @@
+pub mod Shared
+pub mod Steps
+pub mod Calls
+pub mod Splits
+pub mod Lanes

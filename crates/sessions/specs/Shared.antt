@@ -1,0 +1,47 @@
+-- A book behind a lock: what holds of it, and what it began from.
+use Rattle.std.specs.Prelude.{ℕ, List, [], Option, Some, None}
+use Rattle.plain_list.specs.World.{IsWorld}
+use Rattle.plain_list.specs.State.{State}
+use Rattle.plain_list.specs.History.{world_after}
+use Rattle.disk_trait.specs.Drive.{Drive}
+use Rattle.kept_log.specs.KeptView.{KeptView}
+use Rattle.commit_book.specs.BookView.{BookView}
+use Rattle.book_lock.specs.declared.origin.Origin.{Origin}
+
+-- its objects are a world
+pub record HasWorld {I D : Type 0} (b : BookView I D) : Type 0 where
+  pub world : IsWorld (world_after b.opening.world b.entries)
+
+-- the number of cells of its log at the opening, and of that drive the bytes, the moment and the count of faults
+abbrev pub first_in : {D : Type 0} → Option (KeptView D) → ℕ
+first_in None = 0
+first_in (Some log) = log.first
+
+abbrev pub bytes_in : {D : Type 0} → (D → Drive) → Option (KeptView D) → Option (List ℕ)
+bytes_in drive None = None
+bytes_in drive (Some log) = (drive log.start).bytes
+
+abbrev pub moment_in : {D : Type 0} → (D → Drive) → Option (KeptView D) → ℕ
+moment_in drive None = 0
+moment_in drive (Some log) = (drive log.start).moment
+
+abbrev pub faults_in : {D : Type 0} → (D → Drive) → Option (KeptView D) → ℕ
+faults_in drive None = 0
+faults_in drive (Some log) = (drive log.start).faults
+
+-- what a book began from
+abbrev pub origin_of : {I D : Type 0} → (D → Drive) → BookView I D → Origin
+origin_of drive b = record {
+  world = b.opening.world;
+  leaves = b.opening.leaves;
+  begun = b.opening.begun;
+  cells = first_in b.log;
+  bytes = bytes_in drive b.log;
+  moment = moment_in drive b.log;
+  faults = faults_in drive b.log;
+  bucket = b.bucket;
+}
+
+-- the state at which a value of this origin began
+abbrev pub start_of : Origin → State
+start_of o = record { world = o.world; leaves = o.leaves; splits = []; begun = o.begun }

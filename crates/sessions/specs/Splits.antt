@@ -1,0 +1,108 @@
+-- What a split leaves of its pass, and why one isn't made.
+use Rattle.std.specs.Prelude.{◌≡◌, ◌⊎◌, ℕ, ◌+◌, Bool, List, [], ◌∷◌, ◌++◌, length, Option, Result, Ok, Err, ⊤}
+use mathlib.Core.List.{IsPrefix}
+use Rattle.bucket_versions.specs.declared.row.Row.{Row}
+use Rattle.bucket_versions.specs.Rows.{as_base}
+use Rattle.plain_list.specs.declared.entries.Entry.{Entry}
+use Rattle.plain_list.specs.declared.entries.Entry.TheVariants.{Begin, Install, Abandon}
+use Rattle.plain_list.specs.declared.entries.Lost.{Lost}
+use Rattle.plain_list.specs.declared.entries.Lost.TheVariants as lost
+use Rattle.plain_list.specs.History.{world_after}
+use Rattle.plain_list.specs.State.{State, state_after}
+use Rattle.book_lock.specs.Pass.{Known}
+use Rattle.book_lock.specs.Own.{IsBelow}
+use Rattle.book_lock.specs.declared.origin.Origin.{Origin}
+use Rattle.commit_book.specs.KeptBases.{HasBaseOf}
+use Rattle.commit_book.specs.Refusals.{IsDisk, IsMemoryOrDisk, first_of, closed_refusal, room_refusal, leaf_refusal, end_refusal}
+use Rattle.commit_book.specs.declared.faults.BookFault.{BookFault}
+use Rattle.commit_book.specs.declared.faults.BookFault.TheVariants as book
+use Rattle.split_prepare.specs.declared.ticket.SplitTicket.{SplitTicket}
+use Rattle.sessions.specs.Shared.{start_of}
+use Rattle.sessions.specs.Steps.{IsStep}
+use Rattle.sessions.specs.declared.faults.Split.{Split}
+use Rattle.sessions.specs.declared.faults.Split.TheVariants.{Installed, NotSplit}
+
+-- the state of a store of this origin after a history
+abbrev pub state_of : ℕ → Origin → List Entry → State
+state_of w origin before = state_after w (start_of origin) before
+
+-- the cause for which the begin of a split is refused behind a history
+abbrev pub begin_cause : ℕ → Origin → List Bool → ℕ → List Entry → Option BookFault
+begin_cause w origin name cells before =
+    first_of (closed_refusal before) (first_of (room_refusal cells (length before)) (leaf_refusal w (state_of w origin before) name))
+
+-- a split has the next number
+abbrev pub IsNextSplit : ℕ → Origin → List Entry → ℕ → Type 0
+IsNextSplit w origin before number = number ≡ (state_of w origin before).begun + 1
+
+-- the number of a split that was begun
+abbrev pub number_of : Result SplitTicket BookFault → Result ℕ BookFault
+number_of (Ok ticket) = Ok ticket.number
+number_of (Err fault) = Err fault
+
+-- the begin of a split of a leaf, under the lock
+abbrev pub BeginsSplit : ℕ → List Bool → Known → Known → Result ℕ BookFault → Type 0
+BeginsSplit w name old new result =
+    IsStep IsMemoryOrDisk (begin_cause w old.origin name) (λ number. Begin number name) (λ before. lost.Begin ((state_of w old.origin before).begun + 1) name) (IsNextSplit w old.origin) old new result
+
+-- the installation of a split that the pass has begun: it is refused for no cause of its own
+abbrev pub InstallsSplit : ℕ → Known → Known → Result (Unit {0}) BookFault → Type 0
+InstallsSplit number old new result = IsStep IsMemoryOrDisk end_refusal (λ done. Install number) (λ before. lost.Install number) (λ before done. ⊤) old new result
+
+-- its abandonment, which takes no memory
+abbrev pub AbandonsSplit : ℕ → Known → Known → Result (Unit {0}) BookFault → Type 0
+AbandonsSplit number old new result = IsStep IsDisk end_refusal (λ done. Abandon number) (λ before. lost.Abandon number) (λ before done. ⊤) old new result
+
+-- The pass owns the begin of this split, as the last of its own entries, and these were the rows of the leaf then.
+pub record HasBegun (pass : Known) (number : ℕ) (name : List Bool) (base : List Row) : Type 0 where
+  pub before : List Entry
+  pub own : List ℕ
+  pub seen : IsPrefix (before ++ Begin number name ∷ []) pass.seen
+  pub own_is : pass.own ≡ own ++ length before ∷ []
+  pub below : IsBelow (length before) own
+  pub rows : HasBaseOf (world_after pass.origin.world before) (record { name = name; bucket = as_base base })
+
+-- any fault but want of memory
+abbrev pub IsLasting : BookFault → Type 0
+IsLasting (book.Disk cell) = ⊤
+IsLasting (book.Closed cell) = ⊤
+IsLasting book.HistoryFull = ⊤
+IsLasting book.LogFull = ⊤
+IsLasting book.Memory = ⊥
+IsLasting (book.Room cells events) = ⊤
+IsLasting (book.Splitting number) = ⊤
+IsLasting book.Deep = ⊤
+IsLasting book.NoLeaf = ⊤
+IsLasting (book.Stale number) = ⊤
+IsLasting (book.NotOpen number) = ⊤
+
+-- a split is given up for want of memory: it is abandoned, or that is refused
+abbrev pub GivesUp : ℕ → Known → Known → BookFault → Type 0
+GivesUp number old new fault = ((fault ≡ book.Memory) × AbandonsSplit number old new (Ok tt)) ⊎ AbandonsSplit number old new (Err fault)
+
+-- memory ran out: in the preparation, or in the installation
+abbrev pub RanOut : ℕ → Known → Known → Type 0
+RanOut number mid seen = (seen ≡ mid) ⊎ InstallsSplit number mid seen (Err book.Memory)
+
+-- a split that was begun isn't installed: that is refused, or memory ran out and it is given up
+abbrev pub NotInstalled : ℕ → Known → Known → BookFault → Type 0
+NotInstalled number mid new fault = (IsLasting fault × InstallsSplit number mid new (Err fault)) ⊎ ((seen : Known) × RanOut number mid seen × GivesUp number seen new fault)
+
+-- a split that was begun
+abbrev pub BeginsAs : ℕ → List Bool → Known → Known → ℕ → Type 0
+BeginsAs w name old mid number = BeginsSplit w name old mid (Ok number)
+
+-- how a split ends, or why it doesn't begin
+abbrev pub SplitEnds : ℕ → List Bool → Known → Known → Split → Type 0
+SplitEnds w name old new (Installed number) = (mid : Known) × BeginsAs w name old mid number × InstallsSplit number mid new (Ok tt)
+SplitEnds w name old new (NotSplit fault) =
+    BeginsSplit w name old new (Err fault) ⊎ ((number : ℕ) × (mid : Known) × BeginsAs w name old mid number × NotInstalled number mid new fault)
+
+-- it isn't split, for such a fault
+abbrev pub IsNotSplit : (BookFault → Type 0) → Split → Type 0
+IsNotSplit P (Installed number) = ⊥
+IsNotSplit P (NotSplit fault) = P fault
+
+-- no call changes of a pass more than what it has seen and owns
+abbrev pub SamePass : Known → Known → Type 0
+SamePass old new = IsPrefix old.seen new.seen × (new ≡ record old { seen = new.seen; own = new.own })

@@ -1,0 +1,85 @@
+-- What one step under the lock leaves of a pass.
+use Rattle.std.specs.Prelude.{◌≡◌, ◌⊎◌, ℕ, ◌+◌, ◌≤◌, Bool, true, false, List, [], ◌∷◌, ◌++◌, length, Option, Result, Ok, Err}
+use mathlib.Core.List.{IsPrefix}
+use Rattle.plain_list.specs.declared.entries.Entry.{Entry}
+use Rattle.plain_list.specs.declared.entries.Entry.TheVariants.{Fail}
+use Rattle.plain_list.specs.declared.entries.Lost.{Lost}
+use Rattle.log_state.specs.Changes.{cells_of}
+use Rattle.commit_book.specs.IsBook.{most_events}
+use Rattle.commit_book.specs.Refusals.{IsRefusedBy}
+use Rattle.commit_book.specs.declared.faults.BookFault.{BookFault}
+use Rattle.commit_book.specs.declared.faults.BookFault.TheVariants.{Closed, Disk, HistoryFull, LogFull, Memory, Room, Splitting, Deep, NoLeaf, Stale, NotOpen}
+use Rattle.book_lock.specs.Pass.{Known}
+use Rattle.book_lock.specs.Ends.{MayNote}
+use Rattle.book_lock.specs.declared.origin.Origin.{Origin}
+
+-- the pass has seen this history, and nothing else changed
+abbrev pub has_seen : Known → List Entry → Known
+has_seen old before = record old { seen = before }
+
+-- it has seen one entry more, and that is its own
+abbrev pub has_added : Known → List Entry → Entry → Known
+has_added old before e = record old { seen = before ++ e ∷ []; own = old.own ++ length before ∷ [] }
+
+-- how many cells a log of this origin has after a history
+abbrev pub cells_after : Origin → List Entry → ℕ
+cells_after origin before = origin.cells + length (cells_of origin.world before)
+
+-- the number of cells there, which is 0 where there is no log; then the history is too short for a limit of cells to be met
+abbrev pub AreCells : Origin → List Entry → ℕ → Type 0
+AreCells origin before cells = (cells ≡ cells_after origin before) ⊎ ((cells ≡ 0) × (origin.cells ≡ 0) × (cells_after origin before ≤ most_events))
+
+-- what a step leaves: the entry that it adds, where it adds one, is the last that was seen, and own
+abbrev pub Leaves : {A : Type 0} → (A → Entry) → (List Entry → Lost) → Known → List Entry → Known → Result A BookFault → Type 0
+Leaves entry lost old before new (Ok value) = new ≡ has_added old before (entry value)
+Leaves entry lost old before new (Err (Disk cell)) = new ≡ has_added old before (Fail cell (lost before))
+Leaves entry lost old before new (Err (Closed cell)) = new ≡ has_seen old before
+Leaves entry lost old before new (Err HistoryFull) = new ≡ has_seen old before
+Leaves entry lost old before new (Err LogFull) = new ≡ has_seen old before
+Leaves entry lost old before new (Err Memory) = new ≡ has_seen old before
+Leaves entry lost old before new (Err (Room cells events)) = new ≡ has_seen old before
+Leaves entry lost old before new (Err (Splitting number)) = new ≡ has_seen old before
+Leaves entry lost old before new (Err Deep) = new ≡ has_seen old before
+Leaves entry lost old before new (Err NoLeaf) = new ≡ has_seen old before
+Leaves entry lost old before new (Err (Stale number)) = new ≡ has_seen old before
+Leaves entry lost old before new (Err (NotOpen number)) = new ≡ has_seen old before
+
+-- what is said of the value that a step answers
+abbrev pub Says : {A : Type 0} → (A → Type 0) → Result A BookFault → Type 0
+Says P (Ok value) = P value
+Says P (Err fault) = Unit {0}
+
+-- A step under the lock: the history that was seen there, the cause for which the step is refused there, and what it leaves.
+pub record IsStep {A : Type 0} (IsFree : BookFault → Type 0) (cause : ℕ → List Entry → Option BookFault) (entry : A → Entry) (lost : List Entry → Lost) (P : List Entry → A → Type 0) (old new : Known) (result : Result A BookFault) : Type 0 where
+  pub before : List Entry
+  pub later : IsPrefix old.seen before
+  pub cells : ℕ
+  pub are_cells : AreCells old.origin before cells
+  pub refused : IsRefusedBy IsFree (cause cells before) result
+  pub says : Says (P before) result
+  pub leaves : Leaves entry lost old before new result
+
+-- whether a step has added an entry: where it was done, or its append failed
+abbrev pub has_entry : {A : Type 0} → Result A BookFault → Bool
+has_entry (Ok value) = true
+has_entry (Err (Disk cell)) = true
+has_entry (Err (Closed cell)) = false
+has_entry (Err HistoryFull) = false
+has_entry (Err LogFull) = false
+has_entry (Err Memory) = false
+has_entry (Err (Room cells events)) = false
+has_entry (Err (Splitting number)) = false
+has_entry (Err Deep) = false
+has_entry (Err NoLeaf) = false
+has_entry (Err (Stale number)) = false
+has_entry (Err (NotOpen number)) = false
+
+-- a value with these entries may be given back by a pass that holds the lock, with an entry more or as it was
+abbrev pub MayGive : Known → Bool → List Entry → Type 0
+MayGive pass true entries = (e : Entry) × (entries ≡ pass.seen ++ e ∷ []) × MayNote pass.seen pass.own e
+MayGive pass false entries = entries ≡ pass.seen
+
+-- the pass after that
+abbrev pub has_given : Known → Bool → List Entry → Known
+has_given pass true entries = record pass { seen = entries; own = pass.own ++ length pass.seen ∷ []; holds = false }
+has_given pass false entries = record pass { holds = false }

@@ -1,0 +1,65 @@
+//! Why a call of a store is refused, and how a split ends.
+ghost use Rattle.std.specs.Prelude.{◌≡◌};
+ghost use Rattle.sessions.specs.Calls.{IsCallFault, call_fault};
+ghost use Rattle.sessions.specs.Splits.{IsLasting};
+ghost use Rattle.sessions.specs.Steps.{has_entry};
+
+use commit_book::BookFault;
+
+/// Why a call is refused.
+#[derive(Clone, Copy, Debug, PartialEq, Eq)]
+pub enum CallFault {
+    /// An earlier append failed at this cell: the store takes no more calls.
+    Closed { cell: u64 },
+    /// The append of this cell failed in this call.
+    Disk { cell: u64 },
+    /// The history has as many entries as it may have.
+    HistoryFull,
+    /// The log has as many cells as it may have, and the call would be a change.
+    LogFull,
+    /// Memory ran out. A query's entry stands at the place, where there is one.
+    Memory { place: Option<u64> },
+}
+
+/// How a split ended.
+#[derive(Clone, Copy, Debug, PartialEq, Eq)]
+pub enum Split {
+    /// The leaf's children stand in its place.
+    Installed { number: u64 },
+    /// The leaf is as it was.
+    NotSplit(BookFault),
+}
+
+/// What a call answers to a fault of the book.
+pub(crate) fn call_fault(fault: BookFault) -> CallFault
+    requires { IsCallFault fault }
+    ensures { result ≡ call_fault fault }
+{
+    match fault {
+        BookFault::Closed { cell } => CallFault::Closed { cell },
+        BookFault::Disk { cell } => CallFault::Disk { cell },
+        BookFault::HistoryFull => CallFault::HistoryFull,
+        BookFault::LogFull => CallFault::LogFull,
+        BookFault::Memory => CallFault::Memory { place: None },
+        _ => unreachable!(),
+    }
+}
+
+/// Tells that a fault isn't want of memory.
+pub(crate) fn lasting(fault: BookFault) -> BookFault
+    requires { IsLasting fault }
+    ensures fault { result ≡ fault }
+    ensures lasting { IsLasting fault }
+{
+    fault
+}
+
+/// Whether a step of a book has added an entry: where it was done, or its append failed.
+pub(crate) fn has_entry<T>(answer: &Result<T, BookFault>) -> bool
+    ensures { result ≡ has_entry answer.now }
+{
+    match answer {
+        Ok(_) => true,
+        Err(fault) => matches!(fault, BookFault::Disk { .. }),
+    }
+}

@@ -1,0 +1,167 @@
+//! A book behind a lock.
+ghost use Rattle.std.specs.Prelude.{◌≡◌, ◌+◌, ◌<◌, ◌^◌, length, IfOk, IfErr, OnOk};
+ghost use Rattle.zorder.specs.Key.{IsPoint};
+ghost use Rattle.plain_list.specs.Answer.{FitsOp};
+ghost use Rattle.plain_list.specs.World.{IsWorld};
+ghost use Rattle.plain_list.specs.History.{world_after};
+ghost use Rattle.plain_list.specs.State.{state_after};
+ghost use Rattle.plain_list.specs.declared.entries.Lost.{Lost};
+ghost use Rattle.index_layer.specs.Stands.{Stands};
+ghost use Rattle.commit_book.specs.IsBook.{IsBook, AreBooks};
+ghost use Rattle.commit_book.specs.Refusals.{IsRefusedBy, IsDisk, IsMemory, IsMemoryOrDisk, LeavesRefused, call_refusal, update_refusal, begin_refusal, install_refusal, abandon_refusal};
+ghost use Rattle.commit_book.specs.Answers.{IsUpdate, IsQuery, Notes, Replies};
+ghost use Rattle.commit_book.specs.SplitSteps.{Begins, CanPrepare, Installs, Abandons};
+ghost use Rattle.sessions.specs.Shared.{HasWorld};
+
+use book_lock::Held;
+use commit_book::{Book, BookFault, Done, Snapshot};
+use disk_trait::LogDisk;
+use index_layer::Index;
+use plain_list::Op;
+use split_prepare::{Prepared, SplitTicket};
+use std::marker::Model;
+use zorder::{Name, Point, Region, coordinates_fit};
+
+/// A book whose objects are a world.
+#[derive(Drop)]
+pub struct SharedBook<I: Index, D: LogDisk> {
+    book: Book<I, D>,
+}
+
+impl<I: Index, D: LogDisk> Model for SharedBook<I, D> {
+    ghost use Rattle.commit_book.specs.BookView.{BookView};
+
+    ghost Value = { BookView I D };
+
+    ghost use Rattle.sessions.specs.Shared.{HasWorld};
+
+    ghost view = { λ s. s.book };
+
+    ghost invariant = { λ s. HasWorld s.book };
+}
+
+impl<I: Index, D: LogDisk> Held for SharedBook<I, D> {
+    ghost use Rattle.sessions.specs.Shared.{origin_of};
+
+    ghost entries = { λ s. s.entries };
+
+    ghost origin = { origin_of D.drive };
+
+    fn events(&self) -> u64 {
+        self.book.events()
+    }
+}
+
+impl<I: Index, D: LogDisk> SharedBook<I, D> {
+    pub(crate) fn of(book: Book<I, D>) -> SharedBook<I, D>
+        requires { IsWorld (world_after book.opening.world book.entries) }
+        ensures { result ≡ book }
+    {
+        SharedBook { book }
+    }
+
+    pub(crate) fn into_book(self) -> Book<I, D>
+        ensures { result ≡ self }
+    {
+        self.book
+    }
+
+    /// As of the book.
+    pub(crate) fn update(&mut self, session: u8, row: u32, op: &Op) -> Result<Done, BookFault>
+        requires { IsUpdate op.now }
+        ensures ok { IfOk result (λ d. Replies I.WIDTH self.old self.new session row op.now d.place d.answer d.full) }
+        ensures refused { IsRefusedBy IsMemoryOrDisk (update_refusal self.old op.now) result }
+        ensures err { IfErr result (LeavesRefused D.drive (Lost.Call session row op.now) self.old self.new) }
+        ensures book { AreBooks I.leaves D.drive I.WIDTH self.old self.new }
+    {
+        told(*op);
+        self.book.update(session, row, op)
+    }
+
+    /// As of the book.
+    pub(crate) fn snapshot(
+        &mut self,
+        session: u8,
+        row: u32,
+        op: &Op,
+    ) -> Result<Snapshot<I>, BookFault>
+        requires { IsQuery op.now }
+        ensures ok { IfOk result (λ s. Notes self.old self.new session row op.now s.place) }
+        ensures index { IfOk result (λ s. Stands (I.leaves s.index) (world_after self.old.opening.world self.old.entries) (state_after I.WIDTH self.new.opening self.new.entries).leaves) }
+        ensures world { HasWorld self.old }
+        ensures refused { IsRefusedBy IsMemory (call_refusal self.old.entries) result }
+        ensures err { IfErr result (λ _. self.new ≡ self.old) }
+        ensures book { AreBooks I.leaves D.drive I.WIDTH self.old self.new }
+    {
+        told(*op);
+        self.book.snapshot(session, row, op)
+    }
+}
+
+impl<I: Index, D: LogDisk> SharedBook<I, D> {
+    /// As of the book.
+    pub(crate) fn begin(&mut self, name: &Name) -> Result<SplitTicket, BookFault>
+        ensures ok { IfOk result (λ t. Begins I.leaves I.WIDTH self.old self.new name.now t) }
+        ensures ticket { IfOk result (λ t. CanPrepare I.WIDTH t) }
+        ensures refused { IsRefusedBy IsMemoryOrDisk (begin_refusal I.WIDTH self.old name.now) result }
+        ensures err { IfErr result (LeavesRefused D.drive (Lost.Begin ((state_after I.WIDTH self.old.opening self.old.entries).begun + 1) name.now) self.old self.new) }
+        ensures book { AreBooks I.leaves D.drive I.WIDTH self.old self.new }
+    {
+        self.book.begin(name)
+    }
+
+    /// As of the book.
+    pub(crate) fn install(&mut self, prepared: &Prepared) -> Result<(), BookFault>
+        requires { prepared.now.width ≡ I.WIDTH }
+        ensures ok { OnOk result (Installs I.leaves I.WIDTH self.old self.new prepared.now.number prepared.now.name) }
+        ensures refused { IsRefusedBy IsMemoryOrDisk (install_refusal I.WIDTH I.leaves self.old prepared.now.number prepared.now.name prepared.now.base) result }
+        ensures err { IfErr result (LeavesRefused D.drive (Lost.Install prepared.now.number) self.old self.new) }
+        ensures book { AreBooks I.leaves D.drive I.WIDTH self.old self.new }
+    {
+        self.book.install(prepared)
+    }
+
+    /// As of the book.
+    pub(crate) fn abandon(&mut self, number: u64) -> Result<(), BookFault>
+        ensures ok { OnOk result (Abandons self.old self.new number) }
+        ensures refused { IsRefusedBy IsDisk (abandon_refusal I.WIDTH self.old number) result }
+        ensures err { IfErr result (LeavesRefused D.drive (Lost.Abandon number) self.old self.new) }
+        ensures book { AreBooks I.leaves D.drive I.WIDTH self.old self.new }
+    {
+        self.book.abandon(number)
+    }
+}
+
+// Tells that the numbers of an operation are of 64 and 32 bits.
+fn told(op: Op)
+    ensures { FitsOp op }
+{
+    match op {
+        Op::Put { id, at } => told_object(id, at),
+        Op::Move { id, at } => told_object(id, at),
+        Op::Remove { id } => told_id(id),
+        Op::Find { id } => told_id(id),
+        Op::Within { region } => told_region(region),
+        Op::Near { at, k: _ } => coordinates_fit(at),
+    }
+}
+
+fn told_object(id: u64, at: Point)
+    ensures { (id < 2 ^ 64) × IsPoint at }
+{
+    told_id(id);
+    coordinates_fit(at);
+}
+
+fn told_id(id: u64)
+    ensures { id < 2 ^ 64 }
+{
+    let _ = id;
+}
+
+fn told_region(region: Region)
+    ensures { IsPoint region.lo × IsPoint region.hi }
+{
+    coordinates_fit(region.lo);
+    coordinates_fit(region.hi);
+}

@@ -1,0 +1,66 @@
+//! A book behind a lock, and calls on it.
+ghost use Rattle.std.specs.Prelude.{◌≡◌, [], true, false, IfOk, IfErr};
+ghost use Rattle.plain_list.specs.World.{IsWorld};
+ghost use Rattle.sessions.specs.Shared.{origin_of};
+ghost use Rattle.sessions.specs.Steps.{MayGive, has_given};
+
+mod calls;
+mod lanes;
+mod passes;
+mod splits;
+
+use crate::shared::SharedBook;
+use book_lock::{BookLock, Pass};
+use commit_book::Book;
+use disk_trait::LogDisk;
+use index_layer::Index;
+pub use lanes::{KeptRow, Lane};
+use std::alloc::Global;
+use std::marker::Model;
+
+/// A book for many threads.
+pub struct Store<I: Index, D: LogDisk> {
+    lock: BookLock<SharedBook<I, D>>,
+}
+
+impl<I: Index, D: LogDisk> Model for Store<I, D> {
+    ghost use Rattle.atomic_table.specs.Seated.{TableId};
+
+    ghost Value = { TableId };
+
+    ghost view = { λ s. s.lock };
+}
+
+impl<I: Index, D: LogDisk> Store<I, D> {
+    /// A store of a book without entries, and the pass that has all parts of it. For want of memory the book comes back.
+    pub fn new(
+        alloc: Global,
+        book: Book<I, D>,
+    ) -> Result<(Store<I, D>, Pass<SharedBook<I, D>>), Book<I, D>>
+        requires entries { book.entries ≡ [] }
+        requires world { IsWorld book.opening.world }
+        ensures store { IfOk result (λ r. r.1 ≡ record { lock = r.0; seen = []; own = []; origin = origin_of D.drive book; parts = 65536; holds = false }) }
+        ensures back { IfErr result (λ b. b ≡ book) }
+    {
+        match BookLock::new(alloc, SharedBook::of(book)) {
+            Ok((lock, pass)) => Ok((Store { lock }, pass)),
+            Err(shared) => Err(shared.into_book()),
+        }
+    }
+
+    // Gives a book back that was taken. Where a step has added an entry, that is the next of the history.
+    fn give(&self, pass: &mut Pass<SharedBook<I, D>>, book: SharedBook<I, D>, grown: bool)
+        requires lock { pass.old.lock ≡ self.now }
+        requires on { pass.old.holds ≡ true }
+        requires origin { origin_of D.drive book ≡ pass.old.origin }
+        requires entries { MayGive pass.old grown book.entries }
+        ensures { pass.new ≡ has_given pass.old grown book.entries }
+    {
+        if grown {
+            self.lock.note(pass, &book);
+            self.lock.put_back(pass, book);
+        } else {
+            self.lock.put_back(pass, book);
+        }
+    }
+}

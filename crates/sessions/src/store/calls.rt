@@ -1,0 +1,170 @@
+//! Calls: changes and finds under the lock, queries from a snapshot outside it.
+ghost use Rattle.std.specs.Prelude.{◌≡◌, false};
+ghost use Rattle.plain_list.specs.Answer.{IsValid};
+ghost use Rattle.commit_book.specs.Answers.{IsUpdate, IsQuery};
+ghost use Rattle.sessions.specs.Calls.{Updates, Looks, Called};
+ghost use Rattle.sessions.specs.Splits.{SamePass};
+
+use super::Store;
+use crate::faults::{CallFault, call_fault, has_entry};
+use crate::queries::ask;
+use crate::shared::SharedBook;
+use book_lock::Pass;
+use commit_book::{BookFault, Done, Snapshot};
+use disk_trait::LogDisk;
+use index_layer::Index;
+use io_edge::{Gate, GatePoint};
+use plain_list::Op;
+use std::alloc::Global;
+use std::sync::Wait;
+use std::sync::ledger::Ledger;
+use step_count::Steps;
+
+impl<I: Index, D: LogDisk> Store<I, D> {
+    // Answers a change or a find under the lock.
+    fn update<R: Wait>(
+        &self,
+        rt: &R,
+        pass: &mut Pass<SharedBook<I, D>>,
+        session: u8,
+        row: u32,
+        op: &Op,
+    ) -> Result<Done, BookFault>
+        requires lock { pass.old.lock ≡ self.now }
+        requires off { pass.old.holds ≡ false }
+        requires update { IsUpdate op.now }
+        ensures { Updates I.WIDTH session row op.now pass.old pass.new result }
+    {
+        let mut book = self.lock.take(rt, pass);
+        let answer = book.update(session, row, op);
+        let grown = has_entry(&answer);
+        self.give(pass, book, grown);
+        answer
+    }
+
+    // Notes a query under the lock, and gives the index as it stands there.
+    fn look<R: Wait>(
+        &self,
+        rt: &R,
+        pass: &mut Pass<SharedBook<I, D>>,
+        session: u8,
+        row: u32,
+        op: &Op,
+    ) -> Result<Snapshot<I>, BookFault>
+        requires lock { pass.old.lock ≡ self.now }
+        requires off { pass.old.holds ≡ false }
+        requires query { IsQuery op.now }
+        ensures { Looks I.leaves session row op.now pass.old pass.new result }
+    {
+        let mut book = self.lock.take(rt, pass);
+        let answer = book.snapshot(session, row, op);
+        let grown = has_entry(&answer);
+        self.give(pass, book, grown);
+        answer
+    }
+
+    // Answers a query, outside the lock, from the index as it stood at its place.
+    fn query<R: Wait, G: Gate, L: Ledger>(
+        &self,
+        rt: &R,
+        alloc: Global,
+        pass: &mut Pass<SharedBook<I, D>>,
+        session: u8,
+        row: u32,
+        op: &Op,
+        gate: &G,
+        steps: &mut Steps<L>,
+    ) -> Result<Done, CallFault>
+        requires lock { pass.old.lock ≡ self.now }
+        requires off { pass.old.holds ≡ false }
+        requires query { IsQuery op.now }
+        requires valid { IsValid op.now }
+        ensures { Called I.WIDTH session row op.now pass.old pass.new result }
+    {
+        let shown = match self.look(rt, pass, session, row, op) {
+            Ok(shown) => shown,
+            Err(fault) => return Err(call_fault(fault)),
+        };
+        gate.reach(GatePoint::Taken, session);
+        let place = shown.place;
+        match ask(alloc, &shown.index, op, steps) {
+            Ok(answer) => Ok(Done {
+                place,
+                answer,
+                full: None,
+            }),
+            Err(_) => Err(CallFault::Memory { place: Some(place) }),
+        }
+    }
+
+    // Answers a change or a find.
+    fn change<R: Wait>(
+        &self,
+        rt: &R,
+        pass: &mut Pass<SharedBook<I, D>>,
+        session: u8,
+        row: u32,
+        op: &Op,
+    ) -> Result<Done, CallFault>
+        requires lock { pass.old.lock ≡ self.now }
+        requires off { pass.old.holds ≡ false }
+        requires update { IsUpdate op.now }
+        ensures { Called I.WIDTH session row op.now pass.old pass.new result }
+    {
+        match self.update(rt, pass, session, row, op) {
+            Ok(done) => Ok(done),
+            Err(fault) => Err(call_fault(fault)),
+        }
+    }
+
+    // Answers a call by its kind.
+    fn answer<R: Wait, G: Gate, L: Ledger>(
+        &self,
+        rt: &R,
+        alloc: Global,
+        pass: &mut Pass<SharedBook<I, D>>,
+        session: u8,
+        row: u32,
+        op: &Op,
+        gate: &G,
+        steps: &mut Steps<L>,
+    ) -> Result<Done, CallFault>
+        requires lock { pass.old.lock ≡ self.now }
+        requires off { pass.old.holds ≡ false }
+        requires valid { IsValid op.now }
+        ensures { Called I.WIDTH session row op.now pass.old pass.new result }
+    {
+        match *op {
+            Op::Within { .. } => self.query(rt, alloc, pass, session, row, op, gate, steps),
+            Op::Near { .. } => self.query(rt, alloc, pass, session, row, op, gate, steps),
+            Op::Put { .. } => self.change(rt, pass, session, row, op),
+            Op::Move { .. } => self.change(rt, pass, session, row, op),
+            Op::Remove { .. } => self.change(rt, pass, session, row, op),
+            Op::Find { .. } => self.change(rt, pass, session, row, op),
+        }
+    }
+
+    /// Answers a call, and notes it in the one history. A query is computed outside the lock, on a snapshot. The gate's points are
+    /// reached outside the lock too.
+    pub fn call<R: Wait, G: Gate, L: Ledger>(
+        &self,
+        rt: &R,
+        alloc: Global,
+        pass: &mut Pass<SharedBook<I, D>>,
+        session: u8,
+        row: u32,
+        op: &Op,
+        gate: &G,
+        steps: &mut Steps<L>,
+    ) -> Result<Done, CallFault>
+        requires lock { pass.old.lock ≡ self.now }
+        requires off { pass.old.holds ≡ false }
+        requires valid { IsValid op.now }
+        ensures called { Called I.WIDTH session row op.now pass.old pass.new result }
+        ensures pass { SamePass pass.old pass.new }
+    {
+        let answer = self.answer(rt, alloc, pass, session, row, op, gate, steps);
+        gate.reach(GatePoint::Answered, session);
+        answer
+    }
+}

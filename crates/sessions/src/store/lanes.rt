@@ -1,0 +1,179 @@
+//! Rows of several sessions at once, each session in a thread.
+ghost use Rattle.std.specs.Prelude.{◌≡◌, ℕ, ◌+◌, ◌<◌, ◌≤◌, ◌∷◌, ◌++◌, [], length, slice_index_or, vec_len, vec_capacity, None, false};
+ghost use Rattle.plain_list.specs.Answer.{IsValid};
+ghost use Rattle.sessions.specs.Lanes.{IsReady, Tries, Plays, Advances};
+ghost use Rattle.sessions.specs.Splits.{SamePass};
+
+use super::Store;
+use crate::faults::{CallFault, Split};
+use crate::shared::SharedBook;
+use book_lock::Pass;
+use disk_trait::LogDisk;
+use index_layer::Index;
+use io_edge::Gate;
+use plain_list::{Answer, Op};
+use std::alloc::Global;
+use std::marker::Brand;
+use std::sync::Wait;
+use std::sync::ledger::{Blank, Ledger};
+use std::thread;
+use std::thread::Threads;
+use step_count::Steps;
+use zorder::Name;
+
+/// A row that was answered.
+#[derive(Drop)]
+pub struct KeptRow {
+    pub row: u32,
+    /// The number of the row's call among the calls of the history, from 1.
+    pub place: u64,
+    pub answer: Answer,
+    /// How the split ended that was tried behind the call.
+    pub split: Option<Split>,
+}
+
+/// The rows of one session.
+pub struct Lane<I: Index, D: LogDisk> {
+    pub session: u8,
+    pub pass: Pass<SharedBook<I, D>>,
+    /// The number of each row, and what it asks.
+    pub rows: Vec<(u32, Op)>,
+    /// The rows that were answered, from the first on.
+    pub kept: Vec<KeptRow>,
+    /// Why the next row wasn't answered.
+    pub fault: Option<CallFault>,
+}
+
+impl<I: Index, D: LogDisk> Store<I, D> {
+    // Tries the split of the leaf that a call has told.
+    fn try_split<R: Wait, G: Gate>(
+        &self,
+        rt: &R,
+        alloc: Global,
+        pass: &mut Pass<SharedBook<I, D>>,
+        session: u8,
+        full: Option<Name>,
+        gate: &G,
+    ) -> Option<Split>
+        requires lock { pass.old.lock ≡ self.now }
+        requires off { pass.old.holds ≡ false }
+        ensures tries { Tries I.WIDTH full pass.old pass.new result }
+        ensures pass { SamePass pass.old pass.new }
+    {
+        match full {
+            Some(name) => Some(self.split_once(rt, alloc, pass, session, &name, gate)),
+            None => None,
+        }
+    }
+
+    // Calls a lane's next row, tries the split that it tells, and keeps both answers. Tells whether the row was answered.
+    fn play_row<R: Wait, G: Gate, L: Ledger>(
+        &self,
+        rt: &R,
+        alloc: Global,
+        lane: &mut Lane<I, D>,
+        i: usize,
+        gate: &G,
+        steps: &mut Steps<L>,
+    ) -> bool
+        requires lock { (lane.old.pass.lock ≡ self.now) × (lane.old.pass.holds ≡ false) }
+        requires row { i < length lane.old.rows.items }
+        requires valid { (d : ℕ × Op) → IsValid (slice_index_or lane.old.rows.items i d).1 }
+        requires room { vec_len lane.old.kept < vec_capacity lane.old.kept }
+        requires fault { lane.old.fault ≡ None }
+        ensures { Advances I.WIDTH i lane.old lane.new result }
+    {
+        let (row, op) = lane.rows[i];
+        let done = match self.call(
+            rt,
+            alloc,
+            &mut lane.pass,
+            lane.session,
+            row,
+            &op,
+            gate,
+            steps,
+        ) {
+            Ok(done) => done,
+            Err(fault) => {
+                lane.fault = Some(fault);
+                return false;
+            }
+        };
+        let split = self.try_split(rt, alloc, &mut lane.pass, lane.session, done.full, gate);
+        let kept = KeptRow {
+            row,
+            place: done.place,
+            answer: done.answer,
+            split,
+        };
+        push_within(&mut lane.kept, kept);
+        true
+    }
+
+    // Plays a lane's rows up to the first that is refused.
+    fn play_rows<R: Wait, G: Gate, L: Ledger>(
+        &self,
+        rt: &R,
+        alloc: Global,
+        lane: &mut Lane<I, D>,
+        gate: &G,
+        blank: Blank,
+    )
+        requires name { blank.name ≡ L.name }
+        requires parts { blank.parts ≡ L.parts }
+        requires one_part { blank.parts ≡ 1 }
+        requires ready { IsReady self.now lane.old }
+        ensures { Plays I.WIDTH lane.old lane.new }
+    {
+        let mut steps = Steps::<L>::new(blank);
+        for i in 0..lane.rows.len() {
+            if !self.play_row(rt, alloc, lane, i, gate, &mut steps) {
+                return;
+            }
+        }
+    }
+
+    // Plays one lane.
+    fn play_lane<R: Wait, G: Gate>(&self, rt: &R, alloc: Global, lane: &mut Lane<I, D>, gate: &G)
+        requires ready { IsReady self.now lane.old }
+        ensures { Plays I.WIDTH lane.old lane.new }
+    {
+        self.play_rows::<R, G, Brand>(rt, alloc, lane, gate, Blank::new(1));
+    }
+}
+
+impl<I: Index + Send, D: LogDisk + Send> Store<I, D> {
+    /// Plays the rows of each lane, each lane in a thread of its own. Where a thread can't be started its lane is played by the caller.
+    pub fn run_lanes<R: Threads + Wait + Sync, G: Gate + Sync>(
+        &self,
+        rt: &R,
+        alloc: Global,
+        lanes: &mut [Lane<I, D>],
+        gate: &G,
+    )
+        requires ready { (i : ℕ) (d : Lane I D) → i < length lanes.old → IsReady self.now (slice_index_or lanes.old i d) }
+        ensures { (i : ℕ) (d : Lane I D) → i < length lanes.old → Plays I.WIDTH (slice_index_or lanes.old i d) (slice_index_or lanes.new i d) }
+    {
+        let threads = lanes.len().max(1);
+        thread::for_each_mut(
+            rt,
+            lanes,
+            threads,
+            &|_, lane|
+                requires { IsReady self.now lane.now }
+                ensures { Plays I.WIDTH lane.entry.now lane.exit.now }
+            { self.play_lane(rt, alloc, lane, gate) },
+        );
+    }
+}
+
+// Pushes into memory that was taken before.
+fn push_within(kept: &mut Vec<KeptRow>, row: KeptRow)
+    requires { vec_len kept.old < vec_capacity kept.old }
+    ensures items { kept.new.items ≡ kept.old.items ++ row ∷ [] }
+    ensures count { vec_len kept.new ≡ vec_len kept.old + 1 }
+    ensures capacity { vec_capacity kept.old ≤ vec_capacity kept.new }
+{
+    let _ = kept.push(row);
+}

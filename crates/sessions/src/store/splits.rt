@@ -1,0 +1,128 @@
+//! Splits of leaves, while other threads call.
+ghost use Rattle.std.specs.Prelude.{◌≡◌, Bool, List, false, IfOk};
+ghost use Rattle.std.specs.Arc.{arc_value};
+ghost use Rattle.bucket_versions.specs.declared.row.Row.{Row};
+ghost use Rattle.commit_book.specs.SplitSteps.{CanPrepare};
+ghost use Rattle.sessions.specs.Splits.{number_of, HasBegun, BeginsSplit, InstallsSplit, AbandonsSplit, GivesUp, IsNotSplit, SplitEnds, SamePass};
+
+use super::Store;
+use crate::faults::{Split, has_entry, lasting};
+use crate::shared::SharedBook;
+use book_lock::Pass;
+use commit_book::BookFault;
+use disk_trait::LogDisk;
+use index_layer::Index;
+use io_edge::{Gate, GatePoint};
+use split_prepare::{Prepared, SplitTicket, prepare};
+use std::alloc::Global;
+use std::sync::Wait;
+use zorder::Name;
+
+impl<I: Index, D: LogDisk> Store<I, D> {
+    // Begins a split under the lock.
+    fn begin<R: Wait>(
+        &self,
+        rt: &R,
+        pass: &mut Pass<SharedBook<I, D>>,
+        name: &Name,
+    ) -> Result<SplitTicket, BookFault>
+        requires lock { pass.old.lock ≡ self.now }
+        requires off { pass.old.holds ≡ false }
+        ensures step { BeginsSplit I.WIDTH name.now pass.old pass.new (number_of result) }
+        ensures begun { IfOk result (λ t. HasBegun pass.new t.number name.now (arc_value t.bucket).base) }
+        ensures name { IfOk result (λ t. t.name ≡ name.now) }
+        ensures ticket { IfOk result (λ t. CanPrepare I.WIDTH t) }
+    {
+        let mut book = self.lock.take(rt, pass);
+        let answer = book.begin(name);
+        let grown = has_entry(&answer);
+        self.give(pass, book, grown);
+        answer
+    }
+
+    // Installs a split that the pass has begun.
+    fn install<R: Wait>(
+        &self,
+        rt: &R,
+        pass: &mut Pass<SharedBook<I, D>>,
+        prepared: &Prepared,
+    ) -> Result<(), BookFault>
+        requires lock { pass.old.lock ≡ self.now }
+        requires off { pass.old.holds ≡ false }
+        requires width { prepared.now.width ≡ I.WIDTH }
+        requires begun { HasBegun pass.old prepared.now.number prepared.now.name prepared.now.base }
+        ensures { InstallsSplit prepared.now.number pass.old pass.new result }
+    {
+        let mut book = self.lock.take(rt, pass);
+        let answer = book.install(prepared);
+        let grown = has_entry(&answer);
+        self.give(pass, book, grown);
+        answer
+    }
+
+    // Abandons a split that the pass has begun.
+    fn abandon<R: Wait>(
+        &self,
+        rt: &R,
+        pass: &mut Pass<SharedBook<I, D>>,
+        number: u64,
+    ) -> Result<(), BookFault>
+        requires lock { pass.old.lock ≡ self.now }
+        requires off { pass.old.holds ≡ false }
+        requires begun { (name : List Bool) × (base : List Row) × HasBegun pass.old number name base }
+        ensures { AbandonsSplit number pass.old pass.new result }
+    {
+        let mut book = self.lock.take(rt, pass);
+        let answer = book.abandon(number);
+        let grown = has_entry(&answer);
+        self.give(pass, book, grown);
+        answer
+    }
+
+    // Abandons a split for want of memory.
+    fn give_up<R: Wait>(&self, rt: &R, pass: &mut Pass<SharedBook<I, D>>, number: u64) -> Split
+        requires lock { pass.old.lock ≡ self.now }
+        requires off { pass.old.holds ≡ false }
+        requires begun { (name : List Bool) × (base : List Row) × HasBegun pass.old number name base }
+        ensures { IsNotSplit (GivesUp number pass.old pass.new) result }
+    {
+        match self.abandon(rt, pass, number) {
+            Ok(()) => Split::NotSplit(BookFault::Memory),
+            Err(fault) => Split::NotSplit(fault),
+        }
+    }
+
+    /// Splits a leaf: begins under the lock, prepares outside it, and installs under it. Where memory runs out between, the split is
+    /// abandoned.
+    pub fn split_once<R: Wait, G: Gate>(
+        &self,
+        rt: &R,
+        alloc: Global,
+        pass: &mut Pass<SharedBook<I, D>>,
+        session: u8,
+        name: &Name,
+        gate: &G,
+    ) -> Split
+        requires lock { pass.old.lock ≡ self.now }
+        requires off { pass.old.holds ≡ false }
+        ensures ends { SplitEnds I.WIDTH name.now pass.old pass.new result }
+        ensures pass { SamePass pass.old pass.new }
+    {
+        let ticket = match self.begin(rt, pass, name) {
+            Ok(ticket) => ticket,
+            Err(fault) => return Split::NotSplit(fault),
+        };
+        gate.reach(GatePoint::Begun, session);
+        let Ok(prepared) = prepare(alloc, &ticket, I::WIDTH) else {
+            return self.give_up(rt, pass, ticket.number);
+        };
+        gate.reach(GatePoint::Ready, session);
+        match self.install(rt, pass, &prepared) {
+            Ok(()) => Split::Installed {
+                number: ticket.number,
+            },
+            Err(BookFault::Memory) => self.give_up(rt, pass, ticket.number),
+            Err(fault) => Split::NotSplit(lasting(fault)),
+        }
+    }
+}
