@@ -1,3 +1,4 @@
 pub mod Served
+pub mod Moves
 pub mod Laws
 pub use Rattle.disk_trait.specs.Drive

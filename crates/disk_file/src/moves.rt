@@ -2,6 +2,7 @@
 ghost use Rattle.std.specs.Prelude.{◌≤◌, ◌<◌, length, take, IfOk, OnOk};
 ghost use Rattle.std.specs.Io.KnownBytes.{Appends, Consumes, IsAtEnd};
 ghost use Rattle.std.specs.Io.Seek.{MovesTo};
+ghost use Rattle.disk_file.specs.Moves.{GivesFrom, PutsAt};
 
 use disk_trait::DiskFault;
 use std::io::{Read, Seek, SeekFrom, Write};
@@ -51,13 +52,16 @@ fn seek_to<F: Seek>(file: &mut F, at: u64) -> Result<(), DiskFault>
 pub fn read_from<F: Read + Seek>(file: &mut F, at: u64, into: &mut [u8]) -> Result<usize, DiskFault>
     ensures bound { IfOk result (λ n. n ≤ length into.new) }
     ensures end { IfOk result (λ n. n < length into.new → IsAtEnd (F.remaining file.new)) }
+    ensures gives { IfOk result (λ n. GivesFrom F.stream_position F.remaining file.old file.new at (take n into.new)) }
 {
     seek_to(file, at)?;
     fill(file, into)
 }
 
 /// Writes a piece at a place of a file.
-pub fn write_to<F: Write + Seek>(file: &mut F, at: u64, piece: &[u8]) -> Result<(), DiskFault> {
+pub fn write_to<F: Write + Seek>(file: &mut F, at: u64, piece: &[u8]) -> Result<(), DiskFault>
+    ensures puts { OnOk result (PutsAt F.stream_position F.contents file.old file.new at piece.now) }
+{
     seek_to(file, at)?;
     put_all(file, piece)
 }

@@ -26,6 +26,7 @@ fn attach<D: LogDisk>(
 fn fill_and_cut<D: LogDisk>(disk: &mut D) -> Result<[u8; 6], DiskFault> {
     disk.write(0, b"abcd")?;
     disk.write(2, b"xyz")?;
+    disk.write(0, b"A")?;
     disk.sync()?;
     disk.cut(4)?;
     let mut into = [b'-'; 6];
@@ -54,6 +55,6 @@ fn a_file_is_made_where_it_may_be_and_keeps_what_is_written(rt: HostRuntime) -> 
     may_be_sent(disk);
     let bytes = fs::read(&rt, name.as_path())?;
     fs::remove_file(&rt, name.as_path())?;
-    assert_eq!(rt; bytes.as_slice(), b"abxy".as_slice());
+    assert_eq!(rt; bytes.as_slice(), b"Abxy".as_slice());
     Ok(())
 }
