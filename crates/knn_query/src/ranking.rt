@@ -33,10 +33,8 @@ pub fn nearest<I: Index, L: Ledger>(
     ensures objects { OfEachWorld (I.leaves index.now) (λ world. IfOk result (λ list. list ≡ take k (ranked from world))) }
     ensures opened { steps.new ≤ steps.old + length (I.leaves index.now) }
 {
-    match keep_nearest(Kept::new(alloc, from, k as usize), index, steps) {
-        Ok(kept) => Ok(kept.into_list()),
-        Err(_) => Err(Memory),
-    }
+    let kept = keep_nearest(Kept::new(alloc, from, k as usize), index, steps)?;
+    Ok(kept.into_list())
 }
 
 // The leaf of the point itself comes first, so that most others are beyond what was found there.

@@ -22,16 +22,12 @@ pub fn is_box(region: &Region) -> bool
 pub(crate) fn within(alloc: Global, world: &World, region: &Region) -> Result<Answer, Memory>
     ensures { IfOk result (λ a. a ≡ listed (members_in region.now world.now)) }
 {
-    match collect_in(alloc, world.as_slice(), region) {
-        Ok(items) => {
-            let count = items.len();
-            if count <= MOST_LISTED {
-                Ok(Answer::Found(PlacedList::from_vec(items)))
-            } else {
-                Ok(Answer::Many(count as u64))
-            }
-        }
-        Err(_) => Err(Memory),
+    let items = collect_in(alloc, world.as_slice(), region)?;
+    let count = items.len();
+    if count <= MOST_LISTED {
+        Ok(Answer::Found(PlacedList::from_vec(items)))
+    } else {
+        Ok(Answer::Many(count as u64))
     }
 }
 

@@ -13,7 +13,7 @@ use zorder::Memory;
 pub fn is_legal(alloc: Global, world: &World, calls: &[Call]) -> Result<bool, Memory>
     ensures { IfOk result (λ legal. IsTrue legal ↔ AreReplies world.now calls.now) }
 {
-    let mut now = world.copy(alloc).map_err(|_| Memory)?;
+    let mut now = world.copy(alloc)?;
     for call in calls {
         let reply = answer(alloc, &now, &call.op)?;
         if !is_same(&reply, &call.answer) {

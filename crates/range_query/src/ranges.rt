@@ -12,14 +12,14 @@ use bucket_versions::Bucket;
 use index_layer::Index;
 use plain_list::PlacedList;
 use prefix_names::meets;
-use std::alloc::{AllocError, Global};
+use std::alloc::Global;
 use std::sync::ledger::Ledger;
 use step_count::Steps;
 use table_share::{LeafWalk, placed};
 use zorder::{Memory, Name, Placed, Region};
 
-/// The objects in the box, in the order of their ids. A leaf's bucket is opened, which is a step, only where the box has
-/// some points of its region. Memory is taken for what is found alone.
+/// The objects in the box, in the order of their ids. A leaf's bucket is opened, which is a step, where the box has some
+/// points of its region. Memory is taken for what is found alone.
 pub fn range<I: Index, L: Ledger>(
     alloc: Global,
     index: &I,
@@ -29,10 +29,9 @@ pub fn range<I: Index, L: Ledger>(
     requires { IsBox region.now }
     ensures objects { OfEachWorld (I.leaves index.now) (λ world. IfOk result (λ list. list ≡ members_in region.now world)) }
     ensures opened { steps.new ≤ steps.old + length (leaves_met region.now (I.leaves index.now)) }
+    ensures exact { IfOk result (λ _. steps.new ≡ steps.old + length (leaves_met region.now (I.leaves index.now))) }
 {
-    let Ok(mut found) = objects_in(alloc, index, region, steps) else {
-        return Err(Memory);
-    };
+    let mut found = objects_in(alloc, index, region, steps)?;
     found.sort_unstable_by_key(|m| m.id);
     Ok(PlacedList::from_vec(found))
 }
@@ -43,10 +42,11 @@ fn objects_in<I: Index, L: Ledger>(
     index: &I,
     region: &Region,
     steps: &mut Steps<L>,
-) -> Result<Vec<Placed>, AllocError>
+) -> Result<Vec<Placed>, Memory>
     requires { IsBox region.now }
     ensures objects { AreAllKeysUnder (I.leaves index.now) → IfOk result (λ v. v.items ≡ members_in region.now (objects_of (all_rows (I.leaves index.now)))) }
     ensures opened { steps.new ≤ steps.old + length (leaves_met region.now (I.leaves index.now)) }
+    ensures exact { IfOk result (λ _. steps.new ≡ steps.old + length (leaves_met region.now (I.leaves index.now))) }
 {
     let mut found = Vec::new(alloc);
     let mut walk = LeafWalk::over(index);
@@ -62,7 +62,7 @@ fn push_leaf<L: Ledger>(
     bucket: &Bucket,
     region: &Region,
     steps: &mut Steps<L>,
-) -> Result<(), AllocError>
+) -> Result<(), Memory>
     requires { IsBox region.now }
     ensures objects { AreKeysUnder name.now bucket.now.rows → OnOk result (found.new.items ≡ found.old.items ++ members_in region.now (objects_of bucket.now.rows)) }
     ensures opened { steps.new ≡ steps.old + (if is_met region.now name.now then 1 else 0) }
@@ -79,7 +79,7 @@ fn push_rows<L: Ledger>(
     bucket: &Bucket,
     region: &Region,
     steps: &mut Steps<L>,
-) -> Result<(), AllocError>
+) -> Result<(), Memory>
     ensures objects { OnOk result (found.new.items ≡ found.old.items ++ members_in region.now (objects_of bucket.now.rows)) }
     ensures opened { steps.new ≡ steps.old + 1 }
 {

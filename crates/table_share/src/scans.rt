@@ -1,6 +1,6 @@
 //! The rows from one key to another.
 ghost use Rattle.std.specs.Prelude.{◌≡◌, ◌≤◌, ◌+◌, ◌++◌, OnOk, IfOk, length};
-ghost use Rattle.bucket_versions.specs.Rows.{rows_between};
+ghost use Rattle.bucket_versions.specs.Rows.{IsRows, rows_between};
 ghost use Rattle.index_layer.specs.Leaves.{all_rows};
 
 use crate::walk::LeafWalk;
@@ -21,7 +21,9 @@ pub fn scan<I: Index, L: Ledger>(
 ) -> Result<Vec<Row>, Memory>
     requires { lo ≤ hi }
     ensures rows { IfOk result (λ rows. rows.items ≡ rows_between lo hi (all_rows (I.leaves index.now))) }
+    ensures in_order { IfOk result (λ rows. IsRows rows.items) }
     ensures opened { steps.new ≤ steps.old + length (I.leaves index.now) }
+    ensures exact { IfOk result (λ _. steps.new ≡ steps.old + length (I.leaves index.now)) }
 {
     let mut found = Vec::new(alloc);
     let mut walk = LeafWalk::over(index);
@@ -43,9 +45,7 @@ fn push_between<L: Ledger>(
 {
     for row in bucket.rows(steps) {
         if lo <= row.key && row.key <= hi {
-            let Ok(()) = found.push(*row) else {
-                return Err(Memory);
-            };
+            found.push(*row)?;
         }
     }
     Ok(())

@@ -40,9 +40,9 @@ impl<'a, I: Index> LeafWalk<'a, I> {
         }
     }
 
-    /// The next leaf's name and bucket. It opens no bucket.
+    /// The next leaf's name and bucket; behind the last one it stays at its end. It opens no bucket.
     pub fn next_leaf(&mut self) -> Option<(Name, &'a Arc<Bucket>)>
-        ensures { MatchOption result (self.old ≡ []) (λ leaf. self.old ≡ record { name = leaf.0; bucket = arc_value leaf.1.now } ∷ self.new) }
+        ensures { MatchOption result ((self.old ≡ []) × (self.new ≡ [])) (λ leaf. self.old ≡ record { name = leaf.0; bucket = arc_value leaf.1.now } ∷ self.new) }
     {
         let key = self.key?;
         let (name, bucket) = self.index.leaf_of(key);

@@ -98,5 +98,5 @@ pub returns-clause-keeps : goal.returns-clause-keeps
 returns-clause-keeps g c world names is_world stands =
     let home = c.leaf_of-home.result.0 in
     let (from_is, k_is, keeps, opened) = c.loop-leaf.invariant in
-    let none : c.loop-leaf.walk ≡ [] = c.in_default.ensures in
+    let none : c.loop-leaf.walk ≡ [] = c.in_default.ensures.0 in
     subst (λ (ls : List Leaf). Keeps c.args.kept.from c.args.kept.k world (objects_left home ls) c.loop-leaf.kept) none (keeps world names is_world stands).keeps

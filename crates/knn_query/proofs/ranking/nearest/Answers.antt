@@ -4,14 +4,14 @@ use Rattle.zorder.specs.declared.points.Point.{Point}
 use Rattle.plain_list.specs.Answer.{ranked}
 use Rattle.knn_query.proofs.ranking.nearest.Goals as goal
 
-pub returns-in-Ok-clause-objects : goal.returns-in-Ok-clause-objects
-returns-in-Ok-clause-objects g c world names is_world stands =
+pub returns-clause-objects : goal.returns-clause-objects
+returns-clause-objects g c world names is_world stands =
     let p = c.args.from in
     let k = c.args.k in
-    let kept = c.in-Ok.kept in
-    let keeps = c.in-Ok.ensures.keeps world names is_world stands in
-    let from_is : kept.from ≡ p = c.in-Ok.ensures.from ∙ c.new.ensures.list.from in
-    let k_is : kept.k ≡ k = c.in-Ok.ensures.k ∙ c.new.ensures.list.k_is in
+    let kept = c.in_ok-kept.kept in
+    let keeps = c.in_ok-kept.ensures.keeps world names is_world stands in
+    let from_is : kept.from ≡ p = c.in_ok-kept.ensures.from ∙ c.new.ensures.list.from in
+    let k_is : kept.k ≡ k = c.in_ok-kept.ensures.k ∙ c.new.ensures.list.k_is in
     let items = kept.list.items in
     let nearest : take k (take k (ranked p items)) ≡ take k (ranked p world) =
     subst (λ (q : Point). take k (take k (ranked q items)) ≡ take k (ranked q world)) c.new.ensures.list.from

@@ -10,6 +10,6 @@ returns-clause-number g c world names is_world stands =
     let region = c.args.region.now in
     let leaves : List Leaf = g.I.Index.leaves c.args.index.now in
     let counted = c.loop-name.invariant.number (leaves_under world leaves stands.rows) (number-fits region leaves world names is_world stands) in
-    let none : c.loop-name.walk ≡ [] = c.in_default.ensures in
+    let none : c.loop-name.walk ≡ [] = c.in_default.ensures.0 in
     let nothing : number_in region (all_rows c.loop-name.walk) ≡ 0 = ap (λ (ls : List Leaf). number_in region (all_rows ls)) none in
     omega (arith, counted.1, nothing, number_of_world region leaves world names is_world stands)

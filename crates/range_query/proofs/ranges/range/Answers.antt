@@ -19,7 +19,7 @@ returns-clause-objects g c world names is_world stands =
     let region = c.args.region.now in
     let table = table_of leaves world names stands in
     let ys : List Placed = c.sort_unstable_by_key.new.self.items in
-    let found : c.in-Ok.found.items ≡ members_in region (objects_of (all_rows leaves)) = c.in-Ok.ensures.objects (leaves_under world leaves stands.rows) in
+    let found : c.in_ok-found.found.items ≡ members_in region (objects_of (all_rows leaves)) = c.in_ok-found.ensures.objects (leaves_under world leaves stands.rows) in
     let perm : IsPermutation (members_in region world) ys =
     IsPermutation-trans (members_in region world) (members_in region (objects_of (all_rows leaves))) ys
     (objects-permutation (λ (m : Placed). has_point region m.at) world (all_rows leaves) is_world.rising is_world.points table.ordered table.has)
