@@ -1,9 +1,8 @@
 -- Walks over pieces of a log.
-use Rattle.std.proofs.Common.{◌≡◌, ℕ, ◌+◌, ◌<◌, ◌≤◌, true, List, [], ◌∷◌, ◌++◌, length, take, drop, refl, sym, ◌∙◌, ap, subst, arith, append_assoc, length-append, length-drop}
+use Rattle.std.proofs.Common.{◌≡◌, ℕ, ◌+◌, ◌<◌, ◌≤◌, List, [], ◌∷◌, ◌++◌, length, take, drop, refl, sym, ◌∙◌, ap, subst, arith, append_assoc, length-append, length-drop}
 use Rattle.std.specs.Prelude.{Result, Ok, Err, IfErr}
 use Rattle.std.specs.Result.{IsErrAnd}
 use Rattle.std.specs.List.{flat_map, AllByRecursion}
-use Rattle.std.specs.Cmp.{first_so, second_so}
 use Rattle.std.specs.Cmp.Derive.{both_true}
 use Rattle.std.proofs.lemmas.List.{append-nil, take-append-drop}
 use Rattle.std.proofs.lemmas.Grind.{flat_map-append}
@@ -14,10 +13,10 @@ use Rattle.cell_format.specs.Spelling.{IsCell, spelling}
 use Rattle.cell_format.specs.Faults.{HasNoKind, HasReserved, HasBadName}
 use Rattle.cell_format.specs.Decodes.{Decodes}
 use Rattle.recovery.specs.Faults.{IsWrong}
-use Rattle.plain_list.specs.State.{State, step}
+use Rattle.plain_list.specs.State.{State}
 use Rattle.recovery.specs.declared.seen.OpenFault.{OpenFault}
 use Rattle.recovery.specs.declared.pieces.Stop.{Stop}
-use Rattle.log_state.specs.Recovers.{is_legal_cells, cells_after, is_possible_cell, entry_of}
+use Rattle.log_state.specs.Recovers.{cells_after}
 use Rattle.log_state.proofs.LegalCells.{cells_after-append, legal-append}
 use Rattle.recovery.specs.Walk.{WalkView}
 use Rattle.recovery.specs.Pieces.{Passes, PassesOne, Comes, FailsAt, StopsAt, Walks, Breaks, cause_of}
