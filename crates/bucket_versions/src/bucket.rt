@@ -54,10 +54,7 @@ impl Bucket {
         requires { IsRows rows.now }
         ensures { IfOk result (λ b. b ≡ as_base rows.now) }
     {
-        match Vec::from_slice(alloc, rows) {
-            Ok(rows) => Bucket::on_base(alloc, rows),
-            Err(_) => Err(Memory),
-        }
+        Bucket::on_base(alloc, Vec::from_slice(alloc, rows)?)
     }
 
     // The rows are the base of the new bucket, and its rows now.
@@ -88,10 +85,8 @@ impl Bucket {
         requires within { place ≤ length self.now.rows }
         ensures { IfOk result (λ b. b ≡ put_row row self.now) }
     {
-        match inserted(self.alloc, &self.rows, place, row) {
-            Ok(rows) => self.on_same_base(rows),
-            Err(_) => Err(Memory),
-        }
+        let rows = inserted(self.alloc, &self.rows, place, row)?;
+        self.on_same_base(rows)
     }
 
     /// The bucket without one of its rows, on the same base.
@@ -112,10 +107,8 @@ impl Bucket {
         requires within { place < length self.now.rows }
         ensures { IfOk result (λ b. b ≡ gone_row row self.now) }
     {
-        match removed(self.alloc, &self.rows, place) {
-            Ok(rows) => self.on_same_base(rows),
-            Err(_) => Err(Memory),
-        }
+        let rows = removed(self.alloc, &self.rows, place)?;
+        self.on_same_base(rows)
     }
 
     // A bucket of other rows on this bucket's base.
@@ -202,17 +195,14 @@ fn shared(alloc: Global, rows: Vec<Row>) -> Result<Arc<Vec<Row>>, Memory>
 {
     match Arc::new(alloc, rows) {
         Ok(rows) => Ok(rows),
-        Err(_) => Err(Memory),
+        Err(refused) => Err(AllocError::from(refused).into()),
     }
 }
 
 fn another(rows: &Arc<Vec<Row>>) -> Result<Arc<Vec<Row>>, Memory>
     ensures { IfOk result (λ copy. arc_value copy ≡ arc_value rows.now) }
 {
-    match Arc::try_clone(rows) {
-        Ok(rows) => Ok(rows),
-        Err(_) => Err(Memory),
-    }
+    Ok(Arc::try_clone(rows)?)
 }
 
 fn inserted(alloc: Global, rows: &[Row], place: usize, row: Row) -> Result<Vec<Row>, AllocError>

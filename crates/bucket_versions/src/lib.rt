@@ -1,8 +1,10 @@
-//! Versions of a bucket: the rows under one leaf of an index, which no call changes.
+//! Versions of a bucket: the rows under one leaf of an index.
 //!
-//! Contracts see a `Bucket` as two lists of distinct rows in order: its base, and its rows now. A put or a removal gives
-//! a new bucket with the same base; `folded` makes the rows its base, and `caught_up` gives a bucket that was cut out of
-//! another one's base the rows that this one has since. `Commit` is the step that a change of an index waits for.
+//! Contracts see a `Bucket` as two lists of distinct rows in order: its base, and its rows now. No call on a bucket changes
+//! it: a put or a removal gives a new one with the same base, `folded` makes the rows its base, and `caught_up` gives a
+//! bucket that was cut out of another one's base the rows that this one has since. `put`, `take`, `shift` and `pass` change
+//! what a pointer holds: in place where nobody shares it, and else in a copy. They wait for a step that may fail (`Commit`),
+//! and take it when all memory is there and before anything changes.
 //!
 //! Not here: which keys a bucket may hold (`index_layer`), and when a bucket is folded or cut (`commit_book`, `split_prepare`).
 #![tactic(auto)]
