@@ -13,7 +13,7 @@ use Rattle.plain_list.specs.Answer.{answer_of, is_change}
 use Rattle.plain_list.specs.History.{world_after}
 use Rattle.plain_list.specs.State.{State, is_fail, IsLegal}
 use Rattle.plain_list.proofs.Histories.{has_failed}
-use Rattle.disk_trait.specs.Drive.{Drive, KeepsLaws}
+use Rattle.disk_trait.specs.Drive.{Drive, KeepsLaws, SameFile}
 use Rattle.disk_trait.specs.Moments.{LeavesOnly}
 use Rattle.split_log.specs.LogText.{IsLog, HoldsEither}
 use Rattle.split_log.specs.Append.{Adds, Fails}
@@ -115,6 +115,8 @@ in-quiet drive w s h e (Some log) legal none going kept =
       most = kept.most;
       later = kept.later;
       rose = unnamed (failed_cell (h ++ e ∷ [])) unfailed;
+      calm = λ none. kept.calm (failed_cell-none h sound);
+      file = kept.file;
     }
 
 -- a call that changes nothing has no cell
@@ -126,14 +128,16 @@ in-call drive w s h session row op log legal none =
 
 -- a log that was just opened keeps the empty history
 pub in-opened : {D : Type 0} (drive : D → Drive) (w : ℕ) (s : State) (log : KeptView D) → log.cells ≡ log.first → IsOpened w s (drive log.start) (drive log.disk)
-    → log.cells ≤ 2 ^ 24 → log.failed ≡ None → (drive log.start).faults ≤ (drive log.disk).faults → KeepsIn drive w s [] (Some log)
-in-opened drive w s log first opened most sound later = record {
+    → log.cells ≤ 2 ^ 24 → log.failed ≡ None → KeepsIn drive w s [] (Some log)
+in-opened drive w s log first opened most sound = record {
   keeps = kept-opened drive w s log first opened;
   failed = sound;
   named = λ n. no_number None n refl;
   most = most;
-  later = later;
+  later = omega (arith, opened.same);
   rose = unnamed None refl;
+  calm = λ none. opened.same;
+  file = opened.file;
 }
 
 -- without a log nothing is added, and nothing need be kept
@@ -148,6 +152,9 @@ module _ {D : Type 0} (drive : D → Drive) (cell : Cell) (old new : KeptView D)
     (any_moment : (w : ℕ) (cells : List Cell) → IsLog w cells (drive old.disk) → LeavesOnly (drive old.disk) (drive new.disk) (HoldsEither w cells cell)) where
   still_later : (drive old.start).faults ≤ (drive old.disk).faults → (drive new.start).faults ≤ (drive new.disk).faults
   still_later was = omega (arith, was, later, ap (λ (d : D). (drive d).faults) opened.start)
+
+  still_file : SameFile (drive old.disk) (drive new.disk) → SameFile (drive old.start) (drive old.disk) → SameFile (drive new.start) (drive new.disk)
+  still_file file was name make attached = file name make (was name make (subst (λ (d : D). (drive d).attached name make) opened.start attached))
 
   pub leaves-next : LeavesNext drive cell (Some old) (Some new)
   leaves-next w s h e next kept first = leaves-either drive cell old new sound_log opened any_moment w s h e first next kept.keeps
@@ -165,6 +172,8 @@ module _ {D : Type 0} (drive : D → Drive) (cell : Cell) (old new : KeptView D)
           most = omega (arith, room, adds.count);
           later = still_later kept.later;
           rose = unnamed (failed_cell (h ++ e ∷ [])) unfailed;
+          calm = λ none. adds.same ∙ kept.calm (failed_cell-none h sound) ∙ ap (λ (d : D). (drive d).faults) (sym opened.start);
+          file = still_file adds.file kept.file;
         };
   }
 
@@ -183,6 +192,8 @@ module _ {D : Type 0} (drive : D → Drive) (cell : Cell) (old new : KeptView D)
           later = still_later kept.later;
           rose = λ told. rose_since (drive new.start).faults (drive old.disk).faults (drive new.disk).faults
               (omega (arith, kept.later, ap (λ (d : D). (drive d).faults) opened.start)) fails.rose;
+          calm = λ none. no_number (failed_cell (h ++ Fail number lost ∷ [])) number none last;
+          file = still_file fails.file kept.file;
         };
   }
     where

@@ -63,4 +63,6 @@ opened-found w most start now seen found ready any_moment = record {
       ∙ (λ i. record { world = sym found.finds.world i; leaves = sym found.finds.leaves i; splits = []; begun = sym found.finds.begun i });
   log = λ bytes told. let (cells, count, recovers, log) = ready.log bytes told in (cells, recovers, log);
   any_moment = any_moment;
+  same = ready.same;
+  file = ready.file;
 }

@@ -7,7 +7,7 @@ use Rattle.plain_list.specs.declared.entries.Entry.TheVariants.{Fail, Call, Begi
 use Rattle.plain_list.specs.declared.entries.Lost.{Lost}
 use Rattle.zorder.specs.declared.points.Placed.{Placed}
 use Rattle.plain_list.specs.State.{State}
-use Rattle.disk_trait.specs.Drive.{Drive}
+use Rattle.disk_trait.specs.Drive.{Drive, SameFile}
 use Rattle.disk_trait.specs.Moments.{LeavesOnly}
 use Rattle.log_state.specs.Recovers.{Recovers}
 use Rattle.log_state.specs.Changes.{cells_of, lost_cells}
@@ -40,7 +40,7 @@ disk_in None = None
 disk_in (Some log) = Some log.disk
 
 -- A log keeps the history. It failed where the history says so: the failed append names the log's number of cells, and the drive has failed
--- since the opening.
+-- since the opening, and else no call of it has. The file is the one that was attached.
 pub record KeepsLog {D : Type 0} (drive : D → Drive) (w : ℕ) (s : State) (h : List Entry) (log : KeptView D) : Type 0 where
   pub keeps : Keeps drive w s h log
   pub failed : log.failed ≡ failed_cell h
@@ -48,6 +48,8 @@ pub record KeepsLog {D : Type 0} (drive : D → Drive) (w : ℕ) (s : State) (h 
   pub most : log.cells ≤ 2 ^ 24
   pub later : (drive log.start).faults ≤ (drive log.disk).faults
   pub rose : is_some (failed_cell h) ≡ true → Rose (drive log.start).faults (drive log.disk).faults
+  pub calm : failed_cell h ≡ None → (drive log.disk).faults ≡ (drive log.start).faults
+  pub file : SameFile (drive log.start) (drive log.disk)
 
 -- the log keeps the history, where there is one; else no append has failed
 abbrev pub KeepsIn : {D : Type 0} → (D → Drive) → ℕ → State → List Entry → Option (KeptView D) → Type 0

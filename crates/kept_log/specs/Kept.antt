@@ -3,7 +3,7 @@ use Rattle.std.specs.Prelude.{◌≡◌, ℕ, ◌+◌, ◌≤◌, List, [], leng
 use Rattle.cell_format.specs.declared.cell.Cell.{Cell}
 use Rattle.plain_list.specs.declared.entries.Entry.{Entry}
 use Rattle.plain_list.specs.State.{State, at_rest}
-use Rattle.disk_trait.specs.Drive.{Drive}
+use Rattle.disk_trait.specs.Drive.{Drive, SameFile}
 use Rattle.disk_trait.specs.Moments.{LeavesNow}
 use Rattle.split_log.specs.LogText.{IsLog}
 use Rattle.log_state.specs.Recovers.{Recovers, state_of}
@@ -37,7 +37,10 @@ abbrev pub found_state : Seen → State
 found_state seen = record { world = seen.world; leaves = seen.leaves; splits = []; begun = seen.begun }
 
 -- A log was opened at a state: where the drive's bytes were known, their cells left that state, and the file is the text of these cells alone.
+-- No device call failed, and the file is the one that was attached.
 pub record IsOpened (w : ℕ) (s : State) (start now : Drive) : Type 0 where
   pub state : (bytes : List ℕ) (first : List Cell) → start.bytes ≡ Some bytes → Recovers w first bytes → at_rest (state_of w first) ≡ s
   pub log : (bytes : List ℕ) → start.bytes ≡ Some bytes → (cells : List Cell) × Recovers w cells bytes × IsLog w cells now
   pub any_moment : KeepsCells w start now
+  pub same : now.faults ≡ start.faults
+  pub file : SameFile start now

@@ -64,7 +64,7 @@ impl<D: LogDisk> Journal<D> {
     pub fn opened(log: SplitLog<D>, start: Snapshot<D>) -> Journal<D>
         ensures value { result ≡ Some (record { disk = log.disk; cells = log.cells; failed = log.failed; start = start.value; first = log.cells }) }
         ensures keeps { (w : ℕ) (s : State) → IsOpened w s (D.drive start.value) (D.drive log.disk) → log.failed ≡ None
-            → (D.drive start.value).faults ≤ (D.drive log.disk).faults → KeepsIn D.drive w s [] result }
+            → KeepsIn D.drive w s [] result }
     {
         let first = Snapshot::of(&log.cells());
         Journal {
