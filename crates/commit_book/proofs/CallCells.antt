@@ -26,6 +26,7 @@ module _ {D : Type 0} (drive : D → Drive) (op : Op) (answer : Answer) where
   pub misses-cell : (cell : Cell) (number : ℕ) (old new : Option (KeptView D)) → change_cells op ≡ cell ∷ [] → is_change answer ≡ true → Missed drive cell number old new
       → MissesCall drive op answer number old new
   misses-cell cell number old new one change missed = record {
+    change = change;
     named = missed.named;
     rose = missed.rose;
     keeps = λ w s h session row legal same kept.

@@ -1,5 +1,5 @@
 -- Why a call of a book is refused: the cause that comes first.
-use Rattle.std.specs.Prelude.{◌≡◌, ◌⊎◌, ℕ, ◌+◌, nat_lt, ◌==◌, Bool, false, not, ◌&&◌, ◌||◌, List, [], ◌∷◌, ◌++◌, length, if◌then◌else◌, Option, Some, None, is_some, Result, Ok, Err, ⊤}
+use Rattle.std.specs.Prelude.{◌≡◌, ◌⊎◌, ℕ, ◌+◌, nat_lt, ◌==◌, Bool, true, false, not, ◌&&◌, ◌||◌, List, [], ◌∷◌, ◌++◌, length, if◌then◌else◌, Option, Some, None, is_some, Result, Ok, Err, ⊤}
 use Rattle.std.specs.Option.{option_map, option_map_or}
 use Rattle.std.specs.Cmp.Lexicographic.{pointwise}
 use Rattle.zorder.specs.SameName.{same_name}
@@ -10,6 +10,7 @@ use Rattle.plain_list.specs.declared.ops.Op.{Op}
 use Rattle.plain_list.specs.declared.entries.Entry.{Entry}
 use Rattle.plain_list.specs.declared.entries.Entry.TheVariants.{Fail}
 use Rattle.plain_list.specs.declared.entries.Lost.{Lost}
+use Rattle.plain_list.specs.declared.entries.Lost.TheVariants as lost
 use Rattle.plain_list.specs.Answer.{answer_of, is_change}
 use Rattle.plain_list.specs.History.{world_after}
 use Rattle.plain_list.specs.State.{State, OpenSplit, split_name, is_leaf, state_after}
@@ -52,12 +53,18 @@ IsRefusedBy IsFree (Some cause) result = result ≡ Err cause
 IsRefusedBy IsFree None (Ok value) = ⊤
 IsRefusedBy IsFree None (Err fault) = IsFree fault
 
+-- a call that was lost would be a change there
+abbrev pub WouldChange : {I D : Type 0} → BookView I D → Lost → Type 0
+WouldChange b (lost.Call session row op) = is_change (answer_of (world_after b.opening.world b.entries) op) ≡ true
+WouldChange b _ = ⊤
+
 -- The append of a cell failed: the book has the one entry that carries the lost step, and is closed.
 pub record Closes {I D : Type 0} (drive : D → Drive) (lost : Lost) (old new : BookView I D) (cell : ℕ) : Type 0 where
   pub entries : new.entries ≡ old.entries ++ Fail cell lost ∷ []
   pub cell_is : cell ≡ cells_in old.log
   pub index : new.index ≡ old.index
   pub rose : RoseIn drive old.log new.log
+  pub change : WouldChange old lost
 
 -- what a refused call leaves: where the drive failed, a closed book, and else the book as it was
 abbrev pub LeavesRefused : {I D : Type 0} → (D → Drive) → Lost → BookView I D → BookView I D → BookFault → Type 0

@@ -1,5 +1,5 @@
 //! The book: an index, a map by id, the history of a run and its log, kept in step.
-ghost use Rattle.std.specs.Prelude.{◌≡◌, ◌≤◌, ◌^◌, [], Some, None, length, IfOk, IfErr};
+ghost use Rattle.std.specs.Prelude.{◌≡◌, ◌^◌, [], Some, None, length, IfOk, IfErr};
 ghost use Rattle.plain_list.specs.Size.{full_leaf};
 ghost use Rattle.plain_list.specs.State.{empty_state, state_after};
 ghost use Rattle.plain_list.specs.History.{world_after};
@@ -106,7 +106,6 @@ impl<I: Index, D: LogDisk> Book<I, D> {
         requires log { (opened.log.cells ≡ opened.seen.cells) × (opened.log.failed ≡ None) }
         requires found { IsFound I.WIDTH (2 ^ 24) (D.drive opened.start.value) opened.seen }
         requires ready { IsOpened I.WIDTH (found_state opened.seen) (D.drive opened.start.value) (D.drive opened.log.disk) }
-        requires later { (D.drive opened.start.value).faults ≤ (D.drive opened.log.disk).faults }
         ensures opening { IfOk result (λ b. (b.opening ≡ found_state opened.seen) × (b.entries ≡ []) × (b.bucket ≡ bucket)) }
         ensures log { IfOk result (λ b. b.log ≡ Some (record { disk = opened.log.disk; cells = opened.log.cells; failed = None; start = opened.start.value; first = opened.log.cells })) }
         ensures back { IfErr result (λ back. back ≡ opened) }

@@ -120,3 +120,22 @@ returns-clause-any_moment g c =
     let world = c.self.invariant.world ∙ state_after-world w o h in
     rw (← c.self.view_is) (λ none.
     c.append_call.ensures.any_moment w o h c.args.session c.args.row steps.legal (c.in-Ok-readied.ensures.ok.answer_is ∙ ap (λ (ms : List Placed). answer_of ms op) world) c.self.invariant.on_log)
+
+pub returns-in-Err-clause-err : goal.returns-in-Err-clause-err
+returns-in-Err-clause-err g c =
+    let w = g.I.Index.WIDTH in
+    let o = c.self.inside.opening in
+    let h = c.self.inside.history.entries in
+    let op = c.args.op.now in
+    let lost = lost.Call c.args.session c.args.row op in
+    let readied = c.in-Ok-readied.ensures.ok in
+    let world = c.self.invariant.world ∙ state_after-world w o h in
+    let entries : c.push_fail.new.self.entries ≡ h ++ Fail c.in-Err.at.cell lost ∷ [] =
+    ap (λ (v : Events). v.entries) c.push_fail.ensures ∙ ap (λ (v : Events). v.entries ++ Fail c.in-Err.at.cell lost ∷ []) c.in-Ok.ensures.ok in
+    rw (← c.self.view_is) (record {
+      entries = entries;
+      cell_is = c.in-Err.ensures.lost.named;
+      index = ap (λ (t : TableView _). t.index) c.give_up.ensures ∙ ap (λ (t : TableView _). t.index) readied.kept;
+      rose = c.in-Err.ensures.lost.rose;
+      change = ap is_change (sym (readied.answer_is ∙ ap (λ (ms : List Placed). answer_of ms op) world)) ∙ c.in-Err.ensures.lost.change;
+    })
