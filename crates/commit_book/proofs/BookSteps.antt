@@ -21,14 +21,6 @@ names_from_bases (l ∷ leaves) = ap (λ (names : List (List Bool)). l.name ∷ 
 pub same_names : (old new : List Leaf) → bases_of new ≡ bases_of old → names_of new ≡ names_of old
 same_names old new same = sym (names_from_bases new) ∙ ap (map (λ (b : LeafBase). b.name)) same ∙ names_from_bases old
 
-pub has_failed-push : (h : List Entry) (e : Entry) → has_failed h ≡ false → is_fail e ≡ false → has_failed (h ++ e ∷ []) ≡ false
-has_failed-push [] e none is = ap (λ b. cond b true false) is
-has_failed-push (f ∷ h) e none is = by_test (is_fail f) none (has_failed-push h e)
-  where
-    by_test : (b : Bool) → cond b true (has_failed h) ≡ false → (has_failed h ≡ false → is_fail e ≡ false → has_failed (h ++ e ∷ []) ≡ false) → cond b true (has_failed (h ++ e ∷ [])) ≡ false
-    by_test true none rest = none
-    by_test false none rest = rest none is
-
 -- a query leaves the world
 pub query_keeps : (op : Op) (world : List Placed) → IsQuery op → after_of world op ≡ world
 query_keeps (Put id at) world is = absurd is

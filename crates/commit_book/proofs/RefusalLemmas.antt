@@ -81,18 +81,7 @@ leaf-split w s name is short =
     (λ i. cond (not (is i)) (Some NoLeaf) (cond (nat_lt 64 (length name + w)) (Some Deep) (option_map Splitting (split_number s.splits name))))
     ∙ (λ i. cond (le_64 (length name + w) short i) (Some Deep) (option_map Splitting (split_number s.splits name)))
 
--- of two causes the first one comes
-pub first_told : (A B : Type 0) (first later : Option BookFault) (fault : BookFault) → IsRefusedBy {A = A} IsNoFault first (Err fault) → IsRefusedBy {A = B} IsNoFault (first_of first later) (Err fault)
-first_told A B (Some cause) later fault is = again fault cause (same fault cause is)
-  where
-    same : (a b : BookFault) → IsRefusedBy {A = A} IsNoFault (Some b) (Err a) → a ≡ b
-    same a b e = cc e
-
-    again : (a b : BookFault) → a ≡ b → IsRefusedBy {A = B} IsNoFault (Some b) (Err a)
-    again a b e = λ i. Err (e i)
-first_told A B None later fault is = absurd is
-
--- and where the first one isn't, the later one
+-- where the first cause isn't, the later one comes
 pub first_passed : (first later : Option BookFault) → first ≡ None → first_of first later ≡ later
 first_passed first later none = ap (λ (o : Option BookFault). first_of o later) none
 

@@ -1,7 +1,7 @@
 -- What a call of a book answers.
 use Rattle.std.specs.Prelude.{◌≡◌, ℕ, Bool, List, [], ◌∷◌, ◌++◌, Option, ⊤}
 use Rattle.plain_list.specs.declared.ops.Op.{Op}
-use Rattle.plain_list.specs.declared.ops.Op.TheVariants.{Put, Move, Remove, Find, Within, Near}
+use Rattle.plain_list.specs.declared.ops.Op.TheVariants.{Within, Near}
 use Rattle.plain_list.specs.declared.ops.Answer.{Answer}
 use Rattle.plain_list.specs.declared.entries.Entry.TheVariants.{Call}
 use Rattle.plain_list.specs.Answer.{answer_of}
@@ -12,21 +12,15 @@ use Rattle.commit_book.specs.BookView.{BookView}
 
 -- an operation that is answered under the lock: a change or a find
 abbrev pub IsUpdate : Op → Type 0
-IsUpdate (Put id at) = ⊤
-IsUpdate (Move id at) = ⊤
-IsUpdate (Remove id) = ⊤
-IsUpdate (Find id) = ⊤
 IsUpdate (Within region) = ⊥
 IsUpdate (Near at k) = ⊥
+IsUpdate _ = ⊤
 
 -- an operation that is answered from a snapshot
 abbrev pub IsQuery : Op → Type 0
-IsQuery (Put id at) = ⊥
-IsQuery (Move id at) = ⊥
-IsQuery (Remove id) = ⊥
-IsQuery (Find id) = ⊥
 IsQuery (Within region) = ⊤
 IsQuery (Near at k) = ⊤
+IsQuery _ = ⊥
 
 -- the history has one entry more, of this call
 pub record Notes {I D : Type 0} (old new : BookView I D) (session row : ℕ) (op : Op) (place : ℕ) : Type 0 where

@@ -24,16 +24,7 @@ use Rattle.commit_book.specs.declared.faults.BookFault.TheVariants.{Closed, Disk
 -- the drive failed
 abbrev pub IsDisk : BookFault → Type 0
 IsDisk (Disk cell) = ⊤
-IsDisk (Closed cell) = ⊥
-IsDisk HistoryFull = ⊥
-IsDisk LogFull = ⊥
-IsDisk Memory = ⊥
-IsDisk (Room cells events) = ⊥
-IsDisk (Splitting number) = ⊥
-IsDisk Deep = ⊥
-IsDisk NoLeaf = ⊥
-IsDisk (Stale number) = ⊥
-IsDisk (NotOpen number) = ⊥
+IsDisk _ = ⊥
 
 -- memory ran out
 abbrev pub IsMemory : BookFault → Type 0
@@ -69,16 +60,7 @@ pub record Closes {I D : Type 0} (drive : D → Drive) (lost : Lost) (old new : 
 -- what a refused call leaves: where the drive failed, a closed book, and else the book as it was
 abbrev pub LeavesRefused : {I D : Type 0} → (D → Drive) → Lost → BookView I D → BookView I D → BookFault → Type 0
 LeavesRefused drive lost old new (Disk cell) = Closes drive lost old new cell
-LeavesRefused drive lost old new (Closed cell) = new ≡ old
-LeavesRefused drive lost old new HistoryFull = new ≡ old
-LeavesRefused drive lost old new LogFull = new ≡ old
-LeavesRefused drive lost old new Memory = new ≡ old
-LeavesRefused drive lost old new (Room cells events) = new ≡ old
-LeavesRefused drive lost old new (Splitting number) = new ≡ old
-LeavesRefused drive lost old new Deep = new ≡ old
-LeavesRefused drive lost old new NoLeaf = new ≡ old
-LeavesRefused drive lost old new (Stale number) = new ≡ old
-LeavesRefused drive lost old new (NotOpen number) = new ≡ old
+LeavesRefused drive lost old new _ = new ≡ old
 
 -- the cause that comes first
 abbrev pub first_of : Option BookFault → Option BookFault → Option BookFault

@@ -31,6 +31,9 @@ use std::alloc::Global;
 use std::marker::Model;
 use zorder::{Memory, Name};
 
+/// The most events of a run.
+const MOST_EVENTS: u64 = 4_194_304;
+
 /// A book's answer to a change or a find.
 #[derive(Drop)]
 pub struct Done {
@@ -221,7 +224,7 @@ impl<I: Index, D: LogDisk> Book<I, D> {
         if let Some(cell) = self.closed() {
             return Err(BookFault::Closed { cell });
         }
-        if self.events() >= 4_194_304 {
+        if self.events() >= MOST_EVENTS {
             return Err(BookFault::HistoryFull);
         }
         Ok(())

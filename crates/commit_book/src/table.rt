@@ -25,7 +25,7 @@ use crate::open_splits::OpenSplits;
 use crate::updates::{Effect, Moved, Readied, without_effect};
 use bucket_versions::{Bucket, Row};
 use index_layer::{Index, Part};
-use plain_list::{Answer, Op};
+use plain_list::{Answer, MOST_MEMBERS, Op};
 use std::alloc::Global;
 use std::marker::Model;
 use std::sync::Arc;
@@ -103,7 +103,7 @@ impl<I: Index> Table<I> {
         ensures { result ≡ is_change (answer_of self.now.world op.now) }
     {
         match *op {
-            Op::Put { id, .. } => self.place(id).is_none() && self.len() < 1_048_576,
+            Op::Put { id, .. } => self.place(id).is_none() && self.len() < MOST_MEMBERS,
             Op::Move { id, .. } => self.place(id).is_some(),
             Op::Remove { id } => self.place(id).is_some(),
             Op::Find { .. } => false,
@@ -137,7 +137,7 @@ impl<I: Index> Table<I> {
         if let Some(place) = self.place(id) {
             return Ok(without_effect(op, Answer::Present(place)));
         }
-        if self.len() >= 1_048_576 {
+        if self.len() >= MOST_MEMBERS {
             return Ok(without_effect(op, Answer::Full));
         }
         let leaf = self.prepare_put(id, at)?;

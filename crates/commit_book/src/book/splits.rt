@@ -19,6 +19,12 @@ use plain_list::{Entry, Lost};
 use split_prepare::{Prepared, SplitTicket};
 use zorder::Name;
 
+/// Past so many cells no split begins.
+const MOST_CELLS_TO_BEGIN: u64 = 16_000_000;
+
+/// Nor past so many events.
+const MOST_EVENTS_TO_BEGIN: u64 = 4_000_000;
+
 impl<I: Index, D: LogDisk> Book<I, D> {
     /// Begins a split: the leaf's rows become its base, and stay that until the split ends. The entry that ends it has its memory.
     pub fn begin(&mut self, name: &Name) -> Result<SplitTicket, BookFault>
@@ -75,7 +81,7 @@ impl<I: Index, D: LogDisk> Book<I, D> {
     {
         let cells = self.cells();
         let events = self.events();
-        if cells > 16_000_000 || events > 4_000_000 {
+        if cells > MOST_CELLS_TO_BEGIN || events > MOST_EVENTS_TO_BEGIN {
             return Err(BookFault::Room { cells, events });
         }
         Ok(())
