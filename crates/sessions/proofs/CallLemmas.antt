@@ -286,6 +286,7 @@ module _ (w session row : ℕ) (op : Op) (old new : Known) where
   change-ok done step = record {
     before = step.before;
     later = step.later;
+    alone = step.alone;
     cells = step.cells;
     are_cells = step.are_cells;
     answered = answered-ok IsMemoryOrDisk op (call_cause old.origin op step.cells step.before) done (Ok done) step.refused tt;
@@ -296,6 +297,7 @@ module _ (w session row : ℕ) (op : Op) (old new : Known) where
   change-err fault update step = record {
     before = step.before;
     later = step.later;
+    alone = step.alone;
     cells = step.cells;
     are_cells = step.are_cells;
     answered = answered-err Done IsMemoryOrDisk op (call_cause old.origin op step.cells step.before) fault (free-comes op fault update) step.refused;
@@ -314,6 +316,7 @@ module _ {I : Type 0} (leaves : I → List Leaf) (w session row : ℕ) (op : Op)
   query-err fault step = record {
     before = step.before;
     later = step.later;
+    alone = step.alone;
     cells = step.cells;
     are_cells = step.are_cells;
     answered = cause-is (Err (call_fault fault)) step.cells step.before (answered-err (Snapshot I) IsMemory op (call_refusal step.before) fault (memory-comes op fault) step.refused);
@@ -324,6 +327,7 @@ module _ {I : Type 0} (leaves : I → List Leaf) (w session row : ℕ) (op : Op)
   query-memory shown step = record {
     before = step.before;
     later = step.later;
+    alone = step.alone;
     cells = step.cells;
     are_cells = step.are_cells;
     answered = cause-is (Err (call.Memory (Some shown.place))) step.cells step.before (answered-ok IsMemory op (call_refusal step.before) shown (Err (call.Memory (Some shown.place))) step.refused query);
@@ -335,6 +339,7 @@ module _ {I : Type 0} (leaves : I → List Leaf) (w session row : ℕ) (op : Op)
   query-ok shown answer step is = record {
     before = step.before;
     later = step.later;
+    alone = step.alone;
     cells = step.cells;
     are_cells = step.are_cells;
     answered = cause-is (Ok (record { place = shown.place; answer = answer; full = None })) step.cells step.before

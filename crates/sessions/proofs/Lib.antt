@@ -7,3 +7,4 @@ pub mod StepLemmas
 pub mod CallLemmas
 pub mod SplitLemmas
 pub mod LaneLemmas
+pub mod SettleLemmas

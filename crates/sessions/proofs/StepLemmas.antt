@@ -25,7 +25,7 @@ use Rattle.book_lock.specs.Pass.{Known}
 use Rattle.book_lock.specs.Ends.{MayNote}
 use Rattle.book_lock.specs.declared.origin.Origin.{Origin}
 use Rattle.sessions.specs.Shared.{origin_of, first_in}
-use Rattle.sessions.specs.Steps.{AreCells, IsStep, Leaves, Says, MayGive, has_entry, has_given, has_added, has_seen}
+use Rattle.sessions.specs.Steps.{all_parts, AreCells, IsStep, Leaves, Says, MayGive, has_entry, has_given, has_added, has_seen}
 use Rattle.sessions.specs.Splits.{SamePass}
 
 pub prefix-later : (xs ys zs : List Entry) → IsPrefix xs ys → IsPrefix ys zs → IsPrefix xs zs
@@ -90,6 +90,7 @@ pub record WasTaken {I D : Type 0} (drive : D → Drive) (b : BookView I D) (old
   pub later : IsPrefix old.seen took.seen
   pub took_is : took ≡ record old { seen = took.seen; holds = true }
   pub off : old.holds ≡ false
+  pub alone : old.parts ≡ all_parts → took.seen ≡ old.seen
 
 -- what a step makes of the book
 pub record BookStep {I D A : Type 0} (drive : D → Drive) (IsFree : BookFault → Type 0) (cause : Option BookFault) (entry : A → Entry) (lost : Lost) (b mid : BookView I D) (result : Result A BookFault) : Type 0 where
@@ -147,6 +148,7 @@ pub stepped : {I D A : Type 0} (leaves : I → List Leaf) (drive : D → Drive) 
 stepped leaves drive w IsFree cause entry lost P b mid old took back result is was step says given = record {
   before = took.seen;
   later = was.later;
+  alone = was.alone;
   cells = cells_in b.log;
   are_cells = subst (λ (o : Origin). AreCells o took.seen (cells_in b.log)) was.origin (subst (λ (h : List Entry). AreCells (origin_of drive b) h (cells_in b.log)) was.entries (are-cells leaves drive w b is));
   refused = subst (λ (h : List Entry). IsRefusedBy IsFree (cause (cells_in b.log) h) result) was.entries step.refused;

@@ -24,7 +24,7 @@ use Rattle.commit_book.specs.Refusals.{IsMemory, IsMemoryOrDisk, first_of, call_
 use Rattle.book_lock.specs.Pass.{Known}
 use Rattle.book_lock.specs.declared.origin.Origin.{Origin}
 use Rattle.sessions.specs.Shared.{start_of}
-use Rattle.sessions.specs.Steps.{AreCells, IsStep, has_added, has_seen}
+use Rattle.sessions.specs.Steps.{all_parts, AreCells, IsStep, has_added, has_seen}
 use Rattle.sessions.specs.declared.faults.CallFault.{CallFault}
 use Rattle.sessions.specs.declared.faults.CallFault.TheVariants.{Closed, Disk, HistoryFull, LogFull, Memory}
 
@@ -114,6 +114,7 @@ CallLeaves w session row op old before new (Err (Memory (Some place))) = (new �
 pub record Called (w session row : ℕ) (op : Op) (old new : Known) (result : Result Done CallFault) : Type 0 where
   pub before : List Entry
   pub later : IsPrefix old.seen before
+  pub alone : old.parts ≡ all_parts → before ≡ old.seen
   pub cells : ℕ
   pub are_cells : AreCells old.origin before cells
   pub answered : IsAnswered op (call_cause old.origin op cells before) result

@@ -3,3 +3,4 @@ pub mod Steps
 pub mod Calls
 pub mod Splits
 pub mod Lanes
+pub mod Settles

@@ -1,11 +1,14 @@
 -- A book behind a lock: what holds of it, and what it began from.
-use Rattle.std.specs.Prelude.{ℕ, List, [], Option, Some, None}
+use Rattle.std.specs.Prelude.{◌≡◌, ℕ, Bool, List, [], Option, Some, None, Result, Ok, Err}
 use Rattle.plain_list.specs.World.{IsWorld}
-use Rattle.plain_list.specs.State.{State}
+use Rattle.plain_list.specs.State.{State, state_after}
+use Rattle.plain_list.specs.Size.{full_leaf}
 use Rattle.plain_list.specs.History.{world_after}
 use Rattle.disk_trait.specs.Drive.{Drive}
 use Rattle.kept_log.specs.KeptView.{KeptView}
 use Rattle.commit_book.specs.BookView.{BookView}
+use Rattle.commit_book.specs.Refusals.{closed_refusal}
+use Rattle.commit_book.specs.declared.faults.BookFault.{BookFault}
 use Rattle.book_lock.specs.declared.origin.Origin.{Origin}
 
 -- its objects are a world
@@ -45,3 +48,8 @@ origin_of drive b = record {
 -- the state at which a value of this origin began
 abbrev pub start_of : Origin → State
 start_of o = record { world = o.world; leaves = o.leaves; splits = []; begun = o.begun }
+
+-- the leaf that a book tells to be split next, where it isn't closed
+abbrev pub TellsFull : {I D : Type 0} → ℕ → BookView I D → Result (Option (List Bool)) BookFault → Type 0
+TellsFull w b (Ok full) = (closed_refusal b.entries ≡ None) × (full ≡ full_leaf w b.bucket (state_after w b.opening b.entries))
+TellsFull w b (Err fault) = closed_refusal b.entries ≡ Some fault

@@ -13,6 +13,10 @@ use Rattle.book_lock.specs.Pass.{Known}
 use Rattle.book_lock.specs.Ends.{MayNote}
 use Rattle.book_lock.specs.declared.origin.Origin.{Origin}
 
+-- the parts of a lock: nobody else can add to the history while a pass has all of them
+abbrev pub all_parts : ℕ
+all_parts = 65536
+
 -- the pass has seen this history, and nothing else changed
 abbrev pub has_seen : Known → List Entry → Known
 has_seen old before = record old { seen = before }
@@ -53,6 +57,7 @@ Says P (Err fault) = Unit {0}
 pub record IsStep {A : Type 0} (IsFree : BookFault → Type 0) (cause : ℕ → List Entry → Option BookFault) (entry : A → Entry) (lost : List Entry → Lost) (P : List Entry → A → Type 0) (old new : Known) (result : Result A BookFault) : Type 0 where
   pub before : List Entry
   pub later : IsPrefix old.seen before
+  pub alone : old.parts ≡ all_parts → before ≡ old.seen
   pub cells : ℕ
   pub are_cells : AreCells old.origin before cells
   pub refused : IsRefusedBy IsFree (cause cells before) result

@@ -2,6 +2,7 @@
 ghost use Rattle.std.specs.Prelude.{◌≡◌};
 ghost use Rattle.sessions.specs.Calls.{IsCallFault, call_fault};
 ghost use Rattle.sessions.specs.Splits.{IsLasting};
+ghost use Rattle.sessions.specs.Settles.{IsSettleFault};
 ghost use Rattle.sessions.specs.Steps.{has_entry};
 
 use commit_book::BookFault;
@@ -30,6 +31,15 @@ pub enum Split {
     NotSplit(BookFault),
 }
 
+/// How the splits at the end were settled.
+#[derive(Clone, Copy, Debug, PartialEq, Eq)]
+pub enum Settled {
+    /// No leaf is over the size and free to be split.
+    Small,
+    /// There are too many cells or entries for a further split.
+    Room,
+}
+
 /// What a call answers to a fault of the book.
 pub(crate) fn call_fault(fault: BookFault) -> CallFault
     requires { IsCallFault fault }
@@ -50,6 +60,15 @@ pub(crate) fn lasting(fault: BookFault) -> BookFault
     requires { IsLasting fault }
     ensures fault { result ≡ fault }
     ensures lasting { IsLasting fault }
+{
+    fault
+}
+
+/// Tells that a fault is one that settling may meet.
+pub(crate) fn settle_fault(fault: BookFault) -> BookFault
+    requires { IsSettleFault fault }
+    ensures fault { result ≡ fault }
+    ensures settles { IsSettleFault fault }
 {
     fault
 }

@@ -11,7 +11,7 @@ ghost use Rattle.commit_book.specs.IsBook.{IsBook, AreBooks};
 ghost use Rattle.commit_book.specs.Refusals.{IsRefusedBy, IsDisk, IsMemory, IsMemoryOrDisk, LeavesRefused, call_refusal, update_refusal, begin_refusal, install_refusal, abandon_refusal};
 ghost use Rattle.commit_book.specs.Answers.{IsUpdate, IsQuery, Notes, Replies};
 ghost use Rattle.commit_book.specs.SplitSteps.{Begins, CanPrepare, Installs, Abandons};
-ghost use Rattle.sessions.specs.Shared.{HasWorld};
+ghost use Rattle.sessions.specs.Shared.{HasWorld, TellsFull};
 
 use book_lock::Held;
 use commit_book::{Book, BookFault, Done, Snapshot};
@@ -64,6 +64,17 @@ impl<I: Index, D: LogDisk> SharedBook<I, D> {
         ensures { result ≡ self }
     {
         self.book
+    }
+
+    /// The leaf that is to be split next, or that the book is closed.
+    pub(crate) fn next_full(&self) -> Result<Option<Name>, BookFault>
+        ensures next { TellsFull I.WIDTH self.now result }
+        ensures book { IsBook I.leaves D.drive I.WIDTH self.now }
+    {
+        match self.book.closed() {
+            Some(cell) => Err(BookFault::Closed { cell }),
+            None => Ok(self.book.full()),
+        }
     }
 
     /// As of the book.

@@ -7,6 +7,7 @@ ghost use Rattle.sessions.specs.Steps.{MayGive, has_given};
 mod calls;
 mod lanes;
 mod passes;
+mod settling;
 mod splits;
 
 use crate::shared::SharedBook;

@@ -23,7 +23,7 @@ give-requires-clause-entries g c =
     let took = c.take-book.new.pass in
     let mid = c.abandon-answer.new.self in
     let r = c.abandon-answer.result in
-    let was : WasTaken g.D.LogDisk.drive b old took = record { entries = take.value.0; origin = take.value.1; later = take.later; took_is = take.pass; off = c.requires.off } in
+    let was : WasTaken g.D.LogDisk.drive b old took = record { entries = take.value.0; origin = take.value.1; later = take.later; took_is = take.pass; off = c.requires.off; alone = take.alone } in
     let begun = begun-later old took n name base take.later (ap (λ (k : Known). k.own) take.pass) (ap (λ (k : Known). k.origin) take.pass) has in
     let live = never-ended g.I.Index.leaves g.D.LogDisk.drive g.I.Index.WIDTH b took n name base abandon.book.before (take.value.1 ∙ ap (λ (k : Known). k.origin) (sym take.pass)) take.value.0 take.ends begun in
     let step : BookStep g.D.LogDisk.drive IsDisk (end_refusal (cells_in b.log) b.entries) (λ (done : Unit {0}). Abandon n) (lost.Abandon n) b mid r =
@@ -43,7 +43,7 @@ returns g c =
     let took = c.take-book.new.pass in
     let mid = c.abandon-answer.new.self in
     let r = c.abandon-answer.result in
-    let was : WasTaken g.D.LogDisk.drive b old took = record { entries = take.value.0; origin = take.value.1; later = take.later; took_is = take.pass; off = c.requires.off } in
+    let was : WasTaken g.D.LogDisk.drive b old took = record { entries = take.value.0; origin = take.value.1; later = take.later; took_is = take.pass; off = c.requires.off; alone = take.alone } in
     let begun = begun-later old took n name base take.later (ap (λ (k : Known). k.own) take.pass) (ap (λ (k : Known). k.origin) take.pass) has in
     let live = never-ended g.I.Index.leaves g.D.LogDisk.drive g.I.Index.WIDTH b took n name base abandon.book.before (take.value.1 ∙ ap (λ (k : Known). k.origin) (sym take.pass)) take.value.0 take.ends begun in
     let step : BookStep g.D.LogDisk.drive IsDisk (end_refusal (cells_in b.log) b.entries) (λ (done : Unit {0}). Abandon n) (lost.Abandon n) b mid r =

@@ -20,7 +20,7 @@ give-requires-clause-entries g c =
     let mid = c.begin-answer.new.self in
     let name = c.args.name.now in
     let r = c.begin-answer.result in
-    let was : WasTaken g.D.LogDisk.drive b old took = record { entries = take.value.0; origin = take.value.1; later = take.later; took_is = take.pass; off = c.requires.off } in
+    let was : WasTaken g.D.LogDisk.drive b old took = record { entries = take.value.0; origin = take.value.1; later = take.later; took_is = take.pass; off = c.requires.off; alone = take.alone } in
     let grown : has_entry (number_of r) ≡ c.has_entry-grown.result = number-entry r ∙ sym c.has_entry-grown.ensures in
     subst (λ (grown : Bool). MayGive took grown mid.entries) grown
     (may-give g.D.LogDisk.drive IsMemoryOrDisk (begin_cause g.I.Index.WIDTH old.origin name (cells_in b.log) b.entries) (λ (number : ℕ). Begin number name) (lost.Begin ((state_of g.I.Index.WIDTH old.origin b.entries).begun + 1) name) b mid took take.value.0
@@ -33,7 +33,7 @@ returns-clause-step g c =
     let begin = c.begin-answer.ensures in
     let mid = c.begin-answer.new.self in
     let took = c.take-book.new.pass in
-    let was : WasTaken g.D.LogDisk.drive c.take-book.result c.args.pass.now took = record { entries = take.value.0; origin = take.value.1; later = take.later; took_is = take.pass; off = c.requires.off } in
+    let was : WasTaken g.D.LogDisk.drive c.take-book.result c.args.pass.now took = record { entries = take.value.0; origin = take.value.1; later = take.later; took_is = take.pass; off = c.requires.off; alone = take.alone } in
     begun g.I.Index.leaves g.D.LogDisk.drive g.I.Index.WIDTH c.take-book.result mid c.args.pass.now took c.give.new.pass c.args.name.now was begin.book c.begin-answer.result begin.ok begin.refused begin.err
     (c.give.ensures ∙ ap (λ (grown : Bool). has_given took grown mid.entries) c.has_entry-grown.ensures)
 
@@ -43,7 +43,7 @@ returns-clause-begun g c =
     let begin = c.begin-answer.ensures in
     let mid = c.begin-answer.new.self in
     let took = c.take-book.new.pass in
-    let was : WasTaken g.D.LogDisk.drive c.take-book.result c.args.pass.now took = record { entries = take.value.0; origin = take.value.1; later = take.later; took_is = take.pass; off = c.requires.off } in
+    let was : WasTaken g.D.LogDisk.drive c.take-book.result c.args.pass.now took = record { entries = take.value.0; origin = take.value.1; later = take.later; took_is = take.pass; off = c.requires.off; alone = take.alone } in
     begun-notes g.I.Index.leaves g.D.LogDisk.drive g.I.Index.WIDTH c.take-book.result mid c.args.pass.now took c.give.new.pass c.args.name.now was begin.book c.begin-answer.result begin.ok take.rises.1
     (c.give.ensures ∙ ap (λ (grown : Bool). has_given took grown mid.entries) c.has_entry-grown.ensures)
 

@@ -22,7 +22,7 @@ give-requires-clause-entries g c =
     let took = c.take-book.new.pass in
     let mid = c.install-answer.new.self in
     let r = c.install-answer.result in
-    let was : WasTaken g.D.LogDisk.drive b old took = record { entries = take.value.0; origin = take.value.1; later = take.later; took_is = take.pass; off = c.requires.off } in
+    let was : WasTaken g.D.LogDisk.drive b old took = record { entries = take.value.0; origin = take.value.1; later = take.later; took_is = take.pass; off = c.requires.off; alone = take.alone } in
     let begun = begun-later old took p.number p.name p.base take.later (ap (λ (k : Known). k.own) take.pass) (ap (λ (k : Known). k.origin) take.pass) c.requires.begun in
     let live = never-stale g.I.Index.leaves g.D.LogDisk.drive g.I.Index.WIDTH b took p.number p.name p.base install.book.before (take.value.1 ∙ ap (λ (k : Known). k.origin) (sym take.pass)) take.value.0 take.ends begun in
     let step : BookStep g.D.LogDisk.drive IsMemoryOrDisk (end_refusal (cells_in b.log) b.entries) (λ (done : Unit {0}). Install p.number) (lost.Install p.number) b mid r =
@@ -42,7 +42,7 @@ returns g c =
     let took = c.take-book.new.pass in
     let mid = c.install-answer.new.self in
     let r = c.install-answer.result in
-    let was : WasTaken g.D.LogDisk.drive b old took = record { entries = take.value.0; origin = take.value.1; later = take.later; took_is = take.pass; off = c.requires.off } in
+    let was : WasTaken g.D.LogDisk.drive b old took = record { entries = take.value.0; origin = take.value.1; later = take.later; took_is = take.pass; off = c.requires.off; alone = take.alone } in
     let begun = begun-later old took p.number p.name p.base take.later (ap (λ (k : Known). k.own) take.pass) (ap (λ (k : Known). k.origin) take.pass) c.requires.begun in
     let live = never-stale g.I.Index.leaves g.D.LogDisk.drive g.I.Index.WIDTH b took p.number p.name p.base install.book.before (take.value.1 ∙ ap (λ (k : Known). k.origin) (sym take.pass)) take.value.0 take.ends begun in
     let step : BookStep g.D.LogDisk.drive IsMemoryOrDisk (end_refusal (cells_in b.log) b.entries) (λ (done : Unit {0}). Install p.number) (lost.Install p.number) b mid r =

@@ -19,7 +19,7 @@ give-requires-clause-entries g c =
     let took = c.take-book.new.pass in
     let mid = c.snapshot-answer.new.self in
     let op = c.args.op.now in
-    let was : WasTaken g.D.LogDisk.drive c.take-book.result c.args.pass.now c.take-book.new.pass = record { entries = take.value.0; origin = take.value.1; later = take.later; took_is = take.pass; off = c.requires.off } in
+    let was : WasTaken g.D.LogDisk.drive c.take-book.result c.args.pass.now c.take-book.new.pass = record { entries = take.value.0; origin = take.value.1; later = take.later; took_is = take.pass; off = c.requires.off; alone = take.alone } in
     subst (λ (grown : Bool). MayGive took grown mid.entries) (sym c.has_entry-grown.ensures)
     (may-give g.D.LogDisk.drive IsMemory (call_refusal b.entries) (λ (s : Snapshot g.row.I.Denot). Call c.args.session c.args.row op) (lost.Call c.args.session c.args.row op) b mid took take.value.0 c.snapshot-answer.result
     (look-step g.I.Index.leaves g.D.LogDisk.drive g.I.Index.WIDTH b mid old took took c.args.session c.args.row op was snapshot.book c.snapshot-answer.result snapshot.ok snapshot.refused snapshot.err)
@@ -31,6 +31,6 @@ returns g c =
     let snapshot = c.snapshot-answer.ensures in
     let mid = c.snapshot-answer.new.self in
     let took = c.take-book.new.pass in
-    let was : WasTaken g.D.LogDisk.drive c.take-book.result c.args.pass.now c.take-book.new.pass = record { entries = take.value.0; origin = take.value.1; later = take.later; took_is = take.pass; off = c.requires.off } in
+    let was : WasTaken g.D.LogDisk.drive c.take-book.result c.args.pass.now c.take-book.new.pass = record { entries = take.value.0; origin = take.value.1; later = take.later; took_is = take.pass; off = c.requires.off; alone = take.alone } in
     looked g.I.Index.leaves g.D.LogDisk.drive g.I.Index.WIDTH c.take-book.result mid c.args.pass.now took c.give.new.pass c.args.session c.args.row c.args.op.now was snapshot.book
     (state_after g.I.Index.WIDTH mid.opening mid.entries).leaves c.snapshot-answer.result snapshot.ok snapshot.index snapshot.world snapshot.refused snapshot.err (c.give.ensures ∙ ap (λ (grown : Bool). has_given took grown mid.entries) c.has_entry-grown.ensures)

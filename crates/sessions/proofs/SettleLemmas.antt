@@ -1,0 +1,200 @@
+-- Splits while nobody else calls.
+use Rattle.std.proofs.Common.{◌≡◌, ◌⊎◌, inl, inr, ℕ, ◌+◌, ◌≤◌, ◌==◌, ◌||◌, nat_lt, Bool, true, false, cond, List, [], ◌∷◌, ◌++◌, length, Option, Some, None, Result, Ok, Err, refl, sym, ap, subst, ◌∙◌, arith, length-append}
+use mathlib.Core.Bool.{true≢false}
+use mathlib.Core.List.{IsPrefix}
+use Rattle.std.specs.Option.{option_map}
+use Rattle.std.proofs.lemmas.List.{append-nil}
+use Rattle.std.proofs.lemmas.Bool.Decides.{Decides-eqb}
+use borrow.Author.Tests.{ltb-true, ltb-false}
+use Rattle.cell_format.specs.declared.cell.Cell.{Cell}
+use Rattle.plain_list.specs.declared.entries.Entry.{Entry}
+use Rattle.plain_list.specs.declared.entries.Entry.TheVariants.{Begin}
+use Rattle.plain_list.specs.History.{world_after}
+use Rattle.log_state.specs.Changes.{cells_of}
+use Rattle.log_state.proofs.PlacedChanges.{cells_of-append}
+use Rattle.kept_log.specs.Journal.{failed_cell}
+use Rattle.kept_log.proofs.InJournal.{failed_cell-push, has_failed-none}
+use Rattle.commit_book.specs.IsBook.{most_events}
+use Rattle.commit_book.specs.Refusals.{IsRefusedBy, IsDisk, IsMemoryOrDisk, first_of, closed_refusal, events_refusal, room_refusal, leaf_refusal, end_refusal, split_number, most_cells}
+use Rattle.commit_book.specs.declared.faults.BookFault.{BookFault}
+use Rattle.commit_book.specs.declared.faults.BookFault.TheVariants as book
+use Rattle.commit_book.proofs.RefusalLemmas.{number-none, leaf-split}
+use Rattle.commit_book.proofs.SplitCalls.{full_leaf-free}
+use Rattle.book_lock.specs.Pass.{Known}
+use Rattle.book_lock.specs.declared.origin.Origin.{Origin}
+use Rattle.sessions.specs.Calls.{next_full}
+use Rattle.sessions.specs.Steps.{AreCells, all_parts, cells_after, has_added}
+use Rattle.sessions.specs.Splits.{BeginsSplit, InstallsSplit, AbandonsSplit, GivesUp, RanOut, NotInstalled, SplitEnds, SamePass, begin_cause, state_of}
+use Rattle.sessions.specs.Settles.{TellsNext, SplitsAll, IsNextFault, IsSettleFault, SplitFault, SettleEnds}
+use Rattle.sessions.specs.declared.faults.Split.{Split}
+use Rattle.sessions.specs.declared.faults.Split.TheVariants.{Installed, NotSplit}
+use Rattle.sessions.proofs.CallLemmas.{AreCauses, causes-if, refused-cause}
+
+memory-next : (fault : BookFault) → fault ≡ book.Memory → IsNextFault fault
+memory-next fault is = subst IsNextFault (sym is) tt
+
+disk-next : (fault : BookFault) → IsDisk fault → IsNextFault fault
+disk-next (book.Disk cell) is = tt
+disk-next (book.Closed cell) is = tt
+disk-next book.HistoryFull is = is
+disk-next book.LogFull is = is
+disk-next book.Memory is = tt
+disk-next (book.Room cells events) is = tt
+disk-next (book.Splitting number) is = is
+disk-next book.Deep is = is
+disk-next book.NoLeaf is = is
+disk-next (book.Stale number) is = is
+disk-next (book.NotOpen number) is = is
+
+free-next : (fault : BookFault) → IsMemoryOrDisk fault → IsNextFault fault
+free-next fault (inl memory) = memory-next fault memory
+free-next fault (inr disk) = disk-next fault disk
+
+no-later : (o : Option BookFault) → first_of o None ≡ o
+no-later (Some cause) = refl
+no-later None = refl
+
+-- the begin of the next leaf's split is refused for want of room alone
+begin-room : (w : ℕ) (old : Known) (name : List Bool) (cells : ℕ) (before : List Entry) → before ≡ old.seen → closed_refusal old.seen ≡ None → next_full w old ≡ Some name
+    → begin_cause w old.origin name cells before ≡ room_refusal cells (length before)
+begin-room w old name cells before same unclosed full =
+    let s = state_of w old.origin old.seen in
+    let free = full_leaf-free w old.origin.bucket s name full in
+    let room = room_refusal cells (length before) in
+    (λ i. first_of (closed_refusal (same i)) (first_of room (leaf_refusal w (state_of w old.origin (same i)) name)))
+    ∙ (λ i. first_of (unclosed i) (first_of room (leaf_refusal w s name)))
+    ∙ ap (first_of room) (leaf-split w s name free.leaf free.short ∙ ap (option_map book.Splitting) (number-none s.splits name free.free))
+    ∙ no-later room
+
+room-next : (cells events : ℕ) → AreCauses IsNextFault (room_refusal cells events)
+room-next cells events = causes-if IsNextFault (nat_lt 16000000 cells || nat_lt 4000000 events) (book.Room cells events) tt
+
+-- where there was room
+has-room : (cells events : ℕ) → room_refusal cells events ≡ None → (events ≤ 4000000) × (cells ≤ 16000000)
+has-room cells events none = by_tests (nat_lt 16000000 cells) (nat_lt 4000000 events) refl refl none
+  where
+    by_tests : (a b : Bool) → nat_lt 16000000 cells ≡ a → nat_lt 4000000 events ≡ b → cond (a || b) (Some (book.Room cells events)) None ≡ None → (events ≤ 4000000) × (cells ≤ 16000000)
+    by_tests true b is other none = absurd (cc)
+    by_tests false true other is none = absurd (cc)
+    by_tests false false few less none = (ltb-false 4000000 events less, ltb-false 16000000 cells few)
+
+room-cells : (origin : Origin) (before : List Entry) (cells : ℕ) → AreCells origin before cells → cells ≤ 16000000 → cells_after origin before ≤ 16000000
+room-cells origin before cells (inl is) few = subst (λ (n : ℕ). n ≤ 16000000) is few
+room-cells origin before cells (inr (none, first, less)) few = omega arith
+
+-- one begin behind that there is room for an end
+cells-begun : (origin : Origin) (before after : List Entry) (number cells : ℕ) (name : List Bool) → after ≡ before ++ Begin number name ∷ [] → cells_after origin before ≤ 16000000 → AreCells origin after cells → cells ≤ 16000001
+cells-begun origin before after number cells name is few (inr (none, first, less)) = omega arith
+cells-begun origin before after number cells name is few (inl same) =
+    let more : length (cells_of origin.world after) ≡ length (cells_of origin.world before) + 1 =
+    ap (λ (h : List Entry). length (cells_of origin.world h)) is ∙ ap length (cells_of-append origin.world before (Begin number name ∷ []))
+    ∙ length-append (cells_of origin.world before) (cells_of (world_after origin.world before) (Begin number name ∷ [])) in
+    omega arith
+
+not-equal : (a b : ℕ) → a + 1 ≤ b → (a == b) ≡ false
+not-equal a b less = by_test (a == b) refl
+  where
+    by_test : (t : Bool) → (a == b) ≡ t → t ≡ false
+    by_test false is = refl
+    by_test true is = let same : a ≡ b = (Decides-eqb a b).0 is in absurd (omega arith)
+
+-- so no end is refused there
+end-free : (before after : List Entry) (number cells : ℕ) (name : List Bool) → after ≡ before ++ Begin number name ∷ [] → failed_cell before ≡ None → length before ≤ 4000000 → cells ≤ 16000001 → end_refusal cells after ≡ None
+end-free before after number cells name is going few less =
+    let unclosed : failed_cell after ≡ None = ap failed_cell is ∙ failed_cell-push before (Begin number name) (has_failed-none before going) in
+    let count : length after ≡ length before + 1 = ap length is ∙ length-append before (Begin number name ∷ []) in
+    let events : (length after == most_events) ≡ false = not-equal (length after) most_events (omega arith) in
+    let full : (cells == most_cells) ≡ false = not-equal cells most_cells (omega arith) in
+    λ i. first_of (first_of (option_map book.Closed (unclosed i)) (cond (events i) (Some book.HistoryFull) None)) (cond (full i) (Some book.LogFull) None)
+
+going-none : (h : List Entry) → closed_refusal h ≡ None → failed_cell h ≡ None
+going-none h is = by_cases (failed_cell h) is
+  where
+    by_cases : (o : Option ℕ) → option_map book.Closed o ≡ None → o ≡ None
+    by_cases None is = refl
+    by_cases (Some cell) is = absurd (cc is)
+
+module _ (w : ℕ) (old mid : Known) (number : ℕ) (name : List Bool) (all : old.parts ≡ all_parts) (unclosed : closed_refusal old.seen ≡ None) (full : next_full w old ≡ Some name) (begins : BeginsSplit w name old mid (Ok number)) where
+  begun-room : (length begins.before ≤ 4000000) × (begins.cells ≤ 16000000)
+  begun-room = has-room begins.cells (length begins.before) (sym (begin-room w old name begins.cells begins.before (begins.alone all) unclosed full) ∙ allowed (begin_cause w old.origin name begins.cells begins.before) begins.refused)
+    where
+      allowed : (cause : Option BookFault) → IsRefusedBy IsMemoryOrDisk cause (Ok number) → cause ≡ None
+      allowed None refused = refl
+      allowed (Some cause) refused = absurd (cc refused)
+
+  going : failed_cell begins.before ≡ None
+  going = going-none begins.before (ap closed_refusal (begins.alone all) ∙ unclosed)
+
+  mid-seen : mid.seen ≡ begins.before ++ Begin number name ∷ []
+  mid-seen = ap (λ (k : Known). k.seen) begins.leaves
+
+  mid-origin : mid.origin ≡ old.origin
+  mid-origin = ap (λ (k : Known). k.origin) begins.leaves
+
+  mid-parts : mid.parts ≡ all_parts
+  mid-parts = ap (λ (k : Known). k.parts) begins.leaves ∙ all
+
+  -- the end of the split is refused for no cause
+  ends-free : (cells : ℕ) (after : List Entry) → after ≡ mid.seen → AreCells mid.origin after cells → end_refusal cells after ≡ None
+  ends-free cells after same are =
+      let is : after ≡ begins.before ++ Begin number name ∷ [] = same ∙ mid-seen in
+      let few = room-cells old.origin begins.before begins.cells begins.are_cells begun-room.1 in
+      let less : cells ≤ 16000001 = cells-begun old.origin begins.before after number cells name is few (subst (λ (o : Origin). AreCells o after cells) mid-origin are) in
+      end-free begins.before after number cells name is going begun-room.0 less
+
+  free-fault : (IsFree : BookFault → Type 0) (cells : ℕ) (after : List Entry) (fault : BookFault) → end_refusal cells after ≡ None → IsRefusedBy {A = Unit {0}} IsFree (end_refusal cells after) (Err fault) → IsFree fault
+  free-fault IsFree cells after fault none refused = subst (λ (o : Option BookFault). IsRefusedBy {A = Unit {0}} IsFree o (Err fault)) none refused
+
+  gives-next : (seen new : Known) (fault : BookFault) → seen.seen ≡ mid.seen → seen.origin ≡ mid.origin → seen.parts ≡ mid.parts → GivesUp number seen new fault → IsNextFault fault
+  gives-next seen new fault same origin parts (inl (memory, step)) = memory-next fault memory
+  gives-next seen new fault same origin parts (inr step) =
+      disk-next fault (free-fault IsDisk step.cells step.before fault
+      (ends-free step.cells step.before (step.alone (parts ∙ mid-parts) ∙ same) (subst (λ (o : Origin). AreCells o step.before step.cells) origin step.are_cells)) step.refused)
+
+  ran-next : (seen new : Known) (fault : BookFault) → RanOut number mid seen → GivesUp number seen new fault → IsNextFault fault
+  ran-next seen new fault (inl same) gives = gives-next seen new fault (ap (λ (k : Known). k.seen) same) (ap (λ (k : Known). k.origin) same) (ap (λ (k : Known). k.parts) same) gives
+  ran-next seen new fault (inr step) gives =
+      gives-next seen new fault (ap (λ (k : Known). k.seen) step.leaves ∙ step.alone mid-parts) (ap (λ (k : Known). k.origin) step.leaves) (ap (λ (k : Known). k.parts) step.leaves) gives
+
+  not-next : (new : Known) (fault : BookFault) → NotInstalled number mid new fault → IsNextFault fault
+  not-next new fault (inl (lasting, step)) = free-next fault (free-fault IsMemoryOrDisk step.cells step.before fault (ends-free step.cells step.before (step.alone mid-parts) step.are_cells) step.refused)
+  not-next new fault (inr (seen, ran, gives)) = ran-next seen new fault ran gives
+
+-- nothing but want of room or memory, or the drive, comes in the way
+pub next-fault : (w : ℕ) (name : List Bool) (old new : Known) (split : Split) → old.parts ≡ all_parts → closed_refusal old.seen ≡ None → next_full w old ≡ Some name → SplitEnds w name old new split → SplitFault IsNextFault split
+next-fault w name old new (Installed number) all unclosed full ends = tt
+next-fault w name old new (NotSplit fault) all unclosed full (inl step) =
+    refused-cause ℕ IsMemoryOrDisk IsNextFault (begin_cause w old.origin name step.cells step.before) fault
+    (subst (AreCauses IsNextFault) (sym (begin-room w old name step.cells step.before (step.alone all) unclosed full)) (room-next step.cells (length step.before))) (free-next fault) step.refused
+next-fault w name old new (NotSplit fault) all unclosed full (inr (number, mid, begins, not)) = not-next w old mid number name all unclosed full begins new fault not
+
+-- want of room is that of the begin
+pub room-begin : (w : ℕ) (name : List Bool) (old new : Known) (cells events : ℕ) → old.parts ≡ all_parts → closed_refusal old.seen ≡ None → next_full w old ≡ Some name → SplitEnds w name old new (NotSplit (book.Room cells events))
+    → BeginsSplit w name old new (Err (book.Room cells events))
+room-begin w name old new cells events all unclosed full (inl step) = step
+room-begin w name old new cells events all unclosed full (inr (number, mid, begins, not)) = absurd (no-room not)
+  where
+    never : IsMemoryOrDisk (book.Room cells events) → ⊥
+    never (inl memory) = cc memory
+    never (inr disk) = disk
+
+    no-room : NotInstalled number mid new (book.Room cells events) → ⊥
+    no-room (inl (lasting, step)) =
+        never (free-fault w old mid number name all unclosed full begins IsMemoryOrDisk step.cells step.before (book.Room cells events)
+        (ends-free w old mid number name all unclosed full begins step.cells step.before (step.alone (mid-parts w old mid number name all unclosed full begins)) step.are_cells) step.refused)
+    no-room (inr (seen, ran, inl (memory, step))) = cc memory
+    no-room (inr (seen, inl same, inr step)) =
+        free-fault w old mid number name all unclosed full begins IsDisk step.cells step.before (book.Room cells events)
+        (ends-free w old mid number name all unclosed full begins step.cells step.before (step.alone (ap (λ (k : Known). k.parts) same ∙ mid-parts w old mid number name all unclosed full begins) ∙ ap (λ (k : Known). k.seen) same)
+        (subst (λ (o : Origin). AreCells o step.before step.cells) (ap (λ (k : Known). k.origin) same) step.are_cells)) step.refused
+    no-room (inr (seen, inr ran, inr step)) =
+        let parts = mid-parts w old mid number name all unclosed full begins in
+        free-fault w old mid number name all unclosed full begins IsDisk step.cells step.before (book.Room cells events)
+        (ends-free w old mid number name all unclosed full begins step.cells step.before (step.alone (ap (λ (k : Known). k.parts) ran.leaves ∙ parts) ∙ (ap (λ (k : Known). k.seen) ran.leaves ∙ ran.alone parts))
+        (subst (λ (o : Origin). AreCells o step.before step.cells) (ap (λ (k : Known). k.origin) ran.leaves) step.are_cells)) step.refused
+
+-- one split more
+pub splits-more : (w : ℕ) (old mid new : Known) (numbers : List ℕ) (number : ℕ) (name : List Bool) → SplitsAll w old numbers mid → next_full w mid ≡ Some name → SplitEnds w name mid new (Installed number) → SplitsAll w old (numbers ++ number ∷ []) new
+splits-more w old mid new [] number name all full ends =
+    (name, new, subst (λ (k : Known). next_full w k ≡ Some name) all full, subst (λ (k : Known). SplitEnds w name k new (Installed number)) all ends, refl)
+splits-more w old mid new (n ∷ numbers) number name (first, next, is, one, rest) full ends = (first, next, is, one, splits-more w next mid new numbers number name rest full ends)

@@ -1,0 +1,76 @@
+use Rattle.std.proofs.Common.{◌≡◌, List, [], ◌∷◌, ◌++◌, Some, None, inr, ap, sym, subst, ◌∙◌}
+use Rattle.commit_book.specs.Refusals.{closed_refusal}
+use Rattle.commit_book.specs.declared.faults.BookFault.{BookFault}
+use Rattle.commit_book.specs.declared.faults.BookFault.TheVariants as book
+use Rattle.book_lock.specs.Pass.{Known}
+use Rattle.sessions.specs.Calls.{next_full}
+use Rattle.sessions.specs.Steps.{all_parts}
+use Rattle.sessions.specs.Splits.{SamePass, SplitEnds}
+use Rattle.sessions.specs.Settles.{IsSettleFault}
+use Rattle.sessions.specs.declared.faults.Split.TheVariants.{Installed, NotSplit}
+use Rattle.sessions.proofs.StepLemmas.{same-later}
+use Rattle.sessions.proofs.SettleLemmas.{splits-more, room-begin}
+use Rattle.sessions.proofs.store.Store.settle.Goals as goal
+
+pub loop-preserved : goal.loop-preserved
+loop-preserved g c =
+    let w = g.I.Index.WIDTH in
+    let old = c.args.pass.now in
+    let mid = c.loop.pass in
+    let new = c.split_next.new.pass in
+    let name = c.in-Ok-Some.name in
+    let so_far = c.loop.invariant in
+    let same = c.next-in-loop.ensures.pass in
+    let full : next_full w mid ≡ Some name = sym c.in-Ok-Some.ensures.next.1 ∙ c.in-Ok-Some.field-0-is in
+    record {
+      numbers = so_far.numbers ++ c.in-Installed.number ∷ [];
+      splits = splits-more w old mid new so_far.numbers c.in-Installed.number name so_far.splits full (subst (λ (k : Known). SplitEnds w name k new (Installed c.in-Installed.number)) same c.in-Installed.ensures.ends);
+      pass = same-later old mid new so_far.pass (subst (λ (k : Known). SamePass k new) same c.in-Installed.ensures.pass);
+    }
+
+pub returns-in-NotSplit-Room-clause-settles : goal.returns-in-NotSplit-Room-clause-settles
+returns-in-NotSplit-Room-clause-settles g c =
+    let w = g.I.Index.WIDTH in
+    let mid = c.loop.pass in
+    let new = c.split_next.new.pass in
+    let name = c.in-Ok-Some.name in
+    let so_far = c.loop.invariant in
+    let same = c.next-in-loop.ensures.pass in
+    let arm = c.in-NotSplit-Room in
+    let full : next_full w mid ≡ Some name = sym c.in-Ok-Some.ensures.next.1 ∙ c.in-Ok-Some.field-0-is in
+    let all : mid.parts ≡ all_parts = ap (λ (k : Known). k.parts) so_far.pass.1 ∙ c.requires.all in
+    let ends : SplitEnds w name mid new (NotSplit (book.Room arm.field-0-0 arm.field-0-1)) =
+    subst (λ (f : BookFault). SplitEnds w name mid new (NotSplit f)) arm.field-0-is (subst (λ (k : Known). SplitEnds w name k new (NotSplit arm.field-0)) same arm.ensures.ends) in
+    record {
+      numbers = so_far.numbers;
+      mid = mid;
+      splits = so_far.splits;
+      ends = (name, full, arm.field-0-0, arm.field-0-1, room-begin w name mid new arm.field-0-0 arm.field-0-1 all c.in-Ok-Some.ensures.next.0 full ends);
+    }
+
+pub returns-in-NotSplit : goal.returns-in-NotSplit
+returns-in-NotSplit g c =
+    let w = g.I.Index.WIDTH in
+    let old = c.args.pass.now in
+    let mid = c.loop.pass in
+    let new = c.split_next.new.pass in
+    let name = c.in-Ok-Some.name in
+    let so_far = c.loop.invariant in
+    let same = c.next-in-loop.ensures.pass in
+    let fault = c.in-NotSplit.fault in
+    let full : next_full w mid ≡ Some name = sym c.in-Ok-Some.ensures.next.1 ∙ c.in-Ok-Some.field-0-is in
+    let ends : SplitEnds w name mid new (NotSplit fault) = subst (λ (k : Known). SplitEnds w name k new (NotSplit fault)) same c.in-NotSplit.ensures.ends in
+    record {
+      settles = record {
+        numbers = so_far.numbers;
+        mid = mid;
+        splits = so_far.splits;
+        ends = inr (
+          name,
+          full,
+          subst IsSettleFault (sym c.settle_fault.ensures.fault) c.settle_fault.ensures.settles,
+          subst (λ (f : BookFault). SplitEnds w name mid new (NotSplit f)) (sym c.settle_fault.ensures.fault) ends,
+        );
+      };
+      pass = same-later old mid new so_far.pass (subst (λ (k : Known). SamePass k new) same c.in-NotSplit.ensures.pass);
+    }

@@ -1,0 +1,75 @@
+-- What settling the splits at the end leaves.
+use Rattle.std.specs.Prelude.{◌≡◌, ◌⊎◌, ℕ, Bool, List, [], ◌∷◌, ◌++◌, Option, Some, None, Result, Ok, Err, ⊤}
+use Rattle.book_lock.specs.Pass.{Known}
+use Rattle.commit_book.specs.Refusals.{closed_refusal}
+use Rattle.commit_book.specs.declared.faults.BookFault.{BookFault}
+use Rattle.commit_book.specs.declared.faults.BookFault.TheVariants as book
+use Rattle.sessions.specs.Calls.{next_full}
+use Rattle.sessions.specs.Splits.{BeginsSplit, SplitEnds, SamePass}
+use Rattle.sessions.specs.declared.faults.Settled.{Settled}
+use Rattle.sessions.specs.declared.faults.Settled.TheVariants.{Small, Room}
+use Rattle.sessions.specs.declared.faults.Split.{Split}
+use Rattle.sessions.specs.declared.faults.Split.TheVariants.{Installed, NotSplit}
+
+-- the leaf that is to be split next, where the book isn't closed
+abbrev pub TellsNext : ℕ → Known → Result (Option (List Bool)) BookFault → Type 0
+TellsNext w pass (Ok full) = (closed_refusal pass.seen ≡ None) × (full ≡ next_full w pass)
+TellsNext w pass (Err fault) = closed_refusal pass.seen ≡ Some fault
+
+-- splits of the leaf that is to be split next, one after another
+abbrev pub SplitsAll : ℕ → Known → List ℕ → Known → Type 0
+SplitsAll w old [] new = new ≡ old
+SplitsAll w old (number ∷ numbers) new = (name : List Bool) × (mid : Known) × (next_full w old ≡ Some name) × SplitEnds w name old mid (Installed number) × SplitsAll w mid numbers new
+
+-- a fault that settling may meet
+abbrev pub IsSettleFault : BookFault → Type 0
+IsSettleFault (book.Closed cell) = ⊤
+IsSettleFault (book.Disk cell) = ⊤
+IsSettleFault book.Memory = ⊤
+IsSettleFault (book.Room cells events) = ⊥
+IsSettleFault book.HistoryFull = ⊥
+IsSettleFault book.LogFull = ⊥
+IsSettleFault (book.Splitting number) = ⊥
+IsSettleFault book.Deep = ⊥
+IsSettleFault book.NoLeaf = ⊥
+IsSettleFault (book.Stale number) = ⊥
+IsSettleFault (book.NotOpen number) = ⊥
+
+-- why the split of the next leaf may not be made while nobody else calls: that, or want of room
+abbrev pub IsNextFault : BookFault → Type 0
+IsNextFault (book.Closed cell) = ⊤
+IsNextFault (book.Disk cell) = ⊤
+IsNextFault book.Memory = ⊤
+IsNextFault (book.Room cells events) = ⊤
+IsNextFault book.HistoryFull = ⊥
+IsNextFault book.LogFull = ⊥
+IsNextFault (book.Splitting number) = ⊥
+IsNextFault book.Deep = ⊥
+IsNextFault book.NoLeaf = ⊥
+IsNextFault (book.Stale number) = ⊥
+IsNextFault (book.NotOpen number) = ⊥
+
+-- what is said of the fault for which a leaf isn't split
+abbrev pub SplitFault : (BookFault → Type 0) → Split → Type 0
+SplitFault P (Installed number) = ⊤
+SplitFault P (NotSplit fault) = P fault
+
+-- no leaf is told, or there was no room for the split of the next one, or the book is closed or that split met a fault
+abbrev pub SettleEnds : ℕ → Known → Known → Result Settled BookFault → Type 0
+SettleEnds w mid new (Ok Small) = TellsNext w mid (Ok None) × (new ≡ mid)
+SettleEnds w mid new (Ok Room) = (name : List Bool) × (next_full w mid ≡ Some name) × (cells : ℕ) × (events : ℕ) × BeginsSplit w name mid new (Err (book.Room cells events))
+SettleEnds w mid new (Err fault) =
+    (TellsNext w mid (Err fault) × (new ≡ mid)) ⊎ ((name : List Bool) × (next_full w mid ≡ Some name) × IsSettleFault fault × SplitEnds w name mid new (NotSplit fault))
+
+-- Leaves were split while one was told and could be split; then this is why it ended.
+pub record Settles (w : ℕ) (old new : Known) (result : Result Settled BookFault) : Type 0 where
+  pub numbers : List ℕ
+  pub mid : Known
+  pub splits : SplitsAll w old numbers mid
+  pub ends : SettleEnds w mid new result
+
+-- leaves were split so far
+pub record Settling (w : ℕ) (old new : Known) : Type 0 where
+  pub numbers : List ℕ
+  pub splits : SplitsAll w old numbers new
+  pub pass : SamePass old new
