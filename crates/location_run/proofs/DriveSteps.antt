@@ -1,5 +1,5 @@
 -- What an attach and what follows it come to.
-use Rattle.std.proofs.Common.{◌≡◌, ◌⊎◌, inl, inr, ◌∙◌, ℕ, ◌≤◌, List, length, Some, Result, Ok, Err, refl, ap, subst, arith}
+use Rattle.std.proofs.Common.{◌≡◌, ◌⊎◌, inl, inr, ◌∙◌, ℕ, ◌≤◌, Bool, List, length, Some, Result, Ok, Err, refl, ap, subst, arith}
 use Rattle.std.specs.Prelude.{IfErr}
 use Rattle.std.specs.Result.{IsErrAnd}
 use Rattle.causes.specs.Causes.{Rose}
@@ -17,35 +17,37 @@ use Rattle.recovery.specs.declared.seen.InitFault.{InitFault}
 use Rattle.recovery.specs.declared.seen.InitFault.TheVariants as init_fault
 use Rattle.recovery.specs.declared.seen.OpenFault.{OpenFault}
 use Rattle.recovery.specs.declared.seen.OpenFault.TheVariants as open_fault
-use Rattle.recovery.proofs.OnlyReading.{rose-earlier}
+use Rattle.recovery.proofs.OnlyReading.{rose-earlier, stays-trans}
 use Rattle.recovery.proofs.OpeningLemmas.{leaves-trans, leaves-stays}
 use Rattle.csv_rows.specs.declared.rows.Refusal.TheVariants as refusal
-use Rattle.location_run.specs.Making.{IsMakingCause, making_refusal}
-use Rattle.location_run.specs.Checking.{IsCheckingCause, IsDecidedBy, attach_refusal, log_refusal, most_cells}
+use Rattle.location_run.specs.Limits.{most_cells}
+use Rattle.location_run.specs.Making.{IsMakingCause, LeavesFile, making_refusal}
+use Rattle.location_run.specs.Checking.{IsCheckingCause, IsDecidedBy, attach_refusal, log_refusal}
 
-pub keeps-stays : (a b : Drive) → KeepsLaws a → Stays a b → a.faults ≤ b.faults → KeepsSmall a b
-keeps-stays a b laws stays later = record { small = λ now. leaves-stays a b IsSmall laws now stays; later = later }
+pub leaves-attach : (a b : Drive) → KeepsLaws a → Stays a b → a.faults ≤ b.faults → LeavesFile a b
+leaves-attach a b laws stays later = record { small = λ now. leaves-stays a b IsSmall laws now stays; in_use = λ bytes told long. stays; later = later }
 
-pub keeps-after : (a b c : Drive) → KeepsLaws a → Stays a b → a.faults ≤ b.faults → KeepsSmall b c → KeepsSmall a c
-keeps-after a b c laws stays later keeps = record {
+pub leaves-after : (a b c : Drive) → KeepsLaws a → Stays a b → a.faults ≤ b.faults → KeepsSmall b c → LeavesFile a c
+leaves-after a b c laws stays later keeps = record {
   small = λ now. leaves-trans a b c IsSmall (leaves-stays a b IsSmall laws now stays) (keeps.small (λ x left. now x (stays.images x left)));
+  in_use = λ bytes told long. stays-trans a b c stays (keeps.in_use bytes (stays.bytes ∙ told) long);
   later = omega (arith, later, keeps.later);
 }
 
 -- a file that wasn't attached
-pub attach-making : {T : Type 0} (a b : Drive) (result : Result T AttachFault) (fault : AttachFault) → result ≡ Err fault → CountsAttach a b result → IsMakingCause a b (attach_refusal fault)
-attach-making a b result attach_fault.Disk is counts = counts.failed is
-attach-making a b result attach_fault.Memory is counts = tt
+pub attach-making : {T : Type 0} (name : List ℕ) (make : Bool) (a b : Drive) (result : Result T AttachFault) (fault : AttachFault) → result ≡ Err fault → CountsAttach name make a b result → IsMakingCause a b (attach_refusal fault)
+attach-making name make a b result attach_fault.Disk is counts = counts.failed is
+attach-making name make a b result attach_fault.Memory is counts = tt
 
-pub attach-checking : {T : Type 0} (a b : Drive) (result : Result T AttachFault) (fault : AttachFault) → result ≡ Err fault → CountsAttach a b result → IsCheckingCause a b (attach_refusal fault)
-attach-checking a b result attach_fault.Disk is counts = counts.failed is
-attach-checking a b result attach_fault.Memory is counts = tt
+pub attach-checking : {T : Type 0} (name : List ℕ) (make : Bool) (a b : Drive) (result : Result T AttachFault) (fault : AttachFault) → result ≡ Err fault → CountsAttach name make a b result → IsCheckingCause a b (attach_refusal fault)
+attach-checking name make a b result attach_fault.Disk is counts = counts.failed is
+attach-checking name make a b result attach_fault.Memory is counts = tt
 
-pub makes-after : (a b c : Drive) → Stays a b → Makes 1 b c → Makes 1 a c
-makes-after a b c stays makes = λ bytes told. makes bytes (stays.bytes ∙ told)
+pub makes-after : (a b c : Drive) → Stays a b → b.faults ≡ a.faults → Makes 1 b c → Makes 1 a c
+makes-after a b c stays calm makes = record { log = λ bytes told. makes.log bytes (stays.bytes ∙ told); same = makes.same ∙ calm }
 
 pub making-after : (a b c : Drive) (fault : InitFault) → Stays a b → a.faults ≤ b.faults → RefusesInit b c fault → IsMakingCause a c (making_refusal fault)
-making-after a b c (init_fault.InUse len) stays later (long, same, rest) = (long, λ bytes told. same bytes (stays.bytes ∙ told))
+making-after a b c (init_fault.InUse len) stays later (long, same, rest) = (long, λ bytes told. same bytes (stays.bytes ∙ told), stays-trans a b c stays rest)
 making-after a b c init_fault.Disk stays later rose = rose-earlier a.faults b.faults c.faults later rose
 
 -- a log in which something is at fault
@@ -99,8 +101,8 @@ decided-err a b c why result is stays later exact whole = record {
     named fault calm (inr free) = inr (calm-free a b c why later calm free)
 
 -- a file that wasn't attached: the count rose, or memory ran out
-pub decided-attach : {T : Type 0} (a b : Drive) (result : Result T AttachFault) (fault : AttachFault) → result ≡ Err fault → CountsAttach a b result → IsDecidedBy {T = Seen} most_cells a b (Err (attach_refusal fault))
-decided-attach a b result fault is counts = record {
+pub decided-attach : {T : Type 0} (name : List ℕ) (make : Bool) (a b : Drive) (result : Result T AttachFault) (fault : AttachFault) → result ≡ Err fault → CountsAttach name make a b result → IsDecidedBy {T = Seen} most_cells a b (Err (attach_refusal fault))
+decided-attach name make a b result fault is counts = record {
   exact = λ bytes wrong told shown at calm. inr (memory calm fault is);
   whole = λ bytes cells told text few calm. memory calm fault is;
 }

@@ -1,5 +1,5 @@
 -- How a run ends.
-use Rattle.std.proofs.Common.{◌≡◌, inl, inr, ℕ, ◌+◌, Bool, true, false, cond, ◌==◌, List, [], ◌∷◌, ◌++◌, length, take, drop, Option, Result, Ok, Err, refl, sym, ◌∙◌, ap, subst, arith}
+use Rattle.std.proofs.Common.{◌≡◌, inl, inr, ℕ, ◌+◌, Bool, true, false, cond, ◌==◌, List, [], ◌∷◌, ◌++◌, length, take, drop, Result, Ok, Err, refl, sym, ◌∙◌, ap, subst, arith}
 use Rattle.std.specs.Io.KnownBytes.{Appends}
 use Rattle.std.proofs.lemmas.List.{append-nil, take-append-drop}
 use Rattle.causes.specs.Causes.{Counts}
@@ -20,14 +20,15 @@ use Rattle.location_run.specs.Status.{status_of, WritesLines}
 use Rattle.location_run.specs.Tidy.{calls_alone}
 use Rattle.location_run.specs.Plays.{HasCalled}
 use Rattle.location_run.specs.Taking.{TakesLine}
-use Rattle.location_run.specs.Run.{AnswersAsOneList}
+use Rattle.location_run.specs.Limits.{width}
+use Rattle.io_edge.specs.Streams.{Output}
+use Rattle.location_run.specs.Answers.{AnswersAsOneList}
 use Rattle.location_run.proofs.Calls.{calls_of-calls, replies-calls, lines_of-calls}
 use Rattle.location_run.proofs.Writing.{lines_of-entries, replies-entries}
 
-pub takes-from_puts : {T E : Type 0} (before after : Option (List ℕ)) (text : List ℕ) (old_faults faults : ℕ) (result : Result T E) → Puts before after text result → Counts old_faults faults result
-    → TakesLine text before after old_faults faults
-takes-from_puts before after text old_faults faults (Ok x) bytes cause = inl bytes
-takes-from_puts before after text old_faults faults (Err e) bytes cause = inr (cause.failed, (bytes.0, bytes.2))
+pub takes-from_puts : {T E : Type 0} (old new : Output) (text : List ℕ) (result : Result T E) → Puts old.taken new.taken text result → Counts old.faults new.faults result → TakesLine text old new
+takes-from_puts old new text (Ok x) bytes cause = inl bytes
+takes-from_puts old new text (Err e) bytes cause = inr (cause.failed, (bytes.0, bytes.2))
 
 -- the calls of rows are the rows of each session
 calls-entries : (s n : ℕ) (rows : List InRow) → calls_of s (entries_from n rows) ≡ session_rows_from n s rows
@@ -45,7 +46,7 @@ session_rows-append s n (x ∷ xs) ys =
     by_test true rest e = ap (λ (l : List (ℕ × Op)). (n, x.op) ∷ l) e
     by_test false rest e = e
 
-calls-rows : (rows : List InRow) (h : List Entry) (s : ℕ) → calls_alone h ≡ entries_from 1 rows → calls_of s h ≡ session_rows rows s
+pub calls-rows : (rows : List InRow) (h : List Entry) (s : ℕ) → calls_alone h ≡ entries_from 1 rows → calls_of s h ≡ session_rows rows s
 calls-rows rows h s calls = calls_of-calls s h ∙ ap (calls_of s) calls ∙ calls-entries s 1 rows
 
 played-some : (rows : List InRow) (h : List Entry) → HasCalled rows h → IsPlayed (session_rows rows) h
@@ -60,15 +61,15 @@ replies-all : (world : List Placed) (rows : List InRow) (h : List Entry) → cal
 replies-all world rows h calls = replies-calls world h ∙ ap (replies world) calls
 
 -- all rows were answered, and their lines are written, or a front of them
-pub answers-all : (s : State) (rows : List InRow) (h : List Entry) (answers : List Answer) (status : ℕ) (before after : Option (List ℕ)) → IsLegal 1 s h → calls_alone h ≡ entries_from 1 rows → answers ≡ replies s.world h
-    → (status ≡ 0 → Appends before after (title_line ++ lines_from 1 answers)) → (status ≡ 6 → (n : ℕ) × Appends before after (take n (title_line ++ lines_from 1 answers)))
-    → AnswersAsOneList s rows h status before after
-answers-all s rows h answers status before after legal calls all whole front = record {
+pub answers-all : (s : State) (rows : List InRow) (h : List Entry) (answers : List Answer) (status : ℕ) (old new : Output) → IsLegal width s h → calls_alone h ≡ entries_from 1 rows → answers ≡ replies s.world h
+    → (status ≡ 0 → Appends old.taken new.taken (title_line ++ lines_from 1 answers)) → (status ≡ 6 → (n : ℕ) × Appends old.taken new.taken (take n (title_line ++ lines_from 1 answers)))
+    → AnswersAsOneList width s rows h status old new
+answers-all s rows h answers status old new legal calls all whole front = record {
   legal = legal;
   played = λ s. ([], append-nil (calls_of s h) ∙ played-all rows h calls s);
   whole = λ writes. played-all rows h calls;
-  lines = λ e. subst (Appends before after) text (whole e);
-  part = λ e. let taken = front e in (taken.0, subst (λ l. Appends before after (take taken.0 l)) text taken.1);
+  lines = λ e. subst (Appends old.taken new.taken) text (whole e);
+  part = λ e. let taken = front e in (taken.0, subst (λ l. Appends old.taken new.taken (take taken.0 l)) text taken.1);
 }
   where
     text : title_line ++ lines_from 1 answers ≡ lines_of s.world (length rows) h
@@ -79,8 +80,8 @@ pub replies-count : (world : List Placed) (rows : List InRow) (h : List Entry) (
 replies-count world rows h answers calls all = ap length (all ∙ replies-all world rows h calls) ∙ replies-entries world 1 rows
 
 -- no lines are written
-pub answers-some : (s : State) (rows : List InRow) (h : List Entry) (status : ℕ) (before after : Option (List ℕ)) → IsLegal 1 s h → HasCalled rows h → (WritesLines status → ⊥) → AnswersAsOneList s rows h status before after
-answers-some s rows h status before after legal some none = record {
+pub answers-some : (s : State) (rows : List InRow) (h : List Entry) (status : ℕ) (old new : Output) → IsLegal width s h → HasCalled rows h → (WritesLines status → ⊥) → AnswersAsOneList width s rows h status old new
+answers-some s rows h status old new legal some none = record {
   legal = legal;
   played = played-some rows h some;
   whole = λ writes. absurd (none writes);

@@ -8,10 +8,11 @@ pub mod RowWorlds
 pub mod PlaySteps
 pub mod Ends
 pub mod WordsFacts
-pub mod MakingFacts
 pub mod CheckingFacts
 pub mod DriveSteps
 pub mod OpeningFacts
 pub mod CrashFacts
 pub mod BookEnds
 pub mod LogEnds
+pub mod PlayFacts
+pub mod StatusFacts

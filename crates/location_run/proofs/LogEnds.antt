@@ -1,33 +1,40 @@
--- How rows end that are played over a log.
-use Rattle.std.proofs.Common.{◌≡◌, ◌≢◌, ◌⊎◌, inl, inr, ◌∙◌, ℕ, ◌≤◌, List, Option, Some, None, is_some, sym, ap, subst}
+-- How rows end that are played over a book.
+use Rattle.std.proofs.Common.{◌≡◌, ◌≢◌, inl, inr, ◌∙◌, ℕ, ◌+◌, ◌≤◌, List, length, Option, Some, None, is_some, refl, sym, ap, subst, arith}
+use Rattle.std.specs.Option.{option_map}
 use Rattle.causes.specs.Causes.{Rose}
 use Rattle.disk_trait.specs.Drive.{Drive}
 use Rattle.plain_list.specs.declared.entries.Entry.{Entry}
-use Rattle.plain_list.specs.State.{State}
+use Rattle.plain_list.specs.State.{State, empty_state}
 use Rattle.recovery.proofs.OnlyReading.{rose-earlier}
 use Rattle.kept_log.specs.KeptView.{KeptView}
 use Rattle.kept_log.specs.Steps.{IsSince}
 use Rattle.kept_log.specs.Journal.{failed_cell, disk_in, KeepsLog, KeepsIn, IsSinceIn}
 use Rattle.commit_book.specs.BookView.{BookView}
+use Rattle.csv_rows.specs.declared.rows.InRow.{InRow}
 use Rattle.csv_rows.specs.declared.rows.Refusal.{Refusal}
+use Rattle.location_run.specs.Limits.{width}
+use Rattle.io_edge.specs.Streams.{Output}
 use Rattle.location_run.specs.Status.{status_of, WritesLines}
-use Rattle.location_run.specs.Ending.{EndsRefused}
+use Rattle.location_run.specs.Origin.{Origin, IsFoundOrigin, new_origin}
+use Rattle.log_state.specs.Changes.{cells_of}
+use Rattle.location_run.specs.Splits.{IsSettled, cells_now}
 use Rattle.location_run.specs.Crash.{KeepsPlayed}
-use Rattle.location_run.specs.Playing.{IsInputCause, append, IsStop, IsLogStop, EndsRows, LeavesLog, OpensBook}
-use Rattle.location_run.specs.Run.{IsPlayCause, FollowsInput}
-use Rattle.location_run.proofs.CrashFacts.{keeps-opened}
+use Rattle.plain_list.specs.declared.entries.Lost.{Lost}
+use Rattle.kept_log.proofs.InJournal.{failed_cell-last, has_failed-none}
+use Rattle.location_run.specs.LostSteps.{IsNextStep, LosesStep}
+use Rattle.location_run.specs.Answers.{AnswersAsOneList}
+use Rattle.location_run.specs.Playing.{IsStop, EndsRows, IsAnswered}
+use Rattle.location_run.specs.Books.{StopsBook, LeavesLog, OpensBook, count_in}
+use Rattle.location_run.proofs.CrashFacts.{some-same, keeps-opened}
 
 -- the log of a book, as it is left
 pub record KeptSince {D : Type 0} (drive : D → Drive) (s : State) (h : List Entry) (opened : KeptView D) (disk : D) : Type 0 where
   pub now : KeptView D
   pub since : IsSince opened now
-  pub keeps : KeepsLog drive 1 s h now
+  pub keeps : KeepsLog drive width s h now
   pub disk_is : now.disk ≡ disk
 
-some-same : {A : Type 0} (a b : A) → Some a ≡ Some b → a ≡ b
-some-same a b same = cc same
-
-since-in : {D : Type 0} (drive : D → Drive) (s : State) (h : List Entry) (opened : KeptView D) (disk : D) (old new : Option (KeptView D)) → old ≡ Some opened → IsSinceIn old new → KeepsIn drive 1 s h new → Some disk ≡ disk_in new
+since-in : {D : Type 0} (drive : D → Drive) (s : State) (h : List Entry) (opened : KeptView D) (disk : D) (old new : Option (KeptView D)) → old ≡ Some opened → IsSinceIn old new → KeepsIn drive width s h new → Some disk ≡ disk_in new
     → KeptSince drive s h opened disk
 since-in drive s h opened disk None new is since keeps told = absurd (cc is)
 since-in drive s h opened disk (Some old) None is since keeps told = absurd since
@@ -41,59 +48,108 @@ since-in {D} drive s h opened disk (Some old) (Some new) is since keeps told = r
 pub kept-since : {D : Type 0} (drive : D → Drive) (s : State) (h : List Entry) (opened : KeptView D) (disk : D) (log : Option (KeptView D)) → log ≡ Some opened → LeavesLog drive s h log (Some disk) → KeptSince drive s h opened disk
 kept-since drive s h opened disk log is leaves = since-in drive s h opened disk log leaves.log is leaves.since leaves.keeps leaves.disk_is
 
+-- what a history that ends with a failed append names
+loses-cell : (Step : List Entry → Lost → Type 0) (h : List Entry) (cell : ℕ) → LosesStep Step h cell → failed_cell h ≡ Some cell
+loses-cell Step h cell loses = ap failed_cell loses.entries ∙ failed_cell-last loses.before cell loses.lost (has_failed-none loses.before loses.going)
+
 -- a failed append raised the count
-pub log-stop : {I D : Type 0} (drive : D → Drive) (old : Drive) (size : ℕ) (b : BookView I D) (h : List Entry) (disk : D) → OpensBook drive old size b → LeavesLog drive b.opening h b.log (Some disk)
-    → (why : Refusal) → IsStop h why → IsLogStop old (drive disk) h why
-log-stop drive old size b h disk opens leaves why (inl (memory, none)) = inl memory
-log-stop {D = D} drive old size b h disk opens leaves why (inr (cell, is, failed)) =
+pub log-stop : {I D : Type 0} (drive : D → Drive) (file : List ℕ) (rows : List InRow) (old : Drive) (size : ℕ) (b : BookView I D) (h : List Entry) (disk : D) (opens : OpensBook drive old size b) → LeavesLog drive b.opening h b.log (Some disk)
+    → (why : Refusal) → StopsBook (IsNextStep width b.opening rows) h why → IsStop (Some file) opens.from rows old (drive disk) h why
+log-stop drive file rows old size b h disk opens leaves why (inl (memory, none)) = subst (IsStop (Some file) opens.from rows old (drive disk) h) (sym memory) none
+log-stop {D = D} drive file rows old size b h disk opens leaves why (inr (cell, is, loses)) =
     let kept = kept-since drive b.opening h opens.log disk b.log opens.log_is leaves in
-    let rose = kept.keeps.rose (ap is_some failed) in
+    let rose = kept.keeps.rose (ap is_some (loses-cell (IsNextStep width b.opening rows) h cell loses)) in
     let before : old.faults ≤ (drive kept.now.start).faults = subst (λ (d : D). old.faults ≤ (drive d).faults) (sym kept.since.start) opens.later in
-    inr (append cell is failed (subst (λ (d : D). Rose old.faults (drive d).faults) kept.disk_is (rose-earlier old.faults (drive kept.now.start).faults (drive kept.now.disk).faults before rose)))
+    let risen : Rose old.faults (drive disk).faults =
+    subst (λ (d : D). Rose old.faults (drive d).faults) kept.disk_is (rose-earlier old.faults (drive kept.now.start).faults (drive kept.now.disk).faults before rose) in
+    let from : LosesStep (IsNextStep opens.from.width opens.from.state rows) h cell =
+    subst (λ (w : ℕ). LosesStep (IsNextStep w opens.from.state rows) h cell) (ap (λ (o : Origin). o.width) (sym opens.found.origin_is))
+    (subst (λ (o : State). LosesStep (IsNextStep width o rows) h cell) opens.state loses) in
+    let named : cell ≡ kept.now.cells = kept.keeps.named cell (loses-cell (IsNextStep width b.opening rows) h cell loses) in
+    let count : kept.now.cells ≡ opens.log.cells + length (cells_of b.opening.world h) = omega (arith, kept.keeps.keeps.count, kept.since.first, opens.first) in
+    let cells : Some opens.log.cells ≡ option_map length opens.from.first = sym (ap (λ (l : Option (KeptView D)). count_in l) opens.log_is) ∙ opens.count in
+    let at : opens.log.cells + length (cells_of b.opening.world h) ≡ cells_now (option_map length opens.from.first) opens.from.state h =
+    ap (λ (n : Option ℕ). cells_now n b.opening h) cells ∙ ap (λ (o : State). cells_now (option_map length opens.from.first) o h) opens.state in
+    subst (IsStop (Some file) opens.from rows old (drive disk) h) (sym is) (record { loses = from; number = named ∙ count ∙ at; rose = risen })
+
+none-some : (n : ℕ) → None ≡ Some n → ⊥
+none-some n e = cc e
+
+-- without a log no append fails
+none-failed : {D : Type 0} (drive : D → Drive) (s : State) (h : List Entry) (old new : Option (KeptView D)) → old ≡ None → IsSinceIn old new → KeepsIn drive width s h new → failed_cell h ≡ None
+none-failed drive s h None None is since keeps = keeps
+none-failed drive s h None (Some new) is since keeps = absurd since
+none-failed drive s h (Some old) new is since keeps = absurd (cc is)
+
+pub new-stop : {D : Type 0} (drive : D → Drive) (Step : List Entry → Lost → Type 0) (from : Origin) (rows : List InRow) (was now : Drive) (s : State) (h : List Entry) (log : Option (KeptView D)) (disk : Option D) → log ≡ None
+    → LeavesLog drive s h log disk → (why : Refusal) → StopsBook Step h why → IsStop None from rows was now h why
+new-stop drive Step from rows was now s h log disk is leaves why (inl (memory, none)) = subst (IsStop None from rows was now h) (sym memory) none
+new-stop drive Step from rows was now s h log disk is leaves why (inr (cell, named, loses)) =
+    absurd (none-some cell (sym (none-failed drive s h log leaves.log is leaves.since leaves.keeps) ∙ loses-cell Step h cell loses))
 
 -- what a weaker cause gives
-pub ends-weaker : (P Q : Refusal → Type 0) (status : ℕ) (before after : Option (List ℕ)) (old_faults faults : ℕ) → ((why : Refusal) → P why → Q why) → EndsRows P status before after old_faults faults
-    → EndsRows Q status before after old_faults faults
-ends-weaker P Q status before after old_faults faults weaker (inl all) = inl all
-ends-weaker P Q status before after old_faults faults weaker (inr (inl front)) = inr (inl front)
-ends-weaker P Q status before after old_faults faults weaker (inr (inr (why, cause, is, line))) = inr (inr (why, weaker why cause, is, line))
+pub ends-weaker : (P Q : Refusal → Type 0) (status : ℕ) (before after : Output) → ((why : Refusal) → P why → Q why) → EndsRows P status before after → EndsRows Q status before after
+ends-weaker P Q status before after weaker (inl all) = inl all
+ends-weaker P Q status before after weaker (inr (inl front)) = inr (inl front)
+ends-weaker P Q status before after weaker (inr (inr (why, cause, refuses))) = inr (inr (why, weaker why cause, refuses))
 
 -- where the drive didn't fail, no append did
-pub unfailed : (h : List Entry) (status : ℕ) (before after : Option (List ℕ)) (old_faults faults : ℕ) → EndsRows (IsStop h) status before after old_faults faults → (WritesLines status → failed_cell h ≡ None)
-    → status ≢ 7 → failed_cell h ≡ None
-unfailed h status before after old_faults faults (inl all) going other = going (inl all)
-unfailed h status before after old_faults faults (inr (inl front)) going other = going (inr front.0)
-unfailed h status before after old_faults faults (inr (inr (why, inl (memory, none), is, line))) going other = none
-unfailed h status before after old_faults faults (inr (inr (why, inr (cell, named, failed), is, line))) going other = absurd (other (is ∙ ap status_of named))
+unfailed : (Step : List Entry → Lost → Type 0) (h : List Entry) (status : ℕ) (before after : Output) → EndsRows (StopsBook Step h) status before after → (WritesLines status → failed_cell h ≡ None) → status ≢ 7 → failed_cell h ≡ None
+unfailed Step h status before after (inl all) going other = going (inl all.0)
+unfailed Step h status before after (inr (inl front)) going other = going (inr front.0)
+unfailed Step h status before after (inr (inr (why, inl (memory, none), refuses))) going other = none
+unfailed Step h status before after (inr (inr (why, inr (cell, named, failed), refuses))) going other = absurd (other (refuses.status_is ∙ ap status_of named))
 
 -- what a crash leaves of the log of a book
-pub keeps-book : {I D : Type 0} (drive : D → Drive) (old : Drive) (size : ℕ) (b : BookView I D) (h : List Entry) (disk : D) (status : ℕ) → OpensBook drive old size b → LeavesLog drive b.opening h b.log (Some disk)
-    → (status ≢ 7 → failed_cell h ≡ None) → KeepsPlayed old (drive disk) status h
-keeps-book {D = D} drive old size b h disk status opens leaves going =
+pub keeps-book : {I D : Type 0} (drive : D → Drive) (Step : List Entry → Lost → Type 0) (old : Drive) (size : ℕ) (b : BookView I D) (h : List Entry) (disk : D) (status : ℕ) (before after : Output) (opens : OpensBook drive old size b)
+    → LeavesLog drive b.opening h b.log (Some disk) → EndsRows (StopsBook Step h) status before after → (WritesLines status → failed_cell h ≡ None) → KeepsPlayed opens.from old (drive disk) status h
+keeps-book {D = D} drive Step old size b h disk status before after opens leaves ends going =
     let kept = kept-since drive b.opening h opens.log disk b.log opens.log_is leaves in
-    subst (λ (d : D). KeepsPlayed old (drive d) status h) kept.disk_is (keeps-opened drive old opens.log kept.now b.opening h status opens.stays kept.since kept.keeps going)
+    subst (λ (d : D). KeepsPlayed opens.from old (drive d) status h) kept.disk_is
+    (keeps-opened drive old opens.log kept.now opens.from b.opening h status opens.stays kept.since kept.keeps (unfailed Step h status before after ends going) opens.found opens.state)
 
--- a run over a log that writes no lines
-pub log-refused : (left : Option (List ℕ)) (rose : Type 0) (old new : Drive) (h : List Entry) (status : ℕ) (before after : Option (List ℕ)) (old_faults faults : ℕ)
-    → EndsRows (IsLogStop old new h) status before after old_faults faults → (WritesLines status → ⊥) → EndsRefused (IsPlayCause left rose (Unit {0}) old new h) status before after old_faults faults
-log-refused left rose old new h status before after old_faults faults (inl all) none = absurd (none (inl all))
-log-refused left rose old new h status before after old_faults faults (inr (inl front)) none = absurd (none (inr front.0))
-log-refused left rose old new h status before after old_faults faults (inr (inr (why, inl memory, is, line))) none = (why, inl (subst (IsInputCause left rose) (sym memory) tt), is, line)
-log-refused left rose old new h status before after old_faults faults (inr (inr (why, inr cause, is, line))) none = (why, inr (tt, cause), is, line)
+-- answers and splits from an origin
+pub list-from : (old : Drive) (from : Origin) (s : State) (rows : List InRow) (h : List Entry) (status : ℕ) (before after : Output) → IsFoundOrigin old from → s ≡ from.state → AnswersAsOneList width s rows h status before after
+    → AnswersAsOneList from.width from.state rows h status before after
+list-from old from s rows h status before after found state list =
+    subst (λ (w : ℕ). AnswersAsOneList w from.state rows h status before after) (ap (λ (o : Origin). o.width) (sym found.origin_is))
+    (subst (λ (o : State). AnswersAsOneList width o rows h status before after) state list)
 
--- what holds over a log holds of words that ask for it
-pub cause-more : (left : Option (List ℕ)) (rose A B : Type 0) (old new : Drive) (h : List Entry) (why : Refusal) → (A → B) → IsPlayCause left rose A old new h why → IsPlayCause left rose B old new h why
-cause-more left rose A B old new h why more (inl input) = inl input
-cause-more left rose A B old new h why more (inr (logged, cause)) = inr (more logged, cause)
+pub settled-from : (old : Drive) (from : Origin) (size bucket : ℕ) (s : State) (first cells : Option ℕ) (h : List Entry) → IsFoundOrigin old from → s ≡ from.state → bucket ≡ size → first ≡ cells → IsSettled width bucket s first h
+    → IsSettled from.width size from.state cells h
+settled-from old from size bucket s first cells h found state sized count settled =
+    subst (λ (w : ℕ). IsSettled w size from.state cells h) (ap (λ (o : Origin). o.width) (sym found.origin_is))
+    (subst (λ (o : State). IsSettled width size o cells h) state (subst (λ (n : ℕ). IsSettled width n s cells h) sized (subst (λ (c : Option ℕ). IsSettled width bucket s c h) count settled)))
 
-pub follows-more : (A B long : Type 0) (input : List ℕ) (status : ℕ) → (A → B) → FollowsInput A long input status → FollowsInput B long input status
-follows-more A B long input status more follows = record {
-  bad = follows.bad;
-  limit = λ e. either (follows.limit e);
-  refused = follows.refused;
-  played = λ rows judges. either (follows.played rows judges);
+-- rows that were answered over a log
+pub answered-over : {I D : Type 0} (drive : D → Drive) (file : List ℕ) (size : ℕ) (rows : List InRow) (b : BookView I D) (was disk : D) (before after : Output) (status : ℕ) (h : List Entry) → OpensBook drive (drive was) size b
+    → AnswersAsOneList width b.opening rows h status before after → EndsRows (StopsBook (IsNextStep width b.opening rows) h) status before after → (WritesLines status → IsSettled width b.bucket b.opening (count_in b.log) h)
+    → LeavesLog drive b.opening h b.log (Some disk)
+    → IsAnswered {D = D} (Some file) size rows (record { output = before; disk = was; drive = drive was }) (record { output = after; disk = disk; drive = drive disk }) status h
+answered-over drive file size rows b was disk before after status h opens list ends splits leaves = record {
+  from = opens.from;
+  begins = opens.found;
+  book = opens.shows;
+  one_list = list-from (drive was) opens.from b.opening rows h status before after opens.found opens.state list;
+  ends = ends-weaker (StopsBook (IsNextStep width b.opening rows) h) (IsStop (Some file) opens.from rows (drive was) (drive disk) h) status before after (log-stop drive file rows (drive was) size b h disk opens leaves) ends;
+  splits = λ writes. settled-from (drive was) opens.from size b.bucket b.opening (count_in b.log) (option_map length opens.from.first) h opens.found opens.state opens.bucket opens.count (splits writes);
+  crash = keeps-book drive (IsNextStep width b.opening rows) (drive was) size b h disk status before after opens leaves ends (λ writes. (splits writes).going);
 }
-  where
-    either : {X Y : Type 0} → X ⊎ (A × Y) → X ⊎ (B × Y)
-    either (inl x) = inl x
-    either (inr (a, y)) = inr (more a, y)
+
+-- rows that were answered over no log
+pub answered-new : {I D : Type 0} (drive : D → Drive) (size : ℕ) (rows : List InRow) (b : BookView I D) (was : D) (left : Option D) (before after : Output) (status : ℕ) (h : List Entry) → b.opening ≡ empty_state → b.bucket ≡ size → b.log ≡ None
+    → AnswersAsOneList width b.opening rows h status before after → EndsRows (StopsBook (IsNextStep width b.opening rows) h) status before after → (WritesLines status → IsSettled width b.bucket b.opening (count_in b.log) h)
+    → LeavesLog drive b.opening h b.log left
+    → IsAnswered {D = D} None size rows (record { output = before; disk = was; drive = drive was }) (record { output = after; disk = was; drive = drive was }) status h
+answered-new {D = D} drive size rows b was left before after status h opening bucket none list ends splits leaves = record {
+  from = new_origin;
+  begins = refl;
+  book = refl;
+  one_list = subst (λ (o : State). AnswersAsOneList width o rows h status before after) opening list;
+  ends = ends-weaker (StopsBook (IsNextStep width b.opening rows) h) (IsStop None new_origin rows (drive was) (drive was) h) status before after (new-stop drive (IsNextStep width b.opening rows) new_origin rows (drive was) (drive was) b.opening h b.log left none leaves) ends;
+  splits = λ writes.
+      subst (λ (o : State). IsSettled width size o None h) opening
+      (subst (λ (n : ℕ). IsSettled width n b.opening None h) bucket
+      (subst (λ (c : Option ℕ). IsSettled width b.bucket b.opening c h) (ap (λ (l : Option (KeptView D)). count_in l) none) (splits writes)));
+  crash = λ bytes first told is settled. absurd (cc is);
+}

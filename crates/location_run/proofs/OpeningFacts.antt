@@ -1,5 +1,5 @@
 -- What the opening of a log comes to.
-use Rattle.std.proofs.Common.{◌≡◌, ◌⊎◌, inl, inr, ◌∙◌, ℕ, ◌≤◌, List, length, Some, Result, Ok, Err, refl, sym, ap, subst}
+use Rattle.std.proofs.Common.{◌≡◌, ◌⊎◌, inl, inr, ◌∙◌, ℕ, ◌≤◌, Bool, List, length, Some, Result, Ok, Err, refl, sym, ap, subst}
 use Rattle.std.specs.Prelude.{IfErr}
 use Rattle.causes.specs.Causes.{Rose}
 use Rattle.disk_trait.specs.declared.disk.AttachFault.{AttachFault}
@@ -9,7 +9,7 @@ use Rattle.cell_format.specs.declared.cell.Cell.{Cell}
 use Rattle.log_state.specs.Recovers.{Recovers}
 use Rattle.recovery.specs.Faults.{IsFault, IsInBytes}
 use Rattle.recovery.specs.Found.{IsFree}
-use Rattle.recovery.specs.Opening.{KeepsCells}
+use Rattle.recovery.specs.Opening.{KeepsCells, IsUntouched, LeavesUnopened}
 use Rattle.recovery.specs.declared.seen.OpenFault.{OpenFault}
 use Rattle.recovery.specs.declared.seen.OpenFault.TheVariants as open_fault
 use Rattle.recovery.proofs.OnlyReading.{rose-earlier}
@@ -17,7 +17,7 @@ use Rattle.recovery.proofs.OpeningLemmas.{leaves-trans, leaves-stays}
 use Rattle.csv_rows.specs.declared.rows.Refusal.{Refusal}
 use Rattle.csv_rows.specs.declared.rows.Refusal.TheVariants as refusal
 use Rattle.location_run.specs.Checking.{IsReadingCause, attach_refusal, log_refusal}
-use Rattle.location_run.specs.Origin.{most_played}
+use Rattle.location_run.specs.Limits.{width, most_played}
 use Rattle.location_run.specs.Playing.{IsNotOpened}
 
 -- a call that only reads leaves what recovers
@@ -28,6 +28,25 @@ pub keeps-cells-after : (w : ℕ) (a b c : Drive) → KeepsLaws a → Stays a b 
 keeps-cells-after w a b c laws stays keeps bytes cells told now =
     leaves-trans a b c (Recovers w cells) (leaves-stays a b (Recovers w cells) laws now stays)
     (keeps bytes cells (stays.bytes ∙ told) (λ x left. now x (stays.images x left)))
+
+-- a file that is left as it was
+stays-untouched : (a b : Drive) → Stays a b → IsUntouched a b
+stays-untouched a b stays = record { bytes = stays.bytes; images = stays.images; since = λ t c le left. inl (stays.since t c left) }
+
+untouched-after : (a b c : Drive) → Stays a b → IsUntouched b c → IsUntouched a c
+untouched-after a b c stays left = record {
+  bytes = left.bytes ∙ stays.bytes;
+  images = λ x now. stays.images x (left.images x now);
+  since = λ t x le now. by_moment t x (left.since t x (subst (λ (m : ℕ). t ≤ m) (sym stays.moment) le) now);
+}
+  where
+    by_moment : (t : ℕ) (x : List ℕ) → b.since t x ⊎ b.images x → a.since t x ⊎ a.images x
+    by_moment t x (inl was) = inl (stays.since t x was)
+    by_moment t x (inr now) = inr (stays.images x now)
+
+-- the bytes are no log of few enough cells
+abbrev pub IsNoLog : List ℕ → Type 0
+IsNoLog bytes = (first : List Cell) → Recovers width first bytes → length first ≤ most_played → ⊥
 
 -- why a log isn't opened
 reading-after : (most : ℕ) (a b c : Drive) (cause : OpenFault) → Stays a b → a.faults ≤ b.faults → ((bytes : List ℕ) → b.bytes ≡ Some bytes → IsFault 1 most bytes cause)
@@ -47,12 +66,13 @@ free-memory a b c cause later calm (inr rose) = absurd (calm (rose-earlier a.fau
 pub open-refused : (a b c : Drive) (why : OpenFault) → KeepsLaws a → Stays a b → a.faults ≤ b.faults → ((bytes : List ℕ) → b.bytes ≡ Some bytes → IsFault 1 most_played bytes why)
     → ((bytes : List ℕ) (fault : OpenFault) → b.bytes ≡ Some bytes → IsInBytes fault → IsFault 1 most_played bytes fault → (why ≡ fault) ⊎ IsFree b c why)
     → ((bytes : List ℕ) (cells : List Cell) → b.bytes ≡ Some bytes → Recovers 1 cells bytes → length cells ≤ most_played → IsFree b c why)
-    → KeepsCells 1 b c → (why ≡ open_fault.Disk → Rose b.faults c.faults) → IsNotOpened a c (log_refusal why)
-open-refused a b c why laws stays later wrong exact whole keeps rose = record {
+    → KeepsCells 1 b c → (why ≡ open_fault.Disk → Rose b.faults c.faults) → LeavesUnopened 1 most_played b c why → IsNotOpened a c (log_refusal why)
+open-refused a b c why laws stays later wrong exact whole keeps rose leaves = record {
   cause = reading-after most_played a b c why stays later wrong rose;
   exact = λ bytes fault told shown at calm. named fault calm (exact bytes fault (stays.bytes ∙ told) shown at);
   whole = λ good. free-memory a b c why later good.calm (whole good.bytes good.first (stays.bytes ∙ good.told) good.recovers good.few);
   keeps = keeps-cells-after 1 a b c laws stays keeps;
+  untouched = λ bytes told none. untouched-after a b c stays (leaves.no_log bytes (stays.bytes ∙ told) none);
 }
   where
     named : (fault : OpenFault) → (Rose a.faults c.faults → ⊥) → (why ≡ fault) ⊎ IsFree b c why → (log_refusal why ≡ log_refusal fault) ⊎ (log_refusal why ≡ refusal.Memory)
@@ -60,27 +80,30 @@ open-refused a b c why laws stays later wrong exact whole keeps rose = record {
     named fault calm (inr free) = inr (free-memory a b c why later calm free)
 
 -- a file that wasn't attached
-pub attach-refused : {T : Type 0} (a b : Drive) (result : Result T AttachFault) (fault : AttachFault) → result ≡ Err fault → KeepsLaws a → Stays a b → CountsAttach a b result → IsNotOpened a b (attach_refusal fault)
-attach-refused a b result attach_fault.Disk is laws stays counts = record {
+pub attach-refused : {T : Type 0} (name : List ℕ) (make : Bool) (a b : Drive) (result : Result T AttachFault) (fault : AttachFault) → result ≡ Err fault → KeepsLaws a → Stays a b → CountsAttach name make a b result → IsNotOpened a b (attach_refusal fault)
+attach-refused name make a b result attach_fault.Disk is laws stays counts = record {
   cause = counts.failed is;
   exact = λ bytes fault told shown at calm. absurd (calm (counts.failed is));
   whole = λ good. absurd (good.calm (counts.failed is));
   keeps = keeps-stays-cells 1 a b laws stays;
+  untouched = λ bytes told none. stays-untouched a b stays;
 }
-attach-refused a b result attach_fault.Memory is laws stays counts = record {
+attach-refused name make a b result attach_fault.Memory is laws stays counts = record {
   cause = tt;
   exact = λ bytes fault told shown at calm. inr refl;
   whole = λ good. refl;
   keeps = keeps-stays-cells 1 a b laws stays;
+  untouched = λ bytes told none. stays-untouched a b stays;
 }
 
 -- memory ran out once the log was open
-pub memory-refused : (a c : Drive) (why : Refusal) → why ≡ refusal.Memory → KeepsCells 1 a c → IsNotOpened a c why
-memory-refused a c why memory keeps = subst (IsNotOpened a c) (sym memory) (record {
+pub memory-refused : (a c : Drive) (why : Refusal) → why ≡ refusal.Memory → KeepsCells 1 a c → ((bytes : List ℕ) → a.bytes ≡ Some bytes → IsNoLog bytes → ⊥) → IsNotOpened a c why
+memory-refused a c why memory keeps log = subst (IsNotOpened a c) (sym memory) (record {
   cause = tt;
   exact = λ bytes fault told shown at calm. inr refl;
   whole = λ good. refl;
   keeps = keeps;
+  untouched = λ bytes told none. absurd (log bytes told none);
 })
 
 pub if-err : {A B : Type 0} (P Q : B → Type 0) (result : Result A B) → ((b : B) → P b → Q b) → IfErr result P → IfErr result Q

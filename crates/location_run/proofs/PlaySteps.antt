@@ -1,6 +1,6 @@
 -- Rows that are answered one after the other, with splits between them.
-use Rattle.std.proofs.Common.{◌≡◌, ◌⊎◌, inl, inr, ℕ, suc, ◌+◌, ◌<◌, List, [], ◌∷◌, ◌++◌, length, get_or, take, None, refl, sym, ◌∙◌, ap, subst, arith, add-zero, length-append}
-use Rattle.std.proofs.lemmas.List.{take_more, length-take}
+use Rattle.std.proofs.Common.{◌≡◌, ◌⊎◌, inl, inr, ℕ, suc, ◌+◌, ◌<◌, List, [], ◌∷◌, ◌++◌, length, get_or, take, drop, Bool, true, false, cond, None, refl, sym, ◌∙◌, ap, subst, arith, add-zero, length-append, append_assoc}
+use Rattle.std.proofs.lemmas.List.{take_more, length-take, take-append-drop}
 use Rattle.zorder.specs.declared.points.Placed.{Placed}
 use Rattle.plain_list.specs.declared.ops.Answer.{Answer}
 use Rattle.plain_list.specs.declared.entries.Entry.{Entry}
@@ -22,6 +22,16 @@ use Rattle.location_run.specs.Plays.{NotesRow, StopsRow, IsPlay, HasCalled}
 use Rattle.location_run.specs.declared.faults.PlayFault.{PlayFault}
 use Rattle.location_run.specs.declared.play.Play.{Play}
 use Rattle.location_run.proofs.Calls.{calls_alone-append, replies-calls, world_after-calls}
+use Rattle.std.specs.Prelude.{◌==◌}
+use Rattle.std.proofs.lemmas.Bool.Decides.{Decides-eqb}
+use Rattle.plain_list.specs.declared.ops.Op.{Op}
+use Rattle.plain_list.specs.declared.entries.Lost.{Lost}
+use Rattle.plain_list.specs.declared.entries.Lost.TheVariants as lost_step
+use Rattle.plain_list.specs.Played.{calls_of}
+use Rattle.location_run.specs.Lines.{session_rows, session_rows_from}
+use Rattle.location_run.specs.Stops.{IsCallAt}
+use Rattle.location_run.specs.LostSteps.{IsNextRow, IsNextStep, IsSplitStep}
+use Rattle.location_run.proofs.Ends.{calls-rows}
 use Rattle.location_run.proofs.TidySteps.{are_tidy-append}
 use Rattle.location_run.proofs.RowWorlds.{IsWorld-rows, rules-take}
 
@@ -133,3 +143,56 @@ HasCalled-may rows i d fault old new lt calls stops = by_calls stops.calls
 -- the calls with one row's more
 pub calls-row : {I D : Type 0} (number : ℕ) (row : InRow) (old new : BookView I D) → NotesRow old new number row → calls_alone new.entries ≡ calls_alone old.entries ++ Call row.session number row.op ∷ []
 calls-row number row old new noted = ap calls_alone noted.entries ∙ calls_alone-append old.entries (Call row.session number row.op ∷ [])
+
+-- the row at a place is the next of its session behind the calls of those before it
+session_rows-behind : (s n : ℕ) (xs ys : List InRow) → session_rows_from n s (xs ++ ys) ≡ session_rows_from n s xs ++ session_rows_from (n + length xs) s ys
+session_rows-behind s n [] ys = ap (λ k. session_rows_from k s ys) (sym (add-zero n))
+session_rows-behind s n (x ∷ xs) ys =
+    by_test (x.session == s) (session_rows-behind s (n + 1) xs ys ∙ ap (λ k. session_rows_from (n + 1) s xs ++ session_rows_from k s ys) count)
+  where
+    count : n + 1 + length xs ≡ n + suc (length xs)
+    count = omega arith
+
+    by_test : (b : Bool) → session_rows_from (n + 1) s (xs ++ ys) ≡ session_rows_from (n + 1) s xs ++ session_rows_from (n + suc (length xs)) s ys
+        → cond b ((n, x.op) ∷ session_rows_from (n + 1) s (xs ++ ys)) (session_rows_from (n + 1) s (xs ++ ys)) ≡ cond b ((n, x.op) ∷ session_rows_from (n + 1) s xs) (session_rows_from (n + 1) s xs) ++ session_rows_from (n + suc (length xs)) s ys
+    by_test true e = ap (λ (l : List (ℕ × Op)). (n, x.op) ∷ l) e
+    by_test false e = e
+
+session_rows-own : (row : InRow) (n : ℕ) (ys : List InRow) → session_rows_from n row.session (row ∷ ys) ≡ (n, row.op) ∷ session_rows_from (n + 1) row.session ys
+session_rows-own row n ys = ap (λ (b : Bool). cond b ((n, row.op) ∷ session_rows_from (n + 1) row.session ys) (session_rows_from (n + 1) row.session ys)) ((Decides-eqb row.session row.session).1 refl)
+
+next-row : (rows : List InRow) (i : ℕ) (d : InRow) (h : List Entry) → i < length rows → calls_alone h ≡ entries_from 1 (take i rows) → IsNextRow rows h (get_or rows i d).session (i + 1) (get_or rows i d).op
+next-row rows i d h lt calls =
+    let row = get_or rows i d in
+    let s = row.session in
+    let front = take i rows in
+    let rest = drop (i + 1) rows in
+    let cut : rows ≡ front ++ row ∷ rest =
+    sym (take-append-drop (i + 1) rows) ∙ ap (λ (l : List InRow). l ++ rest) (sym (row-next rows i d lt)) ∙ append_assoc front (row ∷ []) rest in
+    let place : 1 + length front ≡ i + 1 = sym (row-number rows i lt) in
+    record {
+      rest = session_rows_from (i + 1 + 1) s rest;
+      next =
+          ap (session_rows_from 1 s) cut
+          ∙ session_rows-behind s 1 front (row ∷ rest)
+          ∙ ap (λ (l : List (ℕ × Op)). l ++ session_rows_from (1 + length front) s (row ∷ rest)) (sym (calls-rows front h s calls))
+          ∙ ap (λ (k : ℕ). calls_of s h ++ session_rows_from k s (row ∷ rest)) place
+          ∙ ap (λ (l : List (ℕ × Op)). calls_of s h ++ l) (session_rows-own row (i + 1) rest);
+    }
+
+-- the lost call is that of the next row
+pub next-call : (w : ℕ) (o : State) (rows : List InRow) (i : ℕ) (d : InRow) (h : List Entry) → i < length rows → calls_alone h ≡ entries_from 1 (take i rows) → (before : List Entry) (lost : Lost) → IsCallAt h (i + 1) (get_or rows i d) before lost
+    → IsNextStep w o rows before lost
+next-call w o rows i d h lt calls before lost (same, is) =
+    subst (λ (l : Lost). IsNextStep w o rows before l) (sym is)
+    (subst (λ (b : List Entry). IsNextStep w o rows b (lost_step.Call (get_or rows i d).session (i + 1) (get_or rows i d).op)) (sym same) (next-row rows i d h lt calls))
+
+-- a step of a split is a next step
+pub next-split : (w : ℕ) (o p : State) (rows : List InRow) → o ≡ p → (before : List Entry) (lost : Lost) → IsSplitStep w o before lost → IsNextStep w p rows before lost
+next-split w o p rows same before lost step = by_lost lost (subst (λ (q : State). IsSplitStep w q before lost) same step)
+  where
+    by_lost : (l : Lost) → IsSplitStep w p before l → IsNextStep w p rows before l
+    by_lost (lost_step.Call session row op) is = absurd is
+    by_lost (lost_step.Begin number name) is = is
+    by_lost (lost_step.Install number) is = is
+    by_lost (lost_step.Abandon number) is = is

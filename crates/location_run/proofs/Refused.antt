@@ -11,13 +11,12 @@ use Rattle.plain_list.specs.declared.entries.Entry.TheVariants.{Fail}
 use Rattle.plain_list.specs.declared.entries.Lost.{Lost}
 use Rattle.disk_trait.specs.Drive.{Drive}
 use Rattle.kept_log.specs.Journal.{failed_cell, cells_in}
-use Rattle.kept_log.proofs.InJournal.{failed_cell-last, has_failed-none}
 use Rattle.commit_book.specs.BookView.{BookView}
 use Rattle.commit_book.specs.declared.faults.BookFault.{BookFault}
 use Rattle.commit_book.specs.declared.faults.BookFault.TheVariants as book
 use Rattle.commit_book.specs.Refusals.{IsMemoryOrDisk, IsRefusedBy, Closes, LeavesRefused, first_of, call_refusal, end_refusal, has_no_room, room_refusal}
 use Rattle.location_run.specs.Room.{IsRoom, IsRoomOrFault}
-use Rattle.location_run.specs.Stops.{book_fault, Stops}
+use Rattle.location_run.specs.Stops.{book_fault, Stops, StopsAt}
 use Rattle.location_run.specs.Tidy.{calls_alone, IsPastRoom}
 use Rattle.location_run.specs.declared.faults.PlayFault.{PlayFault}
 use Rattle.location_run.specs.declared.faults.PlayFault.TheVariants.{Memory, Disk}
@@ -108,18 +107,24 @@ pub end_refusal-few : (cells : ℕ) (h : List Entry) → failed_cell h ≡ None 
 end_refusal-few cells h going few few_cells = λ i. first_of (call_refusal-few h going few i) (cond (below cells 16777216 few_cells i) (Some book.LogFull) None)
 
 -- what a refused call leaves
-pub Stops-refused : {I D : Type 0} (drive : D → Drive) (lost : Lost) (old new : BookView I D) (fault : BookFault) (e : PlayFault) → fault ≡ book_fault e → failed_cell old.entries ≡ None
-    → LeavesRefused drive lost old new fault → Stops old.entries new.entries e
-Stops-refused {I} {D} drive lost old new fault Memory is going left =
+pub Stops-refused : {I D : Type 0} (drive : D → Drive) (Step : List Entry → Lost → Type 0) (lost : Lost) (old new : BookView I D) (fault : BookFault) (e : PlayFault) → fault ≡ book_fault e → failed_cell old.entries ≡ None → Step old.entries lost
+    → LeavesRefused drive lost old new fault → Stops Step old.entries new.entries e
+Stops-refused {I} {D} drive Step lost old new fault Memory is going step left =
     let same : new ≡ old = subst (LeavesRefused drive lost old new) is left in
     record { calls = ap (λ (b : BookView I D). calls_alone b.entries) same; stops = ap (λ (b : BookView I D). failed_cell b.entries) same ∙ going }
-Stops-refused drive lost old new fault (Disk cell) is going left =
+Stops-refused drive Step lost old new fault (Disk cell) is going step left =
     let closes : Closes drive lost old new cell = subst (LeavesRefused drive lost old new) is left in
     record {
       calls = ap calls_alone closes.entries ∙ calls_alone-append old.entries (Fail cell lost ∷ []) ∙ append-nil (calls_alone old.entries);
-      stops = ap failed_cell closes.entries ∙ failed_cell-last old.entries cell lost (has_failed-none old.entries going);
+      stops = record { before = old.entries; lost = lost; entries = closes.entries; going = going; step = step };
     }
 
+-- what is told of the lost step may be weakened
+pub StopsAt-weaker : (P Q : List Entry → Lost → Type 0) (h : List Entry) (fault : PlayFault) → ((before : List Entry) (lost : Lost) → P before lost → Q before lost) → StopsAt P h fault → StopsAt Q h fault
+StopsAt-weaker P Q h Memory weaker stops = stops
+StopsAt-weaker P Q h (Disk cell) weaker stops =
+    record { before = stops.before; lost = stops.lost; entries = stops.entries; going = stops.going; step = weaker stops.before stops.lost stops.step }
+
 -- behind steps of splits it does so too
-pub Stops-behind : (old mid new : List Entry) (fault : PlayFault) → calls_alone mid ≡ calls_alone old → Stops mid new fault → Stops old new fault
-Stops-behind old mid new fault calls stops = record { calls = stops.calls ∙ calls; stops = stops.stops }
+pub Stops-behind : (Step : List Entry → Lost → Type 0) (old mid new : List Entry) (fault : PlayFault) → calls_alone mid ≡ calls_alone old → Stops Step mid new fault → Stops Step old new fault
+Stops-behind Step old mid new fault calls stops = record { calls = stops.calls ∙ calls; stops = stops.stops }

@@ -1,5 +1,5 @@
 -- A split of the first leaf over the size, where none is open: what it meets, and what it leaves.
-use Rattle.std.proofs.Common.{◌≡◌, ◌⊎◌, inl, inr, ℕ, ◌+◌, ◌≤◌, ◌==◌, Bool, true, false, not, ◌&&◌, cond, List, [], ◌∷◌, ◌++◌, length, Option, Some, None, Result, Ok, Err, refl, sym, ◌∙◌, ap, subst, arith, append_assoc, length-append}
+use Rattle.std.proofs.Common.{◌≡◌, ◌⊎◌, inl, inr, ℕ, ◌+◌, ◌≤◌, ◌==◌, Bool, true, false, not, ◌&&◌, cond, List, [], ◌∷◌, ◌++◌, length, Option, Some, None, is_some, Result, Ok, Err, refl, sym, ◌∙◌, ap, subst, arith, append_assoc, length-append}
 use mathlib.Core.Bool.{true≢false}
 use Rattle.std.specs.Prelude.{IfOk, IfErr, MatchResult}
 use Rattle.std.specs.List.{find, list_all}
@@ -9,10 +9,14 @@ use Rattle.std.specs.Cmp.Derive.{both_true}
 use Rattle.std.proofs.lemmas.Bool.Decides.{Decides-eqb}
 use Rattle.zorder.specs.declared.points.Placed.{Placed}
 use Rattle.zorder.specs.SameName.{same_name, same_name-decides}
+use Rattle.plain_list.specs.declared.ops.Op.{Op}
 use Rattle.plain_list.specs.declared.entries.Entry.{Entry}
 use Rattle.plain_list.specs.declared.entries.Entry.TheVariants.{Begin, Install}
 use Rattle.plain_list.specs.declared.entries.Lost.{Lost}
-use Rattle.plain_list.specs.State.{State, OpenSplit, is_splitting, without_name, without_number, state_after}
+use Rattle.plain_list.specs.declared.entries.Lost.TheVariants as lost
+use Rattle.location_run.specs.LostSteps.{IsSplitStep}
+use Rattle.std.proofs.lemmas.Bool.{le-leb}
+use Rattle.plain_list.specs.State.{State, OpenSplit, is_splitting, split_name, without_name, without_number, state_after}
 use Rattle.plain_list.specs.Size.{is_over, full_leaf, IsSized}
 use Rattle.plain_list.specs.History.{world_after}
 use Rattle.plain_list.proofs.Histories.{state_after-append, state_after-world}
@@ -22,11 +26,11 @@ use Rattle.kept_log.proofs.InJournal.{failed_cell-push, has_failed-none}
 use Rattle.commit_book.specs.declared.faults.BookFault.{BookFault}
 use Rattle.commit_book.specs.Refusals.{IsMemoryOrDisk, LeavesRefused, has_no_room, begin_refusal}
 use Rattle.commit_book.specs.BookView.{BookView}
-use Rattle.commit_book.proofs.SplitCalls.{begin-full}
+use Rattle.commit_book.proofs.SplitCalls.{begin-full, full_leaf-free}
 use Rattle.location_run.specs.Room.{IsRoom}
 use Rattle.location_run.specs.Stops.{book_fault, Stops}
 use Rattle.location_run.specs.Splits.{is_full_leaf}
-use Rattle.location_run.specs.Tidy.{calls_alone, are_tidy, IsTidy, MayBeFull, Tidies, SplitsLeaf}
+use Rattle.location_run.specs.Tidy.{calls_alone, are_tidy, IsTidy, MayBeFull, TellsFull, Tidies, SplitsLeaf, SplitsTold}
 use Rattle.location_run.specs.declared.faults.PlayFault.{PlayFault}
 use Rattle.location_run.proofs.Calls.{calls_alone-append}
 use Rattle.location_run.proofs.TidySteps.{are_tidy-append, going-tidy}
@@ -105,6 +109,15 @@ pub MayBeFull-told : {I D : Type 0} (w : ℕ) (book : BookView I D) (full : Opti
 MayBeFull-told w book None is = tt
 MayBeFull-told w book (Some name) is = sym is
 
+pub MayBeFull-tells : {I D : Type 0} (w : ℕ) (book : BookView I D) (op : Op) (full : Option (List Bool)) → TellsFull w book op full → MayBeFull w book full
+MayBeFull-tells w book op full (inl is) = MayBeFull-told w book full is
+MayBeFull-tells w book op full (inr (query, none)) = subst (MayBeFull w book) (sym none) tt
+
+-- the leaf that was told was split, or there was no room
+pub SplitsTold-split : {I D : Type 0} (w : ℕ) (name : List Bool) (old new : BookView I D) (room : Bool) → SplitsLeaf w old new room → SplitsTold (Some name) old new
+SplitsTold-split w name old new true splits = inl splits.2
+SplitsTold-split w name old new false splits = inr splits.1
+
 -- a leaf was split, or there was no room
 pub Tidies-split : {I D : Type 0} (w : ℕ) (old new : BookView I D) (room : Bool) → IsTidy w old → SplitsLeaf w old new room → Tidies w old new
 Tidies-split w old new true tidy splits = splits.0
@@ -131,7 +144,22 @@ SplitsLeaf-no_room drive lost w old new fault (Err e) left why is = tt
 SplitsLeaf-no_room drive lost w old new fault (Ok room) left (inl free) is = absurd (not-both fault is.1 free)
 SplitsLeaf-no_room drive lost w old new fault (Ok room) left (inr full) is = subst (SplitsLeaf w old new) (sym is.0) (room-same drive lost old new fault is.1 left, past-room old full)
 
-pub Stops-no_room : {I D : Type 0} (drive : D → Drive) (lost : Lost) (old new : BookView I D) (fault : BookFault) (result : Result Bool PlayFault) → failed_cell old.entries ≡ None → LeavesRefused drive lost old new fault
-    → MatchResult result (λ room. (room ≡ false) × IsRoom fault) (λ e. fault ≡ book_fault e) → IfErr result (Stops old.entries new.entries)
-Stops-no_room drive lost old new fault (Ok room) going left is = tt
-Stops-no_room drive lost old new fault (Err e) going left is = Stops-refused drive lost old new fault e is going left
+pub Stops-no_room : {I D : Type 0} (drive : D → Drive) (Step : List Entry → Lost → Type 0) (lost : Lost) (old new : BookView I D) (fault : BookFault) (result : Result Bool PlayFault) → failed_cell old.entries ≡ None → Step old.entries lost
+    → LeavesRefused drive lost old new fault → MatchResult result (λ room. (room ≡ false) × IsRoom fault) (λ e. fault ≡ book_fault e) → IfErr result (Stops Step old.entries new.entries)
+Stops-no_room drive Step lost old new fault (Ok room) going step left is = tt
+Stops-no_room drive Step lost old new fault (Err e) going step left is = Stops-refused drive Step lost old new fault e is going step left
+
+-- the begin of a split of a full leaf is possible
+pub may-begin : (w size : ℕ) (s : State) (h : List Entry) (name : List Bool) → full_leaf w size (state_after w s h) ≡ Some name → IsSplitStep w s h (lost.Begin ((state_after w s h).begun + 1) name)
+may-begin w size s h name full =
+    let free = full_leaf-free w size (state_after w s h) name full in
+    both_true (same_number ((state_after w s h).begun + 1)) (both_true free.leaf (le-leb (length name + w) 64 free.short))
+
+-- and then its install is
+pub may-install : (w n : ℕ) (s : State) (h g : List Entry) (name : List Bool) → (state_after w s h).splits ≡ [] → g ≡ h ++ Begin n name ∷ [] → IsSplitStep w s g (lost.Install n)
+may-install w n s h g name ended begun =
+    let splits : (state_after w s g).splits ≡ opened n name ∷ [] =
+    ap (λ (l : List Entry). (state_after w s l).splits) begun
+    ∙ ap (λ (t : State). t.splits) (state_after-append w s h (Begin n name ∷ []))
+    ∙ ap (λ (l : List OpenSplit). without_name name l ++ opened n name ∷ []) ended in
+    ap (λ (l : List OpenSplit). is_some (split_name l n)) splits ∙ ap (λ (b : Bool). is_some (cond b (Some name) None)) (same_number n)

@@ -21,10 +21,10 @@ use Rattle.location_run.specs.Lines.{lines_from, entries_from, lines_of, line_at
 -- what was written before line i, and the lines from it on
 pub record HasWritten (old now : Option (List ℕ)) (faults later : ℕ) (answers : List Answer) (i : ℕ) : Type 0 where
   pub moved : Moves old now (title_line ++ lines_from 1 answers) (lines_from (1 + i) (drop i answers))
-  pub rises : faults ≤ later
+  pub same : later ≡ faults
 
-pub written-title : (old now : Option (List ℕ)) (faults later : ℕ) (answers : List Answer) → Appends old now title_line → faults ≤ later → HasWritten old now faults later answers 0
-written-title old now faults later answers grew rises = record { moved = moves-more old now title_line [] (lines_from 1 answers) (moves-all old now title_line grew); rises = rises }
+pub written-title : (old now : Option (List ℕ)) (faults later : ℕ) (answers : List Answer) → Appends old now title_line → later ≡ faults → HasWritten old now faults later answers 0
+written-title old now faults later answers grew rises = record { moved = moves-more old now title_line [] (lines_from 1 answers) (moves-all old now title_line grew); same = rises }
 
 pub lines_from-drop : (answers : List Answer) (i : ℕ) (d : Answer) → i < length answers
     → lines_from (1 + i) (drop i answers) ≡ line_text (i + 1) (i + 1) (get_or answers i d) ++ lines_from (1 + (i + 1)) (drop (i + 1) answers)
@@ -38,7 +38,7 @@ lines_from-drop answers i d lt =
     two = omega arith
 
 pub written-more : (old mid now : Option (List ℕ)) (faults later last : ℕ) (answers : List Answer) (i : ℕ) (d : Answer) → HasWritten old mid faults later answers i → i < length answers
-    → Appends mid now (line_text (i + 1) (i + 1) (get_or answers i d)) → later ≤ last → HasWritten old now faults last answers (i + 1)
+    → Appends mid now (line_text (i + 1) (i + 1) (get_or answers i d)) → last ≡ later → HasWritten old now faults last answers (i + 1)
 written-more old mid now faults later last answers i d before lt grew rises =
     let line = line_text (i + 1) (i + 1) (get_or answers i d) in
     let rest = lines_from (1 + (i + 1)) (drop (i + 1) answers) in
@@ -46,7 +46,7 @@ written-more old mid now faults later last answers i d before lt grew rises =
       moved =
           moves-trans old mid now (title_line ++ lines_from 1 answers) (line ++ rest) rest
           (subst (λ l. Moves old mid (title_line ++ lines_from 1 answers) l) (lines_from-drop answers i d lt) before.moved) (moves-more mid now line [] rest (moves-all mid now line grew));
-      rises = omega (arith, before.rises, rises);
+      same = rises ∙ before.same;
     }
 
 pub written-all : (old now : Option (List ℕ)) (faults later : ℕ) (answers : List Answer) (i : ℕ) → HasWritten old now faults later answers i → length answers ≤ i

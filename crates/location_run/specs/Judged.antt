@@ -6,10 +6,7 @@ use Rattle.csv_rows.specs.declared.rows.RowsFault.TheVariants as fault
 use Rattle.csv_rows.specs.declared.rows.Refusal.{Refusal}
 use Rattle.csv_rows.specs.declared.rows.Refusal.TheVariants as refusal
 use Rattle.csv_rows.specs.Rows.{rows_of}
-
--- how many bytes an input may have
-abbrev pub most_bytes : ℕ
-most_bytes = 16777216
+use Rattle.location_run.specs.Limits.{most_bytes}
 
 -- the number of the first row that isn't of session 1, where the first row has this number
 abbrev pub first_other : ℕ → List InRow → Option ℕ

@@ -1,3 +1,5 @@
+pub mod Limits
+pub mod Ends
 pub mod Words
 pub mod Asked
 pub mod Judged
@@ -8,11 +10,14 @@ pub mod Making
 pub mod Checking
 pub mod Lines
 pub mod Origin
+pub mod LostSteps
 pub mod Splits
 pub mod Tidy
 pub mod Room
 pub mod Stops
 pub mod Plays
+pub mod Books
+pub mod Answers
 pub mod Playing
 pub mod Run
 pub mod Crash

@@ -1,118 +1,157 @@
--- Why rows aren't played to their end, and what is left then.
-use Rattle.std.specs.Prelude.{◌≡◌, ◌⊎◌, ℕ, ◌≤◌, List, [], length, Option, Some, None, Err, ⊤}
+-- The command `play`.
+use Rattle.std.specs.Prelude.{◌≡◌, ◌≢◌, ◌⊎◌, ℕ, ◌≤◌, List, [], length, Option, Some, None, Ok, Err, ⊤}
 use Rattle.std.specs.Option.{option_map}
 use Rattle.causes.specs.Causes.{Rose}
-use Rattle.disk_trait.specs.Drive.{Drive, Stays}
+use Rattle.disk_trait.specs.Drive.{Drive}
 use Rattle.plain_list.specs.declared.entries.Entry.{Entry}
-use Rattle.plain_list.specs.State.{State}
-use Rattle.plain_list.specs.World.{IsWorld}
 use Rattle.cell_format.specs.declared.cell.Cell.{Cell}
 use Rattle.recovery.specs.declared.seen.OpenFault.{OpenFault}
 use Rattle.log_state.specs.Recovers.{Recovers}
-use Rattle.recovery.specs.Faults.{IsTooLong, IsFault, IsInBytes}
-use Rattle.recovery.specs.Opening.{KeepsCells}
-use Rattle.kept_log.specs.KeptView.{KeptView}
-use Rattle.kept_log.specs.Journal.{failed_cell, cells_in, disk_in, KeepsIn, IsSinceIn}
-use Rattle.commit_book.specs.BookView.{BookView}
+use Rattle.recovery.specs.Faults.{IsFault, IsInBytes}
+use Rattle.recovery.specs.Opening.{KeepsCells, IsUntouched}
+use Rattle.kept_log.specs.Journal.{failed_cell}
+use Rattle.csv_rows.specs.declared.rows.InRow.{InRow}
 use Rattle.csv_rows.specs.declared.rows.Refusal.{Refusal}
 use Rattle.csv_rows.specs.declared.rows.Refusal.TheVariants as refusal
+use Rattle.location_run.specs.Limits.{width, most_played}
+use Rattle.io_edge.specs.Streams.{Input, Output}
+use Rattle.location_run.specs.Ends.{Ends, Targets}
 use Rattle.location_run.specs.Judged.{judged}
+use Rattle.location_run.specs.Status.{status_of, WritesLines}
+use Rattle.location_run.specs.Taking.{Refuses}
 use Rattle.location_run.specs.Ending.{EndsRefused}
-use Rattle.location_run.specs.Status.{status_of}
 use Rattle.location_run.specs.Checking.{IsReadingCause, log_refusal}
-use Rattle.location_run.specs.declared.faults.PlayFault.{PlayFault}
-use Rattle.location_run.specs.declared.faults.PlayFault.TheVariants as play_fault
-use Rattle.location_run.specs.Origin.{Origin, IsFoundOrigin, most_played}
+use Rattle.location_run.specs.Origin.{Origin, IsOrigin}
+use Rattle.location_run.specs.LostSteps.{IsNextStep, LosesStep}
+use Rattle.location_run.specs.Answers.{AnswersAsOneList}
+use Rattle.location_run.specs.Splits.{IsSettled, cells_now}
+use Rattle.location_run.specs.Crash.{KeepsPlayed}
 
--- why no rows are read, where these bytes were left in the source, and where its count rose; memory may always run out
-abbrev pub IsInputCause : Option (List ℕ) → Type 0 → Refusal → Type 0
-IsInputCause left rose refusal.Usage = ⊥
-IsInputCause left rose refusal.Source = rose
-IsInputCause left rose refusal.Memory = ⊤
-IsInputCause left rose refusal.Header = (bytes : List ℕ) → left ≡ Some bytes → judged bytes ≡ Err refusal.Header
-IsInputCause left rose (refusal.Csv row) = (bytes : List ℕ) → left ≡ Some bytes → judged bytes ≡ Err (refusal.Csv row)
-IsInputCause left rose (refusal.Field row column) = (bytes : List ℕ) → left ≡ Some bytes → judged bytes ≡ Err (refusal.Field row column)
-IsInputCause left rose refusal.LongInput = (bytes : List ℕ) → left ≡ Some bytes → judged bytes ≡ Err refusal.LongInput
-IsInputCause left rose refusal.ManyRows = (bytes : List ℕ) → left ≡ Some bytes → judged bytes ≡ Err refusal.ManyRows
-IsInputCause left rose refusal.NotLog = ⊥
-IsInputCause left rose (refusal.OldLog version width) = ⊥
-IsInputCause left rose (refusal.Damaged cell cause) = ⊥
-IsInputCause left rose (refusal.Disk cell) = ⊥
-IsInputCause left rose refusal.LongLog = ⊥
-IsInputCause left rose (refusal.InUse len) = ⊥
+-- where the bytes that a source had are known, this is what they give
+abbrev pub Gives : Input → Refusal → Type 0
+Gives old why = (bytes : List ℕ) → old.left ≡ Some bytes → judged bytes ≡ Err why
 
--- why a log isn't opened, or takes no further cell
-pub data IsLogCause (old new : Drive) (h : List Entry) (why : Refusal) : Type 0 where
-  unopened : h ≡ [] → IsReadingCause most_played old new why → IsLogCause old new h why
-  append : (cell : ℕ) → why ≡ refusal.Disk (Some cell) → failed_cell h ≡ Some cell → Rose old.faults new.faults → IsLogCause old new h why
+-- why no rows are read: the source's count rose, memory ran out, or this is what is wrong first with its bytes
+abbrev pub IsInputCause : Input → Input → Refusal → Type 0
+IsInputCause old new refusal.Source = Rose old.faults new.faults
+IsInputCause old new refusal.Memory = ⊤
+IsInputCause old new refusal.Header = Gives old refusal.Header
+IsInputCause old new (refusal.Csv row) = Gives old (refusal.Csv row)
+IsInputCause old new (refusal.Field row column) = Gives old (refusal.Field row column)
+IsInputCause old new refusal.LongInput = Gives old refusal.LongInput
+IsInputCause old new refusal.ManyRows = Gives old refusal.ManyRows
+IsInputCause old new _ = ⊥
 
--- where the drive's content is known, the log has too many cells
-abbrev pub IsLongLog : Drive → Type 0
-IsLongLog old = (bytes : List ℕ) → old.bytes ≡ Some bytes → IsTooLong 1 most_played bytes
-
--- why rows over a book stop: memory ran out, or the append of a cell failed
-abbrev pub IsStop : List Entry → Refusal → Type 0
-IsStop h why = ((why ≡ refusal.Memory) × (failed_cell h ≡ None)) ⊎ ((cell : ℕ) × (why ≡ refusal.Disk (Some cell)) × (failed_cell h ≡ Some cell))
-
--- the refusal of that
-abbrev pub play_refusal : PlayFault → Refusal
-play_refusal play_fault.Memory = refusal.Memory
-play_refusal (play_fault.Disk cell) = refusal.Disk (Some cell)
-
--- the same where the book has a log
-abbrev pub IsLogStop : Drive → Drive → List Entry → Refusal → Type 0
-IsLogStop old new h why = (why ≡ refusal.Memory) ⊎ IsLogCause old new h why
-
--- how rows end: with all lines, with a fault of the sink, or with the line of a refusal
-abbrev pub EndsRows : (Refusal → Type 0) → ℕ → Option (List ℕ) → Option (List ℕ) → ℕ → ℕ → Type 0
-EndsRows Cause status before after old_faults faults =
-    (status ≡ 0) ⊎ (((status ≡ 6) × Rose old_faults faults) ⊎ EndsRefused Cause status before after old_faults faults)
-
--- a book without entries, where there is room for rows, over a world
-pub record IsNewBook {I D : Type 0} (b : BookView I D) : Type 0 where
-  pub entries : b.entries ≡ []
-  pub few : cells_in b.log ≤ most_played
-  pub world : IsWorld b.opening.world
-
--- the log that a book leaves keeps the history since the book began, and this is its drive
-pub record LeavesLog {D : Type 0} (drive : D → Drive) (s : State) (h : List Entry) (old : Option (KeptView D)) (disk : Option D) : Type 0 where
-  pub log : Option (KeptView D)
-  pub since : IsSinceIn old log
-  pub keeps : KeepsIn drive 1 s h log
-  pub disk_is : disk ≡ disk_in log
-
--- where a book begins
-abbrev pub origin_in : {I D : Type 0} → BookView I D → Origin
-origin_in {D = D} b = record { state = b.opening; cells = option_map (λ (log : KeptView D). log.cells) b.log }
-
--- a book over the log that stood on a drive, whose bytes show no fault
-pub record OpensBook {I D : Type 0} (drive : D → Drive) (old : Drive) (size : ℕ) (b : BookView I D) : Type 0 where
-  pub bucket : b.bucket ≡ size
-  pub log : KeptView D
-  pub log_is : b.log ≡ Some log
-  pub origin : IsFoundOrigin old (origin_in b)
-  pub stays : Stays old (drive log.start)
-  pub later : old.faults ≤ (drive log.start).faults
-  pub shows : (bytes : List ℕ) (fault : OpenFault) → old.bytes ≡ Some bytes → IsInBytes fault → IsFault 1 most_played bytes fault → ⊥
-
--- a fault that the bytes show gives its refusal's status, unless the count rose or memory ran out
-abbrev pub FollowsBytes : Drive → Drive → ℕ → Type 0
-FollowsBytes old new status = (bytes : List ℕ) (fault : OpenFault) → old.bytes ≡ Some bytes → IsInBytes fault → IsFault 1 most_played bytes fault
-    → (Rose old.faults new.faults → ⊥) → (status ≡ status_of (log_refusal fault)) ⊎ (status ≡ 9)
+-- all bytes that the source had were read; where they are known, these are their rows
+pub record Reads (old new : Input) (rows : List InRow) : Type 0 where
+  pub rows_are : (bytes : List ℕ) → old.left ≡ Some bytes → judged bytes ≡ Ok rows
+  pub all : (bytes : List ℕ) → old.left ≡ Some bytes → new.left ≡ Some []
+  pub calm : new.faults ≡ old.faults
 
 -- the drive's bytes recover to cells, few enough, and its count didn't rise
 pub record IsGoodLog (old new : Drive) : Type 0 where
   pub bytes : List ℕ
   pub told : old.bytes ≡ Some bytes
   pub first : List Cell
-  pub recovers : Recovers 1 first bytes
+  pub recovers : Recovers width first bytes
   pub few : length first ≤ most_played
   pub calm : Rose old.faults new.faults → ⊥
 
--- why no book was made over a log: what the bytes show is told, and a good log is opened, unless the count rose or memory ran out
+-- why no log is opened: what the bytes show is told, and a good log is opened, unless the count rose or memory ran out. A file that is no such
+-- log is left as it was, at every moment.
 pub record IsNotOpened (old new : Drive) (why : Refusal) : Type 0 where
   pub cause : IsReadingCause most_played old new why
-  pub exact : (bytes : List ℕ) (fault : OpenFault) → old.bytes ≡ Some bytes → IsInBytes fault → IsFault 1 most_played bytes fault → (Rose old.faults new.faults → ⊥)
+  pub exact : (bytes : List ℕ) (fault : OpenFault) → old.bytes ≡ Some bytes → IsInBytes fault → IsFault width most_played bytes fault → (Rose old.faults new.faults → ⊥)
       → (why ≡ log_refusal fault) ⊎ (why ≡ refusal.Memory)
   pub whole : IsGoodLog old new → why ≡ refusal.Memory
-  pub keeps : KeepsCells 1 old new
+  pub keeps : KeepsCells width old new
+  pub untouched : (bytes : List ℕ) → old.bytes ≡ Some bytes → ((first : List Cell) → Recovers width first bytes → length first ≤ most_played → ⊥) → IsUntouched old new
+
+-- why there is no book for rows: without a log memory ran out, and the drive is left as it was
+abbrev pub HasNoBook : {D : Type 0} → Option (List ℕ) → Targets D → Targets D → Refusal → Type 0
+HasNoBook None old new why = (why ≡ refusal.Memory) × (new.disk ≡ old.disk)
+HasNoBook (Some file) old new why = IsNotOpened old.drive new.drive why
+
+-- there is no book for the rows: none is called
+pub record IsUnopened {D : Type 0} (log : Option (List ℕ)) (old new : Targets D) (status : ℕ) (h : List Entry) : Type 0 where
+  pub none : h ≡ []
+  pub refused : EndsRefused (HasNoBook log old new) status old.output new.output
+
+-- The append of a cell failed: the history ends with that and the step that was lost, the cell's number is the log's number of cells, and the
+-- drive's count rose.
+pub record AppendFailed (from : Origin) (rows : List InRow) (old new : Drive) (h : List Entry) (cell : ℕ) : Type 0 where
+  pub loses : LosesStep (IsNextStep from.width from.state rows) h cell
+  pub number : cell ≡ cells_now (option_map length from.first) from.state h
+  pub rose : Rose old.faults new.faults
+
+-- without a log no append fails
+abbrev pub FailsAt : Option (List ℕ) → Origin → List InRow → Drive → Drive → List Entry → ℕ → Type 0
+FailsAt None from rows old new h cell = ⊥
+FailsAt (Some file) from rows old new h cell = AppendFailed from rows old new h cell
+
+-- why rows stop: memory ran out, and no append failed, or an append failed
+abbrev pub IsStop : Option (List ℕ) → Origin → List InRow → Drive → Drive → List Entry → Refusal → Type 0
+IsStop log from rows old new h refusal.Memory = failed_cell h ≡ None
+IsStop log from rows old new h (refusal.Disk (Some cell)) = FailsAt log from rows old new h cell
+IsStop log from rows old new h _ = ⊥
+
+-- how rows end: with all lines, with a fault of the sink, or with the line of a refusal
+abbrev pub EndsRows : (Refusal → Type 0) → ℕ → Output → Output → Type 0
+EndsRows Cause status old new = ((status ≡ 0) × (new.faults ≡ old.faults)) ⊎ (((status ≡ 6) × Rose old.faults new.faults) ⊎ EndsRefused Cause status old new)
+
+-- the drive of a play over no log is left as it was; over a log its bytes showed no fault
+abbrev pub HasBook : {D : Type 0} → Option (List ℕ) → Targets D → Targets D → Type 0
+HasBook None old new = new.disk ≡ old.disk
+HasBook (Some file) old new = (bytes : List ℕ) (fault : OpenFault) → old.drive.bytes ≡ Some bytes → IsInBytes fault → IsFault width most_played bytes fault → ⊥
+
+-- the rows are answered from one origin on
+pub record IsAnswered {D : Type 0} (log : Option (List ℕ)) (size : ℕ) (rows : List InRow) (old new : Targets D) (status : ℕ) (h : List Entry) : Type 0 where
+  pub from : Origin
+  pub begins : IsOrigin log old.drive from
+  pub book : HasBook log old new
+  pub one_list : AnswersAsOneList from.width from.state rows h status old.output new.output
+  pub ends : EndsRows (IsStop log from rows old.drive new.drive h) status old.output new.output
+  pub splits : WritesLines status → IsSettled from.width size from.state (option_map length from.first) h
+  pub crash : KeepsPlayed from old.drive new.drive status h
+
+-- how rows go that were read: there is no book for them, or they are answered
+abbrev pub PlaysRows : {D : Type 0} → Option (List ℕ) → ℕ → List InRow → Targets D → Targets D → ℕ → List Entry → Type 0
+PlaysRows log size rows old new status h = IsUnopened log old new status h ⊎ IsAnswered log size rows old new status h
+
+-- the source gave no rows: none is called, the drive is left as it was, and the source's count where it didn't fail
+pub record IsUnread {S D : Type 0} (old new : Ends S D) (status : ℕ) (h : List Entry) : Type 0 where
+  pub none : h ≡ []
+  pub disk : new.to.disk ≡ old.to.disk
+  pub calm : status ≢ 5 → new.input.faults ≡ old.input.faults
+  pub refused : EndsRefused (IsInputCause old.input new.input) status old.to.output new.to.output
+
+-- all that the source had was read, and its rows were played
+pub record IsRead {S D : Type 0} (log : Option (List ℕ)) (size : ℕ) (old new : Ends S D) (status : ℕ) (h : List Entry) : Type 0 where
+  pub rows : List InRow
+  pub read : Reads old.input new.input rows
+  pub plays : PlaysRows log size rows old.to new.to status h
+
+-- how a play goes
+abbrev pub Goes : {S D : Type 0} → Option (List ℕ) → ℕ → Ends S D → Ends S D → ℕ → List Entry → Type 0
+Goes log size old new status h = IsUnread old new status h ⊎ IsRead log size old new status h
+
+-- over a log a fault that its bytes show gives its refusal's status, unless the drive's count rose or memory ran out
+abbrev pub FollowsLog : Option (List ℕ) → Drive → Drive → ℕ → Type 0
+FollowsLog None old new status = ⊤
+FollowsLog (Some file) old new status = (bytes : List ℕ) (fault : OpenFault) → old.bytes ≡ Some bytes → IsInBytes fault → IsFault width most_played bytes fault → (Rose old.faults new.faults → ⊥)
+    → (status ≡ status_of (log_refusal fault)) ⊎ (status ≡ 9)
+
+-- there is no log, or a good one
+abbrev pub IsGood : Option (List ℕ) → Drive → Drive → Type 0
+IsGood None old new = ⊤
+IsGood (Some file) old new = IsGoodLog old new
+
+-- What `play` promises. Bad input gives its refusal's status, and good input over a bad log that log's, unless a count rose or memory ran out.
+-- Good input, a good log where there is one, and no fault give all lines, unless memory ran out.
+pub record Plays {S D : Type 0} (log : Option (List ℕ)) (size : ℕ) (old new : Ends S D) (status : ℕ) (h : List Entry) : Type 0 where
+  pub goes : Goes log size old new status h
+  pub input : (bytes : List ℕ) (why : Refusal) → old.input.left ≡ Some bytes → judged bytes ≡ Err why → (status ≡ status_of why) ⊎ ((status ≡ 5) ⊎ (status ≡ 9))
+  pub follows : (bytes : List ℕ) (rows : List InRow) → old.input.left ≡ Some bytes → judged bytes ≡ Ok rows → (Rose old.input.faults new.input.faults → ⊥)
+      → FollowsLog log old.to.drive new.to.drive status
+  pub complete : (bytes : List ℕ) (rows : List InRow) → old.input.left ≡ Some bytes → judged bytes ≡ Ok rows → (Rose old.input.faults new.input.faults → ⊥)
+      → (Rose old.to.output.faults new.to.output.faults → ⊥) → IsGood log old.to.drive new.to.drive → (status ≡ 0) ⊎ (status ≡ 9)

@@ -12,8 +12,8 @@ use Rattle.commit_book.specs.BookView.{BookView}
 use Rattle.commit_book.specs.IsBook.{most_events}
 use Rattle.commit_book.specs.Refusals.{most_cells}
 use Rattle.location_run.specs.Lines.{entries_from}
-use Rattle.location_run.specs.Tidy.{calls_alone, IsTidy, MayBeFull}
-use Rattle.location_run.specs.Stops.{StopsAt}
+use Rattle.location_run.specs.Tidy.{calls_alone, IsTidy, TellsFull}
+use Rattle.location_run.specs.Stops.{StopsAt, IsCallAt}
 use Rattle.location_run.specs.declared.faults.PlayFault.{PlayFault}
 use Rattle.location_run.specs.declared.play.Play.{Play}
 
@@ -28,16 +28,16 @@ pub record NotesRow {I D : Type 0} (old new : BookView I D) (number : ℕ) (row 
   pub entries : new.entries ≡ old.entries ++ Call row.session number row.op ∷ []
   pub count : cells_in new.log ≤ cells_in old.log + 1
 
--- the call has the answer of one list, and the leaf that is told is the first one over the size
+-- the call has the answer of one list, and tells the first leaf over the size
 pub record RepliesTo {I D : Type 0} (w : ℕ) (old new : BookView I D) (number : ℕ) (row : InRow) (answer : Answer) (full : Option (List Bool)) : Type 0 where
   pub notes : NotesRow old new number row
   pub answer_is : answer ≡ answer_of (world_after old.opening.world old.entries) row.op
-  pub full_is : MayBeFull w new full
+  pub full_is : TellsFull w new row.op full
 
 -- one call more, or none, and this fault came
 pub record StopsRow {I D : Type 0} (old new : BookView I D) (number : ℕ) (row : InRow) (fault : PlayFault) : Type 0 where
   pub calls : (calls_alone new.entries ≡ calls_alone old.entries) ⊎ (calls_alone new.entries ≡ calls_alone old.entries ++ Call row.session number row.op ∷ [])
-  pub stops : StopsAt new.entries fault
+  pub stops : StopsAt (IsCallAt old.entries number row) new.entries fault
 
 -- no row was answered, and the log has room
 pub record IsBegun {I D : Type 0} (play : Play I D) : Type 0 where

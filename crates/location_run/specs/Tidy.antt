@@ -7,15 +7,15 @@ use Rattle.plain_list.specs.History.{world_after}
 use Rattle.plain_list.specs.State.{State, state_after, step}
 use Rattle.plain_list.specs.Size.{IsSized, full_leaf}
 use Rattle.kept_log.specs.Journal.{failed_cell, cells_in}
+use Rattle.plain_list.specs.declared.ops.Op.{Op}
+use Rattle.commit_book.specs.Answers.{IsQuery}
 use Rattle.commit_book.specs.BookView.{BookView}
 use Rattle.location_run.specs.Splits.{is_full_leaf}
 
+-- whether an entry is a call
 abbrev pub is_call : Entry → Bool
 is_call (Call session row op) = true
-is_call (Begin number name) = false
-is_call (Install number) = false
-is_call (Abandon number) = false
-is_call (Fail cell lost) = false
+is_call _ = false
 
 -- a history without the steps of splits
 abbrev pub calls_alone : List Entry → List Entry
@@ -44,6 +44,10 @@ abbrev pub MayBeFull : {I D : Type 0} → ℕ → BookView I D → Option (List 
 MayBeFull w book None = ⊤
 MayBeFull w book (Some name) = full_leaf w book.bucket (state_after w book.opening book.entries) ≡ Some name
 
+-- a change or a find tells the first leaf over the size, and a query none
+abbrev pub TellsFull : {I D : Type 0} → ℕ → BookView I D → Op → Option (List Bool) → Type 0
+TellsFull w book op full = (full ≡ full_leaf w book.bucket (state_after w book.opening book.entries)) ⊎ (IsQuery op × (full ≡ None))
+
 -- only splits were made; none began past 4,000,000 entries or 16,000,000 cells
 pub record Tidies {I D : Type 0} (w : ℕ) (old new : BookView I D) : Type 0 where
   pub calls : calls_alone new.entries ≡ calls_alone old.entries
@@ -59,6 +63,11 @@ IsPastRoom book = (4000000 < length book.entries) ⊎ (16000000 < cells_in book.
 abbrev pub SplitsLeaf : {I D : Type 0} → ℕ → BookView I D → BookView I D → Bool → Type 0
 SplitsLeaf w old new true = Tidies w old new × (length old.entries ≤ 4000000) × (length new.entries ≡ length old.entries + 2)
 SplitsLeaf w old new false = (new ≡ old) × IsPastRoom old
+
+-- the leaf that a call told to be split was split, unless there were too many entries or cells
+abbrev pub SplitsTold : {I D : Type 0} → Option (List Bool) → BookView I D → BookView I D → Type 0
+SplitsTold None old new = new ≡ old
+SplitsTold (Some name) old new = (length new.entries ≡ length old.entries + 2) ⊎ IsPastRoom old
 
 -- no leaf can be split for its size, or there are too many entries or cells
 abbrev pub IsSizedOrFull : {I D : Type 0} → ℕ → BookView I D → Type 0

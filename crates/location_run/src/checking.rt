@@ -1,9 +1,13 @@
 //! The command `check`: tells what the log in a file says, and reads alone.
-ghost use Rattle.std.specs.Prelude.{◌≡◌, ◌≤◌, IfOk, IfErr, length};
+ghost use Rattle.std.specs.Prelude.{◌≡◌, ◌≢◌, ◌≤◌, false, IfOk, IfErr, MatchResult, length};
 ghost use Rattle.disk_trait.specs.Drive.{Stays};
 ghost use Rattle.recovery.specs.Found.{IsFound};
-ghost use Rattle.location_run.specs.Checking.{IsCheckingCause, IsDecidedBy, EndsChecking, most_cells, counts_of};
+ghost use Rattle.location_run.specs.Limits.{width, most_cells};
+ghost use Rattle.location_run.specs.Ends.{targets};
+ghost use Rattle.location_run.specs.Status.{status_of};
+ghost use Rattle.location_run.specs.Checking.{IsCheckingCause, IsDecidedBy, EndsChecking, counts_of};
 
+use crate::limits::{MOST_CELLS, WIDTH};
 use crate::log_faults::{attach_refusal, log_refusal};
 use crate::output::written;
 use crate::refusals::put_refusal;
@@ -13,9 +17,6 @@ use io_edge::Sink;
 use recovery::{Seen, inspect};
 use std::alloc::Global;
 
-// How many cells a log may have.
-const MOST_CELLS: u64 = 16_777_216;
-
 /// Tells what the log in a file of this name says, and gives the status.
 pub(crate) fn check_log<K: Sink, D: LogDisk>(
     alloc: Global,
@@ -23,7 +24,7 @@ pub(crate) fn check_log<K: Sink, D: LogDisk>(
     sink: &mut K,
     disk: &mut D,
 ) -> u8
-    ensures ends { EndsChecking (D.drive disk.old) (D.drive disk.new) result (K.taken sink.old) (K.taken sink.new) (K.faults sink.old) (K.faults sink.new) }
+    ensures ends { EndsChecking file.now (targets K.output D.drive sink.old disk.old) (targets K.output D.drive sink.new disk.new) result }
 {
     match find(alloc, file, disk) {
         Ok(seen) => written(write_counts(sink, &counts_of(&seen))),
@@ -32,16 +33,17 @@ pub(crate) fn check_log<K: Sink, D: LogDisk>(
 }
 
 fn find<D: LogDisk>(alloc: Global, file: &str, disk: &mut D) -> Result<Seen, Refusal>
-    ensures found { IfOk result (IsFound 1 most_cells (D.drive disk.old)) }
+    ensures found { IfOk result (IsFound width most_cells (D.drive disk.old)) }
     ensures cause { IfErr result (IsCheckingCause (D.drive disk.old) (D.drive disk.new)) }
     ensures decided { IsDecidedBy most_cells (D.drive disk.old) (D.drive disk.new) result }
+    ensures attached { MatchResult result (λ _. (D.drive disk.new).attached file.now false) (λ why. status_of why ≢ 7 → status_of why ≢ 9 → (D.drive disk.new).attached file.now false) }
     ensures stays { Stays (D.drive disk.old) (D.drive disk.new) }
     ensures later { (D.drive disk.old).faults ≤ (D.drive disk.new).faults }
 {
     if let Err(fault) = disk.attach(alloc, file, false) {
         return Err(attach_refusal(fault));
     }
-    match inspect(alloc, disk, 1, MOST_CELLS) {
+    match inspect(alloc, disk, WIDTH, MOST_CELLS) {
         Ok(seen) => Ok(seen),
         Err(fault) => Err(log_refusal(fault)),
     }

@@ -1,21 +1,19 @@
 //! The rows of a source, or why there is nothing to play.
 ghost use Rattle.std.specs.Prelude.{◌≡◌, ◌≢◌, ◌≤◌, List, [], ℕ, Some, Ok, Err, IfOk, IfErr, length};
-ghost use Rattle.causes.specs.Causes.{Rose};
+ghost use Rattle.location_run.specs.Limits.{most_bytes};
 ghost use Rattle.location_run.specs.Judged.{judged, first_other, refusal_of};
-ghost use Rattle.location_run.specs.Playing.{IsInputCause};
+ghost use Rattle.location_run.specs.Playing.{IsInputCause, Reads};
 
+use crate::limits::MOST_BYTES;
 use csv_rows::{InRow, Refusal, Rows, RowsFault, read_rows};
 use io_edge::{ReadFault, Source, read_all};
 use std::alloc::Global;
 
-// How many bytes an input may have.
-const MOST_BYTES: usize = 16_777_216;
-
 /// The rows of the source. The order of refusals: source, length of the input, rows.
 pub(crate) fn read_judged<S: Source>(alloc: Global, source: &mut S) -> Result<Rows, Refusal>
-    ensures rows { IfOk result (λ rows. (bytes : List ℕ) → S.left source.old ≡ Some bytes → (judged bytes ≡ Ok rows) × (S.left source.new ≡ Some [])) }
-    ensures cause { IfErr result (IsInputCause (S.left source.old) (Rose (S.faults source.old) (S.faults source.new))) }
-    ensures later { S.faults source.old ≤ S.faults source.new }
+    ensures rows { IfOk result (Reads (S.input source.old) (S.input source.new)) }
+    ensures cause { IfErr result (IsInputCause (S.input source.old) (S.input source.new)) }
+    ensures calm { IfErr result (λ why. why ≢ Refusal.Source → (S.input source.new).faults ≡ (S.input source.old).faults) }
 {
     match read_all(alloc, source, MOST_BYTES) {
         Ok(bytes) => judge(alloc, bytes.as_slice()),
@@ -27,7 +25,7 @@ pub(crate) fn read_judged<S: Source>(alloc: Global, source: &mut S) -> Result<Ro
 
 // The rows of an input that isn't too long, where all are of session 1.
 fn judge(alloc: Global, bytes: &[u8]) -> Result<Rows, Refusal>
-    requires { length bytes.now ≤ 16777216 }
+    requires { length bytes.now ≤ most_bytes }
     ensures rows { IfOk result (λ rows. judged bytes.now ≡ Ok rows) }
     ensures cause { IfErr result (λ why. why ≢ Refusal.Memory → judged bytes.now ≡ Err why) }
 {

@@ -13,6 +13,7 @@
 mod checking;
 mod faults;
 mod input;
+mod limits;
 mod log_book;
 mod log_faults;
 mod making;
@@ -20,7 +21,6 @@ mod outcome;
 mod output;
 mod play;
 mod play_book;
-mod play_log;
 mod playing;
 mod queries;
 mod refusals;

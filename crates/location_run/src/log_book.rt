@@ -2,20 +2,19 @@
 ghost use Rattle.std.specs.Prelude.{◌≡◌, ◌≤◌, Some, None, IfOk, IfErr};
 ghost use Rattle.kept_log.specs.Kept.{IsOpened, found_state};
 ghost use Rattle.recovery.specs.Found.{IsFound};
-ghost use Rattle.location_run.specs.Origin.{most_played};
-ghost use Rattle.location_run.specs.Playing.{IsNewBook, OpensBook, IsNotOpened};
+ghost use Rattle.location_run.specs.Limits.{width, most_played};
+ghost use Rattle.location_run.specs.Books.{IsNewBook, OpensBook};
+ghost use Rattle.location_run.specs.Playing.{IsNotOpened};
 
+use crate::limits::{MOST_PLAYED, StoreIndex, WIDTH};
 use crate::log_faults::{attach_refusal, log_refusal};
 use crate::making::Unmade;
 use commit_book::Book;
 use csv_rows::Refusal;
 use disk_trait::LogDisk;
-use flat_index::FlatIndex;
+use plain_list::World;
 use recovery::{OpenRefused, Opened, open};
 use std::alloc::Global;
-
-// How many cells a log may have over which rows are played.
-const MOST_PLAYED: u64 = 16_000_000;
 
 /// A book over the log in a file of this name, with buckets of this size.
 pub(crate) fn open_book<D: LogDisk>(
@@ -23,7 +22,7 @@ pub(crate) fn open_book<D: LogDisk>(
     file: &str,
     size: u32,
     mut disk: D,
-) -> Result<Book<FlatIndex, D>, Unmade<D>>
+) -> Result<Book<StoreIndex, D>, Unmade<D>>
     ensures opened { IfOk result (OpensBook D.drive (D.drive disk) size) }
     ensures new { IfOk result (λ b. IsNewBook b) }
     ensures refused { IfErr result (λ e. IsNotOpened (D.drive disk) (D.drive e.disk) e.why) }
@@ -32,7 +31,7 @@ pub(crate) fn open_book<D: LogDisk>(
         let why = attach_refusal(fault);
         return Err(Unmade { disk, why });
     }
-    match open(alloc, disk, 1, MOST_PLAYED) {
+    match open(alloc, disk, WIDTH, MOST_PLAYED) {
         Ok(opened) => book_of(alloc, opened, size),
         Err(OpenRefused { disk, cause }) => {
             let why = log_refusal(cause);
@@ -46,10 +45,10 @@ fn book_of<D: LogDisk>(
     alloc: Global,
     opened: Opened<D>,
     size: u32,
-) -> Result<Book<FlatIndex, D>, Unmade<D>>
+) -> Result<Book<StoreIndex, D>, Unmade<D>>
     requires log { (opened.log.cells ≡ opened.seen.cells) × (opened.log.failed ≡ None) }
-    requires found { IsFound 1 most_played (D.drive opened.start.value) opened.seen }
-    requires ready { IsOpened 1 (found_state opened.seen) (D.drive opened.start.value) (D.drive opened.log.disk) }
+    requires found { IsFound width most_played (D.drive opened.start.value) opened.seen }
+    requires ready { IsOpened width (found_state opened.seen) (D.drive opened.start.value) (D.drive opened.log.disk) }
     requires later { (D.drive opened.start.value).faults ≤ (D.drive opened.log.disk).faults }
     ensures opening { IfOk result (λ b. (b.opening ≡ found_state opened.seen) × (b.bucket ≡ size)) }
     ensures log { IfOk result (λ b. b.log ≡ Some (record { disk = opened.log.disk; cells = opened.log.cells; failed = None; start = opened.start.value; first = opened.log.cells })) }

@@ -1,8 +1,12 @@
 //! The command `init`: makes a log in a file.
-ghost use Rattle.std.specs.Prelude.{◌≡◌, IfOk, IfErr, MatchResult};
-ghost use Rattle.recovery.specs.Making.{Makes, KeepsSmall};
-ghost use Rattle.location_run.specs.Making.{IsMakingCause, EndsMaking};
+ghost use Rattle.std.specs.Prelude.{◌≡◌, ◌≢◌, true, IfOk, IfErr, MatchResult};
+ghost use Rattle.recovery.specs.Making.{Makes};
+ghost use Rattle.location_run.specs.Limits.{width};
+ghost use Rattle.location_run.specs.Ends.{targets};
+ghost use Rattle.location_run.specs.Status.{status_of};
+ghost use Rattle.location_run.specs.Making.{IsMakingCause, LeavesFile, EndsMaking};
 
+use crate::limits::WIDTH;
 use crate::log_faults::{attach_refusal, making_refusal};
 use crate::output::written;
 use crate::refusals::put_refusal;
@@ -33,7 +37,7 @@ pub(crate) fn make_log<K: Sink, D: LogDisk>(
     sink: &mut K,
     disk: D,
 ) -> Drove<D>
-    ensures ends { EndsMaking (D.drive disk) (D.drive result.disk) result.status (K.taken sink.old) (K.taken sink.new) (K.faults sink.old) (K.faults sink.new) }
+    ensures ends { EndsMaking file.now (targets K.output D.drive sink.old disk) (targets K.output D.drive sink.new result.disk) result.status }
 {
     match make_in(alloc, file, disk) {
         Ok(disk) => {
@@ -48,15 +52,16 @@ pub(crate) fn make_log<K: Sink, D: LogDisk>(
 }
 
 fn make_in<D: LogDisk>(alloc: Global, file: &str, mut disk: D) -> Result<D, Unmade<D>>
-    ensures made { IfOk result (λ new. Makes 1 (D.drive disk) (D.drive new)) }
+    ensures made { IfOk result (λ new. Makes width (D.drive disk) (D.drive new)) }
     ensures cause { IfErr result (λ e. IsMakingCause (D.drive disk) (D.drive e.disk) e.why) }
-    ensures small { MatchResult result (λ new. KeepsSmall (D.drive disk) (D.drive new)) (λ e. KeepsSmall (D.drive disk) (D.drive e.disk)) }
+    ensures attached { MatchResult result (λ new. (D.drive new).attached file.now true) (λ e. status_of e.why ≢ 7 → status_of e.why ≢ 9 → (D.drive e.disk).attached file.now true) }
+    ensures leaves { MatchResult result (λ new. LeavesFile (D.drive disk) (D.drive new)) (λ e. LeavesFile (D.drive disk) (D.drive e.disk)) }
 {
     if let Err(fault) = disk.attach(alloc, file, true) {
         let why = attach_refusal(fault);
         return Err(Unmade { disk, why });
     }
-    match init(disk, 1) {
+    match init(disk, WIDTH) {
         Ok(disk) => Ok(disk),
         Err(InitRefused { disk, cause }) => {
             let why = making_refusal(cause);

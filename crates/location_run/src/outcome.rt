@@ -12,10 +12,3 @@ pub struct Outcome<D: Drop> {
     pub other: D,
     pub events: Entries,
 }
-
-/// How the rows of a run end: a status and a history.
-#[derive(Drop)]
-pub(crate) struct Ended {
-    pub(crate) status: u8,
-    pub(crate) events: Entries,
-}

@@ -13,8 +13,8 @@ use plain_list::Answer;
 /// Writes the first line, and a line for each reply, whose row and place are its number.
 pub(crate) fn write_lines<K: Sink>(sink: &mut K, replies: &[Answer]) -> Result<(), SinkFault>
     requires { length replies.now ≤ 65536 }
-    ensures bytes { Puts (K.taken sink.old) (K.taken sink.new) (title_line ++ lines_from 1 replies.now) result }
-    ensures cause { Counts (K.faults sink.old) (K.faults sink.new) result }
+    ensures bytes { Puts (K.output sink.old).taken (K.output sink.new).taken (title_line ++ lines_from 1 replies.now) result }
+    ensures cause { Counts (K.output sink.old).faults (K.output sink.new).faults result }
 {
     write_title(sink)?;
     for (i, reply) in replies.iter().enumerate() {

@@ -5,6 +5,7 @@ ghost use Rattle.commit_book.specs.IsBook.{SameOrigin};
 ghost use Rattle.csv_rows.specs.InRows.{AreInRows};
 ghost use Rattle.location_run.specs.Plays.{IsBegun, IsPlay, HasCalled};
 ghost use Rattle.location_run.specs.Stops.{StopsAt};
+ghost use Rattle.location_run.specs.LostSteps.{IsNextStep};
 ghost use Rattle.location_run.specs.Tidy.{IsSizedOrFull};
 
 use crate::faults::PlayFault;
@@ -42,7 +43,7 @@ pub(crate) fn answer_rows<I: Index, D: LogDisk, L: Ledger>(
     ensures all { OnOk result (IsPlay I.WIDTH rows.now play.new) }
     ensures sized { OnOk result (IsSizedOrFull I.WIDTH play.new.book) }
     ensures part { OnErr result (HasCalled rows.now play.new.book.entries) }
-    ensures fault { IfErr result (StopsAt play.new.book.entries) }
+    ensures fault { IfErr result (StopsAt (IsNextStep I.WIDTH play.old.book.opening rows.now) play.new.book.entries) }
     ensures origin { SameOrigin play.old.book play.new.book }
 {
     let mut steps = Steps::<L>::new(blank);
@@ -80,7 +81,7 @@ impl<I: Index, D: LogDisk> Play<I, D> {
         requires world { IsWorld self.old.book.opening.world }
         ensures ok { OnOk result (IsPlay I.WIDTH (take (i + 1) rows.now) self.new) }
         ensures part { OnErr result (HasCalled rows.now self.new.book.entries) }
-        ensures fault { IfErr result (StopsAt self.new.book.entries) }
+        ensures fault { IfErr result (StopsAt (IsNextStep I.WIDTH self.old.book.opening rows.now) self.new.book.entries) }
         ensures origin { SameOrigin self.old.book self.new.book }
     {
         let reply = answer_row(alloc, &mut self.book, i as u32 + 1, &rows[i], steps)?;

@@ -1,64 +1,147 @@
-//! The command `play`: answers the rows of a source, over no log.
-ghost use Rattle.std.specs.Prelude.{◌≡◌, ◌≢◌, ◌≤◌, ◌⊎◌, List, ℕ, Some, None, Ok, length, ⊤};
-ghost use Rattle.causes.specs.Causes.{Rose};
+//! The command `play`: answers the rows of a source, and over a log keeps what they change.
+ghost use Rattle.std.specs.Prelude.{◌≡◌, true, [], Some, None, is_some};
 ghost use Rattle.csv_rows.specs.InRows.{AreInRows};
-ghost use Rattle.location_run.specs.Status.{WritesLines};
-ghost use Rattle.location_run.specs.Origin.{new_origin};
-ghost use Rattle.location_run.specs.Splits.{IsSettled};
-ghost use Rattle.location_run.specs.Ending.{EndsRefused};
-ghost use Rattle.location_run.specs.Playing.{IsInputCause, EndsRows};
-ghost use Rattle.location_run.specs.Run.{AnswersFrom, PlaysOneList, FollowsInput, IsComplete};
+ghost use Rattle.location_run.specs.Ends.{ends, targets};
+ghost use Rattle.location_run.specs.Taking.{Refuses};
+ghost use Rattle.location_run.specs.Asked.{file_of};
+ghost use Rattle.location_run.specs.Playing.{Goes, PlaysRows};
 
 use crate::input::read_judged;
-use crate::outcome::Ended;
-use crate::play_book::play_book;
-use crate::refusals::refuse;
+use crate::limits::StoreIndex;
+use crate::log_book::open_book;
+use crate::making::Unmade;
+use crate::play_book::{BookEnd, play_book};
+use crate::refusals::put_refusal;
+use crate::words::Command;
 use commit_book::Book;
 use csv_rows::{InRow, Refusal};
 use disk_trait::LogDisk;
-use flat_index::FlatIndex;
 use io_edge::{Sink, Source};
 use plain_list::Entries;
 use std::alloc::Global;
 
-/// Plays the rows of a source over no log, with buckets of this size.
-pub(crate) fn play_source<S: Source, K: Sink, D: LogDisk>(
+/// How a play ends: a status, a history, and the drive back.
+#[derive(Drop)]
+pub(crate) struct Played<D: Drop> {
+    pub(crate) status: u8,
+    pub(crate) events: Entries,
+    pub(crate) disk: D,
+}
+
+/// Plays the rows of a source, over the log in a file of this name or over none, with buckets of this size.
+pub(crate) fn play<S: Source, K: Sink, D: LogDisk>(
     alloc: Global,
+    log: Option<&str>,
     size: u32,
     source: &mut S,
     sink: &mut K,
-) -> Ended
-    ensures one_list { PlaysOneList (λ o. o ≡ new_origin) (S.left source.old) (S.left source.new) result.events result.status (K.taken sink.old) (K.taken sink.new) }
-    ensures splits { WritesLines result.status → IsSettled size new_origin result.events }
-    ensures refused { (WritesLines result.status → ⊥) → EndsRefused (IsInputCause (S.left source.old) (Rose (S.faults source.old) (S.faults source.new))) result.status (K.taken sink.old) (K.taken sink.new) (K.faults sink.old) (K.faults sink.new) }
-    ensures accepted { result.status ≢ 2 }
-    ensures undriven { result.status ≢ 7 }
-    ensures input { (input : List ℕ) → S.left source.old ≡ Some input → FollowsInput ⊥ ⊥ input result.status }
-    ensures source { result.status ≡ 5 → Rose (S.faults source.old) (S.faults source.new) }
-    ensures sink { result.status ≡ 6 → Rose (K.faults sink.old) (K.faults sink.new) }
-    ensures complete { IsComplete (S.left source.old) (Rose (S.faults source.old) (S.faults source.new)) (Rose (K.faults sink.old) (K.faults sink.new)) ⊤ result.status }
+    disk: D,
+) -> Played<D>
+    ensures goes { Goes (file_of (Command.Play log.entry size)) size (ends S.input K.output D.drive source.old sink.old disk)
+        (ends S.input K.output D.drive source.new sink.new result.disk) result.status result.events }
 {
     match read_judged(alloc, source) {
-        Ok(rows) => play_new::<K, D>(alloc, rows.as_slice(), size, sink),
-        Err(refusal) => refuse(&refusal, Entries::empty(alloc), sink),
+        Ok(rows) => play_rows(alloc, rows.as_slice(), log, size, sink, disk),
+        Err(why) => refuse_on(alloc, &why, sink, disk),
     }
 }
 
-// Plays rows over a new book.
-fn play_new<K: Sink, D: LogDisk>(alloc: Global, rows: &[InRow], size: u32, sink: &mut K) -> Ended
+// Plays rows that were read.
+fn play_rows<K: Sink, D: LogDisk>(
+    alloc: Global,
+    rows: &[InRow],
+    log: Option<&str>,
+    size: u32,
+    sink: &mut K,
+    disk: D,
+) -> Played<D>
     requires { AreInRows rows.now }
-    ensures answers { AnswersFrom (λ o. o ≡ new_origin) rows.now result.events result.status (K.taken sink.old) (K.taken sink.new) }
-    ensures ends { EndsRows (λ why. why ≡ Refusal.Memory) result.status (K.taken sink.old) (K.taken sink.new) (K.faults sink.old) (K.faults sink.new) }
-    ensures splits { WritesLines result.status → IsSettled size new_origin result.events }
+    ensures plays { PlaysRows (file_of (Command.Play log.entry size)) size rows.now (targets K.output D.drive sink.old disk)
+        (targets K.output D.drive sink.new result.disk) result.status result.events }
 {
-    match Book::<FlatIndex, D>::fresh(alloc, size) {
+    match log {
+        Some(file) => play_over(alloc, rows, file, size, sink, disk),
+        None => play_new(alloc, rows, size, sink, disk),
+    }
+}
+
+// Plays rows over no log.
+fn play_new<K: Sink, D: LogDisk>(
+    alloc: Global,
+    rows: &[InRow],
+    size: u32,
+    sink: &mut K,
+    disk: D,
+) -> Played<D>
+    requires { AreInRows rows.now }
+    ensures plays { PlaysRows None size rows.now (targets K.output D.drive sink.old disk)
+        (targets K.output D.drive sink.new result.disk) result.status result.events }
+{
+    match Book::<StoreIndex, D>::fresh(alloc, size) {
         Ok(book) => {
-            let played = play_book(alloc, rows, book, sink);
-            Ended {
-                status: played.status,
-                events: played.events,
+            let end = play_book(alloc, rows, book, sink);
+            Played {
+                status: end.status,
+                events: end.events,
+                disk,
             }
         }
-        Err(_) => refuse(&Refusal::Memory, Entries::empty(alloc), sink),
+        Err(_) => refuse_on(alloc, &Refusal::Memory, sink, disk),
+    }
+}
+
+// Plays rows over the log in a file.
+fn play_over<K: Sink, D: LogDisk>(
+    alloc: Global,
+    rows: &[InRow],
+    file: &str,
+    size: u32,
+    sink: &mut K,
+    disk: D,
+) -> Played<D>
+    requires { AreInRows rows.now }
+    ensures plays { PlaysRows (Some file.now) size rows.now (targets K.output D.drive sink.old disk)
+        (targets K.output D.drive sink.new result.disk) result.status result.events }
+{
+    match open_book(alloc, file, size, disk) {
+        Ok(book) => {
+            let end = play_book(alloc, rows, book, sink);
+            with_drive(end)
+        }
+        Err(Unmade { disk, why }) => refuse_on(alloc, &why, sink, disk),
+    }
+}
+
+// The drive, which a book over a log has.
+fn with_drive<D: LogDisk>(end: BookEnd<D>) -> Played<D>
+    requires { is_some end.disk ≡ true }
+    ensures { end ≡ record { status = result.status; events = result.events; disk = Some result.disk } }
+{
+    let BookEnd {
+        status,
+        events,
+        disk,
+    } = end;
+    match disk {
+        Some(disk) => Played {
+            status,
+            events,
+            disk,
+        },
+        None => unreachable!(),
+    }
+}
+
+// Ends a play with a refusal, where no row was answered.
+fn refuse_on<K: Sink, D: LogDisk>(alloc: Global, why: &Refusal, sink: &mut K, disk: D) -> Played<D>
+    ensures none { result.events ≡ [] }
+    ensures disk { result.disk ≡ disk }
+    ensures refused { Refuses why.now result.status (K.output sink.old) (K.output sink.new) }
+{
+    let status = put_refusal(why, sink);
+    Played {
+        status,
+        events: Entries::empty(alloc),
+        disk,
     }
 }

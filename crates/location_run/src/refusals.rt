@@ -1,30 +1,15 @@
 //! Refusals: their statuses, and their lines.
 ghost use Rattle.std.specs.Prelude.{◌≡◌, ◌≤◌};
-ghost use Rattle.csv_rows.specs.Lines.{refusal_text};
 ghost use Rattle.location_run.specs.Status.{status_of};
-ghost use Rattle.location_run.specs.Taking.{TakesLine};
+ghost use Rattle.location_run.specs.Taking.{Refuses};
 
-use crate::outcome::Ended;
 use csv_rows::{Refusal, refusal_line};
 use io_edge::Sink;
-use plain_list::Entries;
-
-/// Ends a run with a refusal.
-pub(crate) fn refuse<K: Sink>(refusal: &Refusal, events: Entries, sink: &mut K) -> Ended
-    ensures status { result.status ≡ status_of refusal.now }
-    ensures events { result.events ≡ events }
-    ensures line { TakesLine (refusal_text refusal.now) (K.taken sink.old) (K.taken sink.new) (K.faults sink.old) (K.faults sink.new) }
-    ensures later { K.faults sink.old ≤ K.faults sink.new }
-{
-    let status = put_refusal(refusal, sink);
-    Ended { status, events }
-}
 
 /// Puts the line of a refusal, and gives its status, which stays where the line can't be written.
 pub(crate) fn put_refusal<K: Sink>(refusal: &Refusal, sink: &mut K) -> u8
-    ensures status { result ≡ status_of refusal.now }
-    ensures line { TakesLine (refusal_text refusal.now) (K.taken sink.old) (K.taken sink.new) (K.faults sink.old) (K.faults sink.new) }
-    ensures later { K.faults sink.old ≤ K.faults sink.new }
+    ensures refused { Refuses refusal.now result (K.output sink.old) (K.output sink.new) }
+    ensures later { (K.output sink.old).faults ≤ (K.output sink.new).faults }
 {
     let status = status_of(refusal);
     let _ = refusal_line(sink, refusal);

@@ -5,7 +5,8 @@ ghost use Rattle.plain_list.specs.State.{state_after};
 ghost use Rattle.commit_book.specs.IsBook.{SameOrigin};
 ghost use Rattle.location_run.specs.Room.{IsRoom, IsRoomOrFault};
 ghost use Rattle.location_run.specs.Stops.{Stops, book_fault};
-ghost use Rattle.location_run.specs.Tidy.{IsTidy, MayBeFull, Tidies, SplitsLeaf, IsSizedOrFull};
+ghost use Rattle.location_run.specs.LostSteps.{IsSplitStep};
+ghost use Rattle.location_run.specs.Tidy.{IsTidy, MayBeFull, Tidies, SplitsLeaf, SplitsTold, IsSizedOrFull};
 
 use crate::faults::{PlayFault, play_fault};
 use commit_book::{Book, BookFault};
@@ -22,7 +23,7 @@ pub(crate) fn settle<I: Index, D: LogDisk>(
 ) -> Result<(), PlayFault>
     requires { IsTidy I.WIDTH book.old }
     ensures ok { OnOk result (Tidies I.WIDTH book.old book.new × IsSizedOrFull I.WIDTH book.new) }
-    ensures err { IfErr result (Stops book.old.entries book.new.entries) }
+    ensures err { IfErr result (Stops (IsSplitStep I.WIDTH book.old.opening) book.old.entries book.new.entries) }
     ensures origin { SameOrigin book.old book.new }
 {
     while let Some(name) = book.full() {
@@ -42,7 +43,8 @@ pub(crate) fn split_full<I: Index, D: LogDisk>(
     requires tidy { IsTidy I.WIDTH book.old }
     requires full { MayBeFull I.WIDTH book.old full }
     ensures ok { OnOk result (Tidies I.WIDTH book.old book.new) }
-    ensures err { IfErr result (Stops book.old.entries book.new.entries) }
+    ensures told { OnOk result (SplitsTold full book.old book.new) }
+    ensures err { IfErr result (Stops (IsSplitStep I.WIDTH book.old.opening) book.old.entries book.new.entries) }
     ensures origin { SameOrigin book.old book.new }
 {
     match full {
@@ -63,7 +65,7 @@ fn split_leaf<I: Index, D: LogDisk>(
     requires tidy { IsTidy I.WIDTH book.old }
     requires full { full_leaf I.WIDTH book.old.bucket (state_after I.WIDTH book.old.opening book.old.entries) ≡ Some name.now }
     ensures ok { IfOk result (SplitsLeaf I.WIDTH book.old book.new) }
-    ensures err { IfErr result (Stops book.old.entries book.new.entries) }
+    ensures err { IfErr result (Stops (IsSplitStep I.WIDTH book.old.opening) book.old.entries book.new.entries) }
     ensures origin { SameOrigin book.old book.new }
 {
     let ticket = match book.begin(name) {

@@ -17,10 +17,8 @@ pub(crate) enum Command<'a> {
     Init(&'a str),
     /// To inspect the log in this file.
     Check(&'a str),
-    /// To play rows over no log, with buckets of this size.
-    Play(u32),
-    /// To play rows over the log in this file, with buckets of this size.
-    PlayLog(&'a str, u32),
+    /// To play rows, over the log in this file or over none, with buckets of this size.
+    Play(Option<&'a str>, u32),
 }
 
 /// The word in the place of a log's file, and the bucket size.
@@ -80,10 +78,10 @@ fn play_in(words: &[String]) -> Option<Command<'_>>
         return None;
     };
     if play.log == "-" {
-        return Some(Command::Play(play.size));
+        return Some(Command::Play(None, play.size));
     }
     if is_file_name(play.log) {
-        return Some(Command::PlayLog(play.log, play.size));
+        return Some(Command::Play(Some(play.log), play.size));
     }
     None
 }

@@ -1,10 +1,13 @@
 //! Runs the words of the command line over standard input and output and two files of the machine, and ends with the status.
 #![tactic(auto)]
 
+ghost use Rattle.std.specs.Prelude.{◌≡◌};
+ghost use Rattle.std.specs.Process.{exit_status};
+
 use csv_rows::{Refusal, refusal_line};
 use disk_file::FileDisk;
 use io_edge::{StdSink, StdSource};
-use location_run::run;
+use location_run::{Outcome, run};
 use std::process::ExitCode;
 use std::{env, io};
 
@@ -26,6 +29,13 @@ fn main(rt: HostRuntime) -> ExitCode {
         disk,
         other,
     );
+    exit_code(&outcome)
+}
+
+// The program ends with the status of its run.
+fn exit_code<D: Drop>(outcome: &Outcome<D>) -> ExitCode
+    ensures { exit_status result ≡ outcome.now.status }
+{
     ExitCode::from(outcome.status)
 }
 

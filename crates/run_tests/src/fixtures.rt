@@ -80,7 +80,7 @@ pub fn run_over(
 ) -> Result<Left, Fail> {
     let words = words(alloc, all)?;
     let mut source = MemSource::new(input.as_bytes().to_vec(alloc)?, faults.reads.to_vec(alloc)?);
-    let mut sink = MemSink::new(alloc, 1_024, faults.puts.to_vec(alloc)?)?;
+    let mut sink = MemSink::new(alloc, 65_536, faults.puts.to_vec(alloc)?)?;
     let other = MemDisk::new(alloc, Vec::new(alloc), 0, 0, Vec::new(alloc))?;
     let Outcome {
         status,

@@ -1,7 +1,7 @@
 //! Tests of the top call over sources, sinks and drives in memory, and no other code.
 //!
 //! Worked rows and their lines, without a log and over one, the commands over a log with worked files, each refusal's line and status, faults
-//! of all ends, and which files are attached.
+//! of all ends, the bytes that rows leave, and which files are attached.
 #![tactic(auto)]
 
 #[cfg(test)]
@@ -16,3 +16,5 @@ mod log_commands;
 mod logged;
 #[cfg(test)]
 mod tests;
+#[cfg(test)]
+mod worked;

@@ -16,10 +16,13 @@ fn ask(alloc: Global, command: &str, file: &[u8], faults: &Faults<'_>) -> Result
 #[test]
 fn init_makes_a_log_of_no_cells(rt: HostRuntime) -> Result<(), Fail> {
     let alloc = rt.alloc();
-    let left = ask(alloc, "init", b"", &NO_FAULTS)?;
-    assert_eq!(rt; left.status, 0);
-    assert_eq!(rt; left.taken.as_slice(), b"made\n".as_slice());
-    assert_eq!(rt; left.disk.bytes(), EMPTY_LOG);
+    let short: &[u8] = b"MDLOCLOG\x01\x01\0\0\0\0\0\0\x01";
+    for file in [b"", short] {
+        let left = ask(alloc, "init", file, &NO_FAULTS)?;
+        assert_eq!(rt; left.status, 0);
+        assert_eq!(rt; left.taken.as_slice(), b"made\n".as_slice());
+        assert_eq!(rt; left.disk.bytes(), EMPTY_LOG);
+    }
     let left = ask(alloc, "init", &[7; 49], &NO_FAULTS)?;
     assert_eq!(rt; left.status, 10);
     assert_eq!(rt; left.taken.as_slice(), b"refused in use 49\n".as_slice());
@@ -34,7 +37,15 @@ fn check_tells_four_lines_or_what_is_wrong(rt: HostRuntime) -> Result<(), Fail> 
     let old = b"MDLOCLOG\x03\x01\0\0\0\0\0\0\0";
     let none: &[u8] = b"cells 0\npoints 0\nleaves 1\nunfinished 0\n";
     let one: &[u8] = b"cells 1\npoints 1\nleaves 1\nunfinished 0\n";
-    let worked: [(&[u8], u8, &[u8]); 5] = [
+    let kind = b"MDLOCLOG\x01\x01\0\0\0\0\0\0\
+        \x01\x09\0\0\0\0\0\0\0\x07\0\0\0\0\0\0\0\0\0\0\0\0\0\0\0\0\0\0\0\0\0\0\
+        \0";
+    let uninstalled = b"MDLOCLOG\x01\x01\0\0\0\0\0\0\
+        \x01\x05\0\0\0\0\0\0\0\x01\0\0\0\0\0\0\0\0\0\0\0\0\0\0\0\0\0\0\0\0\0\0\
+        \0";
+    let worked: [(&[u8], u8, &[u8]); 7] = [
+        (kind, 4, b"refused cell 0 kind\n"),
+        (uninstalled, 4, b"refused cell 0 impossible\n"),
         (EMPTY_LOG, 0, none),
         (PUT_LOG, 0, one),
         (set, 4, b"refused cell 0 short\n"),

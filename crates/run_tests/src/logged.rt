@@ -109,6 +109,7 @@ fn five_ids_on_one_point_leave_133_cells(rt: HostRuntime) -> Result<(), Fail> {
         EMPTY_LOG,
     )?;
     assert_eq!(rt; left.status, 0);
+    assert_eq!(rt; left.events.as_slice().len(), 133);
     assert_eq!(rt; left.disk.bytes().len(), 4_273);
     assert_eq!(rt;
         checked(alloc, left.disk.bytes())?.as_slice(),

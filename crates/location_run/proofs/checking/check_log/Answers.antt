@@ -1,4 +1,4 @@
-use Rattle.std.proofs.Common.{inr}
+use Rattle.std.proofs.Common.{inr, ◌∙◌}
 use Rattle.location_run.proofs.CheckingFacts.{decided-refused}
 use Rattle.location_run.proofs.checking.check_log.Goals as goal
 
@@ -7,8 +7,9 @@ returns-in-Err g c =
     let told = c.put_refusal.ensures in
     record {
       ends = record {
-        ends = inr (c.in-Err.why, c.in-Err.ensures.cause, told.status, told.line);
-        decided = decided-refused _ _ c.in-Err.why _ _ _ _ _ c.in-Err.ensures.decided told.status told.line;
+        ends = inr (c.in-Err.why, c.in-Err.ensures.cause, told.refused);
+        decided = decided-refused _ _ c.in-Err.why _ _ _ c.in-Err.ensures.decided told.refused;
         stays = c.in-Err.ensures.stays;
+        attached = λ seven nine. c.in-Err.ensures.attached (λ e. seven (told.refused.status_is ∙ e)) (λ e. nine (told.refused.status_is ∙ e));
       };
     }

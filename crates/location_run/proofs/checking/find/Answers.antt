@@ -1,7 +1,8 @@
 use Rattle.std.proofs.Common.{Err, sym, subst}
 use Rattle.recovery.specs.declared.seen.Seen.{Seen}
 use Rattle.csv_rows.specs.declared.rows.Refusal.{Refusal}
-use Rattle.location_run.specs.Checking.{IsCheckingCause, IsDecidedBy, most_cells}
+use Rattle.location_run.specs.Limits.{most_cells}
+use Rattle.location_run.specs.Checking.{IsCheckingCause, IsDecidedBy}
 use Rattle.location_run.proofs.DriveSteps.{checking-after, decided-err}
 use Rattle.location_run.proofs.checking.find.Goals as goal
 

@@ -2,4 +2,4 @@ use Rattle.location_run.proofs.DriveSteps.{makes-after}
 use Rattle.location_run.proofs.making.make_in.Goals as goal
 
 pub returns-in-Ok-clause-made : goal.returns-in-Ok-clause-made
-returns-in-Ok-clause-made g c = makes-after (g.D.LogDisk.drive c.args.disk) (g.D.LogDisk.drive c.attach.new.self) (g.D.LogDisk.drive c.in-Ok.disk) c.attach.ensures.stays c.in-Ok.ensures.made
+returns-in-Ok-clause-made g c = makes-after (g.D.LogDisk.drive c.args.disk) (g.D.LogDisk.drive c.attach.new.self) (g.D.LogDisk.drive c.in-Ok.disk) c.in_default.ensures.stays c.in_default.ensures.cause.same c.in-Ok.ensures.made

@@ -1,4 +1,5 @@
-use Rattle.std.proofs.Common.{inr, sym, ◌∙◌, ap}
+use Rattle.std.proofs.Common.{inr, refl, sym, ◌∙◌, ap, subst}
+use Rattle.commit_book.specs.Answers.{IsQuery}
 use Rattle.plain_list.specs.Answer.{answer_of}
 use Rattle.plain_list.specs.History.{world_after}
 use Rattle.location_run.proofs.PlaySteps.{calls-row, going-noted}
@@ -12,7 +13,7 @@ returns-in-Ok-clause-ok g c =
     record {
       notes = seen.ok;
       answer_is = c.in-Ok.ensures world _ c.requires.world seen.index ∙ ap (answer_of world) (sym c.in-Within.is);
-      full_is = tt;
+      full_is = inr (subst IsQuery (sym c.in-Within.is) tt, refl);
     }
 
 pub returns-in_default-clause-err : goal.returns-in_default-clause-err
@@ -31,7 +32,7 @@ returns-in-Ok-near-clause-ok g c =
     record {
       notes = seen.ok;
       answer_is = c.in-Ok-near.ensures world _ c.requires.world seen.index ∙ ap (answer_of world) (sym c.in-Near.is);
-      full_is = tt;
+      full_is = inr (subst IsQuery (sym c.in-Near.is) tt, refl);
     }
 
 pub returns-in_default-near-clause-err : goal.returns-in_default-near-clause-err

@@ -1,8 +1,9 @@
 use Rattle.plain_list.specs.declared.entries.Entry.TheVariants.{Call}
 use Rattle.plain_list.specs.declared.entries.Lost.TheVariants as lost
+use Rattle.std.proofs.Common.{inl, refl}
+use Rattle.location_run.specs.Stops.{IsCallAt}
 use Rattle.location_run.proofs.Origins.{cells-more}
 use Rattle.location_run.proofs.Refused.{Stops-refused}
-use Rattle.location_run.proofs.SplitSteps.{MayBeFull-told}
 use Rattle.location_run.proofs.replies.update.Goals as goal
 
 pub returns-in-Ok-clause-ok : goal.returns-in-Ok-clause-ok
@@ -16,10 +17,10 @@ returns-in-Ok-clause-ok g c =
         count = cells-more g.I.Index.leaves g.D.LogDisk.drive g.I.Index.WIDTH c.args.book.now new (Call row.session c.args.number row.op) c.update.ensures.book done.notes.entries;
       };
       answer_is = done.answer_is;
-      full_is = MayBeFull-told g.I.Index.WIDTH new c.in-Ok.done.full done.full_is;
+      full_is = inl done.full_is;
     }
 
 pub returns-in-Err-clause-err : goal.returns-in-Err-clause-err
 returns-in-Err-clause-err g c =
     let row = c.args.row.now in
-    Stops-refused g.D.LogDisk.drive (lost.Call row.session c.args.number row.op) c.args.book.now c.update.new.self c.in-Err.fault c.play_fault.result c.play_fault.ensures c.requires.room.going c.in-Err.ensures.err
+    Stops-refused g.D.LogDisk.drive (IsCallAt c.args.book.now.entries c.args.number row) (lost.Call row.session c.args.number row.op) c.args.book.now c.update.new.self c.in-Err.fault c.play_fault.result c.play_fault.ensures c.requires.room.going (refl, refl) c.in-Err.ensures.err

@@ -1,4 +1,4 @@
-use Rattle.std.proofs.Common.{◌≡◌, ◌+◌, ◌<◌, ◌++◌, [], ◌∷◌, None, length, length-append, ◌∙◌, ap, arith}
+use Rattle.std.proofs.Common.{◌≡◌, ◌+◌, ◌<◌, ◌++◌, [], ◌∷◌, None, length, length-append, ℕ, ◌∙◌, sym, ap, subst, arith}
 use Rattle.plain_list.specs.declared.entries.Entry.TheVariants.{Begin, Install}
 use Rattle.plain_list.specs.declared.entries.Lost.TheVariants as lost
 use Rattle.plain_list.specs.State.{state_after}
@@ -6,9 +6,10 @@ use Rattle.split_prepare.specs.Prepared.{PreparedView}
 use Rattle.kept_log.specs.Journal.{failed_cell, cells_in}
 use Rattle.commit_book.specs.Refusals.{IsMemoryOrDisk, install_refusal}
 use Rattle.commit_book.proofs.SplitCalls.{begin-full, install-begun}
+use Rattle.location_run.specs.LostSteps.{IsSplitStep}
 use Rattle.location_run.proofs.Origins.{SameOrigin-later, cells-more}
 use Rattle.location_run.proofs.Refused.{free-fault, done-cause, room-or-fault, end_refusal-few, Stops-refused, Stops-behind}
-use Rattle.location_run.proofs.SplitSteps.{room-left, calls-begun, going-begun, SplitsLeaf-installed, SplitsLeaf-no_room, Stops-no_room}
+use Rattle.location_run.proofs.SplitSteps.{room-left, calls-begun, going-begun, may-begin, may-install, SplitsLeaf-installed, SplitsLeaf-no_room, Stops-no_room}
 use Rattle.location_run.proofs.splits.split_leaf.Goals as goal
 
 pub no_room-requires : goal.no_room-requires
@@ -29,8 +30,8 @@ returns-in-Err-clause-ok g c =
 pub returns-in-Err-clause-err : goal.returns-in-Err-clause-err
 returns-in-Err-clause-err g c =
     let old = c.args.book.now in
-    Stops-no_room g.D.LogDisk.drive (lost.Begin ((state_after g.I.Index.WIDTH old.opening old.entries).begun + 1) c.args.name.now) old c.begin.new.self c.in-Err.fault c.no_room.result c.requires.tidy.going
-    c.in-Err.ensures.err c.no_room.ensures
+    Stops-no_room g.D.LogDisk.drive (IsSplitStep g.I.Index.WIDTH old.opening) (lost.Begin ((state_after g.I.Index.WIDTH old.opening old.entries).begun + 1) c.args.name.now) old c.begin.new.self c.in-Err.fault c.no_room.result c.requires.tidy.going
+    (may-begin g.I.Index.WIDTH old.bucket old.opening old.entries c.args.name.now c.requires.full) c.in-Err.ensures.err c.no_room.ensures
 
 pub returns-in_default-clause-err : goal.returns-in_default-clause-err
 returns-in_default-clause-err g c =
@@ -59,13 +60,17 @@ play_fault-requires g c =
 
 pub returns-clause-err : goal.returns-clause-err
 returns-clause-err g c =
-    let old = c.args.book.now.entries in
+    let w = g.I.Index.WIDTH in
+    let old = c.args.book.now in
     let mid = c.begin.new.self in
     let ticket = c.in-Ok.ticket in
     let begun = c.in-Ok.ensures.ok.entries in
-    Stops-behind old mid.entries c.install.new.self.entries c.play_fault.result (calls-begun ticket.number c.args.name.now old mid.entries begun)
-    (Stops-refused g.D.LogDisk.drive (lost.Install _) mid c.install.new.self c.in-Err-install.fault c.play_fault.result c.play_fault.ensures
-    (going-begun ticket.number c.args.name.now old mid.entries c.requires.tidy.going begun) c.in-Err-install.ensures.err)
+    let number = ap (λ (p : PreparedView). p.number) c.in-Ok-prepare.ensures.prepared in
+    Stops-behind (IsSplitStep w old.opening) old.entries mid.entries c.install.new.self.entries c.play_fault.result (calls-begun ticket.number c.args.name.now old.entries mid.entries begun)
+    (Stops-refused g.D.LogDisk.drive (IsSplitStep w old.opening) (lost.Install _) mid c.install.new.self c.in-Err-install.fault c.play_fault.result c.play_fault.ensures
+    (going-begun ticket.number c.args.name.now old.entries mid.entries c.requires.tidy.going begun)
+    (subst (λ (n : ℕ). IsSplitStep w old.opening mid.entries (lost.Install n)) (sym number) (may-install w ticket.number old.opening old.entries mid.entries c.args.name.now c.requires.tidy.ended begun))
+    c.in-Err-install.ensures.err)
 
 pub returns-in-Ok-install-clause-ok : goal.returns-in-Ok-install-clause-ok
 returns-in-Ok-install-clause-ok g c =

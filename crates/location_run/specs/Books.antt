@@ -1,0 +1,60 @@
+-- Books over which rows are played, and what they leave.
+use Rattle.std.specs.Prelude.{◌≡◌, ◌⊎◌, ℕ, ◌≤◌, List, [], length, Option, Some, None}
+use Rattle.std.specs.Option.{option_map}
+use Rattle.disk_trait.specs.Drive.{Drive, Stays}
+use Rattle.plain_list.specs.declared.entries.Entry.{Entry}
+use Rattle.plain_list.specs.State.{State}
+use Rattle.plain_list.specs.World.{IsWorld}
+use Rattle.recovery.specs.declared.seen.OpenFault.{OpenFault}
+use Rattle.recovery.specs.Faults.{IsFault, IsInBytes}
+use Rattle.kept_log.specs.KeptView.{KeptView}
+use Rattle.kept_log.specs.Journal.{failed_cell, cells_in, disk_in, KeepsIn, IsSinceIn}
+use Rattle.commit_book.specs.BookView.{BookView}
+use Rattle.csv_rows.specs.declared.rows.Refusal.{Refusal}
+use Rattle.csv_rows.specs.declared.rows.Refusal.TheVariants as refusal
+use Rattle.location_run.specs.Limits.{width, most_played}
+use Rattle.location_run.specs.declared.faults.PlayFault.{PlayFault}
+use Rattle.location_run.specs.declared.faults.PlayFault.TheVariants as play_fault
+use Rattle.plain_list.specs.declared.entries.Lost.{Lost}
+use Rattle.location_run.specs.LostSteps.{LosesStep}
+use Rattle.location_run.specs.Origin.{Origin, IsFoundOrigin}
+
+-- why rows over a book stop: memory ran out, or the append of a cell failed
+abbrev pub StopsBook : (List Entry → Lost → Type 0) → List Entry → Refusal → Type 0
+StopsBook Step h why = ((why ≡ refusal.Memory) × (failed_cell h ≡ None)) ⊎ ((cell : ℕ) × (why ≡ refusal.Disk (Some cell)) × LosesStep Step h cell)
+
+-- the refusal of that
+abbrev pub play_refusal : PlayFault → Refusal
+play_refusal play_fault.Memory = refusal.Memory
+play_refusal (play_fault.Disk cell) = refusal.Disk (Some cell)
+
+-- a book without entries, where there is room for rows, over a world
+pub record IsNewBook {I D : Type 0} (b : BookView I D) : Type 0 where
+  pub entries : b.entries ≡ []
+  pub few : cells_in b.log ≤ most_played
+  pub world : IsWorld b.opening.world
+
+-- the log that a book leaves keeps the history since the book began, and this is its drive
+pub record LeavesLog {D : Type 0} (drive : D → Drive) (s : State) (h : List Entry) (old : Option (KeptView D)) (disk : Option D) : Type 0 where
+  pub log : Option (KeptView D)
+  pub since : IsSinceIn old log
+  pub keeps : KeepsIn drive width s h log
+  pub disk_is : disk ≡ disk_in log
+
+-- how many cells a book's log has, where there is one
+abbrev pub count_in : {D : Type 0} → Option (KeptView D) → Option ℕ
+count_in {D = D} log = option_map (λ (l : KeptView D). l.cells) log
+
+-- a book over the log that stood on a drive, whose bytes show no fault
+pub record OpensBook {I D : Type 0} (drive : D → Drive) (old : Drive) (size : ℕ) (b : BookView I D) : Type 0 where
+  pub bucket : b.bucket ≡ size
+  pub log : KeptView D
+  pub log_is : b.log ≡ Some log
+  pub from : Origin
+  pub found : IsFoundOrigin old from
+  pub state : b.opening ≡ from.state
+  pub count : count_in b.log ≡ option_map length from.first
+  pub first : log.first ≡ log.cells
+  pub stays : Stays old (drive log.start)
+  pub later : old.faults ≤ (drive log.start).faults
+  pub shows : (bytes : List ℕ) (fault : OpenFault) → old.bytes ≡ Some bytes → IsInBytes fault → IsFault width most_played bytes fault → ⊥

@@ -1,0 +1,17 @@
+//! The limits of a run, and the form of its index.
+use flat_index::FlatIndex;
+
+/// The index of a play's book.
+pub(crate) type StoreIndex = FlatIndex;
+
+/// How many bits a leaf's children have more in their names.
+pub(crate) const WIDTH: u8 = 1;
+
+/// How many bytes an input may have.
+pub(crate) const MOST_BYTES: usize = 16_777_216;
+
+/// How many cells a log may have that is inspected.
+pub(crate) const MOST_CELLS: u64 = 16_777_216;
+
+/// How many cells a log may have over which rows are played.
+pub(crate) const MOST_PLAYED: u64 = 16_000_000;
