@@ -364,3 +364,24 @@ fn rows_are_written_as_they_are_read(rt: HostRuntime) -> Result<(), Fail> {
     assert_eq!(rt; sink.bytes.as_slice(), text);
     Ok(())
 }
+
+#[test]
+fn a_fault_of_rows_tells_its_place(rt: HostRuntime) -> Result<(), Fail> {
+    let table = [
+        (
+            RowsFault::Header,
+            "the header isn't `session,op,id,x,y,a,b`",
+        ),
+        (RowsFault::Csv { row: 3 }, "row 3 hasn't seven fields"),
+        (
+            RowsFault::Field { row: 3, column: 6 },
+            "row 3: column 6 breaks its rule",
+        ),
+        (RowsFault::TooMany, "more than 65,536 rows"),
+        (RowsFault::Memory, "out of memory"),
+    ];
+    for (fault, text) in table {
+        assert_eq!(rt; format!(in rt.alloc(); "{fault}")?.as_str(), text);
+    }
+    Ok(())
+}
