@@ -1,5 +1,5 @@
 -- How rows end that are played over a book.
-use Rattle.std.proofs.Common.{◌≡◌, ◌⊎◌, inl, inr, ◌∙◌, ℕ, ◌<◌, ◌≤◌, true, List, [], ◌++◌, length, Option, Some, None, Result, Ok, Err, refl, sym, ap, subst, arith}
+use Rattle.std.proofs.Common.{◌≡◌, ◌⊎◌, inl, inr, ◌∙◌, ℕ, ◌<◌, ◌≤◌, true, false, List, [], ◌++◌, length, Option, Some, None, Result, Ok, Err, refl, sym, ap, subst, arith}
 use Rattle.std.specs.Prelude.{IfOk}
 use Rattle.disk_trait.specs.Drive.{Drive, Stays}
 use Rattle.plain_list.specs.declared.ops.Answer.{Answer}
@@ -33,10 +33,10 @@ use Rattle.location_run.proofs.TidySteps.{stray_begins-tidy}
 use Rattle.location_run.proofs.Ends.{answers-all}
 
 -- a book over what was found
-pub opens-book : {I D : Type 0} (drive : D → Drive) (old : Drive) (size : ℕ) (b : BookView I D) (log : KeptView D) (seen : Seen) (start : D) → Stays old (drive start) → old.faults ≤ (drive start).faults
+pub opens-book : {I D : Type 0} (drive : D → Drive) (file : List ℕ) (old : Drive) (size : ℕ) (b : BookView I D) (log : KeptView D) (seen : Seen) (start : D) → Stays old (drive start) → (drive start).faults ≡ old.faults → (drive start).attached file false
     → IsFound width most_played (drive start) seen → ((bytes : List ℕ) (fault : OpenFault) → (drive start).bytes ≡ Some bytes → IsInBytes fault → IsFault width most_played bytes fault → ⊥)
-    → log.first ≡ log.cells → log.start ≡ start → log.cells ≡ seen.cells → b.opening ≡ found_state seen → b.bucket ≡ size → b.log ≡ Some log → OpensBook drive old size b
-opens-book {D = D} drive old size b log seen start stays later found shows first here count opening bucket log_is = record {
+    → log.first ≡ log.cells → log.start ≡ start → log.cells ≡ seen.cells → b.opening ≡ found_state seen → b.bucket ≡ size → b.log ≡ Some log → OpensBook drive file old size b
+opens-book {D = D} drive file old size b log seen start stays calm attached found shows first here count opening bucket log_is = record {
   bucket = bucket;
   log = log;
   log_is = log_is;
@@ -52,7 +52,8 @@ opens-book {D = D} drive old size b log seen start stays later found shows first
   count = ap (λ (l : Option (KeptView D)). count_in l) log_is ∙ ap (λ (n : ℕ). Some n) (count ∙ found.finds.count);
   first = first;
   stays = subst (λ (d : D). Stays old (drive d)) (sym here) stays;
-  later = subst (λ (d : D). old.faults ≤ (drive d).faults) (sym here) later;
+  calm = subst (λ (d : D). (drive d).faults ≡ old.faults) (sym here) calm;
+  attached = subst (λ (d : D). (drive d).attached file false) (sym here) attached;
   shows = λ bytes fault told shown at. shows bytes fault (stays.bytes ∙ told) shown at;
 }
   where

@@ -1,5 +1,5 @@
 -- How rows end that are played over a book.
-use Rattle.std.proofs.Common.{◌≡◌, ◌≢◌, inl, inr, ◌∙◌, ℕ, ◌+◌, ◌≤◌, List, length, Option, Some, None, is_some, refl, sym, ap, subst, arith}
+use Rattle.std.proofs.Common.{◌≡◌, ◌≢◌, inl, inr, ◌∙◌, ℕ, ◌+◌, ◌≤◌, false, List, length, Option, Some, None, is_some, refl, sym, ap, subst, arith}
 use Rattle.std.specs.Option.{option_map}
 use Rattle.causes.specs.Causes.{Rose}
 use Rattle.disk_trait.specs.Drive.{Drive}
@@ -53,13 +53,14 @@ loses-cell : (Step : List Entry → Lost → Type 0) (h : List Entry) (cell : �
 loses-cell Step h cell loses = ap failed_cell loses.entries ∙ failed_cell-last loses.before cell loses.lost (has_failed-none loses.before loses.going)
 
 -- a failed append raised the count
-pub log-stop : {I D : Type 0} (drive : D → Drive) (file : List ℕ) (rows : List InRow) (old : Drive) (size : ℕ) (b : BookView I D) (h : List Entry) (disk : D) (opens : OpensBook drive old size b) → LeavesLog drive b.opening h b.log (Some disk)
+pub log-stop : {I D : Type 0} (drive : D → Drive) (file : List ℕ) (rows : List InRow) (old : Drive) (size : ℕ) (b : BookView I D) (h : List Entry) (disk : D) (opens : OpensBook drive file old size b) → LeavesLog drive b.opening h b.log (Some disk)
     → (why : Refusal) → StopsBook (IsNextStep width b.opening rows) h why → IsStop (Some file) opens.from rows old (drive disk) h why
 log-stop drive file rows old size b h disk opens leaves why (inl (memory, none)) = subst (IsStop (Some file) opens.from rows old (drive disk) h) (sym memory) none
 log-stop {D = D} drive file rows old size b h disk opens leaves why (inr (cell, is, loses)) =
     let kept = kept-since drive b.opening h opens.log disk b.log opens.log_is leaves in
     let rose = kept.keeps.rose (ap is_some (loses-cell (IsNextStep width b.opening rows) h cell loses)) in
-    let before : old.faults ≤ (drive kept.now.start).faults = subst (λ (d : D). old.faults ≤ (drive d).faults) (sym kept.since.start) opens.later in
+    let calm : (drive kept.now.start).faults ≡ old.faults = ap (λ (d : D). (drive d).faults) kept.since.start ∙ opens.calm in
+    let before : old.faults ≤ (drive kept.now.start).faults = omega (arith, calm) in
     let risen : Rose old.faults (drive disk).faults =
     subst (λ (d : D). Rose old.faults (drive d).faults) kept.disk_is (rose-earlier old.faults (drive kept.now.start).faults (drive kept.now.disk).faults before rose) in
     let from : LosesStep (IsNextStep opens.from.width opens.from.state rows) h cell =
@@ -101,12 +102,26 @@ unfailed Step h status before after (inr (inr (why, inl (memory, none), refuses)
 unfailed Step h status before after (inr (inr (why, inr (cell, named, failed), refuses))) going other = absurd (other (refuses.status_is ∙ ap status_of named))
 
 -- what a crash leaves of the log of a book
-pub keeps-book : {I D : Type 0} (drive : D → Drive) (Step : List Entry → Lost → Type 0) (old : Drive) (size : ℕ) (b : BookView I D) (h : List Entry) (disk : D) (status : ℕ) (before after : Output) (opens : OpensBook drive old size b)
+pub keeps-book : {I D : Type 0} (drive : D → Drive) (file : List ℕ) (Step : List Entry → Lost → Type 0) (old : Drive) (size : ℕ) (b : BookView I D) (h : List Entry) (disk : D) (status : ℕ) (before after : Output) (opens : OpensBook drive file old size b)
     → LeavesLog drive b.opening h b.log (Some disk) → EndsRows (StopsBook Step h) status before after → (WritesLines status → failed_cell h ≡ None) → KeepsPlayed opens.from old (drive disk) status h
-keeps-book {D = D} drive Step old size b h disk status before after opens leaves ends going =
+keeps-book {D = D} drive file Step old size b h disk status before after opens leaves ends going =
     let kept = kept-since drive b.opening h opens.log disk b.log opens.log_is leaves in
     subst (λ (d : D). KeepsPlayed opens.from old (drive d) status h) kept.disk_is
     (keeps-opened drive old opens.log kept.now opens.from b.opening h status opens.stays kept.since kept.keeps (unfailed Step h status before after ends going) opens.found opens.state)
+
+-- where no append failed no device call did
+calm-book : {I D : Type 0} (drive : D → Drive) (file : List ℕ) (old : Drive) (size : ℕ) (b : BookView I D) (h : List Entry) (disk : D) → OpensBook drive file old size b → LeavesLog drive b.opening h b.log (Some disk)
+    → failed_cell h ≡ None → (drive disk).faults ≡ old.faults
+calm-book {D = D} drive file old size b h disk opens leaves none =
+    let kept = kept-since drive b.opening h opens.log disk b.log opens.log_is leaves in
+    subst (λ (d : D). (drive d).faults ≡ old.faults) kept.disk_is (kept.keeps.calm none ∙ ap (λ (d : D). (drive d).faults) kept.since.start ∙ opens.calm)
+
+-- the file stays attached
+attached-book : {I D : Type 0} (drive : D → Drive) (file : List ℕ) (old : Drive) (size : ℕ) (b : BookView I D) (h : List Entry) (disk : D) → OpensBook drive file old size b → LeavesLog drive b.opening h b.log (Some disk)
+    → (drive disk).attached file false
+attached-book {D = D} drive file old size b h disk opens leaves =
+    let kept = kept-since drive b.opening h opens.log disk b.log opens.log_is leaves in
+    subst (λ (d : D). (drive d).attached file false) kept.disk_is (kept.keeps.file file false (subst (λ (d : D). (drive d).attached file false) (sym kept.since.start) opens.attached))
 
 -- answers and splits from an origin
 pub list-from : (old : Drive) (from : Origin) (s : State) (rows : List InRow) (h : List Entry) (status : ℕ) (before after : Output) → IsFoundOrigin old from → s ≡ from.state → AnswersAsOneList width s rows h status before after
@@ -122,7 +137,7 @@ settled-from old from size bucket s first cells h found state sized count settle
     (subst (λ (o : State). IsSettled width size o cells h) state (subst (λ (n : ℕ). IsSettled width n s cells h) sized (subst (λ (c : Option ℕ). IsSettled width bucket s c h) count settled)))
 
 -- rows that were answered over a log
-pub answered-over : {I D : Type 0} (drive : D → Drive) (file : List ℕ) (size : ℕ) (rows : List InRow) (b : BookView I D) (was disk : D) (before after : Output) (status : ℕ) (h : List Entry) → OpensBook drive (drive was) size b
+pub answered-over : {I D : Type 0} (drive : D → Drive) (file : List ℕ) (size : ℕ) (rows : List InRow) (b : BookView I D) (was disk : D) (before after : Output) (status : ℕ) (h : List Entry) → OpensBook drive file (drive was) size b
     → AnswersAsOneList width b.opening rows h status before after → EndsRows (StopsBook (IsNextStep width b.opening rows) h) status before after → (WritesLines status → IsSettled width b.bucket b.opening (count_in b.log) h)
     → LeavesLog drive b.opening h b.log (Some disk)
     → IsAnswered {D = D} (Some file) size rows (record { output = before; disk = was; drive = drive was }) (record { output = after; disk = disk; drive = drive disk }) status h
@@ -133,7 +148,9 @@ answered-over drive file size rows b was disk before after status h opens list e
   one_list = list-from (drive was) opens.from b.opening rows h status before after opens.found opens.state list;
   ends = ends-weaker (StopsBook (IsNextStep width b.opening rows) h) (IsStop (Some file) opens.from rows (drive was) (drive disk) h) status before after (log-stop drive file rows (drive was) size b h disk opens leaves) ends;
   splits = λ writes. settled-from (drive was) opens.from size b.bucket b.opening (count_in b.log) (option_map length opens.from.first) h opens.found opens.state opens.bucket opens.count (splits writes);
-  crash = keeps-book drive (IsNextStep width b.opening rows) (drive was) size b h disk status before after opens leaves ends (λ writes. (splits writes).going);
+  crash = keeps-book drive file (IsNextStep width b.opening rows) (drive was) size b h disk status before after opens leaves ends (λ writes. (splits writes).going);
+  calm = λ other. calm-book drive file (drive was) size b h disk opens leaves (unfailed (IsNextStep width b.opening rows) h status before after ends (λ writes. (splits writes).going) other);
+  attached = attached-book drive file (drive was) size b h disk opens leaves;
 }
 
 -- rows that were answered over no log
@@ -152,4 +169,6 @@ answered-new {D = D} drive size rows b was left before after status h opening bu
       (subst (λ (n : ℕ). IsSettled width n b.opening None h) bucket
       (subst (λ (c : Option ℕ). IsSettled width b.bucket b.opening c h) (ap (λ (l : Option (KeptView D)). count_in l) none) (splits writes)));
   crash = λ bytes first told is settled. absurd (cc is);
+  calm = λ other. refl;
+  attached = tt;
 }

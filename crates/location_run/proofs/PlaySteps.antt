@@ -181,11 +181,11 @@ next-row rows i d h lt calls =
     }
 
 -- the lost call is that of the next row
-pub next-call : (w : ℕ) (o : State) (rows : List InRow) (i : ℕ) (d : InRow) (h : List Entry) → i < length rows → calls_alone h ≡ entries_from 1 (take i rows) → (before : List Entry) (lost : Lost) → IsCallAt h (i + 1) (get_or rows i d) before lost
+pub next-call : (w : ℕ) (o : State) (rows : List InRow) (i : ℕ) (d : InRow) (h : List Entry) → i < length rows → calls_alone h ≡ entries_from 1 (take i rows) → (before : List Entry) (lost : Lost) → IsCallAt o.world h (i + 1) (get_or rows i d) before lost
     → IsNextStep w o rows before lost
-next-call w o rows i d h lt calls before lost (same, is) =
+next-call w o rows i d h lt calls before lost (same, is, change) =
     subst (λ (l : Lost). IsNextStep w o rows before l) (sym is)
-    (subst (λ (b : List Entry). IsNextStep w o rows b (lost_step.Call (get_or rows i d).session (i + 1) (get_or rows i d).op)) (sym same) (next-row rows i d h lt calls))
+    (subst (λ (b : List Entry). IsNextStep w o rows b (lost_step.Call (get_or rows i d).session (i + 1) (get_or rows i d).op)) (sym same) (next-row rows i d h lt calls, change))
 
 -- a step of a split is a next step
 pub next-split : (w : ℕ) (o p : State) (rows : List InRow) → o ≡ p → (before : List Entry) (lost : Lost) → IsSplitStep w o before lost → IsNextStep w p rows before lost

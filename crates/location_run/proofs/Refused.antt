@@ -14,7 +14,7 @@ use Rattle.kept_log.specs.Journal.{failed_cell, cells_in}
 use Rattle.commit_book.specs.BookView.{BookView}
 use Rattle.commit_book.specs.declared.faults.BookFault.{BookFault}
 use Rattle.commit_book.specs.declared.faults.BookFault.TheVariants as book
-use Rattle.commit_book.specs.Refusals.{IsMemoryOrDisk, IsRefusedBy, Closes, LeavesRefused, first_of, call_refusal, end_refusal, has_no_room, room_refusal}
+use Rattle.commit_book.specs.Refusals.{IsMemoryOrDisk, IsRefusedBy, WouldChange, Closes, LeavesRefused, first_of, call_refusal, end_refusal, has_no_room, room_refusal}
 use Rattle.location_run.specs.Room.{IsRoom, IsRoomOrFault}
 use Rattle.location_run.specs.Stops.{book_fault, Stops, StopsAt}
 use Rattle.location_run.specs.Tidy.{calls_alone, IsPastRoom}
@@ -107,7 +107,7 @@ pub end_refusal-few : (cells : ℕ) (h : List Entry) → failed_cell h ≡ None 
 end_refusal-few cells h going few few_cells = λ i. first_of (call_refusal-few h going few i) (cond (below cells 16777216 few_cells i) (Some book.LogFull) None)
 
 -- what a refused call leaves
-pub Stops-refused : {I D : Type 0} (drive : D → Drive) (Step : List Entry → Lost → Type 0) (lost : Lost) (old new : BookView I D) (fault : BookFault) (e : PlayFault) → fault ≡ book_fault e → failed_cell old.entries ≡ None → Step old.entries lost
+pub Stops-refused : {I D : Type 0} (drive : D → Drive) (Step : List Entry → Lost → Type 0) (lost : Lost) (old new : BookView I D) (fault : BookFault) (e : PlayFault) → fault ≡ book_fault e → failed_cell old.entries ≡ None → (WouldChange old lost → Step old.entries lost)
     → LeavesRefused drive lost old new fault → Stops Step old.entries new.entries e
 Stops-refused {I} {D} drive Step lost old new fault Memory is going step left =
     let same : new ≡ old = subst (LeavesRefused drive lost old new) is left in
@@ -116,7 +116,7 @@ Stops-refused drive Step lost old new fault (Disk cell) is going step left =
     let closes : Closes drive lost old new cell = subst (LeavesRefused drive lost old new) is left in
     record {
       calls = ap calls_alone closes.entries ∙ calls_alone-append old.entries (Fail cell lost ∷ []) ∙ append-nil (calls_alone old.entries);
-      stops = record { before = old.entries; lost = lost; entries = closes.entries; going = going; step = step };
+      stops = record { before = old.entries; lost = lost; entries = closes.entries; going = going; step = step closes.change };
     }
 
 -- what is told of the lost step may be weakened

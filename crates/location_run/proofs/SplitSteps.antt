@@ -24,7 +24,7 @@ use Rattle.disk_trait.specs.Drive.{Drive}
 use Rattle.kept_log.specs.Journal.{failed_cell, cells_in}
 use Rattle.kept_log.proofs.InJournal.{failed_cell-push, has_failed-none}
 use Rattle.commit_book.specs.declared.faults.BookFault.{BookFault}
-use Rattle.commit_book.specs.Refusals.{IsMemoryOrDisk, LeavesRefused, has_no_room, begin_refusal}
+use Rattle.commit_book.specs.Refusals.{IsMemoryOrDisk, WouldChange, LeavesRefused, has_no_room, begin_refusal}
 use Rattle.commit_book.specs.BookView.{BookView}
 use Rattle.commit_book.proofs.SplitCalls.{begin-full, full_leaf-free}
 use Rattle.location_run.specs.Room.{IsRoom}
@@ -144,7 +144,7 @@ SplitsLeaf-no_room drive lost w old new fault (Err e) left why is = tt
 SplitsLeaf-no_room drive lost w old new fault (Ok room) left (inl free) is = absurd (not-both fault is.1 free)
 SplitsLeaf-no_room drive lost w old new fault (Ok room) left (inr full) is = subst (SplitsLeaf w old new) (sym is.0) (room-same drive lost old new fault is.1 left, past-room old full)
 
-pub Stops-no_room : {I D : Type 0} (drive : D → Drive) (Step : List Entry → Lost → Type 0) (lost : Lost) (old new : BookView I D) (fault : BookFault) (result : Result Bool PlayFault) → failed_cell old.entries ≡ None → Step old.entries lost
+pub Stops-no_room : {I D : Type 0} (drive : D → Drive) (Step : List Entry → Lost → Type 0) (lost : Lost) (old new : BookView I D) (fault : BookFault) (result : Result Bool PlayFault) → failed_cell old.entries ≡ None → (WouldChange old lost → Step old.entries lost)
     → LeavesRefused drive lost old new fault → MatchResult result (λ room. (room ≡ false) × IsRoom fault) (λ e. fault ≡ book_fault e) → IfErr result (Stops Step old.entries new.entries)
 Stops-no_room drive Step lost old new fault (Ok room) going step left is = tt
 Stops-no_room drive Step lost old new fault (Err e) going step left is = Stops-refused drive Step lost old new fault e is going step left

@@ -1,5 +1,5 @@
 -- Books over which rows are played, and what they leave.
-use Rattle.std.specs.Prelude.{◌≡◌, ◌⊎◌, ℕ, ◌≤◌, List, [], length, Option, Some, None}
+use Rattle.std.specs.Prelude.{◌≡◌, ◌⊎◌, ℕ, ◌≤◌, false, List, [], length, Option, Some, None}
 use Rattle.std.specs.Option.{option_map}
 use Rattle.disk_trait.specs.Drive.{Drive, Stays}
 use Rattle.plain_list.specs.declared.entries.Entry.{Entry}
@@ -46,7 +46,7 @@ abbrev pub count_in : {D : Type 0} → Option (KeptView D) → Option ℕ
 count_in {D = D} log = option_map (λ (l : KeptView D). l.cells) log
 
 -- a book over the log that stood on a drive, whose bytes show no fault
-pub record OpensBook {I D : Type 0} (drive : D → Drive) (old : Drive) (size : ℕ) (b : BookView I D) : Type 0 where
+pub record OpensBook {I D : Type 0} (drive : D → Drive) (file : List ℕ) (old : Drive) (size : ℕ) (b : BookView I D) : Type 0 where
   pub bucket : b.bucket ≡ size
   pub log : KeptView D
   pub log_is : b.log ≡ Some log
@@ -56,5 +56,6 @@ pub record OpensBook {I D : Type 0} (drive : D → Drive) (old : Drive) (size : 
   pub count : count_in b.log ≡ option_map length from.first
   pub first : log.first ≡ log.cells
   pub stays : Stays old (drive log.start)
-  pub later : old.faults ≤ (drive log.start).faults
+  pub calm : (drive log.start).faults ≡ old.faults
+  pub attached : (drive log.start).attached file false
   pub shows : (bytes : List ℕ) (fault : OpenFault) → old.bytes ≡ Some bytes → IsInBytes fault → IsFault width most_played bytes fault → ⊥

@@ -1,10 +1,12 @@
 -- The step that a failed append lost.
-use Rattle.std.specs.Prelude.{◌≡◌, ℕ, List, [], ◌∷◌, ◌++◌, None, IsTrue}
+use Rattle.std.specs.Prelude.{◌≡◌, ℕ, List, [], ◌∷◌, ◌++◌, None, true, IsTrue}
 use Rattle.plain_list.specs.declared.ops.Op.{Op}
 use Rattle.plain_list.specs.declared.entries.Entry.{Entry}
 use Rattle.plain_list.specs.declared.entries.Entry.TheVariants as entry
 use Rattle.plain_list.specs.declared.entries.Lost.{Lost}
 use Rattle.plain_list.specs.declared.entries.Lost.TheVariants.{Call, Begin, Install, Abandon}
+use Rattle.plain_list.specs.Answer.{answer_of, is_change}
+use Rattle.plain_list.specs.History.{world_after}
 use Rattle.plain_list.specs.Played.{calls_of}
 use Rattle.plain_list.specs.State.{State, state_after, is_possible}
 use Rattle.csv_rows.specs.declared.rows.InRow.{InRow}
@@ -23,9 +25,9 @@ IsSplitStep w s before (Begin number name) = IsTrue (is_possible w (state_after 
 IsSplitStep w s before (Install number) = IsTrue (is_possible w (state_after w s before) (entry.Install number))
 IsSplitStep w s before (Abandon number) = IsTrue (is_possible w (state_after w s before) (entry.Abandon number))
 
--- the lost step is the call of the next row of its session, or a step of a split that is possible there
+-- the lost step is the call of the next row of its session, and would be a change there, or a step of a split that is possible there
 abbrev pub IsNextStep : ℕ → State → List InRow → List Entry → Lost → Type 0
-IsNextStep w s rows before (Call session row op) = IsNextRow rows before session row op
+IsNextStep w s rows before (Call session row op) = IsNextRow rows before session row op × (is_change (answer_of (world_after s.world before) op) ≡ true)
 IsNextStep w s rows before lost = IsSplitStep w s before lost
 
 -- a history that ends with the failed append of the cell of this number: what stood before, and the lost step

@@ -1,5 +1,5 @@
 -- The command `play`.
-use Rattle.std.specs.Prelude.{◌≡◌, ◌≢◌, ◌⊎◌, ℕ, ◌≤◌, List, [], length, Option, Some, None, Ok, Err, ⊤}
+use Rattle.std.specs.Prelude.{◌≡◌, ◌≢◌, ◌⊎◌, ℕ, ◌≤◌, false, List, [], length, Option, Some, None, Ok, Err, ⊤}
 use Rattle.std.specs.Option.{option_map}
 use Rattle.causes.specs.Causes.{Rose}
 use Rattle.disk_trait.specs.Drive.{Drive}
@@ -104,7 +104,12 @@ abbrev pub HasBook : {D : Type 0} → Option (List ℕ) → Targets D → Target
 HasBook None old new = new.disk ≡ old.disk
 HasBook (Some file) old new = (bytes : List ℕ) (fault : OpenFault) → old.drive.bytes ≡ Some bytes → IsInBytes fault → IsFault width most_played bytes fault → ⊥
 
--- the rows are answered from one origin on
+-- over a log its file is attached, and none is made
+abbrev pub IsAttached : Option (List ℕ) → Drive → Type 0
+IsAttached None new = ⊤
+IsAttached (Some file) new = new.attached file false
+
+-- The rows are answered from one origin on. The drive's count rises with status 7 alone.
 pub record IsAnswered {D : Type 0} (log : Option (List ℕ)) (size : ℕ) (rows : List InRow) (old new : Targets D) (status : ℕ) (h : List Entry) : Type 0 where
   pub from : Origin
   pub begins : IsOrigin log old.drive from
@@ -113,6 +118,8 @@ pub record IsAnswered {D : Type 0} (log : Option (List ℕ)) (size : ℕ) (rows 
   pub ends : EndsRows (IsStop log from rows old.drive new.drive h) status old.output new.output
   pub splits : WritesLines status → IsSettled from.width size from.state (option_map length from.first) h
   pub crash : KeepsPlayed from old.drive new.drive status h
+  pub calm : status ≢ 7 → new.drive.faults ≡ old.drive.faults
+  pub attached : IsAttached log new.drive
 
 -- how rows go that were read: there is no book for them, or they are answered
 abbrev pub PlaysRows : {D : Type 0} → Option (List ℕ) → ℕ → List InRow → Targets D → Targets D → ℕ → List Entry → Type 0

@@ -37,7 +37,7 @@ pub record RepliesTo {I D : Type 0} (w : ℕ) (old new : BookView I D) (number :
 -- one call more, or none, and this fault came
 pub record StopsRow {I D : Type 0} (old new : BookView I D) (number : ℕ) (row : InRow) (fault : PlayFault) : Type 0 where
   pub calls : (calls_alone new.entries ≡ calls_alone old.entries) ⊎ (calls_alone new.entries ≡ calls_alone old.entries ++ Call row.session number row.op ∷ [])
-  pub stops : StopsAt (IsCallAt old.entries number row) new.entries fault
+  pub stops : StopsAt (IsCallAt old.opening.world old.entries number row) new.entries fault
 
 -- no row was answered, and the log has room
 pub record IsBegun {I D : Type 0} (play : Play I D) : Type 0 where

@@ -1,11 +1,14 @@
 -- How a play stops before its end.
-use Rattle.std.specs.Prelude.{◌≡◌, ℕ, List, None}
+use Rattle.std.specs.Prelude.{◌≡◌, ℕ, List, None, true}
 use Rattle.plain_list.specs.declared.entries.Entry.{Entry}
 use Rattle.kept_log.specs.Journal.{failed_cell}
 use Rattle.commit_book.specs.declared.faults.BookFault.{BookFault}
 use Rattle.commit_book.specs.declared.faults.BookFault.TheVariants as book
 use Rattle.plain_list.specs.declared.entries.Lost.{Lost}
 use Rattle.plain_list.specs.declared.entries.Lost.TheVariants as lost_step
+use Rattle.zorder.specs.declared.points.Placed.{Placed}
+use Rattle.plain_list.specs.Answer.{answer_of, is_change}
+use Rattle.plain_list.specs.History.{world_after}
 use Rattle.csv_rows.specs.declared.rows.InRow.{InRow}
 use Rattle.location_run.specs.LostSteps.{LosesStep}
 use Rattle.location_run.specs.Tidy.{calls_alone}
@@ -27,6 +30,7 @@ pub record Stops (Step : List Entry → Lost → Type 0) (old new : List Entry) 
   pub calls : calls_alone new ≡ calls_alone old
   pub stops : StopsAt Step new fault
 
--- the call of this row, behind these entries
-abbrev pub IsCallAt : List Entry → ℕ → InRow → List Entry → Lost → Type 0
-IsCallAt entries number row before lost = (before ≡ entries) × (lost ≡ lost_step.Call row.session number row.op)
+-- the call of this row, behind these entries from a world, and it would be a change there
+abbrev pub IsCallAt : List Placed → List Entry → ℕ → InRow → List Entry → Lost → Type 0
+IsCallAt world entries number row before lost =
+    (before ≡ entries) × (lost ≡ lost_step.Call row.session number row.op) × (is_change (answer_of (world_after world entries) row.op) ≡ true)

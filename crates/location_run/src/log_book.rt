@@ -23,7 +23,7 @@ pub(crate) fn open_book<D: LogDisk>(
     size: u32,
     mut disk: D,
 ) -> Result<Book<StoreIndex, D>, Unmade<D>>
-    ensures opened { IfOk result (OpensBook D.drive (D.drive disk) size) }
+    ensures opened { IfOk result (OpensBook D.drive file.now (D.drive disk) size) }
     ensures new { IfOk result (λ b. IsNewBook b) }
     ensures refused { IfErr result (λ e. IsNotOpened (D.drive disk) (D.drive e.disk) e.why) }
 {
@@ -49,7 +49,6 @@ fn book_of<D: LogDisk>(
     requires log { (opened.log.cells ≡ opened.seen.cells) × (opened.log.failed ≡ None) }
     requires found { IsFound width most_played (D.drive opened.start.value) opened.seen }
     requires ready { IsOpened width (found_state opened.seen) (D.drive opened.start.value) (D.drive opened.log.disk) }
-    requires later { (D.drive opened.start.value).faults ≤ (D.drive opened.log.disk).faults }
     ensures opening { IfOk result (λ b. (b.opening ≡ found_state opened.seen) × (b.bucket ≡ size)) }
     ensures log { IfOk result (λ b. b.log ≡ Some (record { disk = opened.log.disk; cells = opened.log.cells; failed = None; start = opened.start.value; first = opened.log.cells })) }
     ensures new { IfOk result (λ b. IsNewBook b) }

@@ -74,7 +74,7 @@ fn update<I: Index, D: LogDisk>(
     requires update { IsUpdate row.now.op }
     requires room { HasRoom book.old }
     ensures ok { IfOk result (λ r. RepliesTo I.WIDTH book.old book.new number row.now r.answer r.full) }
-    ensures err { IfErr result (Stops (IsCallAt book.old.entries number row.now) book.old.entries book.new.entries) }
+    ensures err { IfErr result (Stops (IsCallAt book.old.opening.world book.old.entries number row.now) book.old.entries book.new.entries) }
     ensures origin { SameOrigin book.old book.new }
 {
     match book.update(row.session, number, &row.op) {
@@ -96,7 +96,7 @@ fn look<I: Index, D: LogDisk>(
     requires room { HasRoom book.old }
     ensures ok { IfOk result (λ s. NotesRow book.old book.new number row.now) }
     ensures index { IfOk result (λ s. Stands (I.leaves s.index) (world_after book.old.opening.world book.old.entries) (state_after I.WIDTH book.new.opening book.new.entries).leaves) }
-    ensures err { IfErr result (Stops (IsCallAt book.old.entries number row.now) book.old.entries book.new.entries) }
+    ensures err { IfErr result (Stops (IsCallAt book.old.opening.world book.old.entries number row.now) book.old.entries book.new.entries) }
     ensures origin { SameOrigin book.old book.new }
 {
     match book.snapshot(row.session, number, &row.op) {

@@ -39,5 +39,5 @@ returns-in-Ok-clause-opened g c =
     let opened = c.in-Ok.opened in
     let by = c.in-Ok.ensures in
     if-ok _ _ _ c.book_of.result
-    (λ b opening log. opens-book drive (drive c.args.disk) c.args.size b (record { disk = opened.log.disk; cells = opened.log.cells; failed = None; start = opened.start.value; first = opened.log.cells }) opened.seen c.attach.new.self c.in_default.ensures.stays c.in_default.ensures.cause.later by.found by.exact refl by.start by.log.0 opening.0 opening.1 log)
+    (λ b opening log. opens-book drive c.args.file.now (drive c.args.disk) c.args.size b (record { disk = opened.log.disk; cells = opened.log.cells; failed = None; start = opened.start.value; first = opened.log.cells }) opened.seen c.attach.new.self c.in_default.ensures.stays c.in_default.ensures.cause.same c.in_default.ensures.cause.named by.found by.exact refl by.start by.log.0 opening.0 opening.1 log)
     c.book_of.ensures.opening c.book_of.ensures.log

@@ -23,4 +23,4 @@ returns-in-Ok-clause-ok g c =
 pub returns-in-Err-clause-err : goal.returns-in-Err-clause-err
 returns-in-Err-clause-err g c =
     let row = c.args.row.now in
-    Stops-refused g.D.LogDisk.drive (IsCallAt c.args.book.now.entries c.args.number row) (lost.Call row.session c.args.number row.op) c.args.book.now c.update.new.self c.in-Err.fault c.play_fault.result c.play_fault.ensures c.requires.room.going (refl, refl) c.in-Err.ensures.err
+    Stops-refused g.D.LogDisk.drive (IsCallAt c.args.book.now.opening.world c.args.book.now.entries c.args.number row) (lost.Call row.session c.args.number row.op) c.args.book.now c.update.new.self c.in-Err.fault c.play_fault.result c.play_fault.ensures c.requires.room.going (λ change. (refl, refl, change)) c.in-Err.ensures.err

@@ -31,7 +31,7 @@ pub returns-in-Err-clause-err : goal.returns-in-Err-clause-err
 returns-in-Err-clause-err g c =
     let old = c.args.book.now in
     Stops-no_room g.D.LogDisk.drive (IsSplitStep g.I.Index.WIDTH old.opening) (lost.Begin ((state_after g.I.Index.WIDTH old.opening old.entries).begun + 1) c.args.name.now) old c.begin.new.self c.in-Err.fault c.no_room.result c.requires.tidy.going
-    (may-begin g.I.Index.WIDTH old.bucket old.opening old.entries c.args.name.now c.requires.full) c.in-Err.ensures.err c.no_room.ensures
+    (λ change. may-begin g.I.Index.WIDTH old.bucket old.opening old.entries c.args.name.now c.requires.full) c.in-Err.ensures.err c.no_room.ensures
 
 pub returns-in_default-clause-err : goal.returns-in_default-clause-err
 returns-in_default-clause-err g c =
@@ -69,7 +69,7 @@ returns-clause-err g c =
     Stops-behind (IsSplitStep w old.opening) old.entries mid.entries c.install.new.self.entries c.play_fault.result (calls-begun ticket.number c.args.name.now old.entries mid.entries begun)
     (Stops-refused g.D.LogDisk.drive (IsSplitStep w old.opening) (lost.Install _) mid c.install.new.self c.in-Err-install.fault c.play_fault.result c.play_fault.ensures
     (going-begun ticket.number c.args.name.now old.entries mid.entries c.requires.tidy.going begun)
-    (subst (λ (n : ℕ). IsSplitStep w old.opening mid.entries (lost.Install n)) (sym number) (may-install w ticket.number old.opening old.entries mid.entries c.args.name.now c.requires.tidy.ended begun))
+    (λ change. subst (λ (n : ℕ). IsSplitStep w old.opening mid.entries (lost.Install n)) (sym number) (may-install w ticket.number old.opening old.entries mid.entries c.args.name.now c.requires.tidy.ended begun))
     c.in-Err-install.ensures.err)
 
 pub returns-in-Ok-install-clause-ok : goal.returns-in-Ok-install-clause-ok
