@@ -1,5 +1,5 @@
 -- Calls, as their passes know them.
-use Rattle.std.proofs.Common.{◌≡◌, ◌⊎◌, inl, inr, ℕ, Bool, true, false, cond, List, [], ◌∷◌, ◌++◌, Option, Some, None, Result, Ok, Err, refl, sym, ap, subst, ◌∙◌}
+use Rattle.std.proofs.Common.{◌≡◌, inl, inr, ℕ, Bool, true, false, cond, List, [], ◌∷◌, ◌++◌, Option, Some, None, Result, Ok, Err, refl, sym, ap, subst, ◌∙◌}
 use mathlib.Core.List.{IsPrefix}
 use Rattle.std.specs.Prelude.{IfErr, IfOk, ⊤, ◌==◌, ◌&&◌, length}
 use Rattle.std.specs.Option.{option_map}
@@ -13,7 +13,7 @@ use Rattle.plain_list.specs.declared.entries.Lost.{Lost}
 use Rattle.plain_list.specs.declared.entries.Lost.TheVariants as lost
 use Rattle.plain_list.specs.Answer.{answer_of, is_change, members_in}
 use Rattle.plain_list.specs.History.{world_after, call_count}
-use Rattle.plain_list.specs.State.{State, state_after}
+use Rattle.plain_list.specs.State.{state_after}
 use Rattle.plain_list.specs.Size.{full_leaf}
 use Rattle.plain_list.specs.World.{IsWorld}
 use Rattle.zorder.specs.declared.points.Placed.{Placed}
@@ -33,13 +33,13 @@ use Rattle.commit_book.specs.declared.faults.BookFault.TheVariants as book
 use Rattle.book_lock.specs.Pass.{Known}
 use Rattle.book_lock.specs.declared.origin.Origin.{Origin}
 use Rattle.sessions.specs.Shared.{origin_of, start_of, HasWorld}
-use Rattle.sessions.specs.Steps.{AreCells, IsStep, Says, has_entry, has_given, has_added, has_seen, Leaves}
+use Rattle.sessions.specs.Steps.{Says, has_entry, has_given, Leaves}
 use Rattle.sessions.specs.Calls.{Updates, Looks, Called, CallLeaves, HasDone, Shows, IsAnswered, IsCallFault, MayCome, call_cause, call_fault, next_full, told_full}
 use Rattle.sessions.specs.Splits.{SamePass}
 use Rattle.sessions.specs.declared.faults.CallFault.{CallFault}
 use Rattle.sessions.specs.declared.faults.CallFault.TheVariants as call
 use Rattle.sessions.proofs.Origins.{same-origin, start-of-origin}
-use Rattle.sessions.proofs.StepLemmas.{WasTaken, BookStep, stepped, call-may, may-give, prefix-later, same-added, same-seen}
+use Rattle.sessions.proofs.StepLemmas.{WasTaken, BookStep, stepped, same-added, same-seen}
 
 told-update : (w : ℕ) (op : Op) (pass : Known) → IsUpdate op → told_full w op pass ≡ next_full w pass
 told-update w (Put id at) pass is = refl

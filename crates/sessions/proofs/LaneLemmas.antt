@@ -1,21 +1,18 @@
 -- Lanes, row by row.
-use Rattle.std.proofs.Common.{◌≡◌, ℕ, suc, ◌+◌, ◌<◌, ◌≤◌, Bool, true, false, List, [], ◌∷◌, ◌++◌, length, take, drop, Option, Some, None, Result, Ok, Err, refl, sym, ap, subst, ◌∙◌, arith}
-use Rattle.std.specs.Prelude.{slice_index_or, vec_len, vec_capacity}
+use Rattle.std.proofs.Common.{◌≡◌, ℕ, suc, ◌+◌, ◌<◌, ◌≤◌, false, List, [], ◌∷◌, ◌++◌, length, take, drop, Option, Err, refl, sym, ap, subst, ◌∙◌, arith}
+use Rattle.std.specs.Prelude.{slice_index_or}
 use Rattle.std.proofs.lemmas.List.{append-nil, take_all, take_more, take-append-drop}
 use Rattle.std.proofs.Math.Seq.{drop-cons}
 use Rattle.plain_list.specs.declared.ops.Op.{Op}
 use Rattle.plain_list.specs.declared.ops.Op.TheVariants.{Find}
-use Rattle.plain_list.specs.Answer.{IsValid}
 use Rattle.atomic_table.specs.Seated.{TableId}
 use Rattle.book_lock.specs.Pass.{Known}
-use Rattle.commit_book.specs.declared.book.Done.{Done}
 use Rattle.sessions.specs.declared.faults.CallFault.{CallFault}
-use Rattle.sessions.specs.declared.faults.Split.{Split}
 use Rattle.sessions.specs.declared.store.lanes.Lane.{Lane}
 use Rattle.sessions.specs.declared.store.lanes.KeptRow.{KeptRow}
 use Rattle.sessions.specs.Calls.{Called}
 use Rattle.sessions.specs.Splits.{SamePass}
-use Rattle.sessions.specs.Lanes.{IsReady, Tries, Keeps, KeepsAll, Stops, Plays, KeepsOne, StopsAt, PlaysTo}
+use Rattle.sessions.specs.Lanes.{IsReady, Keeps, KeepsAll, Stops, Plays, KeepsOne, StopsAt, PlaysTo}
 use Rattle.sessions.proofs.StepLemmas.{same-later}
 use Rattle.sessions.proofs.SplitLemmas.{same-none}
 

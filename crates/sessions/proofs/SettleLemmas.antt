@@ -1,12 +1,8 @@
 -- Splits while nobody else calls.
-use Rattle.std.proofs.Common.{◌≡◌, ◌⊎◌, inl, inr, ℕ, ◌+◌, ◌≤◌, ◌==◌, ◌||◌, nat_lt, Bool, true, false, cond, List, [], ◌∷◌, ◌++◌, length, Option, Some, None, Result, Ok, Err, refl, sym, ap, subst, ◌∙◌, arith, length-append}
-use mathlib.Core.Bool.{true≢false}
-use mathlib.Core.List.{IsPrefix}
+use Rattle.std.proofs.Common.{◌≡◌, inl, inr, ℕ, ◌+◌, ◌≤◌, ◌==◌, ◌||◌, nat_lt, Bool, true, false, cond, List, [], ◌∷◌, ◌++◌, length, Option, Some, None, Ok, Err, refl, sym, ap, subst, ◌∙◌, arith, length-append}
 use Rattle.std.specs.Option.{option_map}
-use Rattle.std.proofs.lemmas.List.{append-nil}
 use Rattle.std.proofs.lemmas.Bool.Decides.{Decides-eqb}
-use borrow.Author.Tests.{ltb-true, ltb-false}
-use Rattle.cell_format.specs.declared.cell.Cell.{Cell}
+use borrow.Author.Tests.{ltb-false}
 use Rattle.plain_list.specs.declared.entries.Entry.{Entry}
 use Rattle.plain_list.specs.declared.entries.Entry.TheVariants.{Begin}
 use Rattle.plain_list.specs.History.{world_after}
@@ -15,7 +11,7 @@ use Rattle.log_state.proofs.PlacedChanges.{cells_of-append}
 use Rattle.kept_log.specs.Journal.{failed_cell}
 use Rattle.kept_log.proofs.InJournal.{failed_cell-push, has_failed-none}
 use Rattle.commit_book.specs.IsBook.{most_events}
-use Rattle.commit_book.specs.Refusals.{IsRefusedBy, IsDisk, IsMemoryOrDisk, first_of, closed_refusal, events_refusal, room_refusal, leaf_refusal, end_refusal, split_number, most_cells}
+use Rattle.commit_book.specs.Refusals.{IsRefusedBy, IsDisk, IsMemoryOrDisk, first_of, closed_refusal, room_refusal, leaf_refusal, end_refusal, most_cells}
 use Rattle.commit_book.specs.declared.faults.BookFault.{BookFault}
 use Rattle.commit_book.specs.declared.faults.BookFault.TheVariants as book
 use Rattle.commit_book.proofs.RefusalLemmas.{number-none, leaf-split}
@@ -23,9 +19,9 @@ use Rattle.commit_book.proofs.SplitCalls.{full_leaf-free}
 use Rattle.book_lock.specs.Pass.{Known}
 use Rattle.book_lock.specs.declared.origin.Origin.{Origin}
 use Rattle.sessions.specs.Calls.{next_full}
-use Rattle.sessions.specs.Steps.{AreCells, all_parts, cells_after, has_added}
-use Rattle.sessions.specs.Splits.{BeginsSplit, InstallsSplit, AbandonsSplit, GivesUp, RanOut, NotInstalled, SplitEnds, SamePass, begin_cause, state_of}
-use Rattle.sessions.specs.Settles.{TellsNext, SplitsAll, IsNextFault, IsSettleFault, SplitFault, SettleEnds}
+use Rattle.sessions.specs.Steps.{AreCells, all_parts, cells_after}
+use Rattle.sessions.specs.Splits.{BeginsSplit, GivesUp, RanOut, NotInstalled, SplitEnds, begin_cause, state_of}
+use Rattle.sessions.specs.Settles.{SplitsAll, IsNextFault, SplitFault}
 use Rattle.sessions.specs.declared.faults.Split.{Split}
 use Rattle.sessions.specs.declared.faults.Split.TheVariants.{Installed, NotSplit}
 use Rattle.sessions.proofs.CallLemmas.{AreCauses, causes-if, refused-cause}

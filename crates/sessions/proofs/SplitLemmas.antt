@@ -1,5 +1,5 @@
 -- The steps of a split, as their passes know them.
-use Rattle.std.proofs.Common.{◌≡◌, ◌⊎◌, inl, inr, ℕ, ◌+◌, Bool, true, false, cond, List, [], ◌∷◌, ◌++◌, length, Option, Some, None, Result, Ok, Err, refl, sym, ap, subst, ◌∙◌}
+use Rattle.std.proofs.Common.{◌≡◌, inl, inr, ℕ, ◌+◌, Bool, true, List, [], ◌∷◌, ◌++◌, length, Option, Some, None, Result, Ok, Err, refl, sym, ap, subst, ◌∙◌}
 use mathlib.Core.List.{IsPrefix}
 use Rattle.std.specs.Prelude.{⊤, IfOk, IfErr, OnOk}
 use Rattle.std.specs.Arc.{arc_value}
@@ -30,7 +30,7 @@ use Rattle.book_lock.specs.declared.origin.Origin.{Origin}
 use Rattle.book_lock.proofs.OwnSplits.{may_install, may_abandon}
 use Rattle.sessions.specs.Shared.{origin_of, start_of}
 use Rattle.sessions.specs.Steps.{IsStep, Says, has_entry, has_given}
-use Rattle.sessions.specs.Splits.{HasBegun, BeginsSplit, InstallsSplit, AbandonsSplit, GivesUp, RanOut, NotInstalled, BeginsAs, SplitEnds, IsLasting, IsNotSplit, IsNextSplit, SamePass, begin_cause, number_of, state_of}
+use Rattle.sessions.specs.Splits.{HasBegun, BeginsSplit, InstallsSplit, AbandonsSplit, GivesUp, RanOut, NotInstalled, BeginsAs, SplitEnds, IsNotSplit, IsNextSplit, SamePass, begin_cause, number_of, state_of}
 use Rattle.sessions.specs.declared.faults.Split.{Split}
 use Rattle.sessions.specs.declared.faults.Split.TheVariants.{Installed, NotSplit}
 use Rattle.sessions.proofs.Origins.{start-of-origin}

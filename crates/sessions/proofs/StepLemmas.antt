@@ -1,9 +1,8 @@
 -- One step under the lock: what it leaves of a pass.
 use Rattle.std.proofs.Common.{◌≡◌, ◌⊎◌, inl, inr, ℕ, ◌+◌, ◌≤◌, Bool, true, false, cond, List, [], ◌∷◌, ◌++◌, length, Option, Some, None, Result, Ok, Err, refl, sym, ap, subst, ◌∙◌, append_assoc, length-append, arith}
 use mathlib.Core.List.{IsPrefix}
-use Rattle.std.specs.Prelude.{IfErr, IfOk}
+use Rattle.std.specs.Prelude.{IfErr}
 use Rattle.zorder.specs.declared.points.Placed.{Placed}
-use Rattle.cell_format.specs.declared.cell.Cell.{Cell}
 use Rattle.plain_list.specs.declared.ops.Op.{Op}
 use Rattle.plain_list.specs.declared.ops.Op.TheVariants as op
 use Rattle.plain_list.specs.declared.entries.Entry.{Entry}

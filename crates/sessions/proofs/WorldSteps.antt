@@ -1,6 +1,6 @@
 -- The objects behind a lock are a world.
-use Rattle.std.proofs.Common.{◌≡◌, ℕ, Bool, true, false, not, cond, ◌==◌, List, [], ◌∷◌, ◌++◌, sym, subst, ◌∙◌}
-use Rattle.std.specs.Prelude.{nat_lt, ⊤, Ok, Err, Result}
+use Rattle.std.proofs.Common.{◌≡◌, ℕ, Bool, List, [], ◌∷◌, ◌++◌, sym, subst, ◌∙◌}
+use Rattle.std.specs.Prelude.{⊤, Ok, Err, Result}
 use Rattle.zorder.specs.declared.points.Placed.{Placed}
 use Rattle.plain_list.specs.declared.ops.Op.{Op}
 use Rattle.plain_list.specs.declared.entries.Entry.{Entry}

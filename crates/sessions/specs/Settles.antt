@@ -1,5 +1,5 @@
 -- What settling the splits at the end leaves.
-use Rattle.std.specs.Prelude.{◌≡◌, ◌⊎◌, ℕ, Bool, List, [], ◌∷◌, ◌++◌, Option, Some, None, Result, Ok, Err, ⊤}
+use Rattle.std.specs.Prelude.{◌≡◌, ◌⊎◌, ℕ, Bool, List, [], ◌∷◌, Option, Some, None, Result, Ok, Err, ⊤}
 use Rattle.book_lock.specs.Pass.{Known}
 use Rattle.commit_book.specs.Refusals.{closed_refusal}
 use Rattle.commit_book.specs.declared.faults.BookFault.{BookFault}

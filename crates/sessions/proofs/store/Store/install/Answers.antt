@@ -1,5 +1,4 @@
-use Rattle.std.proofs.Common.{ℕ, Bool, ap, sym, subst, ◌∙◌, ◌≡◌}
-use Rattle.plain_list.specs.declared.entries.Entry.{Entry}
+use Rattle.std.proofs.Common.{Bool, ap, sym, subst, ◌∙◌}
 use Rattle.plain_list.specs.declared.entries.Entry.TheVariants.{Install}
 use Rattle.plain_list.specs.declared.entries.Lost.TheVariants as lost
 use Rattle.commit_book.specs.Refusals.{IsMemoryOrDisk, end_refusal}

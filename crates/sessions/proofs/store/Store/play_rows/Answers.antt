@@ -1,4 +1,4 @@
-use Rattle.std.proofs.Common.{◌≡◌, ◌<◌, ◌≤◌, length, arith}
+use Rattle.std.proofs.Common.{◌<◌, ◌≤◌, length, arith}
 use Rattle.sessions.proofs.LaneLemmas.{plays-more, plays-all, plays-stop}
 use Rattle.sessions.proofs.store.Store.play_rows.Goals as goal
 

@@ -1,5 +1,4 @@
-use Rattle.std.proofs.Common.{◌≡◌, List, [], ◌∷◌, ◌++◌, Some, None, inr, ap, sym, subst, ◌∙◌}
-use Rattle.commit_book.specs.Refusals.{closed_refusal}
+use Rattle.std.proofs.Common.{◌≡◌, [], ◌∷◌, ◌++◌, Some, inr, ap, sym, subst, ◌∙◌}
 use Rattle.commit_book.specs.declared.faults.BookFault.{BookFault}
 use Rattle.commit_book.specs.declared.faults.BookFault.TheVariants as book
 use Rattle.book_lock.specs.Pass.{Known}

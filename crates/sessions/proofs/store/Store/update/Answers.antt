@@ -1,4 +1,4 @@
-use Rattle.std.proofs.Common.{Bool, Result, ap, sym, subst, ◌∙◌}
+use Rattle.std.proofs.Common.{Bool, ap, sym, subst, ◌∙◌}
 use Rattle.plain_list.specs.declared.entries.Entry.TheVariants.{Call}
 use Rattle.plain_list.specs.declared.entries.Lost.TheVariants as lost
 use Rattle.commit_book.specs.declared.book.Done.{Done}
