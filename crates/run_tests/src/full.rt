@@ -32,7 +32,5 @@ fn a_world_of_1048576_objects_takes_no_other(rt: HostRuntime) -> Result<(), Fail
         left.taken.as_slice(),
         b"row,place,answer,detail\n1,1,full,\n2,2,present,2147483648:0\n3,3,gone,1073741824:0\n4,4,done,\n".as_slice()
     );
-    // Two records more: an answer `full` or `present` leaves none.
-    assert_eq!(rt; left.disk.bytes().len(), 33_554_513);
     Ok(())
 }
