@@ -30,10 +30,13 @@ pub fn book_over(
     bytes: &[u8],
     failing: Vec<Fail>,
 ) -> Result<Book<FlatIndex, MemDisk>, Memory> {
-    let Ok(bytes) = Vec::from_slice(alloc, bytes) else {
-        return Err(Memory);
-    };
+    let bytes = Vec::from_slice(alloc, bytes)?;
     let disk = MemDisk::new(alloc, bytes, 1_024, 64, failing)?;
+    book_on(alloc, disk)
+}
+
+// A book over the log of width 1 that a drive has.
+fn book_on<D: LogDisk>(alloc: Global, disk: D) -> Result<Book<FlatIndex, D>, Memory> {
     let Ok(opened) = open(alloc, disk, 1, 16_777_216) else {
         return Err(Memory);
     };
@@ -49,8 +52,6 @@ pub fn failing_book(
     call: DiskCall,
     number: u64,
 ) -> Result<Book<FlatIndex, MemDisk>, Memory> {
-    let Ok(failing) = vec![in alloc; Fail { call, number }] else {
-        return Err(Memory);
-    };
+    let failing = vec![in alloc; Fail { call, number }]?;
     book_over(alloc, EMPTY_LOG, failing)
 }
