@@ -1,6 +1,6 @@
 -- Calls that only read, one after the other.
-use Rattle.std.proofs.Common.{◌≡◌, ℕ, ◌≤◌, List, length, Some, sym, ◌∙◌, ap, subst, arith}
-use Rattle.std.specs.Prelude.{Result, Ok, Err, OnOk, IsErrOf}
+use Rattle.std.proofs.Common.{◌≡◌, ◌≢◌, ℕ, ◌≤◌, List, length, Some, sym, ◌∙◌, ap, subst, arith}
+use Rattle.std.specs.Prelude.{Result, Ok, Err, MatchResult, IsErrOf}
 use Rattle.std.specs.Result.{IsErrAnd}
 use Rattle.causes.specs.Causes.{Rose}
 use Rattle.disk_trait.specs.Drive.{Drive, SameFile, Stays}
@@ -27,9 +27,13 @@ err_same : {T : Type 0} (result : Result T OpenFault) (fault : OpenFault) → Is
 err_same (Ok x) fault same is = cc is
 err_same (Err e) fault same is = let e_is : e ≡ Disk = cc is in sym e_is ∙ same
 
-no_ok : {T : Type 0} (result : Result T OpenFault) (P : OpenFault → Type 0) (Q : Type 0) → IsErrAnd result P → OnOk result Q
-no_ok (Ok x) P Q is = absurd is
-no_ok (Err e) P Q is = tt
+calm_passed : {T U : Type 0} (a b c : ℕ) (first : Result T OpenFault) (result : Result U OpenFault) (fault : OpenFault) → b ≡ a → first ≡ Err fault
+    → MatchResult first (λ _. c ≡ b) (λ e. e ≢ Disk → c ≡ b) → IsErrAnd result (λ e. e ≡ fault) → MatchResult result (λ _. c ≡ a) (λ e. e ≢ Disk → c ≡ a)
+calm_passed a b c first (Ok x) fault same is calm passed = absurd passed
+calm_passed {T = T} a b c first (Err e) fault same is calm passed =
+    let P : Result T OpenFault → Type 0 = λ r. MatchResult r (λ _. c ≡ b) (λ f. f ≢ Disk → c ≡ b) in
+    let told : fault ≢ Disk → c ≡ b = subst P is calm in
+    λ other. told (λ disk. other (passed ∙ disk)) ∙ same
 
 -- the fault of a later call, passed on
 pub reads_passed : {T U : Type 0} (a b c : Drive) (first : Result T OpenFault) (result : Result U OpenFault) (fault : OpenFault) → Stays a b → b.faults ≡ a.faults → SameFile a b → first ≡ Err fault → OnlyReads b c first
@@ -37,7 +41,7 @@ pub reads_passed : {T U : Type 0} (a b c : Drive) (first : Result T OpenFault) (
 reads_passed a b c first result fault stays same file is reads passed = record {
   stays = stays-trans a b c stays reads.stays;
   later = omega (arith, same, reads.later);
-  same = no_ok result _ _ passed;
+  same = calm_passed a.faults b.faults c.faults first result fault same is reads.same passed;
   failed = λ disk. rose-earlier a.faults b.faults c.faults (omega (arith, same)) (reads.failed (is ∙ sym (ap (λ e. Err e) (err_same result fault passed disk))));
   file = λ name make at. reads.file name make (file name make at);
 }

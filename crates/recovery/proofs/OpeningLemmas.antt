@@ -12,8 +12,7 @@ use Rattle.split_log.proofs.Cells.{length-log}
 use Rattle.split_log.proofs.Unique.{holds-same}
 use Rattle.recovery.specs.declared.seen.Seen.{Seen}
 use Rattle.log_state.specs.Recovers.{Recovers}
-use Rattle.recovery.specs.declared.seen.OpenFault.{OpenFault}
-use Rattle.recovery.specs.Opening.{KeepsCells, IsUntouched, LeavesUnopened, IsReady}
+use Rattle.recovery.specs.Opening.{KeepsCells, IsUntouched, IsReady}
 use Rattle.recovery.specs.Reading.{IsFoundIn}
 
 -- one stretch after another
@@ -47,10 +46,6 @@ untouched-stays a b c first stays = record {
   images = λ x left. first.images x (stays.images x left);
   since = λ t x le left. first.since t x le (stays.since t x left);
 }
-
--- whatever the reason is
-pub unopened : (w most : ℕ) (a b : Drive) (why : OpenFault) → IsUntouched a b → LeavesUnopened w most a b why
-unopened w most a b why left = record { unfailed = λ other. left; no_log = λ bytes told none. left }
 
 -- a sync
 pub leaves-sync : {T : Type 0} (a b : Drive) (P : List ℕ → Type 0) (result : Result T DiskFault) → KeepsLaws a → LeavesNow a P → Syncs a b result → LeavesOnly a b P

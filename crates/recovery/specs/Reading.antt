@@ -1,5 +1,5 @@
 -- How far the reading of a log has come.
-use Rattle.std.specs.Prelude.{◌≡◌, ℕ, ◌+◌, ◌*◌, ◌-◌, ◌<◌, ◌≤◌, min, List, length, take, drop, Some, Result, OnOk, IsErrOf}
+use Rattle.std.specs.Prelude.{◌≡◌, ◌≢◌, ℕ, ◌+◌, ◌*◌, ◌-◌, ◌<◌, ◌≤◌, min, List, length, take, drop, Some, Result, MatchResult, IsErrOf}
 use Rattle.causes.specs.Causes.{Rose}
 use Rattle.cell_format.specs.declared.cell.Cell.{Cell}
 use Rattle.disk_trait.specs.Drive.{Drive, SameFile, Stays}
@@ -38,12 +38,12 @@ abbrev pub GoesOn : ℕ → ℕ → ℕ → Drive → WalkView → Stop → Type
 GoesOn most len before drive walk (Clear n) = Ends most len n drive walk
 GoesOn most len before drive walk (Set n) = (before < n) × Reaches most len n drive walk
 
--- a call that only reads: the bytes and the images stay, the count doesn't fall, a success leaves it, and the drive's fault comes only
--- where it rose
+-- a call that only reads: the bytes and the images stay, the count doesn't fall, any answer but the drive's fault leaves it, and that fault
+-- comes only where it rose
 pub record OnlyReads {T : Type 0} (old new : Drive) (result : Result T OpenFault) : Type 0 where
   pub stays : Stays old new
   pub later : old.faults ≤ new.faults
-  pub same : OnOk result (new.faults ≡ old.faults)
+  pub same : MatchResult result (λ _. new.faults ≡ old.faults) (λ e. e ≢ Disk → new.faults ≡ old.faults)
   pub failed : IsErrOf result Disk → Rose old.faults new.faults
   pub file : SameFile old new
 
