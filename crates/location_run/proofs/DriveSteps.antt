@@ -1,6 +1,6 @@
 -- What an attach and what follows it come to.
-use Rattle.std.proofs.Common.{◌≡◌, ◌⊎◌, inl, inr, ◌∙◌, ℕ, ◌≤◌, Bool, List, length, Some, Result, Ok, Err, refl, ap, subst, arith}
-use Rattle.std.specs.Prelude.{IfErr}
+use Rattle.std.proofs.Common.{◌≡◌, ◌≢◌, ◌⊎◌, inl, inr, ◌∙◌, ℕ, ◌≤◌, Bool, List, length, Some, Result, Ok, Err, refl, ap, subst, arith}
+use Rattle.std.specs.Prelude.{IfErr, MatchResult}
 use Rattle.std.specs.Result.{IsErrAnd}
 use Rattle.causes.specs.Causes.{Rose}
 use Rattle.disk_trait.specs.declared.disk.AttachFault.{AttachFault}
@@ -21,6 +21,7 @@ use Rattle.recovery.proofs.OnlyReading.{rose-earlier, stays-trans}
 use Rattle.recovery.proofs.OpeningLemmas.{leaves-trans, leaves-stays}
 use Rattle.csv_rows.specs.declared.rows.Refusal.TheVariants as refusal
 use Rattle.location_run.specs.Limits.{most_cells}
+use Rattle.location_run.specs.Status.{status_of}
 use Rattle.location_run.specs.Making.{IsMakingCause, LeavesFile, making_refusal}
 use Rattle.location_run.specs.Checking.{IsCheckingCause, IsDecidedBy, attach_refusal, log_refusal}
 
@@ -43,11 +44,28 @@ pub attach-checking : {T : Type 0} (name : List ℕ) (make : Bool) (a b : Drive)
 attach-checking name make a b result attach_fault.Disk is counts = counts.failed is
 attach-checking name make a b result attach_fault.Memory is counts = tt
 
+-- only a drive that failed raises its count
+pub attach-calm : {T : Type 0} (name : List ℕ) (make : Bool) (a b : Drive) (result : Result T AttachFault) (fault : AttachFault) → result ≡ Err fault → CountsAttach name make a b result
+    → status_of (attach_refusal fault) ≢ 7 → b.faults ≡ a.faults
+attach-calm name make a b result attach_fault.Disk is counts other = absurd (other refl)
+attach-calm name make a b result attach_fault.Memory is counts other = counts.memory is
+
+pub making-calm : (a b c : Drive) (fault : InitFault) → b.faults ≡ a.faults → RefusesInit b c fault → status_of (making_refusal fault) ≢ 7 → c.faults ≡ a.faults
+making-calm a b c (init_fault.InUse len) same (long, told, stays, calm) other = calm ∙ same
+making-calm a b c init_fault.Disk same rose other = absurd (other refl)
+
+pub checking-calm : (a b c : Drive) (result : Result Seen OpenFault) (fault : OpenFault) → result ≡ Err fault → b.faults ≡ a.faults → OnlyReads b c result
+    → status_of (log_refusal fault) ≢ 7 → c.faults ≡ a.faults
+checking-calm a b c result fault is same reads other =
+    let P : Result Seen OpenFault → Type 0 = λ r. MatchResult r (λ _. c.faults ≡ b.faults) (λ e. e ≢ open_fault.Disk → c.faults ≡ b.faults) in
+    let calm : fault ≢ open_fault.Disk → c.faults ≡ b.faults = subst P is reads.same in
+    calm (λ disk. other (ap (λ f. status_of (log_refusal f)) disk)) ∙ same
+
 pub makes-after : (a b c : Drive) → Stays a b → b.faults ≡ a.faults → Makes 1 b c → Makes 1 a c
 makes-after a b c stays calm makes = record { log = λ bytes told. makes.log bytes (stays.bytes ∙ told); same = makes.same ∙ calm }
 
 pub making-after : (a b c : Drive) (fault : InitFault) → Stays a b → a.faults ≤ b.faults → RefusesInit b c fault → IsMakingCause a c (making_refusal fault)
-making-after a b c (init_fault.InUse len) stays later (long, same, rest) = (long, λ bytes told. same bytes (stays.bytes ∙ told), stays-trans a b c stays rest)
+making-after a b c (init_fault.InUse len) stays later (long, same, rest, calm) = (long, λ bytes told. same bytes (stays.bytes ∙ told), stays-trans a b c stays rest)
 making-after a b c init_fault.Disk stays later rose = rose-earlier a.faults b.faults c.faults later rose
 
 -- a log in which something is at fault

@@ -63,16 +63,17 @@ free-memory : (a b c : Drive) (cause : OpenFault) → a.faults ≤ b.faults → 
 free-memory a b c cause later calm (inl e) = ap log_refusal e
 free-memory a b c cause later calm (inr rose) = absurd (calm (rose-earlier a.faults b.faults c.faults later rose))
 
-pub open-refused : (a b c : Drive) (why : OpenFault) → KeepsLaws a → Stays a b → a.faults ≤ b.faults → ((bytes : List ℕ) → b.bytes ≡ Some bytes → IsFault 1 most_played bytes why)
+pub open-refused : (a b c : Drive) (why : OpenFault) → KeepsLaws a → Stays a b → a.faults ≤ b.faults → b.faults ≡ a.faults → ((bytes : List ℕ) → b.bytes ≡ Some bytes → IsFault 1 most_played bytes why)
     → ((bytes : List ℕ) (fault : OpenFault) → b.bytes ≡ Some bytes → IsInBytes fault → IsFault 1 most_played bytes fault → (why ≡ fault) ⊎ IsFree b c why)
     → ((bytes : List ℕ) (cells : List Cell) → b.bytes ≡ Some bytes → Recovers 1 cells bytes → length cells ≤ most_played → IsFree b c why)
     → KeepsCells 1 b c → (why ≡ open_fault.Disk → Rose b.faults c.faults) → LeavesUnopened 1 most_played b c why → IsNotOpened a c (log_refusal why)
-open-refused a b c why laws stays later wrong exact whole keeps rose leaves = record {
+open-refused a b c why laws stays later same wrong exact whole keeps rose leaves = record {
   cause = reading-after most_played a b c why stays later wrong rose;
   exact = λ bytes fault told shown at calm. named fault calm (exact bytes fault (stays.bytes ∙ told) shown at);
   whole = λ good. free-memory a b c why later good.calm (whole good.bytes good.first (stays.bytes ∙ good.told) good.recovers good.few);
   keeps = keeps-cells-after 1 a b c laws stays keeps;
   untouched = λ bytes told none. untouched-after a b c stays (leaves.no_log bytes (stays.bytes ∙ told) none);
+  calm = λ other. leaves.calm (λ disk. other (ap log_refusal disk)) ∙ same;
 }
   where
     named : (fault : OpenFault) → (Rose a.faults c.faults → ⊥) → (why ≡ fault) ⊎ IsFree b c why → (log_refusal why ≡ log_refusal fault) ⊎ (log_refusal why ≡ refusal.Memory)
@@ -87,6 +88,7 @@ attach-refused name make a b result attach_fault.Disk is laws stays counts = rec
   whole = λ good. absurd (good.calm (counts.failed is));
   keeps = keeps-stays-cells 1 a b laws stays;
   untouched = λ bytes told none. stays-untouched a b stays;
+  calm = λ other. absurd (other refl);
 }
 attach-refused name make a b result attach_fault.Memory is laws stays counts = record {
   cause = tt;
@@ -94,16 +96,18 @@ attach-refused name make a b result attach_fault.Memory is laws stays counts = r
   whole = λ good. refl;
   keeps = keeps-stays-cells 1 a b laws stays;
   untouched = λ bytes told none. stays-untouched a b stays;
+  calm = λ other. counts.memory is;
 }
 
 -- memory ran out once the log was open
-pub memory-refused : (a c : Drive) (why : Refusal) → why ≡ refusal.Memory → KeepsCells 1 a c → ((bytes : List ℕ) → a.bytes ≡ Some bytes → IsNoLog bytes → ⊥) → IsNotOpened a c why
-memory-refused a c why memory keeps log = subst (IsNotOpened a c) (sym memory) (record {
+pub memory-refused : (a c : Drive) (why : Refusal) → why ≡ refusal.Memory → KeepsCells 1 a c → ((bytes : List ℕ) → a.bytes ≡ Some bytes → IsNoLog bytes → ⊥) → c.faults ≡ a.faults → IsNotOpened a c why
+memory-refused a c why memory keeps log same = subst (IsNotOpened a c) (sym memory) (record {
   cause = tt;
   exact = λ bytes fault told shown at calm. inr refl;
   whole = λ good. refl;
   keeps = keeps;
   untouched = λ bytes told none. absurd (log bytes told none);
+  calm = λ other. same;
 })
 
 pub if-err : {A B : Type 0} (P Q : B → Type 0) (result : Result A B) → ((b : B) → P b → Q b) → IfErr result P → IfErr result Q

@@ -87,6 +87,8 @@ pub record EndsChecking {D : Type 0} (file : List ℕ) (old new : Targets D) (st
   pub ends : TellsCells old.drive status old.output new.output ⊎ EndsRefused (IsCheckingCause old.drive new.drive) status old.output new.output
   pub decided : IsDecided old.drive new.drive status old.output new.output
   pub stays : Stays old.drive new.drive
+  -- the drive's count is as it was, but where it is what is told to have failed
+  pub calm : status ≢ 7 → new.drive.faults ≡ old.drive.faults
   -- this file is attached, and none is made
   pub attached : status ≢ 7 → status ≢ 9 → new.drive.attached file false
 

@@ -46,6 +46,8 @@ pub record EndsMaking {D : Type 0} (file : List ℕ) (old new : Targets D) (stat
   pub whole : (bytes : List ℕ) → old.drive.bytes ≡ Some bytes → length bytes ≤ 17 → (Rose old.drive.faults new.drive.faults → ⊥) → (Rose old.output.faults new.output.faults → ⊥)
       → (status ≡ 0) ⊎ (status ≡ 9)
   pub leaves : LeavesFile old.drive new.drive
+  -- the drive's count is as it was, but where it is what is told to have failed
+  pub calm : status ≢ 7 → new.drive.faults ≡ old.drive.faults
   -- this file is attached, and made where it isn't there
   pub attached : status ≢ 7 → status ≢ 9 → new.drive.attached file true
 

@@ -58,7 +58,7 @@ pub record IsGoodLog (old new : Drive) : Type 0 where
   pub calm : Rose old.faults new.faults → ⊥
 
 -- why no log is opened: what the bytes show is told, and a good log is opened, unless the count rose or memory ran out. A file that is no such
--- log is left as it was, at every moment.
+-- log is left as it was, at every moment. The count is as it was, unless the drive is what is told to have failed.
 pub record IsNotOpened (old new : Drive) (why : Refusal) : Type 0 where
   pub cause : IsReadingCause most_played old new why
   pub exact : (bytes : List ℕ) (fault : OpenFault) → old.bytes ≡ Some bytes → IsInBytes fault → IsFault width most_played bytes fault → (Rose old.faults new.faults → ⊥)
@@ -66,6 +66,7 @@ pub record IsNotOpened (old new : Drive) (why : Refusal) : Type 0 where
   pub whole : IsGoodLog old new → why ≡ refusal.Memory
   pub keeps : KeepsCells width old new
   pub untouched : (bytes : List ℕ) → old.bytes ≡ Some bytes → ((first : List Cell) → Recovers width first bytes → length first ≤ most_played → ⊥) → IsUntouched old new
+  pub calm : why ≢ refusal.Disk None → new.faults ≡ old.faults
 
 -- why there is no book for rows: without a log memory ran out, and the drive is left as it was
 abbrev pub HasNoBook : {D : Type 0} → Option (List ℕ) → Targets D → Targets D → Refusal → Type 0

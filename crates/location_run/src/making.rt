@@ -55,6 +55,7 @@ fn make_in<D: LogDisk>(alloc: Global, file: &str, mut disk: D) -> Result<D, Unma
     ensures made { IfOk result (λ new. Makes width (D.drive disk) (D.drive new)) }
     ensures cause { IfErr result (λ e. IsMakingCause (D.drive disk) (D.drive e.disk) e.why) }
     ensures attached { MatchResult result (λ new. (D.drive new).attached file.now true) (λ e. status_of e.why ≢ 7 → status_of e.why ≢ 9 → (D.drive e.disk).attached file.now true) }
+    ensures calm { IfErr result (λ e. status_of e.why ≢ 7 → (D.drive e.disk).faults ≡ (D.drive disk).faults) }
     ensures leaves { MatchResult result (λ new. LeavesFile (D.drive disk) (D.drive new)) (λ e. LeavesFile (D.drive disk) (D.drive e.disk)) }
 {
     if let Err(fault) = disk.attach(alloc, file, true) {

@@ -1,4 +1,4 @@
-use Rattle.std.proofs.Common.{None, ◌∙◌, refl, sym, subst}
+use Rattle.std.proofs.Common.{None, ◌∙◌, refl, sym, ap, subst}
 use Rattle.kept_log.specs.Kept.{IsOpened, found_state}
 use Rattle.recovery.specs.Opening.{KeepsCells}
 use Rattle.kept_log.proofs.Starting.{opened-found}
@@ -22,7 +22,8 @@ returns-in-Ok-clause-refused g c =
     let drive = g.D.LogDisk.drive in
     if-err _ _ c.book_of.result (λ e back. memory-refused (drive c.args.disk) (drive e.disk) e.why back.1
     (subst (λ d. KeepsCells 1 (drive c.args.disk) (drive d)) (sym back.0) (keeps-cells-after 1 (drive c.args.disk) (drive c.attach.new.self) (drive c.in-Ok.opened.log.disk) (g.met.D.LogDisk.keeps_laws c.args.disk) c.in_default.ensures.stays c.in-Ok.ensures.any_moment))
-    (λ bytes told none. none c.in-Ok.ensures.found.cells (c.in-Ok.ensures.found.recovers bytes (c.in_default.ensures.stays.bytes ∙ told)) c.in-Ok.ensures.found.few))
+    (λ bytes told none. none c.in-Ok.ensures.found.cells (c.in-Ok.ensures.found.recovers bytes (c.in_default.ensures.stays.bytes ∙ told)) c.in-Ok.ensures.found.few)
+    (ap (λ d. (drive d).faults) back.0 ∙ c.in-Ok.ensures.ready.same ∙ c.in_default.ensures.cause.same))
     c.book_of.ensures.back
 
 pub returns-in-Err-open-clause-refused : goal.returns-in-Err-open-clause-refused
@@ -31,7 +32,7 @@ returns-in-Err-open-clause-refused g c =
     let by = c.in-Err-open.ensures in
     let e = c.in-Err-open.field-0 in
     subst (λ (why : Refusal). IsNotOpened (drive c.args.disk) (drive e.disk) why) (sym c.log_refusal-why.ensures)
-    (open-refused (drive c.args.disk) (drive c.attach.new.self) (drive e.disk) e.cause (g.met.D.LogDisk.keeps_laws c.args.disk) c.attach.ensures.stays c.attach.ensures.cause.later by.fault by.exact by.whole by.any_moment by.rose by.untouched)
+    (open-refused (drive c.args.disk) (drive c.attach.new.self) (drive e.disk) e.cause (g.met.D.LogDisk.keeps_laws c.args.disk) c.attach.ensures.stays c.attach.ensures.cause.later c.in_default.ensures.cause.same by.fault by.exact by.whole by.any_moment by.rose by.untouched)
 
 pub returns-in-Ok-clause-opened : goal.returns-in-Ok-clause-opened
 returns-in-Ok-clause-opened g c =
