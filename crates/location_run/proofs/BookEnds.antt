@@ -26,8 +26,8 @@ use Rattle.location_run.specs.Limits.{width, most_played}
 use Rattle.io_edge.specs.Streams.{Output}
 use Rattle.location_run.specs.Origin.{origin_of}
 use Rattle.location_run.specs.Splits.{IsSettled, cells_now}
-use Rattle.location_run.specs.Tidy.{calls_alone, are_tidy, IsTidy, IsSizedOrFull}
-use Rattle.location_run.specs.Books.{OpensBook, count_in}
+use Rattle.location_run.specs.inside.Tidy.{calls_alone, are_tidy, IsTidy, IsSizedOrFull}
+use Rattle.location_run.specs.inside.Books.{OpensBook, count_in}
 use Rattle.location_run.specs.Answers.{AnswersAsOneList}
 use Rattle.location_run.proofs.TidySteps.{stray_begins-tidy}
 use Rattle.location_run.proofs.Ends.{answers-all}

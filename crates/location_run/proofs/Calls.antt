@@ -12,7 +12,7 @@ use Rattle.plain_list.specs.History.{replies, world_after}
 use Rattle.plain_list.specs.Played.{calls_of}
 use Rattle.csv_rows.specs.Lines.{title_line}
 use Rattle.location_run.specs.Lines.{lines_of, line_at, line_if, row_place, row_place_from}
-use Rattle.location_run.specs.Tidy.{calls_alone}
+use Rattle.location_run.specs.inside.Tidy.{calls_alone}
 
 pub calls_alone-append : (h g : List Entry) → calls_alone (h ++ g) ≡ calls_alone h ++ calls_alone g
 calls_alone-append [] g = refl

@@ -17,8 +17,8 @@ use Rattle.csv_rows.specs.declared.rows.Refusal.TheVariants as refusal
 use Rattle.csv_rows.specs.Lines.{title_line}
 use Rattle.location_run.specs.Lines.{lines_of, lines_from, entries_from, session_rows, session_rows_from}
 use Rattle.location_run.specs.Status.{status_of, WritesLines}
-use Rattle.location_run.specs.Tidy.{calls_alone}
-use Rattle.location_run.specs.Plays.{HasCalled}
+use Rattle.location_run.specs.inside.Tidy.{calls_alone}
+use Rattle.location_run.specs.inside.Plays.{HasCalled}
 use Rattle.location_run.specs.Taking.{TakesLine}
 use Rattle.location_run.specs.Limits.{width}
 use Rattle.io_edge.specs.Streams.{Output}

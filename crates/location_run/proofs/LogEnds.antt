@@ -24,7 +24,7 @@ use Rattle.kept_log.proofs.InJournal.{failed_cell-last, has_failed-none}
 use Rattle.location_run.specs.LostSteps.{IsNextStep, LosesStep}
 use Rattle.location_run.specs.Answers.{AnswersAsOneList}
 use Rattle.location_run.specs.Playing.{IsStop, EndsRows, IsAnswered}
-use Rattle.location_run.specs.Books.{StopsBook, LeavesLog, OpensBook, count_in}
+use Rattle.location_run.specs.inside.Books.{StopsBook, LeavesLog, OpensBook, count_in}
 use Rattle.location_run.proofs.CrashFacts.{some-same, keeps-opened}
 
 -- the log of a book, as it is left

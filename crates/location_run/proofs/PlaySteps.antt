@@ -17,8 +17,8 @@ use Rattle.kept_log.proofs.InJournal.{failed_cell-push, has_failed-none}
 use Rattle.commit_book.specs.BookView.{BookView}
 use Rattle.commit_book.specs.IsBook.{SameOrigin}
 use Rattle.location_run.specs.Lines.{entries_from}
-use Rattle.location_run.specs.Tidy.{calls_alone, are_tidy, IsTidy, Tidies}
-use Rattle.location_run.specs.Plays.{NotesRow, StopsRow, IsPlay, HasCalled}
+use Rattle.location_run.specs.inside.Tidy.{calls_alone, are_tidy, IsTidy, Tidies}
+use Rattle.location_run.specs.inside.Plays.{NotesRow, StopsRow, IsPlay, HasCalled}
 use Rattle.location_run.specs.declared.faults.PlayFault.{PlayFault}
 use Rattle.location_run.specs.declared.play.Play.{Play}
 use Rattle.location_run.proofs.Calls.{calls_alone-append, replies-calls, world_after-calls}
@@ -29,7 +29,7 @@ use Rattle.plain_list.specs.declared.entries.Lost.{Lost}
 use Rattle.plain_list.specs.declared.entries.Lost.TheVariants as lost_step
 use Rattle.plain_list.specs.Played.{calls_of}
 use Rattle.location_run.specs.Lines.{session_rows, session_rows_from}
-use Rattle.location_run.specs.Stops.{IsCallAt}
+use Rattle.location_run.specs.inside.Stops.{IsCallAt}
 use Rattle.location_run.specs.LostSteps.{IsNextRow, IsNextStep, IsSplitStep}
 use Rattle.location_run.proofs.Ends.{calls-rows}
 use Rattle.location_run.proofs.TidySteps.{are_tidy-append}

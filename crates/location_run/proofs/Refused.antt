@@ -15,9 +15,9 @@ use Rattle.commit_book.specs.BookView.{BookView}
 use Rattle.commit_book.specs.declared.faults.BookFault.{BookFault}
 use Rattle.commit_book.specs.declared.faults.BookFault.TheVariants as book
 use Rattle.commit_book.specs.Refusals.{IsMemoryOrDisk, IsRefusedBy, WouldChange, Closes, LeavesRefused, first_of, call_refusal, end_refusal, has_no_room, room_refusal}
-use Rattle.location_run.specs.Room.{IsRoom, IsRoomOrFault}
-use Rattle.location_run.specs.Stops.{book_fault, Stops, StopsAt}
-use Rattle.location_run.specs.Tidy.{calls_alone, IsPastRoom}
+use Rattle.location_run.specs.inside.Room.{IsRoom, IsRoomOrFault}
+use Rattle.location_run.specs.inside.Stops.{book_fault, Stops, StopsAt}
+use Rattle.location_run.specs.inside.Tidy.{calls_alone, IsPastRoom}
 use Rattle.location_run.specs.declared.faults.PlayFault.{PlayFault}
 use Rattle.location_run.specs.declared.faults.PlayFault.TheVariants.{Memory, Disk}
 use Rattle.location_run.proofs.Calls.{calls_alone-append}

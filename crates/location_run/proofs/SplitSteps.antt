@@ -27,10 +27,10 @@ use Rattle.commit_book.specs.declared.faults.BookFault.{BookFault}
 use Rattle.commit_book.specs.Refusals.{IsMemoryOrDisk, WouldChange, LeavesRefused, has_no_room, begin_refusal}
 use Rattle.commit_book.specs.BookView.{BookView}
 use Rattle.commit_book.proofs.SplitCalls.{begin-full, full_leaf-free}
-use Rattle.location_run.specs.Room.{IsRoom}
-use Rattle.location_run.specs.Stops.{book_fault, Stops}
+use Rattle.location_run.specs.inside.Room.{IsRoom}
+use Rattle.location_run.specs.inside.Stops.{book_fault, Stops}
 use Rattle.location_run.specs.Splits.{is_full_leaf}
-use Rattle.location_run.specs.Tidy.{calls_alone, are_tidy, IsTidy, MayBeFull, TellsFull, Tidies, SplitsLeaf, SplitsTold}
+use Rattle.location_run.specs.inside.Tidy.{calls_alone, are_tidy, IsTidy, MayBeFull, TellsFull, Tidies, SplitsLeaf, SplitsTold}
 use Rattle.location_run.specs.declared.faults.PlayFault.{PlayFault}
 use Rattle.location_run.proofs.Calls.{calls_alone-append}
 use Rattle.location_run.proofs.TidySteps.{are_tidy-append, going-tidy}

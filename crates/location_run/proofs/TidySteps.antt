@@ -9,7 +9,7 @@ use Rattle.plain_list.specs.declared.entries.Entry.TheVariants.{Fail, Call, Begi
 use Rattle.plain_list.specs.State.{State, step, state_after}
 use Rattle.kept_log.specs.Journal.{failed_cell}
 use Rattle.location_run.specs.Splits.{abandons, is_full_leaf, stray_begins}
-use Rattle.location_run.specs.Tidy.{is_tidy, are_tidy}
+use Rattle.location_run.specs.inside.Tidy.{is_tidy, are_tidy}
 
 pub are_tidy-append : (w size : ℕ) (s : State) (h g : List Entry) → are_tidy w size s h ≡ true → are_tidy w size (state_after w s h) g ≡ true → are_tidy w size s (h ++ g) ≡ true
 are_tidy-append w size s [] g first second = second

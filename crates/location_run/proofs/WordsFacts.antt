@@ -7,7 +7,7 @@ use Rattle.csv_rows.specs.Numbers.{number_in}
 use Rattle.location_run.specs.Ends.{Ends}
 use Rattle.location_run.specs.declared.words.Command as declared
 use Rattle.location_run.specs.declared.words.Command.TheVariants as declared_command
-use Rattle.location_run.specs.Asked.{command_of, file_of}
+use Rattle.location_run.specs.inside.Asked.{command_of, file_of}
 use Rattle.location_run.specs.Playing.{Goes}
 use Rattle.location_run.proofs.PlayFacts.{plays-of}
 use Rattle.location_run.specs.Run.{Keeps, KeepsAsked}

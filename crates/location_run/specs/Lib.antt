@@ -1,7 +1,6 @@
 pub mod Limits
 pub mod Ends
 pub mod Words
-pub mod Asked
 pub mod Judged
 pub mod Status
 pub mod Taking
@@ -12,16 +11,12 @@ pub mod Lines
 pub mod Origin
 pub mod LostSteps
 pub mod Splits
-pub mod Tidy
-pub mod Room
-pub mod Stops
-pub mod Plays
-pub mod Books
 pub mod Answers
 pub mod Playing
 pub mod Run
 pub mod Crash
 pub mod Examples
+pub mod inside
 pub use Rattle.causes.specs.Causes
 pub use Rattle.disk_trait.specs.Drive
 pub use Rattle.log_state.specs.Recovers

@@ -1,7 +1,7 @@
 //! What is left of a book's faults where a call has no other cause to refuse.
 ghost use Rattle.std.specs.Prelude.{◌≡◌};
 ghost use Rattle.commit_book.specs.Refusals.{IsMemoryOrDisk};
-ghost use Rattle.location_run.specs.Stops.{book_fault};
+ghost use Rattle.location_run.specs.inside.Stops.{book_fault};
 
 use commit_book::BookFault;
 

@@ -3,7 +3,7 @@ ghost use Rattle.std.specs.Prelude.{◌≡◌, ◌≤◌, Some, None, IfOk, IfEr
 ghost use Rattle.kept_log.specs.Kept.{IsOpened, found_state};
 ghost use Rattle.recovery.specs.Found.{IsFound};
 ghost use Rattle.location_run.specs.Limits.{width, most_played};
-ghost use Rattle.location_run.specs.Books.{IsNewBook, OpensBook};
+ghost use Rattle.location_run.specs.inside.Books.{IsNewBook, OpensBook};
 ghost use Rattle.location_run.specs.Playing.{IsNotOpened};
 
 use crate::limits::{MOST_PLAYED, StoreIndex, WIDTH};

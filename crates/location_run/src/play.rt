@@ -3,10 +3,10 @@ ghost use Rattle.std.specs.Prelude.{◌≡◌, ◌+◌, ◌<◌, [], IfErr, OnOk
 ghost use Rattle.plain_list.specs.World.{IsWorld};
 ghost use Rattle.commit_book.specs.IsBook.{SameOrigin};
 ghost use Rattle.csv_rows.specs.InRows.{AreInRows};
-ghost use Rattle.location_run.specs.Plays.{IsBegun, IsPlay, HasCalled};
-ghost use Rattle.location_run.specs.Stops.{StopsAt};
+ghost use Rattle.location_run.specs.inside.Plays.{IsBegun, IsPlay, HasCalled};
+ghost use Rattle.location_run.specs.inside.Stops.{StopsAt};
 ghost use Rattle.location_run.specs.LostSteps.{IsNextStep};
-ghost use Rattle.location_run.specs.Tidy.{IsSizedOrFull};
+ghost use Rattle.location_run.specs.inside.Tidy.{IsSizedOrFull};
 
 use crate::faults::PlayFault;
 use crate::replies::answer_row;

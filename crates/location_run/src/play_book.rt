@@ -7,7 +7,7 @@ ghost use Rattle.location_run.specs.Status.{WritesLines};
 ghost use Rattle.location_run.specs.Splits.{IsSettled};
 ghost use Rattle.location_run.specs.LostSteps.{IsNextStep};
 ghost use Rattle.location_run.specs.Limits.{width};
-ghost use Rattle.location_run.specs.Books.{IsNewBook, StopsBook, LeavesLog, count_in, play_refusal};
+ghost use Rattle.location_run.specs.inside.Books.{IsNewBook, StopsBook, LeavesLog, count_in, play_refusal};
 ghost use Rattle.location_run.specs.Playing.{EndsRows};
 ghost use Rattle.location_run.specs.Answers.{AnswersAsOneList};
 

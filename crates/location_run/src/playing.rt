@@ -3,7 +3,7 @@ ghost use Rattle.std.specs.Prelude.{◌≡◌, true, [], Some, None, is_some};
 ghost use Rattle.csv_rows.specs.InRows.{AreInRows};
 ghost use Rattle.location_run.specs.Ends.{ends, targets};
 ghost use Rattle.location_run.specs.Taking.{Refuses};
-ghost use Rattle.location_run.specs.Asked.{file_of};
+ghost use Rattle.location_run.specs.inside.Asked.{file_of};
 ghost use Rattle.location_run.specs.Playing.{Goes, PlaysRows};
 
 use crate::input::read_judged;

@@ -7,8 +7,8 @@ ghost use Rattle.index_layer.specs.Stands.{Stands};
 ghost use Rattle.commit_book.specs.Answers.{IsUpdate, IsQuery};
 ghost use Rattle.commit_book.specs.IsBook.{SameOrigin};
 ghost use Rattle.csv_rows.specs.InRows.{IsInRow};
-ghost use Rattle.location_run.specs.Plays.{HasRoom, NotesRow, RepliesTo, StopsRow};
-ghost use Rattle.location_run.specs.Stops.{Stops, IsCallAt};
+ghost use Rattle.location_run.specs.inside.Plays.{HasRoom, NotesRow, RepliesTo, StopsRow};
+ghost use Rattle.location_run.specs.inside.Stops.{Stops, IsCallAt};
 
 use crate::faults::{PlayFault, play_fault};
 use crate::queries::{near, within};

@@ -3,10 +3,10 @@ ghost use Rattle.std.specs.Prelude.{◌≡◌, false, Some, IfOk, IfErr, OnOk, M
 ghost use Rattle.plain_list.specs.Size.{full_leaf};
 ghost use Rattle.plain_list.specs.State.{state_after};
 ghost use Rattle.commit_book.specs.IsBook.{SameOrigin};
-ghost use Rattle.location_run.specs.Room.{IsRoom, IsRoomOrFault};
-ghost use Rattle.location_run.specs.Stops.{Stops, book_fault};
+ghost use Rattle.location_run.specs.inside.Room.{IsRoom, IsRoomOrFault};
+ghost use Rattle.location_run.specs.inside.Stops.{Stops, book_fault};
 ghost use Rattle.location_run.specs.LostSteps.{IsSplitStep};
-ghost use Rattle.location_run.specs.Tidy.{IsTidy, MayBeFull, Tidies, SplitsLeaf, SplitsTold, IsSizedOrFull};
+ghost use Rattle.location_run.specs.inside.Tidy.{IsTidy, MayBeFull, Tidies, SplitsLeaf, SplitsTold, IsSizedOrFull};
 
 use crate::faults::{PlayFault, play_fault};
 use commit_book::{Book, BookFault};

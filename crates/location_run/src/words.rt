@@ -3,7 +3,7 @@ ghost use Rattle.std.specs.Prelude.{◌≡◌, ◌↔◌, ◌≤◌, ℕ, List, 
 ghost use Rattle.std.specs.String.{string_bytes};
 ghost use Rattle.csv_rows.specs.Numbers.{number_in};
 ghost use Rattle.location_run.specs.Words.{AsksFor, SpellsPlay, IsAccepted, IsPlay, NamesFile, is_file_name};
-ghost use Rattle.location_run.specs.Asked.{command_of};
+ghost use Rattle.location_run.specs.inside.Asked.{command_of};
 
 use csv_rows::number_in;
 

@@ -1,7 +1,7 @@
 use Rattle.std.proofs.Common.{take, refl, subst, arith}
 use Rattle.std.proofs.lemmas.List.{take_all}
 use Rattle.std.proofs.lemmas.Result.{on_ok_weaker}
-use Rattle.location_run.specs.Plays.{IsPlay}
+use Rattle.location_run.specs.inside.Plays.{IsPlay}
 use Rattle.location_run.proofs.PlaySteps.{IsPlay-settled}
 use Rattle.location_run.proofs.play.answer_rows.Goals as goal
 

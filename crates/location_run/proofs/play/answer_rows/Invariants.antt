@@ -1,6 +1,6 @@
 use Rattle.std.proofs.Common.{take}
 use Rattle.commit_book.specs.IsBook.{SameOrigin}
-use Rattle.location_run.specs.Plays.{IsPlay}
+use Rattle.location_run.specs.inside.Plays.{IsPlay}
 use Rattle.location_run.proofs.play.answer_rows.Given as goal
 
 abbrev pub invariant-loop-i : goal.invariant-loop-i

@@ -4,7 +4,7 @@ use Rattle.location_run.specs.Status.{WritesLines}
 use Rattle.location_run.specs.Splits.{IsSettled}
 use Rattle.location_run.specs.LostSteps.{IsNextStep}
 use Rattle.location_run.specs.Answers.{AnswersAsOneList}
-use Rattle.location_run.specs.Books.{StopsBook, LeavesLog, count_in}
+use Rattle.location_run.specs.inside.Books.{StopsBook, LeavesLog, count_in}
 use Rattle.location_run.specs.Playing.{EndsRows}
 use Rattle.location_run.proofs.LogEnds.{answered-over}
 use Rattle.location_run.proofs.playing.play_over.Goals as goal

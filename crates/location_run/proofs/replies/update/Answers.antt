@@ -1,7 +1,7 @@
 use Rattle.plain_list.specs.declared.entries.Entry.TheVariants.{Call}
 use Rattle.plain_list.specs.declared.entries.Lost.TheVariants as lost
 use Rattle.std.proofs.Common.{inl, refl}
-use Rattle.location_run.specs.Stops.{IsCallAt}
+use Rattle.location_run.specs.inside.Stops.{IsCallAt}
 use Rattle.location_run.proofs.Origins.{cells-more}
 use Rattle.location_run.proofs.Refused.{Stops-refused}
 use Rattle.location_run.proofs.replies.update.Goals as goal

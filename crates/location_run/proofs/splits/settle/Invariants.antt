@@ -1,6 +1,6 @@
 use Rattle.std.proofs.Common.{◌-◌, length}
 use Rattle.commit_book.specs.IsBook.{SameOrigin}
-use Rattle.location_run.specs.Tidy.{Tidies}
+use Rattle.location_run.specs.inside.Tidy.{Tidies}
 use Rattle.location_run.proofs.splits.settle.Given as goal
 
 abbrev pub invariant-loop-name : goal.invariant-loop-name

@@ -1,5 +1,5 @@
 use Rattle.std.proofs.Common.{sym, subst}
-use Rattle.location_run.specs.Tidy.{SplitsTold}
+use Rattle.location_run.specs.inside.Tidy.{SplitsTold}
 use Rattle.location_run.proofs.SplitSteps.{Tidies-split, SplitsTold-split}
 use Rattle.location_run.proofs.splits.split_full.Goals as goal
 

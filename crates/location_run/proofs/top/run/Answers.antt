@@ -2,7 +2,7 @@ use Rattle.std.proofs.Common.{rules, map}
 use Rattle.std.specs.String.{string_bytes}
 use Rattle.location_run.specs.Ends.{ends}
 use Rattle.location_run.specs.Words.{AsksFor}
-use Rattle.location_run.specs.Asked.{command_of}
+use Rattle.location_run.specs.inside.Asked.{command_of}
 use Rattle.location_run.specs.declared.words.Command.TheVariants.{Play}
 use Rattle.location_run.proofs.WordsFacts.{keeps-asked, keeps-play}
 use Rattle.location_run.proofs.top.run.Goals as goal

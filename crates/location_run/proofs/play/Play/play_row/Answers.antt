@@ -1,9 +1,9 @@
 use Rattle.std.proofs.Common.{◌+◌, take, Result, Ok, Err, ◌∙◌, sym, subst}
 use Rattle.std.specs.Prelude.{OnErr, IfErr}
 use Rattle.std.proofs.lemmas.Result.{on_ok_weaker}
-use Rattle.location_run.specs.Plays.{IsPlay}
+use Rattle.location_run.specs.inside.Plays.{IsPlay}
 use Rattle.std.specs.Result.{IsErrAnd}
-use Rattle.location_run.specs.Stops.{StopsAt}
+use Rattle.location_run.specs.inside.Stops.{StopsAt}
 use Rattle.location_run.specs.LostSteps.{IsNextStep}
 use Rattle.location_run.proofs.SplitSteps.{MayBeFull-tells}
 use Rattle.location_run.proofs.Refused.{StopsAt-weaker}

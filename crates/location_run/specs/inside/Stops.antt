@@ -11,7 +11,7 @@ use Rattle.plain_list.specs.Answer.{answer_of, is_change}
 use Rattle.plain_list.specs.History.{world_after}
 use Rattle.csv_rows.specs.declared.rows.InRow.{InRow}
 use Rattle.location_run.specs.LostSteps.{LosesStep}
-use Rattle.location_run.specs.Tidy.{calls_alone}
+use Rattle.location_run.specs.inside.Tidy.{calls_alone}
 use Rattle.location_run.specs.declared.faults.PlayFault.{PlayFault}
 use Rattle.location_run.specs.declared.faults.PlayFault.TheVariants.{Memory, Disk}
 

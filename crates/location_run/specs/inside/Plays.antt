@@ -12,8 +12,8 @@ use Rattle.commit_book.specs.BookView.{BookView}
 use Rattle.commit_book.specs.IsBook.{most_events}
 use Rattle.commit_book.specs.Refusals.{most_cells}
 use Rattle.location_run.specs.Lines.{entries_from}
-use Rattle.location_run.specs.Tidy.{calls_alone, IsTidy, TellsFull}
-use Rattle.location_run.specs.Stops.{StopsAt, IsCallAt}
+use Rattle.location_run.specs.inside.Tidy.{calls_alone, IsTidy, TellsFull}
+use Rattle.location_run.specs.inside.Stops.{StopsAt, IsCallAt}
 use Rattle.location_run.specs.declared.faults.PlayFault.{PlayFault}
 use Rattle.location_run.specs.declared.play.Play.{Play}
 
