@@ -1,14 +1,11 @@
 -- What the ways that a play goes tell of its status.
-use Rattle.std.proofs.Common.{◌≡◌, ◌⊎◌, inl, inr, ◌∙◌, ℕ, List, Option, Some, None, Result, Ok, Err, refl, sym, ap, subst}
+use Rattle.std.proofs.Common.{◌≡◌, ◌⊎◌, inl, inr, ◌∙◌, ℕ, List, Option, Some, None, Result, Ok, Err, refl, ap}
 use Rattle.causes.specs.Causes.{Rose}
 use Rattle.disk_trait.specs.Drive.{Drive}
 use Rattle.plain_list.specs.declared.entries.Entry.{Entry}
-use Rattle.recovery.specs.Faults.{IsFault, IsInBytes}
-use Rattle.recovery.specs.declared.seen.OpenFault.{OpenFault}
 use Rattle.csv_rows.specs.declared.rows.InRow.{InRow}
 use Rattle.csv_rows.specs.declared.rows.Refusal.{Refusal}
 use Rattle.csv_rows.specs.declared.rows.Refusal.TheVariants as refusal
-use Rattle.location_run.specs.Limits.{width, most_played}
 use Rattle.io_edge.specs.Streams.{Input}
 use Rattle.location_run.specs.Ends.{Ends, Targets}
 use Rattle.location_run.specs.Origin.{Origin}
@@ -16,7 +13,7 @@ use Rattle.location_run.specs.Judged.{judged}
 use Rattle.location_run.specs.Status.{status_of}
 use Rattle.location_run.specs.Ending.{EndsRefused}
 use Rattle.location_run.specs.Checking.{log_refusal}
-use Rattle.location_run.specs.Playing.{IsInputCause, IsGood, FollowsLog, HasNoBook, IsStop, EndsRows, PlaysRows, IsUnread, IsRead, Goes, Plays}
+use Rattle.location_run.specs.Playing.{IsInputCause, IsGood, FollowsLog, HasNoBook, IsStop, EndsRows, PlaysRows, IsRead, Goes, Plays}
 
 err-same : (rows : Result (List InRow) Refusal) (a b : Refusal) → rows ≡ Err a → rows ≡ Err b → a ≡ b
 err-same rows a b first second = cc (first, second)

@@ -28,7 +28,7 @@ use Rattle.plain_list.specs.declared.ops.Op.{Op}
 use Rattle.plain_list.specs.declared.entries.Lost.{Lost}
 use Rattle.plain_list.specs.declared.entries.Lost.TheVariants as lost_step
 use Rattle.plain_list.specs.Played.{calls_of}
-use Rattle.location_run.specs.Lines.{session_rows, session_rows_from}
+use Rattle.location_run.specs.Lines.{session_rows_from}
 use Rattle.location_run.specs.inside.Stops.{IsCallAt}
 use Rattle.location_run.specs.LostSteps.{IsNextRow, IsNextStep, IsSplitStep}
 use Rattle.location_run.proofs.Ends.{calls-rows}

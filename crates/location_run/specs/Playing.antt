@@ -18,7 +18,6 @@ use Rattle.io_edge.specs.Streams.{Input, Output}
 use Rattle.location_run.specs.Ends.{Ends, Targets}
 use Rattle.location_run.specs.Judged.{judged}
 use Rattle.location_run.specs.Status.{status_of, WritesLines}
-use Rattle.location_run.specs.Taking.{Refuses}
 use Rattle.location_run.specs.Ending.{EndsRefused}
 use Rattle.location_run.specs.Checking.{IsReadingCause, log_refusal}
 use Rattle.location_run.specs.Origin.{Origin, IsOrigin}

@@ -6,7 +6,6 @@ use Rattle.csv_rows.specs.Lines.{title_line}
 use Rattle.location_run.specs.Lines.{lines_from}
 use Rattle.location_run.specs.Splits.{IsSettled}
 use Rattle.location_run.specs.Limits.{width}
-use Rattle.io_edge.specs.Streams.{Output}
 use Rattle.location_run.specs.inside.Books.{count_in}
 use Rattle.location_run.specs.Answers.{AnswersAsOneList}
 use Rattle.location_run.proofs.Ends.{answers-some, replies-count, no-lines}
