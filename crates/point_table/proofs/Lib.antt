@@ -1,0 +1,16 @@
+pub mod Counting
+pub mod Covered
+pub mod CrowdLemmas
+pub mod CrowdedNames
+pub mod Folding
+pub mod FoundLeaves
+pub mod FullLemmas
+pub mod KeyPlaces
+pub mod MemberSteps
+pub mod Rising
+pub mod RisingMembers
+pub mod RowSteps
+pub mod SplitLemmas
+pub mod Standing
+pub mod StandingLess
+pub mod TableSteps

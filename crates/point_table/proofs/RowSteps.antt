@@ -1,0 +1,168 @@
+-- What a table keeps once a row was put into its index, or taken out.
+use Rattle.std.proofs.Common.{◌≡◌, ℕ, Bool, true, false, cond, ◌≤◌, List, [], ◌∷◌, Option, Some, None, arith, refl, sym, ap, subst, ◌∙◌}
+use Rattle.std.specs.Prelude.{IfSome, OnOk, Result, Ok, Err, ◌==◌, ◌&&◌}
+use Rattle.std.specs.List.{AllByRecursion}
+use Rattle.std.specs.Option.{option_map}
+use Rattle.zorder.specs.declared.points.Point.{Point}
+use Rattle.zorder.specs.declared.points.Placed.{Placed}
+use Rattle.zorder.specs.Key.{key_of, is_under}
+use Rattle.zorder.specs.SameName.{same_name, same_name-decides}
+use Rattle.bucket_versions.specs.Rows.{Rows, has_row, put_row, gone_row}
+use Rattle.index_layer.specs.Leaves.{Leaf, AreLeaves, names_of, has_name, leaf_under, replaced, with_bucket}
+use Rattle.index_layer.specs.RowChanges.{ChangesAt, Moves}
+use Rattle.index_layer.specs.Stands.{HasRowsOf, is_at_key}
+use Rattle.zorder.specs.Tile.{tiles_from}
+use Rattle.index_layer.proofs.LeafChanges.{names_of-replaced}
+use Rattle.index_layer.proofs.MovedRows.{leaf_under-replaced}
+use Rattle.index_layer.proofs.FoundLeaves.{found_named}
+use Rattle.point_table.proofs.Standing.{found_has}
+use Rattle.std.proofs.lemmas.Bool.{eq-eqb}
+use Rattle.plain_list.proofs.Members.{place_of-without}
+use Rattle.point_table.proofs.CrowdLemmas.{crowded_of-replaced}
+use Rattle.std.proofs.lemmas.Bool.Decides.{nat_tests}
+use Rattle.std.proofs.lemmas.Grind.{common_steps}
+use Rattle.plain_list.specs.World.{IsWorld, IsRising, place_of}
+use Rattle.plain_list.specs.Answer.{with_member, with_moved, without}
+use Rattle.plain_list.proofs.MemberMaps.{with_moved-absent, IsAbove-lower}
+use Rattle.point_table.specs.Crowds.{crowded_of, mark_under}
+use Rattle.point_table.proofs.TableSteps.{Steps, put_steps, gone_steps, as_leaf, with_member-without}
+
+-- what holds of each value holds of an option's
+pub if_some : {A : Type 0} (o : Option A) (P : A → Type 0) → ((a : A) → o ≡ Some a → P a) → IfSome o P
+if_some None P each = tt
+if_some (Some a) P each = each a refl
+
+-- the leaf of the key after the change
+pub leaf_after : (key : ℕ) (change : Rows → Rows) (old new : List Leaf) (at : ChangesAt key change old new)
+    → leaf_under key new ≡ Some (record { name = at.leaf.name; bucket = change at.leaf.bucket })
+leaf_after key change old new at =
+    ap (leaf_under key) at.leaves ∙ leaf_under-replaced key at.leaf.name (change at.leaf.bucket) old
+    ∙ ap (option_map (with_bucket at.leaf.name (change at.leaf.bucket))) at.found
+    ∙ ap (λ b. Some (cond b (record { name = at.leaf.name; bucket = change at.leaf.bucket }) at.leaf)) ((same_name-decides at.leaf.name at.leaf.name).1 refl)
+
+module _ (w size : ℕ) (old new : List Leaf) (world : List Placed) (names after : List (List Bool)) (are : AreLeaves old) (rows : AllByRecursion (HasRowsOf world) old)
+    (was : names ≡ crowded_of w size old) where
+  pub put_after : (id : ℕ) (at : Point) → place_of world id ≡ None → (change : ChangesAt (key_of at) (put_row (record { key = key_of at; id = id })) old new)
+      → ((l : Leaf) → leaf_under (key_of at) new ≡ Some l → after ≡ mark_under w size l names) → Steps w size old new (with_member (record { id = id; at = at }) world) after
+  put_after id at none change marks =
+      let key = key_of at in
+      let row = put_row (record { key = key; id = id }) in
+      let steps = put_steps w size old new world (record { id = id; at = at }) _ _ names are.tile rows none (as_leaf w size key row old new change) was in
+      record { rows = steps.rows; crowded = marks _ (leaf_after key row old new change) ∙ steps.crowded; bases = steps.bases }
+
+  pub gone_after : (id : ℕ) (at : Point) → place_of world id ≡ Some at → (change : ChangesAt (key_of at) (gone_row (record { key = key_of at; id = id })) old new)
+      → ((l : Leaf) → leaf_under (key_of at) new ≡ Some l → after ≡ mark_under w size l names) → Steps w size old new (without id world) after
+  gone_after id at there change marks =
+      let key = key_of at in
+      let row = gone_row (record { key = key; id = id }) in
+      let steps = gone_steps w size old new world id at _ _ names are.tile rows there (as_leaf w size key row old new change) was in
+      record { rows = steps.rows; crowded = marks _ (leaf_after key row old new change) ∙ steps.crowded; bases = steps.bases }
+
+-- putting a bucket under a name twice is putting the last one
+same_bucket : (name : List Bool) (a b : Rows) (l : Leaf) → with_bucket name b (with_bucket name a l) ≡ with_bucket name b l
+same_bucket name a b l = by_test (same_name l.name name) refl
+  where
+    by_test : (t : Bool) → same_name l.name name ≡ t → with_bucket name b (cond t (record { name = l.name; bucket = a }) l) ≡ with_bucket name b l
+    by_test true is =
+        ap (λ t. cond t (record { name = l.name; bucket = b }) (record { name = l.name; bucket = a })) is ∙ sym (ap (λ t. cond t (record { name = l.name; bucket = b }) l) is)
+    by_test false is = refl
+
+pub replaced-twice : (name : List Bool) (a b : Rows) (leaves : List Leaf) → replaced name b (replaced name a leaves) ≡ replaced name b leaves
+replaced-twice name a b [] = refl
+replaced-twice name a b (l ∷ leaves) = λ i. same_bucket name a b l i ∷ replaced-twice name a b leaves i
+
+-- an object that stays where it is
+pub with_moved-same : (id : ℕ) (at : Point) (ms : List Placed) → IsRising ms → place_of ms id ≡ Some at → with_moved id at ms ≡ ms
+with_moved-same id at [] rising there = refl
+with_moved-same id at (m ∷ ms) rising there =
+    let rest : place_of ms id ≡ Some at → with_moved id at ms ≡ ms = with_moved-same id at ms rising.1 in
+    let kept : m.id ≤ id → id ≤ m.id → with_moved id at ms ≡ ms = λ le ge. with_moved-absent id at ms (IsAbove-lower id m.id ms ge rising.0) in
+    grind (arith, nat_tests, common_steps)
+
+-- an object that has gone isn't there
+place_of-gone : (id : ℕ) (world : List Placed) → place_of (without id world) id ≡ None
+place_of-gone id world = place_of-without id world id ∙ ap (λ b. cond b None (place_of world id)) (eq-eqb id id refl)
+
+-- a leaf that was changed twice may be marked twice
+twice : (w size : ℕ) (n : List Bool) (a b : Rows) (old new : List Leaf) (names : List (List Bool)) → new ≡ replaced n b (replaced n a old) → tiles_from 0 (names_of old) ≡ true → has_name n old ≡ true
+    → has_name n (replaced n b old) ≡ true → names ≡ crowded_of w size old
+    → mark_under w size (record { name = n; bucket = b }) (mark_under w size (record { name = n; bucket = b }) names) ≡ crowded_of w size new
+twice w size n a b old new names is tile has had was =
+    let mark : List (List Bool) → List (List Bool) = mark_under w size (record { name = n; bucket = b }) in
+    let tile_after : tiles_from 0 (names_of (replaced n b old)) ≡ true = ap (tiles_from 0) (names_of-replaced n b old) ∙ tile in
+    ap (λ (ns : List (List Bool)). mark (mark ns)) was
+    ∙ ap mark (sym (crowded_of-replaced w size 0 n b old tile has))
+    ∙ sym (crowded_of-replaced w size 0 n b (replaced n b old) tile_after had)
+    ∙ ap (crowded_of w size) (replaced-twice n b b old ∙ sym (replaced-twice n a b old) ∙ sym is)
+
+pub move_after : (w size : ℕ) (old new : List Leaf) (world : List Placed) (names mid after : List (List Bool)) → AreLeaves old → AllByRecursion (HasRowsOf world) old → names ≡ crowded_of w size old
+    → IsWorld world → (id : ℕ) (from at : Point) → place_of world id ≡ Some from
+    → (moves : Moves (record { key = key_of from; id = id }) (record { key = key_of at; id = id }) old new)
+    → ((l : Leaf) → leaf_under (key_of from) new ≡ Some l → mid ≡ mark_under w size l names)
+    → ((l : Leaf) → leaf_under (key_of at) new ≡ Some l → after ≡ mark_under w size l mid)
+    → Steps w size old new (with_moved id at world) after
+move_after w size old new world names mid after are rows was is_world id from at there moves first second =
+    record {
+      rows = subst (λ (ms : List Placed). AllByRecursion (HasRowsOf ms) new) (with_member-without id from at world is_world there) put.rows;
+      crowded = second _ (leaf_after (key_of at) put_it between new moves.puts) ∙ ap (mark_under w size to) (first _ from_is) ∙ by_name (same_name here.name to.name) refl;
+      bases = put.bases ∙ gone.bases;
+    }
+  where
+    between : List Leaf
+    between = moves.between
+
+    take_it : Rows → Rows
+    take_it = gone_row (record { key = key_of from; id = id })
+
+    put_it : Rows → Rows
+    put_it = put_row (record { key = key_of at; id = id })
+
+    here : Leaf
+    here = record { name = moves.takes.leaf.name; bucket = take_it moves.takes.leaf.bucket }
+
+    to : Leaf
+    to = record { name = moves.puts.leaf.name; bucket = put_it moves.puts.leaf.bucket }
+
+    gone : Steps w size old between (without id world) (mark_under w size here names)
+    gone = gone_steps w size old between world id from _ _ names are.tile rows there (as_leaf w size (key_of from) take_it old between moves.takes) was
+
+    tile : tiles_from 0 (names_of between) ≡ true
+    tile = ap (λ (ls : List Leaf). tiles_from 0 (names_of ls)) moves.takes.leaves ∙ ap (tiles_from 0) (names_of-replaced here.name here.bucket old) ∙ are.tile
+
+    put : Steps w size between new (with_member (record { id = id; at = at }) (without id world)) (mark_under w size to (mark_under w size here names))
+    put =
+        put_steps w size between new (without id world) (record { id = id; at = at }) _ _ (mark_under w size here names) tile gone.rows (place_of-gone id world)
+        (as_leaf w size (key_of at) put_it between new moves.puts) gone.crowded
+
+    from_is : leaf_under (key_of from) new ≡ Some (with_bucket to.name to.bucket here)
+    from_is =
+        ap (leaf_under (key_of from)) moves.puts.leaves ∙ leaf_under-replaced (key_of from) to.name to.bucket between
+        ∙ ap (option_map (with_bucket to.name to.bucket)) (leaf_after (key_of from) take_it old between moves.takes)
+
+    has : has_name here.name old ≡ true
+    has = (found_named (key_of from) old moves.takes.leaf moves.takes.found).0
+
+    had : has_name here.name (replaced here.name to.bucket old) ≡ true
+    had =
+        (found_named (key_of from) (replaced here.name to.bucket old) (record { name = here.name; bucket = to.bucket })
+        (leaf_after (key_of from) (λ _. to.bucket) old (replaced here.name to.bucket old) (record { leaf = moves.takes.leaf; found = moves.takes.found; leaves = refl }))).0
+
+    by_name : (t : Bool) → same_name here.name to.name ≡ t → mark_under w size to (mark_under w size (cond t (record { name = here.name; bucket = to.bucket }) here) names) ≡ crowded_of w size new
+    by_name true is =
+        let one : here.name ≡ to.name = (same_name-decides here.name to.name).0 is in
+        ap (λ (n : List Bool). mark_under w size (record { name = n; bucket = to.bucket }) (mark_under w size (record { name = here.name; bucket = to.bucket }) names)) (sym one)
+        ∙ twice w size here.name here.bucket to.bucket old new names
+        (moves.puts.leaves ∙ (λ i. replaced (sym one i) to.bucket (moves.takes.leaves i))) are.tile has had was
+    by_name false is = put.crowded
+
+-- a row of an object that is elsewhere isn't in its leaf
+pub row_elsewhere : (world : List Placed) (leaves : List Leaf) (id : ℕ) (from at : Point) → AllByRecursion (HasRowsOf world) leaves → place_of world id ≡ Some from → (key_of from == key_of at) ≡ false
+    → (l : Leaf) → leaf_under (key_of at) leaves ≡ Some l → has_row (record { key = key_of at; id = id }) l.bucket.rows ≡ false
+row_elsewhere world leaves id from at rows there other l found =
+    found_has (HasRowsOf world) (key_of at) leaves l found rows (record { key = key_of at; id = id })
+    ∙ ap (λ o. is_at_key (key_of at) o && is_under l.name (key_of at)) there ∙ ap (λ b. b && is_under l.name (key_of at)) other
+
+-- what holds anyway holds at a success
+pub on_ok_anyway : {T E : Type 0} (r : Result T E) (P : Type 0) → P → OnOk r P
+on_ok_anyway (Ok value) P is = is
+on_ok_anyway (Err fault) P is = tt

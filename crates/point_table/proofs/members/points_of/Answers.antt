@@ -1,0 +1,22 @@
+use Rattle.std.proofs.Common.{ap, ◌∙◌, List, get_or}
+use Rattle.zorder.specs.declared.points.Placed.{Placed}
+use Rattle.plain_list.specs.World.{place_of}
+use Rattle.plain_list.specs.Answer.{with_member}
+use Rattle.point_table.proofs.RisingMembers.{place_of-next, with_member-next}
+use Rattle.point_table.proofs.members.points_of.Goals as goal
+
+-- what a read behind the end would give
+abbrev beyond : Placed
+beyond = record { id = 0; at = record { x = 0; y = 0 } }
+
+pub insert-requires-clause-absent : goal.insert-requires-clause-absent
+insert-requires-clause-absent c =
+    let world = c.args.world.now in
+    let place = c.loop-member.member-index in
+    ap (λ (ms : List Placed). place_of ms (get_or world place beyond).id) c.loop-member.invariant ∙ place_of-next world place beyond c.loop-member-test.true c.requires.rising
+
+pub loop-member-preserved : goal.loop-member-preserved
+loop-member-preserved c =
+    let world = c.args.world.now in
+    let place = c.loop-member.member-index in
+    c.in_ok-insert.ensures.ok ∙ ap (with_member (get_or world place beyond)) c.loop-member.invariant ∙ with_member-next world place beyond c.loop-member-test.true c.requires.rising

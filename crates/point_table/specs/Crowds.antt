@@ -1,0 +1,22 @@
+-- The leaves that have more rows than the size, and bits left to split them.
+use Rattle.std.specs.Prelude.{ℕ, ◌+◌, nat_le, nat_lt, Bool, ◌&&◌, List, [], ◌∷◌, length, if◌then◌else◌}
+use Rattle.index_layer.specs.Leaves.{Leaf}
+use Rattle.point_table.specs.Crowded.{marked, remarked}
+
+-- whether a leaf is to be split
+abbrev pub is_crowded : ℕ → ℕ → Leaf → Bool
+is_crowded w size l = nat_lt size (length l.bucket.rows) && nat_le (length l.name + w) 64
+
+-- the names of the leaves that are to be split, in order
+abbrev pub crowded_of : ℕ → ℕ → List Leaf → List (List Bool)
+crowded_of w size [] = []
+crowded_of w size (l ∷ leaves) = if is_crowded w size l then l.name ∷ crowded_of w size leaves else crowded_of w size leaves
+
+-- names with those of some leaves that are to be split, the last leaf's first
+abbrev pub marked_later : ℕ → ℕ → List Leaf → List (List Bool) → List (List Bool)
+marked_later w size [] names = names
+marked_later w size (l ∷ leaves) names = if is_crowded w size l then marked l.name (marked_later w size leaves names) else marked_later w size leaves names
+
+-- the names with that of a leaf put in its place where it is to be split, or taken out
+abbrev pub mark_under : ℕ → ℕ → Leaf → List (List Bool) → List (List Bool)
+mark_under w size l names = remarked (is_crowded w size l) l.name names

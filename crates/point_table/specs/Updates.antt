@@ -1,0 +1,33 @@
+-- What a change or a find makes of leaves and world.
+use Rattle.std.specs.Prelude.{◌≡◌, Bool, true, false, List, Result, ⊤}
+use Rattle.bucket_versions.specs.Told.{Told}
+use Rattle.bucket_versions.specs.declared.commit.Undone.{Undone}
+use Rattle.zorder.specs.declared.points.Placed.{Placed}
+use Rattle.plain_list.specs.declared.ops.Op.{Op}
+use Rattle.plain_list.specs.declared.ops.Op.TheVariants.{Within, Near}
+use Rattle.plain_list.specs.declared.ops.Answer.{Answer}
+use Rattle.plain_list.specs.Answer.{answer_of, after_of}
+use Rattle.point_table.specs.Changes.{bases_of}
+use Rattle.point_table.specs.TableView.{TableView}
+
+-- an operation that a table answers: a change or a find
+abbrev pub IsUpdate : Op → Type 0
+IsUpdate (Within region) = ⊥
+IsUpdate (Near at k) = ⊥
+IsUpdate _ = ⊤
+
+-- the world after; the leaves keep their names and bases
+pub record Changes (old new : TableView) (after : List Placed) : Type 0 where
+  pub world : new.world ≡ after
+  pub bases : bases_of new.leaves ≡ bases_of old.leaves
+  pub size : new.size ≡ old.size
+
+-- the answer of the world, and the world after
+pub record Updates (old new : TableView) (op : Op) (answer : Answer) : Type 0 where
+  pub answer_is : answer ≡ answer_of old.world op
+  pub changes : Changes old new (after_of old.world op)
+
+-- the step was taken where the operation changes the world, and else not asked for
+abbrev pub TellsIf : {C A : Type 0} → (C → C → Type 0) → (C → C → Type 0) → Bool → C → C → Result A Undone → Type 0
+TellsIf done lost true old new result = Told done lost old new result
+TellsIf done lost false old new result = new ≡ old

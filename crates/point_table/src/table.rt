@@ -1,0 +1,311 @@
+//! An index and a map by id that stand for one world.
+ghost use Rattle.std.specs.Prelude.{◌≡◌, ◌+◌, ◌-◌, ◌<◌, ◌≤◌, ◌&&◌, not, ◌∷◌, [], Some, None, true, false, IfOk, OnOk, OnErr, MatchOption, length};
+ghost use Rattle.std.specs.Arc.{arc_value};
+ghost use Rattle.std.specs.List.{AllByRecursion, find};
+ghost use Rattle.bucket_versions.specs.Told.{Told};
+ghost use Rattle.bucket_versions.specs.Rows.{has_row, put_row, gone_row};
+ghost use Rattle.plain_list.specs.World.{most_members, IsWorld, place_of};
+ghost use Rattle.plain_list.specs.Answer.{with_member, with_moved, without, answer_of, is_change};
+ghost use Rattle.plain_list.specs.Size.{is_over};
+ghost use Rattle.plain_list.specs.State.{is_splitting, split_leaf};
+ghost use Rattle.split_prepare.specs.Cut.{cut};
+ghost use Rattle.index_layer.specs.Leaves.{Leaf, names_of, has_name, leaf_named, leaf_under};
+ghost use Rattle.index_layer.specs.Stands.{HasRowsOf};
+ghost use Rattle.point_table.specs.Crowded.{remarked};
+ghost use Rattle.point_table.specs.Crowds.{mark_under};
+ghost use Rattle.point_table.specs.Splits.{splits_of};
+ghost use Rattle.point_table.specs.Updates.{IsUpdate, Changes, Updates, TellsIf};
+
+mod built;
+
+use crate::crowded::{Begun, Crowded, is_over};
+use crate::members::Members;
+use bucket_versions::{Bucket, Commit, Row, Undone};
+use index_layer::{Index, Part};
+use plain_list::{Answer, MOST_MEMBERS, Op};
+use std::alloc::Global;
+use std::marker::Model;
+use std::sync::Arc;
+use zorder::{Memory, Name, Point, coordinates_fit, key};
+
+/// Objects, by their ids and by their keys.
+#[derive(Drop)]
+pub struct PointTable<I: Index> {
+    alloc: Global,
+    index: I,
+    members: Members,
+    crowded: Crowded,
+    size: u32,
+}
+
+impl<I: Index> Model for PointTable<I> {
+    ghost use Rattle.point_table.specs.TableView.{TableView};
+
+    ghost Value = { TableView };
+
+    ghost use Rattle.point_table.specs.IsTable.{IsTable, table_of};
+
+    ghost view = { λ t. table_of I.leaves t };
+
+    ghost invariant = { λ t. IsTable I.leaves I.WIDTH t };
+}
+
+impl<I: Index> PointTable<I> {
+    /// A table of no objects, with one leaf.
+    pub fn fresh(alloc: Global, size: u32) -> Result<PointTable<I>, Memory>
+        ensures world { IfOk result (λ t. t.world ≡ []) }
+        ensures leaves { IfOk result (λ t. names_of t.leaves ≡ [] ∷ []) }
+        ensures size { IfOk result (λ t. t.size ≡ size) }
+    {
+        let bucket = Arc::new(alloc, Bucket::from_rows(alloc, &[])?)?;
+        let index = I::whole(alloc, bucket)?;
+        Ok(PointTable {
+            alloc,
+            index,
+            members: Members::new(alloc),
+            crowded: Crowded::new(alloc),
+            size,
+        })
+    }
+
+    /// The first leaf in key order that is over the size, has bits left and none of these open splits.
+    pub fn first_free(&self, begun: &[Begun]) -> Option<Name>
+        ensures { result ≡ find (λ name. is_over I.WIDTH self.now.size self.now.world name && not (is_splitting (splits_of begun.now) name)) (names_of self.now.leaves) }
+    {
+        self.crowded.first_free(begun)
+    }
+
+    /// How many objects there are.
+    pub fn len(&self) -> usize
+        ensures len { result ≡ length self.now.world }
+        ensures world { IsWorld self.now.world }
+        ensures rows { AllByRecursion (HasRowsOf self.now.world) self.now.leaves }
+    {
+        self.members.len()
+    }
+
+    /// Where an object is.
+    pub fn place(&self, id: u64) -> Option<Point>
+        ensures { result ≡ place_of self.now.world id }
+    {
+        self.members.place(id)
+    }
+
+    /// Whether an operation would change the world.
+    pub fn would_change(&self, op: &Op) -> bool
+        ensures { result ≡ is_change (answer_of self.now.world op.now) }
+    {
+        match *op {
+            Op::Put { id, .. } => self.place(id).is_none() && self.len() < MOST_MEMBERS,
+            Op::Move { id, .. } => self.place(id).is_some(),
+            Op::Remove { id } => self.place(id).is_some(),
+            Op::Find { .. } => false,
+            Op::Within { .. } => false,
+            Op::Near { .. } => false,
+        }
+    }
+
+    /// Answers a change or a find. A change is made once the step has succeeded.
+    pub fn update<C: Commit>(&mut self, op: &Op, commit: &mut C) -> Result<Answer, Undone>
+        requires update { IsUpdate op.now }
+        requires can { is_change (answer_of self.old.world op.now) ≡ true → C.can commit.old }
+        ensures ok { IfOk result (λ a. Updates self.old self.new op.now a) }
+        ensures err { OnErr result (self.new ≡ self.old) }
+        ensures told { TellsIf C.done C.lost (is_change (answer_of self.old.world op.now)) commit.old commit.new result }
+    {
+        match *op {
+            Op::Put { id, at } => self.put(id, at, commit),
+            Op::Move { id, at } => self.relocate(id, at, commit),
+            Op::Remove { id } => self.remove(id, commit),
+            Op::Find { id } => Ok(self.find(id)),
+            Op::Within { .. } => unreachable!(),
+            Op::Near { .. } => unreachable!(),
+        }
+    }
+
+    fn put<C: Commit>(&mut self, id: u64, at: Point, commit: &mut C) -> Result<Answer, Undone>
+        requires { is_change (answer_of self.old.world (Op.Put id at)) ≡ true → C.can commit.old }
+        ensures ok { IfOk result (λ a. Updates self.old self.new (Op.Put id at) a) }
+        ensures err { OnErr result (self.new ≡ self.old) }
+        ensures told { TellsIf C.done C.lost (is_change (answer_of self.old.world (Op.Put id at))) commit.old commit.new result }
+    {
+        if let Some(place) = self.place(id) {
+            return Ok(Answer::Present(place));
+        }
+        if self.len() >= MOST_MEMBERS {
+            return Ok(Answer::Full);
+        }
+        match self.add(id, at, commit) {
+            Ok(()) => Ok(Answer::Done),
+            Err(undone) => Err(undone),
+        }
+    }
+
+    fn relocate<C: Commit>(&mut self, id: u64, at: Point, commit: &mut C) -> Result<Answer, Undone>
+        requires { is_change (answer_of self.old.world (Op.Move id at)) ≡ true → C.can commit.old }
+        ensures ok { IfOk result (λ a. Updates self.old self.new (Op.Move id at) a) }
+        ensures err { OnErr result (self.new ≡ self.old) }
+        ensures told { TellsIf C.done C.lost (is_change (answer_of self.old.world (Op.Move id at))) commit.old commit.new result }
+    {
+        let Some(old) = self.place(id) else {
+            return Ok(Answer::Absent);
+        };
+        match self.shift(id, old, at, commit) {
+            Ok(()) => Ok(Answer::Moved(old)),
+            Err(undone) => Err(undone),
+        }
+    }
+
+    fn remove<C: Commit>(&mut self, id: u64, commit: &mut C) -> Result<Answer, Undone>
+        requires { is_change (answer_of self.old.world (Op.Remove id)) ≡ true → C.can commit.old }
+        ensures ok { IfOk result (λ a. Updates self.old self.new (Op.Remove id) a) }
+        ensures err { OnErr result (self.new ≡ self.old) }
+        ensures told { TellsIf C.done C.lost (is_change (answer_of self.old.world (Op.Remove id))) commit.old commit.new result }
+    {
+        let Some(old) = self.place(id) else {
+            return Ok(Answer::Absent);
+        };
+        match self.take(id, old, commit) {
+            Ok(()) => Ok(Answer::Gone(old)),
+            Err(undone) => Err(undone),
+        }
+    }
+
+    fn find(&self, id: u64) -> Answer
+        ensures { result ≡ answer_of self.now.world (Op.Find id) }
+    {
+        match self.place(id) {
+            Some(at) => Answer::At(at),
+            None => Answer::Absent,
+        }
+    }
+
+    // Adds an object, which isn't there.
+    fn add<C: Commit>(&mut self, id: u64, at: Point, commit: &mut C) -> Result<(), Undone>
+        requires can { C.can commit.old }
+        requires absent { place_of self.old.world id ≡ None }
+        requires few { length self.old.world < most_members }
+        ensures ok { OnOk result (Changes self.old self.new (with_member (record { id = id; at = at }) self.old.world)) }
+        ensures err { OnErr result (self.new ≡ self.old) }
+        ensures told { Told C.done C.lost commit.old commit.new result }
+    {
+        let row = Row { key: key(at), id };
+        let Ok(()) = self.crowded.reserve(1) else {
+            return Err(Undone::Memory);
+        };
+        let Ok(()) = self.members.reserve() else {
+            return Err(Undone::Memory);
+        };
+        // All memory but the index's own is taken: the step is the last thing that can fail.
+        if let Err(undone) = self.index.put_row(row, commit) {
+            return Err(undone);
+        }
+        coordinates_fit(at);
+        self.members.insert(id, at);
+        mark(&mut self.crowded, &self.index, self.size, row.key);
+        Ok(())
+    }
+
+    // Moves an object, which is there.
+    fn shift<C: Commit>(
+        &mut self,
+        id: u64,
+        old: Point,
+        at: Point,
+        commit: &mut C,
+    ) -> Result<(), Undone>
+        requires can { C.can commit.old }
+        requires there { place_of self.old.world id ≡ Some old }
+        ensures ok { OnOk result (Changes self.old self.new (with_moved id at self.old.world)) }
+        ensures err { OnErr result (self.new ≡ self.old) }
+        ensures told { Told C.done C.lost commit.old commit.new result }
+    {
+        let Ok(()) = self.crowded.reserve(2) else {
+            return Err(Undone::Memory);
+        };
+        let from = Row { key: key(old), id };
+        let to = Row { key: key(at), id };
+        if from.key == to.key {
+            // One row: the step is taken, and nothing changes.
+            return if commit.commit() {
+                Ok(())
+            } else {
+                Err(Undone::Lost)
+            };
+        }
+        if let Err(undone) = self.index.move_row(&from, to, commit) {
+            return Err(undone);
+        }
+        coordinates_fit(at);
+        self.members.replace(id, old, at);
+        mark(&mut self.crowded, &self.index, self.size, from.key);
+        mark(&mut self.crowded, &self.index, self.size, to.key);
+        Ok(())
+    }
+
+    // Takes an object out, which is there.
+    fn take<C: Commit>(&mut self, id: u64, old: Point, commit: &mut C) -> Result<(), Undone>
+        requires can { C.can commit.old }
+        requires there { place_of self.old.world id ≡ Some old }
+        ensures ok { OnOk result (Changes self.old self.new (without id self.old.world)) }
+        ensures err { OnErr result (self.new ≡ self.old) }
+        ensures told { Told C.done C.lost commit.old commit.new result }
+    {
+        let Ok(()) = self.crowded.reserve(1) else {
+            return Err(Undone::Memory);
+        };
+        let row = Row { key: key(old), id };
+        if let Err(undone) = self.index.take_row(&row, commit) {
+            return Err(undone);
+        }
+        self.members.remove(id);
+        mark(&mut self.crowded, &self.index, self.size, row.key);
+        Ok(())
+    }
+
+    /// An equal index.
+    pub fn share(&self) -> Result<I, Memory>
+        ensures index { IfOk result (λ index. I.leaves index ≡ self.now.leaves) }
+        ensures world { IsWorld self.now.world }
+        ensures rows { AllByRecursion (HasRowsOf self.now.world) self.now.leaves }
+    {
+        let _members = self.members.len();
+        self.index.share()
+    }
+
+    /// Whether a leaf has this name.
+    pub fn has_leaf(&self, name: &Name) -> bool
+        ensures { result ≡ has_name name.now self.now.leaves }
+    {
+        matches!(self.index.part(name), Part::Leaf(_))
+    }
+
+    /// The bucket of the leaf of this name.
+    pub fn bucket(&self, name: &Name) -> Option<&Arc<Bucket>>
+        ensures { MatchOption result (has_name name.now self.now.leaves ≡ false) (λ b. leaf_named name.now self.now.leaves ≡ Some (record { name = name.now; bucket = arc_value b.now })) }
+    {
+        match self.index.part(name) {
+            Part::Leaf(bucket) => Some(bucket),
+            Part::Inner => None,
+            Part::Outside => None,
+        }
+    }
+
+    /// The index of the table.
+    pub fn into_index(self) -> I
+        ensures { I.leaves result ≡ self.leaves }
+    {
+        self.index
+    }
+}
+
+// Puts the leaf that a key is under among those that are to be split, or takes it out of them.
+fn mark<I: Index>(crowded: &mut Crowded, index: &I, size: u32, key: u64)
+    requires { 0 < crowded.old.room }
+    ensures names { (l : Leaf) → leaf_under key (I.leaves index.now) ≡ Some l → crowded.new.names ≡ mark_under I.WIDTH size l crowded.old.names }
+    ensures room { crowded.new.room ≡ crowded.old.room - 1 }
+{
+    let (name, bucket) = index.leaf_of(key);
+    let is_crowded = is_over(size, I::WIDTH, &name, bucket);
+    crowded.set(&name, is_crowded);
+}

@@ -1,0 +1,60 @@
+//! A table that begins at a world that is there.
+ghost use Rattle.std.specs.Prelude.{◌≡◌, IfOk};
+ghost use Rattle.index_layer.specs.Leaves.{names_of};
+ghost use Rattle.index_build.specs.Grown.{IsGrown};
+ghost use Rattle.point_table.specs.Crowds.{crowded_of};
+
+use crate::crowded::{Crowded, is_over};
+use crate::members::Members;
+use crate::table::PointTable;
+use index_build::build;
+use index_layer::Index;
+use plain_list::World;
+use std::alloc::{AllocError, Global};
+use table_share::LeafWalk;
+use zorder::{Memory, Name};
+
+impl<I: Index> PointTable<I> {
+    /// A table of the objects of a world, whose leaves have these names, in key order.
+    pub fn built(
+        alloc: Global,
+        world: &World,
+        leaves: &[Name],
+        size: u32,
+    ) -> Result<PointTable<I>, Memory>
+        requires { IsGrown I.WIDTH leaves.now }
+        ensures world { IfOk result (λ t. t.world ≡ world.now) }
+        ensures leaves { IfOk result (λ t. names_of t.leaves ≡ leaves.now) }
+        ensures size { IfOk result (λ t. t.size ≡ size) }
+    {
+        let index: I = build(alloc, world, leaves)?;
+        let Ok(members) = Members::from_world(alloc, world) else {
+            return Err(Memory);
+        };
+        let Ok(names) = crowded_names(alloc, &index, size) else {
+            return Err(Memory);
+        };
+        Ok(PointTable {
+            alloc,
+            index,
+            members,
+            crowded: Crowded::from_names(names),
+            size,
+        })
+    }
+}
+
+// The names of an index's leaves that are to be split, in order.
+fn crowded_names<I: Index>(alloc: Global, index: &I, size: u32) -> Result<Vec<Name>, AllocError>
+    ensures { IfOk result (λ names. names.items ≡ crowded_of I.WIDTH size (I.leaves index.now)) }
+{
+    let mut names = Vec::new(alloc);
+    let mut walk = LeafWalk::over(index);
+    while let Some(leaf) = walk.next_leaf() {
+        let (name, bucket) = leaf;
+        if is_over(size, I::WIDTH, &name, bucket) {
+            names.push(name)?;
+        }
+    }
+    Ok(names)
+}
