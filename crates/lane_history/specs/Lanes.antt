@@ -1,0 +1,80 @@
+-- Lanes that were played over one store, and the passes that took theirs in.
+use Rattle.std.specs.Prelude.{◌≡◌, ◌≢◌, ◌⊎◌, ℕ, ◌+◌, ◌<◌, List, [], ◌∷◌, length, Option, None, Result, ⊤}
+use mathlib.Core.List.{IsPrefix}
+use Rattle.plain_list.specs.declared.ops.Op.{Op}
+use Rattle.csv_rows.specs.declared.rows.InRow.{InRow}
+use Rattle.book_lock.specs.Pass.{Known}
+use Rattle.book_lock.specs.Own.{times, once_below}
+use Rattle.book_lock.specs.declared.origin.Origin.{Origin}
+use Rattle.commit_book.specs.declared.faults.BookFault.{BookFault}
+use Rattle.sessions.specs.declared.faults.Settled.{Settled}
+use Rattle.sessions.specs.declared.store.lanes.Lane.{Lane}
+use Rattle.sessions.specs.Lanes.{Plays}
+use Rattle.sessions.specs.Settles.{Settles}
+use Rattle.lane_history.specs.SessionRows.{session_rows}
+
+-- a lane with the rows of a session was played, from a pass of this origin that had seen nothing and owned nothing
+pub record HasPlayed {I D : Type 0} (w : ℕ) (origin : Origin) (session : ℕ) (rows : List (ℕ × Op)) (lane : Lane I D) : Type 0 where
+  pub old : Lane I D
+  pub session_is : old.session ≡ session
+  pub rows_are : old.rows.items ≡ rows
+  pub seen : old.pass.seen ≡ []
+  pub own : old.pass.own ≡ []
+  pub begins : old.pass.origin ≡ origin
+  pub plays : Plays w old lane
+
+-- a lane of each of these sessions was played, in their order
+abbrev pub HaveAllPlayed : {I D : Type 0} → ℕ → Origin → List InRow → List ℕ → List (Lane I D) → Type 0
+HaveAllPlayed w origin rows [] [] = ⊤
+HaveAllPlayed w origin rows [] (lane ∷ lanes) = ⊥
+HaveAllPlayed w origin rows (s ∷ sessions) [] = ⊥
+HaveAllPlayed w origin rows (s ∷ sessions) (lane ∷ lanes) = HasPlayed w origin s (session_rows rows s) lane × HaveAllPlayed w origin rows sessions lanes
+
+-- the numbers are above this one and rise
+abbrev pub RiseFrom : ℕ → List ℕ → Type 0
+RiseFrom least [] = ⊤
+RiseFrom least (s ∷ sessions) = (least < s) × RiseFrom s sessions
+
+-- these are the sessions that have a row, and maybe some that have none, each once
+pub record AreSessions (rows : List InRow) (sessions : List ℕ) : Type 0 where
+  pub rise : RiseFrom 0 sessions
+  pub all : (s : ℕ) → session_rows rows s ≢ [] → 0 < times s sessions
+
+-- how often lanes own a position
+abbrev pub owned_by : {I D : Type 0} → ℕ → List (Lane I D) → ℕ
+owned_by p [] = 0
+owned_by p (lane ∷ lanes) = times p lane.pass.own + owned_by p lanes
+
+-- each lane's pass has seen a beginning of this history
+abbrev pub HaveSeen : {I D : Type 0} → List (Lane I D) → Known → Type 0
+HaveSeen [] pass = ⊤
+HaveSeen (lane ∷ lanes) pass = IsPrefix lane.pass.seen pass.seen × HaveSeen lanes pass
+
+-- a pass that had seen nothing and owned nothing took the lanes' passes in
+pub record TakesIn {I D : Type 0} (origin : Origin) (lanes : List (Lane I D)) (pass : Known) : Type 0 where
+  pub begins : pass.origin ≡ origin
+  pub seen : HaveSeen lanes pass
+  pub owned : (p : ℕ) → times p pass.own ≡ owned_by p lanes
+
+-- the pass is as it was, or the splits at the end were settled
+abbrev pub GoesOn : ℕ → Known → Known → Type 0
+GoesOn w pass last = (last ≡ pass) ⊎ ((result : Result Settled BookFault) × Settles w pass last result)
+
+-- the pass has seen the whole history, each entry of which is its own
+abbrev pub OwnsAll : Known → Type 0
+OwnsAll pass = (p : ℕ) → times p pass.own ≡ once_below p (length pass.seen)
+
+-- Lanes of the sessions of these rows were played over a store of this origin, one pass took theirs in and maybe settled the splits, and
+-- the last pass has the whole history.
+pub record IsPlayedOut {I D : Type 0} (w : ℕ) (origin : Origin) (rows : List InRow) (sessions : List ℕ) (lanes : List (Lane I D)) (last : Known) : Type 0 where
+  pub sessions_are : AreSessions rows sessions
+  pub played : HaveAllPlayed w origin rows sessions lanes
+  pub pass : Known
+  pub joined : TakesIn origin lanes pass
+  pub goes_on : GoesOn w pass last
+  pub whole : OwnsAll last
+
+-- no lane met a fault
+abbrev pub AreCalm : {I D : Type 0} → List (Lane I D) → Type 0
+AreCalm [] = ⊤
+AreCalm (lane ∷ lanes) = (lane.fault ≡ None) × AreCalm lanes
