@@ -4,4 +4,5 @@ pub mod FieldsFacts
 pub mod NumbersFacts
 pub mod PiecesFacts
 pub mod LinesFacts
+pub mod ObjectFacts
 pub mod RoundTrip

@@ -46,12 +46,6 @@ near-line old s x y k =
     pushed-nine old s (codes ",near,,") x (codes ",") y (codes ",") k (codes ",\n")
     ∙ ap (λ l. old ++ l) (sym (fields_line-tails s (codes "near" ∷ [] ∷ x ∷ y ∷ k ∷ [] ∷ [])))
 
--- the front of an answer's line
-pub line-front : (p0 p1 p2 p3 p4 p5 p6 row place word : List ℕ) → p0 ≡ [] → p1 ≡ p0 ++ row → p2 ≡ p1 ++ codes "," → p3 ≡ p2 ++ place → p4 ≡ p3 ++ codes "," → p5 ≡ p4 ++ word → p6 ≡ p5 ++ codes ","
-    → p6 ≡ row ++ codes "," ++ place ++ codes "," ++ word ++ codes ","
-line-front p0 p1 p2 p3 p4 p5 p6 row place word e0 e1 e2 e3 e4 e5 e6 =
-    e6 ∙ ap (λ l. l ++ codes ",") (e5 ∙ ap (λ l. l ++ word) (e4 ∙ ap (λ l. l ++ codes ",") (e3 ∙ ap (λ l. l ++ place) (e2 ∙ ap (λ l. l ++ codes ",") (e1 ∙ ap (λ l. l ++ row) e0)))))
-
 -- two words behind a text, each with a number
 pub two_counted : {middle after : List ℕ} {m n k l : ℕ} (before first second : List ℕ) → m ≡ k → n ≡ l → middle ≡ before ++ first ++ decimal m → after ≡ middle ++ second ++ decimal n
     → after ≡ before ++ (first ++ decimal k ++ second ++ decimal l)

@@ -1,5 +1,5 @@
 -- Pieces of a text, one after the other.
-use Rattle.std.proofs.Common.{◌≡◌, ◌∙◌, ℕ, ◌+◌, ◌-◌, ◌≤◌, List, [], ◌∷◌, ◌++◌, length, take, drop, Option, Some, None, Result, Ok, Err, refl, sym, ap, subst, arith, append_assoc, length-append, take-append-drop, get_or, ◌<◌}
+use Rattle.std.proofs.Common.{◌≡◌, ◌∙◌, ℕ, ◌+◌, ◌≤◌, List, [], ◌∷◌, ◌++◌, length, take, drop, Option, Some, None, Result, Ok, Err, refl, sym, ap, subst, arith, append_assoc, length-append, take-append-drop, get_or, ◌<◌}
 use Rattle.std.proofs.Math.Seq.{take-length}
 use Rattle.std.proofs.lemmas.Grind.{flat_map-append}
 use Rattle.std.proofs.lemmas.List.{append-nil, flat_map_more, take_more}
@@ -101,22 +101,32 @@ puts-line a b c front held end bytes text result h is whole g =
 pub record HasAdded {X : Type 0} (line : X → List ℕ) (old now : Option (List ℕ)) (faults later : ℕ) (front : List ℕ) (items : List X) (index : ℕ) (held : List ℕ) : Type 0 where
   pub moved : Moves old now (front ++ flat_map line (take index items)) held
   pub same : later ≡ faults
-  pub room : length held ≤ 4095
 
 module _ {X : Type 0} (line : X → List ℕ) (old : Option (List ℕ)) (faults : ℕ) (front : List ℕ) (items : List X) where
-  pub added-none : length front ≤ 4095 → HasAdded line old old faults faults front items 0 front
-  added-none room = record { moved = subst (λ (l : List ℕ). Moves old old l front) (sym (append-nil front)) (moves-none old front); same = refl; room = room }
+  pub added-none : HasAdded line old old faults faults front items 0 front
+  added-none = record { moved = subst (λ (l : List ℕ). Moves old old l front) (sym (append-nil front)) (moves-none old front); same = refl }
 
   pub added-more : (mid now : Option (List ℕ)) (later last : ℕ) (index : ℕ) (held kept more : List ℕ) (d : X) → HasAdded line old mid faults later front items index held
-      → Moves mid now held kept → last ≡ later → more ≡ kept ++ line (get_or items index d) → index < length items → length more ≤ 4095 → HasAdded line old now faults last front items (index + 1) more
-  added-more mid now later last index held kept more d h step same is lt room =
+      → Moves mid now held kept → last ≡ later → more ≡ kept ++ line (get_or items index d) → index < length items → HasAdded line old now faults last front items (index + 1) more
+  added-more mid now later last index held kept more d h step same is lt =
       let text : (front ++ flat_map line (take index items)) ++ line (get_or items index d) ≡ front ++ flat_map line (take (index + 1) items) =
       flat_map_more line front (take index items) (get_or items index d) ∙ ap (λ (l : List X). front ++ flat_map line l) (sym (take_more items index d lt)) in
       let moved = moves-more old now (front ++ flat_map line (take index items)) kept (line (get_or items index d)) (moves-trans old mid now (front ++ flat_map line (take index items)) held kept h.moved step) in
       record {
         moved = subst (λ (l : List ℕ). Moves old now l more) text (subst (λ (l : List ℕ). Moves old now ((front ++ flat_map line (take index items)) ++ line (get_or items index d)) l) (sym is) moved);
         same = same ∙ h.same;
-        room = room;
+      }
+
+  -- an item's line was added to what was held back
+  pub added-moved : (mid now : Option (List ℕ)) (later last : ℕ) (index : ℕ) (held more : List ℕ) (d : X) → HasAdded line old mid faults later front items index held
+      → Moves mid now (held ++ line (get_or items index d)) more → last ≡ later → index < length items → HasAdded line old now faults last front items (index + 1) more
+  added-moved mid now later last index held more d h step same lt =
+      let text : (front ++ flat_map line (take index items)) ++ line (get_or items index d) ≡ front ++ flat_map line (take (index + 1) items) =
+      flat_map_more line front (take index items) (get_or items index d) ∙ ap (λ (l : List X). front ++ flat_map line l) (sym (take_more items index d lt)) in
+      let begun = moves-more old mid (front ++ flat_map line (take index items)) held (line (get_or items index d)) h.moved in
+      record {
+        moved = moves-is old now _ _ more text (moves-trans old mid now _ (held ++ line (get_or items index d)) more begun step);
+        same = same ∙ h.same;
       }
 
   -- all lines were added
@@ -132,3 +142,16 @@ module _ {X : Type 0} (line : X → List ℕ) (old : Option (List ℕ)) (faults 
       ∙ ap (λ l. front ++ l) (sym (flat_map-append line (take index items) (drop index items)) ∙ ap (λ (l : List X). flat_map line l) (take-append-drop index items)) in
       subst (λ (l : List ℕ). Moves old now l (lost ++ flat_map line (drop index items))) text
       (moves-more old now (front ++ flat_map line (take index items)) lost (flat_map line (drop index items)) (moves-trans old mid now (front ++ flat_map line (take index items)) held lost h.moved step))
+
+  -- a fault on the way of an item's line
+  pub added-behind : (mid now : Option (List ℕ)) (later index : ℕ) (held lost : List ℕ) (d : X) → HasAdded line old mid faults later front items index held → Moves mid now (held ++ line (get_or items index d)) lost → index < length items
+      → Moves old now (front ++ flat_map line items) (lost ++ flat_map line (drop (index + 1) items))
+  added-behind mid now later index held lost d h step lt = added-lost now now later (index + 1) lost lost (added-moved mid now later later index held lost d h step refl lt) (moves-none now lost)
+
+-- one more line behind a text: a piece was put, then front and detail were added, and the end is held back
+pub moves-line : (a b c : Option (List ℕ)) (old kept front detail end held : List ℕ) → Moves a b old kept → Moves b c ((kept ++ front) ++ detail) held → Moves a c (old ++ (front ++ detail ++ end)) (held ++ end)
+moves-line a b c old kept front detail end held h g =
+    let first = moves-more a b old kept (front ++ detail) h in
+    let second = moves-is b c ((kept ++ front) ++ detail) (kept ++ (front ++ detail)) held (append_assoc kept front detail) g in
+    let both = moves-trans a b c (old ++ (front ++ detail)) (kept ++ (front ++ detail)) held first second in
+    moves-is a c ((old ++ (front ++ detail)) ++ end) (old ++ (front ++ detail ++ end)) (held ++ end) (append_assoc old (front ++ detail) end) (moves-more a c (old ++ (front ++ detail)) held end both)

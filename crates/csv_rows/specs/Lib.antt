@@ -7,4 +7,5 @@ pub mod Pieces
 pub mod Lines
 pub mod RowLines
 pub mod LogLines
+pub mod ObjectLines
 pub mod Examples

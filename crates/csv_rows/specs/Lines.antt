@@ -43,9 +43,13 @@ detail_text ans.Absent = []
 detail_text (ans.Found ms) = join_by placed_text (codes ";") ms
 detail_text (ans.Many n) = decimal n
 
+-- a row, its place and the word of its answer, with a comma behind each
+abbrev pub front_text : ℕ → ℕ → Answer → List ℕ
+front_text row place answer = decimal row ++ codes "," ++ decimal place ++ codes "," ++ word_text answer ++ codes ","
+
 -- the line of a row, its place and its answer
 unfoldable pub line_text : ℕ → ℕ → Answer → List ℕ
-line_text row place answer = decimal row ++ codes "," ++ decimal place ++ codes "," ++ word_text answer ++ codes "," ++ detail_text answer ++ codes "\n"
+line_text row place answer = front_text row place answer ++ detail_text answer ++ codes "\n"
 
 -- the first line of answers
 abbrev pub title_line : List ℕ

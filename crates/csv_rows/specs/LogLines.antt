@@ -2,6 +2,7 @@
 use Rattle.std.specs.Prelude.{ℕ, List, ◌++◌, codes}
 use Rattle.std.specs.Fmt.{decimal}
 use Rattle.csv_rows.specs.declared.rows.LogCounts.{LogCounts}
+use Rattle.csv_rows.specs.declared.rows.Summary.{Summary}
 
 -- the line of a log that was made
 abbrev pub made_line : List ℕ
@@ -14,3 +15,7 @@ count_line word n = word ++ decimal n ++ codes "\n"
 -- the four lines of what was found in a log
 unfoldable pub counts_text : LogCounts → List ℕ
 counts_text c = count_line (codes "cells ") c.cells ++ count_line (codes "points ") c.points ++ count_line (codes "leaves ") c.leaves ++ count_line (codes "unfinished ") c.unfinished
+
+-- the three lines of what made rows leave
+unfoldable pub summary_text : Summary → List ℕ
+summary_text s = count_line (codes "rows ") s.rows ++ count_line (codes "points ") s.points ++ count_line (codes "sum ") s.sum

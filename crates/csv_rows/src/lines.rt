@@ -5,7 +5,7 @@ ghost use Rattle.std.specs.List.{join_by};
 ghost use Rattle.arrayvec.specs.ArrayString.{array_string_len};
 ghost use Rattle.causes.specs.Causes.{Counts};
 ghost use Rattle.io_edge.specs.Puts.{Puts};
-ghost use Rattle.csv_rows.specs.Lines.{placed_text, word_text, detail_text, line_text, title_line, cause_text, reason_text, refusal_text};
+ghost use Rattle.csv_rows.specs.Lines.{placed_text, word_text, detail_text, front_text, line_text, title_line, cause_text, reason_text, refusal_text};
 ghost use Rattle.csv_rows.specs.Pieces.{HoldsBack};
 
 use crate::pieces::{Piece, add_number, add_point, make_room};
@@ -23,7 +23,8 @@ pub fn write_title<K: Sink>(sink: &mut K) -> Result<(), SinkFault>
     sink.put(b"row,place,answer,detail\n")
 }
 
-/// Writes the line of a row. It goes as one piece, but for a long list of points, which goes in pieces of up to 4 KiB.
+/// Writes the line of a row. It goes as one piece, but for a long list of points, which goes in pieces of up to 64 KiB. Many lines go out
+/// sooner by a `Gathered`.
 pub fn write_line<K: Sink>(
     sink: &mut K,
     row: u32,
@@ -34,15 +35,40 @@ pub fn write_line<K: Sink>(
     ensures cause { Counts (K.output sink.old).faults (K.output sink.new).faults result }
 {
     let mut piece = Piece::new();
-    add_number(&mut piece, u64::from(row));
+    add_line(sink, &mut piece, row, place, answer)?;
+    sink.put(piece.as_str().as_bytes())
+}
+
+/// Adds the line of a row.
+pub(crate) fn add_line<K: Sink>(
+    sink: &mut K,
+    piece: &mut Piece,
+    row: u32,
+    place: u64,
+    answer: &Answer,
+) -> Result<(), SinkFault>
+    ensures bytes { HoldsBack (K.output sink.old).taken (K.output sink.new).taken (piece.old.bytes ++ line_text row place answer.now) piece.new.bytes result }
+    ensures cause { Counts (K.output sink.old).faults (K.output sink.new).faults result }
+{
+    make_room(sink, piece)?;
+    add_front(piece, row, place, answer);
+    add_detail(sink, piece, answer)?;
+    piece.push_str("\n");
+    Ok(())
+}
+
+// Adds what stands before the detail of an answer.
+fn add_front(piece: &mut Piece, row: u32, place: u64, answer: &Answer)
+    requires { array_string_len piece.old ≤ 65408 }
+    ensures bytes { piece.new.bytes ≡ piece.old.bytes ++ front_text row place answer.now }
+    ensures len { array_string_len piece.new ≤ array_string_len piece.old + 50 }
+{
+    add_number(piece, u64::from(row));
     piece.push_str(",");
-    add_number(&mut piece, place);
+    add_number(piece, place);
     piece.push_str(",");
     piece.push_str(word_of(answer));
     piece.push_str(",");
-    add_detail(sink, &mut piece, answer)?;
-    piece.push_str("\n");
-    sink.put(piece.as_str().as_bytes())
 }
 
 fn word_of(answer: &Answer) -> &'static str
@@ -63,10 +89,10 @@ fn word_of(answer: &Answer) -> &'static str
 }
 
 fn add_detail<K: Sink>(sink: &mut K, piece: &mut Piece, answer: &Answer) -> Result<(), SinkFault>
-    requires { array_string_len piece.old ≤ 64 }
+    requires { array_string_len piece.old ≤ 65472 }
     ensures bytes { HoldsBack (K.output sink.old).taken (K.output sink.new).taken (piece.old.bytes ++ detail_text answer.now) piece.new.bytes result }
     ensures cause { Counts (K.output sink.old).faults (K.output sink.new).faults result }
-    ensures room { OnOk result (array_string_len piece.new ≤ 4095) }
+    ensures room { OnOk result (array_string_len piece.new ≤ 65535) }
 {
     match answer {
         Answer::Done | Answer::Full | Answer::Absent => Ok(()),
@@ -83,10 +109,10 @@ fn add_detail<K: Sink>(sink: &mut K, piece: &mut Piece, answer: &Answer) -> Resu
 }
 
 fn add_list<K: Sink>(sink: &mut K, piece: &mut Piece, list: &[Placed]) -> Result<(), SinkFault>
-    requires { array_string_len piece.old ≤ 64 }
+    requires { array_string_len piece.old ≤ 65472 }
     ensures bytes { HoldsBack (K.output sink.old).taken (K.output sink.new).taken (piece.old.bytes ++ join_by placed_text (codes ";") list.now) piece.new.bytes result }
     ensures cause { Counts (K.output sink.old).faults (K.output sink.new).faults result }
-    ensures room { OnOk result (array_string_len piece.new ≤ 4095) }
+    ensures room { OnOk result (array_string_len piece.new ≤ 65535) }
 {
     let Some((first, rest)) = list.split_first() else {
         return Ok(());
@@ -101,7 +127,7 @@ fn add_list<K: Sink>(sink: &mut K, piece: &mut Piece, list: &[Placed]) -> Result
 }
 
 fn add_placed(piece: &mut Piece, placed: &Placed)
-    requires { array_string_len piece.old ≤ 3970 }
+    requires { array_string_len piece.old ≤ 65473 }
     ensures bytes { piece.new.bytes ≡ piece.old.bytes ++ placed_text placed.now }
     ensures len { array_string_len piece.new ≤ array_string_len piece.old + 62 }
 {

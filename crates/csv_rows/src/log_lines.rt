@@ -1,12 +1,12 @@
-//! The lines of commands over a log.
+//! Lines of counts: what was found in a log, and what made rows leave.
 ghost use Rattle.std.specs.Prelude.{◌≡◌, ◌≤◌, ◌+◌, ◌++◌, length};
 ghost use Rattle.arrayvec.specs.ArrayString.{array_string_len};
 ghost use Rattle.causes.specs.Causes.{Counts};
 ghost use Rattle.io_edge.specs.Puts.{Puts};
-ghost use Rattle.csv_rows.specs.LogLines.{made_line, count_line, counts_text};
+ghost use Rattle.csv_rows.specs.LogLines.{made_line, count_line, counts_text, summary_text};
 
 use crate::pieces::{Piece, add_number};
-use crate::rows::LogCounts;
+use crate::rows::{LogCounts, Summary};
 use io_edge::{Sink, SinkFault};
 
 /// Writes that a log was made.
@@ -27,6 +27,18 @@ pub fn write_counts<K: Sink>(sink: &mut K, counts: &LogCounts) -> Result<(), Sin
     add_count(&mut piece, "points ", counts.points);
     add_count(&mut piece, "leaves ", counts.leaves);
     add_count(&mut piece, "unfinished ", counts.unfinished);
+    sink.put(piece.as_str().as_bytes())
+}
+
+/// Writes the three lines of what made rows leave, as one piece.
+pub fn write_summary<K: Sink>(sink: &mut K, summary: &Summary) -> Result<(), SinkFault>
+    ensures bytes { Puts (K.output sink.old).taken (K.output sink.new).taken (summary_text summary.now) result }
+    ensures cause { Counts (K.output sink.old).faults (K.output sink.new).faults result }
+{
+    let mut piece = Piece::new();
+    add_count(&mut piece, "rows ", summary.rows);
+    add_count(&mut piece, "points ", summary.points);
+    add_count(&mut piece, "sum ", summary.sum);
     sink.put(piece.as_str().as_bytes())
 }
 

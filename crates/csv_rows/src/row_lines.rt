@@ -13,7 +13,7 @@ use io_edge::{Sink, SinkFault};
 use plain_list::Op;
 use zorder::{Point, Region};
 
-/// Writes the header and the rows, in pieces of up to 4 KiB.
+/// Writes the header and the rows, in pieces of up to 64 KiB.
 pub fn write_rows<K: Sink>(sink: &mut K, rows: &Rows) -> Result<(), SinkFault>
     ensures bytes { Puts (K.output sink.old).taken (K.output sink.new).taken (rows_text rows.now) result }
     ensures cause { Counts (K.output sink.old).faults (K.output sink.new).faults result }
@@ -29,7 +29,7 @@ pub fn write_rows<K: Sink>(sink: &mut K, rows: &Rows) -> Result<(), SinkFault>
 }
 
 fn add_row(piece: &mut Piece, row: &InRow)
-    requires { array_string_len piece.old ≤ 3968 }
+    requires { array_string_len piece.old ≤ 65408 }
     ensures bytes { piece.new.bytes ≡ piece.old.bytes ++ row_line row.now }
     ensures len { array_string_len piece.new ≤ array_string_len piece.old + 120 }
 {
@@ -45,7 +45,7 @@ fn add_row(piece: &mut Piece, row: &InRow)
 }
 
 fn add_placed_op(piece: &mut Piece, word: &str, id: u64, at: Point)
-    requires room { array_string_len piece.old ≤ 3988 }
+    requires room { array_string_len piece.old ≤ 65428 }
     requires word { length word.now ≤ 7 }
     ensures bytes { piece.new.bytes ≡ piece.old.bytes ++ word.now ++ decimal id ++ codes "," ++ decimal at.x ++ codes "," ++ decimal at.y ++ codes ",,\n" }
     ensures len { array_string_len piece.new ≤ array_string_len piece.old + 100 }
@@ -58,7 +58,7 @@ fn add_placed_op(piece: &mut Piece, word: &str, id: u64, at: Point)
 }
 
 fn add_id_op(piece: &mut Piece, word: &str, id: u64)
-    requires room { array_string_len piece.old ≤ 3988 }
+    requires room { array_string_len piece.old ≤ 65428 }
     requires word { length word.now ≤ 7 }
     ensures bytes { piece.new.bytes ≡ piece.old.bytes ++ word.now ++ decimal id ++ codes ",,,,\n" }
     ensures len { array_string_len piece.new ≤ array_string_len piece.old + 100 }
@@ -69,7 +69,7 @@ fn add_id_op(piece: &mut Piece, word: &str, id: u64)
 }
 
 fn add_box(piece: &mut Piece, region: Region)
-    requires { array_string_len piece.old ≤ 3988 }
+    requires { array_string_len piece.old ≤ 65428 }
     ensures bytes { piece.new.bytes ≡ piece.old.bytes ++ codes ",box,," ++ decimal region.lo.x ++ codes "," ++ decimal region.lo.y ++ codes "," ++ decimal region.hi.x ++ codes "," ++ decimal region.hi.y ++ codes "\n" }
     ensures len { array_string_len piece.new ≤ array_string_len piece.old + 100 }
 {
@@ -81,7 +81,7 @@ fn add_box(piece: &mut Piece, region: Region)
 }
 
 fn add_near(piece: &mut Piece, at: Point, k: u32)
-    requires { array_string_len piece.old ≤ 3988 }
+    requires { array_string_len piece.old ≤ 65428 }
     ensures bytes { piece.new.bytes ≡ piece.old.bytes ++ codes ",near,," ++ decimal at.x ++ codes "," ++ decimal at.y ++ codes "," ++ decimal k ++ codes ",\n" }
     ensures len { array_string_len piece.new ≤ array_string_len piece.old + 100 }
 {

@@ -97,6 +97,14 @@ pub struct LogCounts {
     pub unfinished: u64,
 }
 
+/// What made rows leave: how many rows there were, how many points are left, and the sum of their keys modulo 2^64.
+#[derive(Clone, Copy, Debug, PartialEq, Eq)]
+pub struct Summary {
+    pub rows: u64,
+    pub points: u64,
+    pub sum: u64,
+}
+
 /// What is wrong with a record: it hasn't seven fields, or a column breaks its rule.
 #[derive(Clone, Copy, Debug, PartialEq, Eq)]
 pub enum Wrong {

@@ -1,4 +1,4 @@
-use Rattle.std.proofs.Common.{◌++◌}
+use Rattle.std.proofs.Common.{◌++◌, ◌≤◌, length}
 use Rattle.std.specs.Prelude.{codes}
 use Rattle.zorder.specs.declared.points.Placed.{Placed}
 use Rattle.csv_rows.specs.Lines.{placed_text}
@@ -8,3 +8,4 @@ use Rattle.csv_rows.proofs.lines.add_list.Given as goal
 abbrev pub invariant-loop-placed : goal.invariant-loop-placed
 invariant-loop-placed g l =
     HasAdded (λ (m : Placed). codes ";" ++ placed_text m) (g.K.Sink.output l.fn.sink).taken (g.K.Sink.output l.sink).taken (g.K.Sink.output l.fn.sink).faults (g.K.Sink.output l.sink).faults l.initial.piece.bytes l.rest l.placed-index l.piece.bytes
+    × (length l.piece.bytes ≤ 65535)

@@ -1,4 +1,4 @@
-use Rattle.std.proofs.Common.{◌≡◌, ◌∙◌, ◌++◌, [], ap, arith, length, List, ℕ}
+use Rattle.std.proofs.Common.{◌≡◌, ◌∙◌, ◌++◌, [], ap, arith, List, ℕ}
 use Rattle.std.proofs.lemmas.List.{append-nil}
 use Rattle.std.specs.List.{flat_map}
 use Rattle.plain_list.specs.declared.ops.Op.TheVariants as op
@@ -17,12 +17,11 @@ abbrev blank : InRow
 blank = record { session = 0; op = op.Put 0 (record { x = 0; y = 0 }) }
 
 pub loop-row-init : goal.loop-row-init
-loop-row-init g c = added-none row_line _ _ c.push_str.new.self.bytes c.as_slice-row-items.result.now (omega (arith, c.push_str.ensures.len, ap length c.new-piece.ensures))
+loop-row-init g c = added-none row_line _ _ c.push_str.new.self.bytes c.as_slice-row-items.result.now
 
 pub loop-row-preserved : goal.loop-row-preserved
 loop-row-preserved g c =
     added-more row_line _ _ c.push_str.new.self.bytes c.as_slice-row-items.result.now _ _ _ _ _ _ c.make_room.new.piece.bytes _ blank c.loop-row.invariant c.in_ok-make_room.ensures.bytes c.in_ok-make_room.ensures.cause.same c.add_row.ensures.bytes c.loop-row-test.true
-    (omega (arith, c.add_row.ensures.len, c.in_ok-make_room.ensures.room))
 
 pub returns-in_err-make_room-clause-bytes : goal.returns-in_err-make_room-clause-bytes
 returns-in_err-make_room-clause-bytes g c =

@@ -1,0 +1,19 @@
+-- The text of the objects in a box.
+use Rattle.std.specs.Prelude.{ℕ, List, ◌++◌, codes}
+use Rattle.std.specs.List.{filter, flat_map}
+use Rattle.std.specs.Fmt.{decimal}
+use Rattle.zorder.specs.Region.{has_point}
+use Rattle.zorder.specs.declared.points.Placed.{Placed}
+use Rattle.zorder.specs.declared.points.Region.{Region}
+
+-- the first line
+abbrev pub object_title : List ℕ
+object_title = codes "id,x,y\n"
+
+-- an object and where it is
+abbrev pub object_line : Placed → List ℕ
+object_line m = decimal m.id ++ codes "," ++ decimal m.at.x ++ codes "," ++ decimal m.at.y ++ codes "\n"
+
+-- the first line, and a line for each of these objects that is in the box, in their order
+unfoldable pub objects_text : Region → List Placed → List ℕ
+objects_text region objects = object_title ++ flat_map object_line (filter (λ (m : Placed). has_point region m.at) objects)

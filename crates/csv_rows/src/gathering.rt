@@ -1,0 +1,68 @@
+//! Lines of answers that go to a sink together.
+ghost use Rattle.std.specs.Prelude.{◌≡◌, ◌++◌, List, [], ℕ};
+ghost use Rattle.causes.specs.Causes.{Counts};
+ghost use Rattle.io_edge.specs.Puts.{Puts};
+ghost use Rattle.csv_rows.specs.Lines.{line_text, title_line};
+ghost use Rattle.csv_rows.specs.Pieces.{HoldsBack};
+
+use crate::lines::add_line;
+use crate::pieces::{Piece, make_room};
+use io_edge::{Sink, SinkFault};
+use plain_list::Answer;
+use std::marker::Model;
+
+/// Lines on their way to one sink, in pieces of up to 64 KiB, which lie in the value itself: it takes no memory. Contracts see the bytes
+/// that are held back. They go out by `finish`, and without it never. After a fault they are lost.
+#[derive(Drop)]
+pub struct Gathered {
+    piece: Piece,
+}
+
+impl Model for Gathered {
+    ghost Value = { List ℕ };
+
+    ghost view = { λ g. g.piece.bytes };
+}
+
+impl Gathered {
+    /// Nothing is held back.
+    pub fn new() -> Gathered
+        ensures { result ≡ [] }
+    {
+        Gathered {
+            piece: Piece::new(),
+        }
+    }
+
+    /// Adds the first line of answers.
+    pub fn add_title<K: Sink>(&mut self, sink: &mut K) -> Result<(), SinkFault>
+        ensures bytes { HoldsBack (K.output sink.old).taken (K.output sink.new).taken (self.old ++ title_line) self.new result }
+        ensures cause { Counts (K.output sink.old).faults (K.output sink.new).faults result }
+    {
+        make_room(sink, &mut self.piece)?;
+        self.piece.push_str("row,place,answer,detail\n");
+        Ok(())
+    }
+
+    /// Adds the line of a row.
+    pub fn add_line<K: Sink>(
+        &mut self,
+        sink: &mut K,
+        row: u32,
+        place: u64,
+        answer: &Answer,
+    ) -> Result<(), SinkFault>
+        ensures bytes { HoldsBack (K.output sink.old).taken (K.output sink.new).taken (self.old ++ line_text row place answer.now) self.new result }
+        ensures cause { Counts (K.output sink.old).faults (K.output sink.new).faults result }
+    {
+        add_line(sink, &mut self.piece, row, place, answer)
+    }
+
+    /// Puts what is held back.
+    pub fn finish<K: Sink>(self, sink: &mut K) -> Result<(), SinkFault>
+        ensures bytes { Puts (K.output sink.old).taken (K.output sink.new).taken self result }
+        ensures cause { Counts (K.output sink.old).faults (K.output sink.new).faults result }
+    {
+        sink.put(self.piece.as_str().as_bytes())
+    }
+}

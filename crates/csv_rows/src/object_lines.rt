@@ -1,0 +1,58 @@
+//! The text of the objects in a box.
+ghost use Rattle.std.specs.Prelude.{◌≡◌, ◌≤◌, ◌+◌, ◌++◌, [], if◌then◌else◌};
+ghost use Rattle.arrayvec.specs.ArrayString.{array_string_len};
+ghost use Rattle.zorder.specs.Region.{has_point};
+ghost use Rattle.causes.specs.Causes.{Counts};
+ghost use Rattle.io_edge.specs.Puts.{Puts};
+ghost use Rattle.csv_rows.specs.ObjectLines.{object_line, objects_text};
+ghost use Rattle.csv_rows.specs.Pieces.{HoldsBack};
+
+use crate::pieces::{Piece, add_number, add_point, make_room};
+use io_edge::{Sink, SinkFault};
+use zorder::{Placed, Region};
+
+/// Writes a title and the line of each object that is in the box, in their order, in pieces of up to 64 KiB. Corners that no point lies
+/// between give the title alone.
+pub fn write_objects<K: Sink>(
+    sink: &mut K,
+    objects: &[Placed],
+    region: &Region,
+) -> Result<(), SinkFault>
+    ensures bytes { Puts (K.output sink.old).taken (K.output sink.new).taken (objects_text region.now objects.now) result }
+    ensures cause { Counts (K.output sink.old).faults (K.output sink.new).faults result }
+{
+    let mut piece = Piece::new();
+    piece.push_str("id,x,y\n");
+    for object in objects {
+        add_within(sink, &mut piece, object, region)?;
+    }
+    sink.put(piece.as_str().as_bytes())
+}
+
+// Adds the line of an object where it is in the box.
+fn add_within<K: Sink>(
+    sink: &mut K,
+    piece: &mut Piece,
+    object: &Placed,
+    region: &Region,
+) -> Result<(), SinkFault>
+    ensures bytes { HoldsBack (K.output sink.old).taken (K.output sink.new).taken (piece.old.bytes ++ (if has_point region.now object.now.at then object_line object.now else [])) piece.new.bytes result }
+    ensures cause { Counts (K.output sink.old).faults (K.output sink.new).faults result }
+{
+    if !region.has(object.at) {
+        return Ok(());
+    }
+    make_room(sink, piece)?;
+    add_object(piece, object);
+    Ok(())
+}
+
+fn add_object(piece: &mut Piece, object: &Placed)
+    requires { array_string_len piece.old ≤ 65408 }
+    ensures bytes { piece.new.bytes ≡ piece.old.bytes ++ object_line object.now }
+{
+    add_number(piece, object.id);
+    piece.push_str(",");
+    add_point(piece, object.at, ",");
+    piece.push_str("\n");
+}
