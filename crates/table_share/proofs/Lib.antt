@@ -3,3 +3,5 @@ pub mod FoldLemmas
 pub mod RowObjects
 pub mod TableRows
 pub mod LeafRows
+pub mod Subtrees
+pub mod SharedKeys

@@ -3,3 +3,4 @@ pub mod Folds
 pub mod Objects
 pub mod Worlds
 pub mod KeysUnder
+pub mod Subtree

@@ -2,16 +2,18 @@
 ghost use Rattle.std.specs.Prelude.{◌≡◌, ◌≤◌, ◌+◌, ◌++◌, OnOk, IfOk, length};
 ghost use Rattle.bucket_versions.specs.Rows.{IsRows, rows_between};
 ghost use Rattle.index_layer.specs.Leaves.{all_rows};
+ghost use Rattle.table_share.specs.Subtree.{subtree, shares_key, leaves_between};
 
-use crate::walk::LeafWalk;
 use bucket_versions::{Bucket, Row};
-use index_layer::Index;
+use index_layer::{Index, Part};
+use prefix_names::key_range;
 use std::alloc::Global;
 use std::sync::ledger::Ledger;
 use step_count::Steps;
-use zorder::Memory;
+use zorder::{Memory, Name, child};
 
-/// The rows with keys from `lo` to `hi`, both included, in order. Each bucket that it opens is a step.
+/// The rows with keys from `lo` to `hi`, both included, in order. Each bucket that it opens is a step. It walks names from
+/// the empty one, and passes over a subtree that shares no key with the range.
 pub fn scan<I: Index, L: Ledger>(
     alloc: Global,
     index: &I,
@@ -22,15 +24,46 @@ pub fn scan<I: Index, L: Ledger>(
     requires { lo ≤ hi }
     ensures rows { IfOk result (λ rows. rows.items ≡ rows_between lo hi (all_rows (I.leaves index.now))) }
     ensures in_order { IfOk result (λ rows. IsRows rows.items) }
-    ensures opened { steps.new ≤ steps.old + length (I.leaves index.now) }
-    ensures exact { IfOk result (λ _. steps.new ≡ steps.old + length (I.leaves index.now)) }
+    ensures opened { steps.new ≤ steps.old + length (leaves_between lo hi (I.leaves index.now)) }
+    ensures exact { IfOk result (λ _. steps.new ≡ steps.old + length (leaves_between lo hi (I.leaves index.now))) }
 {
     let mut found = Vec::new(alloc);
-    let mut walk = LeafWalk::over(index);
-    while let Some((_, bucket)) = walk.next_leaf() {
-        push_between(&mut found, bucket, lo, hi, steps)?;
-    }
+    push_subtree(&mut found, index, &Name::whole(), lo, hi, steps)?;
     Ok(found)
+}
+
+// The rows of the leaves whose names begin with this one.
+fn push_subtree<I: Index, L: Ledger>(
+    found: &mut Vec<Row>,
+    index: &I,
+    name: &Name,
+    lo: u64,
+    hi: u64,
+    steps: &mut Steps<L>,
+) -> Result<(), Memory>
+    ensures rows { OnOk result (found.new.items ≡ found.old.items ++ rows_between lo hi (all_rows (leaves_between lo hi (subtree name.now (I.leaves index.now))))) }
+    ensures opened { steps.new ≤ steps.old + length (leaves_between lo hi (subtree name.now (I.leaves index.now))) }
+    ensures exact { OnOk result (steps.new ≡ steps.old + length (leaves_between lo hi (subtree name.now (I.leaves index.now)))) }
+{
+    if !shares(name, lo, hi) {
+        return Ok(());
+    }
+    match index.part(name) {
+        Part::Leaf(bucket) => push_between(found, bucket, lo, hi, steps),
+        Part::Inner => {
+            push_subtree(found, index, &child(name, false), lo, hi, steps)?;
+            push_subtree(found, index, &child(name, true), lo, hi, steps)
+        }
+        Part::Outside => Ok(()),
+    }
+}
+
+// Whether some key of the range is under the name.
+fn shares(name: &Name, lo: u64, hi: u64) -> bool
+    ensures { result ≡ shares_key lo hi name.now }
+{
+    let (first, last) = key_range(name);
+    first <= hi && lo <= last
 }
 
 fn push_between<L: Ledger>(
