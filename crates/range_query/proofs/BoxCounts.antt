@@ -1,5 +1,7 @@
 -- How many rows of the leaves stand for an object in a box.
-use Rattle.std.proofs.Common.{◌≡◌, ℕ, ◌+◌, ◌-◌, ◌<◌, ◌≤◌, ◌^◌, min, Bool, true, false, cond, List, [], ◌∷◌, ◌++◌, length, refl, ap, ◌∙◌, arith}
+use Rattle.std.proofs.Common.{◌≡◌, ℕ, ◌+◌, ◌<◌, ◌≤◌, ◌^◌, Bool, true, false, cond, List, [], ◌∷◌, ◌++◌, length, refl, sym, ap, ◌∙◌, arith}
+use Rattle.std.proofs.lemmas.Grind.{flat_map-append}
+use Rattle.std.proofs.lemmas.List.{append-nil}
 use Rattle.std.proofs.lemmas.List.Sorted.{length_permutation}
 use Rattle.zorder.specs.declared.points.Point.{Point}
 use Rattle.zorder.specs.declared.points.Placed.{Placed}
@@ -9,15 +11,17 @@ use Rattle.zorder.specs.Key.{point_of, is_under, is_in, IsPoint}
 use Rattle.zorder.proofs.Places.{key_of-point_of, IsPoint-point_of}
 use Rattle.prefix_names.specs.Regions.{SharePoint, AllPointsIn}
 use Rattle.bucket_versions.specs.declared.row.Row.{Row}
+use Rattle.bucket_versions.specs.Rows.{Rows}
 use Rattle.index_layer.specs.Leaves.{Leaf, all_rows}
 use Rattle.index_layer.specs.Stands.{Stands}
 use Rattle.index_layer.proofs.LeafKeys.{false_if}
+use Rattle.index_layer.proofs.LeafChanges.{leaf_at}
 use Rattle.plain_list.specs.World.{IsWorld}
 use Rattle.plain_list.specs.Answer.{members_in}
 use Rattle.table_share.specs.Objects.{placed_of, objects_of}
 use Rattle.table_share.proofs.RowObjects.{objects-permutation}
 use Rattle.table_share.proofs.TableRows.{table_of}
-use Rattle.table_share.specs.KeysUnder.{AreKeysUnder, AreAllKeysUnder}
+use Rattle.table_share.specs.KeysUnder.{AreKeysUnder}
 use Rattle.range_query.specs.Cut.{number_in, is_cut, leaves_cut}
 
 pub length_if : {X : Type 0} (b : Bool) (x : X) (xs : List X) → length (cond b (x ∷ xs) xs) ≡ cond b 1 0 + length xs
@@ -42,6 +46,12 @@ module _ (leaf region : Region) (name : List Bool) (points : (p : Point) → IsP
       let here : has_point region (point_of r.key) ≡ true = within (point_of r.key) (in_leaf r under.0.0 under.0.1) in
       let one : cond (has_point region (point_of r.key)) 1 0 ≡ 1 = ap {B = ℕ} (λ b. cond b 1 0) here in
       omega (arith, number_in-cons region r rows, one, all_in rows within under.1)
+
+  pub all_held : (rows : List Row) → AllPointsIn leaf region → AreKeysUnder name rows → members_in region (objects_of rows) ≡ objects_of rows
+  all_held [] within under = refl
+  all_held (r ∷ rows) within under =
+      ap (λ b. cond b (placed_of r ∷ members_in region (objects_of rows)) (members_in region (objects_of rows))) (within (point_of r.key) (in_leaf r under.0.0 under.0.1))
+      ∙ ap (λ (ms : List Placed). placed_of r ∷ ms) (all_held rows within under.1)
 
   -- a leaf that misses the box has none of its rows there
   pub none_in : (rows : List Row) → (SharePoint leaf region → ⊥) → AreKeysUnder name rows → number_in region rows ≡ 0
@@ -70,24 +80,15 @@ module _ (region : Region) (leaves : List Leaf) (world : List Placed) (names : L
   pub number-fits : number_in region (all_rows leaves) < 2 ^ 64
   number-fits = omega (arith, number_of_world, fewer region world, is_world.size)
 
--- a count along the leaves, with those that are left
-pub record IsCount (region : Region) (all left : List Leaf) (total from now : ℕ) : Type 0 where
-  pub opened : now + length (leaves_cut region left) ≡ from + length (leaves_cut region all)
-  pub number : AreAllKeysUnder all → number_in region (all_rows all) < 2 ^ 64
-      → AreAllKeysUnder left × (total + number_in region (all_rows left) ≡ number_in region (all_rows all))
+-- counts of two halves of some leaves, and of one leaf
+module _ (region : Region) where
+  pub count_one : (rows : List Row) (ls : List Leaf) (name : List Bool) (b : Rows) → rows ≡ b.rows → ls ≡ record { name = name; bucket = b } ∷ [] → number_in region (all_rows ls) ≡ number_in region rows
+  count_one rows ls name b is one =
+      ap (λ (l : List Leaf). number_in region (all_rows l)) one ∙ ap (number_in region) (append-nil b.rows ∙ sym is)
 
-pub IsCount-begin : (region : Region) (all : List Leaf) (from : ℕ) → IsCount region all all 0 from from
-IsCount-begin region all from = record { opened = refl; number = λ under fits. (under, omega arith) }
+  pub count_two : (ls zero one : List Leaf) → ls ≡ zero ++ one → number_in region (all_rows ls) ≡ number_in region (all_rows zero) + number_in region (all_rows one)
+  count_two ls zero one both =
+      ap (λ (l : List Leaf). number_in region (all_rows l)) both ∙ ap (number_in region) (flat_map-append (λ (l : Leaf). l.bucket.rows) zero one) ∙ number_in-append region (all_rows zero) (all_rows one)
 
-pub IsCount-next : (region : Region) (all left : List Leaf) (l : Leaf) (total from now count then : ℕ) → IsCount region all (l ∷ left) total from now
-    → (AreKeysUnder l.name l.bucket.rows → number_in region l.bucket.rows < 2 ^ 64 → count ≡ number_in region l.bucket.rows)
-    → then ≡ now + cond (is_cut region l.name) 1 0
-    → IsCount region all left (min (total + count) (2 ^ 64 - 1)) from then
-IsCount-next region all left l total from now count then before counted step = record {
-  opened = omega (arith, before.opened, step, length_if (is_cut region l.name) l (leaves_cut region left));
-  number = λ under fits.
-      let old = before.number under fits in
-      let sum : number_in region (all_rows (l ∷ left)) ≡ number_in region l.bucket.rows + number_in region (all_rows left) = number_in-append region l.bucket.rows (all_rows left) in
-      let here : count ≡ number_in region l.bucket.rows = counted old.0.0 (omega (arith, old.1, sum, fits)) in
-      (old.0.1, omega (arith, old.1, sum, here, fits));
-}
+  pub cut_one : (name : List Bool) (b : Rows) → length (leaves_cut region (record { name = name; bucket = b } ∷ [])) ≡ cond (is_cut region name) 1 0
+  cut_one name b = omega (arith, length_if (is_cut region name) (leaf_at name b) [])

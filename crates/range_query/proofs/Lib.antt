@@ -1,3 +1,3 @@
-pub mod InOrder
 pub mod BoxCounts
-pub mod BoxObjects
+pub mod BoxLeaves
+pub mod InOrder

@@ -1,12 +1,13 @@
 -- How leaves and their rows lie to a box.
 use Rattle.std.specs.Prelude.{ℕ, Bool, not, ◌&&◌, List, length}
-use Rattle.std.specs.List.{filter}
+use Rattle.zorder.specs.declared.points.Placed.{Placed}
 use Rattle.zorder.specs.declared.points.Region.{Region}
 use Rattle.prefix_names.specs.Regions.{region_of, meet, lies_in}
 use Rattle.bucket_versions.specs.declared.row.Row.{Row}
-use Rattle.index_layer.specs.Leaves.{Leaf}
+use Rattle.index_layer.specs.Leaves.{Leaf, all_rows}
 use Rattle.plain_list.specs.Answer.{members_in}
 use Rattle.table_share.specs.Objects.{objects_of}
+use Rattle.table_share.specs.Subtree.{subtree, leaves_of}
 
 -- whether the box has some points of a name's region
 abbrev pub is_met : Region → List Bool → Bool
@@ -14,7 +15,7 @@ is_met region name = meet (region_of name) region
 
 -- the leaves whose region the box meets
 abbrev pub leaves_met : Region → List Leaf → List Leaf
-leaves_met region leaves = filter (λ l. is_met region l.name) leaves
+leaves_met region leaves = leaves_of (is_met region) leaves
 
 -- whether the box has some points of a name's region, and not all
 abbrev pub is_cut : Region → List Bool → Bool
@@ -22,8 +23,16 @@ is_cut region name = meet (region_of name) region && not (lies_in (region_of nam
 
 -- the leaves whose region the box cuts
 abbrev pub leaves_cut : Region → List Leaf → List Leaf
-leaves_cut region leaves = filter (λ l. is_cut region l.name) leaves
+leaves_cut region leaves = leaves_of (is_cut region) leaves
 
 -- how many rows stand for an object in the box
 abbrev pub number_in : Region → List Row → ℕ
 number_in region rows = length (members_in region (objects_of rows))
+
+-- the leaves in the subtree of a name whose region the box meets
+abbrev pub below_met : Region → List Bool → List Leaf → List Leaf
+below_met region name leaves = leaves_met region (subtree name leaves)
+
+-- the objects in the box that rows of these leaves stand for, one leaf after the other
+abbrev pub objects_held : Region → List Leaf → List Placed
+objects_held region leaves = members_in region (objects_of (all_rows leaves))

@@ -1,18 +1,19 @@
 //! How many objects are in a box.
-ghost use Rattle.std.specs.Prelude.{◌≡◌, ◌+◌, ◌<◌, ◌^◌, if◌then◌else◌, length};
+ghost use Rattle.std.specs.Prelude.{◌≡◌, ◌+◌, ◌<◌, ◌^◌, if◌then◌else◌, true, length};
 ghost use Rattle.zorder.specs.Region.{IsBox};
+ghost use Rattle.index_layer.specs.Leaves.{all_rows};
 ghost use Rattle.plain_list.specs.Answer.{members_in};
+ghost use Rattle.table_share.specs.Subtree.{subtree};
 ghost use Rattle.table_share.specs.Worlds.{OfEachWorld};
-ghost use Rattle.range_query.specs.Cut.{is_cut, leaves_cut, number_in};
-ghost use Rattle.table_share.specs.KeysUnder.{AreKeysUnder};
+ghost use Rattle.range_query.specs.Cut.{is_met, is_cut, leaves_cut, below_met, number_in};
+ghost use Rattle.table_share.specs.KeysUnder.{AreKeysUnder, AreAllKeysUnder};
 
 use bucket_versions::Bucket;
-use index_layer::Index;
+use index_layer::{Index, Part};
 use prefix_names::{inside, meets};
 use std::sync::ledger::Ledger;
 use step_count::Steps;
-use table_share::LeafWalk;
-use zorder::{Name, Region, point};
+use zorder::{Name, Region, child, point};
 
 /// How many objects are in the box. A leaf's bucket is opened, which is a step, only where the box has some points of
 /// its region and not all. It takes no memory.
@@ -21,23 +22,40 @@ pub fn count_in<I: Index, L: Ledger>(index: &I, region: &Region, steps: &mut Ste
     ensures number { OfEachWorld (I.leaves index.now) (λ world. result ≡ length (members_in region.now world)) }
     ensures opened { steps.new ≡ steps.old + length (leaves_cut region.now (I.leaves index.now)) }
 {
-    let mut total = 0u64;
-    let mut walk = LeafWalk::over(index);
-    while let Some((name, bucket)) = walk.next_leaf() {
-        total = total.saturating_add(count_leaf(&name, bucket, region, steps));
+    count_below(index, &Name::whole(), region, steps)
+}
+
+// How many there are below a name.
+fn count_below<I: Index, L: Ledger>(
+    index: &I,
+    name: &Name,
+    region: &Region,
+    steps: &mut Steps<L>,
+) -> u64
+    requires { IsBox region.now }
+    ensures number { AreAllKeysUnder (I.leaves index.now) → number_in region.now (all_rows (below_met region.now name.now (I.leaves index.now))) < 2 ^ 64 → result ≡ number_in region.now (all_rows (below_met region.now name.now (I.leaves index.now))) }
+    ensures opened { steps.new ≡ steps.old + length (leaves_cut region.now (subtree name.now (I.leaves index.now))) }
+{
+    if !meets(&prefix_names::region(name), region) {
+        return 0;
     }
-    total
+    match index.part(name) {
+        Part::Leaf(bucket) => count_leaf(name, bucket, region, steps),
+        Part::Inner => {
+            let first = count_below(index, &child(name, false), region, steps);
+            first.saturating_add(count_below(index, &child(name, true), region, steps))
+        }
+        Part::Outside => 0,
+    }
 }
 
 fn count_leaf<L: Ledger>(name: &Name, bucket: &Bucket, region: &Region, steps: &mut Steps<L>) -> u64
-    requires { IsBox region.now }
+    requires is_box { IsBox region.now }
+    requires met { is_met region.now name.now ≡ true }
     ensures number { AreKeysUnder name.now bucket.now.rows → number_in region.now bucket.now.rows < 2 ^ 64 → result ≡ number_in region.now bucket.now.rows }
     ensures opened { steps.new ≡ steps.old + (if is_cut region.now name.now then 1 else 0) }
 {
-    let leaf = prefix_names::region(name);
-    if !meets(&leaf, region) {
-        0
-    } else if inside(&leaf, region) {
+    if inside(&prefix_names::region(name), region) {
         bucket.count()
     } else {
         count_rows(bucket, region, steps)

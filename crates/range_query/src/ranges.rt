@@ -1,22 +1,21 @@
 //! The objects in a box.
-ghost use Rattle.std.specs.Prelude.{◌≡◌, ◌≤◌, ◌+◌, ◌++◌, if◌then◌else◌, IfOk, OnOk, length};
+ghost use Rattle.std.specs.Prelude.{◌≡◌, ◌≤◌, ◌+◌, ◌++◌, IfOk, OnOk, length};
 ghost use Rattle.zorder.specs.Region.{IsBox};
-ghost use Rattle.index_layer.specs.Leaves.{all_rows};
 ghost use Rattle.plain_list.specs.Answer.{members_in};
 ghost use Rattle.table_share.specs.KeysUnder.{AreKeysUnder, AreAllKeysUnder};
 ghost use Rattle.table_share.specs.Objects.{objects_of};
 ghost use Rattle.table_share.specs.Worlds.{OfEachWorld};
-ghost use Rattle.range_query.specs.Cut.{is_met, leaves_met};
+ghost use Rattle.range_query.specs.Cut.{leaves_met, below_met, objects_held};
 
 use bucket_versions::Bucket;
-use index_layer::Index;
+use index_layer::{Index, Part};
 use plain_list::PlacedList;
-use prefix_names::meets;
+use prefix_names::{inside, meets};
 use std::alloc::Global;
 use std::sync::ledger::Ledger;
 use step_count::Steps;
-use table_share::{LeafWalk, placed};
-use zorder::{Memory, Name, Placed, Region};
+use table_share::placed;
+use zorder::{Memory, Name, Placed, Region, child};
 
 /// The objects in the box, in the order of their ids. A leaf's bucket is opened, which is a step, where the box has some
 /// points of its region. Memory is taken for what is found alone.
@@ -31,31 +30,39 @@ pub fn range<I: Index, L: Ledger>(
     ensures opened { steps.new ≤ steps.old + length (leaves_met region.now (I.leaves index.now)) }
     ensures exact { IfOk result (λ _. steps.new ≡ steps.old + length (leaves_met region.now (I.leaves index.now))) }
 {
-    let mut found = objects_in(alloc, index, region, steps)?;
+    let mut found = Vec::new(alloc);
+    push_below(&mut found, index, &Name::whole(), region, steps)?;
     found.sort_unstable_by_key(|m| m.id);
     Ok(PlacedList::from_vec(found))
 }
 
-// The objects in the box, in the order of their keys.
-fn objects_in<I: Index, L: Ledger>(
-    alloc: Global,
+// The objects below a name, in the order of their keys.
+fn push_below<I: Index, L: Ledger>(
+    found: &mut Vec<Placed>,
     index: &I,
+    name: &Name,
     region: &Region,
     steps: &mut Steps<L>,
-) -> Result<Vec<Placed>, Memory>
+) -> Result<(), Memory>
     requires { IsBox region.now }
-    ensures objects { AreAllKeysUnder (I.leaves index.now) → IfOk result (λ v. v.items ≡ members_in region.now (objects_of (all_rows (I.leaves index.now)))) }
-    ensures opened { steps.new ≤ steps.old + length (leaves_met region.now (I.leaves index.now)) }
-    ensures exact { IfOk result (λ _. steps.new ≡ steps.old + length (leaves_met region.now (I.leaves index.now))) }
+    ensures objects { AreAllKeysUnder (I.leaves index.now) → OnOk result (found.new.items ≡ found.old.items ++ objects_held region.now (below_met region.now name.now (I.leaves index.now))) }
+    ensures opened { steps.new ≤ steps.old + length (below_met region.now name.now (I.leaves index.now)) }
+    ensures exact { OnOk result (steps.new ≡ steps.old + length (below_met region.now name.now (I.leaves index.now))) }
 {
-    let mut found = Vec::new(alloc);
-    let mut walk = LeafWalk::over(index);
-    while let Some((name, bucket)) = walk.next_leaf() {
-        push_leaf(&mut found, &name, bucket, region, steps)?;
+    if !meets(&prefix_names::region(name), region) {
+        return Ok(());
     }
-    Ok(found)
+    match index.part(name) {
+        Part::Leaf(bucket) => push_leaf(found, name, bucket, region, steps),
+        Part::Inner => {
+            push_below(found, index, &child(name, false), region, steps)?;
+            push_below(found, index, &child(name, true), region, steps)
+        }
+        Part::Outside => Ok(()),
+    }
 }
 
+// The objects of a leaf that the box meets. Those of a leaf inside the box are all there.
 fn push_leaf<L: Ledger>(
     found: &mut Vec<Placed>,
     name: &Name,
@@ -65,13 +72,27 @@ fn push_leaf<L: Ledger>(
 ) -> Result<(), Memory>
     requires { IsBox region.now }
     ensures objects { AreKeysUnder name.now bucket.now.rows → OnOk result (found.new.items ≡ found.old.items ++ members_in region.now (objects_of bucket.now.rows)) }
-    ensures opened { steps.new ≡ steps.old + (if is_met region.now name.now then 1 else 0) }
+    ensures opened { steps.new ≡ steps.old + 1 }
 {
-    if meets(&prefix_names::region(name), region) {
-        push_rows(found, bucket, region, steps)
+    if inside(&prefix_names::region(name), region) {
+        push_all(found, bucket, steps)
     } else {
-        Ok(())
+        push_rows(found, bucket, region, steps)
     }
+}
+
+fn push_all<L: Ledger>(
+    found: &mut Vec<Placed>,
+    bucket: &Bucket,
+    steps: &mut Steps<L>,
+) -> Result<(), Memory>
+    ensures objects { OnOk result (found.new.items ≡ found.old.items ++ objects_of bucket.now.rows) }
+    ensures opened { steps.new ≡ steps.old + 1 }
+{
+    for row in bucket.rows(steps) {
+        found.push(placed(row))?;
+    }
+    Ok(())
 }
 
 fn push_rows<L: Ledger>(
