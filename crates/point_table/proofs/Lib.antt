@@ -2,6 +2,7 @@ pub mod Counting
 pub mod Covered
 pub mod CrowdLemmas
 pub mod CrowdedNames
+pub mod Dividing
 pub mod Folding
 pub mod FoundLeaves
 pub mod FullLemmas
@@ -11,6 +12,7 @@ pub mod Rising
 pub mod RisingMembers
 pub mod RowSteps
 pub mod SplitLemmas
+pub mod Splitting
 pub mod Standing
 pub mod StandingLess
 pub mod TableSteps

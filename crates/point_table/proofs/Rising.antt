@@ -1,11 +1,12 @@
 -- Names in the order of their first keys, and where a key stands among them.
-use Rattle.std.proofs.Common.{◌≡◌, ℕ, zero, suc, ◌<◌, ◌≤◌, ltb, Bool, true, false, cond, List, [], ◌∷◌, length, get_or, refl, ap, ◌∙◌, arith}
+use Rattle.std.proofs.Common.{◌≡◌, ℕ, zero, suc, ◌<◌, ◌≤◌, ltb, Bool, true, false, cond, List, [], ◌∷◌, ◌++◌, length, get_or, refl, ap, ◌∙◌, arith}
 use Rattle.std.specs.Prelude.{nat_lt, ◌==◌}
 use Rattle.std.specs.List.{AllWithin}
 use Rattle.std.specs.List.Sorted.{IsNonDecreasingBy}
 use Rattle.std.proofs.lemmas.Bool.Decides.{nat_tests}
 use Rattle.zorder.specs.Name.{first_key}
-use Rattle.point_table.specs.Crowded.{AreFrom, AreRising, marked, unmarked, key_place}
+use Rattle.point_table.specs.declared.crowded.Mark.{Mark}
+use Rattle.point_table.specs.Crowded.{AreFrom, AreRising, marked, unmarked, remarked, remarked_each, key_place}
 
 pub AreFrom-lower : (j k : ℕ) (names : List (List Bool)) → j ≤ k → AreFrom k names → AreFrom j names
 AreFrom-lower j k [] le from = tt
@@ -89,3 +90,8 @@ pub AreRising-unmarked : (name : List Bool) (names : List (List Bool)) → AreRi
 AreRising-unmarked name [] rising = tt
 AreRising-unmarked name (n ∷ names) rising =
     left_rising (nat_lt (first_key name) (first_key n)) (first_key name == first_key n) name n names rising (AreRising-unmarked name names rising.1)
+
+-- the last of some leaves is set first
+pub remarked_each-last : (front : List Mark) (last : Mark) (names : List (List Bool)) → remarked_each (front ++ last ∷ []) names ≡ remarked_each front (remarked last.crowded last.name names)
+remarked_each-last [] last names = refl
+remarked_each-last (m ∷ front) last names = ap (remarked m.crowded m.name) (remarked_each-last front last names)

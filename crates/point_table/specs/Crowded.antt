@@ -4,6 +4,7 @@ use Rattle.std.specs.Option.{option_map_or}
 use Rattle.std.specs.List.{find, AllByRecursion}
 use Rattle.zorder.specs.Name.{first_key}
 use Rattle.plain_list.specs.State.{OpenSplit, is_splitting}
+use Rattle.point_table.specs.declared.crowded.Mark.{Mark}
 
 -- names, and how many more are sure to find room
 pub record Crowd : Type 0 where
@@ -41,6 +42,11 @@ unmarked name (n ∷ names) =
 
 abbrev pub remarked : Bool → List Bool → List (List Bool) → List (List Bool)
 remarked crowded name names = if crowded then marked name names else unmarked name names
+
+-- the names with each leaf's put in its place or taken out, the last leaf's first
+abbrev pub remarked_each : List Mark → List (List Bool) → List (List Bool)
+remarked_each [] names = names
+remarked_each (m ∷ marks) names = remarked m.crowded m.name (remarked_each marks names)
 
 -- how many of the names, from the first one on, have lesser first keys
 abbrev pub key_place : List Bool → List (List Bool) → ℕ

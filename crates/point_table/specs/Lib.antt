@@ -3,6 +3,7 @@ pub mod Changes
 pub mod Crowded
 pub mod CrowdedInside
 pub mod Crowds
+pub mod Divisions
 pub mod IsTable
 pub mod Members
 pub mod MembersInside

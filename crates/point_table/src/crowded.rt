@@ -4,7 +4,7 @@ ghost use Rattle.std.specs.List.{find, insert, list_any};
 ghost use Rattle.zorder.specs.Name.{first_key};
 ghost use Rattle.zorder.specs.SameName.{same_name};
 ghost use Rattle.plain_list.specs.State.{is_splitting};
-ghost use Rattle.point_table.specs.Crowded.{AreRising, remarked, marked, unmarked, key_place, has_key, first_free};
+ghost use Rattle.point_table.specs.Crowded.{AreRising, remarked, remarked_each, marked, unmarked, key_place, has_key, first_free};
 ghost use Rattle.point_table.specs.Crowds.{is_crowded};
 ghost use Rattle.point_table.specs.Splits.{splits_of};
 
@@ -18,6 +18,13 @@ use zorder::Name;
 pub struct Begun {
     pub number: u64,
     pub name: Name,
+}
+
+/// A leaf's name, and whether it is to be split.
+#[derive(Clone, Copy, Debug)]
+pub(crate) struct Mark {
+    pub(crate) name: Name,
+    pub(crate) crowded: bool,
 }
 
 /// Names of leaves by their first keys, with room for those that are promised.
@@ -86,6 +93,16 @@ impl Crowded {
             mark_name(&mut self.names, name);
         } else {
             unmark_name(&mut self.names, name);
+        }
+    }
+
+    /// Sets the names of leaves, the last leaf's first.
+    pub(crate) fn set_each(&mut self, mut marks: Vec<Mark>)
+        requires { length marks.items ≤ self.old.room }
+        ensures { self.new ≡ record { names = remarked_each marks.items self.old.names; room = self.old.room - length marks.items } }
+    {
+        while let Some(mark) = marks.pop() {
+            self.set(&mark.name, mark.crowded);
         }
     }
 }

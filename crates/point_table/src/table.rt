@@ -17,6 +17,7 @@ ghost use Rattle.point_table.specs.Splits.{splits_of};
 ghost use Rattle.point_table.specs.Updates.{IsUpdate, Changes, Updates, TellsIf};
 
 mod built;
+mod splits;
 
 use crate::crowded::{Begun, Crowded, is_over};
 use crate::members::Members;

@@ -1,0 +1,131 @@
+//! A leaf that is folded, and one that gives way to its children.
+ghost use Rattle.std.specs.Prelude.{◌≡◌, ◌⊎◌, ◌+◌, ◌≤◌, ◌^◌, true, IfOk, OnOk, OnErr, length, map};
+ghost use Rattle.std.specs.Arc.{arc_value};
+ghost use Rattle.bucket_versions.specs.Rows.{as_base};
+ghost use Rattle.bucket_versions.specs.Told.{Told};
+ghost use Rattle.index_layer.specs.Leaves.{has_name};
+ghost use Rattle.split_prepare.specs.Cut.{cut};
+ghost use Rattle.point_table.specs.Divisions.{CanDivide, Folds, Divides, KeepsRest, marks_of};
+
+use crate::crowded::{Mark, is_over};
+use crate::table::PointTable;
+use bucket_versions::{Bucket, Commit, Undone};
+use index_layer::Index;
+use prefix_names::key_range;
+use split_prepare::child_at;
+use std::alloc::{AllocError, Global};
+use std::sync::Arc;
+use zorder::{Memory, Name};
+
+impl<I: Index> PointTable<I> {
+    /// Makes a leaf's rows its base, once the step has succeeded, and hands out its bucket.
+    pub fn fold<C: Commit>(&mut self, name: &Name, commit: &mut C) -> Result<Arc<Bucket>, Undone>
+        requires can { C.can commit.old }
+        requires leaf { has_name name.now self.old.leaves ≡ true }
+        ensures folds { IfOk result (λ b. Folds name.now self.old.leaves self.new.leaves (arc_value b)) }
+        ensures rest { OnOk result (KeepsRest self.old self.new) }
+        ensures err { OnErr result (self.new ≡ self.old) }
+        ensures told { Told C.done C.lost commit.old commit.new result }
+    {
+        let Some(bucket) = self.bucket(name) else {
+            unreachable!();
+        };
+        let Ok(folded) = folded(bucket) else {
+            return Err(Undone::Memory);
+        };
+        let Ok(shared) = Arc::try_clone(&folded) else {
+            return Err(Undone::Memory);
+        };
+        // All memory but the index's own is taken: the step is the last thing that can fail.
+        if let Err(undone) = self.index.replace(name, shared, commit) {
+            return Err(undone);
+        }
+        Ok(folded)
+    }
+
+    /// Puts a leaf's children in its place, once the step has succeeded. They were cut out of its base, and get its rows as they are now.
+    pub fn divide<C: Commit>(
+        &mut self,
+        name: &Name,
+        parts: &[Bucket],
+        commit: &mut C,
+    ) -> Result<(), Undone>
+        requires can { C.can commit.old }
+        requires leaf { CanDivide I.WIDTH name.now parts.now self.old.leaves }
+        ensures divides { OnOk result (Divides I.WIDTH name.now self.old.leaves self.new.leaves) }
+        ensures rest { OnOk result (KeepsRest self.old self.new) }
+        ensures err { OnErr result (self.new ≡ self.old) }
+        ensures told { Told C.done C.lost commit.old commit.new result }
+    {
+        let Some(bucket) = self.bucket(name) else {
+            unreachable!();
+        };
+        let Ok(children) = caught_up(self.alloc, name, I::WIDTH, bucket, parts) else {
+            return Err(Undone::Memory);
+        };
+        let Ok(marks) = marks_of(self.alloc, self.size, name, I::WIDTH, &children) else {
+            return Err(Undone::Memory);
+        };
+        let Ok(()) = self.crowded.reserve(marks.len()) else {
+            return Err(Undone::Memory);
+        };
+        // All memory but the index's own is taken: the step is the last thing that can fail.
+        if let Err(undone) = self.index.divide(name, &children, commit) {
+            return Err(undone);
+        }
+        self.crowded.set_each(marks);
+        Ok(())
+    }
+}
+
+// A bucket's rows as its base.
+fn folded(bucket: &Bucket) -> Result<Arc<Bucket>, Memory>
+    ensures { IfOk result (λ b. arc_value b ≡ as_base bucket.now.rows) }
+{
+    let folded = bucket.folded()?;
+    folded.into_shared()
+}
+
+// A leaf's children, cut out of the base of its bucket, each with the rows that are under its name now.
+fn caught_up(
+    alloc: Global,
+    name: &Name,
+    width: u8,
+    from: &Bucket,
+    parts: &[Bucket],
+) -> Result<Vec<Arc<Bucket>>, Memory>
+    requires width { (width ≡ 1) ⊎ (width ≡ 2) }
+    requires short { length name.now + width ≤ 64 }
+    requires cut { parts.now ≡ cut width name.now from.now.base }
+    ensures { IfOk result (λ v. map arc_value v.items ≡ cut width name.now from.now.rows) }
+{
+    let mut buckets = Vec::new(alloc);
+    for (place, part) in parts.iter().enumerate() {
+        let (lo, hi) = key_range(&child_at(name, width, place));
+        let bucket = part.caught_up(from, lo, hi)?;
+        buckets.push(bucket.into_shared()?)?;
+    }
+    Ok(buckets)
+}
+
+// Which of a leaf's children are to be split.
+fn marks_of(
+    alloc: Global,
+    size: u32,
+    name: &Name,
+    width: u8,
+    buckets: &[Arc<Bucket>],
+) -> Result<Vec<Mark>, AllocError>
+    requires width { (width ≡ 1) ⊎ (width ≡ 2) }
+    requires short { length name.now + width ≤ 64 }
+    requires count { length buckets.now ≡ 2 ^ width }
+    ensures { IfOk result (λ v. v.items ≡ marks_of width size name.now (map arc_value buckets.now)) }
+{
+    let mut marks = Vec::new(alloc);
+    for (place, bucket) in buckets.iter().enumerate() {
+        let name = child_at(name, width, place);
+        let crowded = is_over(size, width, &name, bucket);
+        marks.push(Mark { name, crowded })?;
+    }
+    Ok(marks)
+}
