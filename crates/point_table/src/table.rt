@@ -9,7 +9,7 @@ ghost use Rattle.plain_list.specs.Answer.{with_member, with_moved, without, answ
 ghost use Rattle.plain_list.specs.Size.{is_over};
 ghost use Rattle.plain_list.specs.State.{is_splitting, split_leaf};
 ghost use Rattle.split_prepare.specs.Cut.{cut};
-ghost use Rattle.index_layer.specs.Leaves.{Leaf, names_of, has_name, leaf_named, leaf_under};
+ghost use Rattle.index_layer.specs.Leaves.{Leaf, AreLeaves, names_of, has_name, leaf_named, leaf_under};
 ghost use Rattle.index_layer.specs.Stands.{HasRowsOf};
 ghost use Rattle.point_table.specs.Crowded.{remarked};
 ghost use Rattle.point_table.specs.Crowds.{mark_under};
@@ -80,6 +80,7 @@ impl<I: Index> PointTable<I> {
     pub fn len(&self) -> usize
         ensures len { result ≡ length self.now.world }
         ensures world { IsWorld self.now.world }
+        ensures leaves { AreLeaves self.now.leaves }
         ensures rows { AllByRecursion (HasRowsOf self.now.world) self.now.leaves }
     {
         self.members.len()
