@@ -1,0 +1,5 @@
+pub mod Weights
+pub mod Entries
+pub mod Bounds
+pub mod Gains
+pub mod Rounds

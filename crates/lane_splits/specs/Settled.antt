@@ -1,0 +1,59 @@
+-- What the splits of lanes come to.
+use Rattle.std.specs.Prelude.{◌≡◌, ◌⊎◌, ℕ, suc, ◌+◌, ◌<◌, ◌≤◌, ◌==◌, Bool, false, not, ◌||◌, List, [], ◌∷◌, length, if◌then◌else◌, Option, Some, None}
+use mathlib.Core.List.{IsPrefix}
+use Rattle.std.specs.List.{list_any}
+use Rattle.std.specs.Option.{option_map_or}
+use Rattle.zorder.specs.SameName.{same_name}
+use Rattle.plain_list.specs.declared.entries.Entry.{Entry}
+use Rattle.plain_list.specs.declared.entries.Entry.TheVariants.{Begin, Abandon}
+use Rattle.plain_list.specs.History.{world_after, call_count}
+use Rattle.plain_list.specs.State.{State, state_after, step}
+use Rattle.plain_list.specs.Size.{IsSized, full_leaf}
+use Rattle.log_state.specs.Changes.{cells_of}
+use Rattle.kept_log.specs.Journal.{failed_cell}
+use Rattle.commit_book.specs.IsBook.{most_events}
+use Rattle.commit_book.specs.Refusals.{most_cells}
+use Rattle.book_lock.specs.declared.origin.Origin.{Origin}
+use Rattle.sessions.specs.Steps.{cells_after}
+
+-- whether an entry abandons the split of this number
+abbrev pub abandons : ℕ → Entry → Bool
+abandons number (Abandon n) = n == number
+abandons number _ = false
+
+-- whether this is the first leaf that is over the size and has no open split
+abbrev pub is_full_leaf : ℕ → ℕ → State → List Bool → Bool
+is_full_leaf w size s name = option_map_or (λ (leaf : List Bool). same_name leaf name) (full_leaf w size s) false
+
+-- whether an entry begins a split that a later one abandons, or a split of another leaf than the first that is over the size
+abbrev pub is_stray : ℕ → ℕ → State → Entry → List Entry → Bool
+is_stray w size s (Begin number name) later = list_any (abandons number) later || not (is_full_leaf w size s name)
+is_stray w size s _ later = false
+
+-- how many begins of a history from a state are stray
+abbrev pub stray_begins : ℕ → ℕ → State → List Entry → ℕ
+stray_begins w size s [] = 0
+stray_begins w size s (e ∷ h) = if is_stray w size s e h then suc (stray_begins w size (step w s e) h) else stray_begins w size (step w s e) h
+
+-- how many cells the log has after a history from a state, where it had so many at first: none without a log
+abbrev pub cells_now : Option ℕ → State → List Entry → ℕ
+cells_now first s h = option_map_or (λ (n : ℕ). n + length (cells_of s.world h)) first 0
+
+-- At the end no split is open, and no append has failed. No leaf that may be split has more points than the size, or there are more than
+-- 4,000,000 entries or more than 16,000,000 cells. Stray begins are no more than the calls, so room is used up only by splits of leaves that
+-- were over the size.
+pub record IsSettled (w size : ℕ) (s : State) (first : Option ℕ) (h : List Entry) : Type 0 where
+  pub ended : (state_after w s h).splits ≡ []
+  pub going : failed_cell h ≡ None
+  pub sized : IsSized w size (world_after s.world h) (state_after w s h).leaves ⊎ ((4000000 < length h) ⊎ (16000000 < cells_now first s h))
+  pub stray : stray_begins w size s h ≤ call_count h
+
+-- how many cells a log had at first: none without a log
+abbrev pub first_cells : Option ℕ → ℕ
+first_cells None = 0
+first_cells (Some n) = n
+
+-- each beginning of a history is shorter than a history may be, and so are the cells after it
+pub record IsBounded (origin : Origin) (h : List Entry) : Type 0 where
+  pub short : (g : List Entry) → IsPrefix g h → length g < most_events
+  pub few : (g : List Entry) → IsPrefix g h → cells_after origin g < most_cells
