@@ -9,7 +9,7 @@ elapses : (a b : Bool) (f g : ℕ) → Elapses (untold a f) (untold b g)
 elapses a b f g = record { later = omega arith; nothing_else = λ t c le left. inl left; keeps = λ t c le left. left }
 
 pub untold-stays : (a b : Bool) (f g : ℕ) → Stays (untold a f) (untold b g)
-untold-stays a b f g = record { bytes = refl; images = λ c left. left; moment = refl; since = λ t c left. left; keeps = λ t c left. left }
+untold-stays a b f g = record { bytes = refl; images = λ c left. left; moment = refl; since = λ t c left. left; keeps = λ t c left. left; calls = λ all told. told }
 
 pub untold-writes : {T : Type 0} (a b : Bool) (f g at : ℕ) (piece : List ℕ) (result : Result T DiskFault) → Writes (untold a f) (untold b g) at piece result
 untold-writes a b f g at piece (Ok x) = record { done = λ xs told. cc; told = refl; crash = λ c left. (c, left, torn_itself at (length piece) c); time = elapses a b f g }

@@ -77,7 +77,7 @@ fn synced<F: OpenFile>(file: &F) -> Result<(), DiskFault> {
 }
 
 impl<R: Files + Drop> LogDisk for FileDisk<R> {
-    ghost use Rattle.disk_trait.specs.Drive.{IsWithin, Stays, Reads, TellsLength, Writes, Cuts, Syncs, CountsFaults, CountsAttach};
+    ghost use Rattle.disk_trait.specs.Drive.{IsWithin, Stays, Reads, TellsLength, Writes, Cuts, Syncs, MadeOne, CountsFaults, CountsAttach};
     ghost use Rattle.disk_file.specs.Served.{file_drive, Attaches, Serves};
     ghost use Rattle.disk_file.specs.Laws.{file_laws};
 
@@ -134,6 +134,7 @@ impl<R: Files + Drop> LogDisk for FileDisk<R> {
         requires small { at + length piece.now ≤ 2 ^ 40 }
         ensures serves { Serves self.old self.new result }
         ensures writes { Writes (file_drive self.old) (file_drive self.new) at piece.now result }
+        ensures made { MadeOne (file_drive self.old) (file_drive self.new) result }
         ensures cause { CountsFaults (file_drive self.old) (file_drive self.new) result }
     {
         let written = match &mut self.file {
@@ -147,6 +148,7 @@ impl<R: Files + Drop> LogDisk for FileDisk<R> {
         requires within { IsWithin (file_drive self.old) len }
         ensures serves { Serves self.old self.new result }
         ensures cuts { Cuts (file_drive self.old) (file_drive self.new) len result }
+        ensures made { MadeOne (file_drive self.old) (file_drive self.new) result }
         ensures cause { CountsFaults (file_drive self.old) (file_drive self.new) result }
     {
         let cut = match &self.file {
@@ -159,6 +161,7 @@ impl<R: Files + Drop> LogDisk for FileDisk<R> {
     fn sync(&mut self) -> Result<(), DiskFault>
         ensures serves { Serves self.old self.new result }
         ensures syncs { Syncs (file_drive self.old) (file_drive self.new) result }
+        ensures made { MadeOne (file_drive self.old) (file_drive self.new) result }
         ensures cause { CountsFaults (file_drive self.old) (file_drive self.new) result }
     {
         let done = match &self.file {

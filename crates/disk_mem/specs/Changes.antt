@@ -1,5 +1,5 @@
 -- A file under the calls that change or sync it: what a read gives, and what a crash may leave.
-use Rattle.std.specs.Prelude.{ℕ, ◌+◌, List, [], ◌∷◌, ◌++◌, length, take, drop}
+use Rattle.std.specs.Prelude.{ℕ, ◌+◌, Bool, true, false, List, [], ◌∷◌, ◌++◌, length, take, drop}
 use Rattle.disk_mem.specs.Pending.{Pending, settled, after_write, after_cut}
 
 -- a call that changes or syncs, with what came of it
@@ -10,6 +10,15 @@ pub data Change : Type 0 where
   failed_cut : ℕ → Change
   synced : Change
   failed_sync : Change
+
+-- whether the call was answered Ok
+abbrev pub went_well : Change → Bool
+went_well (wrote at piece) = true
+went_well (failed_write at n) = false
+went_well (did_cut n) = true
+went_well (failed_cut n) = false
+went_well synced = true
+went_well failed_sync = false
 
 -- what a read gives, and what a crash may leave
 pub record File : Type 0 where

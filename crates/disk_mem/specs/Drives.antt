@@ -1,12 +1,12 @@
 -- What is known of a drive in memory.
-use Rattle.std.specs.Prelude.{◌≡◌, ℕ, ◌+◌, ◌≤◌, nat_le, Bool, ◌&&◌, if◌then◌else◌, List, [], ◌∷◌, ◌++◌, length, take, Some, Result, is_ok}
+use Rattle.std.specs.Prelude.{◌≡◌, ℕ, ◌+◌, ◌≤◌, nat_le, nat_lt, Bool, ◌&&◌, if◌then◌else◌, List, [], ◌∷◌, ◌++◌, length, take, map, Option, Some, None, Result, is_ok}
 use Rattle.causes.specs.Causes.{one_more}
 use Rattle.disk_trait.specs.Drive.{Drive}
 use Rattle.disk_mem.specs.declared.plans.DiskCall.{DiskCall}
 use Rattle.disk_mem.specs.declared.plans.DiskCall.TheVariants.{Write, Cut, Sync}
 use Rattle.disk_mem.specs.Plans.{PlanView, planned, verdict_of, is_passed, is_made}
 use Rattle.disk_mem.specs.Pending.{IsImage}
-use Rattle.disk_mem.specs.Changes.{Change, wrote, failed_write, did_cut, failed_cut, synced, failed_sync, File, started, changed_by, written}
+use Rattle.disk_mem.specs.Changes.{Change, wrote, failed_write, did_cut, failed_cut, synced, failed_sync, went_well, File, started, changed_by, written}
 
 -- which calls fail, and how many may still be made; the bytes at the start; the calls that changed or synced since; how many bytes there is
 -- room for; how often a call has failed
@@ -25,19 +25,24 @@ file_at d m = changed_by (started d.first) (take m d.changes)
 abbrev pub file_now : DiskView → File
 file_now d = changed_by (started d.first) d.changes
 
+-- what each call so far has answered, where a further one would reach the file: a call that goes past the bound is in no list
+abbrev pub calls_of : DiskView → Option (List Bool)
+calls_of d = if nat_lt 0 d.plan.left then Some (map went_well d.changes) else None
+
 -- A crash may leave the images of the file, now or at each moment. The one file has each name.
-abbrev pub drive_by : List ℕ → List Change → ℕ → Drive
-drive_by first changes faults = record {
+abbrev pub drive_by : List ℕ → List Change → ℕ × Option (List Bool) → Drive
+drive_by first changes counts = record {
   bytes = Some (changed_by (started first) changes).held;
   images = IsImage (changed_by (started first) changes).pending;
   moment = length changes;
   since = λ t c. (m : ℕ) × (t ≤ m) × (m ≤ length changes) × IsImage (changed_by (started first) (take m changes)).pending c;
-  faults = faults;
+  faults = counts.0;
+  calls = counts.1;
   attached = λ name make. Unit {0};
 }
 
 abbrev pub mem_drive : DiskView → Drive
-mem_drive d = drive_by d.first d.changes d.faults
+mem_drive d = drive_by d.first d.changes (d.faults, calls_of d)
 
 -- whether the next call of a kind passes, where no bound on bytes stands in its way
 abbrev pub passes : DiskCall → DiskView → Bool

@@ -189,7 +189,7 @@ impl MemDisk {
 }
 
 impl LogDisk for MemDisk {
-    ghost use Rattle.disk_trait.specs.Drive.{IsWithin, Stays, Reads, TellsLength, Writes, Cuts, Syncs, CountsFaults, CountsAttach};
+    ghost use Rattle.disk_trait.specs.Drive.{IsWithin, Stays, Reads, TellsLength, Writes, Cuts, Syncs, MadeOne, CountsFaults, CountsAttach};
     ghost use Rattle.disk_mem.specs.Drives.{mem_drive, MakesPlain, MakesWrite, MakesCut, MakesSync};
     ghost use Rattle.disk_mem.specs.Laws.{mem_laws};
 
@@ -238,6 +238,7 @@ impl LogDisk for MemDisk {
         requires small { at + length piece.now ≤ 2 ^ 40 }
         ensures makes { MakesWrite self.old self.new at piece.now result }
         ensures writes { Writes (mem_drive self.old) (mem_drive self.new) at piece.now result }
+        ensures made { MadeOne (mem_drive self.old) (mem_drive self.new) result }
         ensures cause { CountsFaults (mem_drive self.old) (mem_drive self.new) result }
     {
         self.make_write(at as usize, piece)
@@ -247,6 +248,7 @@ impl LogDisk for MemDisk {
         requires within { IsWithin (mem_drive self.old) len }
         ensures makes { MakesCut self.old self.new len result }
         ensures cuts { Cuts (mem_drive self.old) (mem_drive self.new) len result }
+        ensures made { MadeOne (mem_drive self.old) (mem_drive self.new) result }
         ensures cause { CountsFaults (mem_drive self.old) (mem_drive self.new) result }
     {
         self.make_cut(len as usize)
@@ -255,6 +257,7 @@ impl LogDisk for MemDisk {
     fn sync(&mut self) -> Result<(), DiskFault>
         ensures makes { MakesSync self.old self.new result }
         ensures syncs { Syncs (mem_drive self.old) (mem_drive self.new) result }
+        ensures made { MadeOne (mem_drive self.old) (mem_drive self.new) result }
         ensures cause { CountsFaults (mem_drive self.old) (mem_drive self.new) result }
     {
         self.make_sync()

@@ -1,20 +1,22 @@
 -- A drive with one file, and what its calls do to it. A crash image is what the file may hold after a crash.
-use Rattle.std.specs.Prelude.{◌≡◌, ◌⊎◌, ℕ, Bool, ◌+◌, ◌-◌, ◌≤◌, min, max, List, ◌++◌, length, take, drop, Option, Some, is_some, Result, OnOk, OnErr, IsErrOf, IfOk}
+use Rattle.std.specs.Prelude.{◌≡◌, ◌⊎◌, ℕ, Bool, ◌+◌, ◌-◌, ◌≤◌, min, max, List, [], ◌∷◌, ◌++◌, length, take, drop, Option, Some, is_some, Result, is_ok, OnOk, OnErr, IsErrOf, IfOk}
 use Rattle.causes.specs.Causes.{Rose}
 use Rattle.disk_trait.specs.declared.disk.AttachFault.{AttachFault}
 use Rattle.disk_trait.specs.declared.disk.AttachFault.TheVariants.{Disk, Memory}
 use Rattle.disk_trait.specs.declared.disk.DiskFault.{DiskFault}
 
 -- what is known of a drive: the bytes that a read gives, none where its content isn't known; the images that a crash now may leave; the
--- clock, a number of moments; the images that a crash at some moment since an earlier one might have left; how often it has failed; and
--- that the last attach that answered Ok had this name, and might make the file or not. A drive that keeps no names says that of each, and
--- who knows no more of a drive than the trait says it only of the name that was passed.
+-- clock, a number of moments; the images that a crash at some moment since an earlier one might have left; how often it has failed; what
+-- each write, cut and sync so far has answered, true for Ok, in order, none where the drive keeps no such list; and that the last attach
+-- that answered Ok had this name, and might make the file or not. A drive that keeps no names says that of each, and who knows no more of a
+-- drive than the trait says it only of the name that was passed.
 pub record Drive : Type 1 where
   pub bytes : Option (List ℕ)
   pub images : List ℕ → Type 0
   pub moment : ℕ
   pub since : ℕ → List ℕ → Type 0
   pub faults : ℕ
+  pub calls : Option (List Bool)
   pub attached : List ℕ → Bool → Type 0
 
 -- new is old with these bytes at this place
@@ -48,13 +50,22 @@ pub record Elapses (old new : Drive) : Type 0 where
   pub nothing_else : (t : ℕ) (c : List ℕ) → t ≤ old.moment → new.since t c → old.since t c ⊎ new.images c
   pub keeps : (t : ℕ) (c : List ℕ) → t ≤ old.moment → old.since t c → new.since t c
 
--- a call that leaves the bytes and the images as they were, and takes no time
+-- The writes, cuts and syncs since answered so. A drive may keep its list no longer, and then nothing is said of what follows.
+abbrev pub Made : List Bool → Drive → Drive → Type 0
+Made answers old new = (all : List Bool) → new.calls ≡ Some all → (before : List Bool) × (old.calls ≡ Some before) × (all ≡ before ++ answers)
+
+-- one such call was made, with this answer
+abbrev pub MadeOne : {T : Type 0} → Drive → Drive → Result T DiskFault → Type 0
+MadeOne old new result = Made (is_ok result ∷ []) old new
+
+-- a call that leaves the bytes and the images as they were, takes no time, and is in no list of calls
 pub record Stays (old new : Drive) : Type 0 where
   pub bytes : new.bytes ≡ old.bytes
   pub images : (c : List ℕ) → new.images c → old.images c
   pub moment : new.moment ≡ old.moment
   pub since : (t : ℕ) (c : List ℕ) → new.since t c → old.since t c
   pub keeps : (t : ℕ) (c : List ℕ) → old.since t c → new.since t c
+  pub calls : (all : List Bool) → new.calls ≡ Some all → old.calls ≡ Some all
 
 -- the file that was attached is still the one
 abbrev pub SameFile : Drive → Drive → Type 0
