@@ -18,6 +18,7 @@ stays-trans a b c first second = record {
   moment = second.moment ∙ first.moment;
   since = λ t x left. first.since t x (second.since t x left);
   keeps = λ t x left. second.keeps t x (first.keeps t x left);
+  calls = λ all told. first.calls all (second.calls all told);
 }
 
 pub rose-earlier : (a b c : ℕ) → a ≤ b → Rose b c → Rose a c

@@ -1,11 +1,11 @@
 //! The four device calls that add a cell.
-ghost use Rattle.std.specs.Prelude.{◌≡◌, ◌⊎◌, ◌+◌, ◌≤◌, ◌^◌, ◌∷◌, [], ◌++◌, ℕ, List, Some, OnOk, OnErr, is_some, length};
-ghost use Rattle.disk_trait.specs.Drive.{CountsFaults};
-ghost use Rattle.disk_trait.specs.Moments.{LeavesOnly, LeavesNow};
+ghost use Rattle.std.specs.Prelude.{◌≡◌, ◌+◌, ◌≤◌, ◌^◌, ◌∷◌, [], ◌++◌, true, ℕ, List, Some, OnOk, OnErr, is_some, length, replicate};
+ghost use Rattle.disk_trait.specs.Drive.{CountsFaults, Made};
+ghost use Rattle.disk_trait.specs.Moments.{LeavesOnly};
 ghost use Rattle.cell_format.specs.declared.cell.Cell.{Cell};
 ghost use Rattle.cell_format.specs.Spelling.{IsCell, body_of};
-ghost use Rattle.split_log.specs.LogText.{IsLog, HoldsCells, HoldsEither, IsStaged};
-ghost use Rattle.split_log.specs.Append.{IsReady};
+ghost use Rattle.split_log.specs.LogText.{IsLog, HoldsEither};
+ghost use Rattle.split_log.specs.Append.{IsReady, Breaks};
 
 use cell_format::{Cell, encode};
 use disk_trait::{DiskFault, LogDisk};
@@ -19,8 +19,8 @@ pub(crate) fn place<D: LogDisk>(disk: &mut D, at: u64, piece: &[u8]) -> Result<(
         → LeavesOnly (D.drive disk.old) (D.drive disk.new) (HoldsEither w cells cell) }
     ensures placed { OnOk result ((w : ℕ) (cells : List Cell) (cell : Cell) → IsReady w cells cell piece.now (D.drive disk.old)
         → IsLog w (cells ++ cell ∷ []) (D.drive disk.new)) }
-    ensures unplaced { OnErr result ((w : ℕ) (cells : List Cell) (cell : Cell) → IsReady w cells cell piece.now (D.drive disk.old)
-        → LeavesOnly (D.drive disk.old) (D.drive disk.new) (HoldsCells w cells) ⊎ LeavesNow (D.drive disk.new) (IsStaged w cells cell)) }
+    ensures calls { OnOk result (Made (replicate 4 true) (D.drive disk.old) (D.drive disk.new)) }
+    ensures unplaced { OnErr result (Breaks piece.now (D.drive disk.old) (D.drive disk.new)) }
     ensures told { is_some (D.drive disk.new).bytes ≡ is_some (D.drive disk.old).bytes }
     ensures cause { CountsFaults (D.drive disk.old) (D.drive disk.new) result }
 {

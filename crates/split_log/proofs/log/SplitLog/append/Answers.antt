@@ -25,8 +25,13 @@ returns-then-is_err-clause-disk g c =
       either = λ w cells log.
           leaves_now (g.D.LogDisk.drive c.self.inside.disk) (g.D.LogDisk.drive c.place.new.disk) (HoldsEither w cells c.args.cell.now) (g.met.D.LogDisk.keeps_laws c.place.new.disk)
           (c.place.ensures.any_moment w cells c.args.cell.now (record { log = log; fits = c.behind_commit_byte.ensures.fits; piece_is = c.behind_commit_byte.ensures.bytes }));
-      staged = λ w cells log. if_err c.place.result _ failed c.place.ensures.unplaced w cells c.args.cell.now
-          (record { log = log; fits = c.behind_commit_byte.ensures.fits; piece_is = c.behind_commit_byte.ensures.bytes });
+      broken =
+          let broke = if_err c.place.result _ failed c.place.ensures.unplaced in
+          record {
+            went_well = broke.went_well;
+            stops = broke.stops;
+            leaves = λ w cells log. broke.leaves w cells c.args.cell.now (record { log = log; fits = c.behind_commit_byte.ensures.fits; piece_is = c.behind_commit_byte.ensures.bytes });
+          };
     })
 
 pub invariant_of-self-2 : goal.invariant_of-self-2
