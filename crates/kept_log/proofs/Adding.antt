@@ -11,15 +11,16 @@ use Rattle.plain_list.specs.declared.entries.Lost.{Lost}
 use Rattle.plain_list.specs.declared.ops.Op.{Op}
 use Rattle.plain_list.specs.Answer.{answer_of, is_change}
 use Rattle.plain_list.specs.History.{world_after}
-use Rattle.plain_list.specs.State.{State, step, is_possible, is_free, is_fail, is_empty, is_legal_history, IsLegal}
+use Rattle.plain_list.specs.State.{State, empty_state, step, is_possible, is_free, is_fail, is_empty, is_legal_history, IsLegal}
 use Rattle.plain_list.proofs.Histories.{has_failed}
 use Rattle.disk_trait.specs.Drive.{Drive}
 use Rattle.disk_trait.specs.Moments.{LeavesOnly, LeavesNow}
 use Rattle.split_log.specs.LogText.{IsLog, HoldsCells, HoldsEither}
-use Rattle.log_state.specs.Recovers.{IsLegalCells}
+use Rattle.log_state.specs.Recovers.{IsLegalCells, is_legal_cells}
 use Rattle.log_state.specs.Changes.{cells_of, failed_cells, lost_cells}
 use Rattle.log_state.specs.Keeps.{RecoversEither}
 use Rattle.log_state.proofs.Keeping.{either_since, kept_added, kept_failed, kept_quiet}
+use Rattle.log_state.proofs.LegalCells.{legal-front}
 use Rattle.log_state.proofs.LegalBehind.{legal_behind}
 use Rattle.log_state.proofs.PlacedChanges.{cells_of-append, failed_cells-append, failed_cells-none}
 use Rattle.kept_log.specs.KeptView.{KeptView}
@@ -69,6 +70,11 @@ module _ (w : ℕ) (s : State) (h : List Entry) (e : Entry) (cell : Cell) (next 
         subst (λ l. IsLegalCells w (first ++ l)) cells_with
         (subst (λ (t : State). IsLegalCells w (first ++ cells_of t.world (h ++ e ∷ []))) kept.opening
         (legal_behind w first (h ++ e ∷ []) legal (subst (λ (t : State). is_legal_history w t (h ++ e ∷ []) ≡ true) (sym kept.opening) next.legal)))
+
+    pub legal_alone : IsLegalCells w (first ++ cells_of s.world h)
+    legal_alone =
+        legal-front w empty_state (first ++ cells_of s.world h) (cell ∷ [])
+        (ap (is_legal_cells w empty_state) (append_assoc first (cells_of s.world h) (cell ∷ [])) ∙ legal_with)
 
     pub is_log : IsLog w (first ++ cells_of s.world h) d0
     is_log = kept.history.log refl

@@ -1,5 +1,5 @@
 -- What an append makes of each history that a log keeps.
-use Rattle.std.proofs.Common.{◌≡◌, ◌⊎◌, ℕ, List, [], ◌∷◌, ◌++◌, length, Option, Some, None, refl, sym, ◌∙◌, ap, subst, arith, append_assoc, length-append}
+use Rattle.std.proofs.Common.{◌≡◌, ◌⊎◌, inl, inr, ⊎_elim, ℕ, List, [], ◌∷◌, ◌++◌, length, Option, Some, None, refl, sym, ◌∙◌, ap, subst, arith, append_assoc, length-append}
 use Rattle.cell_format.specs.declared.cell.Cell.{Cell}
 use Rattle.plain_list.specs.declared.entries.Entry.{Entry}
 use Rattle.plain_list.specs.declared.entries.Entry.TheVariants.{Fail}
@@ -7,7 +7,7 @@ use Rattle.plain_list.specs.declared.entries.Lost.{Lost}
 use Rattle.plain_list.specs.State.{State}
 use Rattle.disk_trait.specs.Drive.{Drive}
 use Rattle.disk_trait.specs.Moments.{LeavesOnly}
-use Rattle.split_log.specs.LogText.{IsLog, HoldsEither}
+use Rattle.split_log.specs.LogText.{IsLog, HoldsCells, HoldsEither}
 use Rattle.split_log.specs.Append.{Adds, Fails}
 use Rattle.log_state.specs.Recovers.{Recovers}
 use Rattle.log_state.specs.Changes.{cells_of, lost_cells}
@@ -16,7 +16,7 @@ use Rattle.kept_log.specs.Kept.{StartsWith, KeepsSince, Keeps}
 use Rattle.kept_log.specs.Steps.{IsNext, IsSince}
 use Rattle.kept_log.specs.Journal.{RecoversWith}
 use Rattle.kept_log.proofs.StepCells.{cells-fail}
-use Rattle.kept_log.proofs.Adding.{cells_with, either-kept, since-added, since-failed}
+use Rattle.kept_log.proofs.Adding.{cells_with, legal_alone, either-kept, since-added, since-failed}
 
 module _ {D : Type 0} (drive : D → Drive) (cell : Cell) (old new : KeptView D) (sound : old.failed ≡ None) (opened : IsSince old new)
     (any_moment : (w : ℕ) (cells : List Cell) → IsLog w cells (drive old.disk) → LeavesOnly (drive old.disk) (drive new.disk) (HoldsEither w cells cell)) where
@@ -48,6 +48,19 @@ module _ {D : Type 0} (drive : D → Drive) (cell : Cell) (old new : KeptView D)
       subst (λ (l : List Cell). LeavesOnly (drive old.disk) (drive new.disk) (λ c. Recovers w (first ++ cells_of s.world h) c ⊎ Recovers w l c)) same
       (either-kept w s h e cell next first (drive old.start) (drive old.disk) (drive new.disk) starts.recovers.legal
       (still w s h kept first starts) (during w s h kept first starts))
+
+  -- where the new cell is in no image, it leaves the cells that stood
+  pub leaves-alone : (w : ℕ) (s : State) (h : List Entry) (e : Entry) (first : List Cell) → IsNext w s h e cell → Keeps drive w s h old
+      → StartsWith w first (drive old.start) → ((cells : List Cell) → IsLog w cells (drive old.disk) → LeavesOnly (drive old.disk) (drive new.disk) (HoldsCells w cells))
+      → LeavesOnly (drive old.disk) (drive new.disk) (Recovers w (first ++ cells_of s.world h))
+  leaves-alone w s h e first next kept starts alone =
+      let only = alone (first ++ cells_of s.world h) (log_of w s h kept first starts) in
+      let legal = legal_alone w s h e cell next first (drive old.start) (drive old.disk) (drive new.disk) starts.recovers.legal (still w s h kept first starts) in
+      record {
+        later = only.later;
+        each = λ c left. record { holds = only.each c left; legal = legal };
+        before = λ t c le left. ⊎_elim (λ was. inl was) (λ holds. inr (record { holds = holds; legal = legal })) (only.before t c le left);
+      }
 
   -- the history with any entry that the cell is of is kept
   pub keeps-next : Adds cell old.cells new.cells new.failed (drive old.disk) (drive new.disk)

@@ -22,11 +22,11 @@ use Rattle.log_state.specs.Changes.{cells_of, failed_cells}
 use Rattle.kept_log.specs.KeptView.{KeptView}
 use Rattle.kept_log.specs.Kept.{StartsWith, IsOpened}
 use Rattle.kept_log.specs.Steps.{IsSince}
-use Rattle.kept_log.specs.Journal.{failed_cell, KeepsLog, KeepsIn, Added, Missed, RecoversWith, LeavesEither, LeavesNext}
+use Rattle.kept_log.specs.Journal.{failed_cell, KeepsIn, Added, Missed, LeavesEither, LeavesNext}
 use Rattle.kept_log.proofs.StepCells.{call-no_cells}
 use Rattle.kept_log.proofs.Starting.{kept-opened}
 use Rattle.kept_log.proofs.Adding.{sound-push, kept-quiet}
-use Rattle.kept_log.proofs.Appending.{leaves-either, keeps-next, closed-at, keeps-failed}
+use Rattle.kept_log.proofs.Appending.{leaves-either, leaves-alone, keeps-next, closed-at, keeps-failed}
 
 -- where no append has failed, none names a cell
 pub failed_cell-none : (h : List Entry) → has_failed h ≡ false → failed_cell h ≡ None
@@ -144,6 +144,7 @@ in-opened drive w s log first opened most sound = record {
 pub added-none : {D : Type 0} (drive : D → Drive) (cell : Cell) → Added drive cell None None
 added-none drive cell = record {
   count = omega arith;
+  calls = tt;
   keeps = λ w s h e next kept. failed_cell-push h e (has_failed-none h kept) ∙ with_cell (world_after s.world h) e cell next.cells;
 }
 
@@ -162,6 +163,7 @@ module _ {D : Type 0} (drive : D → Drive) (cell : Cell) (old new : KeptView D)
   pub added : Adds cell old.cells new.cells new.failed (drive old.disk) (drive new.disk) → Added drive cell (Some old) (Some new)
   added adds = record {
     count = omega (arith, adds.count);
+    calls = adds.calls;
     keeps = λ w s h e next kept.
         let sound : has_failed h ≡ false = sound-push w s h e next.legal in
         let unfailed : failed_cell (h ++ e ∷ []) ≡ None = failed_cell-push h e sound ∙ with_cell (world_after s.world h) e cell next.cells in
@@ -182,6 +184,13 @@ module _ {D : Type 0} (drive : D → Drive) (cell : Cell) (old new : KeptView D)
     named = fails.named;
     count = fails.count;
     rose = fails.rose;
+    breaks = record {
+      went_well = fails.broken.went_well;
+      few = fails.broken.stops.few;
+      calls = fails.broken.stops.calls;
+      unstaged = λ early w s h e next kept first starts.
+          leaves-alone drive cell old new sound_log opened any_moment w s h e first next kept.keeps starts (λ cells log. (fails.broken.leaves w cells log).unstaged early);
+    };
     keeps = λ w s h e lost next one kept.
         let last : failed_cell (h ++ Fail number lost ∷ []) ≡ Some number = failed_cell-last h number lost (sound-push w s h e next.legal) in
         record {

@@ -1,5 +1,5 @@
 -- What the log of a store that may have none keeps.
-use Rattle.std.specs.Prelude.{◌≡◌, ◌⊎◌, ℕ, ◌+◌, ◌^◌, ◌≤◌, true, List, [], ◌∷◌, ◌++◌, Option, Some, None, is_some, ⊤}
+use Rattle.std.specs.Prelude.{◌≡◌, ◌⊎◌, ℕ, ◌+◌, ◌^◌, ◌≤◌, Bool, true, false, List, [], ◌∷◌, ◌++◌, replicate, Option, Some, None, is_some, ⊤}
 use Rattle.causes.specs.Causes.{Rose}
 use Rattle.cell_format.specs.declared.cell.Cell.{Cell}
 use Rattle.plain_list.specs.declared.entries.Entry.{Entry}
@@ -7,7 +7,7 @@ use Rattle.plain_list.specs.declared.entries.Entry.TheVariants.{Fail, Call, Begi
 use Rattle.plain_list.specs.declared.entries.Lost.{Lost}
 use Rattle.zorder.specs.declared.points.Placed.{Placed}
 use Rattle.plain_list.specs.State.{State}
-use Rattle.disk_trait.specs.Drive.{Drive, SameFile}
+use Rattle.disk_trait.specs.Drive.{Drive, Made, SameFile}
 use Rattle.disk_trait.specs.Moments.{LeavesOnly}
 use Rattle.log_state.specs.Recovers.{Recovers}
 use Rattle.log_state.specs.Changes.{cells_of, lost_cells}
@@ -69,16 +69,37 @@ RoseIn drive None new = ⊥
 RoseIn drive (Some old) None = ⊥
 RoseIn drive (Some old) (Some new) = Rose (drive old.disk).faults (drive new.disk).faults
 
--- the cell was added where there is a log, and the history with any entry that it is the cell of is kept
+-- the calls of the log's drive since answered so, where there is a log
+abbrev pub MadeIn : {D : Type 0} → (D → Drive) → List Bool → Option (KeptView D) → Option (KeptView D) → Type 0
+MadeIn drive answers (Some old) (Some new) = Made answers (drive old.disk) (drive new.disk)
+MadeIn drive answers _ _ = ⊤
+
+-- the cell was added by four calls where there is a log, and the history with any entry that it is the cell of is kept
 pub record Added {D : Type 0} (drive : D → Drive) (cell : Cell) (old new : Option (KeptView D)) : Type 0 where
   pub count : cells_in new ≤ cells_in old + 1
+  pub calls : MadeIn drive (replicate 4 true) old new
   pub keeps : (w : ℕ) (s : State) (h : List Entry) (e : Entry) → IsNext w s h e cell → KeepsIn drive w s h old → KeepsIn drive w s (h ++ e ∷ []) new
+
+-- At every moment of a stretch a crash leaves the cells of the history and no other, where it is known what stood first.
+abbrev pub LeavesAlone : {D : Type 0} → (D → Drive) → ℕ → State → List Entry → Option (KeptView D) → Option (KeptView D) → Type 0
+LeavesAlone drive w s h (Some old) (Some new) =
+    (first : List Cell) → StartsWith w first (drive old.start) → LeavesOnly (drive old.disk) (drive new.disk) (Recovers w (first ++ cells_of s.world h))
+LeavesAlone drive w s h _ _ = ⊤
+
+-- How an append stopped at a fault: some of its four calls went well, the next one failed, and none was made after it. Where the first write or
+-- the first sync failed, the new cell is in no image.
+pub record BreaksIn {D : Type 0} (drive : D → Drive) (cell : Cell) (old new : Option (KeptView D)) : Type 0 where
+  pub went_well : ℕ
+  pub few : went_well ≤ 3
+  pub calls : MadeIn drive (replicate went_well true ++ false ∷ []) old new
+  pub unstaged : went_well ≤ 1 → (w : ℕ) (s : State) (h : List Entry) (e : Entry) → IsNext w s h e cell → KeepsIn drive w s h old → LeavesAlone drive w s h old new
 
 -- a device call failed at the cell of this number, and the history that ends with that is kept, whatever entry it would have been
 pub record Missed {D : Type 0} (drive : D → Drive) (cell : Cell) (number : ℕ) (old new : Option (KeptView D)) : Type 0 where
   pub named : number ≡ cells_in old
   pub count : cells_in new ≡ cells_in old
   pub rose : RoseIn drive old new
+  pub breaks : BreaksIn drive cell old new
   pub keeps : (w : ℕ) (s : State) (h : List Entry) (e : Entry) (lost : Lost) → IsNext w s h e cell → lost_cells lost ≡ cell ∷ []
       → KeepsIn drive w s h old → KeepsIn drive w s (h ++ Fail number lost ∷ []) new
 

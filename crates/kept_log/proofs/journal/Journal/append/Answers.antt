@@ -1,4 +1,4 @@
-use Rattle.std.proofs.Common.{◌≡◌, Option, Some, None, sym, ◌∙◌, subst}
+use Rattle.std.proofs.Common.{Option, Some, sym, ◌∙◌, subst}
 use Rattle.std.proofs.lemmas.Result.{on_ok_weaker, IfErr-weaker}
 use Rattle.kept_log.specs.KeptView.{KeptView}
 use Rattle.kept_log.specs.Journal.{Added, Missed, LeavesNext}

@@ -1,4 +1,4 @@
-use Rattle.std.proofs.Common.{◌≡◌, ◌<◌, ◌^◌, None, Err, refl, sym, ◌∙◌, ap, subst}
+use Rattle.std.proofs.Common.{◌<◌, ◌^◌, Err, refl, sym, ◌∙◌, ap, subst}
 use Rattle.kept_log.specs.KeptView.{KeptView}
 use Rattle.kept_log.proofs.InJournal.{leaves-next, added, missed}
 use Rattle.kept_log.proofs.journal.Kept.append.Goals as goal
