@@ -1,12 +1,13 @@
 -- What a bucket's fields stand for.
 use Rattle.std.specs.Arc.{arc_value}
 use Rattle.bucket_versions.specs.declared.bucket.Bucket.TheInside.{Inside}
-use Rattle.bucket_versions.specs.Rows.{Rows, AreRows}
+use Rattle.bucket_versions.specs.Rows.{Rows}
+use Rattle.bucket_versions.specs.Delta.{difference, AreParts}
 
--- the rows that the two shared lists hold
+-- the base that is shared, and its rows with those of the delta turned
 abbrev pub seen : Inside → Rows
-seen b = record { base = (arc_value b.base).items; rows = (arc_value b.rows).items }
+seen b = record { base = (arc_value b.base).items; rows = difference (arc_value b.base).items b.delta.items }
 
--- both rise
+-- both lists rise
 abbrev pub IsBucket : Inside → Type 0
-IsBucket b = AreRows (seen b)
+IsBucket b = AreParts (arc_value b.base).items b.delta.items

@@ -1,14 +1,14 @@
-//! A bucket: a base and the rows now, both shared.
-ghost use Rattle.std.specs.Prelude.{◌≡◌, ◌≤◌, ◌<◌, ◌+◌, ◌↔◌, ℕ, length, true, false, IfOk, IsTrue, IsErrOf};
-ghost use Rattle.std.specs.List.{insert, remove};
+//! A bucket: a base that versions share, and the rows that were turned since.
+ghost use Rattle.std.specs.Prelude.{◌≡◌, ◌+◌, ◌↔◌, length, true, false, IfOk, IsTrue, IsErrOf};
 ghost use Rattle.std.specs.Arc.{arc_value};
-ghost use Rattle.bucket_versions.specs.Rows.{IsRows, AreRows, has_row, as_base, with_rows, put_row, gone_row, rows_between, row_place};
+ghost use Rattle.bucket_versions.specs.Rows.{IsRows, AreRows, has_row, as_base, with_rows, put_row, gone_row, rows_between};
+ghost use Rattle.bucket_versions.specs.Delta.{delta_len, difference, turn};
 
 mod in_place;
 
-use crate::places;
 use crate::row::Row;
 use crate::walk::BucketRows;
+use crate::{deltas, places};
 pub use in_place::{pass, put, shift, take};
 use std::alloc::{AllocError, Global};
 use std::marker::Model;
@@ -33,7 +33,8 @@ pub enum BucketFault {
 pub struct Bucket {
     alloc: Global,
     base: Arc<Vec<Row>>,
-    rows: Arc<Vec<Row>>,
+    // The rows that stand in exactly one of the base and the rows, in order.
+    delta: Vec<Row>,
 }
 
 impl Model for Bucket {
@@ -54,17 +55,19 @@ impl Bucket {
         requires { IsRows rows.now }
         ensures { IfOk result (λ b. b ≡ as_base rows.now) }
     {
-        Bucket::on_base(alloc, Vec::from_slice(alloc, rows)?)
+        Bucket::on_base(alloc, shared(alloc, Vec::from_slice(alloc, rows)?)?)
     }
 
-    // The rows are the base of the new bucket, and its rows now.
-    fn on_base(alloc: Global, rows: Vec<Row>) -> Result<Bucket, Memory>
-        requires { IsRows rows.items }
-        ensures { IfOk result (λ b. b ≡ as_base rows.items) }
+    // A bucket of a base, with no delta.
+    fn on_base(alloc: Global, base: Arc<Vec<Row>>) -> Result<Bucket, Memory>
+        requires { IsRows (arc_value base).items }
+        ensures { IfOk result (λ b. b ≡ as_base (arc_value base).items) }
     {
-        let rows = shared(alloc, rows)?;
-        let base = another(&rows)?;
-        Ok(Bucket { alloc, base, rows })
+        Ok(Bucket {
+            alloc,
+            base,
+            delta: Vec::new(alloc),
+        })
     }
 
     /// The bucket with one row more, on the same base.
@@ -73,20 +76,10 @@ impl Bucket {
         ensures present { IsErrOf result BucketFault.Present ↔ IsTrue (has_row row self.now.rows) }
         ensures absent { ¬ IsErrOf result BucketFault.Absent }
     {
-        match places::place_of(&self.rows, &row) {
-            Ok(_) => Err(BucketFault::Present),
-            Err(place) => self.put_at(place, row).map_err(|_| BucketFault::Memory),
+        if self.holds(&row) {
+            return Err(BucketFault::Present);
         }
-    }
-
-    fn put_at(&self, place: usize, row: Row) -> Result<Bucket, Memory>
-        requires absent { has_row row self.now.rows ≡ false }
-        requires place { place ≡ row_place row self.now.rows }
-        requires within { place ≤ length self.now.rows }
-        ensures { IfOk result (λ b. b ≡ put_row row self.now) }
-    {
-        let rows = inserted(self.alloc, &self.rows, place, row)?;
-        self.on_same_base(rows)
+        self.with_turn(row).map_err(|_| BucketFault::Memory)
     }
 
     /// The bucket without one of its rows, on the same base.
@@ -95,33 +88,22 @@ impl Bucket {
         ensures absent { IsErrOf result BucketFault.Absent ↔ (has_row row self.now.rows ≡ false) }
         ensures present { ¬ IsErrOf result BucketFault.Present }
     {
-        match places::place_of(&self.rows, &row) {
-            Ok(place) => self.gone_at(place, row).map_err(|_| BucketFault::Memory),
-            Err(_) => Err(BucketFault::Absent),
+        if !self.holds(&row) {
+            return Err(BucketFault::Absent);
         }
+        self.with_turn(row).map_err(|_| BucketFault::Memory)
     }
 
-    fn gone_at(&self, place: usize, row: Row) -> Result<Bucket, Memory>
-        requires present { has_row row self.now.rows ≡ true }
-        requires place { place ≡ row_place row self.now.rows }
-        requires within { place < length self.now.rows }
-        ensures { IfOk result (λ b. b ≡ gone_row row self.now) }
+    // The bucket without a row where it is there, and with it where it isn't, on the same base.
+    fn with_turn(&self, row: Row) -> Result<Bucket, Memory>
+        ensures { IfOk result (λ b. b ≡ with_rows (turn row self.now.rows) self.now) }
     {
-        let rows = removed(self.alloc, &self.rows, place)?;
-        self.on_same_base(rows)
-    }
-
-    // A bucket of other rows on this bucket's base.
-    fn on_same_base(&self, rows: Vec<Row>) -> Result<Bucket, Memory>
-        requires { IsRows rows.items }
-        ensures { IfOk result (λ b. b ≡ with_rows rows.items self.now) }
-    {
-        let rows = shared(self.alloc, rows)?;
+        let delta = deltas::turned(self.alloc, &self.delta, row)?;
         let base = another(&self.base)?;
         Ok(Bucket {
             alloc: self.alloc,
             base,
-            rows,
+            delta,
         })
     }
 
@@ -129,13 +111,11 @@ impl Bucket {
     pub fn folded(&self) -> Result<Bucket, Memory>
         ensures { IfOk result (λ b. b ≡ as_base self.now.rows) }
     {
-        let base = another(&self.rows)?;
-        let rows = another(&self.rows)?;
-        Ok(Bucket {
-            alloc: self.alloc,
-            base,
-            rows,
-        })
+        if self.delta.is_empty() {
+            return Bucket::on_base(self.alloc, another(&self.base)?);
+        }
+        let rows = deltas::merged(self.alloc, &self.base, &self.delta)?;
+        Bucket::on_base(self.alloc, shared(self.alloc, rows)?)
     }
 
     /// This bucket, which was cut out of the base of another one, with the rows that that one has now.
@@ -143,7 +123,10 @@ impl Bucket {
         requires { self.now.rows ≡ rows_between lo hi from.now.base }
         ensures { IfOk result (λ b. b ≡ as_base (rows_between lo hi from.now.rows)) }
     {
-        Bucket::from_rows(self.alloc, places::between(&from.rows, lo, hi))
+        let base = places::between(&from.base, lo, hi);
+        let delta = places::between(&from.delta, lo, hi);
+        let rows = deltas::merged(self.alloc, base, delta)?;
+        Bucket::on_base(self.alloc, shared(self.alloc, rows)?)
     }
 
     /// This bucket, under a pointer that indexes share.
@@ -164,29 +147,47 @@ impl Bucket {
         self.base.as_slice()
     }
 
-    /// How many rows there are.
+    /// How many rows there are. It costs one pass where there is a delta, and nothing where there is none.
     pub fn count(&self) -> u64
         ensures count { result ≡ length self.now.rows }
         ensures in_order { AreRows self.now }
     {
-        self.rows.len() as u64
+        if self.delta.is_empty() {
+            return self.base.len() as u64;
+        }
+        self.walk().count() as u64
     }
 
-    /// The rows in order, one after the other. To begin is one step, however many are taken.
+    /// How many rows stand in exactly one of the base and the rows: so a put that is taken back counts for nothing.
+    pub fn delta_len(&self) -> u64
+        ensures { result ≡ delta_len self.now }
+    {
+        self.delta.len() as u64
+    }
+
+    fn walk(&self) -> BucketRows<'_>
+        ensures rows { result ≡ self.now.rows }
+        ensures in_order { AreRows self.now }
+    {
+        BucketRows::over(&self.base, &self.delta)
+    }
+
+    /// The rows in order, one after the other: one merge, which takes no memory. To begin is one step, however many are taken.
     pub fn rows<L: Ledger>(&self, steps: &mut Steps<L>) -> BucketRows<'_>
         ensures rows { result ≡ self.now.rows }
         ensures steps { steps.new ≡ steps.old + 1 }
         ensures in_order { AreRows self.now }
     {
         steps.tick();
-        BucketRows::over(&self.rows)
+        self.walk()
     }
 
     /// Whether a row is there.
     pub fn holds(&self, row: &Row) -> bool
         ensures { result ≡ has_row row.now self.now.rows }
     {
-        places::place_of(&self.rows, row).is_ok()
+        let in_base = places::place_of(&self.base, row).is_ok();
+        in_base != places::place_of(&self.delta, row).is_ok()
     }
 }
 
@@ -203,25 +204,4 @@ fn another(rows: &Arc<Vec<Row>>) -> Result<Arc<Vec<Row>>, Memory>
     ensures { IfOk result (λ copy. arc_value copy ≡ arc_value rows.now) }
 {
     Ok(Arc::try_clone(rows)?)
-}
-
-fn inserted(alloc: Global, rows: &[Row], place: usize, row: Row) -> Result<Vec<Row>, AllocError>
-    requires { place ≤ length rows.now }
-    ensures { IfOk result (λ v. v.items ≡ insert rows.now place row) }
-{
-    let mut all = Vec::with_capacity(alloc, rows.len() + 1)?;
-    all.extend_from_slice(&rows[..place])?;
-    all.push(row)?;
-    all.extend_from_slice(&rows[place..])?;
-    Ok(all)
-}
-
-fn removed(alloc: Global, rows: &[Row], place: usize) -> Result<Vec<Row>, AllocError>
-    requires { place < length rows.now }
-    ensures { IfOk result (λ v. v.items ≡ remove rows.now place) }
-{
-    let mut all = Vec::with_capacity(alloc, rows.len() - 1)?;
-    all.extend_from_slice(&rows[..place])?;
-    all.extend_from_slice(&rows[place + 1..])?;
-    Ok(all)
 }

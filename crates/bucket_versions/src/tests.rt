@@ -41,6 +41,7 @@ fn a_put_keeps_the_base_and_folding_moves_it(rt: HostRuntime) -> Result<(), Fail
     let c = b.with_put(row(2, 4))?;
     assert_eq!(rt; c.base_rows(), [row(1, 9), row(27, 7)].as_slice());
     assert_eq!(rt; c.count(), 3);
+    assert_eq!(rt; (b.delta_len(), c.delta_len()), (0, 1));
     let rows = listed::<Brand>(rt.alloc(), &c, Blank::new(1))?;
     assert_eq!(rt;
         rows.as_slice(),
@@ -59,7 +60,14 @@ fn a_put_keeps_the_base_and_folding_moves_it(rt: HostRuntime) -> Result<(), Fail
 fn a_removal_keeps_the_base_and_the_other_rows(rt: HostRuntime) -> Result<(), Fail> {
     let b = Bucket::from_rows(rt.alloc(), &[row(1, 9), row(27, 7)])?;
     assert_eq!(rt; b.with_gone(row(2, 1)).err(), Some(BucketFault::Absent));
-    let d = b.with_put(row(2, 4))?.with_gone(row(27, 7))?;
+    let c = b.with_put(row(2, 4))?;
+    let d = c.with_gone(row(27, 7))?;
+    assert_eq!(rt;
+        (c.with_gone(row(2, 4))?.delta_len(), d.delta_len()),
+        (0, 2)
+    );
+    assert_eq!(rt; (d.count(), d.holds(&row(27, 7))), (2, false));
+    assert_eq!(rt; d.with_put(row(27, 7))?.delta_len(), 1);
     assert_eq!(rt; d.base_rows(), [row(1, 9), row(27, 7)].as_slice());
     assert_eq!(rt; d.folded()?.base_rows(), [row(1, 9), row(2, 4)].as_slice());
     Ok(())

@@ -1,5 +1,6 @@
 //! The rows of a bucket, one after the other.
-ghost use Rattle.std.specs.Prelude.{◌≡◌};
+ghost use Rattle.std.specs.Prelude.{◌≡◌, false};
+ghost use Rattle.bucket_versions.specs.Delta.{difference, heads_meet, delta_leads};
 
 use crate::row::Row;
 use std::marker::Model;
@@ -7,24 +8,63 @@ use std::marker::Model;
 /// An iterator over the rows of a bucket, in order. Contracts see it as the rows that are left.
 #[derive(Drop)]
 pub struct BucketRows<'a> {
-    rows: &'a [Row],
+    base: &'a [Row],
+    delta: &'a [Row],
 }
 
 impl<'a> Model for BucketRows<'a> {
     ghost use Rattle.std.specs.Prelude.{List};
     ghost use Rattle.bucket_versions.specs.declared.row.Row.{Row};
+    ghost use Rattle.bucket_versions.specs.Delta.{difference};
 
     ghost Value = { List Row };
 
-    ghost view = { λ s. s.rows.now };
+    ghost view = { λ s. difference s.base.now s.delta.now };
 }
 
 impl<'a> BucketRows<'a> {
-    pub(crate) fn over(rows: &'a [Row]) -> BucketRows<'a>
-        ensures { result ≡ rows.now }
+    pub(crate) fn over(base: &'a [Row], delta: &'a [Row]) -> BucketRows<'a>
+        ensures { result ≡ difference base.now delta.now }
     {
-        BucketRows { rows }
+        BucketRows { base, delta }
     }
+}
+
+// Whether both begin with one row.
+fn meet(base: &[Row], delta: &[Row]) -> bool
+    ensures { result ≡ heads_meet base.now delta.now }
+{
+    match (base.first(), delta.first()) {
+        (Some(row), Some(turned)) => turned == row,
+        _ => false,
+    }
+}
+
+// Whether the first row of the difference of two that don't meet is the first of the delta.
+fn leads(base: &[Row], delta: &[Row]) -> bool
+    ensures { result ≡ delta_leads base.now delta.now }
+{
+    match (base.first(), delta.first()) {
+        (None, _) => true,
+        (_, None) => false,
+        (Some(row), Some(turned)) => {
+            turned.key < row.key || (turned.key == row.key && turned.id < row.id)
+        }
+    }
+}
+
+// Both, without the rows at their heads that are in both: those were taken out.
+fn apart<'a>(base: &'a [Row], delta: &'a [Row]) -> (&'a [Row], &'a [Row])
+    ensures rows { difference result.0.now result.1.now ≡ difference base.now delta.now }
+    ensures apart { heads_meet result.0.now result.1.now ≡ false }
+{
+    let mut later = base;
+    let mut more = delta;
+    'heads: while meet(later, more) {
+        later = &later[1..];
+        more = &more[1..];
+    }
+    (later, more)
 }
 
 impl<'a> Iterator for BucketRows<'a> {
@@ -37,8 +77,17 @@ impl<'a> Iterator for BucketRows<'a> {
     ghost remaining = { item_count (λ left. left) };
 
     fn next(&mut self) -> Option<&'a Row> {
-        let (first, others) = self.rows.split_first()?;
-        self.rows = others;
-        Some(first)
+        let (base, delta) = apart(self.base, self.delta);
+        if leads(base, delta) {
+            let (first, others) = delta.split_first()?;
+            self.base = base;
+            self.delta = others;
+            Some(first)
+        } else {
+            let (first, others) = base.split_first()?;
+            self.base = others;
+            self.delta = delta;
+            Some(first)
+        }
     }
 }
