@@ -7,7 +7,7 @@ use Rattle.std.proofs.lemmas.Bool.Decides.{nat_tests}
 use mathlib.Core.Bool.{true≢false}
 use Rattle.bucket_versions.specs.declared.row.Row.{Row}
 use Rattle.bucket_versions.specs.Rows.{Rows, AreRows, is_below, same_row, IsAbove, IsRows, has_row, with_row, without_row, rows_between, row_place}
-use Rattle.bucket_versions.specs.Delta.{AreParts, weave, difference, turn, delta_len}
+use Rattle.bucket_versions.specs.Delta.{AreParts, weave, difference, rows_now, turn, delta_len}
 use Rattle.bucket_versions.proofs.RowOrder.{same_row-eq, same_row-refl, is_below-not_back, is_below-either, IsAbove-lower, IsRows-filter, IsRows-with_row, IsRows-without_row, IsRows-rows_between}
 use Rattle.bucket_versions.proofs.RowPlaces.{none_above, put_at_place, gone_at_place}
 use Rattle.bucket_versions.proofs.RowRanges.{has_row-filter, has_row-rows_between}
@@ -313,25 +313,51 @@ pub given_rows : {A E : Type 0} (items : A → List Row) (r : Result A E) (made 
 given_rows items (Ok v) made is rising = subst IsRows (sym is) rising
 given_rows items (Err e) made is rising = is
 
--- both lists of a bucket with this base and this delta rise
-pub AreRows-difference : (base delta : List Row) → AreParts base delta → AreRows (record { base = base; rows = difference base delta })
-AreRows-difference base delta parts = record { base = parts.base; rows = IsRows-difference base delta parts.base parts.delta }
+-- the rows that a list stands for rise
+pub IsRows-now : (w : Bool) (base list : List Row) → AreParts base list → IsRows (rows_now w base list)
+IsRows-now true base list parts = parts.delta
+IsRows-now false base list parts = IsRows-difference base list parts.base parts.delta
 
--- what a turned row makes of the rows
-pub put_in_delta : (base delta now : List Row) (r : Row) → AreParts base delta → has_row r (difference base delta) ≡ false → now ≡ turn r delta → difference base now ≡ with_row r (difference base delta)
-put_in_delta base delta now r parts none is =
-    ap (difference base) is ∙ difference-turn r base delta parts.base parts.delta ∙ turn-absent r (difference base delta) none
+pub AreRows-now : (w : Bool) (base list : List Row) → AreParts base list → AreRows (record { base = base; rows = rows_now w base list })
+AreRows-now w base list parts = record { base = parts.base; rows = IsRows-now w base list parts }
 
-pub gone_in_delta : (base delta now : List Row) (r : Row) → AreParts base delta → has_row r (difference base delta) ≡ true → now ≡ turn r delta → difference base now ≡ without_row r (difference base delta)
-gone_in_delta base delta now r parts has is =
-    ap (difference base) is ∙ difference-turn r base delta parts.base parts.delta ∙ turn-present r (difference base delta) has
+-- a row turned in the list is turned in the rows
+pub turned_now : (w : Bool) (base list : List Row) (r : Row) → AreParts base list → rows_now w base (turn r list) ≡ turn r (rows_now w base list)
+turned_now true base list r parts = refl
+turned_now false base list r parts = difference-turn r base list parts.base parts.delta
 
-pub moved_in_delta : (base delta now : List Row) (from to : Row) → AreParts base delta → has_row from (difference base delta) ≡ true
-    → has_row to (without_row from (difference base delta)) ≡ false → now ≡ turn to (turn from delta) → difference base now ≡ with_row to (without_row from (difference base delta))
-moved_in_delta base delta now from to parts has none is =
-    let between : AreParts base (turn from delta) = record { base = parts.base; delta = IsRows-turn from delta parts.delta } in
-    let gone : difference base (turn from delta) ≡ without_row from (difference base delta) = gone_in_delta base delta (turn from delta) from parts has refl in
-    put_in_delta base (turn from delta) now to between (ap (has_row to) gone ∙ none) is ∙ ap (with_row to) gone
+pub put_now : (w : Bool) (base list now : List Row) (r : Row) → AreParts base list → has_row r (rows_now w base list) ≡ false → now ≡ turn r list → rows_now w base now ≡ with_row r (rows_now w base list)
+put_now w base list now r parts none is =
+    ap (rows_now w base) is ∙ turned_now w base list r parts ∙ turn-absent r (rows_now w base list) none
+
+pub gone_now : (w : Bool) (base list now : List Row) (r : Row) → AreParts base list → has_row r (rows_now w base list) ≡ true → now ≡ turn r list → rows_now w base now ≡ without_row r (rows_now w base list)
+gone_now w base list now r parts has is =
+    ap (rows_now w base) is ∙ turned_now w base list r parts ∙ turn-present r (rows_now w base list) has
+
+pub moved_now : (w : Bool) (base list now : List Row) (from to : Row) → AreParts base list → has_row from (rows_now w base list) ≡ true
+    → has_row to (without_row from (rows_now w base list)) ≡ false → now ≡ turn to (turn from list) → rows_now w base now ≡ with_row to (without_row from (rows_now w base list))
+moved_now w base list now from to parts has none is =
+    let between : AreParts base (turn from list) = record { base = parts.base; delta = IsRows-turn from list parts.delta } in
+    let gone : rows_now w base (turn from list) ≡ without_row from (rows_now w base list) = gone_now w base list (turn from list) from parts has refl in
+    put_now w base (turn from list) now to between (ap (has_row to) gone ∙ none) is ∙ ap (with_row to) gone
+
+-- the delta of a base and the rows on it
+differ_twice : (x y : Bool) → differ x (differ x y) ≡ y
+differ_twice true true = refl
+differ_twice true false = refl
+differ_twice false y = refl
+
+difference-twice : (base rows : List Row) → IsRows base → IsRows rows → difference base (difference base rows) ≡ rows
+difference-twice base rows rising other =
+    let delta = difference base rows in
+    let ordered : IsRows delta = IsRows-difference base rows rising other in
+    rows-eq (difference base delta) rows (IsRows-difference base delta rising ordered) other
+    (λ q. has_row-difference q base delta rising ordered ∙ ap (differ (has_row q base)) (has_row-difference q base rows rising other) ∙ differ_twice (has_row q base) (has_row q rows))
+
+pub length-rows : (base rows : List Row) → IsRows base → IsRows rows → length (difference base rows) ≡ delta_len (record { base = base; rows = rows })
+length-rows base rows rising other =
+    length-delta base (difference base rows) rising (IsRows-difference base rows rising other)
+    ∙ ap (λ (l : List Row). delta_len (record { base = base; rows = l })) (difference-twice base rows rising other)
 
 -- a bucket's view of two lists, which tell it
 abbrev pub as_rows : List Row → List Row → Rows
@@ -347,3 +373,7 @@ on_ok (Err e) f p = p
 pub difference-empty : (base delta : List Row) → length delta ≡ 0 → difference base delta ≡ base
 difference-empty base [] none = difference-none base
 difference-empty base (d ∷ delta) none = absurd (omega (arith, none))
+
+-- a list with no rows stands for the base
+pub now_empty : (w : Bool) (base list : List Row) → w ≡ false → length list ≡ 0 → rows_now w base list ≡ base
+now_empty w base list turned none = (λ i. rows_now (turned i) base list) ∙ difference-empty base list none

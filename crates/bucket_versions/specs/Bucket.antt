@@ -2,12 +2,12 @@
 use Rattle.std.specs.Arc.{arc_value}
 use Rattle.bucket_versions.specs.declared.bucket.Bucket.TheInside.{Inside}
 use Rattle.bucket_versions.specs.Rows.{Rows}
-use Rattle.bucket_versions.specs.Delta.{difference, AreParts}
+use Rattle.bucket_versions.specs.Delta.{rows_now, AreParts}
 
--- the base that is shared, and its rows with those of the delta turned
+-- the base that is shared, and the rows that the list stands for
 abbrev pub seen : Inside → Rows
-seen b = record { base = (arc_value b.base).items; rows = difference (arc_value b.base).items b.delta.items }
+seen b = record { base = (arc_value b.base).items; rows = rows_now b.whole (arc_value b.base).items b.list.items }
 
 -- both lists rise
 abbrev pub IsBucket : Inside → Type 0
-IsBucket b = AreParts (arc_value b.base).items b.delta.items
+IsBucket b = AreParts (arc_value b.base).items b.list.items

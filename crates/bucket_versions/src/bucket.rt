@@ -1,8 +1,8 @@
 //! A bucket: a base that versions share, and the rows that were turned since.
-ghost use Rattle.std.specs.Prelude.{◌≡◌, ◌+◌, ◌↔◌, length, true, false, IfOk, IsTrue, IsErrOf};
+ghost use Rattle.std.specs.Prelude.{◌≡◌, ◌+◌, ◌<◌, ◌^◌, ◌↔◌, length, true, false, IfOk, IsTrue, IsErrOf};
 ghost use Rattle.std.specs.Arc.{arc_value};
 ghost use Rattle.bucket_versions.specs.Rows.{IsRows, AreRows, has_row, as_base, with_rows, put_row, gone_row, rows_between};
-ghost use Rattle.bucket_versions.specs.Delta.{delta_len, difference, turn};
+ghost use Rattle.bucket_versions.specs.Delta.{AreParts, delta_len, difference, turn};
 
 mod in_place;
 
@@ -33,8 +33,9 @@ pub enum BucketFault {
 pub struct Bucket {
     alloc: Global,
     base: Arc<Vec<Row>>,
-    // The rows that stand in exactly one of the base and the rows, in order.
-    delta: Vec<Row>,
+    // In order: the rows where it is whole, and else the delta, the rows that stand in exactly one of the base and the rows.
+    list: Vec<Row>,
+    whole: bool,
 }
 
 impl Model for Bucket {
@@ -66,7 +67,8 @@ impl Bucket {
         Ok(Bucket {
             alloc,
             base,
-            delta: Vec::new(alloc),
+            list: Vec::new(alloc),
+            whole: false,
         })
     }
 
@@ -98,12 +100,13 @@ impl Bucket {
     fn with_turn(&self, row: Row) -> Result<Bucket, Memory>
         ensures { IfOk result (λ b. b ≡ with_rows (turn row self.now.rows) self.now) }
     {
-        let delta = deltas::turned(self.alloc, &self.delta, row)?;
+        let list = deltas::turned(self.alloc, &self.list, row)?;
         let base = another(&self.base)?;
         Ok(Bucket {
             alloc: self.alloc,
             base,
-            delta,
+            list,
+            whole: self.whole,
         })
     }
 
@@ -111,10 +114,11 @@ impl Bucket {
     pub fn folded(&self) -> Result<Bucket, Memory>
         ensures { IfOk result (λ b. b ≡ as_base self.now.rows) }
     {
-        if self.delta.is_empty() {
+        if !self.whole && self.list.is_empty() {
             return Bucket::on_base(self.alloc, another(&self.base)?);
         }
-        let rows = deltas::merged(self.alloc, &self.base, &self.delta)?;
+        let (base, delta) = self.parts();
+        let rows = deltas::merged(self.alloc, base, delta)?;
         Bucket::on_base(self.alloc, shared(self.alloc, rows)?)
     }
 
@@ -123,9 +127,10 @@ impl Bucket {
         requires { self.now.rows ≡ rows_between lo hi from.now.base }
         ensures { IfOk result (λ b. b ≡ as_base (rows_between lo hi from.now.rows)) }
     {
-        let base = places::between(&from.base, lo, hi);
-        let delta = places::between(&from.delta, lo, hi);
-        let rows = deltas::merged(self.alloc, base, delta)?;
+        let (base, delta) = from.parts();
+        let some = places::between(base, lo, hi);
+        let late = places::between(delta, lo, hi);
+        let rows = deltas::merged(self.alloc, some, late)?;
         Bucket::on_base(self.alloc, shared(self.alloc, rows)?)
     }
 
@@ -147,29 +152,49 @@ impl Bucket {
         self.base.as_slice()
     }
 
-    /// How many rows there are. It costs one pass where there is a delta, and nothing where there is none.
+    /// How many rows there are. It costs one pass over a delta of 32 rows at most, and else nothing.
     pub fn count(&self) -> u64
         ensures count { result ≡ length self.now.rows }
         ensures in_order { AreRows self.now }
     {
-        if self.delta.is_empty() {
+        if self.whole {
+            return self.list.len() as u64;
+        }
+        if self.list.is_empty() {
             return self.base.len() as u64;
         }
-        self.walk().count() as u64
+        how_many(&self.base, &self.list)
     }
 
     /// How many rows stand in exactly one of the base and the rows: so a put that is taken back counts for nothing.
     pub fn delta_len(&self) -> u64
         ensures { result ≡ delta_len self.now }
     {
-        self.delta.len() as u64
+        if !self.whole {
+            return self.list.len() as u64;
+        }
+        how_many(&self.base, &self.list)
+    }
+
+    // Two lists whose difference the rows are.
+    fn parts(&self) -> (&[Row], &[Row])
+        ensures rows { difference result.0.now result.1.now ≡ self.now.rows }
+        ensures in_order { AreParts result.0.now result.1.now }
+        ensures rising { AreRows self.now }
+    {
+        if self.whole {
+            (&self.list, &[])
+        } else {
+            (&self.base, &self.list)
+        }
     }
 
     fn walk(&self) -> BucketRows<'_>
         ensures rows { result ≡ self.now.rows }
         ensures in_order { AreRows self.now }
     {
-        BucketRows::over(&self.base, &self.delta)
+        let (base, delta) = self.parts();
+        BucketRows::over(base, delta)
     }
 
     /// The rows in order, one after the other: one merge, which takes no memory. To begin is one step, however many are taken.
@@ -186,9 +211,17 @@ impl Bucket {
     pub fn holds(&self, row: &Row) -> bool
         ensures { result ≡ has_row row.now self.now.rows }
     {
-        let in_base = places::place_of(&self.base, row).is_ok();
-        in_base != places::place_of(&self.delta, row).is_ok()
+        let (base, delta) = self.parts();
+        let in_base = places::place_of(base, row).is_ok();
+        in_base != places::place_of(delta, row).is_ok()
     }
+}
+
+fn how_many(base: &[Row], delta: &[Row]) -> u64
+    requires { length (difference base.now delta.now) < 2 ^ 64 }
+    ensures { result ≡ length (difference base.now delta.now) }
+{
+    BucketRows::over(base, delta).count() as u64
 }
 
 fn shared(alloc: Global, rows: Vec<Row>) -> Result<Arc<Vec<Row>>, Memory>

@@ -8,19 +8,21 @@ use Rattle.bucket_versions.proofs.bucket.Bucket.caught_up.Goals as goal
 
 pub on_base-requires : goal.on_base-requires
 on_base-requires c =
-    let rows : c.in_ok-shared.field-0.value.items ≡ difference c.between-base.result.now c.between-delta.result.now = search rules in
-    subst IsRows (sym rows) (IsRows-difference c.between-base.result.now c.between-delta.result.now c.between-base.ensures.in_order c.between-delta.ensures.in_order)
+    let some = c.between-some.result.now in
+    let late = c.between-late.result.now in
+    let rows : c.in_ok-shared.field-0.value.items ≡ difference some late = search rules in
+    subst IsRows (sym rows) (IsRows-difference some late c.between-some.ensures.in_order c.between-late.ensures.in_order)
 
 pub returns : goal.returns
 returns c =
     let lo = c.args.lo in
     let hi = c.args.hi in
-    let base = c.from.inside.base.value.items in
-    let delta = c.from.inside.delta.items in
-    let merged : c.in_ok-shared.field-0.value.items ≡ difference c.between-base.result.now c.between-delta.result.now = search rules in
-    let some : c.between-base.result.now ≡ rows_between lo hi base = search rules in
-    let few : c.between-delta.result.now ≡ rows_between lo hi delta = search rules in
+    let base = c.parts.result.0.now in
+    let delta = c.parts.result.1.now in
+    let merged : c.in_ok-shared.field-0.value.items ≡ difference c.between-some.result.now c.between-late.result.now = search rules in
+    let some : c.between-some.result.now ≡ rows_between lo hi base = search rules in
+    let late : c.between-late.result.now ≡ rows_between lo hi delta = search rules in
     let rows : c.in_ok-shared.field-0.value.items ≡ rows_between lo hi c.args.from.now.rows =
-    merged ∙ (λ i. difference (some i) (few i)) ∙ difference-between lo hi base delta c.from.invariant.base c.from.invariant.delta ∙ ap (λ b. rows_between lo hi b.rows) c.from.view_is in
+    merged ∙ (λ i. difference (some i) (late i)) ∙ difference-between lo hi base delta c.parts.ensures.in_order.base c.parts.ensures.in_order.delta ∙ ap (rows_between lo hi) c.parts.ensures.rows in
     let P : List Row → Type 0 = λ l. IfOk c.on_base.result (λ b. b ≡ as_base l) in
     subst P rows c.on_base.ensures

@@ -12,11 +12,11 @@ unequal false false = refl
 pub returns : goal.returns
 returns c =
     let row = c.args.row.now in
-    let base = c.self.inside.base.value.items in
-    let delta = c.self.inside.delta.items in
+    let base = c.parts.result.0.now in
+    let delta = c.parts.result.1.now in
     let first : c.is_ok-in_base.result ≡ has_row row base = search rules in
     let second : c.is_ok.result ≡ has_row row delta = search rules in
     unequal c.is_ok-in_base.result c.is_ok.result
     ∙ (λ i. differ (first i) (second i))
-    ∙ sym (has_row-difference row base delta c.self.invariant.base c.self.invariant.delta)
-    ∙ (ap (λ b. has_row row b.rows) c.self.view_is)
+    ∙ sym (has_row-difference row base delta c.parts.ensures.in_order.base c.parts.ensures.in_order.delta)
+    ∙ ap (has_row row) c.parts.ensures.rows
