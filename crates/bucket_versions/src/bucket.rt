@@ -81,7 +81,7 @@ impl Bucket {
         if self.holds(&row) {
             return Err(BucketFault::Present);
         }
-        self.with_turn(row).map_err(|_| BucketFault::Memory)
+        self.turned(row).map_err(|_| BucketFault::Memory)
     }
 
     /// The bucket without one of its rows, on the same base.
@@ -93,7 +93,7 @@ impl Bucket {
         if !self.holds(&row) {
             return Err(BucketFault::Absent);
         }
-        self.with_turn(row).map_err(|_| BucketFault::Memory)
+        self.turned(row).map_err(|_| BucketFault::Memory)
     }
 
     // The bucket without a row where it is there, and with it where it isn't, on the same base.
@@ -108,6 +108,15 @@ impl Bucket {
             list,
             whole: self.whole,
         })
+    }
+
+    // The same, whose rows are listed whole where its delta is long.
+    fn turned(&self, row: Row) -> Result<Bucket, Memory>
+        ensures { IfOk result (λ b. b ≡ with_rows (turn row self.now.rows) self.now) }
+    {
+        let mut bucket = self.with_turn(row)?;
+        bucket.relist()?;
+        Ok(bucket)
     }
 
     /// The bucket with its rows as base.
