@@ -107,7 +107,7 @@ module _ (h : List Entry) (bad : ℕ → ℕ) (Calm : Type 0) where
     even = λ calm. let x = first.even calm in let y = second.even calm in omega arith;
   }
 
-  gains-fail : (own new : List ℕ) (p cell : ℕ) (lost : Lost) → Puts h own new p (Fail cell lost) → Gains h bad Calm own new 0
+  pub gains-fail : (own new : List ℕ) (p cell : ℕ) (lost : Lost) → Puts h own new p (Fail cell lost) → Gains h bad Calm own new 0
   gains-fail own new p cell lost puts =
       let b = puts-none begins h own new p (Fail cell lost) puts refl in
       let c = puts-none calls h own new p (Fail cell lost) puts refl in

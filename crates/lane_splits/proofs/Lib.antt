@@ -3,3 +3,9 @@ pub mod Entries
 pub mod Bounds
 pub mod Gains
 pub mod Rounds
+pub mod Steps
+pub mod Tries
+pub mod Lanes
+pub mod Ends
+pub mod Sums
+pub mod Bounded

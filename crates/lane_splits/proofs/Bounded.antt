@@ -1,0 +1,243 @@
+-- The history of lanes that were played stays below its limits.
+use Rattle.std.proofs.Common.{◌≡◌, ◌⊎◌, inl, inr, ℕ, zero, suc, ◌+◌, ◌*◌, ◌<◌, ◌≤◌, Bool, true, false, ◌||◌, cond, List, [], ◌∷◌, ◌++◌, length, take, drop, get_or, Some, Result, refl, sym, ap, subst, ◌∙◌, arith, length-append}
+use mathlib.Core.List.{IsPrefix}
+use Rattle.std.specs.Prelude.{nat_lt, slice_get}
+use Rattle.std.proofs.Math.Seq.{take-suc}
+use Rattle.std.proofs.lemmas.Bool.{ltb-false}
+use Rattle.std.proofs.lemmas.List.{take_all, take-append-drop}
+use Rattle.std.proofs.lemmas.Option.{slice_get-get_or}
+use Rattle.zorder.specs.declared.points.Placed.{Placed}
+use Rattle.plain_list.specs.declared.ops.Op.{Op}
+use Rattle.plain_list.specs.declared.ops.Op.TheVariants as op
+use Rattle.plain_list.specs.declared.entries.Entry.{Entry}
+use Rattle.plain_list.specs.declared.entries.Entry.TheVariants.{Fail, Call, Begin, Install, Abandon}
+use Rattle.plain_list.specs.Answer.{answer_of, is_change}
+use Rattle.plain_list.specs.History.{world_after}
+use Rattle.plain_list.specs.State.{State, IsLegal}
+use Rattle.log_state.specs.Changes.{change_cells, cells_of}
+use Rattle.log_state.proofs.PlacedChanges.{cells_of-append}
+use Rattle.csv_rows.specs.declared.rows.InRow.{InRow}
+use Rattle.commit_book.specs.IsBook.{most_events}
+use Rattle.commit_book.specs.Refusals.{has_no_room, most_cells}
+use Rattle.commit_book.specs.declared.faults.BookFault.{BookFault}
+use Rattle.book_lock.specs.Pass.{Known}
+use Rattle.book_lock.specs.declared.origin.Origin.{Origin}
+use Rattle.book_lock.proofs.Histories.{prefix_refl, prefix_length}
+use Rattle.sessions.specs.Shared.{start_of}
+use Rattle.sessions.specs.Steps.{cells_after}
+use Rattle.sessions.specs.Settles.{Settles}
+use Rattle.sessions.specs.declared.faults.Settled.{Settled}
+use Rattle.sessions.specs.declared.store.lanes.Lane.{Lane}
+use Rattle.lane_history.specs.Lanes.{IsPlayedOut, GoesOn}
+use Rattle.lane_splits.specs.Settled.{IsBounded}
+use Rattle.lane_splits.proofs.Weights.{weight, weight-all, all_below, at, at-is, below-take}
+use Rattle.lane_splits.proofs.Entries.{begins, calls, ends, fails, one-kind, legal-begin, one-fail, open-few}
+use Rattle.lane_splits.proofs.Bounds.{AreFew, size-few}
+use Rattle.lane_splits.proofs.Gains.{crowd}
+use Rattle.lane_splits.proofs.Steps.{bad, IsCalm, take-prefix}
+use Rattle.lane_splits.proofs.Ends.{EndPairs, settles-same, settles-pairs}
+use Rattle.lane_splits.proofs.Sums.{Together, together, lanes_weight, lanes-weight, rows_of, rows-few}
+
+-- What the pass that took the lanes' passes in comes to: begins are no more than calls, none is without room, calls are at most so many, and
+-- in a calm history begins are no more than ends.
+pub record AreJoined (origin : Origin) (h : List Entry) (own : List ℕ) (most : ℕ) : Type 0 where
+  pub fair : (n : ℕ) → weight (at begins h) own n ≤ weight (at calls h) own n
+  pub room : (n : ℕ) → weight (crowd h (bad origin h)) own n ≡ 0
+  pub few : weight (at calls h) own (length h) ≤ most
+  pub even : IsCalm origin h → weight (at begins h) own (length h) ≤ weight (at ends h) own (length h)
+
+joined-from : {I D : Type 0} (origin : Origin) (h : List Entry) (own : List ℕ) (lanes : List (Lane I D)) (a b : ℕ) → ((g : ℕ → ℕ) (n : ℕ) → weight g own n ≡ lanes_weight g lanes n) → Together origin h lanes a → a ≤ b → AreJoined origin h own b
+joined-from origin h own lanes a b same together less = record {
+  fair = λ n. let x = same (at begins h) n in let y = same (at calls h) n in let z = together.fair n in omega arith;
+  room = λ n. same (crowd h (bad origin h)) n ∙ together.room n;
+  few = let x = same (at calls h) (length h) in let y = together.few in omega arith;
+  even = λ calm. let x = same (at begins h) (length h) in let y = same (at ends h) (length h) in let z = together.even calm in omega arith;
+}
+
+pub goes-prefix : (w : ℕ) (pass last : Known) → GoesOn w pass last → IsPrefix pass.seen last.seen
+goes-prefix w pass last (inl same) = subst (λ (k : Known). IsPrefix pass.seen k.seen) (sym same) (prefix_refl pass.seen)
+goes-prefix w pass last (inr (result, settles)) = (settles-same w pass last result settles).0
+
+pub joined : {I D : Type 0} (w : ℕ) (origin : Origin) (rows : List InRow) (sessions : List ℕ) (lanes : List (Lane I D)) (last : Known) (out : IsPlayedOut w origin rows sessions lanes last)
+    → AreJoined origin last.seen out.pass.own (length rows)
+joined w origin rows sessions lanes last out =
+    joined-from origin last.seen out.pass.own lanes (rows_of 1 rows sessions) (length rows) (λ g n. lanes-weight g out.pass.own lanes out.joined.owned n)
+    (together w origin last.seen rows sessions lanes out.pass out.played out.joined.seen (goes-prefix w out.pass last out.goes_on)) (rows-few 1 0 rows sessions out.sessions_are.rise)
+
+-- What the last pass comes to, in what it owns: it may have begun one split more than it ended.
+record AreLast (origin : Origin) (h : List Entry) (own : List ℕ) (most : ℕ) : Type 0 where
+  pub fair : (n : ℕ) → weight (at begins h) own n ≤ weight (at calls h) own n + weight (at ends h) own n + 1
+  pub room : (n : ℕ) → weight (crowd h (bad origin h)) own n ≡ 0
+  pub few : weight (at calls h) own (length h) ≤ most
+
+last-pairs : (origin : Origin) (h : List Entry) (pass last : Known) (most : ℕ) → AreJoined origin h pass.own most → EndPairs origin h ⊥ pass last → AreLast origin h last.own most
+last-pairs origin h pass last most joined pairs = record {
+  fair = λ n. let x = joined.fair n in let y = pairs.one n in let z = pairs.calls_are n in omega arith;
+  room = λ n. pairs.room n ∙ joined.room n;
+  few = let x = joined.few in let z = pairs.calls_are (length h) in omega arith;
+}
+
+last-goes : (w : ℕ) (origin : Origin) (pass last : Known) (most : ℕ) → pass.origin ≡ origin → AreJoined origin last.seen pass.own most → GoesOn w pass last → AreLast origin last.seen last.own most
+last-goes w origin pass last most from joined (inl same) =
+    let h = last.seen in
+    let now : AreJoined origin h last.own most = subst (λ (k : Known). AreJoined origin h k.own most) (sym same) joined in
+    record { fair = λ n. let x = now.fair n in omega arith; room = now.room; few = now.few }
+last-goes w origin pass last most from joined (inr (result, settles)) = last-pairs origin last.seen pass last most joined (settles-pairs w origin last.seen pass last result from settles (prefix_refl last.seen))
+
+-- the cells of one entry more
+change-few : (o : Op) → length (change_cells o) ≤ 1
+change-few (op.Put id at) = omega arith
+change-few (op.Move id at) = omega arith
+change-few (op.Remove id) = omega arith
+change-few (op.Find id) = omega arith
+change-few (op.Within region) = omega arith
+change-few (op.Near at k) = omega arith
+
+entry-few : (world : List Placed) (e : Entry) → length (cells_of world (e ∷ [])) ≤ 1
+entry-few world (Fail cell lost) = omega arith
+entry-few world (Begin number name) = omega arith
+entry-few world (Install number) = omega arith
+entry-few world (Abandon number) = omega arith
+entry-few world (Call session row o) = by_test (is_change (answer_of world o)) (change-few o)
+  where
+    by_test : (b : Bool) → length (change_cells o) ≤ 1 → length (cond b (change_cells o) [] ++ []) ≤ 1
+    by_test true few = let same = length-append (change_cells o) [] in omega arith
+    by_test false few = omega arith
+
+next-cells : (origin : Origin) (h : List Entry) (n : ℕ) → n < length h → cells_after origin (take (suc n) h) ≤ cells_after origin (take n h) + 1
+next-cells origin h n less =
+    let e : Entry = get_or h n (Install 0) in
+    let is : length (cells_of origin.world (take (suc n) h)) ≡ length (cells_of origin.world (take n h)) + length (cells_of (world_after origin.world (take n h)) (e ∷ [])) =
+    ap (λ (l : List Entry). length (cells_of origin.world l)) (take-suc h n (Install 0) less) ∙ ap length (cells_of-append origin.world (take n h) (e ∷ []))
+    ∙ length-append (cells_of origin.world (take n h)) (cells_of (world_after origin.world (take n h)) (e ∷ [])) in
+    let few = entry-few (world_after origin.world (take n h)) e in
+    omega arith
+
+-- each position has an entry of one kind
+one-at : (h : List Entry) (n : ℕ) → n < length h → at begins h n + at calls h n + at ends h n + at fails h n ≡ 1
+one-at h n less =
+    let e : Entry = get_or h n (Install 0) in
+    let is : slice_get h n ≡ Some e = slice_get-get_or h n (Install 0) less in
+    let b = at-is begins h n e is in
+    let c = at-is calls h n e is in
+    let d = at-is ends h n e is in
+    let f = at-is fails h n e is in
+    let kind = one-kind e in
+    omega arith
+
+-- where nothing below a bound weighs anything
+below-zero : (g : ℕ → ℕ) (n p : ℕ) → all_below g n ≡ 0 → p < n → g p ≡ 0
+below-zero g zero p none less = absurd (omega arith)
+below-zero g (suc n) p none less = by_order (g n) (omega arith) (below-zero g n p (omega arith))
+  where
+    order : (a b : ℕ) → a ≤ b → (a ≡ b) ⊎ (a < b)
+    order zero zero le = inl refl
+    order zero (suc b) le = inr (omega arith)
+    order (suc a) zero le = absurd (omega arith)
+    order (suc a) (suc b) le = by_rest (order a b (omega arith))
+      where
+        by_rest : (a ≡ b) ⊎ (a < b) → (suc a ≡ suc b) ⊎ (suc a < suc b)
+        by_rest (inl same) = inl (ap suc same)
+        by_rest (inr less) = inr (omega arith)
+
+    by_order : (x : ℕ) → g n ≡ 0 → (p < n → g p ≡ 0) → g p ≡ 0
+    by_order x here more = by_case (order p n (omega arith))
+      where
+        by_case : (p ≡ n) ⊎ (p < n) → g p ≡ 0
+        by_case (inl same) = ap g same ∙ here
+        by_case (inr less) = more less
+
+-- a begin that isn't without room had room
+had-room : (cells events : ℕ) → ◌≡◌ {A = ℕ} (cond (has_no_room cells events) 1 0) 0 → (events ≤ 4000000) × (cells ≤ 16000000)
+had-room cells events none = by_tests (nat_lt 16000000 cells) (nat_lt 4000000 events) refl refl none
+  where
+    by_tests : (a b : Bool) → nat_lt 16000000 cells ≡ a → nat_lt 4000000 events ≡ b → ◌≡◌ {A = ℕ} (cond (a || b) 1 0) 0 → (events ≤ 4000000) × (cells ≤ 16000000)
+    by_tests true b is other none = absurd (cc none)
+    by_tests false true other is none = absurd (cc none)
+    by_tests false false few less none = (ltb-false 4000000 events less, ltb-false 16000000 cells few)
+
+begin-room : (origin : Origin) (h : List Entry) (n : ℕ) → n < length h → 1 ≤ at begins h n → at begins h n * bad origin h n ≡ 0 → (n ≤ 4000000) × (cells_after origin (take n h) ≤ 16000000)
+begin-room origin h n less begun none =
+    let kind = one-at h n less in
+    let one : at begins h n ≡ 1 = omega arith in
+    let scaled : at begins h n * bad origin h n ≡ 1 * bad origin h n = ap (λ (k : ℕ). k * bad origin h n) one in
+    had-room (cells_after origin (take n h)) n (omega arith)
+
+-- what is known of the whole history
+record AreBelow (origin : Origin) (h : List Entry) (most : ℕ) : Type 0 where
+  pub fair : (n : ℕ) → n ≤ length h → all_below (at begins h) n ≤ all_below (at calls h) n + all_below (at ends h) n + 1
+  pub room : (n : ℕ) → n < length h → 1 ≤ at begins h n → (n ≤ 4000000) × (cells_after origin (take n h) ≤ 16000000)
+  pub few : all_below (at calls h) (length h) ≤ most
+
+are-below : {I D : Type 0} (w : ℕ) (origin : Origin) (rows : List InRow) (sessions : List ℕ) (lanes : List (Lane I D)) (last : Known) → IsPlayedOut w origin rows sessions lanes last → AreBelow origin last.seen (length rows)
+are-below w origin rows sessions lanes last out =
+    let h = last.seen in
+    let end = last-goes w origin out.pass last (length rows) out.joined.begins (joined w origin rows sessions lanes last out) out.goes_on in
+    let whole : (g : ℕ → ℕ) (n : ℕ) → n ≤ length h → weight g last.own n ≡ all_below g n = (λ g n le. weight-all g last.own (length h) out.whole n le) in
+    let none : all_below (crowd h (bad origin h)) (length h) ≡ 0 = sym (whole (crowd h (bad origin h)) (length h) (omega arith)) ∙ end.room (length h) in
+    record {
+      fair = λ n le.
+          let b = whole (at begins h) n le in
+          let c = whole (at calls h) n le in
+          let e = whole (at ends h) n le in
+          let fair = end.fair n in
+          omega arith;
+      room = λ n less begun. begin-room origin h n less begun (below-zero (crowd h (bad origin h)) (length h) n none less);
+      few = let c = whole (at calls h) (length h) (omega arith) in let few = end.few in omega arith;
+    }
+
+below-more : (g : ℕ → ℕ) (a b : ℕ) → all_below g a ≤ all_below g (a + b)
+below-more g a zero = subst (λ (n : ℕ). all_below g a ≤ all_below g n) (let is : a ≡ a + 0 = omega arith in is) (omega arith)
+below-more g a (suc b) =
+    let rest = below-more g a b in
+    subst (λ (n : ℕ). all_below g a ≤ all_below g n) (let is : suc (a + b) ≡ a + suc b = omega arith in is) (omega arith)
+
+below-later : (g : ℕ → ℕ) (a b : ℕ) → a ≤ b → all_below g a ≤ all_below g b
+below-later g a b le = by_rest (rest a b le)
+  where
+    rest : (a b : ℕ) → a ≤ b → (k : ℕ) × (a + k ≡ b)
+    rest zero b le = (b, omega arith)
+    rest (suc a) zero le = absurd (omega arith)
+    rest (suc a) (suc b) le = let r = rest a b (omega arith) in let is = r.1 in (r.0, omega arith)
+
+    by_rest : (k : ℕ) × (a + k ≡ b) → all_below g a ≤ all_below g b
+    by_rest (k, is) = subst (λ (n : ℕ). all_below g a ≤ all_below g n) is (below-more g a k)
+
+-- a size that was at most this at each begin is never much more
+module _ (w : ℕ) (origin : Origin) (h : List Entry) (legal : IsLegal w (start_of origin) h) (count : ℕ) (below : AreBelow origin h count) where
+  size-below : (most : ℕ) (size : ℕ → ℕ) → size 0 ≤ most → ((n : ℕ) → n < length h → size (suc n) ≤ size n + 1) → ((n : ℕ) → n < length h → 1 ≤ at begins h n → size n ≤ most) → (n : ℕ) → n ≤ length h
+      → size n ≤ most + 3 + 2 * count
+  size-below most size first next room n le =
+      let few : AreFew most size (at begins h) (at calls h) (at ends h) (at fails h) (length h) = record { first = first; next = next; one = one-at h; room = room; fair = below.fair } in
+      let most_is = size-few most size (at begins h) (at calls h) (at ends h) (at fails h) (length h) few n le in
+      let front : IsLegal w (start_of origin) (take n h) = legal-begin w (start_of origin) (take n h) (drop n h) (subst (IsLegal w (start_of origin)) (sym (take-append-drop n h)) legal) in
+      let splits = open-few w (start_of origin) (take n h) front in
+      let failed = one-fail w (start_of origin) (take n h) front in
+      let b = below-take begins h n le in
+      let e = below-take ends h n le in
+      let f = below-take fails h n le in
+      let c = below-later (at calls h) n (length h) le in
+      let calls_few = below.few in
+      omega arith
+
+pub bounded : {I D : Type 0} (w : ℕ) (origin : Origin) (rows : List InRow) (sessions : List ℕ) (lanes : List (Lane I D)) (last : Known) → IsPlayedOut w origin rows sessions lanes last
+    → IsLegal w (start_of origin) last.seen → length rows ≤ 65536 → origin.cells ≤ 16000000 → IsBounded origin last.seen
+bounded w origin rows sessions lanes last out legal few_rows few_cells =
+    let h = last.seen in
+    let below = are-below w origin rows sessions lanes last out in
+    record {
+      short = λ g pre.
+          let le = prefix_length g h pre in
+          let small = size-below w origin h legal (length rows) below 4000000 (λ n. n) (omega arith) (λ n less. omega arith) (λ n less begun. (below.room n less begun).0) (length g) le in
+          omega arith;
+      few = λ g pre.
+          let le = prefix_length g h pre in
+          let small = size-below w origin h legal (length rows) below 16000000 (λ n. cells_after origin (take n h)) (omega arith) (next-cells origin h) (λ n less begun. (below.room n less begun).1) (length g) le in
+          let same : cells_after origin (take (length g) h) ≡ cells_after origin g = ap (cells_after origin) (take-prefix g h pre) in
+          omega arith;
+    }
+
+-- how many calls there are
+pub calls-few : {I D : Type 0} (w : ℕ) (origin : Origin) (rows : List InRow) (sessions : List ℕ) (lanes : List (Lane I D)) (last : Known) → IsPlayedOut w origin rows sessions lanes last
+    → all_below (at calls last.seen) (length last.seen) ≤ length rows
+calls-few w origin rows sessions lanes last out = (are-below w origin rows sessions lanes last out).few
