@@ -34,7 +34,7 @@ use Rattle.book_lock.specs.Pass.{Known}
 use Rattle.book_lock.specs.declared.origin.Origin.{Origin}
 use Rattle.sessions.specs.Shared.{origin_of, start_of, HasWorld}
 use Rattle.sessions.specs.Steps.{Says, has_entry, has_given, Leaves}
-use Rattle.sessions.specs.Calls.{Updates, Looks, Called, CallLeaves, HasDone, Shows, IsAnswered, IsCallFault, MayCome, call_cause, call_fault, next_full, told_full}
+use Rattle.sessions.specs.Calls.{Updates, Looks, Called, CallLeaves, HasDone, Shows, LosesChange, IsAnswered, IsCallFault, MayCome, call_cause, call_fault, next_full, told_full}
 use Rattle.sessions.specs.Splits.{SamePass}
 use Rattle.sessions.specs.declared.faults.CallFault.{CallFault}
 use Rattle.sessions.specs.declared.faults.CallFault.TheVariants as call
@@ -117,11 +117,29 @@ module _ {I D : Type 0} (leaves : I → List Leaf) (drive : D → Drive) (w : �
   }
   update-says (Err fault) update ok given = tt
 
+  update-loses : (r : Result Done BookFault) → IfErr r (LeavesRefused drive (lost.Call session row op) b mid) → LosesChange (world_after old.origin.world took.seen) op r
+  update-loses (Ok d) err = tt
+  update-loses (Err (book.Disk cell)) err =
+      let world : world_after b.opening.world b.entries ≡ world_after old.origin.world took.seen = (λ i. world_after (was.origin i).world (was.entries i)) in
+      subst (λ (list : List Placed). is_change (answer_of list op) ≡ true) world err.change
+  update-loses (Err (book.Closed cell)) err = tt
+  update-loses (Err book.HistoryFull) err = tt
+  update-loses (Err book.LogFull) err = tt
+  update-loses (Err book.Memory) err = tt
+  update-loses (Err (book.Room cells events)) err = tt
+  update-loses (Err (book.Splitting number)) err = tt
+  update-loses (Err book.Deep) err = tt
+  update-loses (Err book.NoLeaf) err = tt
+  update-loses (Err (book.Stale number)) err = tt
+  update-loses (Err (book.NotOpen number)) err = tt
+
   pub updated : (r : Result Done BookFault) → IsUpdate op → IfOk r (λ d. BookReplies w b mid session row op d.place d.answer d.full) → IsRefusedBy IsMemoryOrDisk (update_refusal b op) r → IfErr r (LeavesRefused drive (lost.Call session row op) b mid)
       → back ≡ has_given took (has_entry r) mid.entries → Updates w session row op old back r
-  updated r update ok refused err given =
-      stepped leaves drive w IsMemoryOrDisk (call_cause old.origin op) (λ (d : Done). Call session row op) (λ (h : List Entry). lost.Call session row op) (HasDone w old back op) b mid old took back r books.before was
-      (update-step r ok refused err) (update-says r update ok given) given
+  updated r update ok refused err given = record {
+    step = stepped leaves drive w IsMemoryOrDisk (call_cause old.origin op) (λ (d : Done). Call session row op) (λ (h : List Entry). lost.Call session row op) (HasDone w old back op) b mid old took back r books.before was
+        (update-step r ok refused err) (update-says r update ok given) given;
+    loses = update-loses r err;
+  }
 
 -- a cause, where there is one, is of these
 pub record AreCauses (P : BookFault → Type 0) (o : Option BookFault) : Type 0 where
@@ -180,6 +198,20 @@ calm-left drive step b mid book.Deep calm is = is
 calm-left drive step b mid book.NoLeaf calm is = is
 calm-left drive step b mid (book.Stale number) calm is = is
 calm-left drive step b mid (book.NotOpen number) calm is = is
+
+-- so nothing was lost
+calm-loses : (A : Type 0) (world : List Placed) (op : Op) (fault : BookFault) → IsCalm fault → LosesChange {A = A} world op (Err fault)
+calm-loses A world op (book.Disk cell) calm = absurd calm
+calm-loses A world op (book.Closed cell) calm = tt
+calm-loses A world op book.HistoryFull calm = tt
+calm-loses A world op book.LogFull calm = tt
+calm-loses A world op book.Memory calm = tt
+calm-loses A world op (book.Room cells events) calm = tt
+calm-loses A world op (book.Splitting number) calm = tt
+calm-loses A world op book.Deep calm = tt
+calm-loses A world op book.NoLeaf calm = tt
+calm-loses A world op (book.Stale number) calm = tt
+calm-loses A world op (book.NotOpen number) calm = tt
 
 look-calm : (A : Type 0) (h : List Entry) (fault : BookFault) → IsRefusedBy {A = A} IsMemory (call_refusal h) (Err fault) → IsCalm fault
 look-calm A h fault refused = refused-cause A IsMemory IsCalm (call_refusal h) fault (call-causes IsCalm h (λ n. tt) tt) (λ memory. subst IsCalm (sym memory) tt) refused
@@ -245,18 +277,18 @@ free-comes op fault update (inl memory) = memory-comes op fault memory
 free-comes op fault update (inr disk) = disk-comes op fault update disk
 
 fault-leaves : (A : Type 0) (w session row : ℕ) (op : Op) (old : Known) (before : List Entry) (new : Known) (fault : BookFault) → Leaves {A = A} (λ value. Call session row op) (λ h. lost.Call session row op) old before new (Err fault)
-    → CallLeaves w session row op old before new (Err (call_fault fault))
-fault-leaves A w session row op old before new (book.Disk cell) left = left
-fault-leaves A w session row op old before new (book.Closed cell) left = left
-fault-leaves A w session row op old before new book.HistoryFull left = left
-fault-leaves A w session row op old before new book.LogFull left = left
-fault-leaves A w session row op old before new book.Memory left = left
-fault-leaves A w session row op old before new (book.Room cells events) left = left
-fault-leaves A w session row op old before new (book.Splitting number) left = left
-fault-leaves A w session row op old before new book.Deep left = left
-fault-leaves A w session row op old before new book.NoLeaf left = left
-fault-leaves A w session row op old before new (book.Stale number) left = left
-fault-leaves A w session row op old before new (book.NotOpen number) left = left
+    → LosesChange {A = A} (world_after old.origin.world before) op (Err fault) → CallLeaves w session row op old before new (Err (call_fault fault))
+fault-leaves A w session row op old before new (book.Disk cell) left loses = (left, loses)
+fault-leaves A w session row op old before new (book.Closed cell) left loses = left
+fault-leaves A w session row op old before new book.HistoryFull left loses = left
+fault-leaves A w session row op old before new book.LogFull left loses = left
+fault-leaves A w session row op old before new book.Memory left loses = left
+fault-leaves A w session row op old before new (book.Room cells events) left loses = left
+fault-leaves A w session row op old before new (book.Splitting number) left loses = left
+fault-leaves A w session row op old before new book.Deep left loses = left
+fault-leaves A w session row op old before new book.NoLeaf left loses = left
+fault-leaves A w session row op old before new (book.Stale number) left loses = left
+fault-leaves A w session row op old before new (book.NotOpen number) left loses = left
 
 disk-call : (fault : BookFault) → IsDisk fault → IsCallFault fault
 disk-call (book.Disk cell) is = tt
@@ -277,31 +309,32 @@ free-call fault (inr disk) = disk-call fault disk
 
 module _ (w session row : ℕ) (op : Op) (old new : Known) where
   pub change-fault : (fault : BookFault) → Updates w session row op old new (Err fault) → IsCallFault fault
-  change-fault fault step =
+  change-fault fault updates =
+      let step = updates.step in
       let full : Bool = (step.cells == most_cells) && is_change (answer_of (world_after old.origin.world step.before) op) in
       refused-cause Done IsMemoryOrDisk IsCallFault (call_cause old.origin op step.cells step.before) fault
       (causes-first IsCallFault (call_refusal step.before) (cond full (Some book.LogFull) None) (call-causes IsCallFault step.before (λ n. tt) tt) (causes-if IsCallFault full book.LogFull tt)) (free-call fault) step.refused
 
   pub change-ok : (done : Done) → Updates w session row op old new (Ok done) → Called w session row op old new (Ok done)
-  change-ok done step = record {
-    before = step.before;
-    later = step.later;
-    alone = step.alone;
-    cells = step.cells;
-    are_cells = step.are_cells;
-    answered = answered-ok IsMemoryOrDisk op (call_cause old.origin op step.cells step.before) done (Ok done) step.refused tt;
-    leaves = (step.leaves, step.says);
+  change-ok done updates = record {
+    before = updates.step.before;
+    later = updates.step.later;
+    alone = updates.step.alone;
+    cells = updates.step.cells;
+    are_cells = updates.step.are_cells;
+    answered = answered-ok IsMemoryOrDisk op (call_cause old.origin op updates.step.cells updates.step.before) done (Ok done) updates.step.refused tt;
+    leaves = (updates.step.leaves, updates.step.says);
   }
 
   pub change-err : (fault : BookFault) → IsUpdate op → Updates w session row op old new (Err fault) → Called w session row op old new (Err (call_fault fault))
-  change-err fault update step = record {
-    before = step.before;
-    later = step.later;
-    alone = step.alone;
-    cells = step.cells;
-    are_cells = step.are_cells;
-    answered = answered-err Done IsMemoryOrDisk op (call_cause old.origin op step.cells step.before) fault (free-comes op fault update) step.refused;
-    leaves = fault-leaves Done w session row op old step.before new fault step.leaves;
+  change-err fault update updates = record {
+    before = updates.step.before;
+    later = updates.step.later;
+    alone = updates.step.alone;
+    cells = updates.step.cells;
+    are_cells = updates.step.are_cells;
+    answered = answered-err Done IsMemoryOrDisk op (call_cause old.origin op updates.step.cells updates.step.before) fault (free-comes op fault update) updates.step.refused;
+    leaves = fault-leaves Done w session row op old updates.step.before new fault updates.step.leaves updates.loses;
   }
 
 module _ {I : Type 0} (leaves : I → List Leaf) (w session row : ℕ) (op : Op) (old new : Known) (query : IsQuery op) where
@@ -320,7 +353,8 @@ module _ {I : Type 0} (leaves : I → List Leaf) (w session row : ℕ) (op : Op)
     cells = step.cells;
     are_cells = step.are_cells;
     answered = cause-is (Err (call_fault fault)) step.cells step.before (answered-err (Snapshot I) IsMemory op (call_refusal step.before) fault (memory-comes op fault) step.refused);
-    leaves = fault-leaves (Snapshot I) w session row op old step.before new fault step.leaves;
+    leaves = fault-leaves (Snapshot I) w session row op old step.before new fault step.leaves
+        (calm-loses (Snapshot I) (world_after old.origin.world step.before) op fault (look-calm (Snapshot I) step.before fault step.refused));
   }
 
   pub query-memory : (shown : Snapshot I) → Looks leaves session row op old new (Ok shown) → Called w session row op old new (Err (call.Memory (Some shown.place)))
@@ -350,7 +384,7 @@ module _ {I : Type 0} (leaves : I → List Leaf) (w session row : ℕ) (op : Op)
 -- a call leaves the pass with more seen and own
 leaves-same : (w session row : ℕ) (op : Op) (old : Known) (before : List Entry) (new : Known) (result : Result Done CallFault) → IsPrefix old.seen before → CallLeaves w session row op old before new result → SamePass old new
 leaves-same w session row op old before new (Ok done) later (is, done_is) = same-added old new before (Call session row op) later is
-leaves-same w session row op old before new (Err (call.Disk cell)) later is = same-added old new before (Fail cell (lost.Call session row op)) later is
+leaves-same w session row op old before new (Err (call.Disk cell)) later (is, change) = same-added old new before (Fail cell (lost.Call session row op)) later is
 leaves-same w session row op old before new (Err (call.Closed cell)) later is = same-seen old new before later is
 leaves-same w session row op old before new (Err call.HistoryFull) later is = same-seen old new before later is
 leaves-same w session row op old before new (Err call.LogFull) later is = same-seen old new before later is

@@ -8,6 +8,7 @@ use denote.Struct.Declared.{Declared, shape}
 use denote.Struct.Tuple.{TupleAt, type_at}
 use Rattle.index_layer.specs.declared.index.Index.{Ghosts}
 use Rattle.disk_trait.specs.declared.disk.LogDisk.{Ghosts as DriveGhosts}
+use Rattle.sessions.specs.declared.start.Start.{Ghosts as StartGhosts}
 use Rattle.commit_book.proofs.Sent.{book_send}
 use Rattle.book_lock.proofs.lock.BookLock.TheSendSync as lock
 use Rattle.book_lock.proofs.pass.Pass.TheSendSync as pass
@@ -19,25 +20,25 @@ use Rattle.sessions.specs.contracts.store.lanes.Lane as Lane
 use Rattle.sessions.specs.contracts.shared.SharedBook as Shared
 use Rattle.sessions.specs.contracts.shared.SharedBook.TheInside as inside
 
-pub shared_send : (I D : RattleType) (g : Ghosts I.Denot) (h : DriveGhosts D.Denot) → IsSend I → IsSend D → IsSend (Shared.the_row I D g h)
-shared_send I D g h i d =
-    view_send (inside.the_row I D g h) _ _ _ _ (recorded_send (inside.the_field I D g h).row _ _ (inside.the_type I D g h).to_one
-    (struct_send (shape (inside.the_type I D g h)) (book_send I D g h i d, tt)))
+pub shared_send : (I D O : RattleType) (g : Ghosts I.Denot) (h : DriveGhosts D.Denot) (k : StartGhosts O.Denot) → IsSend I → IsSend D → IsSend O → IsSend (Shared.the_row I D O g h k)
+shared_send I D O g h k i d o =
+    view_send (inside.the_row I D O g h k) _ _ _ _ (recorded_send (inside.the_field I D O g h k).row _ _ (inside.the_type I D O g h k).to_one
+    (struct_send (shape (inside.the_type I D O g h k)) (book_send I D g h i d, (search (sendable, crosses) depth 8, tt))))
 
-pub store_send : (I D : RattleType) (g : Ghosts I.Denot) (h : DriveGhosts D.Denot) → IsSend I → IsSend D → IsSend (Store.the_row I D g h)
-store_send I D g h i d = search (sendable, shared_send, lock.the_send) depth 12
+pub store_send : (I D O : RattleType) (g : Ghosts I.Denot) (h : DriveGhosts D.Denot) (k : StartGhosts O.Denot) → IsSend I → IsSend D → IsSend O → IsSend (Store.the_row I D O g h k)
+store_send I D O g h k i d o = search (sendable, shared_send, lock.the_send) depth 12
 
-pub store_sync : (I D : RattleType) (g : Ghosts I.Denot) (h : DriveGhosts D.Denot) → IsSend I → IsSend D → IsSync (Store.the_row I D g h)
-store_sync I D g h i d = search (sendable, shared_send, lock.the_sync) depth 12
+pub store_sync : (I D O : RattleType) (g : Ghosts I.Denot) (h : DriveGhosts D.Denot) (k : StartGhosts O.Denot) → IsSend I → IsSend D → IsSend O → IsSync (Store.the_row I D O g h k)
+store_sync I D O g h k i d o = search (sendable, shared_send, lock.the_sync) depth 12
 
-pub pass_send : (I D : RattleType) (g : Ghosts I.Denot) (h : DriveGhosts D.Denot) → IsSend I → IsSend D → IsSend (Pass.the_row (Shared.the_row I D g h))
-pass_send I D g h i d = search (sendable, shared_send, pass.the_send) depth 12
+pub pass_send : (I D O : RattleType) (g : Ghosts I.Denot) (h : DriveGhosts D.Denot) (k : StartGhosts O.Denot) → IsSend I → IsSend D → IsSend O → IsSend (Pass.the_row (Shared.the_row I D O g h k))
+pass_send I D O g h k i d o = search (sendable, shared_send, pass.the_send) depth 12
 
 -- each field by itself
-pub lane_send : (I D : RattleType) (g : Ghosts I.Denot) (h : DriveGhosts D.Denot) → IsSend I → IsSend D → IsSend (Lane.the_row I D g h)
-lane_send I D g h i d =
-    let p : IsSend (Pass.the_row (Shared.the_row I D g h)) = pass_send I D g h i d in
-    recorded_send (Lane.the_field I D g h).row _ _ (Lane.the_type I D g h).to_one (struct_send (shape (Lane.the_type I D g h))
+pub lane_send : (I D O : RattleType) (g : Ghosts I.Denot) (h : DriveGhosts D.Denot) (k : StartGhosts O.Denot) → IsSend I → IsSend D → IsSend O → IsSend (Lane.the_row I D O g h k)
+lane_send I D O g h k i d o =
+    let p : IsSend (Pass.the_row (Shared.the_row I D O g h k)) = pass_send I D O g h k i d o in
+    recorded_send (Lane.the_field I D O g h k).row _ _ (Lane.the_type I D O g h k).to_one (struct_send (shape (Lane.the_type I D O g h k))
     (plain_send _ _ _ _ _, (p, (search (sendable, crosses) depth 20, (search (sendable, crosses, kept.the_send) depth 20, (search (sendable, crosses) depth 20, tt))))))
 
 -- a closure over four captures

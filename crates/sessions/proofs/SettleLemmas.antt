@@ -141,19 +141,21 @@ module _ (w : ℕ) (old mid : Known) (number : ℕ) (name : List Bool) (all : ol
   free-fault : (IsFree : BookFault → Type 0) (cells : ℕ) (after : List Entry) (fault : BookFault) → end_refusal cells after ≡ None → IsRefusedBy {A = Unit {0}} IsFree (end_refusal cells after) (Err fault) → IsFree fault
   free-fault IsFree cells after fault none refused = subst (λ (o : Option BookFault). IsRefusedBy {A = Unit {0}} IsFree o (Err fault)) none refused
 
-  gives-next : (seen new : Known) (fault : BookFault) → seen.seen ≡ mid.seen → seen.origin ≡ mid.origin → seen.parts ≡ mid.parts → GivesUp number seen new fault → IsNextFault fault
+  gives-next : (seen new : Known) (fault : BookFault) → seen.seen ≡ mid.seen → seen.origin ≡ mid.origin → seen.parts ≡ mid.parts → GivesUp w number seen new fault → IsNextFault fault
   gives-next seen new fault same origin parts (inl (memory, step)) = memory-next fault memory
-  gives-next seen new fault same origin parts (inr step) =
+  gives-next seen new fault same origin parts (inr ends) =
+      let step = ends.step in
       disk-next fault (free-fault IsDisk step.cells step.before fault
       (ends-free step.cells step.before (step.alone (parts ∙ mid-parts) ∙ same) (subst (λ (o : Origin). AreCells o step.before step.cells) origin step.are_cells)) step.refused)
 
-  ran-next : (seen new : Known) (fault : BookFault) → RanOut number mid seen → GivesUp number seen new fault → IsNextFault fault
+  ran-next : (seen new : Known) (fault : BookFault) → RanOut w number mid seen → GivesUp w number seen new fault → IsNextFault fault
   ran-next seen new fault (inl same) gives = gives-next seen new fault (ap (λ (k : Known). k.seen) same) (ap (λ (k : Known). k.origin) same) (ap (λ (k : Known). k.parts) same) gives
-  ran-next seen new fault (inr step) gives =
+  ran-next seen new fault (inr ends) gives =
+      let step = ends.step in
       gives-next seen new fault (ap (λ (k : Known). k.seen) step.leaves ∙ step.alone mid-parts) (ap (λ (k : Known). k.origin) step.leaves) (ap (λ (k : Known). k.parts) step.leaves) gives
 
-  not-next : (new : Known) (fault : BookFault) → NotInstalled number mid new fault → IsNextFault fault
-  not-next new fault (inl (lasting, step)) = free-next fault (free-fault IsMemoryOrDisk step.cells step.before fault (ends-free step.cells step.before (step.alone mid-parts) step.are_cells) step.refused)
+  not-next : (new : Known) (fault : BookFault) → NotInstalled w number mid new fault → IsNextFault fault
+  not-next new fault (inl (lasting, ends)) = let step = ends.step in free-next fault (free-fault IsMemoryOrDisk step.cells step.before fault (ends-free step.cells step.before (step.alone mid-parts) step.are_cells) step.refused)
   not-next new fault (inr (seen, ran, gives)) = ran-next seen new fault ran gives
 
 -- nothing but want of room or memory, or the drive, comes in the way
@@ -174,16 +176,20 @@ room-begin w name old new cells events all unclosed full (inr (number, mid, begi
     never (inl memory) = cc memory
     never (inr disk) = disk
 
-    no-room : NotInstalled number mid new (book.Room cells events) → ⊥
-    no-room (inl (lasting, step)) =
+    no-room : NotInstalled w number mid new (book.Room cells events) → ⊥
+    no-room (inl (lasting, ends)) =
+        let step = ends.step in
         never (free-fault w old mid number name all unclosed full begins IsMemoryOrDisk step.cells step.before (book.Room cells events)
         (ends-free w old mid number name all unclosed full begins step.cells step.before (step.alone (mid-parts w old mid number name all unclosed full begins)) step.are_cells) step.refused)
     no-room (inr (seen, ran, inl (memory, step))) = cc memory
-    no-room (inr (seen, inl same, inr step)) =
+    no-room (inr (seen, inl same, inr ends)) =
+        let step = ends.step in
         free-fault w old mid number name all unclosed full begins IsDisk step.cells step.before (book.Room cells events)
         (ends-free w old mid number name all unclosed full begins step.cells step.before (step.alone (ap (λ (k : Known). k.parts) same ∙ mid-parts w old mid number name all unclosed full begins) ∙ ap (λ (k : Known). k.seen) same)
         (subst (λ (o : Origin). AreCells o step.before step.cells) (ap (λ (k : Known). k.origin) same) step.are_cells)) step.refused
-    no-room (inr (seen, inr ran, inr step)) =
+    no-room (inr (seen, inr run, inr ends)) =
+        let ran = run.step in
+        let step = ends.step in
         let parts = mid-parts w old mid number name all unclosed full begins in
         free-fault w old mid number name all unclosed full begins IsDisk step.cells step.before (book.Room cells events)
         (ends-free w old mid number name all unclosed full begins step.cells step.before (step.alone (ap (λ (k : Known). k.parts) ran.leaves ∙ parts) ∙ (ap (λ (k : Known). k.seen) ran.leaves ∙ ran.alone parts))

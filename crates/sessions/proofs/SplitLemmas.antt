@@ -1,7 +1,7 @@
 -- The steps of a split, as their passes know them.
 use Rattle.std.proofs.Common.{◌≡◌, inl, inr, ℕ, ◌+◌, Bool, true, List, [], ◌∷◌, ◌++◌, length, Option, Some, None, Result, Ok, Err, refl, sym, ap, subst, ◌∙◌}
 use mathlib.Core.List.{IsPrefix}
-use Rattle.std.specs.Prelude.{⊤, IfOk, IfErr, OnOk}
+use Rattle.std.specs.Prelude.{⊤, IsTrue, is_some, IfOk, IfErr, OnOk}
 use Rattle.std.specs.Arc.{arc_value}
 use Rattle.std.proofs.lemmas.List.{append-nil}
 use Rattle.bucket_versions.specs.declared.row.Row.{Row}
@@ -11,13 +11,13 @@ use Rattle.plain_list.specs.declared.entries.Entry.TheVariants.{Begin, Install, 
 use Rattle.plain_list.specs.declared.entries.Lost.{Lost}
 use Rattle.plain_list.specs.declared.entries.Lost.TheVariants as lost
 use Rattle.plain_list.specs.History.{world_after}
-use Rattle.plain_list.specs.State.{State, state_after}
+use Rattle.plain_list.specs.State.{State, state_after, split_name}
 use Rattle.index_layer.specs.Leaves.{Leaf}
 use Rattle.disk_trait.specs.Drive.{Drive}
 use Rattle.kept_log.specs.Journal.{cells_in}
 use Rattle.split_prepare.specs.declared.ticket.SplitTicket.{SplitTicket}
 use Rattle.commit_book.specs.BookView.{BookView}
-use Rattle.commit_book.specs.IsBook.{AreBooks}
+use Rattle.commit_book.specs.IsBook.{IsOpening, AreBooks}
 use Rattle.commit_book.specs.KeptBases.{HasBaseOf}
 use Rattle.commit_book.specs.SplitSteps.{Begins, Installs, Abandons}
 use Rattle.commit_book.specs.Refusals.{IsRefusedBy, IsDisk, IsMemoryOrDisk, LeavesRefused, begin_refusal, end_refusal, first_of, closed_refusal, room_refusal, leaf_refusal}
@@ -30,7 +30,7 @@ use Rattle.book_lock.specs.declared.origin.Origin.{Origin}
 use Rattle.book_lock.proofs.OwnSplits.{may_install, may_abandon}
 use Rattle.sessions.specs.Shared.{origin_of, start_of}
 use Rattle.sessions.specs.Steps.{IsStep, Says, has_entry, has_given}
-use Rattle.sessions.specs.Splits.{HasBegun, BeginsSplit, InstallsSplit, AbandonsSplit, GivesUp, RanOut, NotInstalled, BeginsAs, SplitEnds, IsNotSplit, IsNextSplit, SamePass, begin_cause, number_of, state_of}
+use Rattle.sessions.specs.Splits.{HasBegun, BeginsSplit, InstallsSplit, AbandonsSplit, EndsOpen, GivesUp, RanOut, NotInstalled, BeginsAs, SplitEnds, IsNotSplit, IsNextSplit, SamePass, begin_cause, number_of, state_of}
 use Rattle.sessions.specs.declared.faults.Split.{Split}
 use Rattle.sessions.specs.declared.faults.Split.TheVariants.{Installed, NotSplit}
 use Rattle.sessions.proofs.Origins.{start-of-origin}
@@ -92,12 +92,15 @@ number-refused IsFree None (Err fault) refused = refused
 number-refused IsFree (Some cause) (Ok t) refused = absurd (cc refused)
 number-refused IsFree (Some cause) (Err fault) refused = let same : fault ≡ cause = cc refused in ap (λ (f : BookFault). Err f) same
 
+-- the state that the pass knows is the book's
+pass-state : {I D : Type 0} (drive : D → Drive) (w : ℕ) (b : BookView I D) (old : Known) → origin_of drive b ≡ old.origin → IsOpening b.opening → (h : List Entry) → state_after w b.opening h ≡ state_of w old.origin h
+pass-state drive w b old origin opening h =
+    let start : start_of (origin_of drive b) ≡ b.opening = start-of-origin drive b opening in
+    (λ i. state_after w (sym start i) h) ∙ (λ i. state_after w (start_of (origin i)) h)
+
 module _ {I D : Type 0} (leaves : I → List Leaf) (drive : D → Drive) (w : ℕ) (b mid : BookView I D) (old took back : Known) (name : List Bool) (was : WasTaken drive b old took) (books : AreBooks leaves drive w b mid) where
-  -- the state that the pass knows is the book's
   book-state : (h : List Entry) → state_after w b.opening h ≡ state_of w old.origin h
-  book-state h =
-      let start : start_of (origin_of drive b) ≡ b.opening = start-of-origin drive b books.before.opening in
-      (λ i. state_after w (sym start i) h) ∙ (λ i. state_after w (start_of (was.origin i)) h)
+  book-state = pass-state drive w b old was.origin books.before.opening
 
   begin-added : (r : Result SplitTicket BookFault) → IfOk r (λ t. Begins leaves w b mid name t) → Says (λ (number : ℕ). mid.entries ≡ b.entries ++ Begin number name ∷ []) (number_of r)
   begin-added (Ok t) ok = ok.entries
@@ -148,10 +151,18 @@ module _ {I D : Type 0} (leaves : I → List Leaf) (drive : D → Drive) (w : �
   end-step IsFree cause e step (Ok done) same refused added left = record { refused = subst (λ (o : Option BookFault). IsRefusedBy {A = Unit {0}} IsFree o (Ok done)) same refused; added = added; left = left }
   end-step IsFree cause e step (Err fault) same refused added left = record { refused = subst (λ (o : Option BookFault). IsRefusedBy {A = Unit {0}} IsFree o (Err fault)) same refused; added = tt; left = left }
 
-  pub ended : (IsFree : BookFault → Type 0) (e : Entry) (step : Lost) (r : Result (Unit {0}) BookFault) → BookStep drive IsFree (end_refusal (cells_in b.log) b.entries) (λ (done : Unit {0}). e) step b mid r
-      → back ≡ has_given took (has_entry r) mid.entries → IsStep IsFree end_refusal (λ (done : Unit {0}). e) (λ (h : List Entry). step) (λ (h : List Entry) (done : Unit {0}). ⊤) old back r
-  ended IsFree e step r it given =
-      stepped leaves drive w IsFree end_refusal (λ (done : Unit {0}). e) (λ (h : List Entry). step) (λ (h : List Entry) (done : Unit {0}). ⊤) b mid old took back r books.before was it (none-said r) given
+  -- the split is open in the history that the pass has seen
+  open-there : (number : ℕ) (name : List Bool) → split_name (state_after w b.opening b.entries).splits number ≡ Some name → IsTrue (is_some (split_name (state_of w old.origin took.seen).splits number))
+  open-there number name there =
+      let state : state_after w b.opening b.entries ≡ state_of w old.origin took.seen = pass-state drive w b old was.origin books.before.opening b.entries ∙ ap (state_of w old.origin) was.entries in
+      subst (λ (s : State). IsTrue (is_some (split_name s.splits number))) state (subst (λ (o : Option (List Bool)). IsTrue (is_some o)) (sym there) tt)
+
+  pub ended : (IsFree : BookFault → Type 0) (number : ℕ) (name : List Bool) (e : Entry) (step : Lost) (r : Result (Unit {0}) BookFault) → split_name (state_after w b.opening b.entries).splits number ≡ Some name
+      → BookStep drive IsFree (end_refusal (cells_in b.log) b.entries) (λ (done : Unit {0}). e) step b mid r → back ≡ has_given took (has_entry r) mid.entries → EndsOpen w number IsFree e step old back r
+  ended IsFree number name e step r there it given = record {
+    step = stepped leaves drive w IsFree end_refusal (λ (done : Unit {0}). e) (λ (h : List Entry). step) (λ (h : List Entry) (done : Unit {0}). ⊤) b mid old took back r books.before was it (none-said r) given;
+    is_open = open-there number name there;
+  }
 
 pub installed-added : {I D : Type 0} (leaves : I → List Leaf) (w : ℕ) (b mid : BookView I D) (number : ℕ) (name : List Bool) (r : Result (Unit {0}) BookFault) → OnOk r (Installs leaves w b mid number name) → OnOk r (mid.entries ≡ b.entries ++ Install number ∷ [])
 installed-added leaves w b mid number name (Ok done) ok = ok.entries
@@ -166,38 +177,38 @@ begins-same : (w : ℕ) (name : List Bool) (old new : Known) (r : Result ℕ Boo
 begins-same w name old new r step =
     step-same IsMemoryOrDisk (begin_cause w old.origin name) (λ (number : ℕ). Begin number name) (λ (h : List Entry). lost.Begin ((state_of w old.origin h).begun + 1) name) (IsNextSplit w old.origin) old new r step
 
-pub installs-same : (number : ℕ) (old new : Known) (r : Result (Unit {0}) BookFault) → InstallsSplit number old new r → SamePass old new
-installs-same number old new r step = step-same IsMemoryOrDisk end_refusal (λ (done : Unit {0}). Install number) (λ (h : List Entry). lost.Install number) (λ (h : List Entry) (done : Unit {0}). ⊤) old new r step
+pub installs-same : (w number : ℕ) (old new : Known) (r : Result (Unit {0}) BookFault) → InstallsSplit w number old new r → SamePass old new
+installs-same w number old new r ends = step-same IsMemoryOrDisk end_refusal (λ (done : Unit {0}). Install number) (λ (h : List Entry). lost.Install number) (λ (h : List Entry) (done : Unit {0}). ⊤) old new r ends.step
 
-abandons-same : (number : ℕ) (old new : Known) (r : Result (Unit {0}) BookFault) → AbandonsSplit number old new r → SamePass old new
-abandons-same number old new r step = step-same IsDisk end_refusal (λ (done : Unit {0}). Abandon number) (λ (h : List Entry). lost.Abandon number) (λ (h : List Entry) (done : Unit {0}). ⊤) old new r step
+abandons-same : (w number : ℕ) (old new : Known) (r : Result (Unit {0}) BookFault) → AbandonsSplit w number old new r → SamePass old new
+abandons-same w number old new r ends = step-same IsDisk end_refusal (λ (done : Unit {0}). Abandon number) (λ (h : List Entry). lost.Abandon number) (λ (h : List Entry) (done : Unit {0}). ⊤) old new r ends.step
 
-gives-same : (number : ℕ) (old new : Known) (fault : BookFault) → GivesUp number old new fault → SamePass old new
-gives-same number old new fault (inl (memory, step)) = abandons-same number old new (Ok tt) step
-gives-same number old new fault (inr step) = abandons-same number old new (Err fault) step
+gives-same : (w number : ℕ) (old new : Known) (fault : BookFault) → GivesUp w number old new fault → SamePass old new
+gives-same w number old new fault (inl (memory, step)) = abandons-same w number old new (Ok tt) step
+gives-same w number old new fault (inr step) = abandons-same w number old new (Err fault) step
 
 pub same-none : (pass : Known) → SamePass pass pass
 same-none pass = (([], append-nil pass.seen), refl)
 
-ran-same : (number : ℕ) (mid seen : Known) → RanOut number mid seen → SamePass mid seen
-ran-same number mid seen (inl same) = subst (SamePass mid) (sym same) (same-none mid)
-ran-same number mid seen (inr step) = installs-same number mid seen (Err book.Memory) step
+ran-same : (w number : ℕ) (mid seen : Known) → RanOut w number mid seen → SamePass mid seen
+ran-same w number mid seen (inl same) = subst (SamePass mid) (sym same) (same-none mid)
+ran-same w number mid seen (inr step) = installs-same w number mid seen (Err book.Memory) step
 
-not-same : (number : ℕ) (mid new : Known) (fault : BookFault) → NotInstalled number mid new fault → SamePass mid new
-not-same number mid new fault (inl (lasting, step)) = installs-same number mid new (Err fault) step
-not-same number mid new fault (inr (seen, ran, gives)) = same-later mid seen new (ran-same number mid seen ran) (gives-same number seen new fault gives)
+not-same : (w number : ℕ) (mid new : Known) (fault : BookFault) → NotInstalled w number mid new fault → SamePass mid new
+not-same w number mid new fault (inl (lasting, step)) = installs-same w number mid new (Err fault) step
+not-same w number mid new fault (inr (seen, ran, gives)) = same-later mid seen new (ran-same w number mid seen ran) (gives-same w number seen new fault gives)
 
 pub split-same : (w : ℕ) (name : List Bool) (old new : Known) (split : Split) → SplitEnds w name old new split → SamePass old new
-split-same w name old new (Installed number) (mid, begins, step) = same-later old mid new (begins-same w name old mid (Ok number) begins) (installs-same number mid new (Ok tt) step)
+split-same w name old new (Installed number) (mid, begins, step) = same-later old mid new (begins-same w name old mid (Ok number) begins) (installs-same w number mid new (Ok tt) step)
 split-same w name old new (NotSplit fault) (inl step) = begins-same w name old new (Err fault) step
-split-same w name old new (NotSplit fault) (inr (number, mid, begins, not)) = same-later old mid new (begins-same w name old mid (Ok number) begins) (not-same number mid new fault not)
+split-same w name old new (NotSplit fault) (inr (number, mid, begins, not)) = same-later old mid new (begins-same w name old mid (Ok number) begins) (not-same w number mid new fault not)
 
 -- a split that was begun is given up
-pub given-up : (w number : ℕ) (name : List Bool) (old mid seen new : Known) (split : Split) → BeginsAs w name old mid number → RanOut number mid seen → IsNotSplit (GivesUp number seen new) split → SplitEnds w name old new split
+pub given-up : (w number : ℕ) (name : List Bool) (old mid seen new : Known) (split : Split) → BeginsAs w name old mid number → RanOut w number mid seen → IsNotSplit (GivesUp w number seen new) split → SplitEnds w name old new split
 given-up w number name old mid seen new (Installed n) begins ran not = absurd not
 given-up w number name old mid seen new (NotSplit fault) begins ran not = inr (number, mid, begins, inr (seen, ran, not))
 
 -- the pass that has begun a split lost nothing where memory ran out
-pub ran-later : (number : ℕ) (name : List Bool) (base : List Row) (mid seen : Known) → InstallsSplit number mid seen (Err book.Memory) → HasBegun mid number name base → HasBegun seen number name base
-ran-later number name base mid seen step begun =
-    begun-later mid seen number name base (installs-same number mid seen (Err book.Memory) step).0 (ap (λ (k : Known). k.own) step.leaves) (ap (λ (k : Known). k.origin) step.leaves) begun
+pub ran-later : (w number : ℕ) (name : List Bool) (base : List Row) (mid seen : Known) → InstallsSplit w number mid seen (Err book.Memory) → HasBegun mid number name base → HasBegun seen number name base
+ran-later w number name base mid seen ends begun =
+    begun-later mid seen number name base (installs-same w number mid seen (Err book.Memory) ends).0 (ap (λ (k : Known). k.own) ends.step.leaves) (ap (λ (k : Known). k.origin) ends.step.leaves) begun

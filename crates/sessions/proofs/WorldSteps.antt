@@ -1,5 +1,5 @@
 -- The objects behind a lock are a world.
-use Rattle.std.proofs.Common.{◌≡◌, ℕ, Bool, List, [], ◌∷◌, ◌++◌, sym, subst, ◌∙◌}
+use Rattle.std.proofs.Common.{◌≡◌, ℕ, Bool, List, [], ◌∷◌, ◌++◌, Option, Some, None, sym, subst, ◌∙◌}
 use Rattle.std.specs.Prelude.{⊤, Ok, Err, Result}
 use Rattle.zorder.specs.declared.points.Placed.{Placed}
 use Rattle.plain_list.specs.declared.ops.Op.{Op}
@@ -26,7 +26,10 @@ use Rattle.commit_book.specs.Answers.{Notes, Replies, IsQuery}
 use Rattle.commit_book.proofs.BookSteps.{query_keeps}
 use Rattle.commit_book.specs.declared.book.Done.{Done}
 use Rattle.commit_book.specs.declared.book.Snapshot.{Snapshot}
-use Rattle.sessions.specs.Shared.{HasWorld}
+use Rattle.kept_log.specs.KeptView.{KeptView}
+use Rattle.kept_log.specs.Journal.{IsSinceIn}
+use Rattle.commit_book.specs.IsBook.{SameOrigin}
+use Rattle.sessions.specs.Shared.{HasWorld, StartsAs, IsShared}
 
 -- an entry whose operation fits
 abbrev pub EntryFits : Entry → Type 0
@@ -97,3 +100,14 @@ snapshot_stands leaves names old new session row op (Ok s) query opening ok inde
     (λ i. world_after (opening i).world (ok.entries i)) ∙ world_after-append old.opening.world old.entries (Call session row op ∷ []) ∙ query_keeps op (world_after old.opening.world old.entries) query in
     subst (λ (w : List Placed). Stands (leaves s.index) w names) world index
 snapshot_stands leaves names old new session row op (Err fault) query opening ok index = tt
+
+-- no call changes over which drive the log was opened
+starts_still : {D : Type 0} (drive : D → Drive) (unlogged : Type 0) (Is : Drive → Type 0) (old new : Option (KeptView D)) → IsSinceIn old new → StartsAs drive unlogged Is old → StartsAs drive unlogged Is new
+starts_still drive unlogged Is None None since starts = starts
+starts_still drive unlogged Is (Some old) (Some new) since starts = subst (λ (d : _). Is (drive d)) (sym since.start) starts
+starts_still drive unlogged Is None (Some new) since starts = absurd since
+starts_still drive unlogged Is (Some old) None since starts = absurd since
+
+-- so it is as every book behind a lock
+pub shared_still : {I D : Type 0} (drive : D → Drive) (unlogged : Type 0) (Is : Drive → Type 0) (old new : BookView I D) → SameOrigin old new → StartsAs drive unlogged Is old.log → HasWorld new → IsShared drive unlogged Is new
+shared_still drive unlogged Is old new same starts has = record { has = has; start = starts_still drive unlogged Is old.log new.log same.log starts }

@@ -1,6 +1,7 @@
 -- What a call leaves of its pass, and why it is refused.
-use Rattle.std.specs.Prelude.{◌≡◌, ℕ, Bool, ◌==◌, ◌&&◌, List, if◌then◌else◌, Option, Some, None, Result, Ok, Err, ⊤}
+use Rattle.std.specs.Prelude.{◌≡◌, ℕ, Bool, true, ◌==◌, ◌&&◌, List, if◌then◌else◌, Option, Some, None, Result, Ok, Err, ⊤}
 use mathlib.Core.List.{IsPrefix}
+use Rattle.zorder.specs.declared.points.Placed.{Placed}
 use Rattle.plain_list.specs.declared.ops.Op.{Op}
 use Rattle.plain_list.specs.declared.ops.Op.TheVariants.{Put, Move, Remove, Find, Within, Near}
 use Rattle.plain_list.specs.declared.ops.Answer.{Answer}
@@ -99,11 +100,11 @@ pub record HasDone (w : ℕ) (old new : Known) (op : Op) (before : List Entry) (
   pub replies : Replies old new op before done.place done.answer
   pub full_is : done.full ≡ told_full w op new
 
--- what a call leaves: its entry, or the failure of its append, is the last that was seen, and own
+-- what a call leaves: its entry, or the failure of its append, is the last that was seen, and own; only the append of a change fails
 abbrev pub CallLeaves : ℕ → ℕ → ℕ → Op → Known → List Entry → Known → Result Done CallFault → Type 0
 CallLeaves w session row op old before new (Ok done) = (new ≡ has_added old before (Call session row op)) × HasDone w old new op before done
 CallLeaves w session row op old before new (Err (Closed cell)) = new ≡ has_seen old before
-CallLeaves w session row op old before new (Err (Disk cell)) = new ≡ has_added old before (Fail cell (lost.Call session row op))
+CallLeaves w session row op old before new (Err (Disk cell)) = (new ≡ has_added old before (Fail cell (lost.Call session row op))) × (is_change (answer_of (world_after old.origin.world before) op) ≡ true)
 CallLeaves w session row op old before new (Err HistoryFull) = new ≡ has_seen old before
 CallLeaves w session row op old before new (Err LogFull) = new ≡ has_seen old before
 CallLeaves w session row op old before new (Err (Memory None)) = new ≡ has_seen old before
@@ -119,10 +120,15 @@ pub record Called (w session row : ℕ) (op : Op) (old new : Known) (result : Re
   pub answered : IsAnswered op (call_cause old.origin op cells before) result
   pub leaves : CallLeaves w session row op old before new result
 
+-- the append that failed was that of a change
+abbrev pub LosesChange : {A : Type 0} → List Placed → Op → Result A BookFault → Type 0
+LosesChange world op (Err (book.Disk cell)) = is_change (answer_of world op) ≡ true
+LosesChange world op _ = ⊤
+
 -- a change or a find under the lock
-abbrev pub Updates : ℕ → ℕ → ℕ → Op → Known → Known → Result Done BookFault → Type 0
-Updates w session row op old new result =
-    IsStep IsMemoryOrDisk (call_cause old.origin op) (λ done. Call session row op) (λ before. lost.Call session row op) (HasDone w old new op) old new result
+pub record Updates (w session row : ℕ) (op : Op) (old new : Known) (result : Result Done BookFault) : Type 0 where
+  pub step : IsStep IsMemoryOrDisk (call_cause old.origin op) (λ done. Call session row op) (λ before. lost.Call session row op) (HasDone w old new op) old new result
+  pub loses : LosesChange (world_after old.origin.world step.before) op result
 
 -- the leaves of an index that stand for a world
 pub record Shows (leaves : List Leaf) (old new : Known) (before : List Entry) (place : ℕ) : Type 0 where

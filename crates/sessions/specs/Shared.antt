@@ -1,5 +1,5 @@
 -- A book behind a lock: what holds of it, and what it began from.
-use Rattle.std.specs.Prelude.{◌≡◌, ℕ, Bool, List, [], Option, Some, None, Result, Ok, Err}
+use Rattle.std.specs.Prelude.{◌≡◌, ℕ, Bool, List, [], Option, Some, None, Result, Ok, Err, ⊤}
 use Rattle.plain_list.specs.World.{IsWorld}
 use Rattle.plain_list.specs.State.{State, state_after}
 use Rattle.plain_list.specs.Size.{full_leaf}
@@ -14,6 +14,16 @@ use Rattle.book_lock.specs.declared.origin.Origin.{Origin}
 -- its objects are a world
 pub record HasWorld {I D : Type 0} (b : BookView I D) : Type 0 where
   pub world : IsWorld (world_after b.opening.world b.entries)
+
+-- this is known of the drive over which the log was opened, or where there is none
+abbrev pub StartsAs : {D : Type 0} → (D → Drive) → Type 0 → (Drive → Type 0) → Option (KeptView D) → Type 0
+StartsAs drive unlogged Is None = unlogged
+StartsAs drive unlogged Is (Some log) = Is (drive log.start)
+
+-- what holds of each book behind a lock
+pub record IsShared {I D : Type 0} (drive : D → Drive) (unlogged : Type 0) (Is : Drive → Type 0) (b : BookView I D) : Type 0 where
+  pub has : HasWorld b
+  pub start : StartsAs drive unlogged Is b.log
 
 -- the number of cells of its log at the opening, and of that drive the bytes, the moment and the count of faults
 abbrev pub first_in : {D : Type 0} → Option (KeptView D) → ℕ

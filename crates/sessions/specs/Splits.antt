@@ -1,13 +1,14 @@
 -- What a split leaves of its pass, and why one isn't made.
-use Rattle.std.specs.Prelude.{◌≡◌, ◌⊎◌, ℕ, ◌+◌, Bool, List, [], ◌∷◌, ◌++◌, length, Option, Result, Ok, Err, ⊤}
+use Rattle.std.specs.Prelude.{◌≡◌, ◌⊎◌, ℕ, ◌+◌, Bool, List, [], ◌∷◌, ◌++◌, length, Option, is_some, Result, Ok, Err, IsTrue, ⊤}
 use mathlib.Core.List.{IsPrefix}
 use Rattle.bucket_versions.specs.declared.row.Row.{Row}
 use Rattle.bucket_versions.specs.Rows.{as_base}
 use Rattle.plain_list.specs.declared.entries.Entry.{Entry}
 use Rattle.plain_list.specs.declared.entries.Entry.TheVariants.{Begin, Install, Abandon}
+use Rattle.plain_list.specs.declared.entries.Lost.{Lost}
 use Rattle.plain_list.specs.declared.entries.Lost.TheVariants as lost
 use Rattle.plain_list.specs.History.{world_after}
-use Rattle.plain_list.specs.State.{State, state_after}
+use Rattle.plain_list.specs.State.{State, state_after, split_name}
 use Rattle.book_lock.specs.Pass.{Known}
 use Rattle.book_lock.specs.Own.{IsBelow}
 use Rattle.book_lock.specs.declared.origin.Origin.{Origin}
@@ -44,13 +45,18 @@ abbrev pub BeginsSplit : ℕ → List Bool → Known → Known → Result ℕ Bo
 BeginsSplit w name old new result =
     IsStep IsMemoryOrDisk (begin_cause w old.origin name) (λ number. Begin number name) (λ before. lost.Begin ((state_of w old.origin before).begun + 1) name) (IsNextSplit w old.origin) old new result
 
--- the installation of a split that the pass has begun: it is refused for no cause of its own
-abbrev pub InstallsSplit : ℕ → Known → Known → Result (Unit {0}) BookFault → Type 0
-InstallsSplit number old new result = IsStep IsMemoryOrDisk end_refusal (λ done. Install number) (λ before. lost.Install number) (λ before done. ⊤) old new result
+-- a step that ends a split, which is open in the history that was seen under the lock: it is refused for no cause of its own
+pub record EndsOpen (w number : ℕ) (IsFree : BookFault → Type 0) (e : Entry) (left : Lost) (old new : Known) (result : Result (Unit {0}) BookFault) : Type 0 where
+  pub step : IsStep IsFree end_refusal (λ done. e) (λ before. left) (λ before done. ⊤) old new result
+  pub is_open : IsTrue (is_some (split_name (state_of w old.origin step.before).splits number))
+
+-- the installation of a split that the pass has begun
+abbrev pub InstallsSplit : ℕ → ℕ → Known → Known → Result (Unit {0}) BookFault → Type 0
+InstallsSplit w number old new result = EndsOpen w number IsMemoryOrDisk (Install number) (lost.Install number) old new result
 
 -- its abandonment, which takes no memory
-abbrev pub AbandonsSplit : ℕ → Known → Known → Result (Unit {0}) BookFault → Type 0
-AbandonsSplit number old new result = IsStep IsDisk end_refusal (λ done. Abandon number) (λ before. lost.Abandon number) (λ before done. ⊤) old new result
+abbrev pub AbandonsSplit : ℕ → ℕ → Known → Known → Result (Unit {0}) BookFault → Type 0
+AbandonsSplit w number old new result = EndsOpen w number IsDisk (Abandon number) (lost.Abandon number) old new result
 
 -- The pass owns the begin of this split, as the last of its own entries, and these were the rows of the leaf then.
 pub record HasBegun (pass : Known) (number : ℕ) (name : List Bool) (base : List Row) : Type 0 where
@@ -76,16 +82,16 @@ IsLasting (book.Stale number) = ⊤
 IsLasting (book.NotOpen number) = ⊤
 
 -- a split is given up for want of memory: it is abandoned, or that is refused
-abbrev pub GivesUp : ℕ → Known → Known → BookFault → Type 0
-GivesUp number old new fault = ((fault ≡ book.Memory) × AbandonsSplit number old new (Ok tt)) ⊎ AbandonsSplit number old new (Err fault)
+abbrev pub GivesUp : ℕ → ℕ → Known → Known → BookFault → Type 0
+GivesUp w number old new fault = ((fault ≡ book.Memory) × AbandonsSplit w number old new (Ok tt)) ⊎ AbandonsSplit w number old new (Err fault)
 
 -- memory ran out: in the preparation, or in the installation
-abbrev pub RanOut : ℕ → Known → Known → Type 0
-RanOut number mid seen = (seen ≡ mid) ⊎ InstallsSplit number mid seen (Err book.Memory)
+abbrev pub RanOut : ℕ → ℕ → Known → Known → Type 0
+RanOut w number mid seen = (seen ≡ mid) ⊎ InstallsSplit w number mid seen (Err book.Memory)
 
 -- a split that was begun isn't installed: that is refused, or memory ran out and it is given up
-abbrev pub NotInstalled : ℕ → Known → Known → BookFault → Type 0
-NotInstalled number mid new fault = (IsLasting fault × InstallsSplit number mid new (Err fault)) ⊎ ((seen : Known) × RanOut number mid seen × GivesUp number seen new fault)
+abbrev pub NotInstalled : ℕ → ℕ → Known → Known → BookFault → Type 0
+NotInstalled w number mid new fault = (IsLasting fault × InstallsSplit w number mid new (Err fault)) ⊎ ((seen : Known) × RanOut w number mid seen × GivesUp w number seen new fault)
 
 -- a split that was begun
 abbrev pub BeginsAs : ℕ → List Bool → Known → Known → ℕ → Type 0
@@ -93,9 +99,9 @@ BeginsAs w name old mid number = BeginsSplit w name old mid (Ok number)
 
 -- how a split ends, or why it doesn't begin
 abbrev pub SplitEnds : ℕ → List Bool → Known → Known → Split → Type 0
-SplitEnds w name old new (Installed number) = (mid : Known) × BeginsAs w name old mid number × InstallsSplit number mid new (Ok tt)
+SplitEnds w name old new (Installed number) = (mid : Known) × BeginsAs w name old mid number × InstallsSplit w number mid new (Ok tt)
 SplitEnds w name old new (NotSplit fault) =
-    BeginsSplit w name old new (Err fault) ⊎ ((number : ℕ) × (mid : Known) × BeginsAs w name old mid number × NotInstalled number mid new fault)
+    BeginsSplit w name old new (Err fault) ⊎ ((number : ℕ) × (mid : Known) × BeginsAs w name old mid number × NotInstalled w number mid new fault)
 
 -- it isn't split, for such a fault
 abbrev pub IsNotSplit : (BookFault → Type 0) → Split → Type 0

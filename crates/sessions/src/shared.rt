@@ -11,36 +11,38 @@ ghost use Rattle.commit_book.specs.IsBook.{IsBook, AreBooks};
 ghost use Rattle.commit_book.specs.Refusals.{IsRefusedBy, IsDisk, IsMemory, IsMemoryOrDisk, LeavesRefused, call_refusal, update_refusal, begin_refusal, install_refusal, abandon_refusal};
 ghost use Rattle.commit_book.specs.Answers.{IsUpdate, IsQuery, Notes, Replies};
 ghost use Rattle.commit_book.specs.SplitSteps.{Begins, CanPrepare, Installs, Abandons};
-ghost use Rattle.sessions.specs.Shared.{HasWorld, TellsFull};
+ghost use Rattle.sessions.specs.Shared.{HasWorld, StartsAs, TellsFull};
 
+use crate::start::Start;
 use book_lock::Held;
 use commit_book::{Book, BookFault, Done, Snapshot};
 use disk_trait::LogDisk;
 use index_layer::Index;
 use plain_list::Op;
 use split_prepare::{Prepared, SplitTicket};
-use std::marker::Model;
+use std::marker::{Model, PhantomData};
 use zorder::{Name, Point, Region, coordinates_fit};
 
-/// A book whose objects are a world.
+/// A book whose objects are a world, and whose log was opened over a drive of which this is known.
 #[derive(Drop)]
-pub struct SharedBook<I: Index, D: LogDisk> {
+pub struct SharedBook<I: Index, D: LogDisk, O: Start> {
     book: Book<I, D>,
+    start: PhantomData<O>,
 }
 
-impl<I: Index, D: LogDisk> Model for SharedBook<I, D> {
+impl<I: Index, D: LogDisk, O: Start> Model for SharedBook<I, D, O> {
     ghost use Rattle.commit_book.specs.BookView.{BookView};
 
     ghost Value = { BookView I D };
 
-    ghost use Rattle.sessions.specs.Shared.{HasWorld};
+    ghost use Rattle.sessions.specs.Shared.{IsShared};
 
     ghost view = { λ s. s.book };
 
-    ghost invariant = { λ s. HasWorld s.book };
+    ghost invariant = { λ s. IsShared D.drive O.unlogged O.is s.book };
 }
 
-impl<I: Index, D: LogDisk> Held for SharedBook<I, D> {
+impl<I: Index, D: LogDisk, O: Start> Held for SharedBook<I, D, O> {
     ghost use Rattle.sessions.specs.Shared.{origin_of};
 
     ghost entries = { λ s. s.entries };
@@ -52,16 +54,21 @@ impl<I: Index, D: LogDisk> Held for SharedBook<I, D> {
     }
 }
 
-impl<I: Index, D: LogDisk> SharedBook<I, D> {
-    pub(crate) fn of(book: Book<I, D>) -> SharedBook<I, D>
-        requires { IsWorld (world_after book.opening.world book.entries) }
+impl<I: Index, D: LogDisk, O: Start> SharedBook<I, D, O> {
+    pub(crate) fn of(book: Book<I, D>) -> SharedBook<I, D, O>
+        requires world { IsWorld (world_after book.opening.world book.entries) }
+        requires start { StartsAs D.drive O.unlogged O.is book.log }
         ensures { result ≡ book }
     {
-        SharedBook { book }
+        SharedBook {
+            book,
+            start: PhantomData,
+        }
     }
 
     pub(crate) fn into_book(self) -> Book<I, D>
-        ensures { result ≡ self }
+        ensures book { result ≡ self }
+        ensures start { StartsAs D.drive O.unlogged O.is result.log }
     {
         self.book
     }
@@ -109,7 +116,7 @@ impl<I: Index, D: LogDisk> SharedBook<I, D> {
     }
 }
 
-impl<I: Index, D: LogDisk> SharedBook<I, D> {
+impl<I: Index, D: LogDisk, O: Start> SharedBook<I, D, O> {
     /// As of the book.
     pub(crate) fn begin(&mut self, name: &Name) -> Result<SplitTicket, BookFault>
         ensures ok { IfOk result (λ t. Begins I.leaves I.WIDTH self.old self.new name.now t) }

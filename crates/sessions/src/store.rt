@@ -1,7 +1,7 @@
 //! A book behind a lock, and calls on it.
 ghost use Rattle.std.specs.Prelude.{◌≡◌, [], true, false, IfOk, IfErr};
 ghost use Rattle.plain_list.specs.World.{IsWorld};
-ghost use Rattle.sessions.specs.Shared.{origin_of};
+ghost use Rattle.sessions.specs.Shared.{origin_of, StartsAs};
 ghost use Rattle.sessions.specs.Steps.{MayGive, has_given};
 
 mod calls;
@@ -11,6 +11,7 @@ mod settling;
 mod splits;
 
 use crate::shared::SharedBook;
+use crate::start::Start;
 use book_lock::{BookLock, Pass};
 use commit_book::Book;
 use disk_trait::LogDisk;
@@ -20,11 +21,11 @@ use std::alloc::Global;
 use std::marker::Model;
 
 /// A book for many threads.
-pub struct Store<I: Index, D: LogDisk> {
-    lock: BookLock<SharedBook<I, D>>,
+pub struct Store<I: Index, D: LogDisk, O: Start> {
+    lock: BookLock<SharedBook<I, D, O>>,
 }
 
-impl<I: Index, D: LogDisk> Model for Store<I, D> {
+impl<I: Index, D: LogDisk, O: Start> Model for Store<I, D, O> {
     ghost use Rattle.atomic_table.specs.Seated.{TableId};
 
     ghost Value = { TableId };
@@ -32,14 +33,15 @@ impl<I: Index, D: LogDisk> Model for Store<I, D> {
     ghost view = { λ s. s.lock };
 }
 
-impl<I: Index, D: LogDisk> Store<I, D> {
+impl<I: Index, D: LogDisk, O: Start> Store<I, D, O> {
     /// A store of a book without entries, and the pass that has all parts of it. For want of memory the book comes back.
     pub fn new(
         alloc: Global,
         book: Book<I, D>,
-    ) -> Result<(Store<I, D>, Pass<SharedBook<I, D>>), Book<I, D>>
+    ) -> Result<(Store<I, D, O>, Pass<SharedBook<I, D, O>>), Book<I, D>>
         requires entries { book.entries ≡ [] }
         requires world { IsWorld book.opening.world }
+        requires start { StartsAs D.drive O.unlogged O.is book.log }
         ensures store { IfOk result (λ r. r.1 ≡ record { lock = r.0; seen = []; own = []; origin = origin_of D.drive book; parts = 65536; holds = false }) }
         ensures back { IfErr result (λ b. b ≡ book) }
     {
@@ -50,7 +52,7 @@ impl<I: Index, D: LogDisk> Store<I, D> {
     }
 
     // Gives a book back that was taken. Where a step has added an entry, that is the next of the history.
-    fn give(&self, pass: &mut Pass<SharedBook<I, D>>, book: SharedBook<I, D>, grown: bool)
+    fn give(&self, pass: &mut Pass<SharedBook<I, D, O>>, book: SharedBook<I, D, O>, grown: bool)
         requires lock { pass.old.lock ≡ self.now }
         requires on { pass.old.holds ≡ true }
         requires origin { origin_of D.drive book ≡ pass.old.origin }

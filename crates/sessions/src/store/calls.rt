@@ -9,6 +9,7 @@ use super::Store;
 use crate::faults::{CallFault, call_fault, has_entry};
 use crate::queries::ask;
 use crate::shared::SharedBook;
+use crate::start::Start;
 use book_lock::Pass;
 use commit_book::{BookFault, Done, Snapshot};
 use disk_trait::LogDisk;
@@ -20,12 +21,12 @@ use std::sync::Wait;
 use std::sync::ledger::Ledger;
 use step_count::Steps;
 
-impl<I: Index, D: LogDisk> Store<I, D> {
+impl<I: Index, D: LogDisk, O: Start> Store<I, D, O> {
     // Answers a change or a find under the lock.
     fn update<R: Wait>(
         &self,
         rt: &R,
-        pass: &mut Pass<SharedBook<I, D>>,
+        pass: &mut Pass<SharedBook<I, D, O>>,
         session: u8,
         row: u32,
         op: &Op,
@@ -46,7 +47,7 @@ impl<I: Index, D: LogDisk> Store<I, D> {
     fn look<R: Wait>(
         &self,
         rt: &R,
-        pass: &mut Pass<SharedBook<I, D>>,
+        pass: &mut Pass<SharedBook<I, D, O>>,
         session: u8,
         row: u32,
         op: &Op,
@@ -68,7 +69,7 @@ impl<I: Index, D: LogDisk> Store<I, D> {
         &self,
         rt: &R,
         alloc: Global,
-        pass: &mut Pass<SharedBook<I, D>>,
+        pass: &mut Pass<SharedBook<I, D, O>>,
         session: u8,
         row: u32,
         op: &Op,
@@ -101,7 +102,7 @@ impl<I: Index, D: LogDisk> Store<I, D> {
     fn change<R: Wait>(
         &self,
         rt: &R,
-        pass: &mut Pass<SharedBook<I, D>>,
+        pass: &mut Pass<SharedBook<I, D, O>>,
         session: u8,
         row: u32,
         op: &Op,
@@ -122,7 +123,7 @@ impl<I: Index, D: LogDisk> Store<I, D> {
         &self,
         rt: &R,
         alloc: Global,
-        pass: &mut Pass<SharedBook<I, D>>,
+        pass: &mut Pass<SharedBook<I, D, O>>,
         session: u8,
         row: u32,
         op: &Op,
@@ -150,7 +151,7 @@ impl<I: Index, D: LogDisk> Store<I, D> {
         &self,
         rt: &R,
         alloc: Global,
-        pass: &mut Pass<SharedBook<I, D>>,
+        pass: &mut Pass<SharedBook<I, D, O>>,
         session: u8,
         row: u32,
         op: &Op,

@@ -7,6 +7,7 @@ ghost use Rattle.sessions.specs.Splits.{SamePass};
 use super::Store;
 use crate::faults::{CallFault, Split};
 use crate::shared::SharedBook;
+use crate::start::Start;
 use book_lock::Pass;
 use disk_trait::LogDisk;
 use index_layer::Index;
@@ -33,9 +34,9 @@ pub struct KeptRow {
 }
 
 /// The rows of one session.
-pub struct Lane<I: Index, D: LogDisk> {
+pub struct Lane<I: Index, D: LogDisk, O: Start> {
     pub session: u8,
-    pub pass: Pass<SharedBook<I, D>>,
+    pub pass: Pass<SharedBook<I, D, O>>,
     /// The number of each row, and what it asks.
     pub rows: Vec<(u32, Op)>,
     /// The rows that were answered, from the first on.
@@ -44,13 +45,13 @@ pub struct Lane<I: Index, D: LogDisk> {
     pub fault: Option<CallFault>,
 }
 
-impl<I: Index, D: LogDisk> Store<I, D> {
+impl<I: Index, D: LogDisk, O: Start> Store<I, D, O> {
     // Tries the split of the leaf that a call has told.
     fn try_split<R: Wait, G: Gate>(
         &self,
         rt: &R,
         alloc: Global,
-        pass: &mut Pass<SharedBook<I, D>>,
+        pass: &mut Pass<SharedBook<I, D, O>>,
         session: u8,
         full: Option<Name>,
         gate: &G,
@@ -71,7 +72,7 @@ impl<I: Index, D: LogDisk> Store<I, D> {
         &self,
         rt: &R,
         alloc: Global,
-        lane: &mut Lane<I, D>,
+        lane: &mut Lane<I, D, O>,
         i: usize,
         gate: &G,
         steps: &mut Steps<L>,
@@ -116,7 +117,7 @@ impl<I: Index, D: LogDisk> Store<I, D> {
         &self,
         rt: &R,
         alloc: Global,
-        lane: &mut Lane<I, D>,
+        lane: &mut Lane<I, D, O>,
         gate: &G,
         blank: Blank,
     )
@@ -135,7 +136,7 @@ impl<I: Index, D: LogDisk> Store<I, D> {
     }
 
     // Plays one lane.
-    fn play_lane<R: Wait, G: Gate>(&self, rt: &R, alloc: Global, lane: &mut Lane<I, D>, gate: &G)
+    fn play_lane<R: Wait, G: Gate>(&self, rt: &R, alloc: Global, lane: &mut Lane<I, D, O>, gate: &G)
         requires ready { IsReady self.now lane.old }
         ensures { Plays I.WIDTH lane.old lane.new }
     {
@@ -143,17 +144,17 @@ impl<I: Index, D: LogDisk> Store<I, D> {
     }
 }
 
-impl<I: Index + Send, D: LogDisk + Send> Store<I, D> {
+impl<I: Index + Send, D: LogDisk + Send, O: Start + Send> Store<I, D, O> {
     /// Plays the rows of each lane, each lane in a thread of its own. Where a thread can't be started its lane is played by the caller.
     pub fn run_lanes<R: Threads + Wait + Sync, G: Gate + Sync>(
         &self,
         rt: &R,
         alloc: Global,
-        lanes: &mut [Lane<I, D>],
+        lanes: &mut [Lane<I, D, O>],
         gate: &G,
     )
-        requires ready { (i : ℕ) (d : Lane I D) → i < length lanes.old → IsReady self.now (slice_index_or lanes.old i d) }
-        ensures { (i : ℕ) (d : Lane I D) → i < length lanes.old → Plays I.WIDTH (slice_index_or lanes.old i d) (slice_index_or lanes.new i d) }
+        requires ready { (i : ℕ) (d : Lane I D O) → i < length lanes.old → IsReady self.now (slice_index_or lanes.old i d) }
+        ensures { (i : ℕ) (d : Lane I D O) → i < length lanes.old → Plays I.WIDTH (slice_index_or lanes.old i d) (slice_index_or lanes.new i d) }
     {
         let threads = lanes.len().max(1);
         thread::for_each_mut(

@@ -9,6 +9,7 @@ ghost use Rattle.sessions.specs.Steps.{all_parts};
 use super::Store;
 use crate::faults::{Settled, Split, settle_fault};
 use crate::shared::SharedBook;
+use crate::start::Start;
 use book_lock::Pass;
 use commit_book::BookFault;
 use disk_trait::LogDisk;
@@ -18,12 +19,12 @@ use std::alloc::Global;
 use std::sync::Wait;
 use zorder::Name;
 
-impl<I: Index, D: LogDisk> Store<I, D> {
+impl<I: Index, D: LogDisk, O: Start> Store<I, D, O> {
     // The leaf that is to be split next, or that the book is closed.
     fn next<R: Wait>(
         &self,
         rt: &R,
-        pass: &mut Pass<SharedBook<I, D>>,
+        pass: &mut Pass<SharedBook<I, D, O>>,
     ) -> Result<Option<Name>, BookFault>
         requires lock { pass.old.lock ≡ self.now }
         requires off { pass.old.holds ≡ false }
@@ -42,7 +43,7 @@ impl<I: Index, D: LogDisk> Store<I, D> {
         &self,
         rt: &R,
         alloc: Global,
-        pass: &mut Pass<SharedBook<I, D>>,
+        pass: &mut Pass<SharedBook<I, D, O>>,
         name: &Name,
         gate: &G,
     ) -> Split
@@ -63,7 +64,7 @@ impl<I: Index, D: LogDisk> Store<I, D> {
         &self,
         rt: &R,
         alloc: Global,
-        pass: &mut Pass<SharedBook<I, D>>,
+        pass: &mut Pass<SharedBook<I, D, O>>,
         gate: &G,
     ) -> Result<Settled, BookFault>
         requires lock { pass.old.lock ≡ self.now }

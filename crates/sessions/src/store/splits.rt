@@ -8,6 +8,7 @@ ghost use Rattle.sessions.specs.Splits.{number_of, HasBegun, BeginsSplit, Instal
 use super::Store;
 use crate::faults::{Split, has_entry, lasting};
 use crate::shared::SharedBook;
+use crate::start::Start;
 use book_lock::Pass;
 use commit_book::BookFault;
 use disk_trait::LogDisk;
@@ -18,12 +19,12 @@ use std::alloc::Global;
 use std::sync::Wait;
 use zorder::Name;
 
-impl<I: Index, D: LogDisk> Store<I, D> {
+impl<I: Index, D: LogDisk, O: Start> Store<I, D, O> {
     // Begins a split under the lock.
     fn begin<R: Wait>(
         &self,
         rt: &R,
-        pass: &mut Pass<SharedBook<I, D>>,
+        pass: &mut Pass<SharedBook<I, D, O>>,
         name: &Name,
     ) -> Result<SplitTicket, BookFault>
         requires lock { pass.old.lock ≡ self.now }
@@ -44,14 +45,14 @@ impl<I: Index, D: LogDisk> Store<I, D> {
     fn install<R: Wait>(
         &self,
         rt: &R,
-        pass: &mut Pass<SharedBook<I, D>>,
+        pass: &mut Pass<SharedBook<I, D, O>>,
         prepared: &Prepared,
     ) -> Result<(), BookFault>
         requires lock { pass.old.lock ≡ self.now }
         requires off { pass.old.holds ≡ false }
         requires width { prepared.now.width ≡ I.WIDTH }
         requires begun { HasBegun pass.old prepared.now.number prepared.now.name prepared.now.base }
-        ensures { InstallsSplit prepared.now.number pass.old pass.new result }
+        ensures { InstallsSplit I.WIDTH prepared.now.number pass.old pass.new result }
     {
         let mut book = self.lock.take(rt, pass);
         let answer = book.install(prepared);
@@ -64,13 +65,13 @@ impl<I: Index, D: LogDisk> Store<I, D> {
     fn abandon<R: Wait>(
         &self,
         rt: &R,
-        pass: &mut Pass<SharedBook<I, D>>,
+        pass: &mut Pass<SharedBook<I, D, O>>,
         number: u64,
     ) -> Result<(), BookFault>
         requires lock { pass.old.lock ≡ self.now }
         requires off { pass.old.holds ≡ false }
         requires begun { (name : List Bool) × (base : List Row) × HasBegun pass.old number name base }
-        ensures { AbandonsSplit number pass.old pass.new result }
+        ensures { AbandonsSplit I.WIDTH number pass.old pass.new result }
     {
         let mut book = self.lock.take(rt, pass);
         let answer = book.abandon(number);
@@ -80,11 +81,11 @@ impl<I: Index, D: LogDisk> Store<I, D> {
     }
 
     // Abandons a split for want of memory.
-    fn give_up<R: Wait>(&self, rt: &R, pass: &mut Pass<SharedBook<I, D>>, number: u64) -> Split
+    fn give_up<R: Wait>(&self, rt: &R, pass: &mut Pass<SharedBook<I, D, O>>, number: u64) -> Split
         requires lock { pass.old.lock ≡ self.now }
         requires off { pass.old.holds ≡ false }
         requires begun { (name : List Bool) × (base : List Row) × HasBegun pass.old number name base }
-        ensures { IsNotSplit (GivesUp number pass.old pass.new) result }
+        ensures { IsNotSplit (GivesUp I.WIDTH number pass.old pass.new) result }
     {
         match self.abandon(rt, pass, number) {
             Ok(()) => Split::NotSplit(BookFault::Memory),
@@ -98,7 +99,7 @@ impl<I: Index, D: LogDisk> Store<I, D> {
         &self,
         rt: &R,
         alloc: Global,
-        pass: &mut Pass<SharedBook<I, D>>,
+        pass: &mut Pass<SharedBook<I, D, O>>,
         session: u8,
         name: &Name,
         gate: &G,

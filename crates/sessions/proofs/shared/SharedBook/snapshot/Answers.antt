@@ -5,12 +5,13 @@ use Rattle.plain_list.specs.State.{state_after}
 use Rattle.index_layer.specs.Stands.{Stands}
 use Rattle.commit_book.specs.BookView.{BookView}
 use Rattle.commit_book.specs.declared.book.Snapshot.{Snapshot}
-use Rattle.sessions.proofs.WorldSteps.{snapshot_world, snapshot_stands}
+use Rattle.sessions.proofs.WorldSteps.{shared_still, snapshot_world, snapshot_stands}
 use Rattle.sessions.proofs.shared.SharedBook.snapshot.Goals as goal
 
 pub invariant_of-self : goal.invariant_of-self
 invariant_of-self g c =
-    snapshot_world c.self.inside.book c.snapshot.new.self c.args.session c.args.row c.args.op.now c.snapshot.result c.snapshot.ensures.ok c.snapshot.ensures.err c.snapshot.ensures.book.origin.opening c.told.ensures c.self.invariant
+    shared_still g.D.LogDisk.drive g.O.Start.unlogged g.O.Start.is c.self.inside.book c.snapshot.new.self c.snapshot.ensures.book.origin c.self.invariant.start
+    (snapshot_world c.self.inside.book c.snapshot.new.self c.args.session c.args.row c.args.op.now c.snapshot.result c.snapshot.ensures.ok c.snapshot.ensures.err c.snapshot.ensures.book.origin.opening c.told.ensures c.self.invariant.has)
 
 pub returns-clause-index : goal.returns-clause-index
 returns-clause-index g c =

@@ -7,7 +7,7 @@ use Rattle.book_lock.specs.Pass.{Known}
 use Rattle.book_lock.specs.Ends.{MayNote}
 use Rattle.sessions.specs.Steps.{MayGive, has_given}
 use Rattle.sessions.proofs.StepLemmas.{WasTaken, BookStep, may-give, says-all}
-use Rattle.sessions.proofs.LiveSplits.{never-ended}
+use Rattle.sessions.proofs.LiveSplits.{never-ended, still_open}
 use Rattle.sessions.proofs.SplitLemmas.{begun-later, begun-abandon, end-step, ended, abandoned-added}
 use Rattle.sessions.proofs.store.Store.abandon.Goals as goal
 
@@ -47,4 +47,5 @@ returns g c =
     let live = never-ended g.I.Index.leaves g.D.LogDisk.drive g.I.Index.WIDTH b took n name base abandon.book.before (take.value.1 ∙ ap (λ (k : Known). k.origin) (sym take.pass)) take.value.0 take.ends begun in
     let step : BookStep g.D.LogDisk.drive IsDisk (end_refusal (cells_in b.log) b.entries) (λ (done : Unit {0}). Abandon n) (lost.Abandon n) b mid r =
     end-step g.I.Index.leaves g.D.LogDisk.drive g.I.Index.WIDTH b mid old took took was abandon.book IsDisk _ (Abandon n) (lost.Abandon n) r live abandon.refused (abandoned-added b mid n r abandon.ok) abandon.err in
-    ended g.I.Index.leaves g.D.LogDisk.drive g.I.Index.WIDTH b mid old took c.give.new.pass was abandon.book IsDisk (Abandon n) (lost.Abandon n) r step (c.give.ensures ∙ ap (λ (grown : Bool). has_given took grown mid.entries) c.has_entry-grown.ensures)
+    let there = still_open g.I.Index.leaves g.D.LogDisk.drive g.I.Index.WIDTH b took n name base abandon.book.before (take.value.1 ∙ ap (λ (k : Known). k.origin) (sym take.pass)) take.value.0 take.ends begun in
+    ended g.I.Index.leaves g.D.LogDisk.drive g.I.Index.WIDTH b mid old took c.give.new.pass was abandon.book IsDisk n name (Abandon n) (lost.Abandon n) r there step (c.give.ensures ∙ ap (λ (grown : Bool). has_given took grown mid.entries) c.has_entry-grown.ensures)

@@ -7,7 +7,7 @@ use Rattle.book_lock.specs.Pass.{Known}
 use Rattle.book_lock.specs.Ends.{MayNote}
 use Rattle.sessions.specs.Steps.{MayGive, has_given}
 use Rattle.sessions.proofs.StepLemmas.{WasTaken, BookStep, may-give, says-all}
-use Rattle.sessions.proofs.LiveSplits.{never-stale}
+use Rattle.sessions.proofs.LiveSplits.{never-stale, still_open}
 use Rattle.sessions.proofs.SplitLemmas.{begun-later, begun-install, end-step, ended, installed-added}
 use Rattle.sessions.proofs.store.Store.install.Goals as goal
 
@@ -47,5 +47,6 @@ returns g c =
     let step : BookStep g.D.LogDisk.drive IsMemoryOrDisk (end_refusal (cells_in b.log) b.entries) (λ (done : Unit {0}). Install p.number) (lost.Install p.number) b mid r =
     end-step g.I.Index.leaves g.D.LogDisk.drive g.I.Index.WIDTH b mid old took took was install.book IsMemoryOrDisk _ (Install p.number) (lost.Install p.number) r live install.refused
     (installed-added g.I.Index.leaves g.I.Index.WIDTH b mid p.number p.name r install.ok) install.err in
-    ended g.I.Index.leaves g.D.LogDisk.drive g.I.Index.WIDTH b mid old took c.give.new.pass was install.book IsMemoryOrDisk (Install p.number) (lost.Install p.number) r step
+    let there = still_open g.I.Index.leaves g.D.LogDisk.drive g.I.Index.WIDTH b took p.number p.name p.base install.book.before (take.value.1 ∙ ap (λ (k : Known). k.origin) (sym take.pass)) take.value.0 take.ends begun in
+    ended g.I.Index.leaves g.D.LogDisk.drive g.I.Index.WIDTH b mid old took c.give.new.pass was install.book IsMemoryOrDisk p.number p.name (Install p.number) (lost.Install p.number) r there step
     (c.give.ensures ∙ ap (λ (grown : Bool). has_given took grown mid.entries) c.has_entry-grown.ensures)
