@@ -155,7 +155,7 @@ module _ {I D : Type 0} (leaves : I → List Leaf) (drive : D → Drive) (w : �
   open-there : (number : ℕ) (name : List Bool) → split_name (state_after w b.opening b.entries).splits number ≡ Some name → IsTrue (is_some (split_name (state_of w old.origin took.seen).splits number))
   open-there number name there =
       let state : state_after w b.opening b.entries ≡ state_of w old.origin took.seen = pass-state drive w b old was.origin books.before.opening b.entries ∙ ap (state_of w old.origin) was.entries in
-      subst (λ (s : State). IsTrue (is_some (split_name s.splits number))) state (subst (λ (o : Option (List Bool)). IsTrue (is_some o)) (sym there) tt)
+      subst (λ (s : State). IsTrue (is_some (split_name s.splits number))) state (subst (λ (o : Option (List Bool)). IsTrue (is_some o)) (sym there) refl)
 
   pub ended : (IsFree : BookFault → Type 0) (number : ℕ) (name : List Bool) (e : Entry) (step : Lost) (r : Result (Unit {0}) BookFault) → split_name (state_after w b.opening b.entries).splits number ≡ Some name
       → BookStep drive IsFree (end_refusal (cells_in b.log) b.entries) (λ (done : Unit {0}). e) step b mid r → back ≡ has_given took (has_entry r) mid.entries → EndsOpen w number IsFree e step old back r

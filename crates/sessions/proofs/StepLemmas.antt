@@ -126,7 +126,7 @@ module _ {I D A : Type 0} (drive : D → Drive) (IsFree : BookFault → Type 0) 
   behind-added : (e : Entry) → mid.entries ≡ b.entries ++ e ∷ [] → back ≡ has_given took true mid.entries → back ≡ has_added old took.seen e
   behind-added e is = adds old took back mid.entries e was.off was.took_is (is ∙ ap (λ (l : List Entry). l ++ e ∷ []) was.entries)
 
-  left : (result : Result A BookFault) → BookStep drive IsFree cause entry (lost b.entries) b mid result → back ≡ has_given took (has_entry result) mid.entries → Leaves entry lost old took.seen back result
+  pub left : (result : Result A BookFault) → BookStep drive IsFree cause entry (lost b.entries) b mid result → back ≡ has_given took (has_entry result) mid.entries → Leaves entry lost old took.seen back result
   left (Ok value) step given = behind-added (entry value) step.added given
   left (Err (Disk cell)) step given = behind-added (Fail cell (lost b.entries)) step.left.entries given ∙ ap (λ (l : List Entry). has_added old took.seen (Fail cell (lost l))) was.entries
   left (Err (Closed cell)) step given = sees old took back mid.entries was.off was.took_is given
@@ -141,7 +141,7 @@ module _ {I D A : Type 0} (drive : D → Drive) (IsFree : BookFault → Type 0) 
   left (Err (NotOpen number)) step given = sees old took back mid.entries was.off was.took_is given
 
 -- the step as the pass knows it
-pub stepped : {I D A : Type 0} (leaves : I → List Leaf) (drive : D → Drive) (w : ℕ) (IsFree : BookFault → Type 0) (cause : ℕ → List Entry → Option BookFault) (entry : A → Entry) (lost : List Entry → Lost) (P : List Entry → A → Type 0)
+abbrev pub stepped : {I D A : Type 0} (leaves : I → List Leaf) (drive : D → Drive) (w : ℕ) (IsFree : BookFault → Type 0) (cause : ℕ → List Entry → Option BookFault) (entry : A → Entry) (lost : List Entry → Lost) (P : List Entry → A → Type 0)
     (b mid : BookView I D) (old took back : Known) (result : Result A BookFault) → IsBook leaves drive w b → WasTaken drive b old took → BookStep drive IsFree (cause (cells_in b.log) b.entries) entry (lost b.entries) b mid result
     → Says (P b.entries) result → back ≡ has_given took (has_entry result) mid.entries → IsStep IsFree cause entry lost P old back result
 stepped leaves drive w IsFree cause entry lost P b mid old took back result is was step says given = record {

@@ -111,3 +111,8 @@ starts_still drive unlogged Is (Some old) None since starts = absurd since
 -- so it is as every book behind a lock
 pub shared_still : {I D : Type 0} (drive : D → Drive) (unlogged : Type 0) (Is : Drive → Type 0) (old new : BookView I D) → SameOrigin old new → StartsAs drive unlogged Is old.log → HasWorld new → IsShared drive unlogged Is new
 shared_still drive unlogged Is old new same starts has = record { has = has; start = starts_still drive unlogged Is old.log new.log same.log starts }
+
+-- of every book nothing is known
+pub any_start : {D : Type 0} (drive : D → Drive) (log : Option (KeptView D)) → StartsAs drive ⊤ (λ d. ⊤) log
+any_start drive None = tt
+any_start drive (Some log) = tt

@@ -1,7 +1,7 @@
 //! A store may be shared by threads, and a pass sent between them, where the index and the drive may be sent.
 use crate::shared::SharedBook;
-use crate::store::Store;
 use crate::start::Start;
+use crate::store::Store;
 use book_lock::Pass;
 use disk_trait::LogDisk;
 use index_layer::Index;

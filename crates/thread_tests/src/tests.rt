@@ -29,7 +29,7 @@ fn one_pass_learns_what_another_did<I: Index, D: LogDisk, L: Ledger, R: Wait + A
     requires parts { blank.parts ≡ L.parts }
     requires one_part { blank.parts ≡ 1 }
 {
-    let Ok((store, mut first)) = Store::new(alloc, book) else {
+    let Ok((store, mut first)) = Store::<I, D, Brand>::new(alloc, book) else {
         return Err(AllocError.into());
     };
     let mut second = store.split_pass(&mut first);

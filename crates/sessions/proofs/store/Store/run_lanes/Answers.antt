@@ -17,7 +17,7 @@ pub for_each_mut-requires-sync-F : goal.for_each_mut-requires-sync-F
 for_each_mut-requires-sync-F g c κs within =
     let s : IsSync (Store.the_row (param 0 g.row.I) (param 1 g.row.D) (param 2 g.row.O) g.I.Index g.D.LogDisk g.O.Start) =
     store_sync (param 0 g.row.I) (param 1 g.row.D) (param 2 g.row.O) g.I.Index g.D.LogDisk g.O.Start c.type_bounds.send-I c.type_bounds.send-D c.type_bounds.send-O in
-    param_sync 3 _ (arg_sync _ no _ (closure_sync _ _ _ _ _ (shr_sync _ _ _ s) (shr_sync _ _ _ c.type_bounds.sync-R) (shr_sync _ _ _ global.the_sync) (shr_sync _ _ _ c.type_bounds.sync-G)))
+    param_sync 2 _ (arg_sync _ no _ (closure_sync _ _ _ _ _ (shr_sync _ _ _ s) (shr_sync _ _ _ c.type_bounds.sync-R) (shr_sync _ _ _ global.the_sync) (shr_sync _ _ _ c.type_bounds.sync-G)))
 
 pub returns : goal.returns
 returns g c i d lt =

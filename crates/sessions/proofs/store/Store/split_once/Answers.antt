@@ -16,6 +16,14 @@ returns-in_default-clause-pass g c =
     split-same g.I.Index.WIDTH c.args.name.now c.args.pass.now c.give_up.new.pass c.give_up.result
     (given-up g.I.Index.WIDTH c.in-Ok.ticket.number c.args.name.now c.args.pass.now mid mid c.give_up.new.pass c.give_up.result c.in-Ok.ensures.step (inl refl) c.give_up.ensures)
 
+pub returns-in-Ok-install-clause-ends : goal.returns-in-Ok-install-clause-ends
+returns-in-Ok-install-clause-ends g c =
+    let number : c.in-Ok-prepare.prepared.number ≡ c.in-Ok.ticket.number = ap (λ (p : PreparedView). p.number) c.in-Ok-prepare.ensures.prepared in
+    let mid = c.begin.new.pass in
+    let new = c.install.new.pass in
+    let step : InstallsSplit g.I.Index.WIDTH c.in-Ok.ticket.number mid new (Ok tt) = subst (λ (n : ℕ). InstallsSplit g.I.Index.WIDTH n mid new (Ok tt)) number c.in-Ok-install.ensures in
+    (mid, c.in-Ok.ensures.step, step)
+
 pub returns-in-Ok-install-clause-pass : goal.returns-in-Ok-install-clause-pass
 returns-in-Ok-install-clause-pass g c =
     let number : c.in-Ok-prepare.prepared.number ≡ c.in-Ok.ticket.number = ap (λ (p : PreparedView). p.number) c.in-Ok-prepare.ensures.prepared in
