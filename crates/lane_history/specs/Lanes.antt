@@ -1,5 +1,5 @@
 -- Lanes that were played over one store, and the passes that took theirs in.
-use Rattle.std.specs.Prelude.{◌≡◌, ◌≢◌, ◌⊎◌, ℕ, ◌+◌, ◌<◌, List, [], ◌∷◌, length, Option, None, Result, ⊤}
+use Rattle.std.specs.Prelude.{◌≡◌, ◌≢◌, ◌⊎◌, ℕ, ◌+◌, ◌<◌, List, [], ◌∷◌, length, None, Result, ⊤}
 use mathlib.Core.List.{IsPrefix}
 use Rattle.plain_list.specs.declared.ops.Op.{Op}
 use Rattle.csv_rows.specs.declared.rows.InRow.{InRow}

@@ -1,2 +1,4 @@
 pub mod SessionRows
+pub mod LostSteps
+pub mod Kept
 pub mod Lanes

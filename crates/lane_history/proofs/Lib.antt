@@ -1,0 +1,10 @@
+pub mod OwnEntries
+pub mod CallsOf
+pub mod Adds
+pub mod Numbers
+pub mod Places
+pub mod SplitAdds
+pub mod LaneAdds
+pub mod Owners
+pub mod Fails
+pub mod PlayedOut

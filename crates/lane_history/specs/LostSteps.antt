@@ -1,0 +1,39 @@
+-- The step that a failed append lost.
+use Rattle.std.specs.Prelude.{◌≡◌, ℕ, List, [], ◌∷◌, ◌++◌, None, true, IsTrue}
+use Rattle.plain_list.specs.declared.ops.Op.{Op}
+use Rattle.plain_list.specs.declared.entries.Entry.{Entry}
+use Rattle.plain_list.specs.declared.entries.Entry.TheVariants as entry
+use Rattle.plain_list.specs.declared.entries.Lost.{Lost}
+use Rattle.plain_list.specs.declared.entries.Lost.TheVariants.{Call, Begin, Install, Abandon}
+use Rattle.plain_list.specs.Answer.{answer_of, is_change}
+use Rattle.plain_list.specs.History.{world_after}
+use Rattle.plain_list.specs.Played.{calls_of}
+use Rattle.plain_list.specs.State.{State, state_after, is_possible}
+use Rattle.csv_rows.specs.declared.rows.InRow.{InRow}
+use Rattle.kept_log.specs.Journal.{failed_cell}
+use Rattle.lane_history.specs.SessionRows.{session_rows}
+
+-- behind the calls of a session this is the next of its rows, with its number and its operation
+pub record IsNextRow (rows : List InRow) (before : List Entry) (session row : ℕ) (op : Op) : Type 0 where
+  pub rest : List (ℕ × Op)
+  pub next : session_rows rows session ≡ calls_of session before ++ (row, op) ∷ rest
+
+-- the step of a split is possible behind a history
+abbrev pub IsSplitStep : ℕ → State → List Entry → Lost → Type 0
+IsSplitStep w s before (Call session row op) = ⊥
+IsSplitStep w s before (Begin number name) = IsTrue (is_possible w (state_after w s before) (entry.Begin number name))
+IsSplitStep w s before (Install number) = IsTrue (is_possible w (state_after w s before) (entry.Install number))
+IsSplitStep w s before (Abandon number) = IsTrue (is_possible w (state_after w s before) (entry.Abandon number))
+
+-- the lost step is the call of the next row of its session, and would be a change there, or a step of a split that is possible there
+abbrev pub IsNextStep : ℕ → State → List InRow → List Entry → Lost → Type 0
+IsNextStep w s rows before (Call session row op) = IsNextRow rows before session row op × (is_change (answer_of (world_after s.world before) op) ≡ true)
+IsNextStep w s rows before lost = IsSplitStep w s before lost
+
+-- a history that ends with the failed append of the cell of this number: what stood before, and the lost step
+pub record LosesStep (Step : List Entry → Lost → Type 0) (h : List Entry) (cell : ℕ) : Type 0 where
+  pub before : List Entry
+  pub lost : Lost
+  pub entries : h ≡ before ++ entry.Fail cell lost ∷ []
+  pub going : failed_cell before ≡ None
+  pub step : Step before lost
