@@ -1,4 +1,4 @@
--- What a lane adds: calls of its session, a front of its rows.
+-- What a lane adds: calls of its session, a prefix of its rows.
 use Rattle.std.proofs.Common.{◌≡◌, ◌≢◌, ◌⊎◌, inl, inr, ℕ, true, List, [], ◌∷◌, ◌++◌, length, Option, Some, None, Ok, Err, refl, sym, ap, subst, ◌∙◌, append_assoc, arith}
 use Rattle.std.specs.Prelude.{⊤}
 use mathlib.Core.List.{IsPrefix, append-nil}
@@ -112,7 +112,7 @@ stops-with w s rows front [] mid new (Some fault) whole stops = absurd stops
 stops-with w s rows front (r ∷ rest) mid new None whole stops = absurd stops
 stops-with w s rows front (r ∷ rest) mid new (Some fault) whole stops = stop-fault w s rows front rest r mid new whole fault stops
 
--- What a played lane has added: its calls are a front of its rows, and all of them where it met no fault.
+-- What a played lane has added: its calls are a prefix of its rows, and all of them where it met no fault.
 pub record IsLane {I D O : Type 0} (w : ℕ) (origin : Origin) (s : ℕ) (rows : List (ℕ × Op)) (lane : Lane I D O) : Type 0 where
   pub calls : List (ℕ × Op)
   pub front : IsPrefix calls rows

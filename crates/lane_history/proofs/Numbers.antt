@@ -18,7 +18,7 @@ pub numbers-append : (xs ys : List (ℕ × Op)) → numbers (xs ++ ys) ≡ numbe
 numbers-append [] ys = refl
 numbers-append (x ∷ xs) ys = ap (λ (l : List ℕ). x.0 ∷ l) (numbers-append xs ys)
 
--- a front has a number no more often
+-- a prefix has a number no more often
 pub times-prefix : (p : ℕ) (xs ys : List (ℕ × Op)) → IsPrefix xs ys → times p (numbers xs) ≤ times p (numbers ys)
 times-prefix p xs ys (rest, is) =
     let e : times p (numbers ys) ≡ times p (numbers xs) + times p (numbers rest) = ap (λ (l : List (ℕ × Op)). times p (numbers l)) (sym is) ∙ ap (times p) (numbers-append xs rest) ∙ times-append p (numbers xs) (numbers rest) in

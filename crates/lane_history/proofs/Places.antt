@@ -68,7 +68,7 @@ first-place n row s op (Abandon number ∷ before) rest none = first-place n row
 first-place n row s op (Fail cell lost ∷ before) rest none = first-place n row s op before rest (none-later row (Fail cell lost) before none)
 
 module _ (rows : List InRow) (h before : List Entry) (s row : ℕ) (op : Op) (played : IsPlayed (session_rows rows) h) (stands : IsPrefix (before ++ Call s row op ∷ []) h) where
-  -- where each session's calls are a front of its rows, no call before this one has its number
+  -- where each session's calls are a prefix of its rows, no call before this one has its number
   mine : times row (numbers (calls_of s before)) + 1 ≤ times row (numbers (session_rows rows s))
   mine =
       let front = prefix_trans (calls_of s (before ++ Call s row op ∷ [])) (calls_of s h) (session_rows rows s) (calls-prefix s (before ++ Call s row op ∷ []) h stands) (played s) in

@@ -99,7 +99,7 @@ module _ {I D O : Type 0} (w : ℕ) (origin : Origin) (rows : List InRow) (sessi
       let is : IsLane w origin s (session_rows rows s) lane = is-lane w origin s (session_rows rows s) lane joined.played in
       record { is = is; calls_are = calls-last s ∙ calls-of-lane w origin rows Pass s 0 lane sessions lanes out.played out.joined.seen out.sessions_are.rise of out.joined.owned ∙ is.mine }
 
-  -- the calls of each session are a front of its rows
+  -- the calls of each session are a prefix of its rows
   pub played : IsPlayed (session_rows rows) last.seen
   played s = by_session (owns-or-not s sessions)
     where
