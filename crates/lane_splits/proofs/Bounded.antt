@@ -1,10 +1,10 @@
 -- The history of lanes that were played stays below its limits.
-use Rattle.std.proofs.Common.{◌≡◌, ◌⊎◌, inl, inr, ℕ, zero, suc, ◌+◌, ◌*◌, ◌<◌, ◌≤◌, Bool, true, false, ◌||◌, cond, List, [], ◌∷◌, ◌++◌, length, take, drop, get_or, Some, Result, refl, sym, ap, subst, ◌∙◌, arith, length-append}
+use Rattle.std.proofs.Common.{◌≡◌, ◌⊎◌, inl, inr, ℕ, zero, suc, ◌+◌, ◌*◌, ◌<◌, ◌≤◌, Bool, true, false, ◌||◌, cond, List, [], ◌∷◌, ◌++◌, length, take, drop, get_or, Some, refl, sym, ap, subst, ◌∙◌, arith, length-append}
 use mathlib.Core.List.{IsPrefix}
 use Rattle.std.specs.Prelude.{nat_lt, slice_get}
 use Rattle.std.proofs.Math.Seq.{take-suc}
 use Rattle.std.proofs.lemmas.Bool.{ltb-false}
-use Rattle.std.proofs.lemmas.List.{take_all, take-append-drop}
+use Rattle.std.proofs.lemmas.List.{take-append-drop}
 use Rattle.std.proofs.lemmas.Option.{slice_get-get_or}
 use Rattle.zorder.specs.declared.points.Placed.{Placed}
 use Rattle.plain_list.specs.declared.ops.Op.{Op}
@@ -13,20 +13,16 @@ use Rattle.plain_list.specs.declared.entries.Entry.{Entry}
 use Rattle.plain_list.specs.declared.entries.Entry.TheVariants.{Fail, Call, Begin, Install, Abandon}
 use Rattle.plain_list.specs.Answer.{answer_of, is_change}
 use Rattle.plain_list.specs.History.{world_after}
-use Rattle.plain_list.specs.State.{State, IsLegal}
+use Rattle.plain_list.specs.State.{IsLegal}
 use Rattle.log_state.specs.Changes.{change_cells, cells_of}
 use Rattle.log_state.proofs.PlacedChanges.{cells_of-append}
 use Rattle.csv_rows.specs.declared.rows.InRow.{InRow}
-use Rattle.commit_book.specs.IsBook.{most_events}
-use Rattle.commit_book.specs.Refusals.{has_no_room, most_cells}
-use Rattle.commit_book.specs.declared.faults.BookFault.{BookFault}
+use Rattle.commit_book.specs.Refusals.{has_no_room}
 use Rattle.book_lock.specs.Pass.{Known}
 use Rattle.book_lock.specs.declared.origin.Origin.{Origin}
 use Rattle.book_lock.proofs.Histories.{prefix_refl, prefix_length}
 use Rattle.sessions.specs.Shared.{start_of}
 use Rattle.sessions.specs.Steps.{cells_after}
-use Rattle.sessions.specs.Settles.{Settles}
-use Rattle.sessions.specs.declared.faults.Settled.{Settled}
 use Rattle.sessions.specs.declared.store.lanes.Lane.{Lane}
 use Rattle.lane_history.specs.Lanes.{IsPlayedOut, GoesOn}
 use Rattle.lane_splits.specs.Settled.{IsBounded}

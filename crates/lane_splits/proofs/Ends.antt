@@ -1,5 +1,5 @@
 -- What the splits at the end add to a pass's own positions.
-use Rattle.std.proofs.Common.{◌≡◌, ◌⊎◌, inl, inr, ℕ, ◌+◌, ◌<◌, ◌≤◌, Bool, List, [], ◌∷◌, length, Some, Result, Ok, Err, refl, sym, ap, subst, ◌∙◌, arith}
+use Rattle.std.proofs.Common.{◌≡◌, inl, inr, ℕ, ◌+◌, Bool, List, [], ◌∷◌, length, Result, Ok, Err, refl, sym, ap, subst, ◌∙◌, arith}
 use mathlib.Core.List.{IsPrefix}
 use Rattle.plain_list.specs.declared.entries.Entry.{Entry}
 use Rattle.plain_list.specs.declared.entries.Entry.TheVariants.{Begin, Install}
@@ -9,15 +9,15 @@ use Rattle.commit_book.specs.declared.faults.BookFault.TheVariants as book
 use Rattle.book_lock.specs.Pass.{Known}
 use Rattle.book_lock.specs.declared.origin.Origin.{Origin}
 use Rattle.book_lock.proofs.Histories.{prefix_trans, prefix_length}
-use Rattle.sessions.specs.Splits.{BeginsSplit, SplitEnds, SamePass, state_of}
+use Rattle.sessions.specs.Splits.{SplitEnds, SamePass, state_of}
 use Rattle.sessions.specs.Settles.{SplitsAll, SettleEnds, Settles}
 use Rattle.sessions.specs.declared.faults.Settled.{Settled}
 use Rattle.sessions.specs.declared.faults.Settled.TheVariants.{Small, Room}
 use Rattle.sessions.specs.declared.faults.Split.TheVariants.{Installed, NotSplit}
 use Rattle.sessions.proofs.StepLemmas.{same-later}
 use Rattle.sessions.proofs.SplitLemmas.{installs-same, same-none, split-same}
-use Rattle.lane_splits.proofs.Gains.{Idles, Begun, HasTried}
-use Rattle.lane_splits.proofs.Rounds.{Pairs, pairs-idle, pairs-end, pairs-begun, pairs-later, pairs-weak}
+use Rattle.lane_splits.proofs.Gains.{Idles, HasTried}
+use Rattle.lane_splits.proofs.Rounds.{Pairs, pairs-idle, pairs-end, pairs-begun, pairs-later}
 use Rattle.lane_splits.proofs.Steps.{bad, IsCalm, length-added, puts-added, left-idle, begun-room}
 use Rattle.lane_splits.proofs.Tries.{begins-same, tried}
 

@@ -1,13 +1,13 @@
 -- What one stretch of a pass adds to its own positions, and what these weigh.
-use Rattle.std.proofs.Common.{◌≡◌, ◌⊎◌, ℕ, zero, suc, ◌+◌, ◌*◌, ◌<◌, ◌≤◌, List, [], ◌∷◌, ◌++◌, length, refl, sym, ap, ◌∙◌, inl, inr, arith}
+use Rattle.std.proofs.Common.{◌≡◌, ◌⊎◌, ℕ, ◌+◌, ◌*◌, ◌≤◌, List, [], ◌∷◌, ◌++◌, length, refl, ap, ◌∙◌, inl, inr, arith}
 use Rattle.std.specs.Prelude.{Some, slice_get, Bool}
 use Rattle.plain_list.specs.declared.ops.Op.{Op}
 use Rattle.plain_list.specs.declared.entries.Entry.{Entry}
 use Rattle.plain_list.specs.declared.entries.Entry.TheVariants.{Fail, Call, Begin}
 use Rattle.plain_list.specs.declared.entries.Lost.{Lost}
 use Rattle.book_lock.proofs.Histories.{get_below}
-use Rattle.lane_splits.proofs.Weights.{weight, weight-snoc, counted, counted-none, counted-below, counted-past, counted-later, at, at-is}
-use Rattle.lane_splits.proofs.Entries.{begins, calls, ends, one-kind}
+use Rattle.lane_splits.proofs.Weights.{weight, weight-snoc, counted, counted-none, counted-below, at, at-is}
+use Rattle.lane_splits.proofs.Entries.{begins, calls, ends}
 
 -- this position, at which this entry stands, is own now
 pub record Puts (h : List Entry) (own new : List ℕ) (p : ℕ) (e : Entry) : Type 0 where

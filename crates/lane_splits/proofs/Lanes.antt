@@ -1,5 +1,5 @@
 -- What a lane's rows add to its own positions.
-use Rattle.std.proofs.Common.{◌≡◌, ◌⊎◌, inl, inr, ℕ, suc, ◌+◌, ◌<◌, ◌≤◌, List, [], ◌∷◌, ◌++◌, length, Option, Some, None, Result, Ok, Err, refl, sym, ap, subst, ◌∙◌, arith, length-append}
+use Rattle.std.proofs.Common.{◌≡◌, ℕ, suc, ◌+◌, ◌≤◌, List, [], ◌∷◌, length, Option, Some, None, Ok, Err, sym, ap, subst, ◌∙◌, arith, length-append}
 use mathlib.Core.List.{IsPrefix}
 use Rattle.plain_list.specs.declared.ops.Op.{Op}
 use Rattle.plain_list.specs.declared.entries.Entry.{Entry}
@@ -12,14 +12,14 @@ use Rattle.sessions.specs.declared.faults.CallFault.{CallFault}
 use Rattle.sessions.specs.declared.faults.CallFault.TheVariants.{Closed, Disk, HistoryFull, LogFull, Memory}
 use Rattle.sessions.specs.declared.store.lanes.Lane.{Lane}
 use Rattle.sessions.specs.declared.store.lanes.KeptRow.{KeptRow}
-use Rattle.sessions.specs.Calls.{Called, CallLeaves}
+use Rattle.sessions.specs.Calls.{CallLeaves}
 use Rattle.sessions.specs.Splits.{SamePass}
-use Rattle.sessions.specs.Lanes.{Keeps, KeepsAll, Stops, Plays}
+use Rattle.sessions.specs.Lanes.{Keeps, KeepsAll, Stops}
 use Rattle.sessions.proofs.StepLemmas.{same-later}
 use Rattle.sessions.proofs.CallLemmas.{called-same}
 use Rattle.sessions.proofs.SplitLemmas.{same-none}
 use Rattle.lane_history.specs.Lanes.{HasPlayed}
-use Rattle.lane_splits.proofs.Gains.{Puts, HasTried, HasCalled, Gains, gains-none, gains-fail, gains-call, gains-later}
+use Rattle.lane_splits.proofs.Gains.{HasTried, Gains, gains-none, gains-fail, gains-call, gains-later}
 use Rattle.lane_splits.proofs.Rounds.{gains-called}
 use Rattle.lane_splits.proofs.Steps.{bad, IsCalm, length-added, puts-added}
 use Rattle.lane_splits.proofs.Tries.{told-tried, tries-same}

@@ -9,3 +9,6 @@ pub mod Lanes
 pub mod Ends
 pub mod Sums
 pub mod Bounded
+pub mod Tidy
+pub mod Sized
+pub mod Settled

@@ -1,14 +1,12 @@
 -- Rounds of a lane, each a call and maybe a split, and the splits at the end.
-use Rattle.std.proofs.Common.{◌≡◌, ◌⊎◌, ℕ, zero, suc, ◌+◌, ◌*◌, ◌<◌, ◌≤◌, List, [], ◌∷◌, ◌++◌, length, refl, sym, ap, ◌∙◌, inl, inr, ⊎_elim, arith}
-use Rattle.std.specs.Prelude.{Some, slice_get, Bool}
+use Rattle.std.proofs.Common.{◌≡◌, ◌⊎◌, ℕ, zero, suc, ◌+◌, ◌*◌, ◌<◌, ◌≤◌, List, length, refl, ap, ◌∙◌, inl, inr, ⊎_elim, arith}
+use Rattle.std.specs.Prelude.{Bool}
 use Rattle.plain_list.specs.declared.ops.Op.{Op}
 use Rattle.plain_list.specs.declared.entries.Entry.{Entry}
 use Rattle.plain_list.specs.declared.entries.Entry.TheVariants.{Fail, Call, Begin}
-use Rattle.plain_list.specs.declared.entries.Lost.{Lost}
-use Rattle.book_lock.proofs.Histories.{get_below}
 use Rattle.lane_splits.proofs.Weights.{weight, counted, counted-below, counted-past, counted-later, at}
 use Rattle.lane_splits.proofs.Entries.{begins, calls, ends, one-kind}
-use Rattle.lane_splits.proofs.Gains.{Puts, Idles, Closes, Begun, HasTried, HasCalled, crowd, puts-none, puts-past, puts-whole, puts-room, Gains, gains-none, gains-later, gains-idle, gains-call}
+use Rattle.lane_splits.proofs.Gains.{Puts, Idles, Closes, Begun, HasTried, HasCalled, crowd, puts-none, puts-past, puts-whole, puts-room, Gains, gains-later, gains-idle, gains-call}
 
 -- what adds no begin and no call
 pub record Quiet (h : List Entry) (bad : ℕ → ℕ) (own new : List ℕ) : Type 0 where

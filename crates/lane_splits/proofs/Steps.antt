@@ -1,5 +1,5 @@
 -- What the steps of a pass add to its own positions, in a history that begins with all that it has seen.
-use Rattle.std.proofs.Common.{◌≡◌, ◌⊎◌, inl, inr, ℕ, ◌+◌, ◌<◌, ◌≤◌, ◌==◌, Bool, true, false, ◌||◌, cond, List, [], ◌∷◌, ◌++◌, length, take, Option, Some, None, Result, Ok, Err, refl, sym, ap, subst, ◌∙◌, arith, length-append, ne_eqb}
+use Rattle.std.proofs.Common.{◌≡◌, inl, inr, ℕ, ◌+◌, ◌<◌, ◌≤◌, ◌==◌, Bool, true, false, ◌||◌, cond, List, [], ◌∷◌, ◌++◌, length, take, Option, Some, None, Ok, Err, refl, sym, ap, subst, ◌∙◌, arith, length-append, ne_eqb}
 use mathlib.Core.List.{IsPrefix}
 use Rattle.std.specs.Prelude.{nat_lt, if◌then◌else◌}
 use Rattle.std.specs.Option.{option_map}
@@ -8,7 +8,6 @@ use Rattle.std.proofs.lemmas.Bool.{ltb-false, le-ltb}
 use Rattle.plain_list.specs.declared.entries.Entry.{Entry}
 use Rattle.plain_list.specs.declared.entries.Entry.TheVariants.{Fail, Call, Begin, Install, Abandon}
 use Rattle.plain_list.specs.declared.entries.Lost.{Lost}
-use Rattle.plain_list.specs.declared.entries.Lost.TheVariants as lost
 use Rattle.kept_log.specs.Journal.{failed_cell}
 use Rattle.commit_book.specs.IsBook.{most_events}
 use Rattle.commit_book.specs.Refusals.{IsRefusedBy, IsDisk, IsMemoryOrDisk, first_of, closed_refusal, room_refusal, end_refusal, leaf_refusal, has_no_room, most_cells}
@@ -16,7 +15,7 @@ use Rattle.commit_book.specs.declared.faults.BookFault.{BookFault}
 use Rattle.commit_book.specs.declared.faults.BookFault.TheVariants as book
 use Rattle.book_lock.specs.Pass.{Known}
 use Rattle.book_lock.specs.declared.origin.Origin.{Origin}
-use Rattle.book_lock.proofs.Histories.{get_prefix, get_last, prefix_trans, prefix_length}
+use Rattle.book_lock.proofs.Histories.{get_prefix, get_last, prefix_trans}
 use Rattle.sessions.specs.Steps.{AreCells, IsStep, Leaves, has_added, has_seen, cells_after}
 use Rattle.sessions.specs.Splits.{BeginsSplit, IsLasting, begin_cause, state_of}
 use Rattle.lane_splits.specs.Settled.{IsBounded}

@@ -1,5 +1,5 @@
 -- What all lanes' own positions weigh together.
-use Rattle.std.proofs.Common.{◌≡◌, ◌⊎◌, ◌≢◌, ℕ, zero, suc, ◌+◌, ◌*◌, ◌<◌, ◌≤◌, ◌==◌, Bool, true, false, cond, List, [], ◌∷◌, length, refl, sym, ap, subst, ◌∙◌, arith, eq-eqb, ne_eqb}
+use Rattle.std.proofs.Common.{◌≡◌, ◌≢◌, ℕ, zero, suc, ◌+◌, ◌*◌, ◌≤◌, ◌==◌, Bool, true, false, List, [], ◌∷◌, length, refl, sym, ap, arith}
 use Rattle.std.specs.Prelude.{if◌then◌else◌}
 use mathlib.Core.List.{IsPrefix}
 use mathlib.Core.Logic.{dite}
@@ -15,7 +15,7 @@ use Rattle.book_lock.proofs.Histories.{prefix_trans}
 use Rattle.book_lock.proofs.Positions.{one_if, one_same, one_other}
 use Rattle.sessions.specs.declared.store.lanes.Lane.{Lane}
 use Rattle.lane_history.specs.SessionRows.{session_rows, session_rows_from}
-use Rattle.lane_history.specs.Lanes.{HasPlayed, HaveAllPlayed, HaveSeen, RiseFrom, owned_by}
+use Rattle.lane_history.specs.Lanes.{HaveAllPlayed, HaveSeen, RiseFrom, owned_by}
 use Rattle.lane_splits.proofs.Weights.{weight, weight-nil, at}
 use Rattle.lane_splits.proofs.Entries.{begins, calls, ends}
 use Rattle.lane_splits.proofs.Gains.{crowd}

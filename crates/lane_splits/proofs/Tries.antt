@@ -1,9 +1,9 @@
 -- What the tries to split add to a pass's own positions.
-use Rattle.std.proofs.Common.{◌≡◌, ◌⊎◌, inl, inr, ℕ, ◌+◌, ◌<◌, ◌≤◌, Bool, List, [], ◌∷◌, ◌++◌, length, Option, Some, None, Result, Ok, Err, refl, sym, ap, subst, ◌∙◌, arith}
+use Rattle.std.proofs.Common.{◌≡◌, inl, inr, ℕ, ◌+◌, Bool, List, length, Option, Some, None, Result, Ok, Err, refl, sym, ap, subst, ◌∙◌, arith}
 use mathlib.Core.List.{IsPrefix}
 use Rattle.std.specs.Prelude.{⊤}
 use Rattle.plain_list.specs.declared.entries.Entry.{Entry}
-use Rattle.plain_list.specs.declared.entries.Entry.TheVariants.{Fail, Call, Begin, Install, Abandon}
+use Rattle.plain_list.specs.declared.entries.Entry.TheVariants.{Begin, Install, Abandon}
 use Rattle.plain_list.specs.declared.entries.Lost.TheVariants as lost
 use Rattle.commit_book.specs.Refusals.{IsDisk, IsMemoryOrDisk, end_refusal}
 use Rattle.commit_book.specs.declared.faults.BookFault.{BookFault}
@@ -11,7 +11,6 @@ use Rattle.commit_book.specs.declared.faults.BookFault.TheVariants as book
 use Rattle.book_lock.specs.Pass.{Known}
 use Rattle.book_lock.specs.declared.origin.Origin.{Origin}
 use Rattle.book_lock.proofs.Histories.{prefix_trans, prefix_length}
-use Rattle.sessions.specs.Steps.{has_added, has_seen}
 use Rattle.sessions.specs.Splits.{BeginsSplit, InstallsSplit, AbandonsSplit, GivesUp, RanOut, NotInstalled, SplitEnds, SamePass, IsNextSplit, begin_cause, state_of}
 use Rattle.sessions.specs.Lanes.{Tries}
 use Rattle.sessions.specs.declared.faults.Split.{Split}

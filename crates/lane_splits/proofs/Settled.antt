@@ -1,0 +1,120 @@
+-- What the splits of lanes that were played and settled come to.
+use Rattle.std.proofs.Common.{◌≡◌, ℕ, ◌+◌, ◌≤◌, Bool, true, false, cond, List, [], ◌∷◌, ◌++◌, length, Option, None, Ok, ap, ◌∙◌, arith, length-append}
+use mathlib.Core.List.{IsPrefix}
+use Rattle.std.proofs.lemmas.List.{take_all, nil_from_length}
+use Rattle.zorder.specs.declared.points.Placed.{Placed}
+use Rattle.plain_list.specs.declared.entries.Entry.{Entry}
+use Rattle.plain_list.specs.declared.entries.Entry.TheVariants.{Fail, Call, Begin, Install, Abandon}
+use Rattle.plain_list.specs.declared.ops.Op.{Op}
+use Rattle.plain_list.specs.declared.ops.Op.TheVariants as op
+use Rattle.plain_list.specs.Answer.{answer_of, after_of, is_change}
+use Rattle.plain_list.specs.History.{call_count}
+use Rattle.plain_list.specs.State.{IsLegal, state_after}
+use Rattle.log_state.specs.Changes.{change_cells, cells_of}
+use Rattle.kept_log.specs.Journal.{failed_cell}
+use Rattle.csv_rows.specs.declared.rows.InRow.{InRow}
+use Rattle.book_lock.specs.Pass.{Known}
+use Rattle.book_lock.specs.declared.origin.Origin.{Origin}
+use Rattle.book_lock.proofs.Histories.{prefix_refl, prefix_length}
+use Rattle.sessions.specs.Shared.{start_of}
+use Rattle.sessions.specs.Steps.{all_parts}
+use Rattle.sessions.specs.Settles.{Settles}
+use Rattle.sessions.specs.declared.faults.Settled.{Settled}
+use Rattle.sessions.specs.declared.store.lanes.Lane.{Lane}
+use Rattle.lane_history.specs.Lanes.{IsPlayedOut, OwnsAll}
+use Rattle.lane_splits.specs.Settled.{IsSettled, first_cells, stray_begins}
+use Rattle.lane_splits.proofs.Weights.{weight-all, at, below-take, sum_of}
+use Rattle.lane_splits.proofs.Entries.{begins, calls, ends, calls-count, sum-append, open-few}
+use Rattle.lane_splits.proofs.Steps.{IsCalm, take-prefix}
+use Rattle.lane_splits.proofs.Ends.{EndPairs, settles-same, settles-well, all-splits-same}
+use Rattle.lane_splits.proofs.Bounded.{AreJoined, joined, bounded}
+use Rattle.lane_splits.proofs.Tidy.{stray-append, GoesTidy, goes-tidy}
+use Rattle.lane_splits.proofs.Sized.{ended-sized}
+
+-- a history has no more cells than entries
+change-few : (o : Op) → length (change_cells o) ≤ 1
+change-few (op.Put id at) = omega arith
+change-few (op.Move id at) = omega arith
+change-few (op.Remove id) = omega arith
+change-few (op.Find id) = omega arith
+change-few (op.Within region) = omega arith
+change-few (op.Near at k) = omega arith
+
+call-few : (b : Bool) (o : Op) → length (cond b (change_cells o) []) ≤ 1
+call-few true o = change-few o
+call-few false o = omega arith
+
+cells-few : (world : List Placed) (h : List Entry) → length (cells_of world h) ≤ length h
+cells-few world [] = omega arith
+cells-few world (Call session row o ∷ h) =
+    let a = call-few (is_change (answer_of world o)) o in
+    let b = cells-few (after_of world o) h in
+    let c = length-append (cond (is_change (answer_of world o)) (change_cells o) []) (cells_of (after_of world o) h) in
+    omega arith
+cells-few world (Begin number name ∷ h) = let b = cells-few world h in omega arith
+cells-few world (Install number ∷ h) = let b = cells-few world h in omega arith
+cells-few world (Abandon number ∷ h) = let b = cells-few world h in omega arith
+cells-few world (Fail cell lost ∷ h) = let b = cells-few world h in omega arith
+
+-- in a calm history that was settled well, begins are no more than ends
+even-sums : (origin : Origin) (pass last : Known) (most : ℕ) → AreJoined origin last.seen pass.own most → EndPairs origin last.seen (Unit {0}) pass last → OwnsAll last → IsCalm origin last.seen
+    → sum_of begins last.seen ≤ sum_of ends last.seen
+even-sums origin pass last most joined pairs whole calm =
+    let h = last.seen in
+    let n : ℕ = length h in
+    let even = joined.even calm in
+    let past = pairs.past tt n (omega arith) in
+    let b = weight-all (at begins h) last.own n whole n (omega arith) ∙ below-take begins h n (omega arith) ∙ ap (sum_of begins) (take_all n h (omega arith)) in
+    let e = weight-all (at ends h) last.own n whole n (omega arith) ∙ below-take ends h n (omega arith) ∙ ap (sum_of ends) (take_all n h (omega arith)) in
+    omega arith
+
+-- so no split is open
+none-open : (w : ℕ) (origin : Origin) (h : List Entry) → IsLegal w (start_of origin) h → sum_of begins h ≤ sum_of ends h → (state_after w (start_of origin) h).splits ≡ []
+none-open w origin h legal even = let splits = open-few w (start_of origin) h legal in nil_from_length (state_after w (start_of origin) h).splits (omega arith)
+
+-- the lanes' begins are no more than their calls
+lanes-begins : (origin : Origin) (pass last : Known) (most : ℕ) → AreJoined origin last.seen pass.own most → EndPairs origin last.seen (Unit {0}) pass last → OwnsAll last → IsPrefix pass.seen last.seen
+    → sum_of begins pass.seen ≤ sum_of calls pass.seen
+lanes-begins origin pass last most joined pairs whole pre =
+    let h = last.seen in
+    let n : ℕ = length pass.seen in
+    let le = prefix_length pass.seen h pre in
+    let fair = joined.fair n in
+    let early = pairs.early n (omega arith) in
+    let same = pairs.calls_are n in
+    let b = weight-all (at begins h) last.own (length h) whole n le ∙ below-take begins h n le ∙ ap (sum_of begins) (take-prefix pass.seen h pre) in
+    let c = weight-all (at calls h) last.own (length h) whole n le ∙ below-take calls h n le ∙ ap (sum_of calls) (take-prefix pass.seen h pre) in
+    omega arith
+
+-- stray begins are no more than calls
+few-stray : (w : ℕ) (origin : Origin) (pass last : Known) → GoesTidy w origin pass last → sum_of begins pass.seen ≤ sum_of calls pass.seen → stray_begins w origin.bucket (start_of origin) last.seen ≤ call_count last.seen
+few-stray w origin pass last goes few =
+    let h = last.seen in
+    let stray = stray-append w origin.bucket (start_of origin) pass.seen goes.more in
+    let none = goes.tidy.full in
+    let counted : call_count h ≡ sum_of calls pass.seen + sum_of calls goes.more = calls-count h ∙ ap (sum_of calls) goes.seen ∙ sum-append calls pass.seen goes.more in
+    let is : stray_begins w origin.bucket (start_of origin) h ≡ stray_begins w origin.bucket (start_of origin) (pass.seen ++ goes.more) = ap (stray_begins w origin.bucket (start_of origin)) goes.seen in
+    omega arith
+
+pub settled : {I D : Type 0} (w : ℕ) (origin : Origin) (rows : List InRow) (sessions : List ℕ) (lanes : List (Lane I D)) (last : Known) (first : Option ℕ) (s : Settled) → (out : IsPlayedOut w origin rows sessions lanes last)
+    → out.pass.parts ≡ all_parts → Settles w out.pass last (Ok s) → IsLegal w (start_of origin) last.seen → length rows ≤ 65536 → origin.cells ≤ 16000000 → first_cells first ≡ origin.cells → failed_cell last.seen ≡ None
+    → IsSettled w origin.bucket (start_of origin) first last.seen
+settled w origin rows sessions lanes last first s out all settles legal few_rows few_cells is going =
+    let h = last.seen in
+    let pass = out.pass in
+    let from = out.joined.begins in
+    let limits = bounded w origin rows sessions lanes last out legal few_rows few_cells in
+    let calm : IsCalm origin h = record { going = going; bounded = limits } in
+    let join = joined w origin rows sessions lanes last out in
+    let pairs = settles-well w origin h pass last s from settles (prefix_refl h) in
+    let pre = (settles-same w pass last (Ok s) settles).0 in
+    let same = all-splits-same w pass settles.numbers settles.mid settles.splits in
+    let ended = none-open w origin h legal (even-sums origin pass last (length rows) join pairs out.whole calm) in
+    let few = cells-few origin.world h in
+    let short = limits.short h (prefix_refl h) in
+    record {
+      ended = ended;
+      going = going;
+      sized = ended-sized w origin settles.mid last first s (ap (λ (k : Known). k.origin) same.1 ∙ from) (ap (λ (k : Known). k.parts) same.1 ∙ all) settles.ends limits (omega arith) is ended;
+      stray = few-stray w origin pass last (goes-tidy w origin pass last s from all settles) (lanes-begins origin pass last (length rows) join pairs out.whole pre);
+    }

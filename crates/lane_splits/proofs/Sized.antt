@@ -1,0 +1,129 @@
+-- Where the splits at the end ended well, each leaf is sized or there was no room.
+use Rattle.std.proofs.Common.{◌≡◌, ◌⊎◌, inl, inr, ℕ, ◌+◌, ◌<◌, Bool, true, false, not, ◌&&◌, ◌||◌, cond, List, [], ◌∷◌, length, Option, Some, None, Ok, Err, refl, sym, ap, subst, ◌∙◌, arith}
+use mathlib.Core.Bool.{true≢false}
+use Rattle.std.specs.Prelude.{nat_lt}
+use Rattle.std.specs.List.{find, list_all}
+use Rattle.std.specs.Option.{option_map}
+use Rattle.std.proofs.lemmas.Bool.{ltb-true}
+use Rattle.zorder.specs.declared.points.Placed.{Placed}
+use Rattle.plain_list.specs.declared.entries.Entry.{Entry}
+use Rattle.plain_list.specs.History.{world_after}
+use Rattle.plain_list.specs.State.{State, OpenSplit, is_leaf, is_splitting, state_after}
+use Rattle.plain_list.specs.Size.{is_over, full_leaf, IsSized}
+use Rattle.plain_list.proofs.Histories.{state_after-world}
+use Rattle.kept_log.specs.Journal.{failed_cell}
+use Rattle.commit_book.specs.IsBook.{most_events}
+use Rattle.commit_book.specs.Refusals.{IsRefusedBy, IsMemoryOrDisk, first_of, closed_refusal, room_refusal, leaf_refusal, split_number}
+use Rattle.commit_book.specs.declared.faults.BookFault.{BookFault}
+use Rattle.commit_book.specs.declared.faults.BookFault.TheVariants as book
+use Rattle.book_lock.specs.Pass.{Known}
+use Rattle.book_lock.specs.declared.origin.Origin.{Origin}
+use Rattle.sessions.specs.Shared.{start_of}
+use Rattle.sessions.specs.Steps.{all_parts, AreCells, cells_after}
+use Rattle.sessions.specs.Splits.{begin_cause, state_of}
+use Rattle.sessions.specs.Settles.{SettleEnds}
+use Rattle.sessions.specs.declared.faults.Settled.{Settled}
+use Rattle.sessions.specs.declared.faults.Settled.TheVariants.{Small, Room}
+use Rattle.log_state.specs.Changes.{cells_of}
+use Rattle.lane_splits.specs.Settled.{IsBounded, cells_now, first_cells}
+use Rattle.lane_splits.proofs.Tidy.{end-seen}
+
+-- where no leaf is over the size, each is sized
+sized-none : (w size : ℕ) (world : List Placed) (splits : List OpenSplit) (leaves : List (List Bool)) → splits ≡ [] → find (λ n. is_over w size world n && not (is_splitting splits n)) leaves ≡ None
+    → list_all (λ n. not (is_over w size world n)) leaves ≡ true
+sized-none w size world splits [] ended none = refl
+sized-none w size world splits (l ∷ leaves) ended none =
+    by_test (is_over w size world l) (is_splitting splits l) (ap (λ (s : List OpenSplit). is_splitting s l) ended) none (sized-none w size world splits leaves ended)
+  where
+    by_test : (over splitting : Bool) → splitting ≡ false → cond (over && not splitting) (Some l) (find (λ n. is_over w size world n && not (is_splitting splits n)) leaves) ≡ None
+        → (find (λ n. is_over w size world n && not (is_splitting splits n)) leaves ≡ None → list_all (λ n. not (is_over w size world n)) leaves ≡ true)
+        → (not over && list_all (λ n. not (is_over w size world n)) leaves) ≡ true
+    by_test true true split here rest = absurd (true≢false split)
+    by_test true false split here rest = absurd (cc)
+    by_test false splitting split here rest = rest here
+
+sized-full : (w size : ℕ) (o : State) (h : List Entry) → (state_after w o h).splits ≡ [] → full_leaf w size (state_after w o h) ≡ None → IsSized w size (world_after o.world h) (state_after w o h).leaves
+sized-full w size o h ended none =
+    let s = state_after w o h in
+    subst (λ (world : List Placed). IsSized w size world s.leaves) (state_after-world w o h) (sized-none w size s.world s.splits s.leaves ended none)
+
+-- a begin that was refused for want of room
+abbrev is_room : BookFault → Bool
+is_room (book.Room cells events) = true
+is_room (book.Disk cell) = false
+is_room (book.Closed cell) = false
+is_room book.HistoryFull = false
+is_room book.LogFull = false
+is_room book.Memory = false
+is_room (book.Splitting number) = false
+is_room book.Deep = false
+is_room book.NoLeaf = false
+is_room (book.Stale number) = false
+is_room (book.NotOpen number) = false
+
+-- whether a cause is want of room
+abbrev for_room : Option BookFault → Bool
+for_room None = false
+for_room (Some cause) = is_room cause
+
+map-other : (f : ℕ → BookFault) (o : Option ℕ) → ((n : ℕ) → is_room (f n) ≡ false) → for_room (option_map f o) ≡ false
+map-other f None other = refl
+map-other f (Some n) other = other n
+
+if-other : (b : Bool) (cause : BookFault) (rest : Option BookFault) → is_room cause ≡ false → for_room rest ≡ false → for_room (cond b (Some cause) rest) ≡ false
+if-other true cause rest this more = this
+if-other false cause rest this more = more
+
+leaf-other : (w : ℕ) (s : State) (name : List Bool) → for_room (leaf_refusal w s name) ≡ false
+leaf-other w s name =
+    if-other (not (is_leaf s.leaves name)) book.NoLeaf (cond (nat_lt 64 (length name + w)) (Some book.Deep) (option_map book.Splitting (split_number s.splits name))) refl
+    (if-other (nat_lt 64 (length name + w)) book.Deep (option_map book.Splitting (split_number s.splits name)) refl (map-other book.Splitting (split_number s.splits name) (λ n. refl)))
+
+room-cause : (a b c : Option BookFault) → for_room a ≡ false → for_room c ≡ false → for_room (first_of a (first_of b c)) ≡ true → for_room b ≡ true
+room-cause (Some cause) b c first last is = absurd (true≢false (sym is ∙ first))
+room-cause None (Some cause) c first last is = is
+room-cause None None c first last is = absurd (true≢false (sym is ∙ last))
+
+closed-other : (h : List Entry) → for_room (closed_refusal h) ≡ false
+closed-other h = map-other book.Closed (failed_cell h) (λ n. refl)
+
+past-room : (cells events : ℕ) → for_room (room_refusal cells events) ≡ true → (4000000 < events) ⊎ (16000000 < cells)
+past-room cells events is = by_tests (nat_lt 16000000 cells) (nat_lt 4000000 events) refl refl is
+  where
+    by_tests : (a b : Bool) → nat_lt 16000000 cells ≡ a → nat_lt 4000000 events ≡ b → for_room (cond (a || b) (Some (book.Room cells events)) None) ≡ true → (4000000 < events) ⊎ (16000000 < cells)
+    by_tests true b many other is = inr (ltb-true 16000000 cells many)
+    by_tests false true few many is = inl (ltb-true 4000000 events many)
+    by_tests false false few less is = absurd (true≢false (sym is))
+
+refused-room : (cause : Option BookFault) (cells events : ℕ) → IsRefusedBy {A = ℕ} IsMemoryOrDisk cause (Err (book.Room cells events)) → for_room cause ≡ true
+refused-room None cells events (inl memory) = absurd (cc memory)
+refused-room None cells events (inr disk) = absurd disk
+refused-room (Some cause) cells events is = let same : book.Room cells events ≡ cause = cc is in ap is_room (sym same)
+
+-- the cells there are many
+many-cells : (origin : Origin) (h : List Entry) (cells : ℕ) → AreCells origin h cells → 16000000 < cells → 16000000 < cells_after origin h
+many-cells origin h cells (inl is) many = omega arith
+many-cells origin h cells (inr (none, first, less)) many = omega arith
+
+many-now : (origin : Origin) (first : Option ℕ) (h : List Entry) → first_cells first ≡ origin.cells → IsBounded origin h → length (cells_of origin.world h) < most_events → 16000000 < cells_after origin h → 16000000 < cells_now first (start_of origin) h
+many-now origin None h is bounded few many = absurd (omega arith)
+many-now origin (Some n) h is bounded few many = omega arith
+
+pub ended-sized : (w : ℕ) (origin : Origin) (mid last : Known) (first : Option ℕ) (s : Settled) → mid.origin ≡ origin → mid.parts ≡ all_parts → SettleEnds w mid last (Ok s) → IsBounded origin last.seen
+    → length (cells_of origin.world last.seen) < most_events → first_cells first ≡ origin.cells → (state_after w (start_of origin) last.seen).splits ≡ []
+    → IsSized w origin.bucket (world_after origin.world last.seen) (state_after w (start_of origin) last.seen).leaves ⊎ ((4000000 < length last.seen) ⊎ (16000000 < cells_now first (start_of origin) last.seen))
+ended-sized w origin mid last first Small from all (tells, same) bounded few is ended =
+    let none : full_leaf w origin.bucket (state_after w (start_of origin) last.seen) ≡ None =
+    (λ i. full_leaf w (sym from i).bucket (state_after w (start_of (sym from i)) (same i).seen)) ∙ sym tells.1 in
+    inl (sized-full w origin.bucket (start_of origin) last.seen ended none)
+ended-sized w origin mid last first Room from all (name, full, cells, events, begins) bounded few is ended =
+    let seen : begins.before ≡ last.seen = begins.alone all ∙ sym (end-seen w mid last Room all (name, full, cells, events, begins)) in
+    let cause = refused-room (begin_cause w mid.origin name begins.cells begins.before) cells events begins.refused in
+    let room = room-cause (closed_refusal begins.before) (room_refusal begins.cells (length begins.before)) (leaf_refusal w (state_of w mid.origin begins.before) name)
+    (closed-other begins.before) (leaf-other w (state_of w mid.origin begins.before) name) cause in
+    let are : AreCells origin last.seen begins.cells = subst (λ (h : List Entry). AreCells origin h begins.cells) seen (subst (λ (o : Origin). AreCells o begins.before begins.cells) from begins.are_cells) in
+    inr (by_case are (ap length seen) (past-room begins.cells (length begins.before) room))
+  where
+    by_case : AreCells origin last.seen begins.cells → length begins.before ≡ length last.seen → (4000000 < length begins.before) ⊎ (16000000 < begins.cells) → (4000000 < length last.seen) ⊎ (16000000 < cells_now first (start_of origin) last.seen)
+    by_case are count (inl many) = inl (omega arith)
+    by_case are count (inr many) = inr (many-now origin first last.seen is bounded few (many-cells origin last.seen begins.cells are many))
