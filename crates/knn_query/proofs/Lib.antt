@@ -1,2 +1,3 @@
-mod Homes
-mod Passing
+pub mod Passing
+pub mod Searching
+pub mod Steps

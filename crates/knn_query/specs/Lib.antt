@@ -1,2 +1,2 @@
 pub mod Passes
-pub mod Walked
+pub mod Ahead

@@ -1,10 +1,10 @@
 //! The nearest of the objects that were seen so far.
-ghost use Rattle.std.specs.Prelude.{◌≡◌, ◌≤◌, ◌∷◌, List, [], None, take, true, false, OnOk};
+ghost use Rattle.std.specs.Prelude.{◌≡◌, ◌∷◌, nat_le, List, [], None, take, OnOk};
 ghost use Rattle.std.specs.Option.{option_map};
 ghost use Rattle.zorder.specs.declared.points.Placed.{Placed};
-ghost use Rattle.zorder.specs.Distance.{distance};
 ghost use Rattle.plain_list.specs.Answer.{ranked};
 ghost use Rattle.plain_list.specs.Nearest.{rank_of, is_below, may_belong, AreOf, IsCut, IsKept};
+ghost use Rattle.knn_query.specs.Ahead.{number_nearer};
 ghost use Rattle.knn_query.specs.Passes.{Passes, IsList};
 
 use plain_list::PlacedList;
@@ -54,14 +54,11 @@ impl Kept {
         }
     }
 
-    /// Whether nothing at this distance or beyond it belongs to the nearest.
-    pub(crate) fn is_beyond(&self, least: u128) -> bool
-        ensures { result ≡ true → (m : Placed) → least ≤ distance m.at self.now.from → may_belong (rank_of self.now.from m) (option_map (rank_of self.now.from) self.now.last) ≡ false }
+    /// Whether `k` of those that are kept are nearer than this.
+    pub(crate) fn has_nearer(&self, least: u128) -> bool
+        ensures { result ≡ nat_le self.now.k (number_nearer self.now.from least self.now.list.items) }
     {
-        match &self.last {
-            Some(last) => dist(last.at, self.from) < least,
-            None => false,
-        }
+        self.list.len() >= self.k && count_nearer(&self.list, self.from, least) >= self.k
     }
 
     /// The nearest, in order.
@@ -85,6 +82,18 @@ fn cut_full(list: &mut Vec<Placed>, from: Point, k: usize, last: Option<Placed>)
         Some(m) => Some(*m),
         None => None,
     }
+}
+
+fn count_nearer(list: &[Placed], from: Point, least: u128) -> usize
+    ensures { result ≡ number_nearer from least list.now }
+{
+    let mut count = 0;
+    for m in list {
+        if dist(m.at, from) < least {
+            count += 1;
+        }
+    }
+    count
 }
 
 fn cut(list: &mut Vec<Placed>, from: Point, k: usize)

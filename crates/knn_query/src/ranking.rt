@@ -1,26 +1,25 @@
 //! Objects in the order of their distance to a point.
-ghost use Rattle.std.specs.Prelude.{◌≡◌, ◌≤◌, ◌+◌, [], None, true, take, IfOk, OnOk, length};
-ghost use Rattle.zorder.specs.declared.points.Point.{Point};
-ghost use Rattle.zorder.specs.Distance.{distance};
-ghost use Rattle.zorder.specs.Key.{IsPoint, is_in};
-ghost use Rattle.zorder.specs.SameName.{same_name};
+ghost use Rattle.std.specs.Prelude.{◌≡◌, ◌≤◌, ◌<◌, ◌+◌, [], None, take, IfOk, OnOk, length};
 ghost use Rattle.plain_list.specs.Answer.{ranked};
 ghost use Rattle.table_share.specs.Objects.{objects_of};
 ghost use Rattle.table_share.specs.Worlds.{OfEachWorld};
+ghost use Rattle.knn_query.specs.Ahead.{OpensNear};
 ghost use Rattle.knn_query.specs.Passes.{IsList, Keeps, Passes};
 
+use crate::ahead::{Ahead, take_nearest};
 use crate::kept::Kept;
 use bucket_versions::Bucket;
-use index_layer::Index;
+use index_layer::{Index, Part};
 use plain_list::PlacedList;
-use prefix_names::{least, region};
 use std::alloc::{AllocError, Global};
 use std::sync::ledger::Ledger;
 use step_count::Steps;
-use table_share::{LeafWalk, placed};
-use zorder::{Memory, Name, Point, key};
+use table_share::placed;
+use zorder::{Memory, Name, Point, child};
 
 /// The first `k` objects, or all where there are fewer, the nearest first, and of two as near the one with the lesser id.
+/// Each bucket that it opens is a step. It is a best-first search (Hjaltason and Samet, "Distance Browsing in Spatial
+/// Databases", 1999): subtrees are taken by the least distance of their region, and it keeps less than `2 k` objects.
 pub fn nearest<I: Index, L: Ledger>(
     alloc: Global,
     index: &I,
@@ -32,35 +31,44 @@ pub fn nearest<I: Index, L: Ledger>(
     requires most { k ≤ 2048 }
     ensures objects { OfEachWorld (I.leaves index.now) (λ world. IfOk result (λ list. list ≡ take k (ranked from world))) }
     ensures opened { steps.new ≤ steps.old + length (I.leaves index.now) }
+    ensures near { OfEachWorld (I.leaves index.now) (OpensNear from k (I.leaves index.now) steps.old steps.new) }
+    ensures some { IfOk result (λ list. 0 < length list → steps.old < steps.new) }
 {
-    let kept = keep_nearest(Kept::new(alloc, from, k as usize), index, steps)?;
+    let kept = keep_nearest(alloc, Kept::new(alloc, from, k as usize), index, steps)?;
     Ok(kept.into_list())
 }
 
-// The leaf of the point itself comes first, so that most others are beyond what was found there.
+// Names from the empty one, the nearest first, until k of those that are kept are nearer than any that is left.
 fn keep_nearest<I: Index, L: Ledger>(
+    alloc: Global,
     mut kept: Kept,
     index: &I,
     steps: &mut Steps<L>,
 ) -> Result<Kept, AllocError>
-    requires { IsList kept.from kept.k [] None kept }
-    ensures from { IfOk result (λ new. new.from ≡ kept.from) }
-    ensures k { IfOk result (λ new. new.k ≡ kept.k) }
+    requires list { IsList kept.from kept.k [] None kept }
+    requires least { 1 ≤ kept.k }
+    ensures kept { IfOk result (λ new. (new.from ≡ kept.from) × (new.k ≡ kept.k)) }
     ensures keeps { OfEachWorld (I.leaves index.now) (λ world. IfOk result (Keeps kept.from kept.k world [])) }
     ensures opened { steps.new ≤ steps.old + length (I.leaves index.now) }
+    ensures near { OfEachWorld (I.leaves index.now) (OpensNear kept.from kept.k (I.leaves index.now) steps.old steps.new) }
+    ensures some { IfOk result (λ new. (steps.old ≤ steps.new) × (steps.new ≡ steps.old → new.list.items ≡ [])) }
 {
-    let (home, bucket) = index.leaf_of(key(kept.from));
-    add_rows(&mut kept, bucket, steps)?;
-    let mut walk = LeafWalk::over(index);
-    while let Some(leaf) = walk.next_leaf() {
-        let (name, bucket) = leaf;
-        if is_same(name, home) {
-            continue;
+    let mut ahead = Vec::new(alloc);
+    ahead.push(Ahead::new(Name::whole(), kept.from))?;
+    while let Some(next) = take_nearest(&mut ahead) {
+        match index.part(&next.name) {
+            Part::Leaf(bucket) => {
+                if kept.has_nearer(next.least) {
+                    return Ok(kept);
+                }
+                add_rows(&mut kept, bucket, steps)?;
+            }
+            Part::Inner => {
+                ahead.push(Ahead::new(child(&next.name, false), kept.from))?;
+                ahead.push(Ahead::new(child(&next.name, true), kept.from))?;
+            }
+            Part::Outside => {}
         }
-        if kept.is_beyond(least_to(name, kept.from)) {
-            continue;
-        }
-        add_rows(&mut kept, bucket, steps)?;
     }
     Ok(kept)
 }
@@ -78,17 +86,4 @@ fn add_rows<L: Ledger>(
         kept.add(placed(row))?;
     }
     Ok(())
-}
-
-fn is_same(name: Name, other: Name) -> bool
-    ensures { result ≡ same_name name other }
-{
-    name == other
-}
-
-// The squared distance from which on there may be points under a name.
-fn least_to(name: Name, from: Point) -> u128
-    ensures { (p : Point) → IsPoint p → is_in name p ≡ true → result ≤ distance p from }
-{
-    least(&region(&name), from)
 }

@@ -20,7 +20,7 @@ use Rattle.index_layer.proofs.LeafNames.{IsFront, front-from_test, front-test, f
 use Rattle.index_layer.proofs.Worlds.{among-all}
 use Rattle.table_share.specs.Subtree.{subtree, leaves_of}
 
-abbrev begins : List Bool → List Bool → Bool
+abbrev pub begins : List Bool → List Bool → Bool
 begins name long = starts_with beq long name
 
 -- what holds at any end holds at this one

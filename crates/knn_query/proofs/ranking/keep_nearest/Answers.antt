@@ -1,102 +1,235 @@
-use Rattle.std.proofs.Common.{◌≡◌, ◌∷◌, ◌+◌, ◌≤◌, ◌∙◌, [], List, true, false, sym, subst, arith, length}
+use Rattle.std.proofs.Common.{◌≡◌, ◌<◌, ◌+◌, ◌∷◌, ◌++◌, ◌∙◌, [], ℕ, List, true, false, sym, ap, subst, arith}
+use Rattle.std.specs.Prelude.{nat_le}
 use Rattle.std.specs.Arc.{arc_value}
-use Rattle.std.specs.Option.{option_map}
-use Rattle.zorder.specs.declared.points.Point.{Point}
-use Rattle.zorder.specs.declared.points.Placed.{Placed}
-use Rattle.zorder.specs.Distance.{distance}
-use Rattle.zorder.specs.Key.{is_under, is_in, IsPoint}
-use Rattle.zorder.specs.SameName.{same_name}
-use Rattle.zorder.specs.Tile.{Tile}
-use Rattle.index_layer.specs.Leaves.{Leaf, names_of}
-use Rattle.index_layer.proofs.LeafNames.{find-among}
-use Rattle.plain_list.specs.Nearest.{rank_of, may_belong}
+use Rattle.std.specs.List.{sum_by}
+use Rattle.std.proofs.lemmas.Bool.{leb-true, leb-false}
+use Rattle.bucket_versions.specs.Rows.{Rows}
+use Rattle.index_layer.specs.Leaves.{Leaf}
 use Rattle.table_share.specs.Objects.{objects_of}
-use Rattle.knn_query.specs.Passes.{Passes, Keeps}
-use Rattle.knn_query.specs.Walked.{KeepsWorld, AreOpened, others, objects_left}
-use Rattle.knn_query.proofs.Homes.{others-length}
-use Rattle.knn_query.proofs.Passing.{starts, passes_home, passes_far, passes_leaf, far_rows, opened_less, opened_one}
+use Rattle.table_share.proofs.Subtrees.{inner-room}
+use Rattle.knn_query.specs.Ahead.{IsAhead, number_nearer, reach_of, leaves_ahead, objects_ahead, weight_of}
+use Rattle.knn_query.specs.Passes.{Keeps, Passes}
+use Rattle.knn_query.specs.declared.ahead.Ahead.{Ahead}
+use Rattle.knn_query.proofs.Steps.{State, within, taken, begins-state, closed, opened-leaf, near-leaf, leaf-state, inner-state, outside-state, ends, ends-every, weight-less, weight-two}
 use Rattle.knn_query.proofs.ranking.keep_nearest.Goals as goal
 
-pub loop-leaf-init : goal.loop-leaf-init
-loop-leaf-init g c =
+pub loop-next-init : goal.loop-next-init
+loop-next-init g c =
     let leaves : List Leaf = g.I.Index.leaves c.args.index.now in
-    let home : Leaf = record { name = c.leaf_of-home.result.0; bucket = arc_value c.leaf_of-home.result.1.now } in
-    let among = (find-among (λ (l : Leaf). is_under l.name c.key.result) leaves home c.leaf_of-home.ensures).0 in
-    let passes : Passes (objects_of home.bucket.rows) c.args.kept c.add_rows.new.kept =
-    subst (λ b. Passes (objects_of b.rows) c.args.kept c.add_rows.new.kept) c.deref.ensures c.in_ok-add_rows.ensures.passes in
-    let count : length (others home.name leaves) + 1 ≡ length leaves =
-    subst (λ (ls : List Leaf). length (others home.name ls) + 1 ≡ length ls) (sym among.2) (others-length 0 among.0 home among.1 (subst (λ (ls : List Leaf). Tile (names_of ls)) among.2 (g.met.I.Index.are_leaves c.args.index.now).tile)) in (
-      passes.from,
-      passes.k_is,
-      (λ world names is_world stands.
-          subst (λ (ls : List Leaf). KeepsWorld c.args.kept.from c.args.kept.k home.name ls world c.add_rows.new.kept) (sym c.over-walk.ensures)
-          (starts c.args.kept.from c.args.kept.k leaves world names home c.args.kept c.add_rows.new.kept is_world stands among c.requires passes)),
-      subst (λ (ls : List Leaf). AreOpened home.name leaves ls c.args.steps.now c.add_rows.new.steps) (sym c.over-walk.ensures) (omega (arith, count, c.in_ok-add_rows.ensures.opened)),
-    )
-
-pub loop-leaf-preserved-then-is_same : goal.loop-leaf-preserved-then-is_same
-loop-leaf-preserved-then-is_same g c =
-    let leaves : List Leaf = g.I.Index.leaves c.args.index.now in
-    let home = c.leaf_of-home.result.0 in
-    let l : Leaf = record { name = c.in-Some.leaf.0; bucket = arc_value c.in-Some.leaf.1.now } in
-    let left = c.next_leaf.new.self in
-    let next : c.loop-leaf.walk ≡ l ∷ left = c.in-Some.ensures in
-    let (from_is, k_is, keeps, opened) = c.loop-leaf.invariant in (
-      from_is,
-      k_is,
-      (λ world names is_world stands.
-          passes_home c.args.kept.from c.args.kept.k home l left world c.loop-leaf.kept (sym c.is_same.ensures ∙ c.if-is_same.true)
-          (subst (λ (ls : List Leaf). KeepsWorld c.args.kept.from c.args.kept.k home ls world c.loop-leaf.kept) next (keeps world names is_world stands))),
-      opened_less home leaves l left c.args.steps.now c.loop-leaf.steps (subst (λ (ls : List Leaf). AreOpened home leaves ls c.args.steps.now c.loop-leaf.steps) next opened),
-    )
-
-pub loop-leaf-preserved-then-is_beyond : goal.loop-leaf-preserved-then-is_beyond
-loop-leaf-preserved-then-is_beyond g c =
-    let leaves : List Leaf = g.I.Index.leaves c.args.index.now in
-    let home = c.leaf_of-home.result.0 in
-    let l : Leaf = record { name = c.in-Some.leaf.0; bucket = arc_value c.in-Some.leaf.1.now } in
-    let left = c.next_leaf.new.self in
-    let next : c.loop-leaf.walk ≡ l ∷ left = c.in-Some.ensures in
     let p = c.args.kept.from in
-    let last = c.loop-leaf.kept.last in
-    let (from_is, k_is, keeps, opened) = c.loop-leaf.invariant in
-    let beyond : (m : Placed) → c.least_to.result ≤ distance m.at p → may_belong (rank_of p m) (option_map (rank_of p) last) ≡ false =
-    subst (λ q. (m : Placed) → c.least_to.result ≤ distance m.at q → may_belong (rank_of q m) (option_map (rank_of q) last) ≡ false) from_is (c.is_beyond.ensures c.if-is_beyond.true) in
-    let nearer : (q : Point) → IsPoint q → is_in l.name q ≡ true → c.least_to.result ≤ distance q p =
-    subst (λ o. (q : Point) → IsPoint q → is_in l.name q ≡ true → c.least_to.result ≤ distance q o) from_is c.least_to.ensures in (
-      from_is,
-      k_is,
-      (λ world names is_world stands.
-          let so_far = subst (λ (ls : List Leaf). KeepsWorld p c.args.kept.k home ls world c.loop-leaf.kept) next (keeps world names is_world stands) in
-          passes_far p c.args.kept.k home l left world c.loop-leaf.kept (sym c.is_same.ensures ∙ c.if-is_same.false) so_far
-          (far_rows p l.name c.least_to.result nearer (λ (m : Placed). may_belong (rank_of p m) (option_map (rank_of p) last) ≡ false) beyond l.bucket.rows so_far.under.0)),
-      opened_less home leaves l left c.args.steps.now c.loop-leaf.steps (subst (λ (ls : List Leaf). AreOpened home leaves ls c.args.steps.now c.loop-leaf.steps) next opened),
+    let k = c.args.kept.k in (
+      subst (λ (xs : List Ahead). State p k leaves c.args.steps.now c.args.steps.now xs c.args.kept) (sym (c.in_ok-push.ensures.items ∙ ap (λ (xs : List Ahead). xs ++ c.new.result ∷ []) c.new-ahead.ensures.items))
+          (begins-state p k leaves c.args.steps.now c.new.result c.args.kept c.requires.list (c.new.ensures.name ∙ c.whole.ensures) c.new.ensures.ahead),
+      omega arith,
     )
 
-pub loop-leaf-preserved : goal.loop-leaf-preserved
-loop-leaf-preserved g c =
+pub returns-then-has_nearer-clause-keeps : goal.returns-then-has_nearer-clause-keeps
+returns-then-has_nearer-clause-keeps g c =
     let leaves : List Leaf = g.I.Index.leaves c.args.index.now in
-    let home = c.leaf_of-home.result.0 in
-    let l : Leaf = record { name = c.in-Some.leaf.0; bucket = arc_value c.in-Some.leaf.1.now } in
-    let left = c.next_leaf.new.self in
-    let next : c.loop-leaf.walk ≡ l ∷ left = c.in-Some.ensures in
-    let (from_is, k_is, keeps, opened) = c.loop-leaf.invariant in
-    let other : same_name l.name home ≡ false = sym c.is_same.ensures ∙ c.if-is_same.false in
-    let passes : Passes (objects_of l.bucket.rows) c.loop-leaf.kept c.add_rows-in-Some.new.kept =
-    subst (λ b. Passes (objects_of b.rows) c.loop-leaf.kept c.add_rows-in-Some.new.kept) c.deref-in-Some.ensures c.in_ok-add_rows-2.ensures.passes in (
-      passes.from ∙ from_is,
-      passes.k_is ∙ k_is,
-      (λ world names is_world stands.
-          passes_leaf c.args.kept.from c.args.kept.k home l left world c.loop-leaf.kept other
-          (subst (λ (ls : List Leaf). KeepsWorld c.args.kept.from c.args.kept.k home ls world c.loop-leaf.kept) next (keeps world names is_world stands))
-          c.add_rows-in-Some.new.kept from_is k_is passes),
-      opened_one home leaves l left c.args.steps.now c.loop-leaf.steps c.add_rows-in-Some.new.steps other c.in_ok-add_rows-2.ensures.opened
-          (subst (λ (ls : List Leaf). AreOpened home leaves ls c.args.steps.now c.loop-leaf.steps) next opened),
+    let p = c.args.kept.from in
+    let k = c.args.kept.k in
+    let s = c.loop-next.invariant.0 in
+    let tile = (g.met.I.Index.are_leaves c.args.index.now).tile in
+    let a : Ahead = c.in-Some.next in
+    let left : List Ahead = c.take_nearest.new.ahead.items in
+    let t = taken p k leaves c.args.steps.now c.loop-next.steps c.loop-next.ahead.items left a c.loop-next.kept s c.in-Some.ensures in
+    let number : ℕ = number_nearer p a.least c.loop-next.kept.list.items in
+    let test : nat_le k number ≡ c.has_nearer.result = (λ i. nat_le (sym s.k_is i) (number_nearer (sym s.from i) a.least c.loop-next.kept.list.items)) ∙ sym c.has_nearer.ensures in
+    closed p k leaves c.args.steps.now tile c.loop-next.steps a left c.loop-next.kept t (leb-true k number (test ∙ c.if-has_nearer.true))
+
+pub returns-then-has_nearer-clause-opened : goal.returns-then-has_nearer-clause-opened
+returns-then-has_nearer-clause-opened g c =
+    let leaves : List Leaf = g.I.Index.leaves c.args.index.now in
+    let p = c.args.kept.from in
+    let k = c.args.kept.k in
+    ends-every p k leaves c.args.steps.now c.loop-next.steps (leaves_ahead leaves c.loop-next.ahead.items) c.loop-next.invariant.0.opened
+
+pub returns-then-has_nearer-clause-near : goal.returns-then-has_nearer-clause-near
+returns-then-has_nearer-clause-near g c world names is_world stands d many =
+    let leaves : List Leaf = g.I.Index.leaves c.args.index.now in
+    let p = c.args.kept.from in
+    let k = c.args.kept.k in
+    ends p k leaves c.args.steps.now (within p (reach_of p k world d)) c.loop-next.steps (leaves_ahead leaves c.loop-next.ahead.items) (c.loop-next.invariant.0.near world names is_world stands d many)
+
+pub returns-in_err-push-in-Inner-clause-opened : goal.returns-in_err-push-in-Inner-clause-opened
+returns-in_err-push-in-Inner-clause-opened g c =
+    let leaves : List Leaf = g.I.Index.leaves c.args.index.now in
+    let p = c.args.kept.from in
+    let k = c.args.kept.k in
+    ends-every p k leaves c.args.steps.now c.loop-next.steps (leaves_ahead leaves c.loop-next.ahead.items) c.loop-next.invariant.0.opened
+
+pub returns-in_err-push-in-Inner-clause-near : goal.returns-in_err-push-in-Inner-clause-near
+returns-in_err-push-in-Inner-clause-near g c world names is_world stands d many =
+    let leaves : List Leaf = g.I.Index.leaves c.args.index.now in
+    let p = c.args.kept.from in
+    let k = c.args.kept.k in
+    ends p k leaves c.args.steps.now (within p (reach_of p k world d)) c.loop-next.steps (leaves_ahead leaves c.loop-next.ahead.items) (c.loop-next.invariant.0.near world names is_world stands d many)
+
+pub returns-in_err-push-in-Inner-2-clause-opened : goal.returns-in_err-push-in-Inner-2-clause-opened
+returns-in_err-push-in-Inner-2-clause-opened g c =
+    let leaves : List Leaf = g.I.Index.leaves c.args.index.now in
+    let p = c.args.kept.from in
+    let k = c.args.kept.k in
+    ends-every p k leaves c.args.steps.now c.loop-next.steps (leaves_ahead leaves c.loop-next.ahead.items) c.loop-next.invariant.0.opened
+
+pub returns-in_err-push-in-Inner-2-clause-near : goal.returns-in_err-push-in-Inner-2-clause-near
+returns-in_err-push-in-Inner-2-clause-near g c world names is_world stands d many =
+    let leaves : List Leaf = g.I.Index.leaves c.args.index.now in
+    let p = c.args.kept.from in
+    let k = c.args.kept.k in
+    ends p k leaves c.args.steps.now (within p (reach_of p k world d)) c.loop-next.steps (leaves_ahead leaves c.loop-next.ahead.items) (c.loop-next.invariant.0.near world names is_world stands d many)
+
+pub returns-clause-opened : goal.returns-clause-opened
+returns-clause-opened g c =
+    let leaves : List Leaf = g.I.Index.leaves c.args.index.now in
+    let p = c.args.kept.from in
+    let k = c.args.kept.k in
+    ends-every p k leaves c.args.steps.now c.loop-next.steps (leaves_ahead leaves c.loop-next.ahead.items) c.loop-next.invariant.0.opened
+
+pub returns-clause-near : goal.returns-clause-near
+returns-clause-near g c world names is_world stands d many =
+    let leaves : List Leaf = g.I.Index.leaves c.args.index.now in
+    let p = c.args.kept.from in
+    let k = c.args.kept.k in
+    ends p k leaves c.args.steps.now (within p (reach_of p k world d)) c.loop-next.steps (leaves_ahead leaves c.loop-next.ahead.items) (c.loop-next.invariant.0.near world names is_world stands d many)
+
+pub loop-next-smaller-in-Continue-branch-2 : goal.loop-next-smaller-in-Continue-branch-2
+loop-next-smaller-in-Continue-branch-2 g c =
+    let leaves : List Leaf = g.I.Index.leaves c.args.index.now in
+    let p = c.args.kept.from in
+    let k = c.args.kept.k in
+    let s = c.loop-next.invariant.0 in
+    let tile = (g.met.I.Index.are_leaves c.args.index.now).tile in
+    let a : Ahead = c.in-Some.next in
+    let left : List Ahead = c.take_nearest.new.ahead.items in
+    let t = taken p k leaves c.args.steps.now c.loop-next.steps c.loop-next.ahead.items left a c.loop-next.kept s c.in-Some.ensures in
+    weight-less c.loop-next.ahead.items left a c.in-Some.ensures t.is.1
+
+pub loop-next-smaller : goal.loop-next-smaller
+loop-next-smaller g c =
+    let leaves : List Leaf = g.I.Index.leaves c.args.index.now in
+    let p = c.args.kept.from in
+    let k = c.args.kept.k in
+    let s = c.loop-next.invariant.0 in
+    let tile = (g.met.I.Index.are_leaves c.args.index.now).tile in
+    let a : Ahead = c.in-Some.next in
+    let left : List Ahead = c.take_nearest.new.ahead.items in
+    let t = taken p k leaves c.args.steps.now c.loop-next.steps c.loop-next.ahead.items left a c.loop-next.kept s c.in-Some.ensures in
+    weight-less c.loop-next.ahead.items left a c.in-Some.ensures t.is.1
+
+pub loop-next-preserved-in-Continue-branch-2 : goal.loop-next-preserved-in-Continue-branch-2
+loop-next-preserved-in-Continue-branch-2 g c =
+    let leaves : List Leaf = g.I.Index.leaves c.args.index.now in
+    let p = c.args.kept.from in
+    let k = c.args.kept.k in
+    let s = c.loop-next.invariant.0 in
+    let tile = (g.met.I.Index.are_leaves c.args.index.now).tile in
+    let a : Ahead = c.in-Some.next in
+    let left : List Ahead = c.take_nearest.new.ahead.items in
+    let t = taken p k leaves c.args.steps.now c.loop-next.steps c.loop-next.ahead.items left a c.loop-next.kept s c.in-Some.ensures in
+    let number : ℕ = number_nearer p a.least c.loop-next.kept.list.items in
+    let test : nat_le k number ≡ c.has_nearer.result = (λ i. nat_le (sym s.k_is i) (number_nearer (sym s.from i) a.least c.loop-next.kept.list.items)) ∙ sym c.has_nearer.ensures in
+    let few : number < k = leb-false k number (test ∙ c.if-has_nearer.false) in
+    let b : Rows = arc_value c.in-Leaf.bucket.now in
+    let passes : Passes (objects_of b.rows) c.loop-next.kept c.add_rows.new.kept = subst (λ (r : Rows). Passes (objects_of r.rows) c.loop-next.kept c.add_rows.new.kept) c.deref.ensures c.in_ok-add_rows-in-Leaf.ensures.passes in (
+      leaf-state p k leaves c.args.steps.now tile c.loop-next.steps a left c.loop-next.kept t b c.in-Leaf.ensures few c.add_rows.new.kept c.add_rows.new.steps c.add_rows.ensures.opened c.loop-next.invariant.1 passes,
+      omega (arith, c.loop-next.invariant.1, c.add_rows.ensures.opened),
     )
+
+pub returns-in_err-add_rows-in-Leaf-clause-opened : goal.returns-in_err-add_rows-in-Leaf-clause-opened
+returns-in_err-add_rows-in-Leaf-clause-opened g c =
+    let leaves : List Leaf = g.I.Index.leaves c.args.index.now in
+    let p = c.args.kept.from in
+    let k = c.args.kept.k in
+    let s = c.loop-next.invariant.0 in
+    let tile = (g.met.I.Index.are_leaves c.args.index.now).tile in
+    let a : Ahead = c.in-Some.next in
+    let left : List Ahead = c.take_nearest.new.ahead.items in
+    let t = taken p k leaves c.args.steps.now c.loop-next.steps c.loop-next.ahead.items left a c.loop-next.kept s c.in-Some.ensures in
+    let number : ℕ = number_nearer p a.least c.loop-next.kept.list.items in
+    let test : nat_le k number ≡ c.has_nearer.result = (λ i. nat_le (sym s.k_is i) (number_nearer (sym s.from i) a.least c.loop-next.kept.list.items)) ∙ sym c.has_nearer.ensures in
+    let few : number < k = leb-false k number (test ∙ c.if-has_nearer.false) in
+    let b : Rows = arc_value c.in-Leaf.bucket.now in
+    let most = ends-every p k leaves c.args.steps.now (c.loop-next.steps + 1) (leaves_ahead leaves left) (opened-leaf p k leaves c.args.steps.now tile c.loop-next.steps a left c.loop-next.kept t b c.in-Leaf.ensures few) in
+    omega (arith, most, c.add_rows.ensures.opened)
+
+pub returns-in_err-add_rows-in-Leaf-clause-near : goal.returns-in_err-add_rows-in-Leaf-clause-near
+returns-in_err-add_rows-in-Leaf-clause-near g c world names is_world stands d many =
+    let leaves : List Leaf = g.I.Index.leaves c.args.index.now in
+    let p = c.args.kept.from in
+    let k = c.args.kept.k in
+    let s = c.loop-next.invariant.0 in
+    let tile = (g.met.I.Index.are_leaves c.args.index.now).tile in
+    let a : Ahead = c.in-Some.next in
+    let left : List Ahead = c.take_nearest.new.ahead.items in
+    let t = taken p k leaves c.args.steps.now c.loop-next.steps c.loop-next.ahead.items left a c.loop-next.kept s c.in-Some.ensures in
+    let number : ℕ = number_nearer p a.least c.loop-next.kept.list.items in
+    let test : nat_le k number ≡ c.has_nearer.result = (λ i. nat_le (sym s.k_is i) (number_nearer (sym s.from i) a.least c.loop-next.kept.list.items)) ∙ sym c.has_nearer.ensures in
+    let few : number < k = leb-false k number (test ∙ c.if-has_nearer.false) in
+    let b : Rows = arc_value c.in-Leaf.bucket.now in
+    let most = ends p k leaves c.args.steps.now (within p (reach_of p k world d)) (c.loop-next.steps + 1) (leaves_ahead leaves left)
+    (near-leaf p k leaves c.args.steps.now tile c.loop-next.steps a left c.loop-next.kept t b c.in-Leaf.ensures few world names is_world stands d many) in
+    omega (arith, most, c.add_rows.ensures.opened)
+
+pub child-requires : goal.child-requires
+child-requires g c =
+    inner-room c.in-Some.next.name (g.I.Index.leaves c.args.index.now) (g.met.I.Index.are_leaves c.args.index.now).tile c.in-Inner.ensures.0
+
+pub loop-next-smaller-in-Continue-branch-4 : goal.loop-next-smaller-in-Continue-branch-4
+loop-next-smaller-in-Continue-branch-4 g c =
+    let leaves : List Leaf = g.I.Index.leaves c.args.index.now in
+    let p = c.args.kept.from in
+    let k = c.args.kept.k in
+    let s = c.loop-next.invariant.0 in
+    let tile = (g.met.I.Index.are_leaves c.args.index.now).tile in
+    let a : Ahead = c.in-Some.next in
+    let left : List Ahead = c.take_nearest.new.ahead.items in
+    let t = taken p k leaves c.args.steps.now c.loop-next.steps c.loop-next.ahead.items left a c.loop-next.kept s c.in-Some.ensures in
+    let fore : Ahead = c.new-in-Inner.result in
+    let hind : Ahead = c.new-in-Inner-2.result in
+    let fore_name : fore.name ≡ a.name ++ false ∷ [] = c.new-in-Inner.ensures.name ∙ c.child.ensures in
+    let hind_name : hind.name ≡ a.name ++ true ∷ [] = c.new-in-Inner-2.ensures.name ∙ c.child-in-Inner.ensures in
+    let items : c.push-in-Inner-2.new.self.items ≡ (left ++ fore ∷ []) ++ hind ∷ [] = c.in_ok-push-in-Inner-2.ensures.items ∙ ap (λ (xs : List Ahead). xs ++ hind ∷ []) c.in_ok-push-in-Inner.ensures.items in
+    subst (λ (xs : List Ahead). sum_by weight_of xs < sum_by weight_of c.loop-next.ahead.items) (sym items)
+    (weight-two c.loop-next.ahead.items left a fore hind c.in-Some.ensures (inner-room a.name leaves tile c.in-Inner.ensures.0) fore_name hind_name)
+
+pub loop-next-preserved-in-Continue-branch-4 : goal.loop-next-preserved-in-Continue-branch-4
+loop-next-preserved-in-Continue-branch-4 g c =
+    let leaves : List Leaf = g.I.Index.leaves c.args.index.now in
+    let p = c.args.kept.from in
+    let k = c.args.kept.k in
+    let s = c.loop-next.invariant.0 in
+    let tile = (g.met.I.Index.are_leaves c.args.index.now).tile in
+    let a : Ahead = c.in-Some.next in
+    let left : List Ahead = c.take_nearest.new.ahead.items in
+    let t = taken p k leaves c.args.steps.now c.loop-next.steps c.loop-next.ahead.items left a c.loop-next.kept s c.in-Some.ensures in
+    let fore : Ahead = c.new-in-Inner.result in
+    let hind : Ahead = c.new-in-Inner-2.result in
+    let fore_name : fore.name ≡ a.name ++ false ∷ [] = c.new-in-Inner.ensures.name ∙ c.child.ensures in
+    let hind_name : hind.name ≡ a.name ++ true ∷ [] = c.new-in-Inner-2.ensures.name ∙ c.child-in-Inner.ensures in
+    let items : c.push-in-Inner-2.new.self.items ≡ (left ++ fore ∷ []) ++ hind ∷ [] = c.in_ok-push-in-Inner-2.ensures.items ∙ ap (λ (xs : List Ahead). xs ++ hind ∷ []) c.in_ok-push-in-Inner.ensures.items in
+    let fore_is : IsAhead p fore = subst (λ q. IsAhead q fore) s.from c.new-in-Inner.ensures.ahead in
+    let hind_is : IsAhead p hind = subst (λ q. IsAhead q hind) s.from c.new-in-Inner-2.ensures.ahead in (
+      subst (λ (xs : List Ahead). State p k leaves c.args.steps.now c.loop-next.steps xs c.loop-next.kept) (sym items)
+          (inner-state p k leaves c.args.steps.now tile c.loop-next.steps a left c.loop-next.kept t fore hind c.in-Inner.ensures.0 c.in-Inner.ensures.1 fore_name hind_name fore_is hind_is),
+      c.loop-next.invariant.1,
+    )
+
+pub loop-next-preserved : goal.loop-next-preserved
+loop-next-preserved g c =
+    let leaves : List Leaf = g.I.Index.leaves c.args.index.now in
+    let p = c.args.kept.from in
+    let k = c.args.kept.k in
+    let s = c.loop-next.invariant.0 in
+    let tile = (g.met.I.Index.are_leaves c.args.index.now).tile in
+    let a : Ahead = c.in-Some.next in
+    let left : List Ahead = c.take_nearest.new.ahead.items in
+    let t = taken p k leaves c.args.steps.now c.loop-next.steps c.loop-next.ahead.items left a c.loop-next.kept s c.in-Some.ensures in
+    (outside-state p k leaves c.args.steps.now tile c.loop-next.steps a left c.loop-next.kept t c.in-Outside.ensures.0 c.in-Outside.ensures.1, c.loop-next.invariant.1)
 
 pub returns-clause-keeps : goal.returns-clause-keeps
 returns-clause-keeps g c world names is_world stands =
-    let home = c.leaf_of-home.result.0 in
-    let (from_is, k_is, keeps, opened) = c.loop-leaf.invariant in
-    let none : c.loop-leaf.walk ≡ [] = c.in_default.ensures.0 in
-    subst (λ (ls : List Leaf). Keeps c.args.kept.from c.args.kept.k world (objects_left home ls) c.loop-leaf.kept) none (keeps world names is_world stands).keeps
+    let leaves : List Leaf = g.I.Index.leaves c.args.index.now in
+    let p = c.args.kept.from in
+    let k = c.args.kept.k in
+    subst (λ (xs : List Ahead). Keeps p k world (objects_ahead leaves xs) c.loop-next.kept) c.in_default.ensures.0 (c.loop-next.invariant.0.worlds world names is_world stands).keeps

@@ -1,14 +1,12 @@
-use Rattle.std.proofs.Common.{◌≡◌, length}
-use Rattle.table_share.specs.Worlds.{OfEachWorld}
-use Rattle.knn_query.specs.Walked.{KeepsWorld, AreOpened}
+use Rattle.std.proofs.Common.{◌≤◌}
+use Rattle.std.specs.List.{sum_by}
+use Rattle.knn_query.specs.Ahead.{weight_of}
+use Rattle.knn_query.proofs.Steps.{State}
 use Rattle.knn_query.proofs.ranking.keep_nearest.Given as goal
 
--- what was kept of the leaf of the point and of the leaves that are gone
-abbrev pub invariant-loop-leaf : goal.invariant-loop-leaf
-invariant-loop-leaf g l =
-    (l.kept.from ≡ l.fn.kept.from) × (l.kept.k ≡ l.fn.kept.k)
-    × OfEachWorld (g.I.Index.leaves l.index) (λ world. KeepsWorld l.fn.kept.from l.fn.kept.k l.home l.walk world l.kept)
-    × AreOpened l.home (g.I.Index.leaves l.index) l.walk l.fn.steps l.steps
+-- what is ahead has the objects that are still to come, and the leaves that weren't opened
+abbrev pub invariant-loop-next : goal.invariant-loop-next
+invariant-loop-next g l = State l.fn.kept.from l.fn.kept.k (g.I.Index.leaves l.index) l.fn.steps l.steps l.ahead.items l.kept × (l.fn.steps ≤ l.steps)
 
-abbrev pub decreases-loop-leaf : goal.decreases-loop-leaf
-decreases-loop-leaf g l = length l.walk
+abbrev pub decreases-loop-next : goal.decreases-loop-next
+decreases-loop-next g l = sum_by weight_of l.ahead.items

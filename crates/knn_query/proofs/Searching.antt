@@ -1,0 +1,251 @@
+-- A best-first search: what is ahead, and what was opened.
+use Rattle.std.proofs.Common.{◌≡◌, ℕ, zero, suc, ◌+◌, ◌-◌, ◌<◌, ◌≤◌, Bool, true, false, cond, List, [], ◌∷◌, ◌++◌, length, take, get_or, Some, refl, sym, ap, subst, ◌∙◌, arith, append_assoc, length-append, length-take}
+use Rattle.std.specs.Prelude.{nat_lt}
+use Rattle.std.specs.List.{All, fold}
+use Rattle.std.specs.List.Sorted.{IsPermutation}
+use Rattle.std.proofs.lemmas.Grind.{flat_map-append}
+use Rattle.std.proofs.lemmas.List.{map-append, append-nil, get_or-take}
+use Rattle.std.proofs.lemmas.List.Elements.{All-nil, All-head, All-tail, All-append, filter-append}
+use Rattle.std.proofs.lemmas.List.Sorted.{All-permutation, IsPermutation-trans, IsPermutation-append_comm, IsPermutation-append_left, IsPermutation-append_right, sum_by-IsPermutation, sorted_far, length_permutation}
+use Rattle.std.proofs.lemmas.List.Sums.{sum_by-cons, sum_by-append, sum_by-take-le}
+use Rattle.std.proofs.lemmas.Bool.Decides.{nat_tests}
+use Rattle.zorder.specs.declared.points.Point.{Point}
+use Rattle.zorder.specs.declared.points.Placed.{Placed}
+use Rattle.zorder.specs.Distance.{distance}
+use Rattle.zorder.specs.Key.{is_in, IsPoint}
+use Rattle.prefix_names.specs.Regions.{region_of}
+use Rattle.prefix_names.proofs.Corners.{has_point-region_of}
+use Rattle.prefix_names.proofs.Nearest.{least_distance-le}
+use Rattle.bucket_versions.specs.declared.row.Row.{Row}
+use Rattle.index_layer.specs.Leaves.{Leaf, all_rows}
+use Rattle.index_layer.proofs.LeafNames.{IsFront, front-from_test, under-front}
+use Rattle.plain_list.specs.World.{place_of}
+use Rattle.plain_list.specs.Answer.{ranked, is_before, with_ranked}
+use Rattle.plain_list.specs.Nearest.{AreOf}
+use Rattle.plain_list.proofs.Ranking.{ranked_once, IsPermutation-ranked, IsSortedBy-ranked, is_before-order}
+use Rattle.plain_list.proofs.Cuts.{with_more, take-with_more}
+use Rattle.table_share.specs.Objects.{placed_of, objects_of}
+use Rattle.table_share.specs.KeysUnder.{AreKeysUnder, AreAllKeysUnder}
+use Rattle.table_share.specs.Subtree.{subtree, leaves_of}
+use Rattle.table_share.proofs.Subtrees.{begins}
+use Rattle.knn_query.specs.Ahead.{least_to, reach_of, number_nearer, IsAhead, IsFirst, leaves_ahead, objects_ahead, Searches}
+use Rattle.knn_query.specs.Passes.{Keeps}
+use Rattle.knn_query.specs.declared.ahead.Ahead.{Ahead}
+use Rattle.knn_query.specs.declared.kept.Kept.{Kept}
+use Rattle.knn_query.proofs.Passing.{far_rows}
+
+abbrev IsAt : List Placed → Placed → Type 0
+IsAt world m = place_of world m.id ≡ Some m.at
+
+fold-append : {S X : Type 0} (f : S → X → S) (s : S) (xs ys : List X) → fold f s (xs ++ ys) ≡ fold f (fold f s xs) ys
+fold-append f s [] ys = refl
+fold-append f s (x ∷ xs) ys = fold-append f (f s x) xs ys
+
+module _ (p : Point) where
+  ranked-more : (list ms : List Placed) → with_more p (ranked p list) ms ≡ ranked p (list ++ ms)
+  ranked-more list ms = sym (fold-append (λ (l : List Placed) m. with_ranked p m l) [] list ms)
+
+  ranked-permuted : (world ms ns : List Placed) → AreOf world ms → IsPermutation ms ns → ranked p ns ≡ ranked p ms
+  ranked-permuted world ms ns are perm = ranked_once p world ms (ranked p ns) are (IsPermutation-trans ms ns (ranked p ns) perm (IsPermutation-ranked p ns)) (IsSortedBy-ranked p ns)
+
+  -- what a pass says of the objects that it keeps and of those to come
+  pass_all : (k : ℕ) (list rest : List Placed) → take k (with_more p (take k (ranked p list)) rest) ≡ take k (ranked p (list ++ rest))
+  pass_all k list rest = take-with_more p k rest (ranked p list) ∙ ap (take k) (ranked-more list rest)
+
+  pub keeps_permuted : (k : ℕ) (world xs ys : List Placed) (kept : Kept) → AreOf world xs → IsPermutation xs ys → Keeps p k world xs kept → Keeps p k world ys kept
+  keeps_permuted k world xs ys kept are perm pass = record {
+    are_of = pass.are_of;
+    is_last = pass.is_last;
+    nearest =
+        let list : List Placed = kept.list.items in
+        pass_all k list ys
+        ∙ ap (take k) (ranked-permuted world (list ++ xs) (list ++ ys) (All-append (IsAt world) list xs pass.are_of are) (IsPermutation-append_right list xs ys perm))
+        ∙ sym (pass_all k list xs) ∙ pass.nearest;
+  }
+
+  pub searches_permuted : (k : ℕ) (world xs ys : List Placed) (kept : Kept) → IsPermutation xs ys → Searches p k world xs kept → Searches p k world ys kept
+  searches_permuted k world xs ys kept perm s = record {
+    are_of = All-permutation (IsAt world) xs ys perm s.are_of;
+    keeps = keeps_permuted k world xs ys kept s.are_of perm s.keeps;
+  }
+
+  -- counts of what is nearer
+  abbrev pub one_if : Bool → ℕ
+  one_if b = cond b 1 0
+
+  abbrev pub nearer : ℕ → Placed → Bool
+  nearer reach m = nat_lt (distance m.at p) reach
+
+  pub none_nearer : (reach : ℕ) (ms : List Placed) → All (λ (m : Placed). reach ≤ distance m.at p) ms → number_nearer p reach ms ≡ 0
+  none_nearer reach [] far = refl
+  none_nearer reach (m ∷ ms) far =
+      omega (arith, sum_by-cons (λ n. one_if (nearer reach n)) m ms, none_nearer reach ms (All-tail (λ (m : Placed). reach ≤ distance m.at p) m ms far), out m (All-head (λ (m : Placed). reach ≤ distance m.at p) m ms far))
+    where
+      out : (m : Placed) → reach ≤ distance m.at p → one_if (nearer reach m) ≡ 0
+      out m le = grind (arith, nat_tests)
+
+  all_nearer : (reach : ℕ) (ms : List Placed) → All (λ (m : Placed). distance m.at p < reach) ms → number_nearer p reach ms ≡ length ms
+  all_nearer reach [] near = refl
+  all_nearer reach (m ∷ ms) near =
+      omega (arith, sum_by-cons (λ n. one_if (nearer reach n)) m ms, all_nearer reach ms (All-tail (λ (m : Placed). distance m.at p < reach) m ms near), within m (All-head (λ (m : Placed). distance m.at p < reach) m ms near))
+    where
+      within : (m : Placed) → distance m.at p < reach → one_if (nearer reach m) ≡ 1
+      within m lt = grind (arith, nat_tests)
+
+  pub fewer : (reach : ℕ) (ms : List Placed) → number_nearer p reach ms ≤ length ms
+  fewer reach [] = omega arith
+  fewer reach (m ∷ ms) = omega (arith, sum_by-cons (λ n. one_if (nearer reach n)) m ms, fewer reach ms, at_most (nearer reach m))
+    where
+      at_most : (b : Bool) → one_if b ≤ 1
+      at_most true = omega arith
+      at_most false = omega arith
+
+  -- one that isn't before another is as far
+  not_before-far : (m n : Placed) → is_before p m n ≡ false → distance n.at p ≤ distance m.at p
+  not_before-far m n e = grind (arith, nat_tests)
+
+  pub ranked-far : (ms : List Placed) (i j : ℕ) (d : Placed) → i ≤ j → j < length (ranked p ms) → distance (get_or (ranked p ms) i d).at p ≤ distance (get_or (ranked p ms) j d).at p
+  ranked-far ms i j d le lt =
+      not_before-far (get_or (ranked p ms) j d) (get_or (ranked p ms) i d) (sorted_far (is_before p) (is_before-order p) (ranked p ms) (IsSortedBy-ranked p ms) i j d le lt)
+
+  length-ranked : (ms : List Placed) → length (ranked p ms) ≡ length ms
+  length-ranked ms = length_permutation ms (ranked p ms) (IsPermutation-ranked p ms)
+
+  pub number-ranked : (reach : ℕ) (ms : List Placed) → number_nearer p reach (ranked p ms) ≡ number_nearer p reach ms
+  number-ranked reach ms = sum_by-IsPermutation (λ n. one_if (nearer reach n)) ms (ranked p ms) (IsPermutation-ranked p ms)
+
+  -- where fewer than k of those that are kept are nearer, the k-th object of the world isn't nearer
+  pub reach-within : (k reach : ℕ) (world rest : List Placed) (kept : Kept) (d : Placed) → Keeps p k world rest kept → All (λ (m : Placed). reach ≤ distance m.at p) rest
+      → number_nearer p reach kept.list.items < k → k ≤ length world → reach ≤ reach_of p k world d
+  reach-within k reach world rest kept d pass far few many = by_test (nat_lt (reach_of p k world d) reach) refl
+    where
+      list : List Placed
+      list = kept.list.items
+
+      best : List Placed
+      best = take k (ranked p world)
+
+      long : length best ≡ k
+      long = omega (arith, length-take k (ranked p world), length-ranked world, many)
+
+      near : reach_of p k world d < reach → All (λ (m : Placed). distance m.at p < reach) best
+      near lt i e less =
+          let here : get_or best i e ≡ get_or (ranked p world) i e = get_or-take k (ranked p world) i e (omega (arith, less, long)) in
+          let there = ranked-far world i (k - 1) e (omega (arith, less, long)) (omega (arith, length-ranked world, many, less, long)) in
+          subst (λ (m : Placed). distance m.at p < reach) (sym here) (omega (arith, there, lt, same_at (ranked p world) (k - 1) e d (omega (arith, length-ranked world, many, less, long))))
+        where
+          same_at : (ms : List Placed) (i : ℕ) (e d : Placed) → i < length ms → distance (get_or ms i e).at p ≡ distance (get_or ms i d).at p
+          same_at [] i e d lt = absurd (omega (arith, lt))
+          same_at (m ∷ ms) zero e d lt = refl
+          same_at (m ∷ ms) (suc i) e d lt = same_at ms i e d (omega (arith, lt))
+
+      by_test : (b : Bool) → nat_lt (reach_of p k world d) reach ≡ b → reach ≤ reach_of p k world d
+      by_test false e = grind (arith, nat_tests)
+      by_test true e =
+          let lt : reach_of p k world d < reach = grind (arith, nat_tests) in
+          let all : number_nearer p reach best ≡ length best = all_nearer reach best (near lt) in
+          let same : best ≡ take k (ranked p (list ++ rest)) = sym (sym (pass_all k list rest) ∙ pass.nearest) in
+          let part : number_nearer p reach (take k (ranked p (list ++ rest))) ≤ number_nearer p reach (ranked p (list ++ rest)) = sum_by-take-le (λ n. one_if (nearer reach n)) (ranked p (list ++ rest)) k in
+          let sum : number_nearer p reach (list ++ rest) ≡ number_nearer p reach list + number_nearer p reach rest = sum_by-append (λ n. one_if (nearer reach n)) list rest in
+          absurd (omega (arith, all, long, ap (number_nearer p reach) same, part, number-ranked reach (list ++ rest), sum, none_nearer reach rest far, few))
+
+-- the leaves and the objects that are ahead, in parts
+module _ (leaves : List Leaf) where
+  abbrev below : List Bool → List Placed
+  below name = objects_of (all_rows (subtree name leaves))
+
+  leaves-append : (xs ys : List Ahead) → leaves_ahead leaves (xs ++ ys) ≡ leaves_ahead leaves xs ++ leaves_ahead leaves ys
+  leaves-append xs ys = flat_map-append (λ (a : Ahead). subtree a.name leaves) xs ys
+
+  of-append : (xs ys : List Leaf) → objects_of (all_rows (xs ++ ys)) ≡ objects_of (all_rows xs) ++ objects_of (all_rows ys)
+  of-append xs ys = ap objects_of (flat_map-append (λ (l : Leaf). l.bucket.rows) xs ys) ∙ map-append placed_of (all_rows xs) (all_rows ys)
+
+  objects-append : (xs ys : List Ahead) → objects_ahead leaves (xs ++ ys) ≡ objects_ahead leaves xs ++ objects_ahead leaves ys
+  objects-append xs ys = ap (λ (ls : List Leaf). objects_of (all_rows ls)) (leaves-append xs ys) ∙ of-append (leaves_ahead leaves xs) (leaves_ahead leaves ys)
+
+  objects-cons : (a : Ahead) (ys : List Ahead) → objects_ahead leaves (a ∷ ys) ≡ below a.name ++ objects_ahead leaves ys
+  objects-cons a ys = of-append (subtree a.name leaves) (leaves_ahead leaves ys)
+
+  -- the objects below the first come first
+  pub first-permutation : (old new : List Ahead) (a : Ahead) → IsFirst old new a → IsPermutation (objects_ahead leaves old) (below a.name ++ objects_ahead leaves new)
+  first-permutation old new a (front, back, is, left, low) =
+      let one = objects_ahead leaves front in
+      let two = objects_ahead leaves back in
+      let parts : objects_ahead leaves old ≡ one ++ (below a.name ++ two) = ap (objects_ahead leaves) is ∙ objects-append front (a ∷ back) ∙ ap (λ ms. one ++ ms) (objects-cons a back) in
+      let rest : objects_ahead leaves new ≡ one ++ two = ap (objects_ahead leaves) left ∙ objects-append front back in
+      let moved : IsPermutation ((one ++ below a.name) ++ two) ((below a.name ++ one) ++ two) = IsPermutation-append_left two (one ++ below a.name) (below a.name ++ one) (IsPermutation-append_comm one (below a.name)) in
+      subst (λ (ms : List Placed). IsPermutation ms (below a.name ++ objects_ahead leaves new)) (append_assoc one (below a.name) two ∙ sym parts)
+      (subst (λ (ms : List Placed). IsPermutation ((one ++ below a.name) ++ two) ms) (append_assoc (below a.name) one two ∙ ap (λ ms. below a.name ++ ms) (sym rest)) moved)
+
+  module _ (passes : List Bool → Bool) where
+    abbrev number : List Leaf → ℕ
+    number ls = length (leaves_of passes ls)
+
+    number-append : (xs ys : List Leaf) → number (xs ++ ys) ≡ number xs + number ys
+    number-append xs ys = ap length (filter-append (λ (l : Leaf). passes l.name) xs ys) ∙ length-append (leaves_of passes xs) (leaves_of passes ys)
+
+    pub first-number : (old new : List Ahead) (a : Ahead) → IsFirst old new a → number (leaves_ahead leaves old) ≡ number (subtree a.name leaves) + number (leaves_ahead leaves new)
+    first-number old new a (front, back, is, left, low) =
+        omega (
+          arith,
+          ap (λ xs. number (leaves_ahead leaves xs)) is ∙ ap number (leaves-append front (a ∷ back)),
+          number-append (leaves_ahead leaves front) (subtree a.name leaves ++ leaves_ahead leaves back),
+          number-append (subtree a.name leaves) (leaves_ahead leaves back),
+          ap (λ xs. number (leaves_ahead leaves xs)) left ∙ ap number (leaves-append front back),
+          number-append (leaves_ahead leaves front) (leaves_ahead leaves back),
+        )
+
+    -- two more at the end
+    pub two-number : (xs : List Ahead) (a b : Ahead) → number (leaves_ahead leaves ((xs ++ a ∷ []) ++ b ∷ [])) ≡ number (leaves_ahead leaves xs) + number (subtree a.name leaves ++ subtree b.name leaves)
+    two-number xs a b =
+        omega (
+          arith,
+          ap number (leaves-append (xs ++ a ∷ []) (b ∷ [])),
+          number-append (leaves_ahead leaves (xs ++ a ∷ [])) (subtree b.name leaves ++ []),
+          ap number (leaves-append xs (a ∷ [])),
+          number-append (leaves_ahead leaves xs) (subtree a.name leaves ++ []),
+          ap number (append-nil (subtree a.name leaves)),
+          ap number (append-nil (subtree b.name leaves)),
+          number-append (subtree a.name leaves) (subtree b.name leaves),
+        )
+
+  pub two-permutation : (xs : List Ahead) (a b : Ahead) (both : List Leaf) → both ≡ subtree a.name leaves ++ subtree b.name leaves
+      → IsPermutation (objects_of (all_rows both) ++ objects_ahead leaves xs) (objects_ahead leaves ((xs ++ a ∷ []) ++ b ∷ []))
+  two-permutation xs a b both is =
+      let rest = objects_ahead leaves xs in
+      let end : objects_ahead leaves ((xs ++ a ∷ []) ++ b ∷ []) ≡ rest ++ objects_of (all_rows both) =
+      ap (objects_ahead leaves) (append_assoc xs (a ∷ []) (b ∷ [])) ∙ objects-append xs (a ∷ b ∷ [])
+      ∙ ap (λ ls. rest ++ objects_of (all_rows ls)) (ap (λ l. subtree a.name leaves ++ l) (append-nil (subtree b.name leaves)) ∙ sym is) in
+      subst (λ (ms : List Placed). IsPermutation (objects_of (all_rows both) ++ rest) ms) (sym end) (IsPermutation-append_comm (objects_of (all_rows both)) rest)
+
+  -- the objects below a name are no nearer than its region
+  module _ (p : Point) (under : AreAllKeysUnder leaves) where
+    under_front : (name long : List Bool) (rows : List Row) → IsFront name long → AreKeysUnder long rows → AreKeysUnder name rows
+    under_front name long [] front under = tt
+    under_front name long (r ∷ rows) front under = ((under.0.0, under-front name long r.key front under.0.1), under_front name long rows front under.1)
+
+    far_below : (name : List Bool) (reach : ℕ) → ((q : Point) → IsPoint q → is_in name q ≡ true → reach ≤ distance q p) → (ls : List Leaf) → AreAllKeysUnder ls
+        → All (λ (m : Placed). reach ≤ distance m.at p) (objects_of (all_rows (subtree name ls)))
+    far_below name reach far [] under = All-nil (λ (m : Placed). reach ≤ distance m.at p)
+    far_below name reach far (l ∷ ls) under = by_test (begins name l.name) refl (far_below name reach far ls under.1)
+      where
+        P : Placed → Type 0
+        P m = reach ≤ distance m.at p
+
+        by_test : (b : Bool) → begins name l.name ≡ b → All P (objects_of (all_rows (subtree name ls))) → All P (objects_of (all_rows (cond b (l ∷ subtree name ls) (subtree name ls))))
+        by_test false e rest = rest
+        by_test true e rest =
+            subst (All P) (sym (map-append placed_of l.bucket.rows (all_rows (subtree name ls))))
+            (All-append P (objects_of l.bucket.rows) (objects_of (all_rows (subtree name ls)))
+            (far_rows p name reach far P (λ m le. le) l.bucket.rows (under_front name l.name l.bucket.rows (front-from_test name l.name e) under.0)) rest)
+
+    pub far_ahead : (reach : ℕ) (ahead : List Ahead) → All (IsAhead p) ahead → All (λ (a : Ahead). reach ≤ a.least) ahead → All (λ (m : Placed). reach ≤ distance m.at p) (objects_ahead leaves ahead)
+    far_ahead reach [] are low = All-nil (λ (m : Placed). reach ≤ distance m.at p)
+    far_ahead reach (a ∷ ahead) are low =
+        let P : Placed → Type 0 = λ m. reach ≤ distance m.at p in
+        let is = All-head (IsAhead p) a ahead are in
+        let le : reach ≤ a.least = All-head (λ (a : Ahead). reach ≤ a.least) a ahead low in
+        subst (All P) (sym (objects-cons a ahead))
+        (All-append P (below a.name) (objects_ahead leaves ahead)
+        (far_below a.name reach (λ q is_point inside. let near : least_to p a.name ≤ distance q p = least_distance-le (region_of a.name) p q (has_point-region_of a.name is.1 q is_point ∙ inside) in omega (arith, le, is.0, near)) leaves under)
+        (far_ahead reach ahead (All-tail (IsAhead p) a ahead are) (All-tail (λ (a : Ahead). reach ≤ a.least) a ahead low)))

@@ -1,0 +1,343 @@
+-- The steps of a best-first search.
+use Rattle.std.proofs.Common.{◌≡◌, ℕ, zero, suc, ◌+◌, ◌-◌, ◌*◌, ◌^◌, ◌<◌, ◌≤◌, Bool, true, false, cond, List, [], ◌∷◌, ◌++◌, length, take, get_or, Some, None, refl, sym, ap, subst, ◌∙◌, arith, length-append, length-take}
+use Rattle.std.specs.Prelude.{nat_le, nat_lt}
+use Rattle.std.specs.List.{All, filter, sum_by}
+use Rattle.std.specs.Option.{option_map}
+use Rattle.std.proofs.Math.Nat.{pow-succ'}
+use Rattle.std.proofs.lemmas.Nat.{pow_pos}
+use Rattle.std.proofs.lemmas.Bool.{le-leb}
+use Rattle.std.specs.List.Sorted.{IsPermutation}
+use Rattle.std.proofs.lemmas.List.{append-nil, get_or-take}
+use Rattle.std.proofs.lemmas.List.Elements.{All-nil, All-cons, All-head, All-tail, All-push, filter-append}
+use Rattle.std.proofs.lemmas.List.Sorted.{All-permutation, IsPermutation-middle}
+use Rattle.std.proofs.lemmas.List.Sums.{sum_by-cons, sum_by-append, sum_by_push}
+use Rattle.std.proofs.lemmas.Bool.Decides.{nat_tests}
+use Rattle.zorder.specs.declared.points.Point.{Point}
+use Rattle.zorder.specs.declared.points.Placed.{Placed}
+use Rattle.zorder.specs.Distance.{distance}
+use Rattle.bucket_versions.specs.Rows.{Rows}
+use Rattle.index_layer.specs.Leaves.{Leaf, names_of, all_rows, has_name, leaf_named}
+use Rattle.zorder.specs.Tile.{tiles_from}
+use Rattle.index_layer.proofs.LeafChanges.{leaf_at}
+use Rattle.index_layer.specs.Part.{is_inner}
+use Rattle.plain_list.specs.Answer.{ranked, is_before, with_ranked}
+use Rattle.plain_list.specs.World.{place_of}
+use Rattle.plain_list.specs.Nearest.{AreOf, rank_of}
+use Rattle.plain_list.proofs.Ranking.{found_in}
+use Rattle.plain_list.proofs.Cuts.{IsPass, with_more, take-with_more}
+use Rattle.table_share.specs.Objects.{objects_of}
+use Rattle.table_share.specs.Subtree.{subtree, leaves_of}
+use Rattle.table_share.specs.Worlds.{OfEachWorld}
+use Rattle.table_share.proofs.TableRows.{table_of}
+use Rattle.table_share.proofs.RowObjects.{objects-permutation}
+use Rattle.table_share.proofs.LeafRows.{leaves_under}
+use Rattle.table_share.proofs.Subtrees.{subtree-whole, subtree-leaf, subtree-halves, subtree-outside, inner-room}
+use Rattle.knn_query.specs.Ahead.{least_to, reach_of, number_nearer, IsAhead, IsFirst, leaves_ahead, objects_ahead, Searches, weight_of}
+use Rattle.knn_query.specs.Passes.{Keeps, Passes, IsList}
+use Rattle.knn_query.specs.declared.ahead.Ahead.{Ahead}
+use Rattle.knn_query.specs.declared.kept.Kept.{Kept}
+use Rattle.knn_query.proofs.Passing.{passes_on, front_of, back_of, before_all, filter-all}
+use Rattle.knn_query.proofs.Searching.{first-permutation, first-number, two-number, two-permutation, far_ahead, reach-within, searches_permuted, ranked-far, number-ranked, none_nearer, fewer, one_if, nearer}
+
+-- where k are nearer than all that is to come, nothing of it is wanted
+module _ (p : Point) (reach : ℕ) where
+  front_count : (ms : List Placed) (i : ℕ) → ((j : ℕ) (d : Placed) → i ≤ j → j < length ms → reach ≤ distance (get_or ms j d).at p) → number_nearer p reach ms ≤ i
+  front_count [] i far = omega arith
+  front_count (m ∷ ms) zero far = omega (arith, none_nearer p reach (m ∷ ms) (λ j d lt. far j d (omega arith) lt))
+  front_count (m ∷ ms) (suc i) far =
+      omega (arith, sum_by-cons (λ n. one_if p (nearer p reach n)) m ms, front_count ms i (λ j d le lt. far (suc j) d (omega (arith, le)) (omega (arith, lt))), at_most (nearer p reach m))
+    where
+      at_most : (b : Bool) → one_if p b ≤ 1
+      at_most true = omega arith
+      at_most false = omega arith
+
+  left_out : (m : Placed) (ns : List Placed) → All (λ (n : Placed). distance n.at p < reach) ns → reach ≤ distance m.at p → take (length ns) (with_ranked p m ns) ≡ ns
+  left_out m [] near far = refl
+  left_out m (n ∷ ns) near far =
+      by_test (is_before p m n) (behind n (All-head (λ (n : Placed). distance n.at p < reach) n ns near)) (left_out m ns (All-tail (λ (n : Placed). distance n.at p < reach) n ns near) far)
+    where
+      behind : (n : Placed) → distance n.at p < reach → is_before p m n ≡ false
+      behind n lt = grind (arith, nat_tests)
+
+      by_test : (b : Bool) → b ≡ false → take (length ns) (with_ranked p m ns) ≡ ns → take (suc (length ns)) (cond b (m ∷ n ∷ ns) (n ∷ with_ranked p m ns)) ≡ n ∷ ns
+      by_test true e rest = cc e
+      by_test false e rest = ap (λ (l : List Placed). n ∷ l) rest
+
+  module _ (k : ℕ) (best : List Placed) (long : length best ≡ k) (near : All (λ (n : Placed). distance n.at p < reach) best) where
+    all_out : (rest : List Placed) → All (λ (m : Placed). reach ≤ distance m.at p) rest → take k (with_more p best rest) ≡ best
+    all_out [] far = whole
+      where
+        whole : take k best ≡ best
+        whole = ap (λ j. take j best) (sym long) ∙ take-all best
+          where
+            take-all : (ms : List Placed) → take (length ms) ms ≡ ms
+            take-all [] = refl
+            take-all (m ∷ ms) = ap (λ (l : List Placed). m ∷ l) (take-all ms)
+    all_out (m ∷ rest) far =
+        let out : take k (with_ranked p m best) ≡ best = subst (λ j. take j (with_ranked p m best) ≡ best) long (left_out m best near (All-head (λ (m : Placed). reach ≤ distance m.at p) m rest far)) in
+        sym (take-with_more p k rest (with_ranked p m best)) ∙ ap (λ l. take k (with_more p l rest)) out ∙ all_out rest (All-tail (λ (m : Placed). reach ≤ distance m.at p) m rest far)
+
+  pub keeps-closed : (k : ℕ) (world rest : List Placed) (kept : Kept) → Keeps p k world rest kept → All (λ (m : Placed). reach ≤ distance m.at p) rest → k ≤ number_nearer p reach kept.list.items → Keeps p k world [] kept
+  keeps-closed k world rest kept pass far many =
+      let list : List Placed = kept.list.items in
+      let best : List Placed = take k (ranked p list) in
+      let counted : k ≤ number_nearer p reach (ranked p list) = omega (arith, many, number-ranked p reach list) in
+      let long : length best ≡ k = omega (arith, length-take k (ranked p list), fewer p reach (ranked p list), counted) in
+      let near : All (λ (n : Placed). distance n.at p < reach) best = λ i d lt.
+      by_test i d lt (nat_lt (distance (get_or (ranked p list) i d).at p) reach) refl in
+      record {
+        are_of = pass.are_of;
+        is_last = pass.is_last;
+        nearest = all_out k best long near [] (All-nil (λ (m : Placed). reach ≤ distance m.at p)) ∙ sym (all_out k best long near rest far) ∙ pass.nearest;
+      }
+    where
+      by_test : (i : ℕ) (d : Placed) → i < length (take k (ranked p kept.list.items)) → (b : Bool) → nat_lt (distance (get_or (ranked p kept.list.items) i d).at p) reach ≡ b
+          → distance (get_or (take k (ranked p kept.list.items)) i d).at p < reach
+      by_test i d lt b e = within b e
+        where
+          list : List Placed
+          list = ranked p kept.list.items
+
+          less : i < k
+          less = omega (arith, lt, length-take k list)
+
+          inside : i < length list
+          inside = omega (arith, lt, length-take k list)
+
+          here : get_or (take k list) i d ≡ get_or list i d
+          here = get_or-take k list i d less
+
+          within : (b : Bool) → nat_lt (distance (get_or list i d).at p) reach ≡ b → distance (get_or (take k list) i d).at p < reach
+          within true e = subst (λ (m : Placed). distance m.at p < reach) (sym here) (grind (arith, nat_tests))
+          within false e =
+              let from : reach ≤ distance (get_or list i d).at p = grind (arith, nat_tests) in
+              let few : number_nearer p reach list ≤ i =
+              front_count list i (λ j f le lt_j. omega (arith, from, ranked-far p kept.list.items i j d le lt_j, same_at list j d f lt_j)) in
+              absurd (omega (arith, few, less, many, number-ranked p reach kept.list.items))
+            where
+              same_at : (ms : List Placed) (i : ℕ) (e d : Placed) → i < length ms → distance (get_or ms i e).at p ≡ distance (get_or ms i d).at p
+              same_at [] i e d lt = absurd (omega (arith, lt))
+              same_at (m ∷ ms) zero e d lt = refl
+              same_at (m ∷ ms) (suc i) e d lt = same_at ms i e d (omega (arith, lt))
+
+-- every leaf, and those of which some point may be as near
+abbrev pub every : List Bool → Bool
+every name = true
+
+abbrev pub within : Point → ℕ → List Bool → Bool
+within p reach name = nat_le (least_to p name) reach
+
+module _ (p : Point) (k : ℕ) (leaves : List Leaf) (before : ℕ) where
+  abbrev Counts : (List Bool → Bool) → ℕ → List Leaf → Type 0
+  Counts passes now left = now + length (leaves_of passes left) ≡ before + length (leaves_of passes leaves)
+
+  -- of each world with k objects, by the distance of the k-th
+  abbrev CountsNear : ℕ → List Leaf → Type 0
+  CountsNear now left = OfEachWorld leaves (λ world. (d : Placed) → k ≤ length world → Counts (within p (reach_of p k world d)) now left)
+
+  pub record State (now : ℕ) (ahead : List Ahead) (kept : Kept) : Type 0 where
+    pub from : kept.from ≡ p
+    pub k_is : kept.k ≡ k
+    pub are : All (IsAhead p) ahead
+    pub worlds : OfEachWorld leaves (λ world. Searches p k world (objects_ahead leaves ahead) kept)
+    pub opened : Counts every now (leaves_ahead leaves ahead)
+    pub near : CountsNear now (leaves_ahead leaves ahead)
+    pub some : now ≡ before → kept.list.items ≡ []
+
+  -- where one subtree was taken out
+  pub record Taken (now : ℕ) (a : Ahead) (left : List Ahead) (kept : Kept) : Type 0 where
+    pub from : kept.from ≡ p
+    pub k_is : kept.k ≡ k
+    pub is : IsAhead p a
+    pub are : All (IsAhead p) left
+    pub worlds : OfEachWorld leaves (λ world. Searches p k world (objects_of (all_rows (subtree a.name leaves)) ++ objects_ahead leaves left) kept)
+    pub far : OfEachWorld leaves (λ world. All (λ (m : Placed). a.least ≤ distance m.at p) (objects_of (all_rows (subtree a.name leaves)) ++ objects_ahead leaves left))
+    pub opened : Counts every now (subtree a.name leaves ++ leaves_ahead leaves left)
+    pub near : CountsNear now (subtree a.name leaves ++ leaves_ahead leaves left)
+    pub some : now ≡ before → kept.list.items ≡ []
+
+  number-append : (passes : List Bool → Bool) (xs ys : List Leaf) → length (leaves_of passes (xs ++ ys)) ≡ length (leaves_of passes xs) + length (leaves_of passes ys)
+  number-append passes xs ys = ap length (filter-append (λ (l : Leaf). passes l.name) xs ys) ∙ length-append (leaves_of passes xs) (leaves_of passes ys)
+
+  taken-count : (passes : List Bool → Bool) (now : ℕ) (old new : List Ahead) (a : Ahead) → IsFirst old new a → Counts passes now (leaves_ahead leaves old) → Counts passes now (subtree a.name leaves ++ leaves_ahead leaves new)
+  taken-count passes now old new a first counts =
+      omega (arith, counts, first-number leaves passes old new a first, number-append passes (subtree a.name leaves) (leaves_ahead leaves new))
+
+  pub taken : (now : ℕ) (old new : List Ahead) (a : Ahead) (kept : Kept) → State now old kept → IsFirst old new a → Taken now a new kept
+  taken now old new a kept s first =
+      let (front, back, is, left, low) = first in
+      let moved : IsPermutation old (a ∷ new) = subst (λ (xs : List Ahead). IsPermutation xs (a ∷ new)) (sym is) (subst (λ (xs : List Ahead). IsPermutation (front ++ a ∷ back) (a ∷ xs)) (sym left) (IsPermutation-middle front a back)) in
+      let all : All (IsAhead p) (a ∷ new) = All-permutation (IsAhead p) old (a ∷ new) moved s.are in
+      record {
+        from = s.from;
+        k_is = s.k_is;
+        is = All-head (IsAhead p) a new all;
+        are = All-tail (IsAhead p) a new all;
+        worlds = λ world names is_world stands.
+            searches_permuted p k world (objects_ahead leaves old) (objects_of (all_rows (subtree a.name leaves)) ++ objects_ahead leaves new) kept (first-permutation leaves old new a first) (s.worlds world names is_world stands);
+        far = λ world names is_world stands.
+            All-permutation (λ (m : Placed). a.least ≤ distance m.at p) (objects_ahead leaves old) (objects_of (all_rows (subtree a.name leaves)) ++ objects_ahead leaves new) (first-permutation leaves old new a first)
+            (far_ahead leaves p (leaves_under world leaves stands.rows) a.least old s.are low);
+        opened = taken-count every now old new a first s.opened;
+        near = λ world names is_world stands d many. taken-count (within p (reach_of p k world d)) now old new a first (s.near world names is_world stands d many);
+        some = s.some;
+      }
+
+  -- no more than these were opened
+  pub ends : (passes : List Bool → Bool) (now : ℕ) (left : List Leaf) → Counts passes now left → now ≤ before + length (leaves_of passes leaves)
+  ends passes now left counts = omega (arith, counts)
+
+  pub ends-every : (now : ℕ) (left : List Leaf) → Counts every now left → now ≤ before + length leaves
+  ends-every now left counts = omega (arith, counts, ap length (filter-all leaves))
+
+  module _ (tile : tiles_from 0 (names_of leaves) ≡ true) (now : ℕ) (a : Ahead) (left : List Ahead) (kept : Kept) (t : Taken now a left kept) where
+    abbrev below : List Placed
+    below = objects_of (all_rows (subtree a.name leaves))
+
+    -- where k are nearer, the search ends
+    pub closed : k ≤ number_nearer p a.least kept.list.items → OfEachWorld leaves (λ world. Keeps p k world [] kept)
+    closed many world names is_world stands =
+        keeps-closed p a.least k world (below ++ objects_ahead leaves left) kept (t.worlds world names is_world stands).keeps (t.far world names is_world stands) many
+
+    module _ (b : Rows) (found : leaf_named a.name leaves ≡ Some (record { name = a.name; bucket = b })) (few : number_nearer p a.least kept.list.items < k) where
+      one : subtree a.name leaves ≡ leaf_at a.name b ∷ []
+      one = subtree-leaf a.name 0 leaves (leaf_at a.name b) tile found
+
+      leaf-count : (passes : List Bool → Bool) → passes a.name ≡ true → Counts passes now (subtree a.name leaves ++ leaves_ahead leaves left) → Counts passes (now + 1) (leaves_ahead leaves left)
+      leaf-count passes passing counts =
+          omega (
+            arith,
+            counts,
+            ap (λ (ls : List Leaf). length (leaves_of passes (ls ++ leaves_ahead leaves left))) one,
+            ap (λ c. length (cond c (leaf_at a.name b ∷ leaves_of passes (leaves_ahead leaves left)) (leaves_of passes (leaves_ahead leaves left)))) passing,
+          )
+
+      pub opened-leaf : Counts every (now + 1) (leaves_ahead leaves left)
+      opened-leaf = leaf-count every refl t.opened
+
+      pub near-leaf : CountsNear (now + 1) (leaves_ahead leaves left)
+      near-leaf world names is_world stands d many =
+          let reach = reach-within p k a.least world (below ++ objects_ahead leaves left) kept d (t.worlds world names is_world stands).keeps (t.far world names is_world stands) few many in
+          leaf-count (within p (reach_of p k world d)) (le-leb (least_to p a.name) (reach_of p k world d) (omega (arith, reach, t.is.0))) (t.near world names is_world stands d many)
+
+      pub leaf-state : (new : Kept) (then : ℕ) → then ≡ now + 1 → before ≤ now → Passes (objects_of b.rows) kept new → State then left new
+      leaf-state new then next le passes = record {
+        from = passes.from ∙ t.from;
+        k_is = passes.k_is ∙ t.k_is;
+        are = t.are;
+        worlds = λ world names is_world stands.
+            let s = t.worlds world names is_world stands in
+            let here : below ≡ objects_of b.rows = ap (λ (ls : List Leaf). objects_of (all_rows ls)) one ∙ ap objects_of (append-nil b.rows) in
+            let are : AreOf world (objects_of b.rows ++ objects_ahead leaves left) = subst (λ (ms : List Placed). AreOf world (ms ++ objects_ahead leaves left)) here s.are_of in
+            record {
+              are_of = back_of world (objects_of b.rows) (objects_ahead leaves left) are;
+              keeps = passes_on p k world (objects_of b.rows) (objects_ahead leaves left) kept new t.from t.k_is passes (front_of world (objects_of b.rows) (objects_ahead leaves left) are)
+                  (subst (λ (ms : List Placed). Keeps p k world (ms ++ objects_ahead leaves left) kept) here s.keeps);
+            };
+        opened = subst (λ n. Counts every n (leaves_ahead leaves left)) (sym next) opened-leaf;
+        near = λ world names is_world stands d many. subst (λ n. Counts (within p (reach_of p k world d)) n (leaves_ahead leaves left)) (sym next) (near-leaf world names is_world stands d many);
+        some = λ same. absurd (omega (arith, same, next, le));
+      }
+
+    -- a subtree of two halves
+    pub inner-state : (fore hind : Ahead) → is_inner a.name leaves ≡ true → has_name a.name leaves ≡ false → fore.name ≡ a.name ++ false ∷ [] → hind.name ≡ a.name ++ true ∷ [] → IsAhead p fore → IsAhead p hind
+        → State now ((left ++ fore ∷ []) ++ hind ∷ []) kept
+    inner-state fore hind inner none is_fore is_hind fore_is hind_is =
+        let both : subtree a.name leaves ≡ subtree fore.name leaves ++ subtree hind.name leaves =
+        subtree-halves a.name (omega (arith, inner-room a.name leaves tile inner)) 0 leaves tile none ∙ (λ i. subtree (sym is_fore i) leaves ++ subtree (sym is_hind i) leaves) in
+        let count : (passes : List Bool → Bool) → Counts passes now (subtree a.name leaves ++ leaves_ahead leaves left) → Counts passes now (leaves_ahead leaves ((left ++ fore ∷ []) ++ hind ∷ [])) =
+        λ passes counts. omega (arith, counts, two-number leaves passes left fore hind, number-append passes (subtree a.name leaves) (leaves_ahead leaves left), ap (λ ls. length (leaves_of passes ls)) both) in
+        record {
+          from = t.from;
+          k_is = t.k_is;
+          are = All-push (IsAhead p) (left ++ fore ∷ []) hind (All-push (IsAhead p) left fore t.are fore_is) hind_is;
+          worlds = λ world names is_world stands.
+              searches_permuted p k world (below ++ objects_ahead leaves left) (objects_ahead leaves ((left ++ fore ∷ []) ++ hind ∷ [])) kept (two-permutation leaves left fore hind (subtree a.name leaves) both) (t.worlds world names is_world stands);
+          opened = count every t.opened;
+          near = λ world names is_world stands d many. count (within p (reach_of p k world d)) (t.near world names is_world stands d many);
+          some = t.some;
+        }
+
+    -- an empty one
+    pub outside-state : is_inner a.name leaves ≡ false → has_name a.name leaves ≡ false → State now left kept
+    outside-state inner none =
+        let empty : subtree a.name leaves ≡ [] = subtree-outside a.name leaves inner none in
+        record {
+          from = t.from;
+          k_is = t.k_is;
+          are = t.are;
+          worlds = λ world names is_world stands. subst (λ (ls : List Leaf). Searches p k world (objects_of (all_rows ls) ++ objects_ahead leaves left) kept) empty (t.worlds world names is_world stands);
+          opened = subst (λ (ls : List Leaf). Counts every now (ls ++ leaves_ahead leaves left)) empty t.opened;
+          near = λ world names is_world stands d many. subst (λ (ls : List Leaf). Counts (within p (reach_of p k world d)) now (ls ++ leaves_ahead leaves left)) empty (t.near world names is_world stands d many);
+          some = t.some;
+        }
+
+  -- at the empty name
+  pub begins-state : (a : Ahead) (kept : Kept) → IsList p k [] None kept → a.name ≡ [] → IsAhead p a → State before (a ∷ []) kept
+  begins-state a kept list whole is =
+      let all : leaves_ahead leaves (a ∷ []) ≡ leaves = append-nil (subtree a.name leaves) ∙ ap (λ n. subtree n leaves) whole ∙ subtree-whole leaves in
+      record {
+        from = list.from;
+        k_is = list.k_is;
+        are = All-cons (IsAhead p) a [] is (All-nil (IsAhead p));
+        worlds = λ world names is_world stands.
+            let table = table_of leaves world names stands in
+            let objects : IsPermutation world (objects_of (all_rows leaves)) =
+            subst (λ (l : List Placed). IsPermutation l (objects_of (all_rows leaves))) (filter-all world)
+            (subst (λ (l : List Placed). IsPermutation (filter (λ (m : Placed). true) world) l) (filter-all (objects_of (all_rows leaves)))
+            (objects-permutation (λ (m : Placed). true) world (all_rows leaves) is_world.rising is_world.points table.ordered table.has)) in
+            let rest : IsPermutation world (objects_ahead leaves (a ∷ [])) = subst (λ (ls : List Leaf). IsPermutation world (objects_of (all_rows ls))) (sym all) objects in
+            record {
+              are_of = All-permutation (λ (m : Placed). place_of world m.id ≡ Some m.at) world (objects_ahead leaves (a ∷ [])) rest (found_in world is_world.rising);
+              keeps = subst (λ l. IsPass p k world (objects_ahead leaves (a ∷ [])) l (option_map (rank_of p) kept.last)) (sym list.list_is)
+                  (subst (λ o. IsPass p k world (objects_ahead leaves (a ∷ [])) [] (option_map (rank_of p) o)) (sym list.last_is) (before_all p k world (objects_ahead leaves (a ∷ [])) is_world.rising rest));
+            };
+        opened = ap (λ (ls : List Leaf). before + length (leaves_of every ls)) all;
+        near = λ world names is_world stands d many. ap (λ (ls : List Leaf). before + length (leaves_of (within p (reach_of p k world d)) ls)) all;
+        some = λ same. list.list_is;
+      }
+
+-- the work that is left: a subtree's halves have less than it
+weight-halves : (name : List Bool) (a b : Bool) → length name < 64 → (2 ^ (65 - length (name ++ a ∷ [])) - 1) + (2 ^ (65 - length (name ++ b ∷ [])) - 1) < 2 ^ (65 - length name) - 1
+weight-halves name a b room =
+    let first : 65 - length (name ++ a ∷ []) ≡ 64 - length name = omega (arith, length-append name (a ∷ [])) in
+    let second : 65 - length (name ++ b ∷ []) ≡ 64 - length name = omega (arith, length-append name (b ∷ [])) in
+    let more : 65 - length name ≡ suc (64 - length name) = omega (arith, room) in
+    let double : 2 ^ suc (64 - length name) ≡ 2 * 2 ^ (64 - length name) = pow-succ' 2 (64 - length name) in
+    omega (arith, ap (λ n. 2 ^ n) first, ap (λ n. 2 ^ n) second, ap (λ n. 2 ^ n) more, double, pow_pos (64 - length name))
+
+weight-some : (a : Ahead) → length a.name ≤ 64 → 0 < weight_of a
+weight-some a short =
+    let more : 65 - length a.name ≡ suc (64 - length a.name) = omega (arith, short) in
+    let double : 2 ^ suc (64 - length a.name) ≡ 2 * 2 ^ (64 - length a.name) = pow-succ' 2 (64 - length a.name) in
+    omega (arith, ap (λ n. 2 ^ n) more, double, pow_pos (64 - length a.name))
+
+pub weight-first : (old new : List Ahead) (a : Ahead) → IsFirst old new a → sum_by weight_of old ≡ weight_of a + sum_by weight_of new
+weight-first old new a (front, back, is, left, low) =
+    omega (arith, ap (sum_by weight_of) is, sum_by-append weight_of front (a ∷ back), sum_by-cons weight_of a back, ap (sum_by weight_of) left, sum_by-append weight_of front back)
+
+pub weight-less : (old new : List Ahead) (a : Ahead) → IsFirst old new a → length a.name ≤ 64 → sum_by weight_of new < sum_by weight_of old
+weight-less old new a first short = omega (arith, weight-first old new a first, weight-some a short)
+
+pub weight-two : (old new : List Ahead) (a fore hind : Ahead) → IsFirst old new a → length a.name < 64 → fore.name ≡ a.name ++ false ∷ [] → hind.name ≡ a.name ++ true ∷ []
+    → sum_by weight_of ((new ++ fore ∷ []) ++ hind ∷ []) < sum_by weight_of old
+weight-two old new a fore hind first room is_fore is_hind =
+    omega (
+      arith,
+      weight-first old new a first,
+      sum_by_push weight_of (new ++ fore ∷ []) hind,
+      sum_by_push weight_of new fore,
+      ap (λ (n : List Bool). 2 ^ (65 - length n) - 1) is_fore,
+      ap (λ (n : List Bool). 2 ^ (65 - length n) - 1) is_hind,
+      weight-halves a.name false true room,
+    )
+
+-- where something was found, something was opened
+pub opens-some : (before now n : ℕ) → before ≤ now → (now ≡ before → n ≡ 0) → 0 < n → before < now
+opens-some before now n le none some = by_test (nat_lt before now) refl
+  where
+    by_test : (b : Bool) → nat_lt before now ≡ b → before < now
+    by_test true e = grind (arith, nat_tests)
+    by_test false e =
+        let same : now ≤ before = grind (arith, nat_tests) in
+        absurd (omega (arith, some, none (omega (arith, same, le))))

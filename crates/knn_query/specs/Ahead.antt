@@ -1,0 +1,65 @@
+-- The subtrees that are still ahead of a search.
+use Rattle.std.specs.Prelude.{◌≡◌, ◌≤◌, ◌+◌, ◌-◌, ◌^◌, ◌++◌, ◌∷◌, ℕ, Bool, nat_le, nat_lt, List, length, slice_index_or}
+use Rattle.std.specs.List.{All, flat_map, count_by}
+use Rattle.zorder.specs.declared.points.Point.{Point}
+use Rattle.zorder.specs.declared.points.Placed.{Placed}
+use Rattle.zorder.specs.Distance.{distance, least_distance}
+use Rattle.prefix_names.specs.Regions.{region_of}
+use Rattle.index_layer.specs.Leaves.{Leaf, all_rows}
+use Rattle.plain_list.specs.Answer.{ranked}
+use Rattle.plain_list.specs.Nearest.{AreOf}
+use Rattle.table_share.specs.Objects.{objects_of}
+use Rattle.table_share.specs.Subtree.{subtree, leaves_of}
+use Rattle.knn_query.specs.Passes.{Keeps}
+use Rattle.knn_query.specs.declared.kept.Kept.{Kept}
+use Rattle.knn_query.specs.declared.ahead.Ahead.{Ahead}
+
+-- the least squared distance from a point to a name's region
+abbrev pub least_to : Point → List Bool → ℕ
+least_to p name = least_distance (region_of name) p
+
+-- the leaves of which some point may be as near as this
+abbrev pub leaves_within : Point → ℕ → List Leaf → List Leaf
+leaves_within p reach leaves = leaves_of (λ name. nat_le (least_to p name) reach) leaves
+
+-- the squared distance of the k-th of a world's objects
+abbrev pub reach_of : Point → ℕ → List Placed → Placed → ℕ
+reach_of p k world d = distance (slice_index_or (ranked p world) (k - 1) d).at p
+
+-- how many of a list are nearer than this
+abbrev pub number_nearer : Point → ℕ → List Placed → ℕ
+number_nearer p reach list = count_by (λ (m : Placed). nat_lt (distance m.at p) reach) list
+
+-- the distance is that to the name's region
+abbrev pub IsAhead : Point → Ahead → Type 0
+IsAhead p a = (a.least ≡ least_to p a.name) × (length a.name ≤ 64)
+
+-- the leaves that are still ahead, and their objects
+abbrev pub leaves_ahead : List Leaf → List Ahead → List Leaf
+leaves_ahead leaves ahead = flat_map (λ (a : Ahead). subtree a.name leaves) ahead
+
+abbrev pub objects_ahead : List Leaf → List Ahead → List Placed
+objects_ahead leaves ahead = objects_of (all_rows (leaves_ahead leaves ahead))
+
+-- of a world that the leaves stand for, where these objects are still to come
+pub record Searches (p : Point) (k : ℕ) (world rest : List Placed) (kept : Kept) : Type 0 where
+  pub are_of : AreOf world rest
+  pub keeps : Keeps p k world rest kept
+
+-- the nearest of some subtrees, and the others in their order
+abbrev pub IsFirst : List Ahead → List Ahead → Ahead → Type 0
+IsFirst old new a =
+    (front : List Ahead) × (back : List Ahead) × (old ≡ front ++ a ∷ back) × (new ≡ front ++ back) × All (λ (b : Ahead). a.least ≤ b.least) old
+
+-- where there are k objects, no more was opened than the leaves of which some point may be as near as the k-th
+abbrev pub OpensNear : Point → ℕ → List Leaf → ℕ → ℕ → List Placed → Type 0
+OpensNear p k leaves before now world = (d : Placed) → k ≤ length world → now ≤ before + length (leaves_within p (reach_of p k world d) leaves)
+
+-- the same, with those that are ahead
+abbrev pub OpensNearOf : Point → ℕ → List Leaf → List Leaf → ℕ → ℕ → List Placed → Type 0
+OpensNearOf p k leaves left before now world =
+    (d : Placed) → k ≤ length world → now + length (leaves_within p (reach_of p k world d) left) ≡ before + length (leaves_within p (reach_of p k world d) leaves)
+
+-- how much is left to do below a name
+abbrev pub weight_of : Ahead → ℕ
+weight_of a = 2 ^ (65 - length a.name) - 1
