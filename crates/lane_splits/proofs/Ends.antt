@@ -41,14 +41,14 @@ EndPairs origin h All old new = Pairs h (bad origin h) All old.own new.own (leng
 module _ (w : ℕ) (origin : Origin) (h : List Entry) where
   one-pair : (number : ℕ) (name : List Bool) (old new : Known) → old.origin ≡ origin → SplitEnds w name old new (Installed number) → IsPrefix new.seen h → EndPairs origin h (Unit {0}) old new
   one-pair number name old new from (mid, begins, installs) pre =
-      let mid-pre = prefix_trans mid.seen new.seen h (installs-same number mid new (Ok tt) installs).0 pre in
+      let mid-pre = prefix_trans mid.seen new.seen h (installs-same w number mid new (Ok tt) installs).0 pre in
       let a = prefix_length old.seen begins.before begins.later in
       let b = length-added old mid begins.before (Begin number name) begins.leaves in
-      let c = prefix_length mid.seen installs.before installs.later in
-      let d = length-added mid new installs.before (Install number) installs.leaves in
-      pairs-end h (bad origin h) old.own mid.own new.own (length old.seen) (length new.seen) (length begins.before) (length installs.before) number name (Install number) a (omega arith) (omega arith)
+      let c = prefix_length mid.seen installs.step.before installs.step.later in
+      let d = length-added mid new installs.step.before (Install number) installs.step.leaves in
+      pairs-end h (bad origin h) old.own mid.own new.own (length old.seen) (length new.seen) (length begins.before) (length installs.step.before) number name (Install number) a (omega arith) (omega arith)
       (puts-added h old mid begins.before (Begin number name) begins.leaves mid-pre) (begun-room w origin h name old mid number from begins mid-pre) refl
-      (puts-added h mid new installs.before (Install number) installs.leaves pre)
+      (puts-added h mid new installs.step.before (Install number) installs.step.leaves pre)
 
   all-pairs : (old : Known) (numbers : List ℕ) (new : Known) → old.origin ≡ origin → SplitsAll w old numbers new → IsPrefix new.seen h → EndPairs origin h (Unit {0}) old new
   all-pairs old [] new from same pre =

@@ -79,7 +79,7 @@ refused-gains : (w session row : ℕ) (op : Op) (origin : Origin) (h : List Entr
     → LaneGains origin h old.own new.own 1
 refused-gains w session row op origin h old new before (Closed cell) is pre =
     gains-most origin h old.own new.own 0 1 (omega arith) (gains-none h (bad origin h) (IsCalm origin h) old.own new.own (ap (λ (k : Known). k.own) is))
-refused-gains w session row op origin h old new before (Disk cell) is pre =
+refused-gains w session row op origin h old new before (Disk cell) (is, change) pre =
     gains-most origin h old.own new.own 0 1 (omega arith)
     (gains-fail h (bad origin h) (IsCalm origin h) old.own new.own (length before) cell (lost.Call session row op) (puts-added h old new before (Fail cell (lost.Call session row op)) is pre))
 refused-gains w session row op origin h old new before HistoryFull is pre =
@@ -106,7 +106,7 @@ stops-same w session mid new (r ∷ rest) None none = absurd none
 stops-same w session mid new (r ∷ rest) (Some fault) called = called-same w session r.0 r.1 mid new (Err fault) called
 
 -- a lane that was played
-pub lane-gains : {I D : Type 0} (w : ℕ) (origin : Origin) (h : List Entry) (session : ℕ) (rows : List (ℕ × Op)) (lane : Lane I D) → HasPlayed w origin session rows lane → IsPrefix lane.pass.seen h
+pub lane-gains : {I D O : Type 0} (w : ℕ) (origin : Origin) (h : List Entry) (session : ℕ) (rows : List (ℕ × Op)) (lane : Lane I D O) → HasPlayed w origin session rows lane → IsPrefix lane.pass.seen h
     → LaneGains origin h [] lane.pass.own (length rows)
 lane-gains w origin h session rows lane played pre =
     let plays = played.plays in

@@ -76,8 +76,8 @@ goes-split w origin old mid new number name full is goes = record {
 seen-split : (w : ℕ) (number : ℕ) (name : List Bool) (old new : Known) → old.parts ≡ all_parts → SplitEnds w name old new (Installed number) → new.seen ≡ old.seen ++ Begin number name ∷ Install number ∷ []
 seen-split w number name old new all (mid, begins, installs) =
     let mid-all : mid.parts ≡ all_parts = ap (λ (k : Known). k.parts) begins.leaves ∙ all in
-    seen-added mid new installs.before (Install number) installs.leaves
-    ∙ ap (λ (l : List Entry). l ++ Install number ∷ []) (installs.alone mid-all ∙ seen-added old mid begins.before (Begin number name) begins.leaves ∙ ap (λ (l : List Entry). l ++ Begin number name ∷ []) (begins.alone all))
+    seen-added mid new installs.step.before (Install number) installs.step.leaves
+    ∙ ap (λ (l : List Entry). l ++ Install number ∷ []) (installs.step.alone mid-all ∙ seen-added old mid begins.before (Begin number name) begins.leaves ∙ ap (λ (l : List Entry). l ++ Begin number name ∷ []) (begins.alone all))
     ∙ append_assoc old.seen (Begin number name ∷ []) (Install number ∷ [])
 
 goes-all : (w : ℕ) (origin : Origin) (old : Known) (numbers : List ℕ) (new : Known) → old.origin ≡ origin → old.parts ≡ all_parts → SplitsAll w old numbers new → GoesTidy w origin old new

@@ -21,60 +21,60 @@ use Rattle.lane_splits.proofs.Gains.{Puts, Idles, Closes, Begun, HasTried}
 use Rattle.lane_splits.proofs.Steps.{bad, IsCalm, length-added, puts-added, left-idle, calm-not, lasting-disk, begun-room}
 
 -- what each step leaves is the pass with more seen and own
-pub abandons-same : (number : ℕ) (old new : Known) (r : Result (Unit {0}) BookFault) → AbandonsSplit number old new r → SamePass old new
-abandons-same number old new r step = step-same IsDisk end_refusal (λ (done : Unit {0}). Abandon number) (λ (h : List Entry). lost.Abandon number) (λ (h : List Entry) (done : Unit {0}). ⊤) old new r step
+pub abandons-same : (w number : ℕ) (old new : Known) (r : Result (Unit {0}) BookFault) → AbandonsSplit w number old new r → SamePass old new
+abandons-same w number old new r step = step-same IsDisk end_refusal (λ (done : Unit {0}). Abandon number) (λ (h : List Entry). lost.Abandon number) (λ (h : List Entry) (done : Unit {0}). ⊤) old new r step.step
 
 pub begins-same : (w : ℕ) (name : List Bool) (old new : Known) (r : Result ℕ BookFault) → BeginsSplit w name old new r → SamePass old new
 begins-same w name old new r step =
     step-same IsMemoryOrDisk (begin_cause w old.origin name) (λ (number : ℕ). Begin number name) (λ (h : List Entry). lost.Begin ((state_of w old.origin h).begun + 1) name) (IsNextSplit w old.origin) old new r step
 
-gives-same : (number : ℕ) (old new : Known) (fault : BookFault) → GivesUp number old new fault → SamePass old new
-gives-same number old new fault (inl (memory, step)) = abandons-same number old new (Ok tt) step
-gives-same number old new fault (inr step) = abandons-same number old new (Err fault) step
+gives-same : (w number : ℕ) (old new : Known) (fault : BookFault) → GivesUp w number old new fault → SamePass old new
+gives-same w number old new fault (inl (memory, step)) = abandons-same w number old new (Ok tt) step
+gives-same w number old new fault (inr step) = abandons-same w number old new (Err fault) step
 
 -- memory ran out: nothing more is own
 record HasRan (mid seen : Known) : Type 0 where
   pub same : SamePass mid seen
   pub own : seen.own ≡ mid.own
 
-has-ran : (number : ℕ) (mid seen : Known) → RanOut number mid seen → HasRan mid seen
-has-ran number mid seen (inl same) = record { same = subst (SamePass mid) (sym same) (same-none mid); own = ap (λ (k : Known). k.own) same }
-has-ran number mid seen (inr step) = record { same = installs-same number mid seen (Err book.Memory) step; own = ap (λ (k : Known). k.own) step.leaves }
+has-ran : (w number : ℕ) (mid seen : Known) → RanOut w number mid seen → HasRan mid seen
+has-ran w number mid seen (inl same) = record { same = subst (SamePass mid) (sym same) (same-none mid); own = ap (λ (k : Known). k.own) same }
+has-ran w number mid seen (inr step) = record { same = installs-same w number mid seen (Err book.Memory) step; own = ap (λ (k : Known). k.own) step.step.leaves }
 
-pub not-same : (number : ℕ) (mid new : Known) (fault : BookFault) → NotInstalled number mid new fault → SamePass mid new
-not-same number mid new fault (inl (lasting, step)) = installs-same number mid new (Err fault) step
-not-same number mid new fault (inr (seen, ran, gives)) = same-later mid seen new (has-ran number mid seen ran).same (gives-same number seen new fault gives)
+pub not-same : (w number : ℕ) (mid new : Known) (fault : BookFault) → NotInstalled w number mid new fault → SamePass mid new
+not-same w number mid new fault (inl (lasting, step)) = installs-same w number mid new (Err fault) step
+not-same w number mid new fault (inr (seen, ran, gives)) = same-later mid seen new (has-ran w number mid seen ran).same (gives-same w number seen new fault gives)
 
 module _ (w : ℕ) (origin : Origin) (h : List Entry) where
   -- a split that was given up
-  closes-gives : (number : ℕ) (mid seen new : Known) (fault : BookFault) → HasRan mid seen → seen.origin ≡ origin → GivesUp number seen new fault → IsPrefix new.seen h
+  closes-gives : (number : ℕ) (mid seen new : Known) (fault : BookFault) → HasRan mid seen → seen.origin ≡ origin → GivesUp w number seen new fault → IsPrefix new.seen h
       → Closes h (IsCalm origin h) (length mid.seen) mid.own new.own
   closes-gives number mid seen new fault ran from (inl (memory, step)) pre =
-      let puts = puts-added h seen new step.before (Abandon number) step.leaves pre in
+      let puts = puts-added h seen new step.step.before (Abandon number) step.step.leaves pre in
       let a = prefix_length mid.seen seen.seen ran.same.0 in
-      let b = prefix_length seen.seen step.before step.later in
-      inl (length step.before, Abandon number, refl, omega arith, subst (λ (own : List ℕ). Puts h own new.own (length step.before) (Abandon number)) ran.own puts)
+      let b = prefix_length seen.seen step.step.before step.step.later in
+      inl (length step.step.before, Abandon number, refl, omega arith, subst (λ (own : List ℕ). Puts h own new.own (length step.step.before) (Abandon number)) ran.own puts)
   closes-gives number mid seen new fault ran from (inr step) pre = inr (
     subst (λ (own : List ℕ). Idles h own new.own) ran.own
-        (left-idle (λ (done : Unit {0}). Abandon number) (λ (g : List Entry). lost.Abandon number) h seen step.before new fault step.leaves pre),
-    calm-not IsDisk (λ (done : Unit {0}). Abandon number) (λ (g : List Entry). lost.Abandon number) (λ (g : List Entry) (done : Unit {0}). ⊤) origin h seen new fault from step (λ (free : IsDisk fault). free) pre,
+        (left-idle (λ (done : Unit {0}). Abandon number) (λ (g : List Entry). lost.Abandon number) h seen step.step.before new fault step.step.leaves pre),
+    calm-not IsDisk (λ (done : Unit {0}). Abandon number) (λ (g : List Entry). lost.Abandon number) (λ (g : List Entry) (done : Unit {0}). ⊤) origin h seen new fault from step.step (λ (free : IsDisk fault). free) pre,
   )
 
   -- a split that wasn't installed
-  closes-not : (number : ℕ) (mid new : Known) (fault : BookFault) → mid.origin ≡ origin → NotInstalled number mid new fault → IsPrefix new.seen h → Closes h (IsCalm origin h) (length mid.seen) mid.own new.own
+  closes-not : (number : ℕ) (mid new : Known) (fault : BookFault) → mid.origin ≡ origin → NotInstalled w number mid new fault → IsPrefix new.seen h → Closes h (IsCalm origin h) (length mid.seen) mid.own new.own
   closes-not number mid new fault from (inl (lasting, step)) pre = inr (
-    left-idle (λ (done : Unit {0}). Install number) (λ (g : List Entry). lost.Install number) h mid step.before new fault step.leaves pre,
-    calm-not IsMemoryOrDisk (λ (done : Unit {0}). Install number) (λ (g : List Entry). lost.Install number) (λ (g : List Entry) (done : Unit {0}). ⊤) origin h mid new fault from step (lasting-disk fault lasting) pre,
+    left-idle (λ (done : Unit {0}). Install number) (λ (g : List Entry). lost.Install number) h mid step.step.before new fault step.step.leaves pre,
+    calm-not IsMemoryOrDisk (λ (done : Unit {0}). Install number) (λ (g : List Entry). lost.Install number) (λ (g : List Entry) (done : Unit {0}). ⊤) origin h mid new fault from step.step (lasting-disk fault lasting) pre,
   )
   closes-not number mid new fault from (inr (seen, ran, gives)) pre =
-      let has = has-ran number mid seen ran in
+      let has = has-ran w number mid seen ran in
       closes-gives number mid seen new fault has (ap (λ (k : Known). k.origin) has.same.1 ∙ from) gives pre
 
   -- a split that was installed
-  closes-installed : (number : ℕ) (mid new : Known) → InstallsSplit number mid new (Ok tt) → IsPrefix new.seen h → Closes h (IsCalm origin h) (length mid.seen) mid.own new.own
+  closes-installed : (number : ℕ) (mid new : Known) → InstallsSplit w number mid new (Ok tt) → IsPrefix new.seen h → Closes h (IsCalm origin h) (length mid.seen) mid.own new.own
   closes-installed number mid new step pre =
-      let a = prefix_length mid.seen step.before step.later in
-      inl (length step.before, Install number, refl, omega arith, puts-added h mid new step.before (Install number) step.leaves pre)
+      let a = prefix_length mid.seen step.step.before step.step.later in
+      inl (length step.step.before, Install number, refl, omega arith, puts-added h mid new step.step.before (Install number) step.step.leaves pre)
 
   -- a split that was begun, and what came of it
   begun-closes : (name : List Bool) (old mid new : Known) (number : ℕ) → old.origin ≡ origin → BeginsSplit w name old mid (Ok number) → IsPrefix mid.seen h → Closes h (IsCalm origin h) (length mid.seen) mid.own new.own
@@ -97,12 +97,12 @@ module _ (w : ℕ) (origin : Origin) (h : List Entry) where
   pub tried : (name : List Bool) (old new : Known) (split : Split) → old.origin ≡ origin → SplitEnds w name old new split → IsPrefix new.seen h
       → HasTried h (bad origin h) (IsCalm origin h) (length old.seen) old.own new.own
   tried name old new (Installed number) from (mid, begins, installs) pre =
-      let mid-pre = prefix_trans mid.seen new.seen h (installs-same number mid new (Ok tt) installs).0 pre in
+      let mid-pre = prefix_trans mid.seen new.seen h (installs-same w number mid new (Ok tt) installs).0 pre in
       inr (begun-closes name old mid new number from begins mid-pre (closes-installed number mid new installs pre))
   tried name old new (NotSplit fault) from (inl step) pre =
       inl (left-idle (λ (number : ℕ). Begin number name) (λ (g : List Entry). lost.Begin ((state_of w old.origin g).begun + 1) name) h old step.before new fault step.leaves pre)
   tried name old new (NotSplit fault) from (inr (number, mid, begins, not)) pre =
-      let mid-pre = prefix_trans mid.seen new.seen h (not-same number mid new fault not).0 pre in
+      let mid-pre = prefix_trans mid.seen new.seen h (not-same w number mid new fault not).0 pre in
       inr (begun-closes name old mid new number from begins mid-pre (closes-not number mid new fault (mid-origin name old mid number from begins) not pre))
 
   -- where a leaf was told
