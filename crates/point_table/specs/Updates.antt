@@ -1,5 +1,5 @@
 -- What a change or a find makes of leaves and world.
-use Rattle.std.specs.Prelude.{◌≡◌, Bool, true, false, List, Result, ⊤}
+use Rattle.std.specs.Prelude.{◌≡◌, Bool, true, false, List, Result, Ok, Err, ⊤}
 use Rattle.bucket_versions.specs.Told.{Told}
 use Rattle.bucket_versions.specs.declared.commit.Undone.{Undone}
 use Rattle.zorder.specs.declared.points.Placed.{Placed}
@@ -27,7 +27,8 @@ pub record Updates (old new : TableView) (op : Op) (answer : Answer) : Type 0 wh
   pub answer_is : answer ≡ answer_of old.world op
   pub changes : Changes old new (after_of old.world op)
 
--- the step was taken where the operation changes the world, and else not asked for
+-- the step was taken where the operation changes the world; else it wasn't asked for, and the answer is sure
 abbrev pub TellsIf : {C A : Type 0} → (C → C → Type 0) → (C → C → Type 0) → Bool → C → C → Result A Undone → Type 0
 TellsIf done lost true old new result = Told done lost old new result
-TellsIf done lost false old new result = new ≡ old
+TellsIf done lost false old new (Ok _) = new ≡ old
+TellsIf done lost false old new (Err _) = ⊥
