@@ -1,20 +1,16 @@
 -- The history of lanes that were played stays below its limits.
-use Rattle.std.proofs.Common.{◌≡◌, ◌⊎◌, inl, inr, ℕ, zero, suc, ◌+◌, ◌*◌, ◌<◌, ◌≤◌, Bool, true, false, ◌||◌, cond, List, [], ◌∷◌, ◌++◌, length, take, drop, get_or, Some, refl, sym, ap, subst, ◌∙◌, arith, length-append}
+use Rattle.std.proofs.Common.{◌≡◌, ◌⊎◌, inl, inr, ℕ, zero, suc, ◌+◌, ◌*◌, ◌<◌, ◌≤◌, Bool, true, false, ◌||◌, cond, List, [], ◌∷◌, length, take, drop, get_or, Some, refl, sym, ap, subst, ◌∙◌, arith, length-append}
 use mathlib.Core.List.{IsPrefix}
 use Rattle.std.specs.Prelude.{nat_lt, slice_get}
 use Rattle.std.proofs.Math.Seq.{take-suc}
 use Rattle.std.proofs.lemmas.Bool.{ltb-false}
 use Rattle.std.proofs.lemmas.List.{take-append-drop}
 use Rattle.std.proofs.lemmas.Option.{slice_get-get_or}
-use Rattle.zorder.specs.declared.points.Placed.{Placed}
-use Rattle.plain_list.specs.declared.ops.Op.{Op}
-use Rattle.plain_list.specs.declared.ops.Op.TheVariants as op
 use Rattle.plain_list.specs.declared.entries.Entry.{Entry}
-use Rattle.plain_list.specs.declared.entries.Entry.TheVariants.{Fail, Call, Begin, Install, Abandon}
-use Rattle.plain_list.specs.Answer.{answer_of, is_change}
+use Rattle.plain_list.specs.declared.entries.Entry.TheVariants.{Install}
 use Rattle.plain_list.specs.History.{world_after}
 use Rattle.plain_list.specs.State.{IsLegal}
-use Rattle.log_state.specs.Changes.{change_cells, cells_of}
+use Rattle.log_state.specs.Changes.{cells_of}
 use Rattle.log_state.proofs.PlacedChanges.{cells_of-append}
 use Rattle.csv_rows.specs.declared.rows.InRow.{InRow}
 use Rattle.commit_book.specs.Refusals.{has_no_room}
@@ -27,6 +23,7 @@ use Rattle.sessions.specs.declared.store.lanes.Lane.{Lane}
 use Rattle.lane_history.specs.Lanes.{IsPlayedOut, GoesOn}
 use Rattle.lane_splits.specs.Settled.{IsBounded}
 use Rattle.lane_splits.proofs.Weights.{weight, weight-all, all_below, at, at-is, below-take}
+use Rattle.lane_splits.proofs.Cells.{cells-few}
 use Rattle.lane_splits.proofs.Entries.{begins, calls, ends, fails, one-kind, legal-begin, one-fail, open-few}
 use Rattle.lane_splits.proofs.Bounds.{AreFew, size-few}
 use Rattle.lane_splits.proofs.Gains.{crowd}
@@ -81,32 +78,13 @@ last-goes w origin pass last most from joined (inl same) =
 last-goes w origin pass last most from joined (inr (result, settles)) = last-pairs origin last.seen pass last most joined (settles-pairs w origin last.seen pass last result from settles (prefix_refl last.seen))
 
 -- the cells of one entry more
-change-few : (o : Op) → length (change_cells o) ≤ 1
-change-few (op.Put id at) = omega arith
-change-few (op.Move id at) = omega arith
-change-few (op.Remove id) = omega arith
-change-few (op.Find id) = omega arith
-change-few (op.Within region) = omega arith
-change-few (op.Near at k) = omega arith
-
-entry-few : (world : List Placed) (e : Entry) → length (cells_of world (e ∷ [])) ≤ 1
-entry-few world (Fail cell lost) = omega arith
-entry-few world (Begin number name) = omega arith
-entry-few world (Install number) = omega arith
-entry-few world (Abandon number) = omega arith
-entry-few world (Call session row o) = by_test (is_change (answer_of world o)) (change-few o)
-  where
-    by_test : (b : Bool) → length (change_cells o) ≤ 1 → length (cond b (change_cells o) [] ++ []) ≤ 1
-    by_test true few = let same = length-append (change_cells o) [] in omega arith
-    by_test false few = omega arith
-
 next-cells : (origin : Origin) (h : List Entry) (n : ℕ) → n < length h → cells_after origin (take (suc n) h) ≤ cells_after origin (take n h) + 1
 next-cells origin h n less =
     let e : Entry = get_or h n (Install 0) in
     let is : length (cells_of origin.world (take (suc n) h)) ≡ length (cells_of origin.world (take n h)) + length (cells_of (world_after origin.world (take n h)) (e ∷ [])) =
     ap (λ (l : List Entry). length (cells_of origin.world l)) (take-suc h n (Install 0) less) ∙ ap length (cells_of-append origin.world (take n h) (e ∷ []))
     ∙ length-append (cells_of origin.world (take n h)) (cells_of (world_after origin.world (take n h)) (e ∷ [])) in
-    let few = entry-few (world_after origin.world (take n h)) e in
+    let few = cells-few (world_after origin.world (take n h)) (e ∷ []) in
     omega arith
 
 -- each position has an entry of one kind

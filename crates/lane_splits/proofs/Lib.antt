@@ -1,5 +1,6 @@
 pub mod Weights
 pub mod Entries
+pub mod Cells
 pub mod Bounds
 pub mod Gains
 pub mod Rounds

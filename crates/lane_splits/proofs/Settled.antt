@@ -1,16 +1,10 @@
 -- What the splits of lanes that were played and settled come to.
-use Rattle.std.proofs.Common.{◌≡◌, ℕ, ◌+◌, ◌≤◌, Bool, true, false, cond, List, [], ◌∷◌, ◌++◌, length, Option, None, Ok, ap, ◌∙◌, arith, length-append}
+use Rattle.std.proofs.Common.{◌≡◌, ℕ, ◌+◌, ◌≤◌, List, [], ◌++◌, length, Option, None, Ok, ap, ◌∙◌, arith}
 use mathlib.Core.List.{IsPrefix}
 use Rattle.std.proofs.lemmas.List.{take_all, nil_from_length}
-use Rattle.zorder.specs.declared.points.Placed.{Placed}
 use Rattle.plain_list.specs.declared.entries.Entry.{Entry}
-use Rattle.plain_list.specs.declared.entries.Entry.TheVariants.{Fail, Call, Begin, Install, Abandon}
-use Rattle.plain_list.specs.declared.ops.Op.{Op}
-use Rattle.plain_list.specs.declared.ops.Op.TheVariants as op
-use Rattle.plain_list.specs.Answer.{answer_of, after_of, is_change}
 use Rattle.plain_list.specs.History.{call_count}
 use Rattle.plain_list.specs.State.{IsLegal, state_after}
-use Rattle.log_state.specs.Changes.{change_cells, cells_of}
 use Rattle.kept_log.specs.Journal.{failed_cell}
 use Rattle.csv_rows.specs.declared.rows.InRow.{InRow}
 use Rattle.book_lock.specs.Pass.{Known}
@@ -24,37 +18,13 @@ use Rattle.sessions.specs.declared.store.lanes.Lane.{Lane}
 use Rattle.lane_history.specs.Lanes.{IsPlayedOut, OwnsAll}
 use Rattle.lane_splits.specs.Settled.{IsSettled, first_cells, stray_begins}
 use Rattle.lane_splits.proofs.Weights.{weight-all, at, below-take, sum_of}
+use Rattle.lane_splits.proofs.Cells.{cells-few}
 use Rattle.lane_splits.proofs.Entries.{begins, calls, ends, calls-count, sum-append, open-few}
 use Rattle.lane_splits.proofs.Steps.{IsCalm, take-prefix}
 use Rattle.lane_splits.proofs.Ends.{EndPairs, settles-same, settles-well, all-splits-same}
 use Rattle.lane_splits.proofs.Bounded.{AreJoined, joined, bounded}
 use Rattle.lane_splits.proofs.Tidy.{stray-append, GoesTidy, goes-tidy}
 use Rattle.lane_splits.proofs.Sized.{ended-sized}
-
--- a history has no more cells than entries
-change-few : (o : Op) → length (change_cells o) ≤ 1
-change-few (op.Put id at) = omega arith
-change-few (op.Move id at) = omega arith
-change-few (op.Remove id) = omega arith
-change-few (op.Find id) = omega arith
-change-few (op.Within region) = omega arith
-change-few (op.Near at k) = omega arith
-
-call-few : (b : Bool) (o : Op) → length (cond b (change_cells o) []) ≤ 1
-call-few true o = change-few o
-call-few false o = omega arith
-
-cells-few : (world : List Placed) (h : List Entry) → length (cells_of world h) ≤ length h
-cells-few world [] = omega arith
-cells-few world (Call session row o ∷ h) =
-    let a = call-few (is_change (answer_of world o)) o in
-    let b = cells-few (after_of world o) h in
-    let c = length-append (cond (is_change (answer_of world o)) (change_cells o) []) (cells_of (after_of world o) h) in
-    omega arith
-cells-few world (Begin number name ∷ h) = let b = cells-few world h in omega arith
-cells-few world (Install number ∷ h) = let b = cells-few world h in omega arith
-cells-few world (Abandon number ∷ h) = let b = cells-few world h in omega arith
-cells-few world (Fail cell lost ∷ h) = let b = cells-few world h in omega arith
 
 -- in a calm history that was settled well, begins are no more than ends
 even-sums : (origin : Origin) (pass last : Known) (most : ℕ) → AreJoined origin last.seen pass.own most → EndPairs origin last.seen (Unit {0}) pass last → OwnsAll last → IsCalm origin last.seen
