@@ -6,11 +6,12 @@ use Rattle.csv_rows.specs.declared.rows.Refusal.{Refusal}
 use Rattle.csv_rows.specs.declared.rows.Refusal.TheVariants as refusal
 use Rattle.io_edge.specs.Streams.{Output}
 use Rattle.location_run.specs.Ends.{Ends, Targets}
-use Rattle.location_run.specs.Words.{Command, Init, Check, Play, AsksFor}
+use Rattle.command_words.specs.Words.{Command, Init, Check, Play, Show, AsksFor}
 use Rattle.location_run.specs.Status.{status_of}
 use Rattle.location_run.specs.Ending.{EndsWriting, EndsRefused}
 use Rattle.location_run.specs.Making.{IsMakingCause, MakesOrRefuses}
-use Rattle.location_run.specs.Checking.{IsCheckingCause, TellsCells}
+use Rattle.cell_format.specs.declared.cell.Cell.{Cell}
+use Rattle.location_run.specs.Checking.{EndsTelling, IsCheckingCause, TellsCells}
 use Rattle.location_run.specs.Playing.{IsInputCause, HasNoBook, IsStop, EndsRows, PlaysRows, IsUnread, IsRead}
 use Rattle.location_run.specs.Run.{Keeps, AnswersUsage}
 
@@ -51,6 +52,13 @@ accepted-rows log size rows old new status h (inr answered) two = by_status answ
     by_status (inr (inl (e, rose))) = omega (arith, e, two)
     by_status (inr (inr refused)) = not-usage (IsStop log answered.from rows old.drive new.drive h) status old.output new.output (λ c. c) refused two
 
+not-told : {D : Type 0} (text : List Cell → List ℕ) (file : List ℕ) (old new : Targets D) (status : ℕ) → EndsTelling text file old new status → status ≡ 2 → ⊥
+not-told text file old new status tells two = by_end tells.ends
+  where
+    by_end : TellsCells text old.drive status old.output new.output ⊎ EndsRefused (IsCheckingCause old.drive new.drive) status old.output new.output → ⊥
+    by_end (inl (cells, found, wrote)) = not-written _ status old.output new.output wrote two
+    by_end (inr refused) = not-usage (IsCheckingCause old.drive new.drive) status old.output new.output (λ c. c) refused two
+
 -- no command gives status 2
 accepted : {S D : Type 0} (c : Command) (old new : Ends S D) (status : ℕ) (h : List Entry) → Keeps c old new status h → status ≡ 2 → ⊥
 accepted (Init file) old new status h keeps two = by_end keeps.makes.ends
@@ -58,11 +66,8 @@ accepted (Init file) old new status h keeps two = by_end keeps.makes.ends
     by_end : MakesOrRefuses old.to.drive new.to.drive status old.to.output new.to.output → ⊥
     by_end (inl (made, wrote)) = not-written _ status old.to.output new.to.output wrote two
     by_end (inr refused) = not-usage (IsMakingCause old.to.drive new.to.drive) status old.to.output new.to.output (λ c. c) refused two
-accepted (Check file) old new status h keeps two = by_end keeps.tells.ends
-  where
-    by_end : TellsCells old.to.drive status old.to.output new.to.output ⊎ EndsRefused (IsCheckingCause old.to.drive new.to.drive) status old.to.output new.to.output → ⊥
-    by_end (inl (cells, found, wrote)) = not-written _ status old.to.output new.to.output wrote two
-    by_end (inr refused) = not-usage (IsCheckingCause old.to.drive new.to.drive) status old.to.output new.to.output (λ c. c) refused two
+accepted (Check file) old new status h keeps two = not-told _ file old.to new.to status keeps.tells two
+accepted (Show file region) old new status h keeps two = not-told _ file old.to new.to status keeps.tells two
 accepted (Play log size) old new status h keeps two = by_end keeps.goes
   where
     by_end : IsUnread old new status h ⊎ IsRead log size old new status h → ⊥

@@ -65,11 +65,15 @@ counts_after cells =
 abbrev pub counts_of : Seen → LogCounts
 counts_of seen = record { cells = seen.cells; points = length seen.world; leaves = length seen.leaves; unfinished = seen.unfinished }
 
--- the four lines of the cells that were found
-abbrev pub TellsCells : Drive → ℕ → Output → Output → Type 0
-TellsCells old status before after = (cells : List Cell) × FindsCells old cells × EndsWriting (counts_text (counts_after cells)) status before after
+-- the four lines of cells
+abbrev pub checked_text : List Cell → List ℕ
+checked_text cells = counts_text (counts_after cells)
 
--- a fault that the bytes show is told, and bytes that recover to cells have their lines, unless the count rose or memory ran out
+-- the text of the cells that were found
+abbrev pub TellsCells : (List Cell → List ℕ) → Drive → ℕ → Output → Output → Type 0
+TellsCells text old status before after = (cells : List Cell) × FindsCells old cells × EndsWriting (text cells) status before after
+
+-- a fault that the bytes show is told, and bytes that recover to cells have their text, unless the count rose or memory ran out
 pub record IsDecided (old new : Drive) (status : ℕ) (before after : Output) : Type 0 where
   pub exact : (bytes : List ℕ) (fault : OpenFault) → old.bytes ≡ Some bytes → IsInBytes fault → IsFault width most_cells bytes fault → (Rose old.faults new.faults → ⊥)
       → Refuses (log_refusal fault) status before after ⊎ (status ≡ 9)
@@ -82,15 +86,19 @@ pub record IsDecidedBy {T : Type 0} (most : ℕ) (old new : Drive) (result : Res
       → IsErrAnd result (λ why. (why ≡ log_refusal fault) ⊎ (why ≡ refusal.Memory))
   pub whole : (bytes : List ℕ) (cells : List Cell) → old.bytes ≡ Some bytes → Recovers width cells bytes → length cells ≤ most → (Rose old.faults new.faults → ⊥) → IfErr result (λ why. why ≡ refusal.Memory)
 
--- the four lines or the line of a refusal; the drive's bytes and images stay
-pub record EndsChecking {D : Type 0} (file : List ℕ) (old new : Targets D) (status : ℕ) : Type 0 where
-  pub ends : TellsCells old.drive status old.output new.output ⊎ EndsRefused (IsCheckingCause old.drive new.drive) status old.output new.output
+-- the text of the cells or the line of a refusal; the drive's bytes and images stay
+pub record EndsTelling {D : Type 0} (text : List Cell → List ℕ) (file : List ℕ) (old new : Targets D) (status : ℕ) : Type 0 where
+  pub ends : TellsCells text old.drive status old.output new.output ⊎ EndsRefused (IsCheckingCause old.drive new.drive) status old.output new.output
   pub decided : IsDecided old.drive new.drive status old.output new.output
   pub stays : Stays old.drive new.drive
   -- the drive's count is as it was, but where it is what is told to have failed
   pub calm : status ≢ 7 → new.drive.faults ≡ old.drive.faults
   -- this file is attached, and none is made
   pub attached : status ≢ 7 → status ≢ 9 → new.drive.attached file false
+
+-- the four lines or the line of a refusal
+abbrev pub EndsChecking : {D : Type 0} → List ℕ → Targets D → Targets D → ℕ → Type 0
+EndsChecking file old new status = EndsTelling checked_text file old new status
 
 -- what `check` promises: no row is read or called
 pub record Checks {S D : Type 0} (file : List ℕ) (old new : Ends S D) (status : ℕ) (h : List Entry) : Type 0 where

@@ -1,12 +1,12 @@
 pub mod Limits
 pub mod Ends
-pub mod Words
 pub mod Judged
 pub mod Status
 pub mod Taking
 pub mod Ending
 pub mod Making
 pub mod Checking
+pub mod Showing
 pub mod Lines
 pub mod Origin
 pub mod LostSteps
@@ -18,6 +18,7 @@ pub mod Crash
 pub mod Examples
 pub mod inside
 pub use Rattle.causes.specs.Causes
+pub use Rattle.command_words.specs.Words
 pub use Rattle.disk_trait.specs.Drive
 pub use Rattle.log_state.specs.Recovers
 pub use Rattle.recovery.specs.Faults

@@ -1,5 +1,4 @@
 -- What only proofs need: books over which rows are played, and the steps of a play.
-pub mod Asked
 pub mod Room
 pub mod Stops
 pub mod Tidy

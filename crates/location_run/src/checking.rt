@@ -32,7 +32,8 @@ pub(crate) fn check_log<K: Sink, D: LogDisk>(
     }
 }
 
-fn find<D: LogDisk>(alloc: Global, file: &str, disk: &mut D) -> Result<Seen, Refusal>
+/// What the log in a file of this name says.
+pub(crate) fn find<D: LogDisk>(alloc: Global, file: &str, disk: &mut D) -> Result<Seen, Refusal>
     ensures found { IfOk result (IsFound width most_cells (D.drive disk.old)) }
     ensures cause { IfErr result (IsCheckingCause (D.drive disk.old) (D.drive disk.new)) }
     ensures decided { IsDecidedBy most_cells (D.drive disk.old) (D.drive disk.new) result }

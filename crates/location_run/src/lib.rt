@@ -6,7 +6,7 @@
 //! the log says; that a crash at any moment leaves a log of a front of the changes (`crash`); what splits come to (`splits`); and which
 //! cause each other status has.
 //!
-//! Not here: what a row is and how a line reads (`csv_rows`), the book (`commit_book`), the queries of its index (`range_query`,
+//! Not here: which words ask for what (`command_words`), what a row is and how a line reads (`csv_rows`), the book (`commit_book`), the queries of its index (`range_query`,
 //! `knn_query`), how a log is opened (`recovery`), `main` (`mdloc`).
 #![tactic(auto)]
 
@@ -25,9 +25,9 @@ mod playing;
 mod queries;
 mod refusals;
 mod replies;
+mod showing;
 mod splits;
 mod top;
-mod words;
 
 pub use outcome::Outcome;
 pub use top::run;

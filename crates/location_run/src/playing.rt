@@ -3,7 +3,7 @@ ghost use Rattle.std.specs.Prelude.{◌≡◌, true, [], Some, None, is_some};
 ghost use Rattle.csv_rows.specs.InRows.{AreInRows};
 ghost use Rattle.location_run.specs.Ends.{ends, targets};
 ghost use Rattle.location_run.specs.Taking.{Refuses};
-ghost use Rattle.location_run.specs.inside.Asked.{file_of};
+ghost use Rattle.command_words.specs.Asked.{file_of};
 ghost use Rattle.location_run.specs.Playing.{Goes, PlaysRows};
 
 use crate::input::read_judged;
@@ -12,7 +12,7 @@ use crate::log_book::open_book;
 use crate::making::Unmade;
 use crate::play_book::{BookEnd, play_book};
 use crate::refusals::put_refusal;
-use crate::words::Command;
+use command_words::Command;
 use commit_book::Book;
 use csv_rows::{InRow, Refusal};
 use disk_trait::LogDisk;

@@ -9,7 +9,8 @@ use crate::making::make_log;
 use crate::outcome::Outcome;
 use crate::playing::play;
 use crate::refusals::put_refusal;
-use crate::words::{Command, command_in};
+use crate::showing::show_log;
+use command_words::{Command, command_in};
 use csv_rows::Refusal;
 use disk_trait::LogDisk;
 use io_edge::{Sink, Source};
@@ -19,8 +20,8 @@ use std::alloc::Global;
 /// Runs the program: `words` are the command line without the program's name.
 ///
 /// The order of work, and of refusals, is for rows: words, source, length of the input, rows, then where there is a log its opening, then
-/// answers, each kept in the log before the next, and lines. The first line is written once all is there. For `init` and `check` it is:
-/// words, attach, making or inspecting, lines; the source isn't read.
+/// answers, each kept in the log before the next, and lines. The first line is written once all is there. For `init`, `check` and
+/// `show` it is: words, attach, making or inspecting, lines; the source isn't read.
 pub fn run<S: Source, K: Sink, D: LogDisk>(
     alloc: Global,
     words: &[String],
@@ -48,6 +49,11 @@ pub fn run<S: Source, K: Sink, D: LogDisk>(
         Some(Command::Check(file)) => {
             let mut disk = disk;
             let status = check_log(alloc, file, sink, &mut disk);
+            without_rows(alloc, status, disk, other)
+        }
+        Some(Command::Show(file, region)) => {
+            let mut disk = disk;
+            let status = show_log(alloc, file, &region, sink, &mut disk);
             without_rows(alloc, status, disk, other)
         }
         Some(Command::Play(log, size)) => {

@@ -1,9 +1,9 @@
-use Rattle.std.proofs.Common.{rules, map}
+use Rattle.std.proofs.Common.{rules, map, refl}
 use Rattle.std.specs.String.{string_bytes}
 use Rattle.location_run.specs.Ends.{ends}
-use Rattle.location_run.specs.Words.{AsksFor}
-use Rattle.location_run.specs.inside.Asked.{command_of}
-use Rattle.location_run.specs.declared.words.Command.TheVariants.{Play}
+use Rattle.command_words.specs.Words.{AsksFor}
+use Rattle.command_words.specs.Asked.{command_of}
+use Rattle.command_words.specs.declared.parsing.Command.TheVariants.{Play, Show}
 use Rattle.location_run.proofs.WordsFacts.{keeps-asked, keeps-play}
 use Rattle.location_run.proofs.top.run.Goals as goal
 
@@ -17,3 +17,15 @@ returns-in-Some-Play-clause-keeps g c =
     let end = c.play-end.result in
     let new = at c.play-end.new.source c.play-end.new.sink end.disk in
     keeps-asked words (command_of command) old new end.status end.events asks (keeps-play command old new end.status end.events c.play-end.ensures.goes)
+
+pub returns-in-Some-Show-clause-keeps : goal.returns-in-Some-Show-clause-keeps
+returns-in-Some-Show-clause-keeps g c =
+    let words = map string_bytes c.args.words.now in
+    let command = Show c.in-Some-Show.file c.in-Some-Show.region in
+    let asks : AsksFor words (command_of command) = search rules in
+    let at = ends g.S.Source.input g.K.Sink.output g.D.LogDisk.drive in
+    let old = at c.args.source.now c.args.sink.now c.args.disk in
+    let end = c.without_rows-in-Some-Show.result in
+    let new = at c.args.source.now c.show_log-status.new.sink end.disk in
+    keeps-asked words (command_of command) old new end.status end.events asks
+    (rw c.without_rows-in-Some-Show.ensures (record { tells = c.show_log-status.ensures.ends; unread = refl; none = refl }))

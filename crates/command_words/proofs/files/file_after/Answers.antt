@@ -1,9 +1,9 @@
 use Rattle.std.proofs.Common.{◌≡◌, ◌∙◌, ℕ, ◌<◌, ◌≤◌, false, List, [], ◌∷◌, length, get_or, map, sym, ap, subst, arith}
 use Rattle.std.specs.Prelude.{IsTrue}
 use Rattle.std.specs.String.{string_bytes}
-use Rattle.location_run.specs.Words.{NamesFile, is_file_name}
-use Rattle.location_run.proofs.words.file_after.Goals.{else-is_word-via-then-is_word+else-is_file_name, else-is_word-via-else-is_word}
-use Rattle.location_run.proofs.words.file_after.Goals as goal
+use Rattle.command_words.specs.Words.{NamesFile, is_file_name}
+use Rattle.command_words.proofs.files.file_after.Goals.{else-is_word-via-then-is_word+else-is_file_name, else-is_word-via-else-is_word}
+use Rattle.command_words.proofs.files.file_after.Goals as goal
 
 two : {X : Type 0} (ws : List X) (a b : X) → 2 ≤ length ws → length ws < 3 → a ≡ get_or ws 0 a → b ≡ get_or ws 1 b → ws ≡ a ∷ b ∷ []
 two [] a b low high e f = absurd (omega (arith, low))

@@ -1,16 +1,17 @@
 -- The command that a value of the enum stands for.
 use Rattle.std.specs.Prelude.{ℕ, List, Option, Some, None}
-use Rattle.location_run.specs.Words as words
-use Rattle.location_run.specs.declared.words.Command.{Command}
-use Rattle.location_run.specs.declared.words.Command.TheVariants.{Init, Check, Play}
+use Rattle.command_words.specs.Words as words
+use Rattle.command_words.specs.declared.parsing.Command.{Command}
+use Rattle.command_words.specs.declared.parsing.Command.TheVariants.{Init, Check, Play, Show}
 
 abbrev pub command_of : Command → words.Command
 command_of (Init file) = words.Init file.now
 command_of (Check file) = words.Check file.now
 command_of (Play (Some log) size) = words.Play (Some log.now) size
 command_of (Play None size) = words.Play None size
+command_of (Show file region) = words.Show file.now region
 
--- the file whose log it is to be played over
+-- the file whose log rows are to be played over
 abbrev pub file_of : Command → Option (List ℕ)
 file_of (Play (Some log) size) = Some log.now
 file_of _ = None

@@ -1,13 +1,15 @@
 -- The words of the command line.
 use Rattle.std.specs.Prelude.{◌≡◌, ◌⊎◌, ℕ, ◌==◌, Bool, false, not, List, [], ◌∷◌, Option, Some, None, codes, IsTrue}
+use Rattle.zorder.specs.declared.points.Region.{Region}
 use Rattle.csv_rows.specs.Numbers.{number_in}
 
--- what a run is asked for: to make a log in a file, to inspect the log in a file, or to play rows, over the log in a file or over none, with
--- buckets of a size
+-- what a run is asked for: to make a log in a file, to inspect the log in a file, to play rows, over the log in a file or over none, with
+-- buckets of a size, or to list the objects in a box, of the log in a file
 pub data Command : Type 0 where
   Init : List ℕ → Command
   Check : List ℕ → Command
   Play : Option (List ℕ) → ℕ → Command
+  Show : List ℕ → Region → Command
 
 -- whether a word names a file: it isn't empty, and doesn't begin with `-`
 abbrev pub is_file_name : List ℕ → Bool
@@ -25,12 +27,24 @@ SpellsPlay words word size =
     ((words ≡ codes "play" ∷ word ∷ []) × (size ≡ 64))
     ⊎ ((number : List ℕ) × (words ≡ codes "play" ∷ word ∷ codes "--bucket" ∷ number ∷ []) × (number_in 4 4096 number ≡ Some size))
 
+-- four words are the corners of a box, the lower one first: each number has at most 32 bits, and the upper corner's are at least the lower one's
+pub record SpellsBox (x y a b : List ℕ) (region : Region) : Type 0 where
+  pub lo_x : number_in 0 4294967295 x ≡ Some region.lo.x
+  pub lo_y : number_in 0 4294967295 y ≡ Some region.lo.y
+  pub hi_x : number_in region.lo.x 4294967295 a ≡ Some region.hi.x
+  pub hi_y : number_in region.lo.y 4294967295 b ≡ Some region.hi.y
+
+-- the words that ask for the objects in this box, with this word in the place of a file
+abbrev pub SpellsShow : List (List ℕ) → List ℕ → Region → Type 0
+SpellsShow words word region = (x y a b : List ℕ) × (words ≡ codes "show" ∷ word ∷ x ∷ y ∷ a ∷ b ∷ []) × SpellsBox x y a b region
+
 -- the words that ask for a command; a dash stands for no log
 abbrev pub AsksFor : List (List ℕ) → Command → Type 0
 AsksFor words (Init file) = NamesFile (codes "init") words file
 AsksFor words (Check file) = NamesFile (codes "check") words file
 AsksFor words (Play None size) = SpellsPlay words (codes "-") size
 AsksFor words (Play (Some file) size) = IsTrue (is_file_name file) × SpellsPlay words file size
+AsksFor words (Show file region) = IsTrue (is_file_name file) × SpellsShow words file region
 
 -- the words that ask for rows to be played with buckets of this size
 abbrev pub AsksToPlay : List (List ℕ) → ℕ → Type 0
@@ -45,6 +59,9 @@ IsCheck words = (file : List ℕ) × AsksFor words (Check file)
 
 abbrev pub IsPlay : List (List ℕ) → Type 0
 IsPlay words = (size : ℕ) × AsksToPlay words size
+
+abbrev pub IsShow : List (List ℕ) → Type 0
+IsShow words = (file : List ℕ) × (region : Region) × AsksFor words (Show file region)
 
 -- the words that ask for rows to be played over no log
 abbrev pub IsUnlogged : List (List ℕ) → Type 0

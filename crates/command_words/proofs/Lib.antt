@@ -1,0 +1,2 @@
+pub mod WordsFacts
+pub mod TrialFacts

@@ -1,0 +1,183 @@
+-- Words ask for one command.
+use Rattle.std.proofs.Common.{◌≡◌, ◌∙◌, ◌<◌, ◌≤◌, inl, inr, ℕ, List, [], ◌∷◌, length, get_or, Option, Some, None, sym, ap, subst, arith}
+use Rattle.std.specs.Prelude.{codes, IsTrue}
+use Rattle.std.proofs.lemmas.Bool.{true≢false}
+use Rattle.zorder.specs.declared.points.Region.{Region}
+use Rattle.csv_rows.specs.Numbers.{number_in}
+use Rattle.command_words.specs.Words.{Command, AsksFor, NamesFile, SpellsBox, SpellsPlay, SpellsShow, IsInit, IsCheck, IsPlay, IsShow, IsUnlogged, IsLogged, IsAccepted, is_file_name, Init, Check, Play, Show}
+
+init-word : (words : List (List ℕ)) → IsInit words → get_or words 0 [] ≡ codes "init"
+init-word words asks = ap (λ (ws : List (List ℕ)). get_or ws 0 []) asks.1.0
+
+check-word : (words : List (List ℕ)) → IsCheck words → get_or words 0 [] ≡ codes "check"
+check-word words asks = ap (λ (ws : List (List ℕ)). get_or ws 0 []) asks.1.0
+
+-- words that play rows have some word in the place of a file
+pub spells-play : (words : List (List ℕ)) → IsPlay words → (log : List ℕ) × (size : ℕ) × SpellsPlay words log size
+spells-play words (size, (None, spells)) = (codes "-", size, spells)
+spells-play words (size, (Some file, (named, spells))) = (file, size, spells)
+
+pub not-played : (words : List (List ℕ)) → ((log : List ℕ) (size : ℕ) → SpellsPlay words log size → ⊥) → IsPlay words → ⊥
+not-played words none play = let (log, size, spells) = spells-play words play in none log size spells
+
+-- the word in the place of a file
+log-word : (words : List (List ℕ)) (log : List ℕ) (size : ℕ) → SpellsPlay words log size → get_or words 1 [] ≡ log
+log-word words log size (inl two) = ap (λ (ws : List (List ℕ)). get_or ws 1 []) two.0
+log-word words log size (inr sized) = ap (λ (ws : List (List ℕ)). get_or ws 1 []) sized.1
+
+-- it names a file, or is a dash
+pub misnamed : (words : List (List ℕ)) (log : List ℕ) (size : ℕ) → SpellsPlay words log size → (log ≡ codes "-" → ⊥) → (IsTrue (is_file_name log) → ⊥) → IsPlay words → ⊥
+misnamed words log size spells dash file (n, (None, as_none)) = dash (sym (log-word words log size spells) ∙ log-word words (codes "-") n as_none)
+misnamed words log size spells dash file (n, (Some name, (named, as_file))) =
+    file (subst (λ (l : List ℕ). IsTrue (is_file_name l)) (sym (log-word words name n as_file) ∙ log-word words log size spells) named)
+
+play-word : (words : List (List ℕ)) → IsPlay words → get_or words 0 [] ≡ codes "play"
+play-word words play = let (log, size, spells) = spells-play words play in by_form log size spells
+  where
+    by_form : (log : List ℕ) (size : ℕ) → SpellsPlay words log size → get_or words 0 [] ≡ codes "play"
+    by_form log size (inl two) = ap (λ (ws : List (List ℕ)). get_or ws 0 []) two.0
+    by_form log size (inr sized) = ap (λ (ws : List (List ℕ)). get_or ws 0 []) sized.1
+
+show-word : (words : List (List ℕ)) (log : List ℕ) (region : Region) → SpellsShow words log region → get_or words 0 [] ≡ codes "show"
+show-word words log region (x, y, a, b, spells, corners) = ap (λ (ws : List (List ℕ)). get_or ws 0 []) spells
+
+-- words that ask for objects have some word in the place of a file
+pub not-shown : (words : List (List ℕ)) → ((log : List ℕ) (region : Region) → SpellsShow words log region → ⊥) → IsShow words → ⊥
+not-shown words none (file, region, (named, spells)) = none file region spells
+
+shown-file : (words : List (List ℕ)) (log : List ℕ) (region : Region) → SpellsShow words log region → get_or words 1 [] ≡ log
+shown-file words log region (x, y, a, b, spells, corners) = ap (λ (ws : List (List ℕ)). get_or ws 1 []) spells
+
+-- the word in the place of a file names none
+pub unnamed : (words : List (List ℕ)) (log : List ℕ) (region : Region) → SpellsShow words log region → (IsTrue (is_file_name log) → ⊥) → IsShow words → ⊥
+unnamed words log region spells bad (file, other, (named, as_file)) =
+    bad (subst (λ (l : List ℕ). IsTrue (is_file_name l)) (sym (shown-file words file other as_file) ∙ shown-file words log region spells) named)
+
+-- rows are played over no log or over one
+pub unlogged-logged : (words : List (List ℕ)) → IsUnlogged words → IsLogged words → ⊥
+unlogged-logged words (size, plain) (file, n, (named, over)) =
+    absurd (true≢false (sym (ap is_file_name (sym (log-word words (codes "-") size plain) ∙ log-word words file n over) ∙ named)))
+
+pub unlogged-play : (words : List (List ℕ)) → IsUnlogged words → IsPlay words
+unlogged-play words (size, asks) = (size, (None, asks))
+
+pub logged-play : (words : List (List ℕ)) → IsLogged words → IsPlay words
+logged-play words (file, size, asks) = (size, (Some file, asks))
+
+first_letter : (xs ys : List ℕ) → xs ≡ ys → get_or xs 0 0 ≡ get_or ys 0 0
+first_letter xs ys e = ap (λ (l : List ℕ). get_or l 0 0) e
+
+pub init-check : (words : List (List ℕ)) → IsInit words → IsCheck words → ⊥
+init-check words i k = let e : 105 ≡ 99 = first_letter (codes "init") (codes "check") (sym (init-word words i) ∙ check-word words k) in omega (arith, e)
+
+pub init-play : (words : List (List ℕ)) → IsInit words → IsPlay words → ⊥
+init-play words i p = let e : 105 ≡ 112 = first_letter (codes "init") (codes "play") (sym (init-word words i) ∙ play-word words p) in omega (arith, e)
+
+pub check-play : (words : List (List ℕ)) → IsCheck words → IsPlay words → ⊥
+check-play words k p = let e : 99 ≡ 112 = first_letter (codes "check") (codes "play") (sym (check-word words k) ∙ play-word words p) in omega (arith, e)
+
+shown-word : (words : List (List ℕ)) → IsShow words → get_or words 0 [] ≡ codes "show"
+shown-word words (file, region, (named, spells)) = show-word words file region spells
+
+pub init-show : (words : List (List ℕ)) → IsInit words → IsShow words → ⊥
+init-show words i s = let e : 105 ≡ 115 = first_letter (codes "init") (codes "show") (sym (init-word words i) ∙ shown-word words s) in omega (arith, e)
+
+pub check-show : (words : List (List ℕ)) → IsCheck words → IsShow words → ⊥
+check-show words k s = let e : 99 ≡ 115 = first_letter (codes "check") (codes "show") (sym (check-word words k) ∙ shown-word words s) in omega (arith, e)
+
+pub play-show : (words : List (List ℕ)) → IsPlay words → IsShow words → ⊥
+play-show words p s = let e : 112 ≡ 115 = first_letter (codes "play") (codes "show") (sym (play-word words p) ∙ shown-word words s) in omega (arith, e)
+
+-- words of none of the commands aren't accepted
+pub none-accepted : (words : List (List ℕ)) → (IsInit words → ⊥) → (IsCheck words → ⊥) → (IsShow words → ⊥) → (IsPlay words → ⊥) → IsAccepted words → ⊥
+none-accepted words i k s p (Init file, asks) = i (file, asks)
+none-accepted words i k s p (Check file, asks) = k (file, asks)
+none-accepted words i k s p (Play file size, asks) = p (size, (file, asks))
+none-accepted words i k s p (Show file region, asks) = s (file, region, asks)
+
+pub accepted-play : (words : List (List ℕ)) → IsPlay words → IsAccepted words
+accepted-play words (size, (file, asks)) = (Play file size, asks)
+
+-- words ask for one command
+same-file : (command : List ℕ) (words : List (List ℕ)) (f g : List ℕ) → NamesFile command words f → NamesFile command words g → f ≡ g
+same-file command words f g first second = ap (λ (ws : List (List ℕ)). get_or ws 1 []) (sym first.0 ∙ second.0)
+
+some-number : (m n : ℕ) → Some m ≡ Some n → m ≡ n
+some-number m n e = cc e
+
+same-size : (words : List (List ℕ)) (a b : List ℕ) (m n : ℕ) → SpellsPlay words a m → SpellsPlay words b n → m ≡ n
+same-size words a b m n (inl (two, is)) (inl (other, same)) = is ∙ sym same
+same-size words a b m n (inl (two, is)) (inr (number, four, named)) = absurd (omega (arith, ap length (sym two ∙ four)))
+same-size words a b m n (inr (number, four, named)) (inl (two, is)) = absurd (omega (arith, ap length (sym two ∙ four)))
+same-size words a b m n (inr (number, four, named)) (inr (digits, other, same)) =
+    let text : number ≡ digits = ap (λ (ws : List (List ℕ)). get_or ws 3 []) (sym four ∙ other) in
+    some-number m n (sym named ∙ ap (number_in 4 4096) text ∙ same)
+
+one-play : (words : List (List ℕ)) (k l : Option (List ℕ)) (m n : ℕ) → AsksFor words (Play k m) → AsksFor words (Play l n) → Play k m ≡ Play l n
+one-play words None None m n first second = ap (Play None) (same-size words (codes "-") (codes "-") m n first second)
+one-play words None (Some g) m n first second = absurd (unlogged-logged words (m, first) (g, n, second))
+one-play words (Some f) None m n first second = absurd (unlogged-logged words (n, second) (f, m, first))
+one-play words (Some f) (Some g) m n first second =
+    let file : f ≡ g = sym (log-word words f m first.1) ∙ log-word words g n second.1 in
+    let size : m ≡ n = same-size words f g m n first.1 second.1 in
+    λ i. Play (Some (file i)) (size i)
+
+-- four words spell one box
+same-box : (x y a b : List ℕ) (q r : Region) → SpellsBox x y a b q → SpellsBox x y a b r → q ≡ r
+same-box x y a b q r first second =
+    let lo_x : q.lo.x ≡ r.lo.x = some-number q.lo.x r.lo.x (sym first.lo_x ∙ second.lo_x) in
+    let lo_y : q.lo.y ≡ r.lo.y = some-number q.lo.y r.lo.y (sym first.lo_y ∙ second.lo_y) in
+    let hi_x : q.hi.x ≡ r.hi.x = some-number q.hi.x r.hi.x (sym first.hi_x ∙ ap (λ n. number_in n 4294967295 a) lo_x ∙ second.hi_x) in
+    let hi_y : q.hi.y ≡ r.hi.y = some-number q.hi.y r.hi.y (sym first.hi_y ∙ ap (λ n. number_in n 4294967295 b) lo_y ∙ second.hi_y) in
+    λ i. record { lo = record { x = lo_x i; y = lo_y i }; hi = record { x = hi_x i; y = hi_y i } }
+
+word-at : (n : ℕ) (words one other : List (List ℕ)) → words ≡ one → words ≡ other → get_or one n [] ≡ get_or other n []
+word-at n words one other first second = ap (λ (ws : List (List ℕ)). get_or ws n []) (sym first ∙ second)
+
+transport-box : {x y a b x' y' a' b' : List ℕ} (r : Region) → x ≡ x' → y ≡ y' → a ≡ a' → b ≡ b' → SpellsBox x y a b r → SpellsBox x' y' a' b' r
+transport-box {x = x} {y = y} {a = a} {b = b} {x' = x'} {y' = y'} {a' = a'} {b' = b'} r e f g h s =
+    subst (λ (l : List ℕ). SpellsBox x' y' a' l r) h (subst (λ (l : List ℕ). SpellsBox x' y' l b r) g (subst (λ (l : List ℕ). SpellsBox x' l a b r) f (subst (λ (l : List ℕ). SpellsBox l y a b r) e s)))
+
+-- six words of which the last four spell no box
+pub not-boxed : (words : List (List ℕ)) (command log x y a b : List ℕ) → words ≡ command ∷ log ∷ x ∷ y ∷ a ∷ b ∷ [] → ((r : Region) → SpellsBox x y a b r → ⊥) → (other : List ℕ) (region : Region) → SpellsShow words other region → ⊥
+not-boxed words command log x y a b is none other region (x', y', a', b', spells, corners) =
+    none region (transport-box region (word-at 2 words _ _ spells is) (word-at 3 words _ _ spells is) (word-at 4 words _ _ spells is) (word-at 5 words _ _ spells is) corners)
+
+pub six : {X : Type 0} (ws : List X) (a b c d e f : X) → 6 ≤ length ws → length ws < 7 → a ≡ get_or ws 0 a → b ≡ get_or ws 1 b → c ≡ get_or ws 2 c → d ≡ get_or ws 3 d → e ≡ get_or ws 4 e → f ≡ get_or ws 5 f
+    → ws ≡ a ∷ b ∷ c ∷ d ∷ e ∷ f ∷ []
+six [] a b c d e f low high p q r s t u = absurd (omega (arith, low))
+six (z1 ∷ []) a b c d e f low high p q r s t u = absurd (omega (arith, low))
+six (z1 ∷ z2 ∷ []) a b c d e f low high p q r s t u = absurd (omega (arith, low))
+six (z1 ∷ z2 ∷ z3 ∷ []) a b c d e f low high p q r s t u = absurd (omega (arith, low))
+six (z1 ∷ z2 ∷ z3 ∷ z4 ∷ []) a b c d e f low high p q r s t u = absurd (omega (arith, low))
+six (z1 ∷ z2 ∷ z3 ∷ z4 ∷ z5 ∷ []) a b c d e f low high p q r s t u = absurd (omega (arith, low))
+six (z1 ∷ z2 ∷ z3 ∷ z4 ∷ z5 ∷ z6 ∷ []) a b c d e f low high p q r s t u = λ i. sym p i ∷ sym q i ∷ sym r i ∷ sym s i ∷ sym t i ∷ sym u i ∷ []
+six (z1 ∷ z2 ∷ z3 ∷ z4 ∷ z5 ∷ z6 ∷ z7 ∷ zs) a b c d e f low high p q r s t u = absurd (omega (arith, high))
+
+same-shown : (words : List (List ℕ)) (f g : List ℕ) (q r : Region) → SpellsShow words f q → SpellsShow words g r → q ≡ r
+same-shown words f g q r (x, y, a, b, spells, corners) (x', y', a', b', spells', corners') =
+    same-box x' y' a' b' q r (transport-box q (word-at 2 words _ _ spells spells') (word-at 3 words _ _ spells spells') (word-at 4 words _ _ spells spells') (word-at 5 words _ _ spells spells') corners) corners'
+
+one-show : (words : List (List ℕ)) (f g : List ℕ) (q r : Region) → AsksFor words (Show f q) → AsksFor words (Show g r) → Show f q ≡ Show g r
+one-show words f g q r (named, first) (also, second) =
+    let file : f ≡ g = sym (shown-file words f q first) ∙ shown-file words g r second in
+    let region : q ≡ r = same-shown words f g q r first second in
+    λ i. Show (file i) (region i)
+
+pub one-command : (words : List (List ℕ)) (a b : Command) → AsksFor words a → AsksFor words b → a ≡ b
+one-command words (Init f) (Init g) first second = ap Init (same-file (codes "init") words f g first second)
+one-command words (Init f) (Check g) first second = absurd (init-check words (f, first) (g, second))
+one-command words (Init f) (Play l n) first second = absurd (init-play words (f, first) (n, (l, second)))
+one-command words (Init f) (Show g r) first second = absurd (init-show words (f, first) (g, r, second))
+one-command words (Check f) (Init g) first second = absurd (init-check words (g, second) (f, first))
+one-command words (Check f) (Check g) first second = ap Check (same-file (codes "check") words f g first second)
+one-command words (Check f) (Play l n) first second = absurd (check-play words (f, first) (n, (l, second)))
+one-command words (Check f) (Show g r) first second = absurd (check-show words (f, first) (g, r, second))
+one-command words (Play k m) (Init g) first second = absurd (init-play words (g, second) (m, (k, first)))
+one-command words (Play k m) (Check g) first second = absurd (check-play words (g, second) (m, (k, first)))
+one-command words (Play k m) (Play l n) first second = one-play words k l m n first second
+one-command words (Play k m) (Show g r) first second = absurd (play-show words (m, (k, first)) (g, r, second))
+one-command words (Show f q) (Init g) first second = absurd (init-show words (g, second) (f, q, first))
+one-command words (Show f q) (Check g) first second = absurd (check-show words (g, second) (f, q, first))
+one-command words (Show f q) (Play l n) first second = absurd (play-show words (n, (l, second)) (f, q, first))
+one-command words (Show f q) (Show g r) first second = one-show words f g q r first second

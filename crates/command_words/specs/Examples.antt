@@ -1,0 +1,33 @@
+-- Worked words.
+use Rattle.std.specs.Prelude.{◌≡◌, [], ◌∷◌, None, codes}
+use Rattle.std.proofs.Common.{refl, inl, inr}
+use Rattle.csv_rows.specs.Numbers.{number_in, is_between, is_number}
+use Rattle.command_words.specs.Words.{AsksToPlay, IsLogged, SpellsBox}
+
+asks_for_64 : AsksToPlay (codes "play" ∷ codes "-" ∷ []) 64
+asks_for_64 = (None, inl (refl, refl))
+
+asks_for_4 : AsksToPlay (codes "play" ∷ codes "-" ∷ codes "--bucket" ∷ codes "004" ∷ []) 4
+unfolding is_between is_number
+asks_for_4 = (None, inr (codes "004", refl, refl))
+
+three_is_none : number_in 4 4096 (codes "3") ≡ None
+unfolding is_between is_number
+three_is_none = refl
+
+more_is_none : number_in 4 4096 (codes "4097") ≡ None
+unfolding is_between is_number
+more_is_none = refl
+
+over_a_log : IsLogged (codes "play" ∷ codes "moves.log" ∷ [])
+over_a_log = (codes "moves.log", 64, (refl, inl (refl, refl)))
+
+-- a box of one column
+column : SpellsBox (codes "5") (codes "0") (codes "5") (codes "9") (record { lo = record { x = 5; y = 0 }; hi = record { x = 5; y = 9 } })
+unfolding is_between is_number
+column = record { lo_x = refl; lo_y = refl; hi_x = refl; hi_y = refl }
+
+-- 4 is no upper bound for 5
+turned : number_in 5 4294967295 (codes "4") ≡ None
+unfolding is_between is_number
+turned = refl

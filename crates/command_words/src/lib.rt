@@ -1,0 +1,21 @@
+//! The words of the command line.
+//!
+//! Contracts see words as lists of bytes, and a command as a value of `Command` in specs/Words, which says by `AsksFor`
+//! which words ask for it. `command_in` answers the one command that the words ask for, and none exactly where they ask
+//! for none.
+//!
+//! `trial_words` reads the words of a command that no run knows yet.
+//!
+//! Not here: what a command does (`location_run`).
+#![tactic(auto)]
+
+mod boxes;
+mod files;
+mod parsing;
+mod plays;
+#[cfg(test)]
+mod tests;
+mod trials;
+
+pub use parsing::{Command, command_in};
+pub use trials::{Made, TrialWords, trial_words};

@@ -1,0 +1,68 @@
+//! What words ask for.
+ghost use Rattle.std.specs.Prelude.{map, MatchOption};
+ghost use Rattle.std.specs.String.{string_bytes};
+ghost use Rattle.command_words.specs.Words.{AsksFor, IsAccepted, IsPlay, IsShow};
+ghost use Rattle.command_words.specs.Asked.{command_of};
+
+use crate::boxes::show_words;
+use crate::files::{file_after, is_file_name};
+use crate::plays::play_words;
+use zorder::Region;
+
+/// What the words ask for.
+#[derive(Clone, Copy, Drop)]
+pub enum Command<'a> {
+    /// To make a log in this file.
+    Init(&'a str),
+    /// To inspect the log in this file.
+    Check(&'a str),
+    /// To play rows, over the log in this file or over none, with buckets of this size.
+    Play(Option<&'a str>, u32),
+    /// To list the objects in this box, of the log in this file.
+    Show(&'a str, Region),
+}
+
+/// The command that the words ask for; `words` are the command line without the program's name.
+pub fn command_in(words: &[String]) -> Option<Command<'_>>
+    ensures { MatchOption result (IsAccepted (map string_bytes words.now) → ⊥) (λ c. AsksFor (map string_bytes words.now) (command_of c)) }
+{
+    if let Some(file) = file_after("init", words) {
+        return Some(Command::Init(file));
+    }
+    if let Some(file) = file_after("check", words) {
+        return Some(Command::Check(file));
+    }
+    if let Some(show) = show_in(words) {
+        return Some(show);
+    }
+    play_in(words)
+}
+
+// What the words ask for, where it is to list objects.
+fn show_in(words: &[String]) -> Option<Command<'_>>
+    ensures { MatchOption result (IsShow (map string_bytes words.now) → ⊥) (λ c. AsksFor (map string_bytes words.now) (command_of c)) }
+{
+    let Some(show) = show_words(words) else {
+        return None;
+    };
+    if is_file_name(show.log) {
+        return Some(Command::Show(show.log, show.region));
+    }
+    None
+}
+
+// What the words ask for, where it is to play rows.
+fn play_in(words: &[String]) -> Option<Command<'_>>
+    ensures { MatchOption result (IsPlay (map string_bytes words.now) → ⊥) (λ c. AsksFor (map string_bytes words.now) (command_of c)) }
+{
+    let Some(play) = play_words(words) else {
+        return None;
+    };
+    if play.log == "-" {
+        return Some(Command::Play(None, play.size));
+    }
+    if is_file_name(play.log) {
+        return Some(Command::Play(Some(play.log), play.size));
+    }
+    None
+}

@@ -1,0 +1,58 @@
+//! The words that ask for rows to be played.
+ghost use Rattle.std.specs.Prelude.{◌≡◌, ℕ, List, Some, map, MatchOption, codes};
+ghost use Rattle.std.specs.String.{string_bytes};
+ghost use Rattle.csv_rows.specs.Numbers.{number_in};
+ghost use Rattle.command_words.specs.Words.{SpellsPlay};
+
+use crate::files::is_word;
+use csv_rows::number_in;
+
+// The bucket size where the words give none.
+const BUCKET: u32 = 64;
+
+// The word in the place of a log's file, and the bucket size.
+#[derive(Clone, Copy, Drop)]
+pub(crate) struct PlayWords<'a> {
+    pub(crate) log: &'a str,
+    pub(crate) size: u32,
+}
+
+// The word for a log, and the bucket size: behind the word `--bucket` and a number, or nothing.
+pub(crate) fn play_words(words: &[String]) -> Option<PlayWords<'_>>
+    ensures { MatchOption result ((log : List ℕ) (size : ℕ) → SpellsPlay (map string_bytes words.now) log size → ⊥) (λ play. SpellsPlay (map string_bytes words.now) play.log.now play.size) }
+{
+    match words {
+        [command, log] => {
+            if is_word(command.as_str(), "play") {
+                Some(PlayWords {
+                    log: log.as_str(),
+                    size: BUCKET,
+                })
+            } else {
+                None
+            }
+        }
+        [command, log, option, number] => {
+            if is_word(command.as_str(), "play") {
+                let size = size_in(option.as_str(), number.as_str())?;
+                Some(PlayWords {
+                    log: log.as_str(),
+                    size,
+                })
+            } else {
+                None
+            }
+        }
+        _ => None,
+    }
+}
+
+fn size_in(option: &str, number: &str) -> Option<u32>
+    ensures { MatchOption result (option.now ≡ codes "--bucket" → (size : ℕ) → number_in 4 4096 number.now ≡ Some size → ⊥) (λ size. (option.now ≡ codes "--bucket") × (number_in 4 4096 number.now ≡ Some size)) }
+{
+    if option != "--bucket" {
+        return None;
+    }
+    let size = number_in(number.as_bytes(), 4, 4_096)?;
+    Some(size as u32)
+}

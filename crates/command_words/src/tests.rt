@@ -1,0 +1,86 @@
+//! Words that are accepted, and words that aren't.
+use crate::{Command, command_in};
+use std::alloc::Global;
+use std::test::Fail;
+use zorder::{Point, Region};
+
+// What a line of words asks for, in one text.
+fn asked(alloc: Global, line: &str) -> Result<String, Fail> {
+    let mut words = Vec::new(alloc);
+    for word in line.split(' ') {
+        words.push(String::from_str(alloc, word)?)?;
+    }
+    let text = match command_in(words.as_slice()) {
+        Some(Command::Init(file)) => format!(in alloc; "init {file}")?,
+        Some(Command::Check(file)) => format!(in alloc; "check {file}")?,
+        Some(Command::Play(Some(file), size)) => format!(in alloc; "play {file} {size}")?,
+        Some(Command::Play(None, size)) => format!(in alloc; "play {size}")?,
+        Some(Command::Show(file, region)) => shown(alloc, file, region)?,
+        None => String::from_str(alloc, "usage")?,
+    };
+    Ok(text)
+}
+
+fn shown(alloc: Global, file: &str, region: Region) -> Result<String, Fail> {
+    let Region {
+        lo: Point { x, y },
+        hi: Point { x: a, y: b },
+    } = region;
+    Ok(format!(in alloc; "show {file} {x} {y} {a} {b}")?)
+}
+
+#[test]
+fn each_command_has_its_words(rt: HostRuntime) -> Result<(), Fail> {
+    let table = [
+        ("init moves.log", "init moves.log"),
+        ("check moves.log", "check moves.log"),
+        ("play -", "play 64"),
+        ("play moves.log", "play moves.log 64"),
+        ("play - --bucket 4", "play 4"),
+        ("play moves.log --bucket 4096", "play moves.log 4096"),
+        ("show moves.log 0 0 1 1", "show moves.log 0 0 1 1"),
+        ("show moves.log 5 0 5 007", "show moves.log 5 0 5 7"),
+        (
+            "show moves.log 0 0 4294967295 4294967295",
+            "show moves.log 0 0 4294967295 4294967295",
+        ),
+    ];
+    for (line, command) in table {
+        assert_eq!(rt; asked(rt.alloc(), line)?.as_str(), command);
+    }
+    Ok(())
+}
+
+#[test]
+fn other_words_are_usage(rt: HostRuntime) -> Result<(), Fail> {
+    let table = [
+        "",
+        "help",
+        "--help",
+        "init",
+        "init -",
+        "init moves.log more",
+        "check -x",
+        "play",
+        "play -x",
+        "play - --bucket",
+        "play - --bucket 3",
+        "play - --bucket 4097",
+        "play - --bucket +64",
+        "play - --size 64",
+        "play - --bucket 64 more",
+        "show moves.log",
+        "show - 0 0 1 1",
+        "show moves.log 0 0 1",
+        "show moves.log 0 0 1 1 1",
+        "show moves.log 5 0 4 0",
+        "show moves.log 0 5 0 4",
+        "show moves.log 0 0 1 4294967296",
+        "show moves.log 0 0 1 -1",
+        "shows moves.log 0 0 1 1",
+    ];
+    for line in table {
+        assert_eq!(rt; asked(rt.alloc(), line)?.as_str(), "usage");
+    }
+    Ok(())
+}

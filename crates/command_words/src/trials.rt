@@ -1,0 +1,53 @@
+//! The words that ask for made rows to be played. No command of a run asks for it so far.
+ghost use Rattle.std.specs.Prelude.{◌≡◌, ℕ, List, Some, map, MatchOption};
+ghost use Rattle.std.specs.String.{string_bytes};
+ghost use Rattle.csv_rows.specs.Numbers.{number_in};
+ghost use Rattle.command_words.specs.TrialWords.{SpellsMade, SpellsTrial};
+
+use crate::files::is_word;
+use csv_rows::number_in;
+
+/// Rows that are made: how many, and of which seed.
+#[derive(Clone, Copy, Debug, PartialEq, Eq)]
+pub struct Made {
+    pub rows: u32,
+    pub seed: u64,
+}
+
+/// The word in the place of a log's file, and the rows.
+#[derive(Clone, Copy, Drop)]
+pub struct TrialWords<'a> {
+    pub log: &'a str,
+    pub made: Made,
+}
+
+/// The word for a log, and the rows, behind the word `trial`. Whether the word for a log names a file isn't looked at.
+pub fn trial_words(words: &[String]) -> Option<TrialWords<'_>>
+    ensures { MatchOption result ((log : List ℕ) (made : Made) → SpellsTrial (map string_bytes words.now) log made → ⊥) (λ trial. SpellsTrial (map string_bytes words.now) trial.log.now trial.made) }
+{
+    match words {
+        [command, log, rows, seed] => {
+            if is_word(command.as_str(), "trial") {
+                let made = made_in(rows.as_str(), seed.as_str())?;
+                Some(TrialWords {
+                    log: log.as_str(),
+                    made,
+                })
+            } else {
+                None
+            }
+        }
+        _ => None,
+    }
+}
+
+fn made_in(rows: &str, seed: &str) -> Option<Made>
+    ensures { MatchOption result ((made : Made) → SpellsMade rows.now seed.now made → ⊥) (λ made. SpellsMade rows.now seed.now made) }
+{
+    let rows = number_in(rows.as_bytes(), 1, 65_536)?;
+    let seed = number_in(seed.as_bytes(), 0, u64::MAX)?;
+    Some(Made {
+        rows: rows as u32,
+        seed,
+    })
+}
