@@ -1,0 +1,41 @@
+//! Numbers of all objects.
+ghost use Rattle.std.specs.Prelude.{◌≡◌, ◌+◌, length};
+ghost use Rattle.table_share.specs.Worlds.{OfEachWorld};
+ghost use Rattle.world_sums.specs.Sums.{sums_of, with_row};
+
+use bucket_versions::Row;
+use index_layer::Index;
+use std::sync::ledger::Ledger;
+use step_count::Steps;
+use table_share::for_rows;
+
+/// How many objects there are, and the sum of the keys of their points modulo 2^64.
+#[derive(Clone, Copy, Debug, PartialEq, Eq)]
+pub struct Sums {
+    pub points: u64,
+    pub sum: u64,
+}
+
+/// The numbers of all objects of an index. Each bucket is opened once, which is a step. It takes no memory.
+pub fn sum_up<I: Index, L: Ledger>(index: &I, steps: &mut Steps<L>) -> Sums
+    ensures sums { OfEachWorld (I.leaves index.now) (λ world. result ≡ sums_of world) }
+    ensures opened { steps.new ≡ steps.old + length (I.leaves index.now) }
+{
+    let none = Sums { points: 0, sum: 0 };
+    for_rows(
+        index,
+        none,
+        |sums: Sums, row: &Row| with_row(sums, row),
+        steps,
+    )
+}
+
+// One row more.
+fn with_row(sums: Sums, row: &Row) -> Sums
+    ensures { result ≡ with_row sums row.now }
+{
+    Sums {
+        points: sums.points.saturating_add(1),
+        sum: sums.sum.wrapping_add(row.key),
+    }
+}
