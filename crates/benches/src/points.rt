@@ -1,0 +1,181 @@
+//! Points of one city, which are added and then move.
+ghost use Rattle.std.specs.Prelude.{◌≡◌, ◌≤◌};
+
+use crate::rows::{add, deepen, holds, one_leaf, shift};
+use bucket_versions::{Row, Undone};
+use index_layer::Index;
+use std::alloc::Global;
+use zorder::Memory;
+
+/// What is to be done: how many of each, at leaves of so many bits.
+#[derive(Drop)]
+pub(crate) struct Plan {
+    pub(crate) depth: u8,
+    pub(crate) points: u64,
+    pub(crate) moves: u64,
+    pub(crate) checks: u64,
+    pub(crate) shares: u64,
+    pub(crate) keeps: bool,
+}
+
+/// How many were done, and of how many points the rows are there at the end, and in the share that was kept.
+#[derive(Drop)]
+pub(crate) struct Done {
+    pub(crate) points: u64,
+    pub(crate) moved: u64,
+    pub(crate) checked: u64,
+    pub(crate) shared: u64,
+    pub(crate) there: u64,
+    pub(crate) kept: u64,
+}
+
+// A linear congruential generator (Knuth's MMIX).
+fn drawn(seed: u64) -> u64 {
+    seed.wrapping_mul(6_364_136_223_846_793_005)
+        .wrapping_add(1_442_695_040_888_963_407)
+}
+
+// A key in the city of 512 leaves of so many bits.
+fn key_in(draw: u64, depth: u8) -> u64 {
+    let shared = depth.saturating_sub(9).min(63);
+    if shared == 0 {
+        return draw;
+    }
+    let city = 0x5555_5555_5555_5555 >> (64 - shared) << (64 - shared);
+    city | draw >> shared
+}
+
+fn leaves<I: Index>(alloc: Global, depth: u8) -> Result<I, Memory>
+    requires width { I.WIDTH ≡ 1 }
+    requires most { depth ≤ 64 }
+{
+    let mut index: I = one_leaf(alloc)?;
+    for leaf in 0..512_u64 {
+        deepen(alloc, &mut index, key_in(leaf << 55, depth), depth)?;
+    }
+    Ok(index)
+}
+
+fn fill<I: Index>(index: &mut I, at: &mut Vec<u64>, plan: &Plan) -> Result<u64, Undone> {
+    let mut seed = 42;
+    let mut added = 0_u64;
+    for id in 0..plan.points {
+        seed = drawn(seed);
+        let key = key_in(seed, plan.depth);
+        if at.push(key).is_err() {
+            return Err(Undone::Memory);
+        }
+        if add(index, Row { key, id })? {
+            added = added.saturating_add(1);
+        }
+    }
+    Ok(added)
+}
+
+// Moves a point that is drawn by little, most often within its leaf or to one beside it.
+fn move_one<I: Index>(index: &mut I, at: &mut [u64], draw: u64) -> Result<bool, Undone> {
+    let Some(place) = (draw >> 32).checked_rem(at.len() as u64) else {
+        return Ok(false);
+    };
+    let Some(key) = at.get_mut(place as usize) else {
+        return Ok(false);
+    };
+    let to = *key ^ (drawn(draw) >> 47);
+    let from = Row {
+        key: *key,
+        id: place,
+    };
+    let moved = shift(index, &from, Row { key: to, id: place })?;
+    if moved {
+        *key = to;
+    }
+    Ok(moved)
+}
+
+fn move_all<I: Index>(index: &mut I, at: &mut [u64], moves: u64) -> Result<u64, Undone> {
+    let mut seed = 43;
+    let mut moved = 0_u64;
+    for _ in 0..moves {
+        seed = drawn(seed);
+        if move_one(index, at, seed)? {
+            moved = moved.saturating_add(1);
+        }
+    }
+    Ok(moved)
+}
+
+// Looks rows up at random, as a move does with the row that it moves.
+fn check_all<I: Index>(index: &I, at: &[u64], checks: u64) -> u64 {
+    let mut seed = 44;
+    let mut found = 0_u64;
+    for _ in 0..checks {
+        seed = drawn(seed);
+        let place = (seed >> 32).checked_rem(at.len() as u64).unwrap_or(0);
+        if let Some(key) = at.get(place as usize) {
+            if holds(
+                index,
+                &Row {
+                    key: *key,
+                    id: place,
+                },
+            ) {
+                found = found.saturating_add(1);
+            }
+        }
+    }
+    found
+}
+
+fn share_all<I: Index>(index: &I, shares: u64) -> Result<u64, Memory> {
+    let mut shared = 0_u64;
+    for _ in 0..shares {
+        let _same: I = index.share()?;
+        shared = shared.saturating_add(1);
+    }
+    Ok(shared)
+}
+
+fn count<I: Index>(index: &I, at: &[u64]) -> u64 {
+    let mut there = 0_u64;
+    for (id, key) in at.iter().enumerate() {
+        let row = Row {
+            key: *key,
+            id: id as u64,
+        };
+        if holds(index, &row) {
+            there = there.saturating_add(1);
+        }
+    }
+    there
+}
+
+/// Does what the plan says.
+pub(crate) fn play<I: Index>(alloc: Global, plan: &Plan) -> Result<Done, Undone>
+    requires width { I.WIDTH ≡ 1 }
+    requires most { plan.now.depth ≤ 64 }
+{
+    let Ok(mut index) = leaves::<I>(alloc, plan.depth) else {
+        return Err(Undone::Memory);
+    };
+    let mut at = Vec::new(alloc);
+    let points = fill(&mut index, &mut at, plan)?;
+    let Ok(first) = Vec::from_slice(alloc, &at) else {
+        return Err(Undone::Memory);
+    };
+    let mut kept = index.share().ok();
+    if !plan.keeps {
+        kept = None;
+    }
+    let moved = move_all(&mut index, &mut at, plan.moves)?;
+    let Ok(shared) = share_all(&index, plan.shares) else {
+        return Err(Undone::Memory);
+    };
+    Ok(Done {
+        points,
+        moved,
+        checked: check_all(&index, &at, plan.checks),
+        shared,
+        there: count(&index, &at),
+        kept: kept.as_ref().map_or(0, |share| count(share, &first)),
+    })
+}

@@ -1,0 +1,85 @@
+//! Rows of an index: looked up, added and moved.
+ghost use Rattle.std.specs.Prelude.{◌≡◌, ◌≤◌, [], true, false, IfOk, IsTrue, IsFalse};
+ghost use Rattle.std.specs.Arc.{arc_value};
+ghost use Rattle.bucket_versions.specs.Rows.{as_base};
+ghost use Rattle.index_layer.specs.RowChanges.{Holds};
+
+use bucket_versions::{AtOnce, Bucket, Row, Undone};
+use index_layer::Index;
+use std::alloc::Global;
+use std::sync::Arc;
+use zorder::Memory;
+
+/// Whether a row is in the leaf of its key.
+pub(crate) fn holds<I: Index>(index: &I, row: &Row) -> bool
+    ensures there { IsTrue result → Holds row.now (I.leaves index.now) true }
+    ensures absent { IsFalse result → Holds row.now (I.leaves index.now) false }
+{
+    let (_, bucket) = index.leaf_of(row.key);
+    bucket.holds(row)
+}
+
+/// Adds a row where it isn't there, and answers whether it did.
+pub(crate) fn add<I: Index>(index: &mut I, row: Row) -> Result<bool, Undone> {
+    if holds(index, &row) {
+        return Ok(false);
+    }
+    match index.put_row(row, &mut AtOnce) {
+        Ok(()) => Ok(true),
+        Err(undone) => Err(undone),
+    }
+}
+
+/// Moves a row that is there to where none is, and answers whether it did.
+pub(crate) fn shift<I: Index>(index: &mut I, from: &Row, to: Row) -> Result<bool, Undone> {
+    if !holds(index, from) || holds(index, &to) {
+        return Ok(false);
+    }
+    match index.move_row(from, to, &mut AtOnce) {
+        Ok(()) => Ok(true),
+        Err(undone) => Err(undone),
+    }
+}
+
+fn empty(alloc: Global) -> Result<Arc<Bucket>, Memory>
+    ensures { IfOk result (λ b. arc_value b ≡ as_base []) }
+{
+    Bucket::from_rows(alloc, &[])?.into_shared()
+}
+
+/// An index of one leaf, with no rows.
+pub(crate) fn one_leaf<I: Index>(alloc: Global) -> Result<I, Memory> {
+    I::whole(alloc, empty(alloc)?)
+}
+
+// Splits the leaf of a key where it has fewer bits than are wanted. Its rows are left out.
+fn split_once<I: Index>(alloc: Global, index: &mut I, key: u64, depth: u8) -> Result<(), Memory>
+    requires width { I.WIDTH ≡ 1 }
+    requires most { depth ≤ 64 }
+{
+    let (name, _) = index.leaf_of(key);
+    if name.len() >= depth {
+        return Ok(());
+    }
+    let children = [empty(alloc)?, empty(alloc)?];
+    match index.divide(&name, &children, &mut AtOnce) {
+        Ok(()) => Ok(()),
+        Err(_) => Err(Memory),
+    }
+}
+
+/// Splits the leaf of a key until it has as many bits as are wanted. Its rows are left out.
+pub(crate) fn deepen<I: Index>(
+    alloc: Global,
+    index: &mut I,
+    key: u64,
+    depth: u8,
+) -> Result<(), Memory>
+    requires width { I.WIDTH ≡ 1 }
+    requires most { depth ≤ 64 }
+{
+    for _ in 0..depth {
+        split_once(alloc, index, key, depth)?;
+    }
+    Ok(())
+}
