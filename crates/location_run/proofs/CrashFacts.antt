@@ -11,7 +11,6 @@ use Rattle.log_state.specs.Changes.{cells_of, failed_cells, IsPrefixRecovered}
 use Rattle.log_state.specs.Keeps.{KeepsHistory}
 use Rattle.log_state.proofs.Tiling.{leaves_tile}
 use Rattle.kept_log.specs.KeptView.{KeptView}
-use Rattle.kept_log.specs.Steps.{IsSince}
 use Rattle.kept_log.specs.Journal.{failed_cell, KeepsLog}
 use Rattle.kept_log.proofs.Starting.{starts-settled}
 use Rattle.kept_log.proofs.InJournal.{failed_cells-none}
@@ -52,11 +51,8 @@ first-recovers old from bytes first found told is =
     let same : Some first ≡ Some found.first = sym is ∙ ap (λ (o : Origin). o.first) found.origin_is in
     subst (λ (l : List Cell). Recovers width l bytes) (sym (some-same first found.first same)) (found.recovers bytes told)
 
-module _ {D : Type 0} (drive : D → Drive) (old : Drive) (opened log : KeptView D) (from : Origin) (s : State) (h : List Entry) (status : ℕ) (stays : Stays old (drive opened.start)) (since : IsSince opened log)
+module _ {D : Type 0} (drive : D → Drive) (old : Drive) (log : KeptView D) (from : Origin) (s : State) (h : List Entry) (status : ℕ) (here : Stays old (drive log.start))
     (kept : KeepsLog drive width s h log) (going : status ≢ 7 → failed_cell h ≡ None) (found : IsFoundOrigin old from) (state : s ≡ from.state) where
-  here : Stays old (drive log.start)
-  here = subst (λ (d : D). Stays old (drive d)) (sym since.start) stays
-
   -- the log of a book that was opened
   pub keeps-opened : KeepsPlayed from old (drive log.disk) status h
   keeps-opened bytes first told is settled =

@@ -1,11 +1,3 @@
-pub mod Writing
-pub mod Calls
-pub mod Origins
-pub mod Refused
-pub mod TidySteps
-pub mod SplitSteps
-pub mod RowWorlds
-pub mod PlaySteps
 pub mod Ends
 pub mod WordsFacts
 pub mod CheckingFacts
@@ -16,3 +8,9 @@ pub mod BookEnds
 pub mod LogEnds
 pub mod PlayFacts
 pub mod StatusFacts
+pub mod Dealing
+pub mod Joining
+pub mod Answering
+pub mod PlayEnds
+pub mod LineOrder
+pub mod PlayedOut

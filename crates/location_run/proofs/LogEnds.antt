@@ -5,11 +5,11 @@ use Rattle.causes.specs.Causes.{Rose}
 use Rattle.disk_trait.specs.Drive.{Drive}
 use Rattle.plain_list.specs.declared.entries.Entry.{Entry}
 use Rattle.plain_list.specs.State.{State, empty_state}
-use Rattle.recovery.proofs.OnlyReading.{rose-earlier}
+use Rattle.recovery.proofs.OnlyReading.{rose-earlier, stays-trans}
 use Rattle.kept_log.specs.KeptView.{KeptView}
-use Rattle.kept_log.specs.Steps.{IsSince}
-use Rattle.kept_log.specs.Journal.{failed_cell, disk_in, KeepsLog, KeepsIn, IsSinceIn}
+use Rattle.kept_log.specs.Journal.{failed_cell, disk_in, KeepsLog, KeepsIn}
 use Rattle.commit_book.specs.BookView.{BookView}
+use Rattle.sessions.specs.Shared.{first_in}
 use Rattle.csv_rows.specs.declared.rows.InRow.{InRow}
 use Rattle.csv_rows.specs.declared.rows.Refusal.{Refusal}
 use Rattle.location_run.specs.Limits.{width}
@@ -17,36 +17,38 @@ use Rattle.io_edge.specs.Streams.{Output}
 use Rattle.location_run.specs.Status.{status_of, WritesLines}
 use Rattle.location_run.specs.Origin.{Origin, IsFoundOrigin, new_origin}
 use Rattle.log_state.specs.Changes.{cells_of}
-use Rattle.location_run.specs.Splits.{IsSettled, cells_now}
+use Rattle.lane_splits.specs.Settled.{IsSettled, cells_now}
 use Rattle.location_run.specs.Crash.{KeepsPlayed}
 use Rattle.plain_list.specs.declared.entries.Lost.{Lost}
 use Rattle.kept_log.proofs.InJournal.{failed_cell-last, has_failed-none}
-use Rattle.location_run.specs.LostSteps.{IsNextStep, LosesStep}
+use Rattle.lane_history.specs.LostSteps.{IsNextStep, LosesStep}
 use Rattle.location_run.specs.Answers.{AnswersAsOneList}
 use Rattle.location_run.specs.Playing.{IsStop, EndsRows, IsAnswered}
-use Rattle.location_run.specs.inside.Books.{StopsBook, LeavesLog, OpensBook, count_in}
+use Rattle.location_run.specs.inside.Books.{IsLike, BeginsAs, StopsBook, LeavesLog, OpensBook, count_in}
 use Rattle.location_run.proofs.CrashFacts.{some-same, keeps-opened}
 
 -- the log of a book, as it is left
 pub record KeptSince {D : Type 0} (drive : D → Drive) (s : State) (h : List Entry) (opened : KeptView D) (disk : D) : Type 0 where
   pub now : KeptView D
-  pub since : IsSince opened now
+  pub like : IsLike (drive opened.start) (drive now.start)
+  pub first : now.first ≡ opened.first
   pub keeps : KeepsLog drive width s h now
   pub disk_is : now.disk ≡ disk
 
-since-in : {D : Type 0} (drive : D → Drive) (s : State) (h : List Entry) (opened : KeptView D) (disk : D) (old new : Option (KeptView D)) → old ≡ Some opened → IsSinceIn old new → KeepsIn drive width s h new → Some disk ≡ disk_in new
-    → KeptSince drive s h opened disk
-since-in drive s h opened disk None new is since keeps told = absurd (cc is)
-since-in drive s h opened disk (Some old) None is since keeps told = absurd since
-since-in {D} drive s h opened disk (Some old) (Some new) is since keeps told = record {
+since-in : {D : Type 0} (drive : D → Drive) (s : State) (h : List Entry) (opened : KeptView D) (disk : D) (old new : Option (KeptView D)) → old ≡ Some opened → BeginsAs drive old new → first_in new ≡ first_in old → KeepsIn drive width s h new
+    → Some disk ≡ disk_in new → KeptSince drive s h opened disk
+since-in drive s h opened disk None new is begins first keeps told = absurd (cc is)
+since-in drive s h opened disk (Some old) None is begins first keeps told = absurd begins
+since-in {D} drive s h opened disk (Some old) (Some new) is begins first keeps told = record {
   now = new;
-  since = subst (λ (v : KeptView D). IsSince v new) (some-same old opened is) since;
+  like = subst (λ (v : KeptView D). IsLike (drive v.start) (drive new.start)) (some-same old opened is) begins;
+  first = first ∙ ap (λ (v : KeptView D). v.first) (some-same old opened is);
   keeps = keeps;
   disk_is = sym (some-same disk new.disk told);
 }
 
 pub kept-since : {D : Type 0} (drive : D → Drive) (s : State) (h : List Entry) (opened : KeptView D) (disk : D) (log : Option (KeptView D)) → log ≡ Some opened → LeavesLog drive s h log (Some disk) → KeptSince drive s h opened disk
-kept-since drive s h opened disk log is leaves = since-in drive s h opened disk log leaves.log is leaves.since leaves.keeps leaves.disk_is
+kept-since drive s h opened disk log is leaves = since-in drive s h opened disk log leaves.log is leaves.begins leaves.first leaves.keeps leaves.disk_is
 
 -- what a history that ends with a failed append names
 loses-cell : (Step : List Entry → Lost → Type 0) (h : List Entry) (cell : ℕ) → LosesStep Step h cell → failed_cell h ≡ Some cell
@@ -59,7 +61,7 @@ log-stop drive file rows old size b h disk opens leaves why (inl (memory, none))
 log-stop {D = D} drive file rows old size b h disk opens leaves why (inr (cell, is, loses)) =
     let kept = kept-since drive b.opening h opens.log disk b.log opens.log_is leaves in
     let rose = kept.keeps.rose (ap is_some (loses-cell (IsNextStep width b.opening rows) h cell loses)) in
-    let calm : (drive kept.now.start).faults ≡ old.faults = ap (λ (d : D). (drive d).faults) kept.since.start ∙ opens.calm in
+    let calm : (drive kept.now.start).faults ≡ old.faults = kept.like.calm ∙ opens.calm in
     let before : old.faults ≤ (drive kept.now.start).faults = omega (arith, calm) in
     let risen : Rose old.faults (drive disk).faults =
     subst (λ (d : D). Rose old.faults (drive d).faults) kept.disk_is (rose-earlier old.faults (drive kept.now.start).faults (drive kept.now.disk).faults before rose) in
@@ -67,7 +69,7 @@ log-stop {D = D} drive file rows old size b h disk opens leaves why (inr (cell, 
     subst (λ (w : ℕ). LosesStep (IsNextStep w opens.from.state rows) h cell) (ap (λ (o : Origin). o.width) (sym opens.found.origin_is))
     (subst (λ (o : State). LosesStep (IsNextStep width o rows) h cell) opens.state loses) in
     let named : cell ≡ kept.now.cells = kept.keeps.named cell (loses-cell (IsNextStep width b.opening rows) h cell loses) in
-    let count : kept.now.cells ≡ opens.log.cells + length (cells_of b.opening.world h) = omega (arith, kept.keeps.keeps.count, kept.since.first, opens.first) in
+    let count : kept.now.cells ≡ opens.log.cells + length (cells_of b.opening.world h) = omega (arith, kept.keeps.keeps.count, kept.first, opens.first) in
     let cells : Some opens.log.cells ≡ option_map length opens.from.first = sym (ap (λ (l : Option (KeptView D)). count_in l) opens.log_is) ∙ opens.count in
     let at : opens.log.cells + length (cells_of b.opening.world h) ≡ cells_now (option_map length opens.from.first) opens.from.state h =
     ap (λ (n : Option ℕ). cells_now n b.opening h) cells ∙ ap (λ (o : State). cells_now (option_map length opens.from.first) o h) opens.state in
@@ -77,16 +79,16 @@ none-some : (n : ℕ) → None ≡ Some n → ⊥
 none-some n e = cc e
 
 -- without a log no append fails
-none-failed : {D : Type 0} (drive : D → Drive) (s : State) (h : List Entry) (old new : Option (KeptView D)) → old ≡ None → IsSinceIn old new → KeepsIn drive width s h new → failed_cell h ≡ None
-none-failed drive s h None None is since keeps = keeps
-none-failed drive s h None (Some new) is since keeps = absurd since
-none-failed drive s h (Some old) new is since keeps = absurd (cc is)
+none-failed : {D : Type 0} (drive : D → Drive) (s : State) (h : List Entry) (old new : Option (KeptView D)) → old ≡ None → BeginsAs drive old new → KeepsIn drive width s h new → failed_cell h ≡ None
+none-failed drive s h None None is begins keeps = keeps
+none-failed drive s h None (Some new) is begins keeps = absurd begins
+none-failed drive s h (Some old) new is begins keeps = absurd (cc is)
 
 pub new-stop : {D : Type 0} (drive : D → Drive) (Step : List Entry → Lost → Type 0) (from : Origin) (rows : List InRow) (was now : Drive) (s : State) (h : List Entry) (log : Option (KeptView D)) (disk : Option D) → log ≡ None
     → LeavesLog drive s h log disk → (why : Refusal) → StopsBook Step h why → IsStop None from rows was now h why
 new-stop drive Step from rows was now s h log disk is leaves why (inl (memory, none)) = subst (IsStop None from rows was now h) (sym memory) none
 new-stop drive Step from rows was now s h log disk is leaves why (inr (cell, named, loses)) =
-    absurd (none-some cell (sym (none-failed drive s h log leaves.log is leaves.since leaves.keeps) ∙ loses-cell Step h cell loses))
+    absurd (none-some cell (sym (none-failed drive s h log leaves.log is leaves.begins leaves.keeps) ∙ loses-cell Step h cell loses))
 
 -- what a weaker cause gives
 pub ends-weaker : (P Q : Refusal → Type 0) (status : ℕ) (before after : Output) → ((why : Refusal) → P why → Q why) → EndsRows P status before after → EndsRows Q status before after
@@ -107,21 +109,21 @@ pub keeps-book : {I D : Type 0} (drive : D → Drive) (file : List ℕ) (Step : 
 keeps-book {D = D} drive file Step old size b h disk status before after opens leaves ends going =
     let kept = kept-since drive b.opening h opens.log disk b.log opens.log_is leaves in
     subst (λ (d : D). KeepsPlayed opens.from old (drive d) status h) kept.disk_is
-    (keeps-opened drive old opens.log kept.now opens.from b.opening h status opens.stays kept.since kept.keeps (unfailed Step h status before after ends going) opens.found opens.state)
+    (keeps-opened drive old kept.now opens.from b.opening h status (stays-trans old (drive opens.log.start) (drive kept.now.start) opens.stays kept.like.stays) kept.keeps (unfailed Step h status before after ends going) opens.found opens.state)
 
 -- where no append failed no device call did
 calm-book : {I D : Type 0} (drive : D → Drive) (file : List ℕ) (old : Drive) (size : ℕ) (b : BookView I D) (h : List Entry) (disk : D) → OpensBook drive file old size b → LeavesLog drive b.opening h b.log (Some disk)
     → failed_cell h ≡ None → (drive disk).faults ≡ old.faults
 calm-book {D = D} drive file old size b h disk opens leaves none =
     let kept = kept-since drive b.opening h opens.log disk b.log opens.log_is leaves in
-    subst (λ (d : D). (drive d).faults ≡ old.faults) kept.disk_is (kept.keeps.calm none ∙ ap (λ (d : D). (drive d).faults) kept.since.start ∙ opens.calm)
+    subst (λ (d : D). (drive d).faults ≡ old.faults) kept.disk_is (kept.keeps.calm none ∙ kept.like.calm ∙ opens.calm)
 
 -- the file stays attached
 attached-book : {I D : Type 0} (drive : D → Drive) (file : List ℕ) (old : Drive) (size : ℕ) (b : BookView I D) (h : List Entry) (disk : D) → OpensBook drive file old size b → LeavesLog drive b.opening h b.log (Some disk)
     → (drive disk).attached file false
 attached-book {D = D} drive file old size b h disk opens leaves =
     let kept = kept-since drive b.opening h opens.log disk b.log opens.log_is leaves in
-    subst (λ (d : D). (drive d).attached file false) kept.disk_is (kept.keeps.file file false (subst (λ (d : D). (drive d).attached file false) (sym kept.since.start) opens.attached))
+    subst (λ (d : D). (drive d).attached file false) kept.disk_is (kept.keeps.file file false (kept.like.attached file false opens.attached))
 
 -- answers and splits from an origin
 pub list-from : (old : Drive) (from : Origin) (s : State) (rows : List InRow) (h : List Entry) (status : ℕ) (before after : Output) → IsFoundOrigin old from → s ≡ from.state → AnswersAsOneList width s rows h status before after

@@ -6,11 +6,12 @@ use Rattle.plain_list.specs.State.{State, IsLegal}
 use Rattle.plain_list.specs.Played.{IsPlayed, IsPlayedWhole}
 use Rattle.csv_rows.specs.declared.rows.InRow.{InRow}
 use Rattle.io_edge.specs.Streams.{Output}
-use Rattle.location_run.specs.Lines.{lines_of, session_rows}
+use Rattle.lane_history.specs.SessionRows.{session_rows}
+use Rattle.location_run.specs.Lines.{lines_of}
 use Rattle.location_run.specs.Status.{WritesLines}
 
--- There is one history, legal from the state at the beginning. In it stands a call for each row of a prefix of the rows, in order, and for each
--- row once where lines are written. For each row the line has the place of its call, and the answer of one plain list of objects there.
+-- There is one history, legal from the state at the beginning. In it stand the calls of a prefix of each session's rows, in their order, and of
+-- all of them where lines are written. For each row the line has the place of its call, and the answer of one plain list of objects there.
 pub record AnswersAsOneList (w : ℕ) (s : State) (rows : List InRow) (h : List Entry) (status : ℕ) (old new : Output) : Type 0 where
   pub legal : IsLegal w s h
   pub played : IsPlayed (session_rows rows) h

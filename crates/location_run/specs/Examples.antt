@@ -6,8 +6,8 @@ use Rattle.plain_list.specs.declared.ops.Op.TheVariants as op
 use Rattle.plain_list.specs.declared.entries.Entry.{Entry}
 use Rattle.plain_list.specs.declared.entries.Entry.TheVariants as entry
 use Rattle.plain_list.specs.State.{empty_state}
-use Rattle.location_run.specs.Lines.{row_place}
-use Rattle.location_run.specs.Splits.{stray_begins}
+use Rattle.lane_history.specs.SessionRows.{row_place}
+use Rattle.lane_splits.specs.Settled.{stray_begins}
 
 -- two objects in a bucket of one, a split of the whole space, and a find
 abbrev pub history : List Entry

@@ -9,8 +9,6 @@ pub mod Checking
 pub mod Showing
 pub mod Lines
 pub mod Origin
-pub mod LostSteps
-pub mod Splits
 pub mod Answers
 pub mod Playing
 pub mod Run

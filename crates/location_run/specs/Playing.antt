@@ -21,9 +21,9 @@ use Rattle.location_run.specs.Status.{status_of, WritesLines}
 use Rattle.location_run.specs.Ending.{EndsRefused}
 use Rattle.location_run.specs.Checking.{IsReadingCause, log_refusal}
 use Rattle.location_run.specs.Origin.{Origin, IsOrigin}
-use Rattle.location_run.specs.LostSteps.{IsNextStep, LosesStep}
+use Rattle.lane_history.specs.LostSteps.{IsNextStep, LosesStep}
 use Rattle.location_run.specs.Answers.{AnswersAsOneList}
-use Rattle.location_run.specs.Splits.{IsSettled, cells_now}
+use Rattle.lane_splits.specs.Settled.{IsSettled, cells_now}
 use Rattle.location_run.specs.Crash.{KeepsPlayed}
 
 -- where the bytes that a source had are known, this is what they give

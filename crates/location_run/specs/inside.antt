@@ -1,6 +1,5 @@
--- What only proofs need: books over which rows are played, and the steps of a play.
-pub mod Room
-pub mod Stops
-pub mod Tidy
-pub mod Plays
+-- What only proofs need: books over which rows are played, and lanes.
+pub mod Dealt
+pub mod Joined
+pub mod Answered
 pub mod Books

@@ -6,27 +6,26 @@
 //! the log says; that a crash at any moment leaves a log of a front of the changes (`crash`); what splits come to (`splits`); and which
 //! cause each other status has.
 //!
-//! Not here: which words ask for what (`command_words`), what a row is and how a line reads (`csv_rows`), the book (`commit_book`), the queries of its index (`range_query`,
-//! `knn_query`), how a log is opened (`recovery`), `main` (`mdloc`).
+//! Rows are played by lanes, one for each session, over one store.
+//!
+//! Not here: which words ask for what (`command_words`), what a row is and how a line reads (`csv_rows`), the store and its lanes
+//! (`sessions`), what lanes come to (`lane_history`, `lane_splits`), how a log is opened (`recovery`), `main` (`mdloc`).
 #![tactic(auto)]
 
 mod checking;
-mod faults;
 mod input;
+mod lanes;
 mod limits;
 mod log_book;
 mod log_faults;
 mod making;
 mod outcome;
 mod output;
-mod play;
 mod play_book;
 mod playing;
-mod queries;
 mod refusals;
-mod replies;
+mod sessions_play;
 mod showing;
-mod splits;
 mod top;
 
 pub use outcome::Outcome;

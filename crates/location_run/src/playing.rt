@@ -16,9 +16,11 @@ use command_words::Command;
 use commit_book::Book;
 use csv_rows::{InRow, Refusal};
 use disk_trait::LogDisk;
-use io_edge::{Sink, Source};
+use io_edge::{Gate, Sink, Source};
 use plain_list::Entries;
 use std::alloc::Global;
+use std::sync::Wait;
+use std::thread::Threads;
 
 /// How a play ends: a status, a history, and the drive back.
 #[derive(Drop)]
@@ -29,49 +31,55 @@ pub(crate) struct Played<D: Drop> {
 }
 
 /// Plays the rows of a source, over the log in a file of this name or over none, with buckets of this size.
-pub(crate) fn play<S: Source, K: Sink, D: LogDisk>(
+pub(crate) fn play<R: Threads + Wait + Sync, S: Source, K: Sink, D: LogDisk + Send, G: Gate + Sync>(
+    rt: &R,
     alloc: Global,
     log: Option<&str>,
     size: u32,
     source: &mut S,
     sink: &mut K,
     disk: D,
+    gate: &G,
 ) -> Played<D>
     ensures goes { Goes (file_of (Command.Play log.entry size)) size (ends S.input K.output D.drive source.old sink.old disk)
         (ends S.input K.output D.drive source.new sink.new result.disk) result.status result.events }
 {
     match read_judged(alloc, source) {
-        Ok(rows) => play_rows(alloc, rows.as_slice(), log, size, sink, disk),
+        Ok(rows) => play_rows(rt, alloc, rows.as_slice(), log, size, sink, disk, gate),
         Err(why) => refuse_on(alloc, &why, sink, disk),
     }
 }
 
 // Plays rows that were read.
-fn play_rows<K: Sink, D: LogDisk>(
+fn play_rows<R: Threads + Wait + Sync, K: Sink, D: LogDisk + Send, G: Gate + Sync>(
+    rt: &R,
     alloc: Global,
     rows: &[InRow],
     log: Option<&str>,
     size: u32,
     sink: &mut K,
     disk: D,
+    gate: &G,
 ) -> Played<D>
     requires { AreInRows rows.now }
     ensures plays { PlaysRows (file_of (Command.Play log.entry size)) size rows.now (targets K.output D.drive sink.old disk)
         (targets K.output D.drive sink.new result.disk) result.status result.events }
 {
     match log {
-        Some(file) => play_over(alloc, rows, file, size, sink, disk),
-        None => play_new(alloc, rows, size, sink, disk),
+        Some(file) => play_over(rt, alloc, rows, file, size, sink, disk, gate),
+        None => play_new(rt, alloc, rows, size, sink, disk, gate),
     }
 }
 
 // Plays rows over no log.
-fn play_new<K: Sink, D: LogDisk>(
+fn play_new<R: Threads + Wait + Sync, K: Sink, D: LogDisk + Send, G: Gate + Sync>(
+    rt: &R,
     alloc: Global,
     rows: &[InRow],
     size: u32,
     sink: &mut K,
     disk: D,
+    gate: &G,
 ) -> Played<D>
     requires { AreInRows rows.now }
     ensures plays { PlaysRows None size rows.now (targets K.output D.drive sink.old disk)
@@ -79,7 +87,7 @@ fn play_new<K: Sink, D: LogDisk>(
 {
     match Book::<StoreIndex, D>::fresh(alloc, size) {
         Ok(book) => {
-            let end = play_book(alloc, rows, book, sink);
+            let end = play_book(rt, alloc, rows, book, sink, gate);
             Played {
                 status: end.status,
                 events: end.events,
@@ -91,13 +99,15 @@ fn play_new<K: Sink, D: LogDisk>(
 }
 
 // Plays rows over the log in a file.
-fn play_over<K: Sink, D: LogDisk>(
+fn play_over<R: Threads + Wait + Sync, K: Sink, D: LogDisk + Send, G: Gate + Sync>(
+    rt: &R,
     alloc: Global,
     rows: &[InRow],
     file: &str,
     size: u32,
     sink: &mut K,
     disk: D,
+    gate: &G,
 ) -> Played<D>
     requires { AreInRows rows.now }
     ensures plays { PlaysRows (Some file.now) size rows.now (targets K.output D.drive sink.old disk)
@@ -105,7 +115,7 @@ fn play_over<K: Sink, D: LogDisk>(
 {
     match open_book(alloc, file, size, disk) {
         Ok(book) => {
-            let end = play_book(alloc, rows, book, sink);
+            let end = play_book(rt, alloc, rows, book, sink, gate);
             with_drive(end)
         }
         Err(Unmade { disk, why }) => refuse_on(alloc, &why, sink, disk),

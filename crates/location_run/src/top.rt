@@ -13,22 +13,26 @@ use crate::showing::show_log;
 use command_words::{Command, command_in};
 use csv_rows::Refusal;
 use disk_trait::LogDisk;
-use io_edge::{Sink, Source};
+use io_edge::{Gate, Sink, Source};
 use plain_list::Entries;
 use std::alloc::Global;
+use std::sync::Wait;
+use std::thread::Threads;
 
 /// Runs the program: `words` are the command line without the program's name.
 ///
 /// The order of work, and of refusals, is for rows: words, source, length of the input, rows, then where there is a log its opening, then
 /// answers, each kept in the log before the next, and lines. The first line is written once all is there. For `init`, `check` and
 /// `show` it is: words, attach, making or inspecting, lines; the source isn't read.
-pub fn run<S: Source, K: Sink, D: LogDisk>(
+pub fn run<R: Threads + Wait + Sync, S: Source, K: Sink, D: LogDisk + Send, G: Gate + Sync>(
+    rt: &R,
     alloc: Global,
     words: &[String],
     source: &mut S,
     sink: &mut K,
     disk: D,
     other: D,
+    gate: &G,
 ) -> Outcome<D>
     // Words that ask for no command get status 2, and no others do.
     ensures usage { AnswersUsage (map string_bytes words.now) (ends S.input K.output D.drive source.old sink.old disk)
@@ -57,7 +61,7 @@ pub fn run<S: Source, K: Sink, D: LogDisk>(
             without_rows(alloc, status, disk, other)
         }
         Some(Command::Play(log, size)) => {
-            let end = play(alloc, log, size, source, sink, disk);
+            let end = play(rt, alloc, log, size, source, sink, disk, gate);
             Outcome {
                 status: end.status,
                 disk: end.disk,

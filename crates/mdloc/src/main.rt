@@ -6,7 +6,7 @@ ghost use Rattle.std.specs.Process.{exit_status};
 
 use csv_rows::{Refusal, refusal_line};
 use disk_file::FileDisk;
-use io_edge::{StdSink, StdSource};
+use io_edge::{OpenGate, StdSink, StdSource};
 use location_run::{Outcome, run};
 use std::process::ExitCode;
 use std::{env, io};
@@ -22,12 +22,14 @@ fn main(rt: HostRuntime) -> ExitCode {
         return ExitCode::from(NO_MEMORY);
     };
     let outcome = run(
+        &rt,
         rt.alloc(),
         words.as_slice(),
         &mut source,
         &mut sink,
         disk,
         other,
+        &OpenGate,
     );
     exit_code(&outcome)
 }

@@ -4,10 +4,12 @@ ghost use Rattle.std.specs.Prelude.{◌≡◌};
 use crate::fixtures::{EMPTY_LOG, HEADER, words};
 use disk_mem::MemDisk;
 use disk_trait::{AttachFault, DiskFault, LogDisk};
-use io_edge::{MemSink, MemSource};
+use io_edge::{MemSink, MemSource, OpenGate};
 use location_run::{Outcome, run};
 use std::alloc::{AllocError, Global};
+use std::sync::Wait;
 use std::test::Fail;
+use std::thread::Threads;
 
 // The words of an attach.
 #[derive(Drop)]
@@ -78,20 +80,33 @@ fn noting_disk(alloc: Global) -> Result<NotingDisk, Fail> {
 }
 
 // What a run of these words and no rows leaves of two drives with an empty log each.
-fn run_of(alloc: Global, all: &[&str]) -> Result<Outcome<NotingDisk>, Fail> {
+fn run_of<R: Threads + Wait + Sync>(
+    rt: &R,
+    alloc: Global,
+    all: &[&str],
+) -> Result<Outcome<NotingDisk>, Fail> {
     let words = words(alloc, all)?;
     let mut source = MemSource::new(HEADER.as_bytes().to_vec(alloc)?, Vec::new(alloc));
     let mut sink = MemSink::new(alloc, 64, Vec::new(alloc))?;
     let disk = noting_disk(alloc)?;
     let other = noting_disk(alloc)?;
-    Ok(run(alloc, words.as_slice(), &mut source, &mut sink, disk, other))
+    Ok(run(
+        rt,
+        alloc,
+        words.as_slice(),
+        &mut source,
+        &mut sink,
+        disk,
+        other,
+        &OpenGate,
+    ))
 }
 
 #[test]
 fn a_command_over_a_log_attaches_its_file_once(rt: HostRuntime) -> Result<(), Fail> {
     let alloc = rt.alloc();
     for (command, makes) in [("init", true), ("check", false), ("play", false)] {
-        let left = run_of(alloc, &[command, "a"])?;
+        let left = run_of(&rt, alloc, &[command, "a"])?;
         assert_eq!(rt; left.status, 0);
         assert!(rt;
             matches!(
@@ -102,7 +117,7 @@ fn a_command_over_a_log_attaches_its_file_once(rt: HostRuntime) -> Result<(), Fa
         );
         assert!(rt; left.other.attaches.as_slice().is_empty());
     }
-    let left = run_of(alloc, &["play", "-"])?;
+    let left = run_of(&rt, alloc, &["play", "-"])?;
     assert_eq!(rt; left.status, 0);
     assert!(rt; left.disk.attaches.as_slice().is_empty());
     assert!(rt; left.other.attaches.as_slice().is_empty());

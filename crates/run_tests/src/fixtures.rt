@@ -1,10 +1,12 @@
 //! Runs over ends in memory, and what they leave.
 use disk_mem::{Fail as Failing, MemDisk};
-use io_edge::{MemSink, MemSource};
+use io_edge::{MemSink, MemSource, OpenGate};
 use location_run::{Outcome, run};
 use plain_list::Entries;
 use std::alloc::{AllocError, Global};
+use std::sync::Wait;
 use std::test::Fail;
+use std::thread::Threads;
 
 pub const HEADER: &str = "session,op,id,x,y,a,b\n";
 
@@ -53,7 +55,8 @@ pub fn text(alloc: Global, rows: &str) -> Result<String, AllocError> {
 }
 
 /// A run of these words and this input over a file with these bytes.
-pub fn run_on(
+pub fn run_on<R: Threads + Wait + Sync>(
+    rt: &R,
     alloc: Global,
     all: &[&str],
     input: &str,
@@ -67,11 +70,12 @@ pub fn run_on(
         1_024,
         faults.calls.to_vec(alloc)?,
     )?;
-    run_over(alloc, all, input, disk, faults)
+    run_over(rt, alloc, all, input, disk, faults)
 }
 
 /// The same over a drive.
-pub fn run_over(
+pub fn run_over<R: Threads + Wait + Sync>(
+    rt: &R,
     alloc: Global,
     all: &[&str],
     input: &str,
@@ -87,7 +91,16 @@ pub fn run_over(
         disk,
         events,
         ..
-    } = run(alloc, words.as_slice(), &mut source, &mut sink, disk, other);
+    } = run(
+        rt,
+        alloc,
+        words.as_slice(),
+        &mut source,
+        &mut sink,
+        disk,
+        other,
+        &OpenGate,
+    );
     Ok(Left {
         status,
         events,

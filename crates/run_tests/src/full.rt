@@ -26,7 +26,7 @@ fn a_world_of_1048576_objects_takes_no_other(rt: HostRuntime) -> Result<(), Fail
     )?;
     let disk = MemDisk::new(alloc, full_log(alloc)?, 34_000_000, 20_000, Vec::new(alloc))?;
     let words = &["play", "log", "--bucket", "4096"];
-    let left = run_over(alloc, words, &input, disk, &NO_FAULTS)?;
+    let left = run_over(&rt, alloc, words, &input, disk, &NO_FAULTS)?;
     assert_eq!(rt; left.status, 0);
     assert_eq!(rt;
         left.taken.as_slice(),

@@ -2,15 +2,23 @@
 use crate::fixtures::{EMPTY_LOG, Faults, Left, NO_FAULTS, PUT_LOG, run_on};
 use disk_mem::{DiskCall, Fail as Failing};
 use std::alloc::Global;
+use std::sync::Wait;
 use std::test::Fail;
+use std::thread::Threads;
 
 // What a command makes of a file. The source fails at once.
-fn ask(alloc: Global, command: &str, file: &[u8], faults: &Faults<'_>) -> Result<Left, Fail> {
+fn ask<R: Threads + Wait + Sync>(
+    rt: &R,
+    alloc: Global,
+    command: &str,
+    file: &[u8],
+    faults: &Faults<'_>,
+) -> Result<Left, Fail> {
     let faults = Faults {
         reads: &[1],
         ..*faults
     };
-    run_on(alloc, &[command, "log"], "", file, &faults)
+    run_on(rt, alloc, &[command, "log"], "", file, &faults)
 }
 
 #[test]
@@ -18,12 +26,12 @@ fn init_makes_a_log_of_no_cells(rt: HostRuntime) -> Result<(), Fail> {
     let alloc = rt.alloc();
     let short: &[u8] = b"MDLOCLOG\x01\x01\0\0\0\0\0\0\x01";
     for file in [b"", short] {
-        let left = ask(alloc, "init", file, &NO_FAULTS)?;
+        let left = ask(&rt, alloc, "init", file, &NO_FAULTS)?;
         assert_eq!(rt; left.status, 0);
         assert_eq!(rt; left.taken.as_slice(), b"made\n".as_slice());
         assert_eq!(rt; left.disk.bytes(), EMPTY_LOG);
     }
-    let left = ask(alloc, "init", &[7; 49], &NO_FAULTS)?;
+    let left = ask(&rt, alloc, "init", &[7; 49], &NO_FAULTS)?;
     assert_eq!(rt; left.status, 10);
     assert_eq!(rt; left.taken.as_slice(), b"refused in use 49\n".as_slice());
     assert_eq!(rt; left.disk.bytes(), [7; 49].as_slice());
@@ -53,7 +61,7 @@ fn check_tells_four_lines_or_what_is_wrong(rt: HostRuntime) -> Result<(), Fail> 
         (&EMPTY_LOG[..16], 4, b"refused not a log\n"),
     ];
     for (file, status, line) in worked {
-        let left = ask(alloc, "check", file, &NO_FAULTS)?;
+        let left = ask(&rt, alloc, "check", file, &NO_FAULTS)?;
         assert_eq!(rt; left.status, status);
         assert_eq!(rt; left.taken.as_slice(), line);
         assert_eq!(rt; left.disk.bytes(), file);
@@ -77,10 +85,10 @@ fn faults_of_the_drive_and_the_sink_have_their_statuses(rt: HostRuntime) -> Resu
         ..NO_FAULTS
     };
     for command in ["init", "check"] {
-        let left = ask(alloc, command, EMPTY_LOG, &refused)?;
+        let left = ask(&rt, alloc, command, EMPTY_LOG, &refused)?;
         assert_eq!(rt; left.status, 7);
         assert_eq!(rt; left.taken.as_slice(), b"refused disk\n".as_slice());
-        let left = ask(alloc, command, EMPTY_LOG, &cut_off)?;
+        let left = ask(&rt, alloc, command, EMPTY_LOG, &cut_off)?;
         assert_eq!(rt; left.status, 6);
         assert!(rt; left.taken.as_slice().is_empty());
     }

@@ -3,7 +3,9 @@ use crate::fixtures::{EMPTY_LOG, Faults, Left, NO_FAULTS, PUT_LOG, run_on, text}
 use disk_mem::{DiskCall, Fail as Failing, MemDisk};
 use plain_list::{Entry, Lost, Op};
 use std::alloc::Global;
+use std::sync::Wait;
 use std::test::Fail;
+use std::thread::Threads;
 use zorder::Point;
 
 const PLAY: &[&str] = &["play", "log"];
@@ -34,19 +36,30 @@ const SPLIT_2: &[u8] = b"\
 const CORNERS: &str =
     "1,put,1,0,0,,\n1,put,2,2147483648,0,,\n1,put,3,0,2147483648,,\n1,put,4,2147483648,2147483648,,\n1,put,5,1,1,,\n";
 
-fn play(alloc: Global, rows: &str, file: &[u8], faults: &Faults<'_>) -> Result<Left, Fail> {
+fn play<R: Threads + Wait + Sync>(
+    rt: &R,
+    alloc: Global,
+    rows: &str,
+    file: &[u8],
+    faults: &Faults<'_>,
+) -> Result<Left, Fail> {
     let input = text(alloc, rows)?;
-    run_on(alloc, PLAY, &input, file, faults)
+    run_on(rt, alloc, PLAY, &input, file, faults)
 }
 
-fn play_by_4(alloc: Global, rows: &str, file: &[u8]) -> Result<Left, Fail> {
+fn play_by_4<R: Threads + Wait + Sync>(
+    rt: &R,
+    alloc: Global,
+    rows: &str,
+    file: &[u8],
+) -> Result<Left, Fail> {
     let input = text(alloc, rows)?;
-    run_on(alloc, PLAY_BY_4, &input, file, &NO_FAULTS)
+    run_on(rt, alloc, PLAY_BY_4, &input, file, &NO_FAULTS)
 }
 
 // What `check` writes of a file.
-fn checked(alloc: Global, file: &[u8]) -> Result<Vec<u8>, Fail> {
-    let left = run_on(alloc, CHECK, "", file, &NO_FAULTS)?;
+fn checked<R: Threads + Wait + Sync>(rt: &R, alloc: Global, file: &[u8]) -> Result<Vec<u8>, Fail> {
+    let left = run_on(rt, alloc, CHECK, "", file, &NO_FAULTS)?;
     Ok(left.taken)
 }
 
@@ -54,7 +67,7 @@ fn checked(alloc: Global, file: &[u8]) -> Result<Vec<u8>, Fail> {
 fn a_put_is_kept_and_found_again(rt: HostRuntime) -> Result<(), Fail> {
     let alloc = rt.alloc();
     let row = "1,put,7,3,5,,\n";
-    let left = play(alloc, row, EMPTY_LOG, &NO_FAULTS)?;
+    let left = play(&rt, alloc, row, EMPTY_LOG, &NO_FAULTS)?;
     assert_eq!(rt; left.status, 0);
     assert_eq!(rt;
         left.taken.as_slice(),
@@ -62,17 +75,17 @@ fn a_put_is_kept_and_found_again(rt: HostRuntime) -> Result<(), Fail> {
     );
     assert_eq!(rt; left.disk.bytes(), PUT_LOG);
     assert_eq!(rt;
-        checked(alloc, PUT_LOG)?.as_slice(),
+        checked(&rt, alloc, PUT_LOG)?.as_slice(),
         b"cells 1\npoints 1\nleaves 1\nunfinished 0\n".as_slice()
     );
-    let left = play(alloc, row, PUT_LOG, &NO_FAULTS)?;
+    let left = play(&rt, alloc, row, PUT_LOG, &NO_FAULTS)?;
     assert_eq!(rt; left.status, 0);
     assert_eq!(rt;
         left.taken.as_slice(),
         b"row,place,answer,detail\n1,1,present,3:5\n".as_slice()
     );
     assert_eq!(rt; left.disk.bytes(), PUT_LOG);
-    let left = run_on(alloc, INIT, "", PUT_LOG, &NO_FAULTS)?;
+    let left = run_on(&rt, alloc, INIT, "", PUT_LOG, &NO_FAULTS)?;
     assert_eq!(rt; left.status, 10);
     assert_eq!(rt; left.taken.as_slice(), b"refused in use 49\n".as_slice());
     assert_eq!(rt; left.disk.bytes(), PUT_LOG);
@@ -82,15 +95,15 @@ fn a_put_is_kept_and_found_again(rt: HostRuntime) -> Result<(), Fail> {
 #[test]
 fn a_split_is_kept_and_found_again(rt: HostRuntime) -> Result<(), Fail> {
     let alloc = rt.alloc();
-    let left = play_by_4(alloc, CORNERS, EMPTY_LOG)?;
+    let left = play_by_4(&rt, alloc, CORNERS, EMPTY_LOG)?;
     assert_eq!(rt; left.status, 0);
     assert_eq!(rt; left.disk.bytes().len(), 241);
     assert!(rt; left.disk.bytes().ends_with(SPLIT_1));
     assert_eq!(rt;
-        checked(alloc, left.disk.bytes())?.as_slice(),
+        checked(&rt, alloc, left.disk.bytes())?.as_slice(),
         b"cells 7\npoints 5\nleaves 2\nunfinished 0\n".as_slice()
     );
-    let again = play_by_4(alloc, "1,box,,0,0,1,1\n", left.disk.bytes())?;
+    let again = play_by_4(&rt, alloc, "1,box,,0,0,1,1\n", left.disk.bytes())?;
     assert_eq!(rt; again.status, 0);
     assert_eq!(rt;
         again.taken.as_slice(),
@@ -104,6 +117,7 @@ fn a_split_is_kept_and_found_again(rt: HostRuntime) -> Result<(), Fail> {
 fn five_ids_on_one_point_leave_133_cells(rt: HostRuntime) -> Result<(), Fail> {
     let alloc = rt.alloc();
     let left = play_by_4(
+        &rt,
         alloc,
         "1,put,1,3,5,,\n1,put,2,3,5,,\n1,put,3,3,5,,\n1,put,4,3,5,,\n1,put,5,3,5,,\n",
         EMPTY_LOG,
@@ -112,7 +126,7 @@ fn five_ids_on_one_point_leave_133_cells(rt: HostRuntime) -> Result<(), Fail> {
     assert_eq!(rt; left.events.as_slice().len(), 133);
     assert_eq!(rt; left.disk.bytes().len(), 4_273);
     assert_eq!(rt;
-        checked(alloc, left.disk.bytes())?.as_slice(),
+        checked(&rt, alloc, left.disk.bytes())?.as_slice(),
         b"cells 133\npoints 5\nleaves 65\nunfinished 0\n".as_slice()
     );
     Ok(())
@@ -124,15 +138,18 @@ fn what_stands_behind_a_log_is_cut_off(rt: HostRuntime) -> Result<(), Fail> {
     let one = b"cells 1\npoints 1\nleaves 1\nunfinished 0\n";
     let mut file = PUT_LOG.to_vec(alloc)?;
     file.extend_from_slice(&[5; 40])?;
-    assert_eq!(rt; checked(alloc, file.as_slice())?.as_slice(), one.as_slice());
-    let left = play(alloc, "1,where,7,,,,\n", file.as_slice(), &NO_FAULTS)?;
+    assert_eq!(rt;
+        checked(&rt, alloc, file.as_slice())?.as_slice(),
+        one.as_slice()
+    );
+    let left = play(&rt, alloc, "1,where,7,,,,\n", file.as_slice(), &NO_FAULTS)?;
     assert_eq!(rt;
         left.taken.as_slice(),
         b"row,place,answer,detail\n1,1,at,3:5\n".as_slice()
     );
     assert_eq!(rt; left.disk.bytes(), PUT_LOG);
     assert_eq!(rt;
-        checked(alloc, left.disk.bytes())?.as_slice(),
+        checked(&rt, alloc, left.disk.bytes())?.as_slice(),
         one.as_slice()
     );
     Ok(())
@@ -142,15 +159,15 @@ fn what_stands_behind_a_log_is_cut_off(rt: HostRuntime) -> Result<(), Fail> {
 fn a_split_that_a_log_left_open_is_begun_anew(rt: HostRuntime) -> Result<(), Fail> {
     let alloc = rt.alloc();
     assert_eq!(rt;
-        checked(alloc, BEGUN_LOG)?.as_slice(),
+        checked(&rt, alloc, BEGUN_LOG)?.as_slice(),
         b"cells 1\npoints 0\nleaves 1\nunfinished 1\n".as_slice()
     );
-    let left = play_by_4(alloc, CORNERS, BEGUN_LOG)?;
+    let left = play_by_4(&rt, alloc, CORNERS, BEGUN_LOG)?;
     assert_eq!(rt; left.status, 0);
     assert_eq!(rt; left.disk.bytes().len(), 273);
     assert!(rt; left.disk.bytes().ends_with(SPLIT_2));
     assert_eq!(rt;
-        checked(alloc, left.disk.bytes())?.as_slice(),
+        checked(&rt, alloc, left.disk.bytes())?.as_slice(),
         b"cells 8\npoints 5\nleaves 2\nunfinished 0\n".as_slice()
     );
     Ok(())
@@ -179,7 +196,11 @@ fn is_third_put_lost(entries: &[Entry]) -> bool {
 }
 
 // What a run of three puts leaves where a sync of this number fails.
-fn failing_sync(alloc: Global, number: u64) -> Result<Left, Fail> {
+fn failing_sync<R: Threads + Wait + Sync>(
+    rt: &R,
+    alloc: Global,
+    number: u64,
+) -> Result<Left, Fail> {
     let rows = "1,put,7,3,5,,\n1,put,8,4,5,,\n1,put,9,5,5,,\n";
     let calls = [Failing {
         call: DiskCall::Sync,
@@ -189,13 +210,18 @@ fn failing_sync(alloc: Global, number: u64) -> Result<Left, Fail> {
         calls: &calls,
         ..NO_FAULTS
     };
-    play(alloc, rows, EMPTY_LOG, &faults)
+    play(rt, alloc, rows, EMPTY_LOG, &faults)
 }
 
 // What `check` says of a crash image, with this for the commit byte of the third cell wherever a crash may leave any.
-fn checked_image(alloc: Global, disk: &MemDisk, commit_byte: u8) -> Result<Vec<u8>, Fail> {
+fn checked_image<R: Threads + Wait + Sync>(
+    rt: &R,
+    alloc: Global,
+    disk: &MemDisk,
+    commit_byte: u8,
+) -> Result<Vec<u8>, Fail> {
     let image = disk.pick(disk.moments(), 113, &[commit_byte])?;
-    checked(alloc, image.as_slice())
+    checked(rt, alloc, image.as_slice())
 }
 
 #[test]
@@ -205,13 +231,13 @@ fn a_failed_sync_ends_a_run_at_its_cell(rt: HostRuntime) -> Result<(), Fail> {
     let three: &[u8] = b"cells 3\npoints 3\nleaves 1\nunfinished 0\n";
     // Of each image that a crash may leave the commit byte of the third cell is clear, or it is set behind a synced cell.
     for (number, held) in [(6, two), (7, three)] {
-        let left = failing_sync(alloc, number)?;
+        let left = failing_sync(&rt, alloc, number)?;
         assert_eq!(rt; left.status, 7);
         assert_eq!(rt; left.taken.as_slice(), b"refused disk cell 2\n".as_slice());
         assert!(rt; is_third_put_lost(left.events.as_slice()));
-        assert_eq!(rt; checked(alloc, left.disk.bytes())?.as_slice(), held);
-        assert_eq!(rt; checked_image(alloc, &left.disk, 0)?.as_slice(), two);
-        assert_eq!(rt; checked_image(alloc, &left.disk, 1)?.as_slice(), held);
+        assert_eq!(rt; checked(&rt, alloc, left.disk.bytes())?.as_slice(), held);
+        assert_eq!(rt; checked_image(&rt, alloc, &left.disk, 0)?.as_slice(), two);
+        assert_eq!(rt; checked_image(&rt, alloc, &left.disk, 1)?.as_slice(), held);
     }
     Ok(())
 }
@@ -229,7 +255,7 @@ fn a_log_that_is_not_opened_stays_as_it_was(rt: HostRuntime) -> Result<(), Fail>
         (b"", none),
     ];
     for (file, line) in worked {
-        let left = play(alloc, "1,put,7,3,5,,\n", file, &NO_FAULTS)?;
+        let left = play(&rt, alloc, "1,put,7,3,5,,\n", file, &NO_FAULTS)?;
         assert_eq!(rt; left.status, 4);
         assert_eq!(rt; left.taken.as_slice(), line);
         assert_eq!(rt; left.events.as_slice().len(), 0);
@@ -246,7 +272,7 @@ fn a_log_that_is_not_opened_stays_as_it_was(rt: HostRuntime) -> Result<(), Fail>
             calls: &calls,
             ..NO_FAULTS
         };
-        let left = play(alloc, "1,put,7,3,5,,\n", EMPTY_LOG, &faults)?;
+        let left = play(&rt, alloc, "1,put,7,3,5,,\n", EMPTY_LOG, &faults)?;
         assert_eq!(rt; left.status, 7);
         assert_eq!(rt; left.taken.as_slice(), b"refused disk\n".as_slice());
         assert_eq!(rt; left.events.as_slice().len(), 0);
@@ -268,14 +294,14 @@ fn rows_come_before_the_log_and_lines_behind_it(rt: HostRuntime) -> Result<(), F
         calls: &calls,
         ..NO_FAULTS
     };
-    let left = play(alloc, row, EMPTY_LOG, &faults)?;
+    let left = play(&rt, alloc, row, EMPTY_LOG, &faults)?;
     assert_eq!(rt; left.status, 5);
     assert_eq!(rt; left.taken.as_slice(), b"refused source\n".as_slice());
     let faults = Faults {
         calls: &calls,
         ..NO_FAULTS
     };
-    let left = play(alloc, "1,put,7,-3,5,,\n", EMPTY_LOG, &faults)?;
+    let left = play(&rt, alloc, "1,put,7,-3,5,,\n", EMPTY_LOG, &faults)?;
     assert_eq!(rt; left.status, 3);
     assert_eq!(rt;
         left.taken.as_slice(),
@@ -285,7 +311,7 @@ fn rows_come_before_the_log_and_lines_behind_it(rt: HostRuntime) -> Result<(), F
         puts: &[1],
         ..NO_FAULTS
     };
-    let left = play(alloc, row, EMPTY_LOG, &faults)?;
+    let left = play(&rt, alloc, row, EMPTY_LOG, &faults)?;
     assert_eq!(rt; left.status, 6);
     assert!(rt; left.taken.as_slice().is_empty());
     assert_eq!(rt; left.disk.bytes(), PUT_LOG);

@@ -1,7 +1,9 @@
 //! Worked rows and their lines, and the bytes that rows leave in a log.
 use crate::fixtures::{EMPTY_LOG, Left, NO_FAULTS, PUT_LOG, run_on, text};
 use std::alloc::{AllocError, Global};
+use std::sync::Wait;
 use std::test::Fail;
+use std::thread::Threads;
 
 // A log of put 7 at (3,5), move 7 to (4,5) and drop 7.
 const CHANGED_LOG: &[u8] = b"MDLOCLOG\x01\x01\0\0\0\0\0\0\
@@ -23,9 +25,15 @@ const SPLIT_AND_PUT: &[u8] = b"\
     \x01\x01\0\0\0\0\0\0\0\x06\0\0\0\x02\0\0\0\x02\0\0\0\0\0\0\0\0\0\0\0\0\0\0\
     \0";
 
-fn play(alloc: Global, all: &[&str], rows: &str, file: &[u8]) -> Result<Left, Fail> {
+fn play<R: Threads + Wait + Sync>(
+    rt: &R,
+    alloc: Global,
+    all: &[&str],
+    rows: &str,
+    file: &[u8],
+) -> Result<Left, Fail> {
     let input = text(alloc, rows)?;
-    run_on(alloc, all, &input, file, &NO_FAULTS)
+    run_on(rt, alloc, all, &input, file, &NO_FAULTS)
 }
 
 #[test]
@@ -42,7 +50,7 @@ fn ties_go_to_the_lesser_id_and_what_is_absent_has_no_detail(rt: HostRuntime) ->
         ),
     ];
     for (rows, lines) in worked {
-        let left = play(alloc, &["play", "-"], rows, b"")?;
+        let left = play(&rt, alloc, &["play", "-"], rows, b"")?;
         assert_eq!(rt; left.status, 0);
         assert_eq!(rt; left.taken.as_slice(), lines);
     }
@@ -69,7 +77,13 @@ fn a_box_lists_2048_points_and_counts_2049(rt: HostRuntime) -> Result<(), Fail> 
         (2_049, "1,near,,0,0,2048,\n", b";2047:2047:0\n"),
     ];
     for (count, query, end) in worked {
-        let left = play(alloc, &["play", "-"], &puts_and(alloc, count, query)?, b"")?;
+        let left = play(
+            &rt,
+            alloc,
+            &["play", "-"],
+            &puts_and(alloc, count, query)?,
+            b"",
+        )?;
         assert_eq!(rt; left.status, 0);
         assert!(rt; left.taken.as_slice().ends_with(end));
     }
@@ -90,7 +104,7 @@ fn each_change_is_one_record_behind_the_last_commit_byte(rt: HostRuntime) -> Res
         (torn.as_slice(), "1,put,8,4,5,,\n", TWO_PUTS_LOG),
     ];
     for (file, rows, after) in worked {
-        let left = play(alloc, &["play", "log"], rows, file)?;
+        let left = play(&rt, alloc, &["play", "log"], rows, file)?;
         assert_eq!(rt; left.status, 0);
         assert_eq!(rt; left.disk.bytes(), after);
     }
@@ -102,7 +116,13 @@ fn a_leaf_is_split_before_the_next_row(rt: HostRuntime) -> Result<(), Fail> {
     let alloc = rt.alloc();
     let rows =
         "1,put,1,0,0,,\n1,put,2,2147483648,0,,\n1,put,3,0,2147483648,,\n1,put,4,2147483648,2147483648,,\n1,put,5,1,1,,\n1,put,6,2,2,,\n";
-    let left = play(alloc, &["play", "log", "--bucket", "4"], rows, EMPTY_LOG)?;
+    let left = play(
+        &rt,
+        alloc,
+        &["play", "log", "--bucket", "4"],
+        rows,
+        EMPTY_LOG,
+    )?;
     assert_eq!(rt; left.status, 0);
     assert!(rt; left.disk.bytes().ends_with(SPLIT_AND_PUT));
     Ok(())

@@ -1,30 +1,59 @@
-use Rattle.std.proofs.Common.{ℕ, ◌+◌, ◌≤◌, length, take, subst, arith}
-use Rattle.std.specs.Io.KnownBytes.{Appends}
-use Rattle.csv_rows.specs.Lines.{line_text}
-use Rattle.csv_rows.proofs.PiecesFacts.{counts-lost}
-use Rattle.location_run.proofs.Writing.{written-title, written-more, written-all, lost-title, lost-line}
+use Rattle.std.proofs.Common.{◌≡◌, ◌∙◌, length, refl, sym, ap, arith, get_or}
+use Rattle.csv_rows.specs.declared.rows.InRow.{InRow}
+use Rattle.plain_list.specs.declared.ops.Op.TheVariants.{Put}
+use Rattle.location_run.specs.inside.Answered.{kept_of}
+use Rattle.location_run.proofs.LineOrder.{before, title-lost, line-added, line-lost, lines-put, told-is, told-few, told-more, row-few}
 use Rattle.location_run.proofs.output.write_lines.Goals as goal
 
-pub loop-i-init : goal.loop-i-init
-loop-i-init g c = written-title _ _ _ _ c.args.replies.now c.in_ok-write_title.ensures.bytes c.in_ok-write_title.ensures.cause.same
+abbrev blank : InRow
+blank = record { session = 0; op = Put 0 (record { x = 0; y = 0 }) }
 
-pub loop-i-preserved : goal.loop-i-preserved
-loop-i-preserved g c =
-    let i = c.loop-i.i in
-    written-more _ _ _ _ _ _ c.args.replies.now i c.index-replies-i.result c.loop-i.invariant (omega arith)
-    (subst (λ r. Appends (g.K.Sink.output c.loop-i.sink).taken (g.K.Sink.output c.write_line.new.sink).taken (line_text (i + 1) (i + 1) r)) c.index-replies-i.is c.in_ok-write_line.ensures.bytes) c.in_ok-write_line.ensures.cause.same
+pub returns-in_err-add_title-clause-bytes : goal.returns-in_err-add_title-clause-bytes
+returns-in_err-add_title-clause-bytes g c = λ world h answers.
+    let lost = c.in_err-add_title.ensures.bytes in
+    title-lost world h c.args.rows.now _ _ c.new-lines.result lost.0 c.from_residual.result c.new-lines.ensures lost.1 c.from_residual.ensures.0
 
-pub returns-in_err-write_title-clause-bytes : goal.returns-in_err-write_title-clause-bytes
-returns-in_err-write_title-clause-bytes g c = lost-title _ _ c.args.replies.now c.from_residual.result c.from_residual.ensures.0 c.in_err-write_title.ensures.bytes
+pub offset_bounds-kept_of-told : goal.offset_bounds-kept_of-told
+offset_bounds-kept_of-told g c =
+    let few = told-few c.args.rows.now c.args.ends.now c.loop-row.row-index blank c.loop-row.told c.requires.rows c.requires.numbers c.loop-row.invariant.0 c.loop-row-test.true in
+    omega (arith, few.1)
 
-pub returns-in_err-write_line-clause-bytes : goal.returns-in_err-write_line-clause-bytes
-returns-in_err-write_line-clause-bytes g c =
-    let i = c.loop-i.i in
-    lost-line _ _ _ _ _ c.args.replies.now i c.index-replies-i.result c.from_residual-in_err-write_line.result c.from_residual-in_err-write_line.ensures.0 c.loop-i.invariant (omega arith)
-    (subst (λ r. (n : ℕ) × (n ≤ length (line_text (i + 1) (i + 1) r)) × Appends (g.K.Sink.output c.loop-i.sink).taken (g.K.Sink.output c.write_line.new.sink).taken (take n (line_text (i + 1) (i + 1) r))) c.index-replies-i.is c.in_err-write_line.ensures.bytes)
+pub bounds-kept_of-told : goal.bounds-kept_of-told
+bounds-kept_of-told g c =
+    let few = told-few c.args.rows.now c.args.ends.now c.loop-row.row-index blank c.loop-row.told c.requires.rows c.requires.numbers c.loop-row.invariant.0 c.loop-row-test.true in
+    omega (arith, few.0, ap length c.kept_of.ensures)
 
-pub returns-in_err-write_line-clause-cause : goal.returns-in_err-write_line-clause-cause
-returns-in_err-write_line-clause-cause g c = counts-lost _ _ _ c.from_residual-in_err-write_line.result c.from_residual-in_err-write_line.ensures.0 c.loop-i.invariant.same c.in_err-write_line.ensures.cause.later c.in_err-write_line.ensures.cause.failed
+pub returns-in_err-add_line-clause-bytes : goal.returns-in_err-add_line-clause-bytes
+returns-in_err-add_line-clause-bytes g c = λ world h answers.
+    let rows = c.args.rows.now in
+    let ends = c.args.ends.now in
+    let i = c.loop-row.row-index in
+    let told = told-is rows i blank c.loop-row.told c.loop-row.invariant.0 (row-few rows c.requires.rows.each i blank c.loop-row-test.true) in
+    let k = c.index-kept_of-told.result in
+    let is : get_or (kept_of (get_or rows i blank).session ends) (before rows i (get_or rows i blank).session) k ≡ k = (λ j. get_or ((sym c.kept_of.ensures) j) ((sym told) j) k) ∙ sym c.index-kept_of-told.is in
+    let lost = c.in_err-add_line.ensures.bytes in
+    line-lost world h rows ends answers _ _ _ _ _ i blank k c.loop-row.lines lost.0 c.loop-row-test.true is (c.loop-row.invariant.2 world h answers) lost.1 c.from_residual-in_err-add_line.result c.from_residual-in_err-add_line.ensures.0
+
+pub overflow_add-told : goal.overflow_add-told
+overflow_add-told g c =
+    let few = told-few c.args.rows.now c.args.ends.now c.loop-row.row-index blank c.loop-row.told c.requires.rows c.requires.numbers c.loop-row.invariant.0 c.loop-row-test.true in
+    omega (arith, few.1)
+
+pub loop-row-preserved : goal.loop-row-preserved
+loop-row-preserved g c =
+    let rows = c.args.rows.now in
+    let ends = c.args.ends.now in
+    let i = c.loop-row.row-index in
+    let few = row-few rows c.requires.rows.each i blank c.loop-row-test.true in
+    let told = told-is rows i blank c.loop-row.told c.loop-row.invariant.0 few in
+    let k = c.index-kept_of-told.result in
+    let is : get_or (kept_of (get_or rows i blank).session ends) (before rows i (get_or rows i blank).session) k ≡ k = (λ j. get_or ((sym c.kept_of.ensures) j) ((sym told) j) k) ∙ sym c.index-kept_of-told.is in (
+      told-more rows i blank c.loop-row.told _ c.loop-row.invariant.0 c.loop-row-test.true few refl,
+      c.in_ok-add_line.ensures.cause.same ∙ c.loop-row.invariant.1,
+      λ world h answers.
+          line-added world h rows ends answers _ _ _ _ _ i blank k c.loop-row.lines _ c.loop-row-test.true is (c.loop-row.invariant.2 world h answers) c.in_ok-add_line.ensures.bytes _ c.in_ok-add_line.ensures.cause.same,
+    )
 
 pub returns-clause-bytes : goal.returns-clause-bytes
-returns-clause-bytes g c = written-all _ _ _ _ c.args.replies.now c.loop-i.i c.loop-i.invariant (omega arith)
+returns-clause-bytes g c = λ world h answers.
+    lines-put world h c.args.rows.now _ _ _ _ _ c.loop-row.row-index c.loop-row.lines c.finish.result (c.loop-row.invariant.2 world h answers) (omega arith) c.finish.ensures.bytes

@@ -1,8 +1,8 @@
 use Rattle.std.proofs.Common.{inr, subst}
 use Rattle.location_run.specs.Limits.{width}
 use Rattle.location_run.specs.Status.{WritesLines}
-use Rattle.location_run.specs.Splits.{IsSettled}
-use Rattle.location_run.specs.LostSteps.{IsNextStep}
+use Rattle.lane_splits.specs.Settled.{IsSettled}
+use Rattle.lane_history.specs.LostSteps.{IsNextStep}
 use Rattle.location_run.specs.Answers.{AnswersAsOneList}
 use Rattle.location_run.specs.inside.Books.{StopsBook, LeavesLog, count_in}
 use Rattle.location_run.specs.Playing.{EndsRows}

@@ -1,0 +1,129 @@
+-- How rows end that were played over a book.
+use Rattle.std.proofs.Common.{◌≡◌, inl, inr, ℕ, List, length, take, Option, Some, None, Result, Ok, Err, refl, subst, arith}
+use Rattle.std.specs.Prelude.{IfSome}
+use Rattle.std.specs.Option.{option_map}
+use Rattle.std.specs.Io.KnownBytes.{Appends}
+use Rattle.causes.specs.Causes.{Counts}
+use Rattle.disk_trait.specs.Drive.{Drive}
+use Rattle.plain_list.specs.declared.entries.Entry.{Entry}
+use Rattle.plain_list.specs.State.{State, IsLegal}
+use Rattle.kept_log.specs.KeptView.{KeptView}
+use Rattle.kept_log.specs.Journal.{disk_in, KeepsIn}
+use Rattle.index_layer.specs.Leaves.{Leaf}
+use Rattle.commit_book.specs.BookView.{BookView}
+use Rattle.commit_book.specs.IsBook.{IsBook}
+use Rattle.csv_rows.specs.declared.rows.InRow.{InRow}
+use Rattle.csv_rows.specs.declared.rows.Refusal.{Refusal}
+use Rattle.csv_rows.specs.declared.rows.Refusal.TheVariants as refusal
+use Rattle.io_edge.specs.Streams.{Output}
+use Rattle.io_edge.specs.Puts.{Puts}
+use Rattle.lane_history.specs.LostSteps.{IsNextStep}
+use Rattle.lane_splits.specs.Settled.{IsSettled}
+use Rattle.location_run.specs.Limits.{width}
+use Rattle.location_run.specs.Lines.{lines_of}
+use Rattle.location_run.specs.Status.{WritesLines, written_status}
+use Rattle.location_run.specs.Ending.{EndsWriting}
+use Rattle.location_run.specs.Taking.{Refuses}
+use Rattle.location_run.specs.Playing.{EndsRows}
+use Rattle.location_run.specs.Answers.{AnswersAsOneList}
+use Rattle.location_run.specs.declared.lanes.LaneEnd.{LaneEnd}
+use Rattle.location_run.specs.inside.Books.{BeginsAs, StopsBook, LeavesLog, count_in}
+use Rattle.location_run.specs.inside.Answered.{IsPlayedBook, IsAnsweredBook, WritesAnswers, EndsPlay}
+use Rattle.location_run.proofs.Ends.{no-lines}
+
+-- a log begins as itself
+pub begins-self : {D : Type 0} (drive : D → Drive) (log : Option (KeptView D)) → BeginsAs drive log log
+begins-self drive None = tt
+begins-self drive (Some log) = record {
+  stays = record { bytes = refl; images = λ c left. left; moment = refl; since = λ t c left. left; keeps = λ t c left. left; calls = λ all told. told };
+  calm = refl;
+  attached = λ file make at. at;
+}
+
+-- the status of a text that was written, or not
+pub ends-writing : {T E : Type 0} (text : List ℕ) (before after : Output) (result : Result T E) → Puts before.taken after.taken text result → Counts before.faults after.faults result → EndsWriting text (written_status result) before after
+ends-writing text before after (Ok x) bytes cause = inl (refl, bytes, cause.same)
+ends-writing text before after (Err e) bytes cause = inr (refl, cause.failed, (bytes.0, bytes.2))
+
+-- what holds of a list, from what holds of a value that has it
+pub if-mapped : {A B : Type 0} (f : A → B) (P : B → Type 0) (o : Option A) → IfSome o (λ a. P (f a)) → IfSome (option_map f o) P
+if-mapped f P None holds = holds
+if-mapped f P (Some a) holds = holds
+
+module _ {I D : Type 0} (leaves : I → List Leaf) (drive : D → Drive) (rows : List InRow) (old new : BookView I D) (ends : Option (List LaneEnd)) (status : ℕ) (before after : Output) (played : IsPlayedBook width rows old new)
+    (answered : IfSome ends (λ e. IsAnsweredBook width rows old new e)) (book : IsBook leaves drive width new) (end : EndsPlay rows new.entries ends status before after) where
+  abbrev h : List Entry
+  h = new.entries
+
+  legal : IsLegal width old.opening h
+  legal = subst (λ (s : State). IsLegal width s h) played.opening book.legal
+
+  -- what the answers say, where the lines are written
+  some-answered : (e : List LaneEnd) → ends ≡ Some e → IsAnsweredBook width rows old new e
+  some-answered e is = subst (λ (o : Option (List LaneEnd)). IfSome o (λ x. IsAnsweredBook width rows old new x)) is answered
+
+  no-text : (why : Refusal) → Refuses why status before after → WritesLines status → ⊥
+  no-text why refuses = no-lines why status refuses.status_is
+
+  writes : WritesAnswers rows h ends status before after → EndsWriting (lines_of old.opening.world (length rows) h) status before after
+  writes wrote = wrote.writes old.opening.world (some-answered wrote.some wrote.ends_are).answers
+
+  all-lines : EndsWriting (lines_of old.opening.world (length rows) h) status before after → status ≡ 0 → Appends before.taken after.taken (lines_of old.opening.world (length rows) h)
+  all-lines (inl (zero, text, same)) e = text
+  all-lines (inr (six, rose, part)) e = absurd (omega (arith, six, e))
+
+  some-lines : EndsWriting (lines_of old.opening.world (length rows) h) status before after → status ≡ 6 → (n : ℕ) × Appends before.taken after.taken (take n (lines_of old.opening.world (length rows) h))
+  some-lines (inl (zero, text, same)) e = absurd (omega (arith, zero, e))
+  some-lines (inr (six, rose, part)) e = part
+
+  pub end-answers : AnswersAsOneList width old.opening rows h status before after
+  end-answers = by_end end
+    where
+      refused : (why : Refusal) → Refuses why status before after → AnswersAsOneList width old.opening rows h status before after
+      refused why refuses = record {
+        legal = legal;
+        played = played.played;
+        whole = λ written. absurd (no-text why refuses written);
+        lines = λ e. absurd (no-text why refuses (inl e));
+        part = λ e. absurd (no-text why refuses (inr e));
+      }
+
+      by_end : EndsPlay rows h ends status before after → AnswersAsOneList width old.opening rows h status before after
+      by_end (inl (cell, failed, refuses)) = refused (refusal.Disk (Some cell)) refuses
+      by_end (inr (inl (none, refuses))) = refused refusal.Memory refuses
+      by_end (inr (inr (none, wrote))) = record {
+        legal = legal;
+        played = played.played;
+        whole = λ written. (some-answered wrote.some wrote.ends_are).whole;
+        lines = all-lines (writes wrote);
+        part = some-lines (writes wrote);
+      }
+
+  pub end-rows : EndsRows (StopsBook (IsNextStep width old.opening rows) h) status before after
+  end-rows = by_end end
+    where
+      by_writing : EndsWriting (lines_of old.opening.world (length rows) h) status before after → EndsRows (StopsBook (IsNextStep width old.opening rows) h) status before after
+      by_writing (inl (zero, text, same)) = inl (zero, same)
+      by_writing (inr (six, rose, part)) = inr (inl (six, rose))
+
+      by_end : EndsPlay rows h ends status before after → EndsRows (StopsBook (IsNextStep width old.opening rows) h) status before after
+      by_end (inl (cell, failed, refuses)) = inr (inr (refusal.Disk (Some cell), inr (cell, refl, played.loses cell failed), refuses))
+      by_end (inr (inl (none, refuses))) = inr (inr (refusal.Memory, inl (refl, none), refuses))
+      by_end (inr (inr (none, wrote))) = by_writing (writes wrote)
+
+  pub end-splits : WritesLines status → IsSettled width old.bucket old.opening (count_in old.log) h
+  end-splits written = by_end end
+    where
+      by_end : EndsPlay rows h ends status before after → IsSettled width old.bucket old.opening (count_in old.log) h
+      by_end (inl (cell, failed, refuses)) = absurd (no-text (refusal.Disk (Some cell)) refuses written)
+      by_end (inr (inl (none, refuses))) = absurd (no-text refusal.Memory refuses written)
+      by_end (inr (inr (none, wrote))) = (some-answered wrote.some wrote.ends_are).settled none
+
+  pub end-log : BeginsAs drive old.log new.log → LeavesLog drive old.opening h old.log (disk_in new.log)
+  end-log begins = record {
+    log = new.log;
+    begins = begins;
+    first = played.first;
+    keeps = subst (λ (s : State). KeepsIn drive width s h new.log) played.opening book.on_log;
+    disk_is = refl;
+  }

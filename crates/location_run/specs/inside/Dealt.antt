@@ -1,0 +1,52 @@
+-- Lanes of sessions as they are dealt, before and after they run.
+use Rattle.std.specs.Prelude.{◌≡◌, ℕ, zero, suc, ◌+◌, ◌≤◌, List, [], ◌∷◌, ◌++◌, length, vec_len, vec_capacity, None, false, ⊤}
+use Rattle.plain_list.specs.declared.ops.Op.{Op}
+use Rattle.csv_rows.specs.declared.rows.InRow.{InRow}
+use Rattle.atomic_table.specs.Seated.{TableId}
+use Rattle.book_lock.specs.Pass.{Known}
+use Rattle.book_lock.specs.declared.origin.Origin.{Origin}
+use Rattle.sessions.specs.declared.store.lanes.Lane.{Lane}
+use Rattle.lane_history.specs.SessionRows.{session_rows}
+
+-- the number, where there are rows
+abbrev pub one_if : ℕ → List (ℕ × Op) → List ℕ
+one_if s [] = []
+one_if s (r ∷ rows) = s ∷ []
+
+-- the sessions of the numbers 1 to this one that have a row
+abbrev pub sessions_to : ℕ → List InRow → List ℕ
+sessions_to zero rows = []
+sessions_to (suc n) rows = sessions_to n rows ++ one_if (suc n) (session_rows rows (suc n))
+
+-- a pass that has seen nothing and owns nothing
+abbrev pub fresh_pass : TableId → Origin → ℕ → Known
+fresh_pass lock origin parts = record { lock = lock; seen = []; own = []; origin = origin; parts = parts; holds = false }
+
+-- a lane of a session with these rows, ready to be run
+pub record IsDealt {I D O : Type 0} (lock : TableId) (origin : Origin) (s : ℕ) (own : List (ℕ × Op)) (lane : Lane I D O) : Type 0 where
+  pub session_is : lane.session ≡ s
+  pub rows_are : lane.rows.items ≡ own
+  pub pass_is : lane.pass ≡ fresh_pass lock origin 1
+  pub kept : lane.kept.items ≡ []
+  pub room : vec_len lane.kept + length lane.rows.items ≤ vec_capacity lane.kept
+  pub fault : lane.fault ≡ None
+
+abbrev pub AreDealt : {I D O : Type 0} → TableId → Origin → List InRow → List ℕ → List (Lane I D O) → Type 0
+AreDealt lock origin rows [] [] = ⊤
+AreDealt lock origin rows [] (lane ∷ lanes) = ⊥
+AreDealt lock origin rows (s ∷ sessions) [] = ⊥
+AreDealt lock origin rows (s ∷ sessions) (lane ∷ lanes) = IsDealt lock origin s (session_rows rows s) lane × AreDealt lock origin rows sessions lanes
+
+-- one lane more, whose pass was split off
+pub record AddsLane {I D O : Type 0} (s : ℕ) (own : List (ℕ × Op)) (old new : Known) (before after : List (Lane I D O)) : Type 0 where
+  pub lane : Lane I D O
+  pub lanes : after ≡ before ++ lane ∷ []
+  pub dealt : IsDealt old.lock old.origin s own lane
+  pub pass : new ≡ record old { parts = new.parts }
+  pub parts : new.parts + 1 ≡ old.parts
+
+-- the sessions of the numbers 1 to this one have their lanes, and this pass has the other parts
+pub record HasDealt {I D O : Type 0} (lock : TableId) (rows : List InRow) (n : ℕ) (lanes : List (Lane I D O)) (pass : Known) : Type 0 where
+  pub dealt : AreDealt lock pass.origin rows (sessions_to n rows) lanes
+  pub pass_is : pass ≡ fresh_pass lock pass.origin pass.parts
+  pub whole : pass.parts + length lanes ≡ 65536
