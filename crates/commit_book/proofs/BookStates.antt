@@ -24,8 +24,9 @@ use Rattle.disk_trait.specs.Drive.{Drive}
 use Rattle.kept_log.specs.Journal.{failed_cell, KeepsIn}
 use Rattle.kept_log.proofs.InJournal.{has_failed-none, failed_cell-last}
 use Rattle.commit_book.specs.BookInside.{IsInside, book_of}
-use Rattle.commit_book.specs.Changes.{bases_of}
-use Rattle.commit_book.specs.Divisions.{Folds, Divides}
+use Rattle.point_table.specs.Changes.{bases_of}
+use Rattle.point_table.specs.Divisions.{Folds, Divides}
+use Rattle.point_table.specs.TableView.{TableView}
 use Rattle.commit_book.specs.IsBook.{IsBook, most_events}
 use Rattle.commit_book.specs.KeptBases.{KeepsBase}
 use Rattle.commit_book.specs.declared.book.Book.TheInside.{Inside}
@@ -47,14 +48,14 @@ steps_on w o h e legal sound may = record {
 }
 
 -- what holds of a book whose table stands for its world
-pub is_book : {I D : Type 0} (leaves : I → List Leaf) (drive : D → Drive) (w : ℕ) (b : Inside I D) → IsInside leaves drive w b.opening b → AreLeaves (leaves b.table.index) → AllByRecursion (HasRowsOf b.table.world) (leaves b.table.index) → IsBook leaves drive w (book_of b)
-is_book leaves drive w b inside are rows = record {
+pub is_book : {I D : Type 0} (drive : D → Drive) (w : ℕ) (b : Inside I D) → IsInside drive w b.opening b → AreLeaves b.table.leaves → AllByRecursion (HasRowsOf b.table.world) b.table.leaves → IsBook drive w (book_of b)
+is_book drive w b inside are rows = record {
   opening = inside.opening;
   legal = inside.legal;
   stands = record {
     names_are = inside.names;
     are_leaves = are;
-    rows = subst (λ (ms : List Placed). AllByRecursion (HasRowsOf ms) (leaves b.table.index)) (inside.world ∙ state_after-world w b.opening b.history.entries) rows;
+    rows = subst (λ (ms : List Placed). AllByRecursion (HasRowsOf ms) b.table.leaves) (inside.world ∙ state_after-world w b.opening b.history.entries) rows;
   };
   bases = inside.bases;
   few = inside.few;
@@ -65,7 +66,7 @@ is_book leaves drive w b inside are rows = record {
 one_more : (h : List Entry) (e : Entry) → length h < most_events → length (h ++ e ∷ []) ≤ most_events
 one_more h e few = omega (arith, length-append h (e ∷ []), few)
 
-module _ {I D : Type 0} (leaves : I → List Leaf) (drive : D → Drive) (w : ℕ) (o : State) (old new : Inside I D) (inside : IsInside leaves drive w o old)
+module _ {I D : Type 0} (drive : D → Drive) (w : ℕ) (o : State) (old new : Inside I D) (inside : IsInside drive w o old)
     (going : failed_cell old.history.entries ≡ None) (on_log : KeepsIn drive w o new.history.entries new.journal) where
   abbrev pub h : List Entry
   h = old.history.entries
@@ -77,8 +78,8 @@ module _ {I D : Type 0} (leaves : I → List Leaf) (drive : D → Drive) (w : �
   sound = has_failed-none h going
 
   -- a call
-  pub inside-call : (session row : ℕ) (op : Op) → length h < most_events → new.history.entries ≡ h ++ Call session row op ∷ [] → new.history.room ≡ old.history.room
-      → new.table.world ≡ after_of old.table.world op → bases_of (leaves new.table.index) ≡ bases_of (leaves old.table.index) → new.splits ≡ old.splits → IsInside leaves drive w o new
+  pub inside-call : (session row : ℕ) (op : Op) → length h < most_events → new.history.entries ≡ h ++ Call session row op ∷ [] → length old.splits.splits ≤ new.history.room
+      → new.table.world ≡ after_of old.table.world op → bases_of new.table.leaves ≡ bases_of old.table.leaves → new.splits ≡ old.splits → IsInside drive w o new
   inside-call session row op few entries room world bases splits =
       let e : Entry = Call session row op in
       let steps = steps_on w o h e inside.legal sound refl in
@@ -89,13 +90,13 @@ module _ {I D : Type 0} (leaves : I → List Leaf) (drive : D → Drive) (w : �
         names = rw entries (same_names _ _ bases ∙ inside.names ∙ sym (ap (λ (t : State). t.leaves) steps.after));
         splits = rw entries (ap (λ v. v.splits) splits ∙ inside.splits ∙ sym (ap (λ (t : State). t.splits) steps.after));
         begun = rw entries (ap (λ v. v.begun) splits ∙ inside.begun ∙ sym (ap (λ (t : State). t.begun) steps.after));
-        bases = rw entries (KeepsBases-push w o h e (leaves old.table.index) (leaves new.table.index) (record {
+        bases = rw entries (KeepsBases-push w o h e old.table.leaves new.table.leaves (record {
           begun = λ number name is. absurd (not_begin number name is);
           was = λ before after number name there now. ap (λ (t : State). split_name t.splits number) (sym steps.after) ∙ now;
-          keeps = λ number name was now ms kept. KeepsBase-bases (leaves old.table.index) (leaves new.table.index) ms name bases kept;
+          keeps = λ number name was now ms kept. KeepsBase-bases old.table.leaves new.table.leaves ms name bases kept;
         }) inside.bases);
         few = rw entries (one_more h e few);
-        room = λ _. room ∙ inside.room going ∙ ap (λ v. length v.splits) (sym splits);
+        room = λ _. omega (arith, room, ap (λ v. length v.splits) splits);
         on_log = on_log;
       }
     where
@@ -103,10 +104,10 @@ module _ {I D : Type 0} (leaves : I → List Leaf) (drive : D → Drive) (w : �
       not_begin number name is = cc is
 
   -- the begin of a split
-  pub inside-begin : (name : List Bool) (bucket : Rows) → length h < most_events → AreLeaves (leaves old.table.index) → AllByRecursion (HasRowsOf (world_after o.world h)) (leaves old.table.index)
-      → Folds name (leaves old.table.index) (leaves new.table.index) bucket → may_split w s name ≡ true → is_splitting s.splits name ≡ false
-      → new.history.entries ≡ h ++ Begin (old.splits.begun + 1) name ∷ [] → new.history.room ≡ old.history.room + 1 → new.table.world ≡ old.table.world
-      → new.splits.splits ≡ old.splits.splits ++ record { number = old.splits.begun + 1; name = name } ∷ [] → new.splits.begun ≡ old.splits.begun + 1 → IsInside leaves drive w o new
+  pub inside-begin : (name : List Bool) (bucket : Rows) → length h < most_events → AreLeaves old.table.leaves → AllByRecursion (HasRowsOf (world_after o.world h)) old.table.leaves
+      → Folds name old.table.leaves new.table.leaves bucket → may_split w s name ≡ true → is_splitting s.splits name ≡ false
+      → new.history.entries ≡ h ++ Begin (old.splits.begun + 1) name ∷ [] → length old.splits.splits + 1 ≤ new.history.room → new.table.world ≡ old.table.world
+      → new.splits.splits ≡ old.splits.splits ++ record { number = old.splits.begun + 1; name = name } ∷ [] → new.splits.begun ≡ old.splits.begun + 1 → IsInside drive w o new
   inside-begin name bucket few are rows folds may none entries room world splits begun =
       let number : ℕ = old.splits.begun + 1 in
       let e : Entry = Begin number name in
@@ -118,27 +119,27 @@ module _ {I D : Type 0} (leaves : I → List Leaf) (drive : D → Drive) (w : �
         opening = inside.opening;
         legal = rw entries steps.legal;
         world = rw entries (world ∙ inside.world ∙ sym (ap (λ (t : State). t.world) steps.after));
-        names = rw entries (ap names_of folds.leaves ∙ names_of-replaced name (as_base folds.leaf.bucket.rows) (leaves old.table.index) ∙ inside.names ∙ sym (ap (λ (t : State). t.leaves) steps.after));
+        names = rw entries (ap names_of folds.leaves ∙ names_of-replaced name (as_base folds.leaf.bucket.rows) old.table.leaves ∙ inside.names ∙ sym (ap (λ (t : State). t.leaves) steps.after));
         splits = rw entries (splits ∙ ap (λ (os : List OpenSplit). os ++ record { number = number; name = name } ∷ []) inside.splits ∙ sym now);
         begun = rw entries (begun ∙ next ∙ sym (ap (λ (t : State). t.begun) steps.after));
-        bases = rw entries (KeepsBases-push w o h e (leaves old.table.index) (leaves new.table.index) (record {
-          begun = λ n nm is. subst (λ (nm : List Bool). KeepsBase (leaves new.table.index) (world_after o.world h) nm) (sym (same_begin n nm is)) begun_base;
+        bases = rw entries (KeepsBases-push w o h e old.table.leaves new.table.leaves (record {
+          begun = λ n nm is. subst (λ (nm : List Bool). KeepsBase new.table.leaves (world_after o.world h) nm) (sym (same_begin n nm is)) begun_base;
           was = λ before after n nm there open_now. by_split before after n nm there (found-push s.splits (record { number = number; name = name }) n nm (ap (λ (os : List OpenSplit). split_name os n) (sym now) ∙ open_now));
           keeps = λ n nm was open_now ms kept.
-              subst (λ (ls : List Leaf). KeepsBase ls ms nm) (sym folds.leaves) (KeepsBase-replaced (leaves old.table.index) ms nm name (as_base folds.leaf.bucket.rows) (other nm (splitting-found s.splits n nm was)) kept);
+              subst (λ (ls : List Leaf). KeepsBase ls ms nm) (sym folds.leaves) (KeepsBase-replaced old.table.leaves ms nm name (as_base folds.leaf.bucket.rows) (other nm (splitting-found s.splits n nm was)) kept);
         }) inside.bases);
         few = rw entries (one_more h e few);
-        room = λ _. omega (arith, room, inside.room going, ap length splits, length-append old.splits.splits (record { number = number; name = name } ∷ []));
+        room = λ _. omega (arith, room, ap length splits, length-append old.splits.splits (record { number = number; name = name } ∷ []));
         on_log = on_log;
       }
     where
       same_begin : (n : ℕ) (nm : List Bool) → Begin n nm ≡ Begin (old.splits.begun + 1) name → nm ≡ name
       same_begin n nm is = cc is
 
-      begun_base : KeepsBase (leaves new.table.index) (world_after o.world h) name
+      begun_base : KeepsBase new.table.leaves (world_after o.world h) name
       begun_base =
           subst (λ (ls : List Leaf). KeepsBase ls (world_after o.world h) name) (sym folds.leaves)
-          (KeepsBase-begun (leaves old.table.index) (world_after o.world h) name folds.leaf are rows folds.named)
+          (KeepsBase-begun old.table.leaves (world_after o.world h) name folds.leaf are rows folds.named)
 
       other : (nm : List Bool) → is_splitting s.splits nm ≡ true → same_name nm name ≡ false
       other nm is = false_if (same_name nm name) (λ same. true≢false (sym is ∙ ap (is_splitting s.splits) ((same_name-decides nm name).0 same) ∙ none))
@@ -151,10 +152,10 @@ module _ {I D : Type 0} (leaves : I → List Leaf) (drive : D → Drive) (w : �
           absurd (omega (arith, at_most, last.0, inside.begun))
 
   -- the install of a split
-  pub inside-install : (number : ℕ) (name : List Bool) → length h < most_events → AreLeaves (leaves new.table.index) → Divides w name (leaves old.table.index) (leaves new.table.index)
-      → split_name old.splits.splits number ≡ Some name → names_of (leaves new.table.index) ≡ split_leaf w name (names_of (leaves old.table.index))
-      → new.history.entries ≡ h ++ Install number ∷ [] → new.history.room ≡ old.history.room - 1 → new.table.world ≡ old.table.world
-      → new.splits.splits ≡ without_number number old.splits.splits → new.splits.begun ≡ old.splits.begun → IsInside leaves drive w o new
+  pub inside-install : (number : ℕ) (name : List Bool) → length h < most_events → AreLeaves new.table.leaves → Divides w name old.table.leaves new.table.leaves
+      → split_name old.splits.splits number ≡ Some name → names_of new.table.leaves ≡ split_leaf w name (names_of old.table.leaves)
+      → new.history.entries ≡ h ++ Install number ∷ [] → old.history.room - 1 ≤ new.history.room → new.table.world ≡ old.table.world
+      → new.splits.splits ≡ without_number number old.splits.splits → new.splits.begun ≡ old.splits.begun → IsInside drive w o new
   inside-install number name few are divides found names entries room world splits begun =
       let e : Entry = Install number in
       let open_one : split_name s.splits number ≡ Some name = ap (λ (os : List OpenSplit). split_name os number) (sym inside.splits) ∙ found in
@@ -167,12 +168,12 @@ module _ {I D : Type 0} (leaves : I → List Leaf) (drive : D → Drive) (w : �
         names = rw entries (names ∙ ap (split_leaf w name) inside.names ∙ ap (λ (n : Option (List Bool)). installed w n s.leaves) (sym open_one) ∙ sym (ap (λ (t : State). t.leaves) steps.after));
         splits = rw entries (splits ∙ ap (without_number number) inside.splits ∙ sym (ap (λ (t : State). t.splits) steps.after));
         begun = rw entries (begun ∙ inside.begun ∙ sym (ap (λ (t : State). t.begun) steps.after));
-        bases = rw entries (KeepsBases-push w o h e (leaves old.table.index) (leaves new.table.index) (record {
+        bases = rw entries (KeepsBases-push w o h e old.table.leaves new.table.leaves (record {
           begun = λ n nm is. absurd (not_begin n nm is);
           was = λ before after n nm there now. left-open s.splits number n nm (ap (λ (t : State). split_name t.splits n) (sym steps.after) ∙ now);
           keeps = λ n nm was now ms kept.
               subst (λ (ls : List Leaf). KeepsBase ls ms nm) (sym divides.leaves)
-              (KeepsBase-split w (leaves old.table.index) ms nm name _ (subst AreLeaves divides.leaves are)
+              (KeepsBase-split w old.table.leaves ms nm name _ (subst AreLeaves divides.leaves are)
               (left-apart s.splits number n name nm tidy.apart open_one (ap (λ (t : State). split_name t.splits n) (sym steps.after) ∙ now)) kept);
         }) inside.bases);
         few = rw entries (one_more h e few);
@@ -185,8 +186,8 @@ module _ {I D : Type 0} (leaves : I → List Leaf) (drive : D → Drive) (w : �
 
   -- the abandonment of a split
   pub inside-abandon : (number : ℕ) (name : List Bool) → length h < most_events → split_name old.splits.splits number ≡ Some name → new.table ≡ old.table
-      → new.history.entries ≡ h ++ Abandon number ∷ [] → new.history.room ≡ old.history.room - 1
-      → new.splits.splits ≡ without_number number old.splits.splits → new.splits.begun ≡ old.splits.begun → IsInside leaves drive w o new
+      → new.history.entries ≡ h ++ Abandon number ∷ [] → old.history.room - 1 ≤ new.history.room
+      → new.splits.splits ≡ without_number number old.splits.splits → new.splits.begun ≡ old.splits.begun → IsInside drive w o new
   inside-abandon number name few found table entries room splits begun =
       let e : Entry = Abandon number in
       let open_one : split_name s.splits number ≡ Some name = ap (λ (os : List OpenSplit). split_name os number) (sym inside.splits) ∙ found in
@@ -195,14 +196,14 @@ module _ {I D : Type 0} (leaves : I → List Leaf) (drive : D → Drive) (w : �
       record {
         opening = inside.opening;
         legal = rw entries steps.legal;
-        world = rw entries (ap (λ v. v.world) table ∙ inside.world ∙ sym (ap (λ (t : State). t.world) steps.after));
-        names = rw entries (ap (λ v. names_of (leaves v.index)) table ∙ inside.names ∙ sym (ap (λ (t : State). t.leaves) steps.after));
+        world = rw entries (ap (λ (v : TableView). v.world) table ∙ inside.world ∙ sym (ap (λ (t : State). t.world) steps.after));
+        names = rw entries (ap (λ (v : TableView). names_of v.leaves) table ∙ inside.names ∙ sym (ap (λ (t : State). t.leaves) steps.after));
         splits = rw entries (splits ∙ ap (without_number number) inside.splits ∙ sym (ap (λ (t : State). t.splits) steps.after));
         begun = rw entries (begun ∙ inside.begun ∙ sym (ap (λ (t : State). t.begun) steps.after));
-        bases = rw entries (KeepsBases-push w o h e (leaves old.table.index) (leaves new.table.index) (record {
+        bases = rw entries (KeepsBases-push w o h e old.table.leaves new.table.leaves (record {
           begun = λ n nm is. absurd (not_begin n nm is);
           was = λ before after n nm there now. left-open s.splits number n nm (ap (λ (t : State). split_name t.splits n) (sym steps.after) ∙ now);
-          keeps = λ n nm was now ms kept. KeepsBase-bases (leaves old.table.index) (leaves new.table.index) ms nm (ap (λ v. bases_of (leaves v.index)) table) kept;
+          keeps = λ n nm was now ms kept. KeepsBase-bases old.table.leaves new.table.leaves ms nm (ap (λ (v : TableView). bases_of v.leaves) table) kept;
         }) inside.bases);
         few = rw entries (one_more h e few);
         room = λ _. omega (arith, room, inside.room going, ap length splits, ap length inside.splits, ap (λ (os : List OpenSplit). length (without_number number os)) inside.splits, length-without s.splits number name tidy.apart open_one);
@@ -214,8 +215,8 @@ module _ {I D : Type 0} (leaves : I → List Leaf) (drive : D → Drive) (w : �
 
   -- the failed append of a step
   pub inside-fail : (cell : ℕ) (lost : Lost) → length h < most_events → new.history.entries ≡ h ++ Fail cell lost ∷ []
-      → new.table.world ≡ old.table.world → leaves new.table.index ≡ leaves old.table.index
-      → new.splits.splits ≡ old.splits.splits → new.splits.begun ≡ old.splits.begun → IsInside leaves drive w o new
+      → new.table.world ≡ old.table.world → new.table.leaves ≡ old.table.leaves
+      → new.splits.splits ≡ old.splits.splits → new.splits.begun ≡ old.splits.begun → IsInside drive w o new
   inside-fail cell lost few entries world index splits begun =
       let e : Entry = Fail cell lost in
       let steps = steps_on w o h e inside.legal sound refl in
@@ -226,7 +227,7 @@ module _ {I D : Type 0} (leaves : I → List Leaf) (drive : D → Drive) (w : �
         names = rw entries (ap names_of index ∙ inside.names ∙ sym (ap (λ (t : State). t.leaves) steps.after));
         splits = rw entries (splits ∙ inside.splits ∙ sym (ap (λ (t : State). t.splits) steps.after));
         begun = rw entries (begun ∙ inside.begun ∙ sym (ap (λ (t : State). t.begun) steps.after));
-        bases = rw entries (KeepsBases-push w o h e (leaves old.table.index) (leaves new.table.index) (record {
+        bases = rw entries (KeepsBases-push w o h e old.table.leaves new.table.leaves (record {
           begun = λ n nm is. absurd (not_begin n nm is);
           was = λ before after n nm there now. ap (λ (t : State). split_name t.splits n) (sym steps.after) ∙ now;
           keeps = λ n nm was now ms kept. subst (λ (ls : List Leaf). KeepsBase ls ms nm) (sym index) kept;

@@ -1,17 +1,14 @@
 -- What a call leaves as it is.
-use Rattle.std.proofs.Common.{◌≡◌, Bool, true, false, cond, List, [], ◌∷◌, ◌++◌, map, refl, sym, ap, subst, ◌∙◌}
+use Rattle.std.proofs.Common.{◌≡◌, Bool, true, false, cond, List, [], ◌∷◌, map, refl, sym, ap, subst, ◌∙◌}
 use Rattle.std.specs.List.{AllByRecursion}
 use Rattle.zorder.specs.declared.points.Placed.{Placed}
 use Rattle.plain_list.specs.declared.ops.Op.{Op}
-use Rattle.plain_list.specs.declared.entries.Entry.{Entry}
 use Rattle.plain_list.specs.declared.ops.Op.TheVariants.{Put, Move, Remove, Find, Within, Near}
 use Rattle.plain_list.specs.Answer.{after_of, is_change, listed, members_in}
-use Rattle.plain_list.specs.State.{is_fail}
-use Rattle.plain_list.proofs.Histories.{has_failed}
 use Rattle.index_layer.specs.Leaves.{Leaf, AreLeaves, names_of}
 use Rattle.index_layer.specs.Stands.{Stands, HasRowsOf}
 use Rattle.commit_book.specs.Answers.{IsQuery}
-use Rattle.commit_book.specs.Changes.{LeafBase, bases_of}
+use Rattle.point_table.specs.Changes.{LeafBase, bases_of}
 
 names_from_bases : (leaves : List Leaf) → map (λ (b : LeafBase). b.name) (bases_of leaves) ≡ names_of leaves
 names_from_bases [] = refl

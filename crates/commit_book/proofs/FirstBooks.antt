@@ -1,6 +1,6 @@
 -- Books that just began.
 use Rattle.std.proofs.Common.{◌≡◌, ℕ, List, [], ◌∷◌, ◌++◌, length, Bool, refl, sym, ap, ◌∙◌, arith}
-use Rattle.index_layer.specs.Leaves.{Leaf, names_of}
+use Rattle.index_layer.specs.Leaves.{names_of}
 use Rattle.plain_list.specs.declared.entries.Entry.{Entry}
 use Rattle.plain_list.specs.declared.entries.Entry.TheVariants.{Begin}
 use Rattle.plain_list.specs.State.{State}
@@ -17,10 +17,10 @@ no_begin [] after number name is = cc is
 no_begin (e ∷ before) after number name is = cc is
 
 -- a book with no entries, whose table is that of the state
-pub inside-first : {I D : Type 0} (leaves : I → List Leaf) (drive : D → Drive) (w : ℕ) (o : State) (b : Inside I D) → IsOpening o → b.history ≡ record { entries = []; room = 0 }
-    → b.table.world ≡ o.world → names_of (leaves b.table.index) ≡ o.leaves → b.splits ≡ record { splits = []; begun = o.begun; room = 0 } → KeepsIn drive w o [] b.journal
-    → IsInside leaves drive w o b
-inside-first leaves drive w o b opening history world names splits kept =
+pub inside-first : {I D : Type 0} (drive : D → Drive) (w : ℕ) (o : State) (b : Inside I D) → IsOpening o → b.history ≡ record { entries = []; room = 0 }
+    → b.table.world ≡ o.world → names_of b.table.leaves ≡ o.leaves → b.splits ≡ record { splits = []; begun = o.begun; room = 0 } → KeepsIn drive w o [] b.journal
+    → IsInside drive w o b
+inside-first drive w o b opening history world names splits kept =
     let none : b.history.entries ≡ [] = ap (λ (v : Events). v.entries) history in
     record {
       opening = opening;
@@ -31,6 +31,6 @@ inside-first leaves drive w o b opening history world names splits kept =
       begun = rw none (ap (λ (v : SplitsView). v.begun) splits);
       bases = rw none (λ before after number name is found. absurd (no_begin before after number name is));
       few = rw none (omega arith);
-      room = λ _. ap (λ (v : Events). v.room) history ∙ ap (λ (v : SplitsView). length v.splits) (sym splits);
+      room = λ _. omega (arith, ap (λ (v : SplitsView). length v.splits) splits);
       on_log = rw none kept;
     }

@@ -1,10 +1,10 @@
 -- What a book's log says of its history.
-use Rattle.std.proofs.Common.{◌≡◌, ◌≤◌, ℕ, List, Option, Some, None, arith}
+use Rattle.std.proofs.Common.{◌≡◌, ◌≤◌, ℕ, List, Option, Some, None, refl, ◌∙◌, arith}
 use Rattle.plain_list.specs.declared.entries.Entry.{Entry}
 use Rattle.plain_list.specs.State.{State}
 use Rattle.disk_trait.specs.Drive.{Drive}
 use Rattle.kept_log.specs.KeptView.{KeptView}
-use Rattle.kept_log.specs.Journal.{failed_cell, cells_in, KeepsIn}
+use Rattle.kept_log.specs.Journal.{failed_cell, failed_in, cells_in, KeepsIn}
 
 -- a log has no more cells than it may
 pub in-most : {D : Type 0} (drive : D → Drive) (w : ℕ) (s : State) (h : List Entry) (log : Option (KeptView D)) → KeepsIn drive w s h log → cells_in log ≤ 16777216
@@ -16,3 +16,8 @@ pub in-named : {D : Type 0} (drive : D → Drive) (w : ℕ) (s : State) (h : Lis
     → (n : ℕ) → failed_cell h ≡ Some n → n ≡ cells_in log
 in-named drive w s h None kept n named = absurd (cc (kept, named))
 in-named drive w s h (Some log) kept n named = kept.named n named
+
+-- nor has an append failed where the history has none that did
+pub in-failed : {D : Type 0} (drive : D → Drive) (w : ℕ) (s : State) (h : List Entry) (log : Option (KeptView D)) → KeepsIn drive w s h log → failed_cell h ≡ None → failed_in log ≡ None
+in-failed drive w s h None kept going = refl
+in-failed drive w s h (Some log) kept going = kept.failed ∙ going

@@ -127,7 +127,7 @@ pub record MayBegin (w : ℕ) (s : State) (entries : List Entry) (cells : ℕ) (
   pub short : length name + w ≤ 64
   pub free : is_splitting s.splits name ≡ false
 
-pub may_begin : {I D : Type 0} (w : ℕ) (b : BookView I D) (name : List Bool) → begin_refusal w b name ≡ None → MayBegin w (state_after w b.opening b.entries) b.entries (cells_in b.log) name
+pub may_begin : {D : Type 0} (w : ℕ) (b : BookView D) (name : List Bool) → begin_refusal w b name ≡ None → MayBegin w (state_after w b.opening b.entries) b.entries (cells_in b.log) name
 may_begin w b name none =
     let s = state_after w b.opening b.entries in
     let cells = cells_in b.log in
@@ -177,30 +177,30 @@ may_end entries cells most none =
     by_test false e = refl
 
 -- what lets a split be installed
-pub record MayInstall {I D : Type 0} (w : ℕ) (leaves : I → List Leaf) (b : BookView I D) (number : ℕ) (name : List Bool) (base : List Row) : Type 0 where
+pub record MayInstall {D : Type 0} (w : ℕ) (b : BookView D) (number : ℕ) (name : List Bool) (base : List Row) : Type 0 where
   pub may : MayEnd b.entries (cells_in b.log)
   pub is_open_one : is_open (state_after w b.opening b.entries).splits number name ≡ true
-  pub has : has_base (leaves b.index) name base ≡ true
+  pub has : has_base b.leaves name base ≡ true
 
-pub may_install : {I D : Type 0} (w : ℕ) (leaves : I → List Leaf) (b : BookView I D) (number : ℕ) (name : List Bool) (base : List Row) → length b.entries ≤ most_events
-    → install_refusal w leaves b number name base ≡ None → MayInstall w leaves b number name base
-may_install w leaves b number name base most none =
-    let it = is_open (state_after w b.opening b.entries).splits number name && has_base (leaves b.index) name base in
+pub may_install : {D : Type 0} (w : ℕ) (b : BookView D) (number : ℕ) (name : List Bool) (base : List Row) → length b.entries ≤ most_events
+    → install_refusal w b number name base ≡ None → MayInstall w b number name base
+may_install w b number name base most none =
+    let it = is_open (state_after w b.opening b.entries).splits number name && has_base b.leaves name base in
     let both = neither (end_refusal (cells_in b.log) b.entries) (cond it None (Some (Stale number))) none in
-    by_tests (may_end b.entries (cells_in b.log) most both.0) (is_open (state_after w b.opening b.entries).splits number name) (has_base (leaves b.index) name base) refl refl both.1
+    by_tests (may_end b.entries (cells_in b.log) most both.0) (is_open (state_after w b.opening b.entries).splits number name) (has_base b.leaves name base) refl refl both.1
   where
-    by_tests : MayEnd b.entries (cells_in b.log) → (it has : Bool) → is_open (state_after w b.opening b.entries).splits number name ≡ it → has_base (leaves b.index) name base ≡ has
-        → cond (it && has) None (Some (Stale number)) ≡ None → MayInstall w leaves b number name base
+    by_tests : MayEnd b.entries (cells_in b.log) → (it has : Bool) → is_open (state_after w b.opening b.entries).splits number name ≡ it → has_base b.leaves name base ≡ has
+        → cond (it && has) None (Some (Stale number)) ≡ None → MayInstall w b number name base
     by_tests may false has o b e = cc e
     by_tests may true false o b e = cc e
     by_tests may true true o b e = record { may = may; is_open_one = o; has = b }
 
 -- what lets a split be abandoned
-pub record MayAbandon {I D : Type 0} (w : ℕ) (b : BookView I D) (number : ℕ) : Type 0 where
+pub record MayAbandon {D : Type 0} (w : ℕ) (b : BookView D) (number : ℕ) : Type 0 where
   pub may : MayEnd b.entries (cells_in b.log)
   pub is_open_one : is_some (split_name (state_after w b.opening b.entries).splits number) ≡ true
 
-pub may_abandon : {I D : Type 0} (w : ℕ) (b : BookView I D) (number : ℕ) → length b.entries ≤ most_events → abandon_refusal w b number ≡ None → MayAbandon w b number
+pub may_abandon : {D : Type 0} (w : ℕ) (b : BookView D) (number : ℕ) → length b.entries ≤ most_events → abandon_refusal w b number ≡ None → MayAbandon w b number
 may_abandon w b number most none =
     let it = is_some (split_name (state_after w b.opening b.entries).splits number) in
     let both = neither (end_refusal (cells_in b.log) b.entries) (cond it None (Some (NotOpen number))) none in

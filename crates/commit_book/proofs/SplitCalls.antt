@@ -64,7 +64,7 @@ full_leaf-free w size s name full = let parts = found s.leaves full in record { 
         by_test false is there later = let rest = later there in (or-true (same_name n name) (is_leaf names name) rest.0, rest.1, rest.2)
 
 -- the begin of a full leaf is refused for want of room alone, while no append has failed
-pub begin-full : {I D : Type 0} (w size : ℕ) (b : BookView I D) (name : List Bool) → failed_cell b.entries ≡ None → full_leaf w size (state_after w b.opening b.entries) ≡ Some name
+pub begin-full : {D : Type 0} (w size : ℕ) (b : BookView D) (name : List Bool) → failed_cell b.entries ≡ None → full_leaf w size (state_after w b.opening b.entries) ≡ Some name
     → begin_refusal w b name ≡ room_refusal (cells_in b.log) (length b.entries)
 begin-full w size b name going full =
     let s = state_after w b.opening b.entries in
@@ -100,9 +100,9 @@ all-without : (name : List Bool) (begun : ℕ) (splits : List OpenSplit) → All
 all-without name begun splits all = all-filter (λ (o : OpenSplit). o.number ≤ begun) (λ (o : OpenSplit). not (same_name o.name name)) splits all
 
 -- a split that was begun is open
-pub open-begun : {I D : Type 0} (leaves : I → List Leaf) (drive : D → Drive) (w : ℕ) (old new : BookView I D) (name : List Bool) (ticket : SplitTicket) → Begins leaves w old new name ticket
-    → AreBooks leaves drive w old new → split_name (state_after w new.opening new.entries).splits ticket.number ≡ Some name
-open-begun leaves drive w old new name ticket begins books =
+pub open-begun : {D : Type 0} (drive : D → Drive) (w : ℕ) (old new : BookView D) (name : List Bool) (ticket : SplitTicket) → Begins w old new name ticket
+    → AreBooks drive w old new → split_name (state_after w new.opening new.entries).splits ticket.number ≡ Some name
+open-begun drive w old new name ticket begins books =
     let s = state_after w old.opening old.entries in
     let kept = without_name name s.splits in
     let tidy = tidy-history w old.opening old.entries books.before.opening.rests books.before.legal in
@@ -111,20 +111,20 @@ open-begun leaves drive w old new name ticket begins books =
     ∙ ap (λ (u : State). split_name u.splits ticket.number) (state_after-append w old.opening old.entries (Begin ticket.number name ∷ [])) ∙ last_open kept ticket.number name none
 
 -- a split that was begun, and prepared at once, is never stale
-pub install-begun : {I D : Type 0} (leaves : I → List Leaf) (drive : D → Drive) (w : ℕ) (old new : BookView I D) (name : List Bool) (ticket : SplitTicket) → Begins leaves w old new name ticket
-    → AreBooks leaves drive w old new
-    → install_refusal w leaves new ticket.number ticket.name (arc_value ticket.bucket).base ≡ end_refusal (cells_in new.log) new.entries
-install-begun leaves drive w old new name ticket begins books =
+pub install-begun : {D : Type 0} (drive : D → Drive) (w : ℕ) (old new : BookView D) (name : List Bool) (ticket : SplitTicket) → Begins w old new name ticket
+    → AreBooks drive w old new
+    → install_refusal w new ticket.number ticket.name (arc_value ticket.bucket).base ≡ end_refusal (cells_in new.log) new.entries
+install-begun drive w old new name ticket begins books =
     let t = state_after w new.opening new.entries in
     let base = (arc_value ticket.bucket).base in
-    let found : split_name t.splits ticket.number ≡ Some name = open-begun leaves drive w old new name ticket begins books in
+    let found : split_name t.splits ticket.number ≡ Some name = open-begun drive w old new name ticket begins books in
     let it : is_open t.splits ticket.number ticket.name ≡ true =
     ap (λ (o : Option (List Bool)). option_map_or (λ (n : List Bool). same_name n ticket.name) o false) found ∙ (same_name-decides name ticket.name).1 (sym begins.name_is) in
     let leaf : Leaf = record { name = begins.folds.leaf.name; bucket = as_base begins.folds.leaf.bucket.rows } in
-    let named : leaf_named ticket.name (leaves new.index) ≡ Some leaf =
-    (λ i. leaf_named (begins.name_is i) (begins.folds.leaves i)) ∙ leaf_named-replaced name (as_base begins.folds.leaf.bucket.rows) (leaves old.index) begins.folds.leaf begins.folds.named in
-    let has : has_base (leaves new.index) ticket.name base ≡ true =
-    has_base-named (leaves new.index) ticket.name base leaf named ∙ (same_rows-decides begins.folds.leaf.bucket.rows base).1 (ap (λ (b : Rows). b.base) (sym begins.folds.bucket_is)) in
+    let named : leaf_named ticket.name new.leaves ≡ Some leaf =
+    (λ i. leaf_named (begins.name_is i) (begins.folds.leaves i)) ∙ leaf_named-replaced name (as_base begins.folds.leaf.bucket.rows) old.leaves begins.folds.leaf begins.folds.named in
+    let has : has_base new.leaves ticket.name base ≡ true =
+    has_base-named new.leaves ticket.name base leaf named ∙ (same_rows-decides begins.folds.leaf.bucket.rows base).1 (ap (λ (b : Rows). b.base) (sym begins.folds.bucket_is)) in
     let end = end_refusal (cells_in new.log) new.entries in
     (λ i. first_of end (cond (it i && has i) None (Some (Stale ticket.number)))) ∙ no_later end
   where

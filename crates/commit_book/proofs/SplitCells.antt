@@ -1,50 +1,82 @@
--- What the append of a split's cell makes of the history that a book's log keeps.
-use Rattle.std.proofs.Common.{◌≡◌, ℕ, ◌+◌, Bool, true, not, List, [], ◌∷◌, ◌++◌, length, Option, Some, None, refl, sym, ap, subst}
-use Rattle.std.specs.Prelude.{◌&&◌, is_some}
+-- Steps that may come next in the history of a book, and have a cell there.
+use Rattle.std.proofs.Common.{◌≡◌, ℕ, ◌+◌, ◌<◌, ◌≤◌, Bool, true, false, cond, not, List, [], ◌∷◌, ◌++◌, length, Option, Some, None, refl, sym, ap, ◌∙◌, arith}
+use Rattle.std.specs.Prelude.{◌&&◌, ◌==◌, is_some}
+use Rattle.std.specs.Option.{option_map_or}
 use Rattle.std.specs.Cmp.Derive.{both_true}
 use Rattle.std.proofs.lemmas.Bool.{eq-eqb, le-leb}
+use Rattle.std.proofs.lemmas.Bool.Decides.{nat_tests}
+use mathlib.Core.Bool.{true≢false}
+use Rattle.zorder.specs.declared.points.Point.{Point}
+use Rattle.zorder.specs.declared.points.Placed.{Placed}
 use Rattle.cell_format.specs.declared.cell.Cell.{Cell}
+use Rattle.cell_format.specs.declared.cell.Cell.TheVariants as cell
+use Rattle.plain_list.specs.declared.ops.Op.{Op}
+use Rattle.plain_list.specs.declared.ops.Op.TheVariants.{Put, Move, Remove, Find, Within, Near}
 use Rattle.plain_list.specs.declared.entries.Entry.{Entry}
-use Rattle.plain_list.specs.declared.entries.Entry.TheVariants.{Fail, Begin, Install, Abandon}
 use Rattle.plain_list.specs.declared.entries.Lost.{Lost}
+use Rattle.plain_list.specs.declared.entries.Lost.TheVariants as lost
+use Rattle.plain_list.specs.declared.ops.Answer.TheVariants.{At, Absent}
+use Rattle.plain_list.specs.Answer.{answer_of, is_change}
+use Rattle.plain_list.specs.World.{place_of}
 use Rattle.plain_list.specs.History.{world_after}
-use Rattle.plain_list.specs.State.{State, IsLegal, state_after, is_possible, is_free, split_name}
-use Rattle.disk_trait.specs.Drive.{Drive}
-use Rattle.log_state.specs.Changes.{cells_of, lost_cells}
-use Rattle.kept_log.specs.KeptView.{KeptView}
-use Rattle.kept_log.specs.Steps.{IsNext}
-use Rattle.kept_log.specs.Journal.{failed_cell, KeepsIn, Added, Missed, LeavesNext, LeavesEither}
+use Rattle.plain_list.specs.State.{State, IsLegal, OpenSplit, state_after, is_possible, is_free, split_name}
+use Rattle.log_state.specs.Changes.{cells_of, change_cells, lost_cells}
+use Rattle.kept_log.specs.Journal.{failed_cell}
 use Rattle.kept_log.proofs.InJournal.{has_failed-none}
+use Rattle.commit_book.specs.Answers.{IsUpdate}
+use Rattle.commit_book.specs.Refusals.{most_cells, most_cells_to_begin}
+use Rattle.commit_book.specs.Steps.{entry_of, IsStep}
 use Rattle.commit_book.proofs.BookStates.{steps_on}
 use Rattle.commit_book.proofs.RefusalLemmas.{MayBegin}
 
--- a split that may begin is a legal entry
-pub begin_may : (w : ℕ) (s : State) (entries : List Entry) (cells number : ℕ) (name : List Bool) → MayBegin w s entries cells name → number ≡ s.begun + 1
-    → (is_possible w s (Begin number name) && is_free s (Begin number name)) ≡ true
-begin_may w s entries cells number name may next =
-    both_true (both_true (eq-eqb number (s.begun + 1) next) (both_true may.leaf (le-leb (length name + w) 64 may.short))) (ap not may.free)
+module _ (w : ℕ) (o : State) (h : List Entry) (legal : IsLegal w o h) (going : failed_cell h ≡ None) where
+  step_next : (step : Lost) → (is_possible w (state_after w o h) (entry_of step) && is_free (state_after w o h) (entry_of step)) ≡ true
+      → cells_of (world_after o.world h) (entry_of step ∷ []) ≡ lost_cells step → IsStep w o h step
+  step_next step may cells = record { legal = (steps_on w o h (entry_of step) legal (has_failed-none h going) may).legal; cells = cells }
 
--- and so is the end of an open split
-pub install_may : (w : ℕ) (s : State) (number : ℕ) (name : List Bool) → split_name s.splits number ≡ Some name → (is_possible w s (Install number) && is_free s (Install number)) ≡ true
-install_may w s number name found = both_true (ap (λ (n : Option (List Bool)). is_some n) found) refl
+  -- a call that changes the world
+  pub call_step : (session row : ℕ) (op : Op) → is_change (answer_of (world_after o.world h) op) ≡ true → IsStep w o h (lost.Call session row op)
+  call_step session row op change = step_next (lost.Call session row op) refl (some_cells (is_change (answer_of (world_after o.world h) op)) (change_cells op) change)
+    where
+      no_more : (cells : List Cell) → cells ++ [] ≡ cells
+      no_more [] = refl
+      no_more (c ∷ cells) = ap (λ (rest : List Cell). c ∷ rest) (no_more cells)
 
-pub abandon_may : (w : ℕ) (s : State) (number : ℕ) (name : List Bool) → split_name s.splits number ≡ Some name → (is_possible w s (Abandon number) && is_free s (Abandon number)) ≡ true
-abandon_may w s number name found = both_true (ap (λ (n : Option (List Bool)). is_some n) found) refl
+      some_cells : (b : Bool) (cells : List Cell) → b ≡ true → cond b cells [] ++ [] ≡ cells
+      some_cells true cells e = no_more cells
+      some_cells false cells e = absurd (true≢false (sym e))
 
-module _ {D : Type 0} (drive : D → Drive) (w : ℕ) (o : State) (h : List Entry) (old new : Option (KeptView D)) (legal : IsLegal w o h) (going : failed_cell h ≡ None)
-    (kept : KeepsIn drive w o h old) (e : Entry) (cell : Cell) (cells : cells_of (world_after o.world h) (e ∷ []) ≡ cell ∷ [])
-    (may : (is_possible w (state_after w o h) e && is_free (state_after w o h) e) ≡ true) where
-  next : IsNext w o h e cell
-  next = record { legal = (steps_on w o h e legal (has_failed-none h going) may).legal; cells = cells }
+  -- a split that may begin
+  pub begin_step : (cells number : ℕ) (name : List Bool) → MayBegin w (state_after w o h) h cells name → number ≡ (state_after w o h).begun + 1 → IsStep w o h (lost.Begin number name)
+  begin_step cells number name may next =
+      step_next (lost.Begin number name)
+      (both_true (both_true (eq-eqb number ((state_after w o h).begun + 1) next) (both_true may.leaf (le-leb (length name + w) 64 may.short))) (ap not may.free)) refl
 
-  -- the log keeps the history with the entry whose cell was added
-  pub keeps-added : (entries : List Entry) → entries ≡ h ++ e ∷ [] → Added drive cell old new → KeepsIn drive w o entries new
-  keeps-added entries is added = subst (λ (g : List Entry). KeepsIn drive w o g new) (sym is) (added.keeps w o h e next kept)
+  -- and the end of an open one
+  pub install_step : (number : ℕ) (name : List Bool) → split_name (state_after w o h).splits number ≡ Some name → IsStep w o h (lost.Install number)
+  install_step number name found = step_next (lost.Install number) (both_true (ap (λ (n : Option (List Bool)). is_some n) found) refl) refl
 
-  -- and the history that ends with the append that failed
-  pub keeps-missed : (entries : List Entry) (number : ℕ) (lost : Lost) → entries ≡ h ++ Fail number lost ∷ [] → lost_cells lost ≡ cell ∷ [] → Missed drive cell number old new → KeepsIn drive w o entries new
-  keeps-missed entries number lost is one missed = subst (λ (g : List Entry). KeepsIn drive w o g new) (sym is) (missed.keeps w o h e lost next one kept)
+  pub abandon_step : (number : ℕ) (name : List Bool) → split_name (state_after w o h).splits number ≡ Some name → IsStep w o h (lost.Abandon number)
+  abandon_step number name found = step_next (lost.Abandon number) (both_true (ap (λ (n : Option (List Bool)). is_some n) found) refl) refl
 
-  -- at every moment of the append a crash leaves the cells that stood there, or these and the entry's own
-  pub leaves-step : LeavesNext drive cell old new → LeavesEither drive w o h e old new
-  leaves-step leaves = leaves w o h e next kept
+-- a call that changes the world has a cell
+pub cell_there : (op : Op) (world : List Placed) → IsUpdate op → is_change (answer_of world op) ≡ true → (c : Cell) × (change_cells op ≡ c ∷ [])
+cell_there (Put id at) world is change = (cell.Put id at, refl)
+cell_there (Move id at) world is change = (cell.Move id at, refl)
+cell_there (Remove id) world is change = (cell.Remove id, refl)
+cell_there (Find id) world is change = absurd (true≢false (sym change ∙ no_change (place_of world id)))
+  where
+    no_change : (p : Option Point) → is_change (option_map_or At p Absent) ≡ false
+    no_change None = refl
+    no_change (Some at) = refl
+cell_there (Within region) world is change = absurd is
+cell_there (Near at k) world is change = absurd is
+
+-- an open split is one of some
+pub some_open : (splits : List OpenSplit) (number : ℕ) (name : List Bool) → split_name splits number ≡ Some name → 0 < length splits
+some_open [] number name found = cc found
+some_open (o ∷ splits) number name found = omega arith
+
+-- a log with few cells hasn't all
+pub few_cells : (n : ℕ) → n ≤ most_cells_to_begin → (n == most_cells) ≡ false
+few_cells n le = grind (arith, nat_tests)

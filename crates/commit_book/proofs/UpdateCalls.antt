@@ -1,5 +1,5 @@
 -- Changes and queries: why they are refused, and what their append needs.
-use Rattle.std.proofs.Common.{◌≡◌, ℕ, ◌<◌, ◌≤◌, Bool, true, false, cond, [], length, Option, Some, None, Ok, Err, refl, sym, arith}
+use Rattle.std.proofs.Common.{◌≡◌, ℕ, ◌<◌, ◌≤◌, Bool, true, false, cond, List, [], ◌∷◌, ◌++◌, length, Option, Some, None, Ok, Err, refl, sym, ap, arith}
 use Rattle.std.specs.Prelude.{◌==◌, ◌&&◌}
 use Rattle.std.proofs.lemmas.Bool.Decides.{nat_tests}
 use mathlib.Core.Bool.{true≢false}
@@ -8,7 +8,14 @@ use Rattle.plain_list.specs.declared.ops.Op.TheVariants.{Put, Move, Remove, Find
 use Rattle.plain_list.specs.Answer.{answer_of, is_change}
 use Rattle.plain_list.specs.History.{world_after}
 use Rattle.log_state.specs.Changes.{change_cells}
-use Rattle.kept_log.specs.Journal.{cells_in}
+use Rattle.cell_format.specs.declared.cell.Cell.{Cell}
+use Rattle.plain_list.specs.declared.entries.Entry.{Entry}
+use Rattle.plain_list.specs.declared.entries.Entry.TheVariants.{Call}
+use Rattle.plain_list.specs.State.{State, IsLegal}
+use Rattle.disk_trait.specs.Drive.{Drive}
+use Rattle.kept_log.specs.KeptView.{KeptView}
+use Rattle.kept_log.specs.Journal.{KeepsIn, cells_in}
+use Rattle.kept_log.proofs.InJournal.{in-quiet}
 use Rattle.commit_book.specs.Answers.{IsQuery}
 use Rattle.commit_book.specs.BookView.{BookView}
 use Rattle.commit_book.specs.IsBook.{most_events}
@@ -17,7 +24,7 @@ use Rattle.commit_book.specs.declared.faults.BookFault.{BookFault}
 use Rattle.commit_book.specs.declared.faults.BookFault.TheVariants.{LogFull}
 use Rattle.commit_book.proofs.RefusalLemmas.{refused_later, told_only, done_only, neither, MayCall, may_call}
 
-module _ {I D : Type 0} (b : BookView I D) (op : Op) where
+module _ {D : Type 0} (b : BookView D) (op : Op) where
   -- whether the operation changes the world of the book
   abbrev pub changes : Bool
   changes = is_change (answer_of (world_after b.opening.world b.entries) op)
@@ -60,3 +67,12 @@ query_cells (Remove id) is = absurd is
 query_cells (Find id) is = refl
 query_cells (Within region) is = refl
 query_cells (Near at k) is = refl
+
+-- the log keeps a history with a query more
+pub keeps-query : {D : Type 0} (drive : D → Drive) (w : ℕ) (s : State) (h : List Entry) (session row : ℕ) (op : Op) (log : Option (KeptView D)) → IsQuery op → IsLegal w s (h ++ Call session row op ∷ [])
+    → KeepsIn drive w s h log → KeepsIn drive w s (h ++ Call session row op ∷ []) log
+keeps-query drive w s h session row op log is legal kept = in-quiet drive w s h (Call session row op) log legal (no_cells (is_change (answer_of (world_after s.world h) op))) refl kept
+  where
+    no_cells : (b : Bool) → cond b (change_cells op) [] ++ [] ≡ []
+    no_cells true = ap (λ (cs : List Cell). cs ++ []) (query_cells op is)
+    no_cells false = refl

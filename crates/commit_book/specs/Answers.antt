@@ -9,12 +9,7 @@ use Rattle.plain_list.specs.History.{world_after, call_count}
 use Rattle.plain_list.specs.State.{state_after}
 use Rattle.plain_list.specs.Size.{full_leaf}
 use Rattle.commit_book.specs.BookView.{BookView}
-
--- an operation that is answered under the lock: a change or a find
-abbrev pub IsUpdate : Op → Type 0
-IsUpdate (Within region) = ⊥
-IsUpdate (Near at k) = ⊥
-IsUpdate _ = ⊤
+pub use Rattle.point_table.specs.Updates.{IsUpdate}
 
 -- an operation that is answered from a snapshot
 abbrev pub IsQuery : Op → Type 0
@@ -23,12 +18,12 @@ IsQuery (Near at k) = ⊤
 IsQuery _ = ⊥
 
 -- the history has one entry more, of this call
-pub record Notes {I D : Type 0} (old new : BookView I D) (session row : ℕ) (op : Op) (place : ℕ) : Type 0 where
+pub record Notes {D : Type 0} (old new : BookView D) (session row : ℕ) (op : Op) (place : ℕ) : Type 0 where
   pub entries : new.entries ≡ old.entries ++ Call session row op ∷ []
   pub place_is : place ≡ call_count new.entries
 
 -- the reply at its place, and the leaf that is to be split next
-pub record Replies {I D : Type 0} (w : ℕ) (old new : BookView I D) (session row : ℕ) (op : Op) (place : ℕ) (answer : Answer) (full : Option (List Bool)) : Type 0 where
+pub record Replies {D : Type 0} (w : ℕ) (old new : BookView D) (session row : ℕ) (op : Op) (place : ℕ) (answer : Answer) (full : Option (List Bool)) : Type 0 where
   pub notes : Notes old new session row op place
   pub answer_is : answer ≡ answer_of (world_after old.opening.world old.entries) op
   pub full_is : full ≡ full_leaf w new.bucket (state_after w new.opening new.entries)

@@ -1,7 +1,7 @@
 -- What a book's fields stand for, and what holds of them.
-use Rattle.std.specs.Prelude.{◌≡◌, ℕ, ◌≤◌, None, List, length}
+use Rattle.std.specs.Prelude.{◌≡◌, ℕ, ◌≤◌, None, length}
 use Rattle.plain_list.specs.State.{State, IsLegal, state_after}
-use Rattle.index_layer.specs.Leaves.{Leaf, names_of}
+use Rattle.index_layer.specs.Leaves.{names_of}
 use Rattle.disk_trait.specs.Drive.{Drive}
 use Rattle.kept_log.specs.Journal.{failed_cell, KeepsIn}
 use Rattle.commit_book.specs.BookView.{BookView}
@@ -9,19 +9,19 @@ use Rattle.commit_book.specs.IsBook.{most_events, IsOpening}
 use Rattle.commit_book.specs.KeptBases.{KeepsBases}
 use Rattle.commit_book.specs.declared.book.Book.TheInside.{Inside}
 
-abbrev pub book_of : {I D : Type 0} → Inside I D → BookView I D
-book_of b = record { index = b.table.index; opening = b.opening; entries = b.history.entries; bucket = b.table.size; log = b.journal }
+abbrev pub book_of : {I D : Type 0} → Inside I D → BookView D
+book_of b = record { leaves = b.table.leaves; opening = b.opening; entries = b.history.entries; bucket = b.table.size; log = b.journal }
 
 -- The table and the open splits are those of the history's state, where the book began at the state o. While no append has failed, an entry
 -- has room for each open split.
-pub record IsInside {I D : Type 0} (leaves : I → List Leaf) (drive : D → Drive) (w : ℕ) (o : State) (b : Inside I D) : Type 0 where
+pub record IsInside {I D : Type 0} (drive : D → Drive) (w : ℕ) (o : State) (b : Inside I D) : Type 0 where
   pub opening : IsOpening o
   pub legal : IsLegal w o b.history.entries
   pub world : b.table.world ≡ (state_after w o b.history.entries).world
-  pub names : names_of (leaves b.table.index) ≡ (state_after w o b.history.entries).leaves
+  pub names : names_of b.table.leaves ≡ (state_after w o b.history.entries).leaves
   pub splits : b.splits.splits ≡ (state_after w o b.history.entries).splits
   pub begun : b.splits.begun ≡ (state_after w o b.history.entries).begun
-  pub bases : KeepsBases w o (leaves b.table.index) b.history.entries
+  pub bases : KeepsBases w o b.table.leaves b.history.entries
   pub few : length b.history.entries ≤ most_events
-  pub room : failed_cell b.history.entries ≡ None → b.history.room ≡ length b.splits.splits
+  pub room : failed_cell b.history.entries ≡ None → length b.splits.splits ≤ b.history.room
   pub on_log : KeepsIn drive w o b.history.entries b.journal

@@ -7,5 +7,5 @@ use Rattle.commit_book.specs.BookView.{BookView}
 
 -- At every moment of a call a crash leaves the cells of the entries that stood at its start, or these and those of the call's own entry,
 -- where no append had failed and it is known what the log held when it was opened.
-abbrev pub LeavesCells : {I D : Type 0} → (D → Drive) → ℕ → Entry → BookView I D → BookView I D → Type 0
+abbrev pub LeavesCells : {D : Type 0} → (D → Drive) → ℕ → Entry → BookView D → BookView D → Type 0
 LeavesCells drive w own old new = failed_cell old.entries ≡ None → LeavesEither drive w old.opening old.entries own old.log new.log

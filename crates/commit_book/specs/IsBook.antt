@@ -1,8 +1,7 @@
 -- What holds of each book.
-use Rattle.std.specs.Prelude.{◌≡◌, ℕ, ◌≤◌, List, [], length, Some}
+use Rattle.std.specs.Prelude.{◌≡◌, ℕ, ◌≤◌, [], length, Some}
 use Rattle.plain_list.specs.State.{State, IsLegal, state_after}
 use Rattle.plain_list.specs.History.{world_after}
-use Rattle.index_layer.specs.Leaves.{Leaf}
 use Rattle.index_layer.specs.Stands.{Stands}
 use Rattle.disk_trait.specs.Drive.{Drive}
 use Rattle.kept_log.specs.Journal.{failed_cell, cells_in, KeepsIn, IsSinceIn}
@@ -21,23 +20,23 @@ pub record IsOpening (s : State) : Type 0 where
 -- The history is legal from the state at which the book began, the index stands for its world, with its leaves, and the base of each leaf
 -- whose split is open has exactly the rows that stood there when it was begun. The log keeps the history, where there is one, and an append that
 -- failed names its number of cells.
-pub record IsBook {I D : Type 0} (leaves : I → List Leaf) (drive : D → Drive) (w : ℕ) (b : BookView I D) : Type 0 where
+pub record IsBook {D : Type 0} (drive : D → Drive) (w : ℕ) (b : BookView D) : Type 0 where
   pub opening : IsOpening b.opening
   pub legal : IsLegal w b.opening b.entries
-  pub stands : Stands (leaves b.index) (world_after b.opening.world b.entries) (state_after w b.opening b.entries).leaves
-  pub bases : KeepsBases w b.opening (leaves b.index) b.entries
+  pub stands : Stands b.leaves (world_after b.opening.world b.entries) (state_after w b.opening b.entries).leaves
+  pub bases : KeepsBases w b.opening b.leaves b.entries
   pub few : length b.entries ≤ most_events
   pub on_log : KeepsIn drive w b.opening b.entries b.log
   pub named : (n : ℕ) → failed_cell b.entries ≡ Some n → n ≡ cells_in b.log
 
 -- no call changes at which state a book began, the size of its buckets, and the opening of its log
-pub record SameOrigin {I D : Type 0} (old new : BookView I D) : Type 0 where
+pub record SameOrigin {D : Type 0} (old new : BookView D) : Type 0 where
   pub opening : new.opening ≡ old.opening
   pub bucket : new.bucket ≡ old.bucket
   pub log : IsSinceIn old.log new.log
 
 -- both books are, before a call and after it
-pub record AreBooks {I D : Type 0} (leaves : I → List Leaf) (drive : D → Drive) (w : ℕ) (old new : BookView I D) : Type 0 where
-  pub before : IsBook leaves drive w old
-  pub after : IsBook leaves drive w new
+pub record AreBooks {D : Type 0} (drive : D → Drive) (w : ℕ) (old new : BookView D) : Type 0 where
+  pub before : IsBook drive w old
+  pub after : IsBook drive w new
   pub origin : SameOrigin old new

@@ -45,20 +45,20 @@ IsRefusedBy IsFree None (Ok value) = ⊤
 IsRefusedBy IsFree None (Err fault) = IsFree fault
 
 -- a call that was lost would be a change there
-abbrev pub WouldChange : {I D : Type 0} → BookView I D → Lost → Type 0
+abbrev pub WouldChange : {D : Type 0} → BookView D → Lost → Type 0
 WouldChange b (lost.Call session row op) = is_change (answer_of (world_after b.opening.world b.entries) op) ≡ true
 WouldChange b _ = ⊤
 
 -- The append of a cell failed: the book has the one entry that carries the lost step, and is closed.
-pub record Closes {I D : Type 0} (drive : D → Drive) (lost : Lost) (old new : BookView I D) (cell : ℕ) : Type 0 where
+pub record Closes {D : Type 0} (drive : D → Drive) (lost : Lost) (old new : BookView D) (cell : ℕ) : Type 0 where
   pub entries : new.entries ≡ old.entries ++ Fail cell lost ∷ []
   pub cell_is : cell ≡ cells_in old.log
-  pub index : new.index ≡ old.index
+  pub leaves : new.leaves ≡ old.leaves
   pub rose : RoseIn drive old.log new.log
   pub change : WouldChange old lost
 
 -- what a refused call leaves: where the drive failed, a closed book, and else the book as it was
-abbrev pub LeavesRefused : {I D : Type 0} → (D → Drive) → Lost → BookView I D → BookView I D → BookFault → Type 0
+abbrev pub LeavesRefused : {D : Type 0} → (D → Drive) → Lost → BookView D → BookView D → BookFault → Type 0
 LeavesRefused drive lost old new (Disk cell) = Closes drive lost old new cell
 LeavesRefused drive lost old new _ = new ≡ old
 
@@ -87,7 +87,7 @@ abbrev pub end_refusal : ℕ → List Entry → Option BookFault
 end_refusal cells entries = first_of (call_refusal entries) (if cells == most_cells then Some LogFull else None)
 
 -- a change or a find; a find, or a call that changes nothing, has no cell
-abbrev pub update_refusal : {I D : Type 0} → BookView I D → Op → Option BookFault
+abbrev pub update_refusal : {D : Type 0} → BookView D → Op → Option BookFault
 update_refusal b op =
     first_of (call_refusal b.entries)
     (if (cells_in b.log == most_cells) && is_change (answer_of (world_after b.opening.world b.entries) op) then Some LogFull else None)
@@ -120,7 +120,7 @@ abbrev pub room_refusal : ℕ → ℕ → Option BookFault
 room_refusal cells events = if has_no_room cells events then Some (Room cells events) else None
 
 -- the begin of a split
-abbrev pub begin_refusal : {I D : Type 0} → ℕ → BookView I D → List Bool → Option BookFault
+abbrev pub begin_refusal : {D : Type 0} → ℕ → BookView D → List Bool → Option BookFault
 begin_refusal w b name =
     first_of (closed_refusal b.entries) (first_of (room_refusal (cells_in b.log) (length b.entries)) (leaf_refusal w (state_after w b.opening b.entries) name))
 
@@ -137,12 +137,12 @@ abbrev pub has_base : List Leaf → List Bool → List Row → Bool
 has_base leaves name base = option_map_or (λ (l : Leaf). same_rows l.bucket.base base) (leaf_named name leaves) false
 
 -- the install of a split with this number and name, for which this base was cut
-abbrev pub install_refusal : {I D : Type 0} → ℕ → (I → List Leaf) → BookView I D → ℕ → List Bool → List Row → Option BookFault
-install_refusal w leaves b number name base =
+abbrev pub install_refusal : {D : Type 0} → ℕ → BookView D → ℕ → List Bool → List Row → Option BookFault
+install_refusal w b number name base =
     first_of (end_refusal (cells_in b.log) b.entries)
-    (if is_open (state_after w b.opening b.entries).splits number name && has_base (leaves b.index) name base then None else Some (Stale number))
+    (if is_open (state_after w b.opening b.entries).splits number name && has_base b.leaves name base then None else Some (Stale number))
 
 -- the abandonment of a split
-abbrev pub abandon_refusal : {I D : Type 0} → ℕ → BookView I D → ℕ → Option BookFault
+abbrev pub abandon_refusal : {D : Type 0} → ℕ → BookView D → ℕ → Option BookFault
 abandon_refusal w b number =
     first_of (end_refusal (cells_in b.log) b.entries) (if is_some (split_name (state_after w b.opening b.entries).splits number) then None else Some (NotOpen number))

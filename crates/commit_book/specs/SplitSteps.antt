@@ -1,19 +1,19 @@
 -- What the steps of a split make of a book.
 use Rattle.std.specs.Prelude.{◌≡◌, ℕ, ◌+◌, ◌≤◌, Bool, List, [], ◌∷◌, ◌++◌, length}
 use Rattle.std.specs.Arc.{arc_value}
-use Rattle.index_layer.specs.Leaves.{Leaf, AreUnder}
+use Rattle.index_layer.specs.Leaves.{AreUnder}
 use Rattle.plain_list.specs.declared.entries.Entry.TheVariants.{Begin, Install, Abandon}
 use Rattle.plain_list.specs.State.{state_after}
 use Rattle.split_prepare.specs.declared.ticket.SplitTicket.{SplitTicket}
 use Rattle.commit_book.specs.BookView.{BookView}
-use Rattle.commit_book.specs.Divisions.{Folds, Divides}
+use Rattle.point_table.specs.Divisions.{Folds, Divides}
 
 -- the split has the next number, and the leaf's rows are its base, in the bucket that is handed out
-pub record Begins {I D : Type 0} (leaves : I → List Leaf) (w : ℕ) (old new : BookView I D) (name : List Bool) (ticket : SplitTicket) : Type 0 where
+pub record Begins {D : Type 0} (w : ℕ) (old new : BookView D) (name : List Bool) (ticket : SplitTicket) : Type 0 where
   pub entries : new.entries ≡ old.entries ++ Begin ticket.number name ∷ []
   pub number_is : ticket.number ≡ (state_after w old.opening old.entries).begun + 1
   pub name_is : ticket.name ≡ name
-  pub folds : Folds name (leaves old.index) (leaves new.index) (arc_value ticket.bucket)
+  pub folds : Folds name old.leaves new.leaves (arc_value ticket.bucket)
 
 -- the ticket of a split may be prepared
 pub record CanPrepare (w : ℕ) (ticket : SplitTicket) : Type 0 where
@@ -21,11 +21,11 @@ pub record CanPrepare (w : ℕ) (ticket : SplitTicket) : Type 0 where
   pub under : AreUnder ticket.name (arc_value ticket.bucket).base
 
 -- the leaf's children stand in its place, each with the leaf's rows that are under its own name
-pub record Installs {I D : Type 0} (leaves : I → List Leaf) (w : ℕ) (old new : BookView I D) (number : ℕ) (name : List Bool) : Type 0 where
+pub record Installs {D : Type 0} (w : ℕ) (old new : BookView D) (number : ℕ) (name : List Bool) : Type 0 where
   pub entries : new.entries ≡ old.entries ++ Install number ∷ []
-  pub divides : Divides w name (leaves old.index) (leaves new.index)
+  pub divides : Divides w name old.leaves new.leaves
 
--- the split is ended, and the index is as it was
-pub record Abandons {I D : Type 0} (old new : BookView I D) (number : ℕ) : Type 0 where
+-- the split is ended, and the leaves are as they were
+pub record Abandons {D : Type 0} (old new : BookView D) (number : ℕ) : Type 0 where
   pub entries : new.entries ≡ old.entries ++ Abandon number ∷ []
-  pub index : new.index ≡ old.index
+  pub leaves : new.leaves ≡ old.leaves

@@ -1,7 +1,8 @@
 //! The book: an index, a map by id, the history of a run and its log, kept in step.
-ghost use Rattle.std.specs.Prelude.{◌≡◌, ◌^◌, [], Some, None, length, IfOk, IfErr};
+ghost use Rattle.std.specs.Prelude.{◌≡◌, ◌^◌, ◌<◌, ◌-◌, ◌++◌, ◌∷◌, true, false, [], Some, None, length, IfOk, IfErr};
 ghost use Rattle.plain_list.specs.Size.{full_leaf};
 ghost use Rattle.plain_list.specs.State.{empty_state, state_after};
+ghost use Rattle.plain_list.specs.Answer.{is_change};
 ghost use Rattle.plain_list.specs.History.{world_after};
 ghost use Rattle.index_layer.specs.Stands.{Stands};
 ghost use Rattle.recovery.specs.Found.{IsFound};
@@ -16,16 +17,16 @@ ghost use Rattle.commit_book.specs.Answers.{IsUpdate, IsQuery, Notes, Replies};
 
 mod splits;
 
-use crate::appends::append_call;
 use crate::faults::BookFault;
 use crate::history::History;
 use crate::open_splits::OpenSplits;
 use crate::opening::Opening;
-use crate::table::Table;
+use crate::steps::{Step, fault_of};
 use disk_trait::LogDisk;
 use index_layer::Index;
 use kept_log::Journal;
 use plain_list::{Answer, Entries, Entry, Lost, Op};
+use point_table::PointTable;
 use recovery::Opened;
 use std::alloc::Global;
 use std::marker::Model;
@@ -68,7 +69,7 @@ pub struct BookParts<I: Index, D: LogDisk> {
 /// The sequential core of the store. A change or a step of a split is done once its cell is in the log, where there is one.
 #[derive(Drop)]
 pub struct Book<I: Index, D: LogDisk> {
-    table: Table<I>,
+    table: PointTable<I>,
     splits: OpenSplits,
     history: History,
     journal: Journal<D>,
@@ -79,13 +80,13 @@ pub struct Book<I: Index, D: LogDisk> {
 impl<I: Index, D: LogDisk> Model for Book<I, D> {
     ghost use Rattle.commit_book.specs.BookView.{BookView};
 
-    ghost Value = { BookView I D };
+    ghost Value = { BookView D };
 
     ghost use Rattle.commit_book.specs.BookInside.{IsInside, book_of};
 
     ghost view = { λ b. book_of b };
 
-    ghost invariant = { λ b. IsInside I.leaves D.drive I.WIDTH b.opening b };
+    ghost invariant = { λ b. IsInside D.drive I.WIDTH b.opening b };
 }
 
 impl<I: Index, D: LogDisk> Book<I, D> {
@@ -93,7 +94,7 @@ impl<I: Index, D: LogDisk> Book<I, D> {
     pub fn fresh(alloc: Global, bucket: u32) -> Result<Book<I, D>, Memory>
         ensures { IfOk result (λ b. (b.opening ≡ empty_state) × (b.entries ≡ []) × (b.bucket ≡ bucket) × (b.log ≡ None)) }
     {
-        let table = Table::fresh(alloc, bucket)?;
+        let table = PointTable::fresh(alloc, bucket)?;
         Ok(Book {
             opening: Opening::of(&table, 0),
             table,
@@ -115,7 +116,7 @@ impl<I: Index, D: LogDisk> Book<I, D> {
     {
         let begun = opened.seen.begun;
         let leaves = opened.seen.leaves.as_slice();
-        let Ok(table) = Table::built(alloc, &opened.seen.world, leaves, bucket) else {
+        let Ok(table) = PointTable::built(alloc, &opened.seen.world, leaves, bucket) else {
             return Err(opened);
         };
         Ok(Book {
@@ -130,7 +131,7 @@ impl<I: Index, D: LogDisk> Book<I, D> {
     /// How many entries there are.
     pub fn events(&self) -> u64
         ensures events { result ≡ length self.now.entries }
-        ensures book { IsBook I.leaves D.drive I.WIDTH self.now }
+        ensures book { IsBook D.drive I.WIDTH self.now }
     {
         self.keep();
         self.history.len() as u64
@@ -139,7 +140,7 @@ impl<I: Index, D: LogDisk> Book<I, D> {
     /// How many cells the log has: 0 without a log.
     pub fn cells(&self) -> u64
         ensures cells { result ≡ cells_in self.now.log }
-        ensures book { IsBook I.leaves D.drive I.WIDTH self.now }
+        ensures book { IsBook D.drive I.WIDTH self.now }
     {
         self.keep();
         self.journal.cells()
@@ -148,7 +149,7 @@ impl<I: Index, D: LogDisk> Book<I, D> {
     /// The cell whose append failed, where one did: the book takes no more calls.
     pub fn closed(&self) -> Option<u64>
         ensures closed { result ≡ failed_cell self.now.entries }
-        ensures book { IsBook I.leaves D.drive I.WIDTH self.now }
+        ensures book { IsBook D.drive I.WIDTH self.now }
     {
         self.keep();
         self.journal.closed()
@@ -156,7 +157,7 @@ impl<I: Index, D: LogDisk> Book<I, D> {
 
     // Tells what the type keeps.
     fn keep(&self)
-        ensures { IsBook I.leaves D.drive I.WIDTH self.now }
+        ensures { IsBook D.drive I.WIDTH self.now }
     {
         // The table tells that its index stands for its world.
         let _points = self.table.len();
@@ -165,10 +166,10 @@ impl<I: Index, D: LogDisk> Book<I, D> {
     /// The first leaf in key order that has more than `bucket` points, bits left and no open split.
     pub fn full(&self) -> Option<Name>
         ensures full { result ≡ full_leaf I.WIDTH self.now.bucket (state_after I.WIDTH self.now.opening self.now.entries) }
-        ensures book { IsBook I.leaves D.drive I.WIDTH self.now }
+        ensures book { IsBook D.drive I.WIDTH self.now }
     {
         self.keep();
-        self.table.first_free(&self.splits)
+        self.table.first_free(self.splits.as_slice())
     }
 
     /// Answers a change or a find, and notes the call. All memory is taken before the log is written.
@@ -178,31 +179,30 @@ impl<I: Index, D: LogDisk> Book<I, D> {
         ensures refused { IsRefusedBy IsMemoryOrDisk (update_refusal self.old op.now) result }
         ensures err { IfErr result (LeavesRefused D.drive (Lost.Call session row op.now) self.old self.new) }
         ensures any_moment { LeavesCells D.drive I.WIDTH (Entry.Call session row op.now) self.old self.new }
-        ensures book { AreBooks I.leaves D.drive I.WIDTH self.old self.new }
+        ensures book { AreBooks D.drive I.WIDTH self.old self.new }
     {
         self.keep();
         self.check_update(op)?;
-        let Ok(()) = self.history.reserve(1) else {
+        let Ok(()) = self.history.reserve(self.splits.len() + 1) else {
             return Err(BookFault::Memory);
         };
-        let Ok(readied) = self.table.readied(op) else {
-            self.history.release();
-            return Err(BookFault::Memory);
+        let op = *op;
+        let mut step = Step {
+            history: &mut self.history,
+            journal: &mut self.journal,
+            lost: Lost::Call { session, row, op },
         };
-        // All memory is taken: only the drive can fail from here on.
-        if let Err(at) = append_call(&mut self.journal, op, &readied.answer) {
-            self.table.give_up(readied);
-            let op = *op;
-            self.history
-                .push_fail(at.cell, Lost::Call { session, row, op });
-            self.keep();
-            return Err(BookFault::Disk { cell: at.cell });
-        }
-        let answer = self.table.apply(readied);
-        self.history.push_call(session, row, op);
-        let place = self.history.calls();
+        let answer = match self.table.update(&op, &mut step) {
+            Ok(answer) => answer,
+            Err(undone) => {
+                let cell = self.journal.cells();
+                self.keep();
+                return Err(fault_of(undone, cell));
+            }
+        };
+        note_quiet(&mut self.history, &answer, Entry::Call { session, row, op });
         Ok(Done {
-            place,
+            place: self.history.calls(),
             answer,
             full: self.full(),
         })
@@ -235,21 +235,21 @@ impl<I: Index, D: LogDisk> Book<I, D> {
         requires { IsQuery op.now }
         ensures ok { IfOk result (λ s. Notes self.old self.new session row op.now s.place) }
         ensures index { IfOk result (λ s. Stands (I.leaves s.index) (world_after self.new.opening.world self.new.entries) (state_after I.WIDTH self.new.opening self.new.entries).leaves) }
-        ensures leaves { IfOk result (λ s. (I.leaves s.index ≡ I.leaves self.old.index) × (I.leaves self.new.index ≡ I.leaves self.old.index)) }
+        ensures leaves { IfOk result (λ s. (I.leaves s.index ≡ self.old.leaves) × (self.new.leaves ≡ self.old.leaves)) }
         ensures refused { IsRefusedBy IsMemory (call_refusal self.old.entries) result }
         ensures err { IfErr result (λ _. self.new ≡ self.old) }
-        ensures book { AreBooks I.leaves D.drive I.WIDTH self.old self.new }
+        ensures book { AreBooks D.drive I.WIDTH self.old self.new }
     {
         self.keep();
         self.check_call()?;
-        let Ok(()) = self.history.reserve(1) else {
+        let Ok(()) = self.history.reserve(self.splits.len() + 1) else {
             return Err(BookFault::Memory);
         };
         let Ok(index) = self.table.share() else {
-            self.history.release();
             return Err(BookFault::Memory);
         };
-        self.history.push_call(session, row, op);
+        let op = *op;
+        self.history.push(Entry::Call { session, row, op });
         let place = self.history.calls();
         self.keep();
         Ok(Snapshot { index, place })
@@ -257,7 +257,9 @@ impl<I: Index, D: LogDisk> Book<I, D> {
 
     /// The parts that the book holds.
     pub fn into_parts(self) -> BookParts<I, D>
-        ensures { result ≡ record { index = self.index; disk = disk_in self.log; entries = self.entries } }
+        ensures leaves { I.leaves result.index ≡ self.leaves }
+        ensures disk { result.disk ≡ disk_in self.log }
+        ensures entries { result.entries ≡ self.entries }
     {
         BookParts {
             index: self.table.into_index(),
@@ -265,4 +267,22 @@ impl<I: Index, D: LogDisk> Book<I, D> {
             entries: Entries::from_vec(self.history.into_entries()),
         }
     }
+}
+
+// Notes a call that changed nothing. One that did was noted with its cell.
+fn note_quiet(history: &mut History, answer: &Answer, call: Entry)
+    requires { is_change answer.now ≡ false → (0 < history.old.room) × (length history.old.entries < 2 ^ 63) }
+    ensures noted { is_change answer.now ≡ true → history.new ≡ history.old }
+    ensures quiet { is_change answer.now ≡ false → history.new ≡ record { entries = history.old.entries ++ call ∷ []; room = history.old.room - 1 } }
+{
+    if !is_change(answer) {
+        history.push(call);
+    }
+}
+
+// Whether an answer is that of a change.
+fn is_change(answer: &Answer) -> bool
+    ensures { result ≡ is_change answer.now }
+{
+    matches!(answer, Answer::Done | Answer::Moved(_) | Answer::Gone(_))
 }

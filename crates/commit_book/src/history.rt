@@ -2,7 +2,7 @@
 ghost use Rattle.std.specs.Prelude.{◌≡◌, ◌+◌, ◌-◌, ◌<◌, ◌≤◌, ◌∷◌, ◌++◌, ◌^◌, [], OnOk, OnErr, length, vec_len, vec_capacity};
 ghost use Rattle.plain_list.specs.History.{call_count};
 
-use plain_list::{Entry, Lost, Op};
+use plain_list::{Entry, Lost};
 use std::alloc::{AllocError, Global};
 use std::marker::Model;
 
@@ -50,63 +50,45 @@ impl History {
         self.calls
     }
 
-    /// Takes the memory of so many entries more.
+    /// Makes room for so many entries.
     pub(crate) fn reserve(&mut self, entries: usize) -> Result<(), AllocError>
-        requires { length self.old.entries + self.old.room + entries < 2 ^ 63 }
-        ensures ok { OnOk result (self.new ≡ record self.old { room = self.old.room + entries }) }
+        requires { length self.old.entries + entries < 2 ^ 63 }
+        ensures ok { OnOk result (self.new ≡ record self.old { room = entries }) }
         ensures err { OnErr result (self.new ≡ self.old) }
     {
-        self.entries.reserve(self.room + entries)?;
-        self.room += entries;
+        self.entries.reserve(entries)?;
+        self.room = entries;
         Ok(())
     }
 
-    /// Gives up what was reserved for one entry.
-    pub(crate) fn release(&mut self)
-        requires { 0 < self.old.room }
-        ensures { self.new ≡ record self.old { room = self.old.room - 1 } }
-    {
-        self.room -= 1;
-    }
-
-    /// Appends an entry that was reserved, of a call.
-    pub(crate) fn push_call(&mut self, session: u8, row: u32, op: &Op)
+    /// Appends an entry, for which there is room.
+    pub(crate) fn push(&mut self, entry: Entry)
         requires room { 0 < self.old.room }
         requires few { length self.old.entries < 2 ^ 63 }
-        ensures { self.new ≡ record { entries = self.old.entries ++ Entry.Call session row op.now ∷ []; room = self.old.room - 1 } }
-    {
-        self.room -= 1;
-        self.calls += 1;
-        let entry = Entry::Call {
-            session,
-            row,
-            op: *op,
-        };
-        push_within(&mut self.entries, entry);
-    }
-
-    /// Appends an entry that was reserved, of another step than a call.
-    pub(crate) fn push_step(&mut self, entry: Entry)
-        requires room { 0 < self.old.room }
-        requires step { call_count (entry ∷ []) ≡ 0 }
         ensures { self.new ≡ record { entries = self.old.entries ++ entry ∷ []; room = self.old.room - 1 } }
     {
         self.room -= 1;
+        self.calls += calls_in(&entry);
         push_within(&mut self.entries, entry);
-    }
-
-    /// Appends an entry that was reserved, of a step whose append to the log failed.
-    pub(crate) fn push_fail(&mut self, cell: u64, lost: Lost)
-        requires { 0 < self.old.room }
-        ensures { self.new ≡ record { entries = self.old.entries ++ Entry.Fail cell lost ∷ []; room = self.old.room - 1 } }
-    {
-        self.push_step(Entry::Fail { cell, lost });
     }
 
     pub(crate) fn into_entries(self) -> Vec<Entry>
         ensures { result.items ≡ self.entries }
     {
         self.entries
+    }
+}
+
+// 1 for a call, and 0 for another step.
+fn calls_in(entry: &Entry) -> u64
+    ensures { result ≡ call_count (entry.now ∷ []) }
+{
+    match entry {
+        Entry::Call { .. } => 1,
+        Entry::Begin { .. } => 0,
+        Entry::Install { .. } => 0,
+        Entry::Abandon { .. } => 0,
+        Entry::Fail { .. } => 0,
     }
 }
 

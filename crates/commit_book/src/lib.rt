@@ -1,28 +1,22 @@
 //! The book: the sequential core of the store, one state machine over any index.
 //!
-//! Contracts see a book as its index, the state at which it began, its history since, its bucket size and its log. Its type keeps that
+//! Contracts see a book as the leaves of its index, the state at which it began, its history since, its bucket size and its log. Its type keeps that
 //! the history is legal, that the index stands for the world of that history, with its leaves, that the base of a leaf whose split is
 //! open has the rows of its begin, and that the log, where there is one, keeps the history (`Book::events`, `book`). `update` and
 //! `snapshot` append one call each; `update` answers what one plain list answers there. `begin`, `install` and `abandon` append the
 //! steps of a split and leave the world. A refusal changes nothing, unless the drive failed: then the history ends with the step that
-//! was lost, and the book is closed.
+//! was lost, and the book is closed. Each step is one `Step`: the change of the table waits for its cell and its entry.
 //!
-//! Not here: how a log is opened (`recovery`), who may call, and when (`book_lock`), and how a bucket is cut (`split_prepare`).
+//! Not here: the objects by id and by key (`point_table`), how a log is opened (`recovery`), who may call, and when (`book_lock`), and how a bucket is cut (`split_prepare`).
 #![tactic(auto)]
 
-mod appends;
 mod book;
-mod changes;
-mod crowded;
-mod divisions;
 mod faults;
 mod history;
-mod members;
 mod open_splits;
 mod opening;
 mod sending;
-mod table;
-mod updates;
+mod steps;
 
 pub use book::{Book, BookParts, Done, Snapshot};
 pub use faults::BookFault;

@@ -1,20 +1,13 @@
 //! The splits that were begun and haven't ended.
-ghost use Rattle.std.specs.Prelude.{◌≡◌, ◌+◌, ◌-◌, ◌<◌, ◌^◌, ◌++◌, ◌∷◌, [], OnOk};
-ghost use Rattle.std.specs.List.{list_any};
-ghost use Rattle.zorder.specs.SameName.{same_name};
-ghost use Rattle.plain_list.specs.State.{is_splitting, split_name, without_number};
+ghost use Rattle.std.specs.Prelude.{◌≡◌, ◌+◌, ◌-◌, ◌<◌, ◌^◌, ◌++◌, ◌∷◌, [], OnOk, length};
+ghost use Rattle.plain_list.specs.State.{split_name, without_number};
 ghost use Rattle.commit_book.specs.Refusals.{split_number, is_open};
-ghost use Rattle.commit_book.specs.Splits.{splits_of};
+ghost use Rattle.point_table.specs.Splits.{splits_of};
 
+use point_table::Begun;
 use std::alloc::{AllocError, Global};
 use std::marker::Model;
 use zorder::Name;
-
-#[derive(Clone, Copy, Debug)]
-pub(crate) struct Begun {
-    pub(crate) number: u64,
-    pub(crate) name: Name,
-}
 
 /// Open splits in the order of their begins, with room for one that is promised.
 #[derive(Drop)]
@@ -48,11 +41,18 @@ impl OpenSplits {
         }
     }
 
-    /// Whether an open split is of this name.
-    pub(crate) fn is_splitting(&self, name: &Name) -> bool
-        ensures { result ≡ is_splitting self.now.splits name.now }
+    /// The open splits.
+    pub(crate) fn as_slice(&self) -> &[Begun]
+        ensures { splits_of result.now ≡ self.now.splits }
     {
-        is_among(&self.splits, name)
+        &self.splits
+    }
+
+    /// How many are open.
+    pub(crate) fn len(&self) -> usize
+        ensures { result ≡ length self.now.splits }
+    {
+        self.splits.len()
     }
 
     /// The number of the open split of this name.
@@ -122,12 +122,6 @@ impl OpenSplits {
         self.room = 0;
         self.splits.retain(|s| s.number != number);
     }
-}
-
-fn is_among(splits: &[Begun], name: &Name) -> bool
-    ensures { result ≡ list_any (λ b. same_name b.name name.now) splits.now }
-{
-    splits.iter().any(|s| s.name == *name)
 }
 
 fn number_among(splits: &[Begun], name: &Name) -> Option<u64>

@@ -2,15 +2,15 @@
 ghost use Rattle.std.specs.Prelude.{◌≡◌, []};
 ghost use Rattle.index_layer.specs.Leaves.{names_of};
 
-use crate::table::Table;
 use index_layer::Index;
+use point_table::PointTable;
 use std::marker::Model;
 use std::snapshot::Snapshot;
 
 /// The state at which a book began, for contracts alone.
 #[derive(Drop)]
 pub(crate) struct Opening<I: Index> {
-    table: Snapshot<Table<I>>,
+    table: Snapshot<PointTable<I>>,
     begun: Snapshot<u64>,
 }
 
@@ -21,13 +21,13 @@ impl<I: Index> Model for Opening<I> {
 
     ghost Value = { State };
 
-    ghost view = { λ o. record { world = o.table.value.world; leaves = names_of (I.leaves o.table.value.index); splits = []; begun = o.begun.value } };
+    ghost view = { λ o. record { world = o.table.value.world; leaves = names_of o.table.value.leaves; splits = []; begun = o.begun.value } };
 }
 
 impl<I: Index> Opening<I> {
     /// The state of a table at which no split is open, where so many were begun before.
-    pub(crate) fn of(table: &Table<I>, begun: u64) -> Opening<I>
-        ensures { result ≡ record { world = table.now.world; leaves = names_of (I.leaves table.now.index); splits = []; begun = begun } }
+    pub(crate) fn of(table: &PointTable<I>, begun: u64) -> Opening<I>
+        ensures { result ≡ record { world = table.now.world; leaves = names_of table.now.leaves; splits = []; begun = begun } }
     {
         Opening {
             table: Snapshot::of(table),

@@ -16,7 +16,7 @@ use Rattle.location_run.specs.Origin.{origin_of}
 use Rattle.location_run.specs.inside.Books.{OpensBook, count_in}
 
 -- a book over what was found
-pub opens-book : {I D : Type 0} (drive : D → Drive) (file : List ℕ) (old : Drive) (size : ℕ) (b : BookView I D) (log : KeptView D) (seen : Seen) (start : D) → Stays old (drive start) → (drive start).faults ≡ old.faults → (drive start).attached file false
+pub opens-book : {D : Type 0} (drive : D → Drive) (file : List ℕ) (old : Drive) (size : ℕ) (b : BookView D) (log : KeptView D) (seen : Seen) (start : D) → Stays old (drive start) → (drive start).faults ≡ old.faults → (drive start).attached file false
     → IsFound width most_played (drive start) seen → ((bytes : List ℕ) (fault : OpenFault) → (drive start).bytes ≡ Some bytes → IsInBytes fault → IsFault width most_played bytes fault → ⊥)
     → log.first ≡ log.cells → log.start ≡ start → log.cells ≡ seen.cells → b.opening ≡ found_state seen → b.bucket ≡ size → b.log ≡ Some log → OpensBook drive file old size b
 opens-book {D = D} drive file old size b log seen start stays calm attached found shows first here count opening bucket log_is = record {

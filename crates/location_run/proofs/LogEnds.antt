@@ -55,7 +55,7 @@ loses-cell : (Step : List Entry → Lost → Type 0) (h : List Entry) (cell : �
 loses-cell Step h cell loses = ap failed_cell loses.entries ∙ failed_cell-last loses.before cell loses.lost (has_failed-none loses.before loses.going)
 
 -- a failed append raised the count
-pub log-stop : {I D : Type 0} (drive : D → Drive) (file : List ℕ) (rows : List InRow) (old : Drive) (size : ℕ) (b : BookView I D) (h : List Entry) (disk : D) (opens : OpensBook drive file old size b) → LeavesLog drive b.opening h b.log (Some disk)
+pub log-stop : {D : Type 0} (drive : D → Drive) (file : List ℕ) (rows : List InRow) (old : Drive) (size : ℕ) (b : BookView D) (h : List Entry) (disk : D) (opens : OpensBook drive file old size b) → LeavesLog drive b.opening h b.log (Some disk)
     → (why : Refusal) → StopsBook (IsNextStep width b.opening rows) h why → IsStop (Some file) opens.from rows old (drive disk) h why
 log-stop drive file rows old size b h disk opens leaves why (inl (memory, none)) = subst (IsStop (Some file) opens.from rows old (drive disk) h) (sym memory) none
 log-stop {D = D} drive file rows old size b h disk opens leaves why (inr (cell, is, loses)) =
@@ -104,7 +104,7 @@ unfailed Step h status before after (inr (inr (why, inl (memory, none), refuses)
 unfailed Step h status before after (inr (inr (why, inr (cell, named, failed), refuses))) going other = absurd (other (refuses.status_is ∙ ap status_of named))
 
 -- what a crash leaves of the log of a book
-pub keeps-book : {I D : Type 0} (drive : D → Drive) (file : List ℕ) (Step : List Entry → Lost → Type 0) (old : Drive) (size : ℕ) (b : BookView I D) (h : List Entry) (disk : D) (status : ℕ) (before after : Output) (opens : OpensBook drive file old size b)
+pub keeps-book : {D : Type 0} (drive : D → Drive) (file : List ℕ) (Step : List Entry → Lost → Type 0) (old : Drive) (size : ℕ) (b : BookView D) (h : List Entry) (disk : D) (status : ℕ) (before after : Output) (opens : OpensBook drive file old size b)
     → LeavesLog drive b.opening h b.log (Some disk) → EndsRows (StopsBook Step h) status before after → (WritesLines status → failed_cell h ≡ None) → KeepsPlayed opens.from old (drive disk) status h
 keeps-book {D = D} drive file Step old size b h disk status before after opens leaves ends going =
     let kept = kept-since drive b.opening h opens.log disk b.log opens.log_is leaves in
@@ -112,14 +112,14 @@ keeps-book {D = D} drive file Step old size b h disk status before after opens l
     (keeps-opened drive old kept.now opens.from b.opening h status (stays-trans old (drive opens.log.start) (drive kept.now.start) opens.stays kept.like.stays) kept.keeps (unfailed Step h status before after ends going) opens.found opens.state)
 
 -- where no append failed no device call did
-calm-book : {I D : Type 0} (drive : D → Drive) (file : List ℕ) (old : Drive) (size : ℕ) (b : BookView I D) (h : List Entry) (disk : D) → OpensBook drive file old size b → LeavesLog drive b.opening h b.log (Some disk)
+calm-book : {D : Type 0} (drive : D → Drive) (file : List ℕ) (old : Drive) (size : ℕ) (b : BookView D) (h : List Entry) (disk : D) → OpensBook drive file old size b → LeavesLog drive b.opening h b.log (Some disk)
     → failed_cell h ≡ None → (drive disk).faults ≡ old.faults
 calm-book {D = D} drive file old size b h disk opens leaves none =
     let kept = kept-since drive b.opening h opens.log disk b.log opens.log_is leaves in
     subst (λ (d : D). (drive d).faults ≡ old.faults) kept.disk_is (kept.keeps.calm none ∙ kept.like.calm ∙ opens.calm)
 
 -- the file stays attached
-attached-book : {I D : Type 0} (drive : D → Drive) (file : List ℕ) (old : Drive) (size : ℕ) (b : BookView I D) (h : List Entry) (disk : D) → OpensBook drive file old size b → LeavesLog drive b.opening h b.log (Some disk)
+attached-book : {D : Type 0} (drive : D → Drive) (file : List ℕ) (old : Drive) (size : ℕ) (b : BookView D) (h : List Entry) (disk : D) → OpensBook drive file old size b → LeavesLog drive b.opening h b.log (Some disk)
     → (drive disk).attached file false
 attached-book {D = D} drive file old size b h disk opens leaves =
     let kept = kept-since drive b.opening h opens.log disk b.log opens.log_is leaves in
@@ -139,7 +139,7 @@ settled-from old from size bucket s first cells h found state sized count settle
     (subst (λ (o : State). IsSettled width size o cells h) state (subst (λ (n : ℕ). IsSettled width n s cells h) sized (subst (λ (c : Option ℕ). IsSettled width bucket s c h) count settled)))
 
 -- rows that were answered over a log
-pub answered-over : {I D : Type 0} (drive : D → Drive) (file : List ℕ) (size : ℕ) (rows : List InRow) (b : BookView I D) (was disk : D) (before after : Output) (status : ℕ) (h : List Entry) → OpensBook drive file (drive was) size b
+pub answered-over : {D : Type 0} (drive : D → Drive) (file : List ℕ) (size : ℕ) (rows : List InRow) (b : BookView D) (was disk : D) (before after : Output) (status : ℕ) (h : List Entry) → OpensBook drive file (drive was) size b
     → AnswersAsOneList width b.opening rows h status before after → EndsRows (StopsBook (IsNextStep width b.opening rows) h) status before after → (WritesLines status → IsSettled width b.bucket b.opening (count_in b.log) h)
     → LeavesLog drive b.opening h b.log (Some disk)
     → IsAnswered {D = D} (Some file) size rows (record { output = before; disk = was; drive = drive was }) (record { output = after; disk = disk; drive = drive disk }) status h
@@ -156,7 +156,7 @@ answered-over drive file size rows b was disk before after status h opens list e
 }
 
 -- rows that were answered over no log
-pub answered-new : {I D : Type 0} (drive : D → Drive) (size : ℕ) (rows : List InRow) (b : BookView I D) (was : D) (left : Option D) (before after : Output) (status : ℕ) (h : List Entry) → b.opening ≡ empty_state → b.bucket ≡ size → b.log ≡ None
+pub answered-new : {D : Type 0} (drive : D → Drive) (size : ℕ) (rows : List InRow) (b : BookView D) (was : D) (left : Option D) (before after : Output) (status : ℕ) (h : List Entry) → b.opening ≡ empty_state → b.bucket ≡ size → b.log ≡ None
     → AnswersAsOneList width b.opening rows h status before after → EndsRows (StopsBook (IsNextStep width b.opening rows) h) status before after → (WritesLines status → IsSettled width b.bucket b.opening (count_in b.log) h)
     → LeavesLog drive b.opening h b.log left
     → IsAnswered {D = D} None size rows (record { output = before; disk = was; drive = drive was }) (record { output = after; disk = was; drive = drive was }) status h

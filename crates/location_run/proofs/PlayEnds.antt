@@ -9,7 +9,6 @@ use Rattle.plain_list.specs.declared.entries.Entry.{Entry}
 use Rattle.plain_list.specs.State.{State, IsLegal}
 use Rattle.kept_log.specs.KeptView.{KeptView}
 use Rattle.kept_log.specs.Journal.{disk_in, KeepsIn}
-use Rattle.index_layer.specs.Leaves.{Leaf}
 use Rattle.commit_book.specs.BookView.{BookView}
 use Rattle.commit_book.specs.IsBook.{IsBook}
 use Rattle.csv_rows.specs.declared.rows.InRow.{InRow}
@@ -50,8 +49,8 @@ pub if-mapped : {A B : Type 0} (f : A → B) (P : B → Type 0) (o : Option A) �
 if-mapped f P None holds = holds
 if-mapped f P (Some a) holds = holds
 
-module _ {I D : Type 0} (leaves : I → List Leaf) (drive : D → Drive) (rows : List InRow) (old new : BookView I D) (ends : Option (List LaneEnd)) (status : ℕ) (before after : Output) (played : IsPlayedBook width rows old new)
-    (answered : IfSome ends (λ e. IsAnsweredBook width rows old new e)) (book : IsBook leaves drive width new) (end : EndsPlay rows new.entries ends status before after) where
+module _ {D : Type 0} (drive : D → Drive) (rows : List InRow) (old new : BookView D) (ends : Option (List LaneEnd)) (status : ℕ) (before after : Output) (played : IsPlayedBook width rows old new)
+    (answered : IfSome ends (λ e. IsAnsweredBook width rows old new e)) (book : IsBook drive width new) (end : EndsPlay rows new.entries ends status before after) where
   abbrev h : List Entry
   h = new.entries
 

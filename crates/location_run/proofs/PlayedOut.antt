@@ -8,7 +8,6 @@ use Rattle.csv_rows.specs.declared.rows.InRow.{InRow}
 use Rattle.csv_rows.specs.InRows.{AreInRows}
 use Rattle.disk_trait.specs.Drive.{Drive}
 use Rattle.log_state.specs.Changes.{cells_of}
-use Rattle.index_layer.specs.Leaves.{Leaf}
 use Rattle.kept_log.specs.KeptView.{KeptView}
 use Rattle.kept_log.specs.Journal.{cells_in, KeepsIn}
 use Rattle.book_lock.specs.Pass.{Known}
@@ -70,8 +69,8 @@ module _ {I D O : Type 0} (w : ℕ) (origin : Origin) (rows : List InRow) (ends 
       }
 
 -- a book of an origin begins as that says
-opening-is : {I D : Type 0} (leaves : I → List Leaf) (drive : D → Drive) (w : ℕ) (b : BookView I D) → IsBook leaves drive w b → start_of (origin_of drive b) ≡ b.opening
-opening-is leaves drive w b book = same
+opening-is : {D : Type 0} (drive : D → Drive) (w : ℕ) (b : BookView D) → IsBook drive w b → start_of (origin_of drive b) ≡ b.opening
+opening-is drive w b book = same
   where
     same : start_of (origin_of drive b) ≡ b.opening
     same i = record { world = b.opening.world; leaves = b.opening.leaves; splits = (sym book.opening.rests) i; begun = b.opening.begun }
@@ -82,31 +81,31 @@ first-is drive w s h (Some log) none keeps =
     let count : log.cells ≡ log.first = omega (arith, keeps.keeps.count, ap (λ (l : List Entry). length (cells_of s.world l)) none) in
     (count, sym count)
 
-module _ {I D : Type 0} (leaves : I → List Leaf) (drive : D → Drive) (w : ℕ) (rows : List InRow) (old new : BookView I D) (before : IsBook leaves drive w old) (after : IsBook leaves drive w new) (begins : IsNewBook old) where
+module _ {D : Type 0} (drive : D → Drive) (w : ℕ) (rows : List InRow) (old new : BookView D) (before : IsBook drive w old) (after : IsBook drive w new) (begins : IsNewBook old) where
   -- the log has few cells at first
   pub few-first : (origin_of drive old).cells ≤ 16000000
   few-first = omega (arith, (first-is drive w old.opening old.entries old.log begins.entries before.on_log).1, begins.few)
 
   pub played-book : origin_of drive new ≡ origin_of drive old → ArePlayed w (origin_of drive old) rows new.entries → IsPlayedBook w rows old new
   played-book same are = record {
-    opening = sym (opening-is leaves drive w new after) ∙ ap start_of same ∙ opening-is leaves drive w old before;
+    opening = sym (opening-is drive w new after) ∙ ap start_of same ∙ opening-is drive w old before;
     first = ap (λ (o : Origin). o.cells) same;
     played = are.played;
-    loses = λ cell failed. subst (λ (s : State). LosesStep (IsNextStep w s rows) new.entries cell) (opening-is leaves drive w old before) (are.loses cell failed);
+    loses = λ cell failed. subst (λ (s : State). LosesStep (IsNextStep w s rows) new.entries cell) (opening-is drive w old before) (are.loses cell failed);
   }
 
   pub answered-book : (ends : List LaneEnd) → AreAnswered w (origin_of drive old) rows new.entries ends → IsAnsweredBook w rows old new ends
   answered-book ends are = record {
     whole = are.whole;
     answers = are.answers;
-    settled = λ going. subst (λ (s : State). IsSettled w old.bucket s (count_in old.log) new.entries) (opening-is leaves drive w old before)
+    settled = λ going. subst (λ (s : State). IsSettled w old.bucket s (count_in old.log) new.entries) (opening-is drive w old before)
         (are.settled (count_in old.log) (first-is drive w old.opening old.entries old.log begins.entries before.on_log).0 going);
   }
 
   -- the same book, where no row was played
   pub played-not : new ≡ old → IsPlayedBook w rows old new
   played-not same =
-      let none : new.entries ≡ [] = ap (λ (b : BookView I D). b.entries) same ∙ begins.entries in
+      let none : new.entries ≡ [] = ap (λ (b : BookView D). b.entries) same ∙ begins.entries in
       played-book (ap (origin_of drive) same) (played-none w (origin_of drive old) rows new.entries none)
 
   -- the same of the pass of a store of the book
@@ -122,7 +121,7 @@ module _ {I D : Type 0} (leaves : I → List Leaf) (drive : D → Drive) (w : �
   answered-from f (Some e) origin is are = answered-book (f e) (subst (λ (o : Origin). AreAnswered w o rows new.entries (f e)) is are)
 
 -- a book that a store of this origin gave back
-module _ {I D : Type 0} (O : Type 0) (leaves : I → List Leaf) (drive : D → Drive) (w : ℕ) (rows : List InRow) (b : BookView I D) (old last : Known) (ends : List LaneEnd) (are : AreInRows rows) (book : IsBook leaves drive w b)
+module _ {D : Type 0} (I O : Type 0) (drive : D → Drive) (w : ℕ) (rows : List InRow) (b : BookView D) (old last : Known) (ends : List LaneEnd) (are : AreInRows rows) (book : IsBook drive w b)
     (value : (b.entries ≡ last.seen) × (origin_of drive b ≡ last.origin)) (own : OwnsAll last) (parts : HasAllParts old last) where
   pub origin-same : origin_of drive b ≡ old.origin
   origin-same = value.1 ∙ parts.origin
@@ -130,7 +129,7 @@ module _ {I D : Type 0} (O : Type 0) (leaves : I → List Leaf) (drive : D → D
   legal-seen : IsLegal w (start_of old.origin) last.seen
   legal-seen =
       subst (λ (h : List Entry). IsLegal w (start_of old.origin) h) value.0
-      (subst (λ (s : State). IsLegal w s b.entries) (sym (opening-is leaves drive w b book) ∙ ap start_of origin-same) book.legal)
+      (subst (λ (s : State). IsLegal w s b.entries) (sym (opening-is drive w b book) ∙ ap start_of origin-same) book.legal)
 
   pub store-played : (done : Bool) → HasRun I D O w old.origin rows ends last done ⊎ HasNotRun last done → ArePlayed w old.origin rows b.entries
   store-played done ran = subst (λ (h : List Entry). ArePlayed w old.origin rows h) (sym value.0) (are-played w old.origin rows ends last are own done ran legal-seen)

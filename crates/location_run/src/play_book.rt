@@ -79,7 +79,7 @@ fn write_end<K: Sink, D: LogDisk>(
 // Ends with what a book held.
 fn close<I: Index, D: LogDisk>(status: u8, book: Book<I, D>) -> BookEnd<D>
     ensures parts { result ≡ record { status = status; events = book.entries; disk = disk_in book.log } }
-    ensures book { IsBook I.leaves D.drive I.WIDTH book }
+    ensures book { IsBook D.drive I.WIDTH book }
 {
     // The book tells what it keeps.
     let _events = book.events();

@@ -42,7 +42,7 @@ pub(crate) fn play_sessions<
     requires starts { StartsAs D.drive O.unlogged O.is book.log }
     ensures played { IsPlayedBook I.WIDTH rows.now book result.book }
     ensures answered { IfSome result.ends (λ ends. IsAnsweredBook I.WIDTH rows.now book result.book ends.items) }
-    ensures book { IsBook I.leaves D.drive I.WIDTH result.book }
+    ensures book { IsBook D.drive I.WIDTH result.book }
     ensures starts { StartsAs D.drive O.unlogged O.is result.book.log }
 {
     // The book tells what it keeps.
@@ -77,7 +77,7 @@ fn play_store<
     ensures origin { origin_of D.drive result.book ≡ pass.origin }
     ensures played { ArePlayed I.WIDTH pass.origin rows.now result.book.entries }
     ensures answered { IfSome result.ends (λ ends. AreAnswered I.WIDTH pass.origin rows.now result.book.entries ends.items) }
-    ensures book { IsBook I.leaves D.drive I.WIDTH result.book }
+    ensures book { IsBook D.drive I.WIDTH result.book }
     ensures starts { StartsAs D.drive O.unlogged O.is result.book.log }
 {
     let mut pass = pass;

@@ -85,7 +85,7 @@ query-cause origin op cells before is =
     and-false (cells == most_cells) (is_change (answer_of (world_after origin.world before) op)) (query-quiet (world_after origin.world before) op is) in
     (λ i. first_of (call_refusal before) (cond (quiet i) (Some book.LogFull) None)) ∙ first-none (call_refusal before)
 
-module _ {I D : Type 0} (leaves : I → List Leaf) (drive : D → Drive) (w : ℕ) (b mid : BookView I D) (old took back : Known) (session row : ℕ) (op : Op) (was : WasTaken drive b old took) (books : AreBooks leaves drive w b mid) where
+module _ {D : Type 0} (drive : D → Drive) (w : ℕ) (b mid : BookView D) (old took back : Known) (session row : ℕ) (op : Op) (was : WasTaken drive b old took) (books : AreBooks drive w b mid) where
   update-added : (r : Result Done BookFault) → IfOk r (λ d. BookReplies w b mid session row op d.place d.answer d.full) → Says (λ (d : Done). mid.entries ≡ b.entries ++ Call session row op ∷ []) r
   update-added (Ok d) ok = ok.notes.entries
   update-added (Err fault) ok = tt
@@ -136,7 +136,7 @@ module _ {I D : Type 0} (leaves : I → List Leaf) (drive : D → Drive) (w : �
   pub updated : (r : Result Done BookFault) → IsUpdate op → IfOk r (λ d. BookReplies w b mid session row op d.place d.answer d.full) → IsRefusedBy IsMemoryOrDisk (update_refusal b op) r → IfErr r (LeavesRefused drive (lost.Call session row op) b mid)
       → back ≡ has_given took (has_entry r) mid.entries → Updates w session row op old back r
   updated r update ok refused err given = record {
-    step = stepped leaves drive w IsMemoryOrDisk (call_cause old.origin op) (λ (d : Done). Call session row op) (λ (h : List Entry). lost.Call session row op) (HasDone w old back op) b mid old took back r books.before was
+    step = stepped drive w IsMemoryOrDisk (call_cause old.origin op) (λ (d : Done). Call session row op) (λ (h : List Entry). lost.Call session row op) (HasDone w old back op) b mid old took back r books.before was
         (update-step r ok refused err) (update-says r update ok given) given;
     loses = update-loses r err;
   }
@@ -186,7 +186,7 @@ IsCalm book.NoLeaf = ⊤
 IsCalm (book.Stale number) = ⊤
 IsCalm (book.NotOpen number) = ⊤
 
-calm-left : {I D : Type 0} (drive : D → Drive) (step : Lost) (b mid : BookView I D) (fault : BookFault) → IsCalm fault → mid ≡ b → LeavesRefused drive step b mid fault
+calm-left : {D : Type 0} (drive : D → Drive) (step : Lost) (b mid : BookView D) (fault : BookFault) → IsCalm fault → mid ≡ b → LeavesRefused drive step b mid fault
 calm-left drive step b mid (book.Disk cell) calm is = absurd calm
 calm-left drive step b mid (book.Closed cell) calm is = is
 calm-left drive step b mid book.HistoryFull calm is = is
@@ -216,7 +216,7 @@ calm-loses A world op (book.NotOpen number) calm = tt
 look-calm : (A : Type 0) (h : List Entry) (fault : BookFault) → IsRefusedBy {A = A} IsMemory (call_refusal h) (Err fault) → IsCalm fault
 look-calm A h fault refused = refused-cause A IsMemory IsCalm (call_refusal h) fault (call-causes IsCalm h (λ n. tt) tt) (λ memory. subst IsCalm (sym memory) tt) refused
 
-module _ {I D : Type 0} (leaves : I → List Leaf) (drive : D → Drive) (w : ℕ) (b mid : BookView I D) (old took back : Known) (session row : ℕ) (op : Op) (was : WasTaken drive b old took) (books : AreBooks leaves drive w b mid) where
+module _ {I D : Type 0} (leaves : I → List Leaf) (drive : D → Drive) (w : ℕ) (b mid : BookView D) (old took back : Known) (session row : ℕ) (op : Op) (was : WasTaken drive b old took) (books : AreBooks drive w b mid) where
   look-added : (r : Result (Snapshot I) BookFault) → IfOk r (λ s. Notes b mid session row op s.place) → Says (λ (s : Snapshot I). mid.entries ≡ b.entries ++ Call session row op ∷ []) r
   look-added (Ok s) ok = ok.entries
   look-added (Err fault) ok = tt
@@ -244,7 +244,7 @@ module _ {I D : Type 0} (leaves : I → List Leaf) (drive : D → Drive) (w : �
   pub looked : (names : List (List Bool)) (r : Result (Snapshot I) BookFault) → IfOk r (λ s. Notes b mid session row op s.place) → IfOk r (λ s. Stands (leaves s.index) (world_after b.opening.world b.entries) names) → HasWorld b
       → IsRefusedBy IsMemory (call_refusal b.entries) r → IfErr r (λ (f : BookFault). mid ≡ b) → back ≡ has_given took (has_entry r) mid.entries → Looks leaves session row op old back r
   looked names r ok stands has refused err given =
-      stepped leaves drive w IsMemory (λ (cells : ℕ). call_refusal) (λ (s : Snapshot I). Call session row op) (λ (h : List Entry). lost.Call session row op) (λ (h : List Entry) (s : Snapshot I). Shows (leaves s.index) old back h s.place) b mid old took back r
+      stepped drive w IsMemory (λ (cells : ℕ). call_refusal) (λ (s : Snapshot I). Call session row op) (λ (h : List Entry). lost.Call session row op) (λ (h : List Entry) (s : Snapshot I). Shows (leaves s.index) old back h s.place) b mid old took back r
       books.before was (look-step r ok refused err) (look-says names r ok stands has given) given
 
 -- a call that isn't refused is answered

@@ -38,9 +38,9 @@ use Rattle.sessions.proofs.StepLemmas.{WasTaken, BookStep, stepped, step-same, s
 use Rattle.sessions.proofs.LiveSplits.{begun-rows}
 
 -- the begin that was just noted
-pub begun-now : {I D : Type 0} (leaves : I → List Leaf) (drive : D → Drive) (w : ℕ) (b mid : BookView I D) (old took back : Known) (name : List Bool) (ticket : SplitTicket) → Begins leaves w b mid name ticket → AreBooks leaves drive w b mid
+pub begun-now : {D : Type 0} (drive : D → Drive) (w : ℕ) (b mid : BookView D) (old took back : Known) (name : List Bool) (ticket : SplitTicket) → Begins w b mid name ticket → AreBooks drive w b mid
     → WasTaken drive b old took → IsBelow (length took.seen) took.own → back ≡ has_given took true mid.entries → HasBegun back ticket.number name (arc_value ticket.bucket).base
-begun-now leaves drive w b mid old took back name ticket begins books was below back_is =
+begun-now drive w b mid old took back name ticket begins books was below back_is =
     let base = (arc_value ticket.bucket).base in
     let origin_is : b.opening.world ≡ back.origin.world = ap (λ (o : Origin). o.world) was.origin ∙ ap (λ (k : Known). k.origin.world) (sym was.took_is) ∙ ap (λ (k : Known). k.origin.world) (sym back_is) in
     let seen : took.seen ++ Begin ticket.number name ∷ [] ≡ back.seen =
@@ -51,7 +51,7 @@ begun-now leaves drive w b mid old took back name ticket begins books was below 
       seen = ([], append-nil (took.seen ++ Begin ticket.number name ∷ []) ∙ seen);
       own_is = ap (λ (k : Known). k.own) back_is;
       below = below;
-      rows = subst (λ (world : _). HasBaseOf world (record { name = name; bucket = as_base base })) (λ i. world_after (origin_is i) (was.entries i)) (begun-rows leaves drive w b mid name ticket begins books);
+      rows = subst (λ (world : _). HasBaseOf world (record { name = name; bucket = as_base base })) (λ i. world_after (origin_is i) (was.entries i)) (begun-rows drive w b mid name ticket begins books);
     }
 
 -- later it is still so
@@ -93,20 +93,20 @@ number-refused IsFree (Some cause) (Ok t) refused = absurd (cc refused)
 number-refused IsFree (Some cause) (Err fault) refused = let same : fault ≡ cause = cc refused in ap (λ (f : BookFault). Err f) same
 
 -- the state that the pass knows is the book's
-pass-state : {I D : Type 0} (drive : D → Drive) (w : ℕ) (b : BookView I D) (old : Known) → origin_of drive b ≡ old.origin → IsOpening b.opening → (h : List Entry) → state_after w b.opening h ≡ state_of w old.origin h
+pass-state : {D : Type 0} (drive : D → Drive) (w : ℕ) (b : BookView D) (old : Known) → origin_of drive b ≡ old.origin → IsOpening b.opening → (h : List Entry) → state_after w b.opening h ≡ state_of w old.origin h
 pass-state drive w b old origin opening h =
     let start : start_of (origin_of drive b) ≡ b.opening = start-of-origin drive b opening in
     (λ i. state_after w (sym start i) h) ∙ (λ i. state_after w (start_of (origin i)) h)
 
-module _ {I D : Type 0} (leaves : I → List Leaf) (drive : D → Drive) (w : ℕ) (b mid : BookView I D) (old took back : Known) (name : List Bool) (was : WasTaken drive b old took) (books : AreBooks leaves drive w b mid) where
+module _ {D : Type 0} (drive : D → Drive) (w : ℕ) (b mid : BookView D) (old took back : Known) (name : List Bool) (was : WasTaken drive b old took) (books : AreBooks drive w b mid) where
   book-state : (h : List Entry) → state_after w b.opening h ≡ state_of w old.origin h
   book-state = pass-state drive w b old was.origin books.before.opening
 
-  begin-added : (r : Result SplitTicket BookFault) → IfOk r (λ t. Begins leaves w b mid name t) → Says (λ (number : ℕ). mid.entries ≡ b.entries ++ Begin number name ∷ []) (number_of r)
+  begin-added : (r : Result SplitTicket BookFault) → IfOk r (λ t. Begins w b mid name t) → Says (λ (number : ℕ). mid.entries ≡ b.entries ++ Begin number name ∷ []) (number_of r)
   begin-added (Ok t) ok = ok.entries
   begin-added (Err fault) ok = tt
 
-  begin-says : (r : Result SplitTicket BookFault) → IfOk r (λ t. Begins leaves w b mid name t) → Says (IsNextSplit w old.origin b.entries) (number_of r)
+  begin-says : (r : Result SplitTicket BookFault) → IfOk r (λ t. Begins w b mid name t) → Says (IsNextSplit w old.origin b.entries) (number_of r)
   begin-says (Ok t) ok = ok.number_is ∙ ap (λ (s : State). s.begun + 1) (book-state b.entries)
   begin-says (Err fault) ok = tt
 
@@ -120,28 +120,28 @@ module _ {I D : Type 0} (leaves : I → List Leaf) (drive : D → Drive) (w : �
       subst (λ (s : State). IsRefusedBy IsMemoryOrDisk (first_of (closed_refusal b.entries) (first_of (room_refusal (cells_in b.log) (length b.entries)) (leaf_refusal w s name))) (number_of r)) (book-state b.entries)
       (number-refused IsMemoryOrDisk (begin_refusal w b name) r refused)
 
-  pub begun-step : (r : Result SplitTicket BookFault) → IfOk r (λ t. Begins leaves w b mid name t) → IsRefusedBy IsMemoryOrDisk (begin_refusal w b name) r → IfErr r (LeavesRefused drive (lost.Begin ((state_after w b.opening b.entries).begun + 1) name) b mid)
+  pub begun-step : (r : Result SplitTicket BookFault) → IfOk r (λ t. Begins w b mid name t) → IsRefusedBy IsMemoryOrDisk (begin_refusal w b name) r → IfErr r (LeavesRefused drive (lost.Begin ((state_after w b.opening b.entries).begun + 1) name) b mid)
       → BookStep drive IsMemoryOrDisk (begin_cause w old.origin name (cells_in b.log) b.entries) (λ (number : ℕ). Begin number name) (lost.Begin ((state_of w old.origin b.entries).begun + 1) name) b mid (number_of r)
   begun-step r ok refused err = record { refused = begin-refused r refused; added = begin-added r ok; left = begin-left r err }
 
-  pub begun : (r : Result SplitTicket BookFault) → IfOk r (λ t. Begins leaves w b mid name t) → IsRefusedBy IsMemoryOrDisk (begin_refusal w b name) r → IfErr r (LeavesRefused drive (lost.Begin ((state_after w b.opening b.entries).begun + 1) name) b mid)
+  pub begun : (r : Result SplitTicket BookFault) → IfOk r (λ t. Begins w b mid name t) → IsRefusedBy IsMemoryOrDisk (begin_refusal w b name) r → IfErr r (LeavesRefused drive (lost.Begin ((state_after w b.opening b.entries).begun + 1) name) b mid)
       → back ≡ has_given took (has_entry r) mid.entries → BeginsSplit w name old back (number_of r)
   begun r ok refused err given =
-      stepped leaves drive w IsMemoryOrDisk (begin_cause w old.origin name) (λ (number : ℕ). Begin number name) (λ (h : List Entry). lost.Begin ((state_of w old.origin h).begun + 1) name) (IsNextSplit w old.origin) b mid old took back (number_of r)
+      stepped drive w IsMemoryOrDisk (begin_cause w old.origin name) (λ (number : ℕ). Begin number name) (λ (h : List Entry). lost.Begin ((state_of w old.origin h).begun + 1) name) (IsNextSplit w old.origin) b mid old took back (number_of r)
       books.before was (begun-step r ok refused err) (begin-says r ok) (given ∙ ap (λ (g : Bool). has_given took g mid.entries) (sym (number-entry r)))
 
   -- and it has begun the split
-  pub begun-notes : (r : Result SplitTicket BookFault) → IfOk r (λ t. Begins leaves w b mid name t) → IsBelow (length took.seen) took.own → back ≡ has_given took (has_entry r) mid.entries
+  pub begun-notes : (r : Result SplitTicket BookFault) → IfOk r (λ t. Begins w b mid name t) → IsBelow (length took.seen) took.own → back ≡ has_given took (has_entry r) mid.entries
       → IfOk r (λ t. HasBegun back t.number name (arc_value t.bucket).base)
-  begun-notes (Ok t) ok below given = begun-now leaves drive w b mid old took back name t ok books was below given
+  begun-notes (Ok t) ok below given = begun-now drive w b mid old took back name t ok books was below given
   begun-notes (Err fault) ok below given = tt
 
-pub begun-name : {I D : Type 0} (leaves : I → List Leaf) (w : ℕ) (b mid : BookView I D) (name : List Bool) (r : Result SplitTicket BookFault) → IfOk r (λ t. Begins leaves w b mid name t) → IfOk r (λ t. t.name ≡ name)
-begun-name leaves w b mid name (Ok t) ok = ok.name_is
-begun-name leaves w b mid name (Err fault) ok = tt
+pub begun-name : {D : Type 0} (w : ℕ) (b mid : BookView D) (name : List Bool) (r : Result SplitTicket BookFault) → IfOk r (λ t. Begins w b mid name t) → IfOk r (λ t. t.name ≡ name)
+begun-name w b mid name (Ok t) ok = ok.name_is
+begun-name w b mid name (Err fault) ok = tt
 
 -- the end of a split
-module _ {I D : Type 0} (leaves : I → List Leaf) (drive : D → Drive) (w : ℕ) (b mid : BookView I D) (old took back : Known) (was : WasTaken drive b old took) (books : AreBooks leaves drive w b mid) where
+module _ {D : Type 0} (drive : D → Drive) (w : ℕ) (b mid : BookView D) (old took back : Known) (was : WasTaken drive b old took) (books : AreBooks drive w b mid) where
   none-said : (r : Result (Unit {0}) BookFault) → Says (λ (done : Unit {0}). ⊤) r
   none-said (Ok done) = tt
   none-said (Err fault) = tt
@@ -160,15 +160,15 @@ module _ {I D : Type 0} (leaves : I → List Leaf) (drive : D → Drive) (w : �
   pub ended : (IsFree : BookFault → Type 0) (number : ℕ) (name : List Bool) (e : Entry) (step : Lost) (r : Result (Unit {0}) BookFault) → split_name (state_after w b.opening b.entries).splits number ≡ Some name
       → BookStep drive IsFree (end_refusal (cells_in b.log) b.entries) (λ (done : Unit {0}). e) step b mid r → back ≡ has_given took (has_entry r) mid.entries → EndsOpen w number IsFree e step old back r
   ended IsFree number name e step r there it given = record {
-    step = stepped leaves drive w IsFree end_refusal (λ (done : Unit {0}). e) (λ (h : List Entry). step) (λ (h : List Entry) (done : Unit {0}). ⊤) b mid old took back r books.before was it (none-said r) given;
+    step = stepped drive w IsFree end_refusal (λ (done : Unit {0}). e) (λ (h : List Entry). step) (λ (h : List Entry) (done : Unit {0}). ⊤) b mid old took back r books.before was it (none-said r) given;
     is_open = open-there number name there;
   }
 
-pub installed-added : {I D : Type 0} (leaves : I → List Leaf) (w : ℕ) (b mid : BookView I D) (number : ℕ) (name : List Bool) (r : Result (Unit {0}) BookFault) → OnOk r (Installs leaves w b mid number name) → OnOk r (mid.entries ≡ b.entries ++ Install number ∷ [])
-installed-added leaves w b mid number name (Ok done) ok = ok.entries
-installed-added leaves w b mid number name (Err fault) ok = tt
+pub installed-added : {D : Type 0} (w : ℕ) (b mid : BookView D) (number : ℕ) (name : List Bool) (r : Result (Unit {0}) BookFault) → OnOk r (Installs w b mid number name) → OnOk r (mid.entries ≡ b.entries ++ Install number ∷ [])
+installed-added w b mid number name (Ok done) ok = ok.entries
+installed-added w b mid number name (Err fault) ok = tt
 
-pub abandoned-added : {I D : Type 0} (b mid : BookView I D) (number : ℕ) (r : Result (Unit {0}) BookFault) → OnOk r (Abandons b mid number) → OnOk r (mid.entries ≡ b.entries ++ Abandon number ∷ [])
+pub abandoned-added : {D : Type 0} (b mid : BookView D) (number : ℕ) (r : Result (Unit {0}) BookFault) → OnOk r (Abandons b mid number) → OnOk r (mid.entries ≡ b.entries ++ Abandon number ∷ [])
 abandoned-added b mid number (Ok done) ok = ok.entries
 abandoned-added b mid number (Err fault) ok = tt
 

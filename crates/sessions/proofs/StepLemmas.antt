@@ -61,8 +61,8 @@ log-cells drive w s h None few keeps = let c = cells-few s.world h in inr (refl,
 log-cells drive w s h (Some log) few keeps = inl keeps.keeps.count
 
 -- the number of cells of a book's log
-pub are-cells : {I D : Type 0} (leaves : I → List Leaf) (drive : D → Drive) (w : ℕ) (b : BookView I D) → IsBook leaves drive w b → AreCells (origin_of drive b) b.entries (cells_in b.log)
-are-cells leaves drive w b is = log-cells drive w b.opening b.entries b.log is.few is.on_log
+pub are-cells : {D : Type 0} (drive : D → Drive) (w : ℕ) (b : BookView D) → IsBook drive w b → AreCells (origin_of drive b) b.entries (cells_in b.log)
+are-cells drive w b is = log-cells drive w b.opening b.entries b.log is.few is.on_log
 
 -- a call, a begin and a failed append end no split, so anybody may note them
 pub call-may : (session row : ℕ) (o : Op) (seen : List Entry) (own : List ℕ) → MayNote seen own (Call session row o)
@@ -83,7 +83,7 @@ says-all P all (Ok value) = all value
 says-all P all (Err fault) = tt
 
 -- a value was taken from the lock
-pub record WasTaken {I D : Type 0} (drive : D → Drive) (b : BookView I D) (old took : Known) : Type 0 where
+pub record WasTaken {D : Type 0} (drive : D → Drive) (b : BookView D) (old took : Known) : Type 0 where
   pub entries : b.entries ≡ took.seen
   pub origin : origin_of drive b ≡ old.origin
   pub later : IsPrefix old.seen took.seen
@@ -92,12 +92,12 @@ pub record WasTaken {I D : Type 0} (drive : D → Drive) (b : BookView I D) (old
   pub alone : old.parts ≡ all_parts → took.seen ≡ old.seen
 
 -- what a step makes of the book
-pub record BookStep {I D A : Type 0} (drive : D → Drive) (IsFree : BookFault → Type 0) (cause : Option BookFault) (entry : A → Entry) (lost : Lost) (b mid : BookView I D) (result : Result A BookFault) : Type 0 where
+pub record BookStep {D A : Type 0} (drive : D → Drive) (IsFree : BookFault → Type 0) (cause : Option BookFault) (entry : A → Entry) (lost : Lost) (b mid : BookView D) (result : Result A BookFault) : Type 0 where
   pub refused : IsRefusedBy IsFree cause result
   pub added : Says (λ value. mid.entries ≡ b.entries ++ entry value ∷ []) result
   pub left : IfErr result (LeavesRefused drive lost b mid)
 
-module _ {I D A : Type 0} (drive : D → Drive) (IsFree : BookFault → Type 0) (cause : Option BookFault) (entry : A → Entry) (lost : Lost) (b mid : BookView I D) (took : Known) (same : b.entries ≡ took.seen) where
+module _ {D A : Type 0} (drive : D → Drive) (IsFree : BookFault → Type 0) (cause : Option BookFault) (entry : A → Entry) (lost : Lost) (b mid : BookView D) (took : Known) (same : b.entries ≡ took.seen) where
   behind : (e : Entry) → mid.entries ≡ b.entries ++ e ∷ [] → mid.entries ≡ took.seen ++ e ∷ []
   behind e is = is ∙ ap (λ (l : List Entry). l ++ e ∷ []) same
 
@@ -105,16 +105,16 @@ module _ {I D A : Type 0} (drive : D → Drive) (IsFree : BookFault → Type 0) 
   pub may-give : (result : Result A BookFault) → BookStep drive IsFree cause entry lost b mid result → Says (λ value. MayNote took.seen took.own (entry value)) result → MayGive took (has_entry result) mid.entries
   may-give (Ok value) step notes = (entry value, behind (entry value) step.added, notes)
   may-give (Err (Disk cell)) step notes = (Fail cell lost, behind (Fail cell lost) step.left.entries, fail-may cell lost took.seen took.own)
-  may-give (Err (Closed cell)) step notes = ap (λ (x : BookView I D). x.entries) step.left ∙ same
-  may-give (Err HistoryFull) step notes = ap (λ (x : BookView I D). x.entries) step.left ∙ same
-  may-give (Err LogFull) step notes = ap (λ (x : BookView I D). x.entries) step.left ∙ same
-  may-give (Err Memory) step notes = ap (λ (x : BookView I D). x.entries) step.left ∙ same
-  may-give (Err (Room cells events)) step notes = ap (λ (x : BookView I D). x.entries) step.left ∙ same
-  may-give (Err (Splitting number)) step notes = ap (λ (x : BookView I D). x.entries) step.left ∙ same
-  may-give (Err Deep) step notes = ap (λ (x : BookView I D). x.entries) step.left ∙ same
-  may-give (Err NoLeaf) step notes = ap (λ (x : BookView I D). x.entries) step.left ∙ same
-  may-give (Err (Stale number)) step notes = ap (λ (x : BookView I D). x.entries) step.left ∙ same
-  may-give (Err (NotOpen number)) step notes = ap (λ (x : BookView I D). x.entries) step.left ∙ same
+  may-give (Err (Closed cell)) step notes = ap (λ (x : BookView D). x.entries) step.left ∙ same
+  may-give (Err HistoryFull) step notes = ap (λ (x : BookView D). x.entries) step.left ∙ same
+  may-give (Err LogFull) step notes = ap (λ (x : BookView D). x.entries) step.left ∙ same
+  may-give (Err Memory) step notes = ap (λ (x : BookView D). x.entries) step.left ∙ same
+  may-give (Err (Room cells events)) step notes = ap (λ (x : BookView D). x.entries) step.left ∙ same
+  may-give (Err (Splitting number)) step notes = ap (λ (x : BookView D). x.entries) step.left ∙ same
+  may-give (Err Deep) step notes = ap (λ (x : BookView D). x.entries) step.left ∙ same
+  may-give (Err NoLeaf) step notes = ap (λ (x : BookView D). x.entries) step.left ∙ same
+  may-give (Err (Stale number)) step notes = ap (λ (x : BookView D). x.entries) step.left ∙ same
+  may-give (Err (NotOpen number)) step notes = ap (λ (x : BookView D). x.entries) step.left ∙ same
 
 adds : (old took back : Known) (entries : List Entry) (e : Entry) → old.holds ≡ false → took ≡ record old { seen = took.seen; holds = true } → entries ≡ took.seen ++ e ∷ [] → back ≡ has_given took true entries → back ≡ has_added old took.seen e
 adds old took back entries e off took_is entries_is back_is = back_is ∙ (λ i. record (took_is i) { seen = entries_is i; own = (took_is i).own ++ length took.seen ∷ []; holds = sym off i })
@@ -122,7 +122,7 @@ adds old took back entries e off took_is entries_is back_is = back_is ∙ (λ i.
 sees : (old took back : Known) (entries : List Entry) → old.holds ≡ false → took ≡ record old { seen = took.seen; holds = true } → back ≡ has_given took false entries → back ≡ has_seen old took.seen
 sees old took back entries off took_is back_is = back_is ∙ (λ i. record (took_is i) { holds = false }) ∙ (λ i. record old { seen = took.seen; holds = sym off i })
 
-module _ {I D A : Type 0} (drive : D → Drive) (IsFree : BookFault → Type 0) (cause : Option BookFault) (entry : A → Entry) (lost : List Entry → Lost) (b mid : BookView I D) (old took back : Known) (was : WasTaken drive b old took) where
+module _ {D A : Type 0} (drive : D → Drive) (IsFree : BookFault → Type 0) (cause : Option BookFault) (entry : A → Entry) (lost : List Entry → Lost) (b mid : BookView D) (old took back : Known) (was : WasTaken drive b old took) where
   behind-added : (e : Entry) → mid.entries ≡ b.entries ++ e ∷ [] → back ≡ has_given took true mid.entries → back ≡ has_added old took.seen e
   behind-added e is = adds old took back mid.entries e was.off was.took_is (is ∙ ap (λ (l : List Entry). l ++ e ∷ []) was.entries)
 
@@ -141,15 +141,15 @@ module _ {I D A : Type 0} (drive : D → Drive) (IsFree : BookFault → Type 0) 
   left (Err (NotOpen number)) step given = sees old took back mid.entries was.off was.took_is given
 
 -- the step as the pass knows it
-abbrev pub stepped : {I D A : Type 0} (leaves : I → List Leaf) (drive : D → Drive) (w : ℕ) (IsFree : BookFault → Type 0) (cause : ℕ → List Entry → Option BookFault) (entry : A → Entry) (lost : List Entry → Lost) (P : List Entry → A → Type 0)
-    (b mid : BookView I D) (old took back : Known) (result : Result A BookFault) → IsBook leaves drive w b → WasTaken drive b old took → BookStep drive IsFree (cause (cells_in b.log) b.entries) entry (lost b.entries) b mid result
+abbrev pub stepped : {D A : Type 0} (drive : D → Drive) (w : ℕ) (IsFree : BookFault → Type 0) (cause : ℕ → List Entry → Option BookFault) (entry : A → Entry) (lost : List Entry → Lost) (P : List Entry → A → Type 0)
+    (b mid : BookView D) (old took back : Known) (result : Result A BookFault) → IsBook drive w b → WasTaken drive b old took → BookStep drive IsFree (cause (cells_in b.log) b.entries) entry (lost b.entries) b mid result
     → Says (P b.entries) result → back ≡ has_given took (has_entry result) mid.entries → IsStep IsFree cause entry lost P old back result
-stepped leaves drive w IsFree cause entry lost P b mid old took back result is was step says given = record {
+stepped drive w IsFree cause entry lost P b mid old took back result is was step says given = record {
   before = took.seen;
   later = was.later;
   alone = was.alone;
   cells = cells_in b.log;
-  are_cells = subst (λ (o : Origin). AreCells o took.seen (cells_in b.log)) was.origin (subst (λ (h : List Entry). AreCells (origin_of drive b) h (cells_in b.log)) was.entries (are-cells leaves drive w b is));
+  are_cells = subst (λ (o : Origin). AreCells o took.seen (cells_in b.log)) was.origin (subst (λ (h : List Entry). AreCells (origin_of drive b) h (cells_in b.log)) was.entries (are-cells drive w b is));
   refused = subst (λ (h : List Entry). IsRefusedBy IsFree (cause (cells_in b.log) h) result) was.entries step.refused;
   says = subst (λ (h : List Entry). Says (P h) result) was.entries says;
   leaves = left drive IsFree (cause (cells_in b.log) b.entries) entry lost b mid old took back was result step given;

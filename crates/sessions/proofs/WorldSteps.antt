@@ -47,14 +47,14 @@ IsWorld-step world (Abandon number) fits is = is
 IsWorld-step world (Fail cell lost) fits is = is
 
 -- a book with one entry more
-pub world_more : {I D : Type 0} (old new : BookView I D) (e : Entry) → EntryFits e → new.opening ≡ old.opening → new.entries ≡ old.entries ++ e ∷ [] → HasWorld old → HasWorld new
+pub world_more : {D : Type 0} (old new : BookView D) (e : Entry) → EntryFits e → new.opening ≡ old.opening → new.entries ≡ old.entries ++ e ∷ [] → HasWorld old → HasWorld new
 world_more old new e fits opening entries has =
     let after : world_after new.opening.world new.entries ≡ world_step (world_after old.opening.world old.entries) e =
     (λ i. world_after (opening i).world (entries i)) ∙ world_after-append old.opening.world old.entries (e ∷ []) in
     record { world = subst IsWorld (sym after) (IsWorld-step (world_after old.opening.world old.entries) e fits has.world) }
 
 -- a book that a refused call leaves
-pub world_refused : {I D : Type 0} (drive : D → Drive) (lost : Lost) (old new : BookView I D) (fault : BookFault) → new.opening ≡ old.opening → HasWorld old → LeavesRefused drive lost old new fault → HasWorld new
+pub world_refused : {D : Type 0} (drive : D → Drive) (lost : Lost) (old new : BookView D) (fault : BookFault) → new.opening ≡ old.opening → HasWorld old → LeavesRefused drive lost old new fault → HasWorld new
 world_refused drive lost old new (book.Disk cell) opening has left = world_more old new (Fail cell lost) tt opening left.entries has
 world_refused drive lost old new (book.Closed cell) opening has left = subst HasWorld (sym left) has
 world_refused drive lost old new book.HistoryFull opening has left = subst HasWorld (sym left) has
@@ -67,33 +67,33 @@ world_refused drive lost old new book.NoLeaf opening has left = subst HasWorld (
 world_refused drive lost old new (book.Stale number) opening has left = subst HasWorld (sym left) has
 world_refused drive lost old new (book.NotOpen number) opening has left = subst HasWorld (sym left) has
 
-pub update_world : {I D : Type 0} (w : ℕ) (drive : D → Drive) (old new : BookView I D) (session row : ℕ) (op : Op) (r : Result Done BookFault) → IfOk r (λ d. Replies w old new session row op d.place d.answer d.full)
+pub update_world : {D : Type 0} (w : ℕ) (drive : D → Drive) (old new : BookView D) (session row : ℕ) (op : Op) (r : Result Done BookFault) → IfOk r (λ d. Replies w old new session row op d.place d.answer d.full)
     → IfErr r (LeavesRefused drive (lost.Call session row op) old new) → new.opening ≡ old.opening → FitsOp op → HasWorld old → HasWorld new
 update_world w drive old new session row op (Ok d) ok err opening fits has = world_more old new (Call session row op) fits opening ok.notes.entries has
 update_world w drive old new session row op (Err fault) ok err opening fits has = world_refused drive (lost.Call session row op) old new fault opening has err
 
-pub snapshot_world : {I D : Type 0} (old new : BookView I D) (session row : ℕ) (op : Op) (r : Result (Snapshot I) BookFault) → IfOk r (λ s. Notes old new session row op s.place)
+pub snapshot_world : {I D : Type 0} (old new : BookView D) (session row : ℕ) (op : Op) (r : Result (Snapshot I) BookFault) → IfOk r (λ s. Notes old new session row op s.place)
     → IfErr r (λ _. new ≡ old) → new.opening ≡ old.opening → FitsOp op → HasWorld old → HasWorld new
 snapshot_world old new session row op (Ok s) ok err opening fits has = world_more old new (Call session row op) fits opening ok.entries has
 snapshot_world old new session row op (Err fault) ok err opening fits has = subst HasWorld (sym err) has
 
-pub begin_world : {I D : Type 0} (leaves : I → List Leaf) (w n : ℕ) (drive : D → Drive) (old new : BookView I D) (name : List Bool) (r : Result SplitTicket BookFault) → IfOk r (λ t. Begins leaves w old new name t)
+pub begin_world : {D : Type 0} (w n : ℕ) (drive : D → Drive) (old new : BookView D) (name : List Bool) (r : Result SplitTicket BookFault) → IfOk r (λ t. Begins w old new name t)
     → IfErr r (LeavesRefused drive (lost.Begin n name) old new) → new.opening ≡ old.opening → HasWorld old → HasWorld new
-begin_world leaves w n drive old new name (Ok t) ok err opening has = world_more old new (Begin t.number name) tt opening ok.entries has
-begin_world leaves w n drive old new name (Err fault) ok err opening has = world_refused drive (lost.Begin n name) old new fault opening has err
+begin_world w n drive old new name (Ok t) ok err opening has = world_more old new (Begin t.number name) tt opening ok.entries has
+begin_world w n drive old new name (Err fault) ok err opening has = world_refused drive (lost.Begin n name) old new fault opening has err
 
-pub install_world : {I D : Type 0} {A : Type 0} (leaves : I → List Leaf) (w n : ℕ) (drive : D → Drive) (old new : BookView I D) (name : List Bool) (r : Result A BookFault) → OnOk r (Installs leaves w old new n name)
+pub install_world : {D A : Type 0} (w n : ℕ) (drive : D → Drive) (old new : BookView D) (name : List Bool) (r : Result A BookFault) → OnOk r (Installs w old new n name)
     → IfErr r (LeavesRefused drive (lost.Install n) old new) → new.opening ≡ old.opening → HasWorld old → HasWorld new
-install_world leaves w n drive old new name (Ok t) ok err opening has = world_more old new (Install n) tt opening ok.entries has
-install_world leaves w n drive old new name (Err fault) ok err opening has = world_refused drive (lost.Install n) old new fault opening has err
+install_world w n drive old new name (Ok t) ok err opening has = world_more old new (Install n) tt opening ok.entries has
+install_world w n drive old new name (Err fault) ok err opening has = world_refused drive (lost.Install n) old new fault opening has err
 
-pub abandon_world : {I D : Type 0} {A : Type 0} (n : ℕ) (drive : D → Drive) (old new : BookView I D) (r : Result A BookFault) → OnOk r (Abandons old new n)
+pub abandon_world : {D A : Type 0} (n : ℕ) (drive : D → Drive) (old new : BookView D) (r : Result A BookFault) → OnOk r (Abandons old new n)
     → IfErr r (LeavesRefused drive (lost.Abandon n) old new) → new.opening ≡ old.opening → HasWorld old → HasWorld new
 abandon_world n drive old new (Ok t) ok err opening has = world_more old new (Abandon n) tt opening ok.entries has
 abandon_world n drive old new (Err fault) ok err opening has = world_refused drive (lost.Abandon n) old new fault opening has err
 
 -- a query leaves the world
-pub snapshot_stands : {I D : Type 0} (leaves : I → List Leaf) (names : List (List Bool)) (old new : BookView I D) (session row : ℕ) (op : Op) (r : Result (Snapshot I) BookFault) → IsQuery op → new.opening ≡ old.opening
+pub snapshot_stands : {I D : Type 0} (leaves : I → List Leaf) (names : List (List Bool)) (old new : BookView D) (session row : ℕ) (op : Op) (r : Result (Snapshot I) BookFault) → IsQuery op → new.opening ≡ old.opening
     → IfOk r (λ s. Notes old new session row op s.place) → IfOk r (λ s. Stands (leaves s.index) (world_after new.opening.world new.entries) names) → IfOk r (λ s. Stands (leaves s.index) (world_after old.opening.world old.entries) names)
 snapshot_stands leaves names old new session row op (Ok s) query opening ok index =
     let world : world_after new.opening.world new.entries ≡ world_after old.opening.world old.entries =
@@ -109,7 +109,7 @@ starts_still drive unlogged Is None (Some new) since starts = absurd since
 starts_still drive unlogged Is (Some old) None since starts = absurd since
 
 -- so it is as every book behind a lock
-pub shared_still : {I D : Type 0} (drive : D → Drive) (unlogged : Type 0) (Is : Drive → Type 0) (old new : BookView I D) → SameOrigin old new → StartsAs drive unlogged Is old.log → HasWorld new → IsShared drive unlogged Is new
+pub shared_still : {D : Type 0} (drive : D → Drive) (unlogged : Type 0) (Is : Drive → Type 0) (old new : BookView D) → SameOrigin old new → StartsAs drive unlogged Is old.log → HasWorld new → IsShared drive unlogged Is new
 shared_still drive unlogged Is old new same starts has = record { has = has; start = starts_still drive unlogged Is old.log new.log same.log starts }
 
 -- of every book nothing is known

@@ -12,7 +12,7 @@ use Rattle.commit_book.specs.declared.faults.BookFault.{BookFault}
 use Rattle.book_lock.specs.declared.origin.Origin.{Origin}
 
 -- its objects are a world
-pub record HasWorld {I D : Type 0} (b : BookView I D) : Type 0 where
+pub record HasWorld {D : Type 0} (b : BookView D) : Type 0 where
   pub world : IsWorld (world_after b.opening.world b.entries)
 
 -- this is known of the drive over which the log was opened, or where there is none
@@ -21,7 +21,7 @@ StartsAs drive unlogged Is None = unlogged
 StartsAs drive unlogged Is (Some log) = Is (drive log.start)
 
 -- what holds of each book behind a lock
-pub record IsShared {I D : Type 0} (drive : D → Drive) (unlogged : Type 0) (Is : Drive → Type 0) (b : BookView I D) : Type 0 where
+pub record IsShared {D : Type 0} (drive : D → Drive) (unlogged : Type 0) (Is : Drive → Type 0) (b : BookView D) : Type 0 where
   pub has : HasWorld b
   pub start : StartsAs drive unlogged Is b.log
 
@@ -43,7 +43,7 @@ faults_in drive None = 0
 faults_in drive (Some log) = (drive log.start).faults
 
 -- what a book began from
-abbrev pub origin_of : {I D : Type 0} → (D → Drive) → BookView I D → Origin
+abbrev pub origin_of : {D : Type 0} → (D → Drive) → BookView D → Origin
 origin_of drive b = record {
   world = b.opening.world;
   leaves = b.opening.leaves;
@@ -60,6 +60,6 @@ abbrev pub start_of : Origin → State
 start_of o = record { world = o.world; leaves = o.leaves; splits = []; begun = o.begun }
 
 -- the leaf that a book tells to be split next, where it isn't closed
-abbrev pub TellsFull : {I D : Type 0} → ℕ → BookView I D → Result (Option (List Bool)) BookFault → Type 0
+abbrev pub TellsFull : {D : Type 0} → ℕ → BookView D → Result (Option (List Bool)) BookFault → Type 0
 TellsFull w b (Ok full) = (closed_refusal b.entries ≡ None) × (full ≡ full_leaf w b.bucket (state_after w b.opening b.entries))
 TellsFull w b (Err fault) = closed_refusal b.entries ≡ Some fault

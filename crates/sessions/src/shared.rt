@@ -33,7 +33,7 @@ pub struct SharedBook<I: Index, D: LogDisk, O: Start> {
 impl<I: Index, D: LogDisk, O: Start> Model for SharedBook<I, D, O> {
     ghost use Rattle.commit_book.specs.BookView.{BookView};
 
-    ghost Value = { BookView I D };
+    ghost Value = { BookView D };
 
     ghost use Rattle.sessions.specs.Shared.{IsShared};
 
@@ -76,7 +76,7 @@ impl<I: Index, D: LogDisk, O: Start> SharedBook<I, D, O> {
     /// The leaf that is to be split next, or that the book is closed.
     pub(crate) fn next_full(&self) -> Result<Option<Name>, BookFault>
         ensures next { TellsFull I.WIDTH self.now result }
-        ensures book { IsBook I.leaves D.drive I.WIDTH self.now }
+        ensures book { IsBook D.drive I.WIDTH self.now }
     {
         match self.book.closed() {
             Some(cell) => Err(BookFault::Closed { cell }),
@@ -90,7 +90,7 @@ impl<I: Index, D: LogDisk, O: Start> SharedBook<I, D, O> {
         ensures ok { IfOk result (λ d. Replies I.WIDTH self.old self.new session row op.now d.place d.answer d.full) }
         ensures refused { IsRefusedBy IsMemoryOrDisk (update_refusal self.old op.now) result }
         ensures err { IfErr result (LeavesRefused D.drive (Lost.Call session row op.now) self.old self.new) }
-        ensures book { AreBooks I.leaves D.drive I.WIDTH self.old self.new }
+        ensures book { AreBooks D.drive I.WIDTH self.old self.new }
     {
         told(*op);
         self.book.update(session, row, op)
@@ -109,7 +109,7 @@ impl<I: Index, D: LogDisk, O: Start> SharedBook<I, D, O> {
         ensures world { HasWorld self.old }
         ensures refused { IsRefusedBy IsMemory (call_refusal self.old.entries) result }
         ensures err { IfErr result (λ _. self.new ≡ self.old) }
-        ensures book { AreBooks I.leaves D.drive I.WIDTH self.old self.new }
+        ensures book { AreBooks D.drive I.WIDTH self.old self.new }
     {
         told(*op);
         self.book.snapshot(session, row, op)
@@ -119,11 +119,11 @@ impl<I: Index, D: LogDisk, O: Start> SharedBook<I, D, O> {
 impl<I: Index, D: LogDisk, O: Start> SharedBook<I, D, O> {
     /// As of the book.
     pub(crate) fn begin(&mut self, name: &Name) -> Result<SplitTicket, BookFault>
-        ensures ok { IfOk result (λ t. Begins I.leaves I.WIDTH self.old self.new name.now t) }
+        ensures ok { IfOk result (λ t. Begins I.WIDTH self.old self.new name.now t) }
         ensures ticket { IfOk result (λ t. CanPrepare I.WIDTH t) }
         ensures refused { IsRefusedBy IsMemoryOrDisk (begin_refusal I.WIDTH self.old name.now) result }
         ensures err { IfErr result (LeavesRefused D.drive (Lost.Begin ((state_after I.WIDTH self.old.opening self.old.entries).begun + 1) name.now) self.old self.new) }
-        ensures book { AreBooks I.leaves D.drive I.WIDTH self.old self.new }
+        ensures book { AreBooks D.drive I.WIDTH self.old self.new }
     {
         self.book.begin(name)
     }
@@ -131,10 +131,10 @@ impl<I: Index, D: LogDisk, O: Start> SharedBook<I, D, O> {
     /// As of the book.
     pub(crate) fn install(&mut self, prepared: &Prepared) -> Result<(), BookFault>
         requires { prepared.now.width ≡ I.WIDTH }
-        ensures ok { OnOk result (Installs I.leaves I.WIDTH self.old self.new prepared.now.number prepared.now.name) }
-        ensures refused { IsRefusedBy IsMemoryOrDisk (install_refusal I.WIDTH I.leaves self.old prepared.now.number prepared.now.name prepared.now.base) result }
+        ensures ok { OnOk result (Installs I.WIDTH self.old self.new prepared.now.number prepared.now.name) }
+        ensures refused { IsRefusedBy IsMemoryOrDisk (install_refusal I.WIDTH self.old prepared.now.number prepared.now.name prepared.now.base) result }
         ensures err { IfErr result (LeavesRefused D.drive (Lost.Install prepared.now.number) self.old self.new) }
-        ensures book { AreBooks I.leaves D.drive I.WIDTH self.old self.new }
+        ensures book { AreBooks D.drive I.WIDTH self.old self.new }
     {
         self.book.install(prepared)
     }
@@ -144,7 +144,7 @@ impl<I: Index, D: LogDisk, O: Start> SharedBook<I, D, O> {
         ensures ok { OnOk result (Abandons self.old self.new number) }
         ensures refused { IsRefusedBy IsDisk (abandon_refusal I.WIDTH self.old number) result }
         ensures err { IfErr result (LeavesRefused D.drive (Lost.Abandon number) self.old self.new) }
-        ensures book { AreBooks I.leaves D.drive I.WIDTH self.old self.new }
+        ensures book { AreBooks D.drive I.WIDTH self.old self.new }
     {
         self.book.abandon(number)
     }

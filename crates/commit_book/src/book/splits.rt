@@ -11,8 +11,8 @@ ghost use Rattle.commit_book.specs.SplitSteps.{Begins, CanPrepare, Installs, Aba
 
 use crate::book::Book;
 use crate::faults::BookFault;
-use bucket_versions::Row;
-use cell_format::Cell;
+use crate::steps::{Step, fault_of};
+use bucket_versions::{Commit, Row};
 use disk_trait::LogDisk;
 use index_layer::Index;
 use plain_list::{Entry, Lost};
@@ -28,36 +28,38 @@ const MOST_EVENTS_TO_BEGIN: u64 = 4_000_000;
 impl<I: Index, D: LogDisk> Book<I, D> {
     /// Begins a split: the leaf's rows become its base, and stay that until the split ends. The entry that ends it has its memory.
     pub fn begin(&mut self, name: &Name) -> Result<SplitTicket, BookFault>
-        ensures ok { IfOk result (λ t. Begins I.leaves I.WIDTH self.old self.new name.now t) }
+        ensures ok { IfOk result (λ t. Begins I.WIDTH self.old self.new name.now t) }
         ensures ticket { IfOk result (λ t. CanPrepare I.WIDTH t) }
         ensures refused { IsRefusedBy IsMemoryOrDisk (begin_refusal I.WIDTH self.old name.now) result }
         ensures err { IfErr result (LeavesRefused D.drive (Lost.Begin ((state_after I.WIDTH self.old.opening self.old.entries).begun + 1) name.now) self.old self.new) }
         ensures any_moment { LeavesCells D.drive I.WIDTH (Entry.Begin ((state_after I.WIDTH self.old.opening self.old.entries).begun + 1) name.now) self.old self.new }
-        ensures book { AreBooks I.leaves D.drive I.WIDTH self.old self.new }
+        ensures book { AreBooks D.drive I.WIDTH self.old self.new }
     {
         self.keep();
         self.check_begin(name)?;
-        let Ok(folded) = self.table.folded(name) else {
-            return Err(BookFault::Memory);
-        };
         let Ok(()) = self.splits.reserve() else {
             return Err(BookFault::Memory);
         };
-        let Ok(()) = self.history.reserve(2) else {
+        // One entry more than this one: that which ends the split.
+        let Ok(()) = self.history.reserve(self.splits.len() + 2) else {
             return Err(BookFault::Memory);
         };
-        // All memory is taken: only the drive can fail from here on.
         let number = self.splits.next_number();
         let name = *name;
-        if let Err(at) = self.journal.append(&Cell::Begin { number, name }) {
-            self.history
-                .push_fail(at.cell, Lost::Begin { number, name });
-            self.keep();
-            return Err(BookFault::Disk { cell: at.cell });
-        }
-        let bucket = self.table.fold(folded);
+        let mut step = Step {
+            history: &mut self.history,
+            journal: &mut self.journal,
+            lost: Lost::Begin { number, name },
+        };
+        let bucket = match self.table.fold(&name, &mut step) {
+            Ok(bucket) => bucket,
+            Err(undone) => {
+                let cell = self.journal.cells();
+                self.keep();
+                return Err(fault_of(undone, cell));
+            }
+        };
         self.splits.push(&name);
-        self.history.push_step(Entry::Begin { number, name });
         self.keep();
         Ok(SplitTicket {
             number,
@@ -105,35 +107,35 @@ impl<I: Index, D: LogDisk> Book<I, D> {
     /// Puts the children of a split leaf in its place, each with the rows that it was cut and what came and went since.
     pub fn install(&mut self, prepared: &Prepared) -> Result<(), BookFault>
         requires { prepared.now.width ≡ I.WIDTH }
-        ensures ok { OnOk result (Installs I.leaves I.WIDTH self.old self.new prepared.now.number prepared.now.name) }
-        ensures refused { IsRefusedBy IsMemoryOrDisk (install_refusal I.WIDTH I.leaves self.old prepared.now.number prepared.now.name prepared.now.base) result }
+        ensures ok { OnOk result (Installs I.WIDTH self.old self.new prepared.now.number prepared.now.name) }
+        ensures refused { IsRefusedBy IsMemoryOrDisk (install_refusal I.WIDTH self.old prepared.now.number prepared.now.name prepared.now.base) result }
         ensures err { IfErr result (LeavesRefused D.drive (Lost.Install prepared.now.number) self.old self.new) }
         ensures any_moment { LeavesCells D.drive I.WIDTH (Entry.Install prepared.now.number) self.old self.new }
-        ensures book { AreBooks I.leaves D.drive I.WIDTH self.old self.new }
+        ensures book { AreBooks D.drive I.WIDTH self.old self.new }
     {
         self.keep();
         self.check_install(prepared)?;
         let name = prepared.name();
-        let Ok(divided) = self.table.divided(&name, prepared.children()) else {
-            return Err(BookFault::Memory);
-        };
-        // All memory is taken: only the drive can fail from here on.
         let number = prepared.number();
-        if let Err(at) = self.journal.append(&Cell::Install { number }) {
-            self.table.release();
-            self.history.push_fail(at.cell, Lost::Install { number });
+        let mut step = Step {
+            history: &mut self.history,
+            journal: &mut self.journal,
+            lost: Lost::Install { number },
+        };
+        if let Err(undone) = self.table.divide(&name, prepared.children(), &mut step) {
+            let cell = self.journal.cells();
             self.keep();
-            return Err(BookFault::Disk { cell: at.cell });
+            return Err(fault_of(undone, cell));
         }
-        self.table.divide(divided);
+        // The table tells that its leaves are in order.
+        let _told = self.table.len();
         self.splits.remove(number);
-        self.history.push_step(Entry::Install { number });
         self.keep();
         Ok(())
     }
 
     fn check_install(&self, prepared: &Prepared) -> Result<(), BookFault>
-        ensures { IsRefusedBy IsNoFault (install_refusal I.WIDTH I.leaves self.now prepared.now.number prepared.now.name prepared.now.base) result }
+        ensures { IsRefusedBy IsNoFault (install_refusal I.WIDTH self.now prepared.now.number prepared.now.name prepared.now.base) result }
     {
         self.check_end()?;
         let number = prepared.number();
@@ -158,7 +160,7 @@ impl<I: Index, D: LogDisk> Book<I, D> {
 
     // Whether the leaf of a name has this base.
     fn has_base(&self, name: &Name, base: &[Row]) -> bool
-        ensures { result ≡ has_base (I.leaves self.now.index) name.now base.now }
+        ensures { result ≡ has_base self.now.leaves name.now base.now }
     {
         match self.table.bucket(name) {
             Some(bucket) => bucket.base_rows() == base,
@@ -172,17 +174,21 @@ impl<I: Index, D: LogDisk> Book<I, D> {
         ensures refused { IsRefusedBy IsDisk (abandon_refusal I.WIDTH self.old number) result }
         ensures err { IfErr result (LeavesRefused D.drive (Lost.Abandon number) self.old self.new) }
         ensures any_moment { LeavesCells D.drive I.WIDTH (Entry.Abandon number) self.old self.new }
-        ensures book { AreBooks I.leaves D.drive I.WIDTH self.old self.new }
+        ensures book { AreBooks D.drive I.WIDTH self.old self.new }
     {
         self.keep();
         self.check_abandon(number)?;
-        if let Err(at) = self.journal.append(&Cell::Abandon { number }) {
-            self.history.push_fail(at.cell, Lost::Abandon { number });
+        let mut step = Step {
+            history: &mut self.history,
+            journal: &mut self.journal,
+            lost: Lost::Abandon { number },
+        };
+        if !step.commit() {
+            let cell = self.journal.cells();
             self.keep();
-            return Err(BookFault::Disk { cell: at.cell });
+            return Err(BookFault::Disk { cell });
         }
         self.splits.remove(number);
-        self.history.push_step(Entry::Abandon { number });
         self.keep();
         Ok(())
     }

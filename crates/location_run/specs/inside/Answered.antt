@@ -52,14 +52,14 @@ pub record AreAnswered (w : ℕ) (origin : Origin) (rows : List InRow) (h : List
   pub settled : (first : Option ℕ) → first_cells first ≡ origin.cells → failed_cell h ≡ None → IsSettled w origin.bucket (start_of origin) first h
 
 -- rows were played over a book
-pub record IsPlayedBook {I D : Type 0} (w : ℕ) (rows : List InRow) (old new : BookView I D) : Type 0 where
+pub record IsPlayedBook {D : Type 0} (w : ℕ) (rows : List InRow) (old new : BookView D) : Type 0 where
   pub opening : new.opening ≡ old.opening
   pub first : first_in new.log ≡ first_in old.log
   pub played : IsPlayed (session_rows rows) new.entries
   pub loses : (cell : ℕ) → failed_cell new.entries ≡ Some cell → LosesStep (IsNextStep w old.opening rows) new.entries cell
 
 -- each row was answered, and the splits at the end were settled
-pub record IsAnsweredBook {I D : Type 0} (w : ℕ) (rows : List InRow) (old new : BookView I D) (ends : List LaneEnd) : Type 0 where
+pub record IsAnsweredBook {D : Type 0} (w : ℕ) (rows : List InRow) (old new : BookView D) (ends : List LaneEnd) : Type 0 where
   pub whole : IsPlayedWhole (session_rows rows) new.entries
   pub answers : HasAnswers old.opening.world new.entries rows ends
   pub settled : failed_cell new.entries ≡ None → IsSettled w old.bucket old.opening (count_in old.log) new.entries

@@ -23,7 +23,7 @@ abbrev pub StopsBook : (List Entry → Lost → Type 0) → List Entry → Refus
 StopsBook Step h why = ((why ≡ refusal.Memory) × (failed_cell h ≡ None)) ⊎ ((cell : ℕ) × (why ≡ refusal.Disk (Some cell)) × LosesStep Step h cell)
 
 -- a book without entries, where there is room for rows, over a world
-pub record IsNewBook {I D : Type 0} (b : BookView I D) : Type 0 where
+pub record IsNewBook {D : Type 0} (b : BookView D) : Type 0 where
   pub entries : b.entries ≡ []
   pub few : cells_in b.log ≤ most_played
   pub world : IsWorld b.opening.world
@@ -60,7 +60,7 @@ abbrev pub count_in : {D : Type 0} → Option (KeptView D) → Option ℕ
 count_in {D = D} log = option_map (λ (l : KeptView D). l.cells) log
 
 -- a book over the log that stood on a drive, whose bytes show no fault
-pub record OpensBook {I D : Type 0} (drive : D → Drive) (file : List ℕ) (old : Drive) (size : ℕ) (b : BookView I D) : Type 0 where
+pub record OpensBook {D : Type 0} (drive : D → Drive) (file : List ℕ) (old : Drive) (size : ℕ) (b : BookView D) : Type 0 where
   pub bucket : b.bucket ≡ size
   pub log : KeptView D
   pub log_is : b.log ≡ Some log

@@ -1,6 +1,6 @@
 use Rattle.std.proofs.Common.{◌≡◌, drop}
 use Rattle.plain_list.specs.State.{split_name}
-use Rattle.commit_book.specs.Splits.{splits_of}
+use Rattle.point_table.specs.Splits.{splits_of}
 use Rattle.commit_book.proofs.open_splits.name_among.Given as goal
 
 -- no split so far has the number

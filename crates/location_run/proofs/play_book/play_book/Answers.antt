@@ -23,7 +23,7 @@ returns-clause-answers g c =
     let status = c.write_end-status.result in
     let before = g.K.Sink.output c.args.sink.now in
     let after = g.K.Sink.output c.write_end-status.new.sink in
-    subst (λ r. AnswersAsOneList width old.opening rows r.events r.status before after) (sym c.close.ensures.parts) (end-answers _ g.D.LogDisk.drive rows old new ends status before after by.played answered by.book c.write_end-status.ensures)
+    subst (λ r. AnswersAsOneList width old.opening rows r.events r.status before after) (sym c.close.ensures.parts) (end-answers g.D.LogDisk.drive rows old new ends status before after by.played answered by.book c.write_end-status.ensures)
 
 pub returns-clause-ends : goal.returns-clause-ends
 returns-clause-ends g c =
@@ -36,7 +36,7 @@ returns-clause-ends g c =
     let status = c.write_end-status.result in
     let before = g.K.Sink.output c.args.sink.now in
     let after = g.K.Sink.output c.write_end-status.new.sink in
-    subst (λ r. EndsRows (StopsBook (IsNextStep width old.opening rows) r.events) r.status before after) (sym c.close.ensures.parts) (end-rows _ g.D.LogDisk.drive rows old new ends status before after by.played answered by.book c.write_end-status.ensures)
+    subst (λ r. EndsRows (StopsBook (IsNextStep width old.opening rows) r.events) r.status before after) (sym c.close.ensures.parts) (end-rows g.D.LogDisk.drive rows old new ends status before after by.played answered by.book c.write_end-status.ensures)
 
 pub returns-clause-splits : goal.returns-clause-splits
 returns-clause-splits g c =
@@ -49,7 +49,7 @@ returns-clause-splits g c =
     let status = c.write_end-status.result in
     let before = g.K.Sink.output c.args.sink.now in
     let after = g.K.Sink.output c.write_end-status.new.sink in
-    subst (λ r. WritesLines r.status → IsSettled width old.bucket old.opening (count_in old.log) r.events) (sym c.close.ensures.parts) (end-splits _ g.D.LogDisk.drive rows old new ends status before after by.played answered by.book c.write_end-status.ensures)
+    subst (λ r. WritesLines r.status → IsSettled width old.bucket old.opening (count_in old.log) r.events) (sym c.close.ensures.parts) (end-splits g.D.LogDisk.drive rows old new ends status before after by.played answered by.book c.write_end-status.ensures)
 
 pub returns-clause-log : goal.returns-clause-log
 returns-clause-log g c =
@@ -62,4 +62,4 @@ returns-clause-log g c =
     let status = c.write_end-status.result in
     let before = g.K.Sink.output c.args.sink.now in
     let after = g.K.Sink.output c.write_end-status.new.sink in
-    subst (λ r. LeavesLog g.D.LogDisk.drive old.opening r.events old.log r.disk) (sym c.close.ensures.parts) (end-log _ g.D.LogDisk.drive rows old new ends status before after by.played answered by.book c.write_end-status.ensures by.starts)
+    subst (λ r. LeavesLog g.D.LogDisk.drive old.opening r.events old.log r.disk) (sym c.close.ensures.parts) (end-log g.D.LogDisk.drive rows old new ends status before after by.played answered by.book c.write_end-status.ensures by.starts)

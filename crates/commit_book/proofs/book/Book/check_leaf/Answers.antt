@@ -11,7 +11,7 @@ returns-then-not-has_leaf g c =
     let w = g.I.Index.WIDTH in
     let name = c.args.name.now in
     let s = state_after w c.self.inside.opening c.self.inside.history.entries in
-    let none : is_leaf s.leaves name ≡ false = ap (λ (ls : List (List Bool)). is_leaf ls name) (sym c.self.invariant.names) ∙ is_leaf-names_of name (g.I.Index.leaves c.self.inside.table.index) ∙ sym c.has_leaf.ensures ∙ c.if-not-has_leaf.true in
+    let none : is_leaf s.leaves name ≡ false = ap (λ (ls : List (List Bool)). is_leaf ls name) (sym c.self.invariant.names) ∙ is_leaf-names_of name c.self.inside.table.leaves ∙ sym c.has_leaf.ensures ∙ c.if-not-has_leaf.true in
     rw (← c.self.view_is) (told_only _ _ _ (leaf-none w s name none))
 
 pub returns-then-from-gt64 : goal.returns-then-from-gt64
@@ -19,7 +19,7 @@ returns-then-from-gt64 g c =
     let w = g.I.Index.WIDTH in
     let name = c.args.name.now in
     let s = state_after w c.self.inside.opening c.self.inside.history.entries in
-    let leaf : is_leaf s.leaves name ≡ true = ap (λ (ls : List (List Bool)). is_leaf ls name) (sym c.self.invariant.names) ∙ is_leaf-names_of name (g.I.Index.leaves c.self.inside.table.index) ∙ sym c.has_leaf.ensures ∙ c.if-not-has_leaf.false in
+    let leaf : is_leaf s.leaves name ≡ true = ap (λ (ls : List (List Bool)). is_leaf ls name) (sym c.self.invariant.names) ∙ is_leaf-names_of name c.self.inside.table.leaves ∙ sym c.has_leaf.ensures ∙ c.if-not-has_leaf.false in
     let deep : 64 < length name + w = omega (arith, c.if-from-gt64.true, c.from.ensures, c.from-2.ensures, c.WIDTH.ensures, c.len.ensures.len) in
     rw (← c.self.view_is) (told_only _ _ _ (leaf-deep w s name leaf deep))
 
@@ -28,7 +28,7 @@ returns-in-Some g c =
     let w = g.I.Index.WIDTH in
     let name = c.args.name.now in
     let s = state_after w c.self.inside.opening c.self.inside.history.entries in
-    let leaf : is_leaf s.leaves name ≡ true = ap (λ (ls : List (List Bool)). is_leaf ls name) (sym c.self.invariant.names) ∙ is_leaf-names_of name (g.I.Index.leaves c.self.inside.table.index) ∙ sym c.has_leaf.ensures ∙ c.if-not-has_leaf.false in
+    let leaf : is_leaf s.leaves name ≡ true = ap (λ (ls : List (List Bool)). is_leaf ls name) (sym c.self.invariant.names) ∙ is_leaf-names_of name c.self.inside.table.leaves ∙ sym c.has_leaf.ensures ∙ c.if-not-has_leaf.false in
     let short : length name + w ≤ 64 = omega (arith, c.if-from-gt64.false, c.from.ensures, c.from-2.ensures, c.WIDTH.ensures, c.len.ensures.len) in
     let split : split_number s.splits name ≡ Some c.in-Some.number = ap (λ (os : List OpenSplit). split_number os name) (sym c.self.invariant.splits) ∙ sym c.number.ensures ∙ c.in-Some.is in
     rw (← c.self.view_is) (told_only _ _ _ (leaf-split w s name leaf short ∙ ap (option_map Splitting) split))
@@ -38,7 +38,7 @@ returns-in-None g c =
     let w = g.I.Index.WIDTH in
     let name = c.args.name.now in
     let s = state_after w c.self.inside.opening c.self.inside.history.entries in
-    let leaf : is_leaf s.leaves name ≡ true = ap (λ (ls : List (List Bool)). is_leaf ls name) (sym c.self.invariant.names) ∙ is_leaf-names_of name (g.I.Index.leaves c.self.inside.table.index) ∙ sym c.has_leaf.ensures ∙ c.if-not-has_leaf.false in
+    let leaf : is_leaf s.leaves name ≡ true = ap (λ (ls : List (List Bool)). is_leaf ls name) (sym c.self.invariant.names) ∙ is_leaf-names_of name c.self.inside.table.leaves ∙ sym c.has_leaf.ensures ∙ c.if-not-has_leaf.false in
     let short : length name + w ≤ 64 = omega (arith, c.if-from-gt64.false, c.from.ensures, c.from-2.ensures, c.WIDTH.ensures, c.len.ensures.len) in
     let split : split_number s.splits name ≡ None = ap (λ (os : List OpenSplit). split_number os name) (sym c.self.invariant.splits) ∙ sym c.number.ensures ∙ c.in-None.is in
     rw (← c.self.view_is) (done_only _ _ (leaf-split w s name leaf short ∙ ap (option_map Splitting) split))

@@ -6,10 +6,10 @@ use Rattle.commit_book.proofs.RefusalLemmas.{has_base-named, has_base-none}
 use Rattle.commit_book.proofs.book.Book.has_base.Goals as goal
 
 pub returns-in-None : goal.returns-in-None
-returns-in-None g c = rw (← c.self.view_is) (sym (has_base-none (g.I.Index.leaves c.self.inside.table.index) c.args.name.now c.args.base.now c.in-None.ensures))
+returns-in-None g c = rw (← c.self.view_is) (sym (has_base-none c.self.inside.table.leaves c.args.name.now c.args.base.now c.in-None.ensures))
 
 pub returns-in-Some : goal.returns-in-Some
 returns-in-Some g c =
     rw (← c.self.view_is)
     (c.eq.ensures ∙ ap (λ (rows : List Row). same_rows rows c.args.base.now) (c.base_rows.ensures.base ∙ ap (λ (b : Rows). b.base) c.deref.ensures)
-    ∙ sym (has_base-named (g.I.Index.leaves c.self.inside.table.index) c.args.name.now c.args.base.now _ c.in-Some.ensures))
+    ∙ sym (has_base-named c.self.inside.table.leaves c.args.name.now c.args.base.now _ c.in-Some.ensures))

@@ -21,7 +21,7 @@ invariant_of-result g c =
     let begun : seen.begun ≤ 16777216 = found-begun w _ _ seen c.requires.found in
     let same : c.of.result ≡ found_state seen = c.of.ensures ∙ (λ i. record { world = world i; leaves = leaves i; splits = []; begun = seen.begun }) in
     let kept = c.opened.ensures.keeps w (found_state seen) c.requires.ready c.requires.log.1 in
-    inside-first g.I.Index.leaves drive w c.of.result _
+    inside-first drive w c.of.result _
     (record { rests = ap (λ (s : State). s.splits) same; begun = omega (arith, begun, ap (λ (s : State). s.begun) same) })
     c.new.ensures (sym (ap (λ (s : State). s.world) c.of.ensures)) (sym (ap (λ (s : State). s.leaves) c.of.ensures))
     (c.after.ensures ∙ (λ i. record { splits = []; begun = sym (ap (λ (s : State). s.begun) same) i; room = 0 }))

@@ -1,141 +1,156 @@
-use Rattle.std.proofs.Common.{◌≡◌, ◌+◌, ◌-◌, List, [], ◌∷◌, ◌++◌, length, refl, sym, ap, ◌∙◌, arith}
+use Rattle.std.proofs.Common.{◌≡◌, ◌+◌, true, List, length, refl, sym, ap, ◌∙◌, arith}
 use Rattle.zorder.specs.declared.points.Placed.{Placed}
-use Rattle.plain_list.specs.declared.entries.Entry.{Entry}
-use Rattle.plain_list.specs.declared.entries.Entry.TheVariants.{Call, Fail}
+use Rattle.plain_list.specs.declared.ops.Answer.{Answer}
+use Rattle.plain_list.specs.declared.entries.Entry.TheVariants.{Call}
 use Rattle.plain_list.specs.declared.entries.Lost.TheVariants as lost
-use Rattle.plain_list.specs.Answer.{answer_of, after_of, is_change}
+use Rattle.plain_list.specs.Answer.{answer_of, is_change}
+use Rattle.plain_list.specs.History.{world_after}
 use Rattle.plain_list.proofs.Histories.{state_after-world}
 use Rattle.kept_log.proofs.InJournal.{has_failed-none, leaves-quiet}
 use Rattle.commit_book.specs.BookInside.{book_of}
 use Rattle.commit_book.specs.Events.{Events}
-use Rattle.commit_book.specs.TableView.{TableView}
-use Rattle.commit_book.specs.Changes.{bases_of}
-use Rattle.commit_book.proofs.BookStates.{inside-call, inside-fail, steps_on}
-use Rattle.commit_book.proofs.OnLog.{in-most}
+use Rattle.commit_book.specs.Steps.{Takes, Loses}
+use Rattle.commit_book.specs.declared.steps.Step.{Step}
+use Rattle.commit_book.proofs.BookStates.{inside-call, steps_on}
 use Rattle.commit_book.proofs.RefusalLemmas.{passed}
+use Rattle.commit_book.proofs.SplitCells.{call_step, cell_there}
 use Rattle.commit_book.proofs.SplitHistories.{open-le}
-use Rattle.commit_book.proofs.UpdateCalls.{may_update, fewer_cells}
+use Rattle.commit_book.proofs.Undone.{can_step, inside-undone, moments-undone, refused-undone, would_change, quiet_told, noted}
+use Rattle.commit_book.proofs.UpdateCalls.{may_update}
 use Rattle.commit_book.proofs.book.Book.update.Goals as goal
-
-pub reserve-requires : goal.reserve-requires
-reserve-requires g c =
-    let h = c.self.inside.history.entries in
-    let may = may_update (book_of c.self.inside) c.args.op.now c.self.invariant.few (passed _ _ (rw (← c.self.view_is) at c.in_ok-check_update.ensures)) in
-    omega (arith, c.self.invariant.room may.call.going, ap length c.self.invariant.splits, open-le g.I.Index.WIDTH c.self.inside.opening h, ap length c.self.invariant.opening.rests, c.self.invariant.few)
-
-pub append_call-requires-clause-room : goal.append_call-requires-clause-room
-append_call-requires-clause-room g c = λ change.
-    let may = may_update (book_of c.self.inside) c.args.op.now c.self.invariant.few (passed _ _ (rw (← c.self.view_is) at c.in_ok-check_update.ensures)) in
-    let world = c.self.invariant.world ∙ state_after-world g.I.Index.WIDTH c.self.inside.opening c.self.inside.history.entries in
-    fewer_cells _ (in-most g.D.LogDisk.drive g.I.Index.WIDTH c.self.inside.opening c.self.inside.history.entries _ c.self.invariant.on_log)
-    (may.room (ap (λ (ms : List Placed). is_change (answer_of ms c.args.op.now)) (sym world) ∙ sym (ap is_change c.in-Ok-readied.ensures.ok.answer_is) ∙ change))
-
-pub invariant_of-self-in-Err : goal.invariant_of-self-in-Err
-invariant_of-self-in-Err g c =
-    let w = g.I.Index.WIDTH in
-    let o = c.self.inside.opening in
-    let h = c.self.inside.history.entries in
-    let op = c.args.op.now in
-    let lost = lost.Call c.args.session c.args.row op in
-    let may = may_update (book_of c.self.inside) op c.self.invariant.few (passed _ _ (rw (← c.self.view_is) at c.in_ok-check_update.ensures)) in
-    let steps = steps_on w o h (Call c.args.session c.args.row op) c.self.invariant.legal (has_failed-none h may.call.going) refl in
-    let world = c.self.invariant.world ∙ state_after-world w o h in
-    let entries : c.push_fail.new.self.entries ≡ h ++ Fail c.in-Err.at.cell lost ∷ [] =
-    ap (λ (v : Events). v.entries) c.push_fail.ensures ∙ ap (λ (v : Events). v.entries ++ Fail c.in-Err.at.cell lost ∷ []) c.in-Ok.ensures.ok in
-    let table = c.in-Ok-readied.ensures.ok.kept in
-    let kept = c.in-Err.ensures.lost.keeps w o h c.args.session c.args.row steps.legal
-    (c.in-Ok-readied.ensures.ok.answer_is ∙ ap (λ (ms : List Placed). answer_of ms op) world) c.self.invariant.on_log in
-    inside-fail g.I.Index.leaves g.D.LogDisk.drive w o c.self.inside _ c.self.invariant may.call.going (rw entries kept) c.in-Err.at.cell lost may.call.few entries
-    (ap (λ (t : TableView _). t.world) c.give_up.ensures ∙ ap (λ (t : TableView _). t.world) table)
-    (ap (λ (t : TableView _). g.I.Index.leaves t.index) c.give_up.ensures ∙ ap (λ (t : TableView _). g.I.Index.leaves t.index) table) refl refl
-
-pub invariant_of-self-2 : goal.invariant_of-self-2
-invariant_of-self-2 g c =
-    let w = g.I.Index.WIDTH in
-    let o = c.self.inside.opening in
-    let h = c.self.inside.history.entries in
-    let op = c.args.op.now in
-    let e : Entry = Call c.args.session c.args.row op in
-    let may = may_update (book_of c.self.inside) op c.self.invariant.few (passed _ _ (rw (← c.self.view_is) at c.in_ok-check_update.ensures)) in
-    let steps = steps_on w o h e c.self.invariant.legal (has_failed-none h may.call.going) refl in
-    let world = c.self.invariant.world ∙ state_after-world w o h in
-    let entries : c.push_call.new.self.entries ≡ h ++ e ∷ [] = ap (λ (v : Events). v.entries) c.push_call.ensures ∙ ap (λ (v : Events). v.entries ++ e ∷ []) c.in-Ok.ensures.ok in
-    let room : c.push_call.new.self.room ≡ c.self.inside.history.room + 1 - 1 = ap (λ (v : Events). v.room) c.push_call.ensures ∙ ap (λ (v : Events). v.room - 1) c.in-Ok.ensures.ok in
-    let readied = c.in-Ok-readied.ensures.ok in
-    let updates = c.apply-answer.ensures.updates in
-    let kept = c.in_default-append_call.ensures.ok.keeps w o h c.args.session c.args.row steps.legal (readied.answer_is ∙ ap (λ (ms : List Placed). answer_of ms op) world) c.self.invariant.on_log in
-    inside-call g.I.Index.leaves g.D.LogDisk.drive w o c.self.inside _ c.self.invariant may.call.going (rw entries kept) c.args.session c.args.row op may.call.few entries (room ∙ (omega arith))
-    (updates.after_is ∙ (λ i. after_of (readied.kept i).world (readied.op_is i))) (updates.bases ∙ ap (λ (t : TableView _). bases_of (g.I.Index.leaves t.index)) readied.kept) refl
-
-pub returns-clause-ok : goal.returns-clause-ok
-returns-clause-ok g c =
-    let w = g.I.Index.WIDTH in
-    let h = c.self.inside.history.entries in
-    let op = c.args.op.now in
-    let e : Entry = Call c.args.session c.args.row op in
-    let entries : c.push_call.new.self.entries ≡ h ++ e ∷ [] = ap (λ (v : Events). v.entries) c.push_call.ensures ∙ ap (λ (v : Events). v.entries ++ e ∷ []) c.in-Ok.ensures.ok in
-    let readied = c.in-Ok-readied.ensures.ok in
-    let world = c.self.invariant.world ∙ state_after-world w c.self.inside.opening h in
-    rw (← c.self.view_is) (record {
-      notes = record { entries = entries; place_is = c.calls-place.ensures };
-      answer_is = c.apply-answer.ensures.updates.answer_is ∙ (λ i. answer_of (readied.kept i).world (readied.op_is i)) ∙ ap (λ (ms : List Placed). answer_of ms op) world;
-      full_is = c.full.ensures.full;
-    })
 
 pub returns-in_err-check_update-clause-any_moment : goal.returns-in_err-check_update-clause-any_moment
 returns-in_err-check_update-clause-any_moment g c =
     rw (← c.self.view_is)
     (leaves-quiet g.D.LogDisk.drive g.I.Index.WIDTH c.self.inside.opening c.self.inside.history.entries _ c.self.inside.journal g.met.D.LogDisk.keeps_laws c.self.invariant.on_log)
 
+pub overflow_add-len : goal.overflow_add-len
+overflow_add-len g c =
+    let h = c.self.inside.history.entries in
+    omega (arith, c.len.ensures, ap length c.self.invariant.splits, open-le g.I.Index.WIDTH c.self.inside.opening h, ap length c.self.invariant.opening.rests, c.self.invariant.few)
+
+pub reserve-requires : goal.reserve-requires
+reserve-requires g c =
+    let h = c.self.inside.history.entries in
+    omega (arith, c.len.ensures, ap length c.self.invariant.splits, open-le g.I.Index.WIDTH c.self.inside.opening h, ap length c.self.invariant.opening.rests, c.self.invariant.few)
+
 pub returns-in_default-clause-any_moment : goal.returns-in_default-clause-any_moment
 returns-in_default-clause-any_moment g c =
     rw (← c.self.view_is)
     (leaves-quiet g.D.LogDisk.drive g.I.Index.WIDTH c.self.inside.opening c.self.inside.history.entries _ c.self.inside.journal g.met.D.LogDisk.keeps_laws c.self.invariant.on_log)
 
-pub returns-in_default-readied-clause-any_moment : goal.returns-in_default-readied-clause-any_moment
-returns-in_default-readied-clause-any_moment g c =
-    rw (← c.self.view_is)
-    (leaves-quiet g.D.LogDisk.drive g.I.Index.WIDTH c.self.inside.opening c.self.inside.history.entries _ c.self.inside.journal g.met.D.LogDisk.keeps_laws c.self.invariant.on_log)
+pub update-requires-clause-can : goal.update-requires-clause-can
+update-requires-clause-can g c = λ change.
+    let w = g.I.Index.WIDTH in
+    let b = c.self.inside in
+    let op = c.args.op.now in
+    let may = may_update (book_of b) op c.self.invariant.few (passed _ _ (rw (← c.self.view_is) at c.in_ok-check_update.ensures)) in
+    let world = c.self.invariant.world ∙ state_after-world w b.opening b.history.entries in
+    let cell = cell_there op b.table.world c.requires change in
+    let room = ap (λ (v : Events). v.room) c.in-Ok.ensures.ok in
+    can_step g.D.LogDisk.drive w b.opening b c.reserve.new.self (lost.Call c.args.session c.args.row op) cell.0 cell.1 c.self.invariant may.call.going
+    (may.room (ap (λ (ms : List Placed). is_change (answer_of ms op)) (sym world) ∙ change)) (ap (λ (v : Events). v.entries) c.in-Ok.ensures.ok) (omega (arith, room))
+
+pub invariant_of-self-in-Err : goal.invariant_of-self-in-Err
+invariant_of-self-in-Err g c =
+    let w = g.I.Index.WIDTH in
+    let b = c.self.inside in
+    let h = b.history.entries in
+    let op = c.args.op.now in
+    let may = may_update (book_of b) op c.self.invariant.few (passed _ _ (rw (← c.self.view_is) at c.in_ok-check_update.ensures)) in
+    let world = c.self.invariant.world ∙ state_after-world w b.opening h in
+    let told = would_change Answer (Takes g.D.LogDisk.drive) (Loses g.D.LogDisk.drive) _ _ c.update.new.commit c.in-Err.undone c.in-Err.ensures.told in
+    let change : is_change (answer_of (world_after b.opening.world h) op) ≡ true = ap (λ (ms : List Placed). is_change (answer_of ms op)) (sym world) ∙ told.0 in
+    inside-undone g.D.LogDisk.drive w b.opening b c.self.invariant may.call.going Answer c.update.new.self b.splits b.opening (c.len.result + 1) c.in-Err.undone _ c.update.new.commit may.call.few
+    (call_step w b.opening h c.self.invariant.legal may.call.going c.args.session c.args.row op change) c.in-Ok.ensures.ok refl (omega (arith, c.len.ensures)) c.in-Err.ensures.err refl refl told.1
 
 pub returns-in-Err-clause-any_moment : goal.returns-in-Err-clause-any_moment
 returns-in-Err-clause-any_moment g c =
     let w = g.I.Index.WIDTH in
-    let o = c.self.inside.opening in
-    let h = c.self.inside.history.entries in
+    let b = c.self.inside in
+    let h = b.history.entries in
     let op = c.args.op.now in
-    let may = may_update (book_of c.self.inside) op c.self.invariant.few (passed _ _ (rw (← c.self.view_is) at c.in_ok-check_update.ensures)) in
-    let steps = steps_on w o h (Call c.args.session c.args.row op) c.self.invariant.legal (has_failed-none h may.call.going) refl in
-    let world = c.self.invariant.world ∙ state_after-world w o h in
+    let may = may_update (book_of b) op c.self.invariant.few (passed _ _ (rw (← c.self.view_is) at c.in_ok-check_update.ensures)) in
+    let world = c.self.invariant.world ∙ state_after-world w b.opening h in
+    let told = would_change Answer (Takes g.D.LogDisk.drive) (Loses g.D.LogDisk.drive) _ _ c.update.new.commit c.in-Err.undone c.in-Err.ensures.told in
+    let change : is_change (answer_of (world_after b.opening.world h) op) ≡ true = ap (λ (ms : List Placed). is_change (answer_of ms op)) (sym world) ∙ told.0 in
     rw (← c.self.view_is) (λ none.
-    c.append_call.ensures.any_moment w o h c.args.session c.args.row steps.legal (c.in-Ok-readied.ensures.ok.answer_is ∙ ap (λ (ms : List Placed). answer_of ms op) world) c.self.invariant.on_log)
+    moments-undone g.D.LogDisk.drive w b.opening b c.self.invariant may.call.going Answer g.met.D.LogDisk.keeps_laws (c.len.result + 1) c.in-Err.undone _ c.update.new.commit
+    (call_step w b.opening h c.self.invariant.legal may.call.going c.args.session c.args.row op change) c.in-Ok.ensures.ok refl told.1)
+
+pub note_quiet-requires : goal.note_quiet-requires
+note_quiet-requires g c = λ none.
+    let b = c.self.inside in
+    let told = quiet_told (Takes g.D.LogDisk.drive) (Loses g.D.LogDisk.drive) (is_change (answer_of b.table.world c.args.op.now)) _ c.update.new.commit c.in-Ok-update.answer
+    (sym (ap is_change c.in-Ok-update.ensures.ok.answer_is) ∙ none) c.in-Ok-update.ensures.told in
+    let same : c.update.new.commit.history.now ≡ record b.history { room = c.len.result + 1 } = ap (λ (s : Step _). s.history.now) told ∙ c.in-Ok.ensures.ok in
+    (omega (arith, ap (λ (v : Events). v.room) same), omega (arith, ap (λ (v : Events). length v.entries) same, c.self.invariant.few))
+
+pub invariant_of-self-2 : goal.invariant_of-self-2
+invariant_of-self-2 g c =
+    let w = g.I.Index.WIDTH in
+    let b = c.self.inside in
+    let h = b.history.entries in
+    let op = c.args.op.now in
+    let may = may_update (book_of b) op c.self.invariant.few (passed _ _ (rw (← c.self.view_is) at c.in_ok-check_update.ensures)) in
+    let world = c.self.invariant.world ∙ state_after-world w b.opening h in
+    let steps = steps_on w b.opening h (Call c.args.session c.args.row op) c.self.invariant.legal (has_failed-none h may.call.going) refl in
+    let now : is_change (answer_of (world_after b.opening.world h) op) ≡ is_change (answer_of b.table.world op) = ap (λ (ms : List Placed). is_change (answer_of ms op)) (sym world) in
+    let it =
+    noted g.D.LogDisk.drive w b.opening b c.self.invariant may.call.going g.met.D.LogDisk.keeps_laws c.args.session c.args.row op (c.len.result + 1) (is_change (answer_of b.table.world op))
+    c.in-Ok-update.answer _ c.update.new.commit c.note_quiet.new.history
+    (call_step w b.opening h c.self.invariant.legal may.call.going c.args.session c.args.row op) steps.legal refl c.in-Ok.ensures.ok refl now
+    (ap is_change c.in-Ok-update.ensures.ok.answer_is) c.in-Ok-update.ensures.told c.note_quiet.ensures.noted c.note_quiet.ensures.quiet in
+    inside-call g.D.LogDisk.drive w b.opening b _ c.self.invariant may.call.going it.keeps c.args.session c.args.row op may.call.few it.entries (omega (arith, it.room, c.len.ensures))
+    c.in-Ok-update.ensures.ok.changes.world c.in-Ok-update.ensures.ok.changes.bases refl
+
+pub returns-clause-ok : goal.returns-clause-ok
+returns-clause-ok g c =
+    let w = g.I.Index.WIDTH in
+    let b = c.self.inside in
+    let h = b.history.entries in
+    let op = c.args.op.now in
+    let may = may_update (book_of b) op c.self.invariant.few (passed _ _ (rw (← c.self.view_is) at c.in_ok-check_update.ensures)) in
+    let world = c.self.invariant.world ∙ state_after-world w b.opening h in
+    let steps = steps_on w b.opening h (Call c.args.session c.args.row op) c.self.invariant.legal (has_failed-none h may.call.going) refl in
+    let now : is_change (answer_of (world_after b.opening.world h) op) ≡ is_change (answer_of b.table.world op) = ap (λ (ms : List Placed). is_change (answer_of ms op)) (sym world) in
+    let it =
+    noted g.D.LogDisk.drive w b.opening b c.self.invariant may.call.going g.met.D.LogDisk.keeps_laws c.args.session c.args.row op (c.len.result + 1) (is_change (answer_of b.table.world op))
+    c.in-Ok-update.answer _ c.update.new.commit c.note_quiet.new.history
+    (call_step w b.opening h c.self.invariant.legal may.call.going c.args.session c.args.row op) steps.legal refl c.in-Ok.ensures.ok refl now
+    (ap is_change c.in-Ok-update.ensures.ok.answer_is) c.in-Ok-update.ensures.told c.note_quiet.ensures.noted c.note_quiet.ensures.quiet in
+    rw (← c.self.view_is) (record {
+      notes = record { entries = it.entries; place_is = c.calls.ensures };
+      answer_is = c.in-Ok-update.ensures.ok.answer_is ∙ ap (λ (ms : List Placed). answer_of ms op) world;
+      full_is = c.full.ensures.full;
+    })
 
 pub returns-clause-any_moment : goal.returns-clause-any_moment
 returns-clause-any_moment g c =
     let w = g.I.Index.WIDTH in
-    let o = c.self.inside.opening in
-    let h = c.self.inside.history.entries in
+    let b = c.self.inside in
+    let h = b.history.entries in
     let op = c.args.op.now in
-    let may = may_update (book_of c.self.inside) op c.self.invariant.few (passed _ _ (rw (← c.self.view_is) at c.in_ok-check_update.ensures)) in
-    let steps = steps_on w o h (Call c.args.session c.args.row op) c.self.invariant.legal (has_failed-none h may.call.going) refl in
-    let world = c.self.invariant.world ∙ state_after-world w o h in
-    rw (← c.self.view_is) (λ none.
-    c.append_call.ensures.any_moment w o h c.args.session c.args.row steps.legal (c.in-Ok-readied.ensures.ok.answer_is ∙ ap (λ (ms : List Placed). answer_of ms op) world) c.self.invariant.on_log)
+    let may = may_update (book_of b) op c.self.invariant.few (passed _ _ (rw (← c.self.view_is) at c.in_ok-check_update.ensures)) in
+    let world = c.self.invariant.world ∙ state_after-world w b.opening h in
+    let steps = steps_on w b.opening h (Call c.args.session c.args.row op) c.self.invariant.legal (has_failed-none h may.call.going) refl in
+    let now : is_change (answer_of (world_after b.opening.world h) op) ≡ is_change (answer_of b.table.world op) = ap (λ (ms : List Placed). is_change (answer_of ms op)) (sym world) in
+    let it =
+    noted g.D.LogDisk.drive w b.opening b c.self.invariant may.call.going g.met.D.LogDisk.keeps_laws c.args.session c.args.row op (c.len.result + 1) (is_change (answer_of b.table.world op))
+    c.in-Ok-update.answer _ c.update.new.commit c.note_quiet.new.history
+    (call_step w b.opening h c.self.invariant.legal may.call.going c.args.session c.args.row op) steps.legal refl c.in-Ok.ensures.ok refl now
+    (ap is_change c.in-Ok-update.ensures.ok.answer_is) c.in-Ok-update.ensures.told c.note_quiet.ensures.noted c.note_quiet.ensures.quiet in
+    rw (← c.self.view_is) (λ none. it.moments)
 
 pub returns-in-Err-clause-err : goal.returns-in-Err-clause-err
 returns-in-Err-clause-err g c =
     let w = g.I.Index.WIDTH in
-    let o = c.self.inside.opening in
-    let h = c.self.inside.history.entries in
+    let b = c.self.inside in
     let op = c.args.op.now in
-    let lost = lost.Call c.args.session c.args.row op in
-    let readied = c.in-Ok-readied.ensures.ok in
-    let world = c.self.invariant.world ∙ state_after-world w o h in
-    let entries : c.push_fail.new.self.entries ≡ h ++ Fail c.in-Err.at.cell lost ∷ [] =
-    ap (λ (v : Events). v.entries) c.push_fail.ensures ∙ ap (λ (v : Events). v.entries ++ Fail c.in-Err.at.cell lost ∷ []) c.in-Ok.ensures.ok in
-    rw (← c.self.view_is) (record {
-      entries = entries;
-      cell_is = c.in-Err.ensures.lost.named;
-      index = ap (λ (t : TableView _). t.index) c.give_up.ensures ∙ ap (λ (t : TableView _). t.index) readied.kept;
-      rose = c.in-Err.ensures.lost.rose;
-      change = ap is_change (sym (readied.answer_is ∙ ap (λ (ms : List Placed). answer_of ms op) world)) ∙ c.in-Err.ensures.lost.change;
-    })
+    let world = c.self.invariant.world ∙ state_after-world w b.opening b.history.entries in
+    let told = would_change Answer (Takes g.D.LogDisk.drive) (Loses g.D.LogDisk.drive) _ _ c.update.new.commit c.in-Err.undone c.in-Err.ensures.told in
+    let change : is_change (answer_of (world_after b.opening.world b.history.entries) op) ≡ true = ap (λ (ms : List Placed). is_change (answer_of ms op)) (sym world) ∙ told.0 in
+    let it =
+    refused-undone g.D.LogDisk.drive w b.opening b c.self.invariant (may_update (book_of b) op c.self.invariant.few (passed _ _ (rw (← c.self.view_is) at c.in_ok-check_update.ensures))).call.going Answer
+    c.update.new.self (c.len.result + 1) c.cells-cell.result c.in-Err.undone _ c.update.new.commit c.in-Ok.ensures.ok refl c.in-Err.ensures.err change c.cells-cell.ensures.cells told.1 in
+    rw (← c.self.view_is) (rw c.fault_of.ensures it)

@@ -1,9 +1,9 @@
 use Rattle.std.proofs.Common.{◌∙◌, ap, rules, not}
 use Rattle.std.specs.Prelude.{◌==◌}
 use Rattle.std.proofs.lemmas.Fn.{filter_same}
-use Rattle.commit_book.specs.declared.open_splits.Begun.{Begun}
-use Rattle.commit_book.specs.Splits.{splits_of}
-use Rattle.commit_book.proofs.SplitLemmas.{without_number-splits_of}
+use Rattle.point_table.specs.declared.crowded.Begun.{Begun}
+use Rattle.point_table.specs.Splits.{splits_of}
+use Rattle.point_table.proofs.SplitLemmas.{without_number-splits_of}
 use Rattle.commit_book.proofs.open_splits.OpenSplits.remove.Goals as goal
 
 pub returns-clause-splits : goal.returns-clause-splits

@@ -24,9 +24,9 @@ give-requires-clause-entries g c =
     let r = c.abandon-answer.result in
     let was : WasTaken g.D.LogDisk.drive b old took = record { entries = take.value.0; origin = take.value.1; later = take.later; took_is = take.pass; off = c.requires.off; alone = take.alone } in
     let begun = begun-later old took n name base take.later (ap (λ (k : Known). k.own) take.pass) (ap (λ (k : Known). k.origin) take.pass) has in
-    let live = never-ended g.I.Index.leaves g.D.LogDisk.drive g.I.Index.WIDTH b took n name base abandon.book.before (take.value.1 ∙ ap (λ (k : Known). k.origin) (sym take.pass)) take.value.0 take.ends begun in
+    let live = never-ended g.D.LogDisk.drive g.I.Index.WIDTH b took n name base abandon.book.before (take.value.1 ∙ ap (λ (k : Known). k.origin) (sym take.pass)) take.value.0 take.ends begun in
     let step : BookStep g.D.LogDisk.drive IsDisk (end_refusal (cells_in b.log) b.entries) (λ (done : Unit {0}). Abandon n) (lost.Abandon n) b mid r =
-    end-step g.I.Index.leaves g.D.LogDisk.drive g.I.Index.WIDTH b mid old took took was abandon.book IsDisk _ (Abandon n) (lost.Abandon n) r live abandon.refused (abandoned-added b mid n r abandon.ok) abandon.err in
+    end-step g.D.LogDisk.drive g.I.Index.WIDTH b mid old took took was abandon.book IsDisk _ (Abandon n) (lost.Abandon n) r live abandon.refused (abandoned-added b mid n r abandon.ok) abandon.err in
     subst (λ (grown : Bool). MayGive took grown mid.entries) (sym c.has_entry-grown.ensures)
     (may-give g.D.LogDisk.drive IsDisk (end_refusal (cells_in b.log) b.entries) (λ (done : Unit {0}). Abandon n) (lost.Abandon n) b mid took take.value.0 r step
     (says-all (λ (done : Unit {0}). MayNote took.seen took.own (Abandon n)) (λ (done : Unit {0}). begun-abandon took n name base begun) r))
@@ -44,8 +44,8 @@ returns g c =
     let r = c.abandon-answer.result in
     let was : WasTaken g.D.LogDisk.drive b old took = record { entries = take.value.0; origin = take.value.1; later = take.later; took_is = take.pass; off = c.requires.off; alone = take.alone } in
     let begun = begun-later old took n name base take.later (ap (λ (k : Known). k.own) take.pass) (ap (λ (k : Known). k.origin) take.pass) has in
-    let live = never-ended g.I.Index.leaves g.D.LogDisk.drive g.I.Index.WIDTH b took n name base abandon.book.before (take.value.1 ∙ ap (λ (k : Known). k.origin) (sym take.pass)) take.value.0 take.ends begun in
+    let live = never-ended g.D.LogDisk.drive g.I.Index.WIDTH b took n name base abandon.book.before (take.value.1 ∙ ap (λ (k : Known). k.origin) (sym take.pass)) take.value.0 take.ends begun in
     let step : BookStep g.D.LogDisk.drive IsDisk (end_refusal (cells_in b.log) b.entries) (λ (done : Unit {0}). Abandon n) (lost.Abandon n) b mid r =
-    end-step g.I.Index.leaves g.D.LogDisk.drive g.I.Index.WIDTH b mid old took took was abandon.book IsDisk _ (Abandon n) (lost.Abandon n) r live abandon.refused (abandoned-added b mid n r abandon.ok) abandon.err in
-    let there = still_open g.I.Index.leaves g.D.LogDisk.drive g.I.Index.WIDTH b took n name base abandon.book.before (take.value.1 ∙ ap (λ (k : Known). k.origin) (sym take.pass)) take.value.0 take.ends begun in
-    ended g.I.Index.leaves g.D.LogDisk.drive g.I.Index.WIDTH b mid old took c.give.new.pass was abandon.book IsDisk n name (Abandon n) (lost.Abandon n) r there step (c.give.ensures ∙ ap (λ (grown : Bool). has_given took grown mid.entries) c.has_entry-grown.ensures)
+    end-step g.D.LogDisk.drive g.I.Index.WIDTH b mid old took took was abandon.book IsDisk _ (Abandon n) (lost.Abandon n) r live abandon.refused (abandoned-added b mid n r abandon.ok) abandon.err in
+    let there = still_open g.D.LogDisk.drive g.I.Index.WIDTH b took n name base abandon.book.before (take.value.1 ∙ ap (λ (k : Known). k.origin) (sym take.pass)) take.value.0 take.ends begun in
+    ended g.D.LogDisk.drive g.I.Index.WIDTH b mid old took c.give.new.pass was abandon.book IsDisk n name (Abandon n) (lost.Abandon n) r there step (c.give.ensures ∙ ap (λ (grown : Bool). has_given took grown mid.entries) c.has_entry-grown.ensures)

@@ -24,7 +24,7 @@ give-requires-clause-entries g c =
     let grown : has_entry (number_of r) ≡ c.has_entry-grown.result = number-entry r ∙ sym c.has_entry-grown.ensures in
     subst (λ (grown : Bool). MayGive took grown mid.entries) grown
     (may-give g.D.LogDisk.drive IsMemoryOrDisk (begin_cause g.I.Index.WIDTH old.origin name (cells_in b.log) b.entries) (λ (number : ℕ). Begin number name) (lost.Begin ((state_of g.I.Index.WIDTH old.origin b.entries).begun + 1) name) b mid took take.value.0
-    (number_of r) (begun-step g.I.Index.leaves g.D.LogDisk.drive g.I.Index.WIDTH b mid old took took name was begin.book r begin.ok begin.refused begin.err)
+    (number_of r) (begun-step g.D.LogDisk.drive g.I.Index.WIDTH b mid old took took name was begin.book r begin.ok begin.refused begin.err)
     (says-all (λ (number : ℕ). MayNote took.seen took.own (Begin number name)) (λ (number : ℕ). begin-may number name took.seen took.own) (number_of r)))
 
 pub returns-clause-step : goal.returns-clause-step
@@ -34,7 +34,7 @@ returns-clause-step g c =
     let mid = c.begin-answer.new.self in
     let took = c.take-book.new.pass in
     let was : WasTaken g.D.LogDisk.drive c.take-book.result c.args.pass.now took = record { entries = take.value.0; origin = take.value.1; later = take.later; took_is = take.pass; off = c.requires.off; alone = take.alone } in
-    begun g.I.Index.leaves g.D.LogDisk.drive g.I.Index.WIDTH c.take-book.result mid c.args.pass.now took c.give.new.pass c.args.name.now was begin.book c.begin-answer.result begin.ok begin.refused begin.err
+    begun g.D.LogDisk.drive g.I.Index.WIDTH c.take-book.result mid c.args.pass.now took c.give.new.pass c.args.name.now was begin.book c.begin-answer.result begin.ok begin.refused begin.err
     (c.give.ensures ∙ ap (λ (grown : Bool). has_given took grown mid.entries) c.has_entry-grown.ensures)
 
 pub returns-clause-begun : goal.returns-clause-begun
@@ -44,8 +44,8 @@ returns-clause-begun g c =
     let mid = c.begin-answer.new.self in
     let took = c.take-book.new.pass in
     let was : WasTaken g.D.LogDisk.drive c.take-book.result c.args.pass.now took = record { entries = take.value.0; origin = take.value.1; later = take.later; took_is = take.pass; off = c.requires.off; alone = take.alone } in
-    begun-notes g.I.Index.leaves g.D.LogDisk.drive g.I.Index.WIDTH c.take-book.result mid c.args.pass.now took c.give.new.pass c.args.name.now was begin.book c.begin-answer.result begin.ok take.rises.1
+    begun-notes g.D.LogDisk.drive g.I.Index.WIDTH c.take-book.result mid c.args.pass.now took c.give.new.pass c.args.name.now was begin.book c.begin-answer.result begin.ok take.rises.1
     (c.give.ensures ∙ ap (λ (grown : Bool). has_given took grown mid.entries) c.has_entry-grown.ensures)
 
 pub returns-clause-name : goal.returns-clause-name
-returns-clause-name g c = begun-name g.I.Index.leaves g.I.Index.WIDTH c.take-book.result c.begin-answer.new.self c.args.name.now c.begin-answer.result c.begin-answer.ensures.ok
+returns-clause-name g c = begun-name g.I.Index.WIDTH c.take-book.result c.begin-answer.new.self c.args.name.now c.begin-answer.result c.begin-answer.ensures.ok

@@ -23,7 +23,7 @@ give-requires-clause-entries g c =
     let was : WasTaken g.D.LogDisk.drive c.take-book.result c.args.pass.now c.take-book.new.pass = record { entries = take.value.0; origin = take.value.1; later = take.later; took_is = take.pass; off = c.requires.off; alone = take.alone } in
     subst (λ (grown : Bool). MayGive took grown mid.entries) (sym c.has_entry-grown.ensures)
     (may-give g.D.LogDisk.drive IsMemoryOrDisk (call_cause old.origin op (cells_in b.log) b.entries) (λ (d : Done). Call c.args.session c.args.row op) (lost.Call c.args.session c.args.row op) b mid took take.value.0 c.update-answer.result
-    (update-step g.I.Index.leaves g.D.LogDisk.drive g.I.Index.WIDTH b mid old took took c.args.session c.args.row op was update.book c.update-answer.result update.ok update.refused update.err)
+    (update-step g.D.LogDisk.drive g.I.Index.WIDTH b mid old took took c.args.session c.args.row op was update.book c.update-answer.result update.ok update.refused update.err)
     (says-all (λ (d : Done). MayNote took.seen took.own (Call c.args.session c.args.row op)) (λ (d : Done). call-may c.args.session c.args.row op took.seen took.own) c.update-answer.result))
 
 pub returns : goal.returns
@@ -33,5 +33,5 @@ returns g c =
     let mid = c.update-answer.new.self in
     let took = c.take-book.new.pass in
     let was : WasTaken g.D.LogDisk.drive c.take-book.result c.args.pass.now c.take-book.new.pass = record { entries = take.value.0; origin = take.value.1; later = take.later; took_is = take.pass; off = c.requires.off; alone = take.alone } in
-    updated g.I.Index.leaves g.D.LogDisk.drive g.I.Index.WIDTH c.take-book.result mid c.args.pass.now took c.give.new.pass c.args.session c.args.row c.args.op.now was update.book c.update-answer.result c.requires.update update.ok update.refused update.err
+    updated g.D.LogDisk.drive g.I.Index.WIDTH c.take-book.result mid c.args.pass.now took c.give.new.pass c.args.session c.args.row c.args.op.now was update.book c.update-answer.result c.requires.update update.ok update.refused update.err
     (c.give.ensures ∙ ap (λ (grown : Bool). has_given took grown mid.entries) c.has_entry-grown.ensures)

@@ -1,0 +1,166 @@
+-- What a step that was tried makes of a book.
+use Rattle.std.proofs.Common.{◌≡◌, ℕ, ◌-◌, ◌<◌, ◌≤◌, Bool, true, false, List, [], ◌∷◌, ◌++◌, length, Option, None, Ok, Err, refl, sym, ap, subst, ◌∙◌, arith}
+use Rattle.std.specs.Prelude.{◌==◌}
+use mathlib.Core.Bool.{true≢false}
+use Rattle.bucket_versions.specs.Told.{Told}
+use Rattle.bucket_versions.specs.declared.commit.Undone.{Undone}
+use Rattle.bucket_versions.specs.declared.commit.Undone.TheVariants as undone
+use Rattle.cell_format.specs.declared.cell.Cell.{Cell}
+use Rattle.plain_list.specs.declared.ops.Op.{Op}
+use Rattle.plain_list.specs.declared.ops.Answer.{Answer}
+use Rattle.plain_list.specs.declared.entries.Entry.{Entry}
+use Rattle.plain_list.specs.declared.entries.Entry.TheVariants.{Call, Fail}
+use Rattle.plain_list.specs.declared.entries.Lost.{Lost}
+use Rattle.plain_list.specs.declared.entries.Lost.TheVariants as lost
+use Rattle.plain_list.specs.Answer.{answer_of, is_change}
+use Rattle.plain_list.specs.History.{world_after}
+use Rattle.plain_list.specs.State.{State, IsLegal}
+use Rattle.disk_trait.specs.Drive.{Drive, KeepsLaws}
+use Rattle.log_state.specs.Changes.{lost_cells}
+use Rattle.kept_log.specs.KeptView.{KeptView}
+use Rattle.kept_log.specs.Journal.{failed_cell, cells_in, KeepsIn, RoseIn, LeavesEither}
+use Rattle.kept_log.proofs.InJournal.{in-call, leaves-quiet}
+use Rattle.point_table.specs.TableView.{TableView}
+use Rattle.point_table.specs.Updates.{TellsIf}
+use Rattle.commit_book.specs.BookInside.{IsInside, book_of}
+use Rattle.commit_book.specs.Events.{Events}
+use Rattle.commit_book.specs.IsBook.{most_events}
+use Rattle.commit_book.specs.Refusals.{WouldChange, LeavesRefused, most_cells}
+use Rattle.commit_book.specs.SplitsView.{SplitsView}
+use Rattle.commit_book.specs.Steps.{entry_of, fault_of, IsStep, CanStep, Ends, Takes, Loses}
+use Rattle.commit_book.specs.declared.book.Book.TheInside.{Inside}
+use Rattle.commit_book.specs.declared.steps.Step.{Step}
+use Rattle.commit_book.proofs.BookStates.{inside-fail}
+use Rattle.commit_book.proofs.OnLog.{in-most, in-failed}
+use Rattle.commit_book.proofs.UpdateCalls.{fewer_cells}
+
+-- a step with a cell may be tried at a book that is going on and has room for it
+pub can_step : {I D : Type 0} (drive : D → Drive) (w : ℕ) (o : State) (b : Inside I D) (events : Events) (step : Lost) (cell : Cell) → lost_cells step ≡ cell ∷ [] → IsInside drive w o b
+    → failed_cell b.history.entries ≡ None → (cells_in b.journal == most_cells) ≡ false → events.entries ≡ b.history.entries → 0 < events.room → CanStep step events b.journal
+can_step drive w o b events step cell has inside going room same promised = record {
+  cell = cell;
+  cell_is = has;
+  going = in-failed drive w o b.history.entries b.journal inside.on_log going;
+  room = fewer_cells (cells_in b.journal) (in-most drive w o b.history.entries b.journal inside.on_log) room;
+  promised = promised;
+  few = omega (arith, ap length same, inside.few);
+}
+
+module _ {I D : Type 0} (drive : D → Drive) (w : ℕ) (o : State) (old : Inside I D) (inside : IsInside drive w o old) (going : failed_cell old.history.entries ≡ None) where
+  abbrev pub h : List Entry
+  h = old.history.entries
+
+  -- a book whose step was lost, or wasn't taken
+  pub inside-undone : (A : Type 0) (table : TableView) (splits : SplitsView) (opening : State) (n : ℕ) (why : Undone) (a b : Step D) → length h < most_events → IsStep w o h a.lost
+      → a.history.now ≡ record { entries = h; room = n } → a.journal.now ≡ old.journal → length old.splits.splits ≤ n
+      → table ≡ old.table → splits.splits ≡ old.splits.splits → splits.begun ≡ old.splits.begun
+      → Told {A = A} (Takes drive) (Loses drive) a b (Err why) → IsInside {I = I} drive w o (record { table = table; splits = splits; history = b.history.now; journal = b.journal.now; opening = opening })
+  inside-undone A table splits opening n undone.Lost a b few step events log room same opens begun told =
+      let ends : Ends drive a.lost (Fail (cells_in a.journal.now) a.lost) (record { entries = h; room = n }) b.history.now a.journal.now b.journal.now =
+      subst (λ (v : Events). Ends drive a.lost (Fail (cells_in a.journal.now) a.lost) v b.history.now a.journal.now b.journal.now) events told.ends in
+      let entries : b.history.now.entries ≡ h ++ Fail (cells_in a.journal.now) a.lost ∷ [] = ap (λ (v : Events). v.entries) ends.events in
+      let kept = ends.keeps w o step (subst (λ (l : Option (KeptView D)). KeepsIn drive w o h l) (sym log) inside.on_log) in
+      inside-fail drive w o old _ inside going (subst (λ (g : List Entry). KeepsIn drive w o g b.journal.now) (sym entries) kept) (cells_in a.journal.now) a.lost few entries
+      (ap (λ (t : TableView). t.world) same) (ap (λ (t : TableView). t.leaves) same) opens begun
+  inside-undone A table splits opening n undone.Memory a b few step events log room same opens begun told =
+      let entries : b.history.now.entries ≡ h = ap (λ (s : Step D). s.history.now.entries) told ∙ ap (λ (v : Events). v.entries) events in
+      let rooms : b.history.now.room ≡ n = ap (λ (s : Step D). s.history.now.room) told ∙ ap (λ (v : Events). v.room) events in
+      let journal : b.journal.now ≡ old.journal = ap (λ (s : Step D). s.journal.now) told ∙ log in
+      record {
+        opening = inside.opening;
+        legal = rw entries inside.legal;
+        world = rw entries (ap (λ (t : TableView). t.world) same ∙ inside.world);
+        names = rw (entries, same) inside.names;
+        splits = rw entries (opens ∙ inside.splits);
+        begun = rw entries (begun ∙ inside.begun);
+        bases = rw (entries, same) inside.bases;
+        few = rw entries inside.few;
+        room = λ _. omega (arith, ap length opens, room, rooms);
+        on_log = rw (entries, journal) inside.on_log;
+      }
+
+  -- at every moment of it a crash leaves the cells that stood there, or these and the step's own
+  pub moments-undone : (A : Type 0) → ((d : D) → KeepsLaws (drive d)) → (n : ℕ) (why : Undone) (a b : Step D) → IsStep w o h a.lost → a.history.now ≡ record { entries = h; room = n } → a.journal.now ≡ old.journal
+      → Told {A = A} (Takes drive) (Loses drive) a b (Err why) → LeavesEither drive w o h (entry_of a.lost) old.journal b.journal.now
+  moments-undone A laws n undone.Lost a b step events log told =
+      let ends : Ends drive a.lost (Fail (cells_in a.journal.now) a.lost) (record { entries = h; room = n }) b.history.now a.journal.now b.journal.now =
+      subst (λ (v : Events). Ends drive a.lost (Fail (cells_in a.journal.now) a.lost) v b.history.now a.journal.now b.journal.now) events told.ends in
+      subst (λ (l : Option (KeptView D)). LeavesEither drive w o h (entry_of a.lost) l b.journal.now) log
+      (ends.any_moment w o step (subst (λ (l : Option (KeptView D)). KeepsIn drive w o h l) (sym log) inside.on_log))
+  moments-undone A laws n undone.Memory a b step events log told =
+      subst (λ (l : Option (KeptView D)). LeavesEither drive w o h (entry_of a.lost) old.journal l) (sym (ap (λ (s : Step D). s.journal.now) told ∙ log))
+      (leaves-quiet drive w o h (entry_of a.lost) old.journal laws inside.on_log going)
+
+  -- where the drive failed the book is closed, and else it is as it was
+  pub refused-undone : (A : Type 0) (table : TableView) (n cell : ℕ) (why : Undone) (a b : Step D) → a.history.now ≡ record { entries = h; room = n } → a.journal.now ≡ old.journal → table ≡ old.table
+      → WouldChange (book_of old) a.lost → cell ≡ cells_in b.journal.now → Told {A = A} (Takes drive) (Loses drive) a b (Err why)
+      → LeavesRefused drive a.lost (book_of old) (record { leaves = table.leaves; opening = old.opening; entries = b.history.now.entries; bucket = table.size; log = b.journal.now }) (fault_of why cell)
+  refused-undone A table n cell undone.Lost a b events log same change cell_is told =
+      let at : cell ≡ cells_in a.journal.now = cell_is ∙ told.count in
+      record {
+        entries =
+            ap (λ (v : Events). v.entries) told.ends.events ∙ ap (λ (v : Events). v.entries ++ Fail (cells_in a.journal.now) a.lost ∷ []) events
+            ∙ ap (λ m. h ++ Fail m a.lost ∷ []) (sym at);
+        cell_is = at ∙ ap (λ (l : Option (KeptView D)). cells_in l) log;
+        leaves = ap (λ (t : TableView). t.leaves) same;
+        rose = subst (λ (l : Option (KeptView D)). RoseIn drive l b.journal.now) log told.rose;
+        change = change;
+      }
+  refused-undone A table n cell undone.Memory a b events log same change cell_is told =
+      let entries : b.history.now.entries ≡ h = ap (λ (s : Step D). s.history.now.entries) told ∙ ap (λ (v : Events). v.entries) events in
+      let journal : b.journal.now ≡ old.journal = ap (λ (s : Step D). s.journal.now) told ∙ log in
+      λ i. record { leaves = (same i).leaves; opening = old.opening; entries = entries i; bucket = (same i).size; log = journal i }
+
+  -- a step that was taken
+  pub record Taken (step : Lost) (n : ℕ) (events : Events) (log : Option (KeptView D)) : Type 0 where
+    pub entries : events.entries ≡ h ++ entry_of step ∷ []
+    pub room : events.room ≡ n - 1
+    pub keeps : KeepsIn drive w o events.entries log
+    pub moments : LeavesEither drive w o h (entry_of step) old.journal log
+
+  pub taken : (n : ℕ) (a b : Step D) → IsStep w o h a.lost → a.history.now ≡ record { entries = h; room = n } → a.journal.now ≡ old.journal → Takes drive a b → Taken a.lost n b.history.now b.journal.now
+  taken n a b step events log told =
+      let ends : Ends drive a.lost (entry_of a.lost) (record { entries = h; room = n }) b.history.now a.journal.now b.journal.now =
+      subst (λ (v : Events). Ends drive a.lost (entry_of a.lost) v b.history.now a.journal.now b.journal.now) events told.ends in
+      let entries : b.history.now.entries ≡ h ++ entry_of a.lost ∷ [] = ap (λ (v : Events). v.entries) ends.events in
+      let kept = subst (λ (l : Option (KeptView D)). KeepsIn drive w o h l) (sym log) inside.on_log in
+      record {
+        entries = entries;
+        room = ap (λ (v : Events). v.room) ends.events;
+        keeps = subst (λ (g : List Entry). KeepsIn drive w o g b.journal.now) (sym entries) (ends.keeps w o step kept);
+        moments = subst (λ (l : Option (KeptView D)). LeavesEither drive w o h (entry_of a.lost) l b.journal.now) log (ends.any_moment w o step kept);
+      }
+
+  -- a call that was noted, with its cell or without one
+  pub noted : ((d : D) → KeepsLaws (drive d)) → (session row : ℕ) (op : Op) (n : ℕ) (change : Bool) (answer : Answer) (a b : Step D) (events : Events)
+      → (is_change (answer_of (world_after o.world h) op) ≡ true → IsStep w o h a.lost) → IsLegal w o (h ++ Call session row op ∷ []) → a.lost ≡ lost.Call session row op
+      → a.history.now ≡ record { entries = h; room = n } → a.journal.now ≡ old.journal → is_change (answer_of (world_after o.world h) op) ≡ change → is_change answer ≡ change
+      → TellsIf (Takes drive) (Loses drive) change a b (Ok answer) → (is_change answer ≡ true → events ≡ b.history.now)
+      → (is_change answer ≡ false → events ≡ record { entries = b.history.now.entries ++ Call session row op ∷ []; room = b.history.now.room - 1 })
+      → Taken (lost.Call session row op) n events b.journal.now
+  noted laws session row op n true answer a b events step legal is_call before log now same told kept quiet =
+      let it = taken n a b (step now) before log told in
+      let last : Taken (lost.Call session row op) n b.history.now b.journal.now = subst (λ (l : Lost). Taken l n b.history.now b.journal.now) is_call it in
+      subst (λ (v : Events). Taken (lost.Call session row op) n v b.journal.now) (sym (kept same)) last
+  noted laws session row op n false answer a b events step legal is_call before log now same told kept quiet =
+      let pushed : events ≡ record { entries = h ++ Call session row op ∷ []; room = n - 1 } =
+      quiet same ∙ ap (λ (s : Step D). record { entries = s.history.now.entries ++ Call session row op ∷ []; room = s.history.now.room - 1 }) told
+      ∙ ap (λ (v : Events). record { entries = v.entries ++ Call session row op ∷ []; room = v.room - 1 }) before in
+      let journal : b.journal.now ≡ old.journal = ap (λ (s : Step D). s.journal.now) told ∙ log in
+      let entries : events.entries ≡ h ++ Call session row op ∷ [] = ap (λ (v : Events). v.entries) pushed in
+      record {
+        entries = entries;
+        room = ap (λ (v : Events). v.room) pushed;
+        keeps = rw (entries, journal) (in-call drive w o h session row op old.journal legal now inside.on_log);
+        moments = rw journal (leaves-quiet drive w o h (Call session row op) old.journal laws inside.on_log going);
+      }
+
+-- an update that wasn't made would have been a change
+pub would_change : {C : Type 0} (A : Type 0) (done lost : C → C → Type 0) (change : Bool) (a b : C) (why : Undone) → TellsIf {A = A} done lost change a b (Err why) → (change ≡ true) × Told {A = A} done lost a b (Err why)
+would_change A done lost true a b why told = (refl, told)
+would_change A done lost false a b why told = absurd told
+
+-- one that was made, and is none, took no step
+pub quiet_told : {C A : Type 0} (done lost : C → C → Type 0) (change : Bool) (a b : C) (answer : A) → change ≡ false → TellsIf done lost change a b (Ok answer) → b ≡ a
+quiet_told done lost true a b answer none told = absurd (true≢false none)
+quiet_told done lost false a b answer none told = told

@@ -1,6 +1,0 @@
-use Rattle.std.proofs.Common.{◌≡◌, take}
-use Rattle.commit_book.proofs.members.points_of.Given as goal
-
--- so far, the first objects
-abbrev pub invariant-loop-member : goal.invariant-loop-member
-invariant-loop-member l = l.points ≡ take l.member-index l.world
