@@ -1,8 +1,8 @@
 //! The limits of a run, and the form of its index.
-use flat_index::FlatIndex;
+use kd_trie::KdTrie;
 
 /// The index of a play's book.
-pub(crate) type StoreIndex = FlatIndex;
+pub(crate) type StoreIndex = KdTrie;
 
 /// How many bits a leaf's children have more in their names.
 pub(crate) const WIDTH: u8 = 1;
