@@ -4,7 +4,8 @@ use Rattle.std.specs.Prelude.{codes, IsTrue}
 use Rattle.std.proofs.lemmas.Bool.{true≢false}
 use Rattle.zorder.specs.declared.points.Region.{Region}
 use Rattle.csv_rows.specs.Numbers.{number_in}
-use Rattle.command_words.specs.Words.{Command, AsksFor, NamesFile, SpellsBox, SpellsPlay, SpellsShow, IsInit, IsCheck, IsPlay, IsShow, IsUnlogged, IsLogged, IsAccepted, is_file_name, Init, Check, Play, Show}
+use Rattle.command_words.specs.Words.{Command, AsksFor, NamesFile, SpellsBox, SpellsPlay, SpellsShow, IsInit, IsCheck, IsPlay, IsShow, IsTrial, IsUnlogged, IsLogged, IsAccepted, is_file_name, Init, Check, Play, Show, Trial}
+use Rattle.command_words.proofs.TrialFacts.{trial-word, one-trial}
 
 init-word : (words : List (List ℕ)) → IsInit words → get_or words 0 [] ≡ codes "init"
 init-word words asks = ap (λ (ws : List (List ℕ)). get_or ws 0 []) asks.1.0
@@ -88,12 +89,28 @@ check-show words k s = let e : 99 ≡ 115 = first_letter (codes "check") (codes 
 pub play-show : (words : List (List ℕ)) → IsPlay words → IsShow words → ⊥
 play-show words p s = let e : 112 ≡ 115 = first_letter (codes "play") (codes "show") (sym (play-word words p) ∙ shown-word words s) in omega (arith, e)
 
+first-letter : (words : List (List ℕ)) (xs ys : List ℕ) → get_or words 0 [] ≡ xs → get_or words 0 [] ≡ ys → get_or xs 0 0 ≡ get_or ys 0 0
+first-letter words xs ys first second = first_letter xs ys (sym first ∙ second)
+
+init-trial : (words : List (List ℕ)) → IsInit words → IsTrial words → ⊥
+init-trial words i t = let e : 105 ≡ 116 = first-letter words (codes "init") (codes "trial") (init-word words i) (trial-word words t) in omega (arith, e)
+
+check-trial : (words : List (List ℕ)) → IsCheck words → IsTrial words → ⊥
+check-trial words k t = let e : 99 ≡ 116 = first-letter words (codes "check") (codes "trial") (check-word words k) (trial-word words t) in omega (arith, e)
+
+play-trial : (words : List (List ℕ)) → IsPlay words → IsTrial words → ⊥
+play-trial words p t = let e : 112 ≡ 116 = first-letter words (codes "play") (codes "trial") (play-word words p) (trial-word words t) in omega (arith, e)
+
+show-trial : (words : List (List ℕ)) → IsShow words → IsTrial words → ⊥
+show-trial words s t = let e : 115 ≡ 116 = first-letter words (codes "show") (codes "trial") (shown-word words s) (trial-word words t) in omega (arith, e)
+
 -- words of none of the commands aren't accepted
-pub none-accepted : (words : List (List ℕ)) → (IsInit words → ⊥) → (IsCheck words → ⊥) → (IsShow words → ⊥) → (IsPlay words → ⊥) → IsAccepted words → ⊥
-none-accepted words i k s p (Init file, asks) = i (file, asks)
-none-accepted words i k s p (Check file, asks) = k (file, asks)
-none-accepted words i k s p (Play file size, asks) = p (size, (file, asks))
-none-accepted words i k s p (Show file region, asks) = s (file, region, asks)
+pub none-accepted : (words : List (List ℕ)) → (IsInit words → ⊥) → (IsCheck words → ⊥) → (IsShow words → ⊥) → (IsTrial words → ⊥) → (IsPlay words → ⊥) → IsAccepted words → ⊥
+none-accepted words i k s t p (Init file, asks) = i (file, asks)
+none-accepted words i k s t p (Check file, asks) = k (file, asks)
+none-accepted words i k s t p (Play file size, asks) = p (size, (file, asks))
+none-accepted words i k s t p (Show file region, asks) = s (file, region, asks)
+none-accepted words i k s t p (Trial log made, asks) = t (log, made, asks)
 
 pub accepted-play : (words : List (List ℕ)) → IsPlay words → IsAccepted words
 accepted-play words (size, (file, asks)) = (Play file size, asks)
@@ -169,15 +186,24 @@ one-command words (Init f) (Init g) first second = ap Init (same-file (codes "in
 one-command words (Init f) (Check g) first second = absurd (init-check words (f, first) (g, second))
 one-command words (Init f) (Play l n) first second = absurd (init-play words (f, first) (n, (l, second)))
 one-command words (Init f) (Show g r) first second = absurd (init-show words (f, first) (g, r, second))
+one-command words (Init f) (Trial l b) first second = absurd (init-trial words (f, first) (l, b, second))
 one-command words (Check f) (Init g) first second = absurd (init-check words (g, second) (f, first))
 one-command words (Check f) (Check g) first second = ap Check (same-file (codes "check") words f g first second)
 one-command words (Check f) (Play l n) first second = absurd (check-play words (f, first) (n, (l, second)))
 one-command words (Check f) (Show g r) first second = absurd (check-show words (f, first) (g, r, second))
+one-command words (Check f) (Trial l b) first second = absurd (check-trial words (f, first) (l, b, second))
 one-command words (Play k m) (Init g) first second = absurd (init-play words (g, second) (m, (k, first)))
 one-command words (Play k m) (Check g) first second = absurd (check-play words (g, second) (m, (k, first)))
 one-command words (Play k m) (Play l n) first second = one-play words k l m n first second
 one-command words (Play k m) (Show g r) first second = absurd (play-show words (m, (k, first)) (g, r, second))
+one-command words (Play k m) (Trial l b) first second = absurd (play-trial words (m, (k, first)) (l, b, second))
 one-command words (Show f q) (Init g) first second = absurd (init-show words (g, second) (f, q, first))
 one-command words (Show f q) (Check g) first second = absurd (check-show words (g, second) (f, q, first))
 one-command words (Show f q) (Play l n) first second = absurd (play-show words (n, (l, second)) (f, q, first))
 one-command words (Show f q) (Show g r) first second = one-show words f g q r first second
+one-command words (Show f q) (Trial l b) first second = absurd (show-trial words (f, q, first) (l, b, second))
+one-command words (Trial k a) (Init g) first second = absurd (init-trial words (g, second) (k, a, first))
+one-command words (Trial k a) (Check g) first second = absurd (check-trial words (g, second) (k, a, first))
+one-command words (Trial k a) (Play l n) first second = absurd (play-trial words (n, (l, second)) (k, a, first))
+one-command words (Trial k a) (Show g r) first second = absurd (show-trial words (g, r, second) (k, a, first))
+one-command words (Trial k a) (Trial l b) first second = one-trial words k l a b first second

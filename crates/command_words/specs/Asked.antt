@@ -2,7 +2,7 @@
 use Rattle.std.specs.Prelude.{ℕ, List, Option, Some, None}
 use Rattle.command_words.specs.Words as words
 use Rattle.command_words.specs.declared.parsing.Command.{Command}
-use Rattle.command_words.specs.declared.parsing.Command.TheVariants.{Init, Check, Play, Show}
+use Rattle.command_words.specs.declared.parsing.Command.TheVariants.{Init, Check, Play, Show, Trial}
 
 abbrev pub command_of : Command → words.Command
 command_of (Init file) = words.Init file.now
@@ -10,8 +10,11 @@ command_of (Check file) = words.Check file.now
 command_of (Play (Some log) size) = words.Play (Some log.now) size
 command_of (Play None size) = words.Play None size
 command_of (Show file region) = words.Show file.now region
+command_of (Trial (Some log) made) = words.Trial (Some log.now) made
+command_of (Trial None made) = words.Trial None made
 
 -- the file whose log rows are to be played over
 abbrev pub file_of : Command → Option (List ℕ)
 file_of (Play (Some log) size) = Some log.now
+file_of (Trial (Some log) made) = Some log.now
 file_of _ = None

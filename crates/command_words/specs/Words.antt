@@ -2,14 +2,16 @@
 use Rattle.std.specs.Prelude.{◌≡◌, ◌⊎◌, ℕ, ◌==◌, Bool, false, not, List, [], ◌∷◌, Option, Some, None, codes, IsTrue}
 use Rattle.zorder.specs.declared.points.Region.{Region}
 use Rattle.csv_rows.specs.Numbers.{number_in}
+use Rattle.command_words.specs.declared.trials.Made.{Made}
 
 -- what a run is asked for: to make a log in a file, to inspect the log in a file, to play rows, over the log in a file or over none, with
--- buckets of a size, or to list the objects in a box, of the log in a file
+-- buckets of a size, to list the objects in a box, of the log in a file, or to play made rows, over the log in a file or over none
 pub data Command : Type 0 where
   Init : List ℕ → Command
   Check : List ℕ → Command
   Play : Option (List ℕ) → ℕ → Command
   Show : List ℕ → Region → Command
+  Trial : Option (List ℕ) → Made → Command
 
 -- whether a word names a file: it isn't empty, and doesn't begin with `-`
 abbrev pub is_file_name : List ℕ → Bool
@@ -38,6 +40,15 @@ pub record SpellsBox (x y a b : List ℕ) (region : Region) : Type 0 where
 abbrev pub SpellsShow : List (List ℕ) → List ℕ → Region → Type 0
 SpellsShow words word region = (x y a b : List ℕ) × (words ≡ codes "show" ∷ word ∷ x ∷ y ∷ a ∷ b ∷ []) × SpellsBox x y a b region
 
+-- two words are how many rows are made, 1 to 65,536, and of which seed, a number of 64 bits
+pub record SpellsMade (rows seed : List ℕ) (made : Made) : Type 0 where
+  pub rows_are : number_in 1 65536 rows ≡ Some made.rows
+  pub seed_is : number_in 0 18446744073709551615 seed ≡ Some made.seed
+
+-- the words that ask for these rows to be made and played, with this word in the place of a file
+abbrev pub SpellsTrial : List (List ℕ) → List ℕ → Made → Type 0
+SpellsTrial words word made = (rows seed : List ℕ) × (words ≡ codes "trial" ∷ word ∷ rows ∷ seed ∷ []) × SpellsMade rows seed made
+
 -- the words that ask for a command; a dash stands for no log
 abbrev pub AsksFor : List (List ℕ) → Command → Type 0
 AsksFor words (Init file) = NamesFile (codes "init") words file
@@ -45,6 +56,8 @@ AsksFor words (Check file) = NamesFile (codes "check") words file
 AsksFor words (Play None size) = SpellsPlay words (codes "-") size
 AsksFor words (Play (Some file) size) = IsTrue (is_file_name file) × SpellsPlay words file size
 AsksFor words (Show file region) = IsTrue (is_file_name file) × SpellsShow words file region
+AsksFor words (Trial None made) = SpellsTrial words (codes "-") made
+AsksFor words (Trial (Some file) made) = IsTrue (is_file_name file) × SpellsTrial words file made
 
 -- the words that ask for rows to be played with buckets of this size
 abbrev pub AsksToPlay : List (List ℕ) → ℕ → Type 0
@@ -62,6 +75,9 @@ IsPlay words = (size : ℕ) × AsksToPlay words size
 
 abbrev pub IsShow : List (List ℕ) → Type 0
 IsShow words = (file : List ℕ) × (region : Region) × AsksFor words (Show file region)
+
+abbrev pub IsTrial : List (List ℕ) → Type 0
+IsTrial words = (log : Option (List ℕ)) × (made : Made) × AsksFor words (Trial log made)
 
 -- the words that ask for rows to be played over no log
 abbrev pub IsUnlogged : List (List ℕ) → Type 0

@@ -4,8 +4,6 @@
 //! which words ask for it. `command_in` answers the one command that the words ask for, and none exactly where they ask
 //! for none.
 //!
-//! `trial_words` reads the words of a command that no run knows yet.
-//!
 //! Not here: what a command does (`location_run`).
 #![tactic(auto)]
 
@@ -18,4 +16,4 @@ mod tests;
 mod trials;
 
 pub use parsing::{Command, command_in};
-pub use trials::{Made, TrialWords, trial_words};
+pub use trials::Made;

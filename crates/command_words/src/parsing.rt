@@ -1,12 +1,13 @@
 //! What words ask for.
 ghost use Rattle.std.specs.Prelude.{map, MatchOption};
 ghost use Rattle.std.specs.String.{string_bytes};
-ghost use Rattle.command_words.specs.Words.{AsksFor, IsAccepted, IsPlay, IsShow};
+ghost use Rattle.command_words.specs.Words.{AsksFor, IsAccepted, IsPlay, IsShow, IsTrial};
 ghost use Rattle.command_words.specs.Asked.{command_of};
 
 use crate::boxes::show_words;
 use crate::files::{file_after, is_file_name};
 use crate::plays::play_words;
+use crate::trials::{Made, trial_words};
 use zorder::Region;
 
 /// What the words ask for.
@@ -20,6 +21,8 @@ pub enum Command<'a> {
     Play(Option<&'a str>, u32),
     /// To list the objects in this box, of the log in this file.
     Show(&'a str, Region),
+    /// To play rows that are made, over the log in this file or over none.
+    Trial(Option<&'a str>, Made),
 }
 
 /// The command that the words ask for; `words` are the command line without the program's name.
@@ -34,6 +37,9 @@ pub fn command_in(words: &[String]) -> Option<Command<'_>>
     }
     if let Some(show) = show_in(words) {
         return Some(show);
+    }
+    if let Some(trial) = trial_in(words) {
+        return Some(trial);
     }
     play_in(words)
 }
@@ -63,6 +69,22 @@ fn play_in(words: &[String]) -> Option<Command<'_>>
     }
     if is_file_name(play.log) {
         return Some(Command::Play(Some(play.log), play.size));
+    }
+    None
+}
+
+// What the words ask for, where it is to play made rows.
+fn trial_in(words: &[String]) -> Option<Command<'_>>
+    ensures { MatchOption result (IsTrial (map string_bytes words.now) → ⊥) (λ c. AsksFor (map string_bytes words.now) (command_of c)) }
+{
+    let Some(trial) = trial_words(words) else {
+        return None;
+    };
+    if trial.log == "-" {
+        return Some(Command::Trial(None, trial.made));
+    }
+    if is_file_name(trial.log) {
+        return Some(Command::Trial(Some(trial.log), trial.made));
     }
     None
 }

@@ -1,5 +1,5 @@
 //! Words that are accepted, and words that aren't.
-use crate::{Command, command_in};
+use crate::{Command, Made, command_in};
 use std::alloc::Global;
 use std::test::Fail;
 use zorder::{Point, Region};
@@ -16,6 +16,8 @@ fn asked(alloc: Global, line: &str) -> Result<String, Fail> {
         Some(Command::Play(Some(file), size)) => format!(in alloc; "play {file} {size}")?,
         Some(Command::Play(None, size)) => format!(in alloc; "play {size}")?,
         Some(Command::Show(file, region)) => shown(alloc, file, region)?,
+        Some(Command::Trial(Some(file), made)) => tried(alloc, file, made)?,
+        Some(Command::Trial(None, made)) => tried(alloc, "none", made)?,
         None => String::from_str(alloc, "usage")?,
     };
     Ok(text)
@@ -27,6 +29,11 @@ fn shown(alloc: Global, file: &str, region: Region) -> Result<String, Fail> {
         hi: Point { x: a, y: b },
     } = region;
     Ok(format!(in alloc; "show {file} {x} {y} {a} {b}")?)
+}
+
+fn tried(alloc: Global, file: &str, made: Made) -> Result<String, Fail> {
+    let Made { rows, seed } = made;
+    Ok(format!(in alloc; "trial {file} {rows} {seed}")?)
 }
 
 #[test]
@@ -43,6 +50,11 @@ fn each_command_has_its_words(rt: HostRuntime) -> Result<(), Fail> {
         (
             "show moves.log 0 0 4294967295 4294967295",
             "show moves.log 0 0 4294967295 4294967295",
+        ),
+        ("trial - 1 0", "trial none 1 0"),
+        (
+            "trial moves.log 65536 18446744073709551615",
+            "trial moves.log 65536 18446744073709551615",
         ),
     ];
     for (line, command) in table {
@@ -78,6 +90,14 @@ fn other_words_are_usage(rt: HostRuntime) -> Result<(), Fail> {
         "show moves.log 0 0 1 4294967296",
         "show moves.log 0 0 1 -1",
         "shows moves.log 0 0 1 1",
+        "trial",
+        "trial - 1",
+        "trial -x 1 0",
+        "trial - 0 1",
+        "trial - 65537 1",
+        "trial - 1 18446744073709551616",
+        "trial - 1 2 more",
+        "trial - 1 2 --bucket 64",
     ];
     for line in table {
         assert_eq!(rt; asked(rt.alloc(), line)?.as_str(), "usage");

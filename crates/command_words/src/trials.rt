@@ -1,8 +1,8 @@
-//! The words that ask for made rows to be played. No command of a run asks for it so far.
+//! The words that ask for made rows to be played.
 ghost use Rattle.std.specs.Prelude.{◌≡◌, ℕ, List, Some, map, MatchOption};
 ghost use Rattle.std.specs.String.{string_bytes};
 ghost use Rattle.csv_rows.specs.Numbers.{number_in};
-ghost use Rattle.command_words.specs.TrialWords.{SpellsMade, SpellsTrial};
+ghost use Rattle.command_words.specs.Words.{SpellsMade, SpellsTrial};
 
 use crate::files::is_word;
 use csv_rows::number_in;
@@ -14,15 +14,14 @@ pub struct Made {
     pub seed: u64,
 }
 
-/// The word in the place of a log's file, and the rows.
+// The word in the place of a log's file, and the rows.
 #[derive(Clone, Copy, Drop)]
-pub struct TrialWords<'a> {
-    pub log: &'a str,
-    pub made: Made,
+pub(crate) struct TrialWords<'a> {
+    pub(crate) log: &'a str,
+    pub(crate) made: Made,
 }
 
-/// The word for a log, and the rows, behind the word `trial`. Whether the word for a log names a file isn't looked at.
-pub fn trial_words(words: &[String]) -> Option<TrialWords<'_>>
+pub(crate) fn trial_words(words: &[String]) -> Option<TrialWords<'_>>
     ensures { MatchOption result ((log : List ℕ) (made : Made) → SpellsTrial (map string_bytes words.now) log made → ⊥) (λ trial. SpellsTrial (map string_bytes words.now) trial.log.now trial.made) }
 {
     match words {
