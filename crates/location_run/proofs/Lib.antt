@@ -7,10 +7,12 @@ pub mod CrashFacts
 pub mod BookEnds
 pub mod LogEnds
 pub mod PlayFacts
+pub mod TrialEnds
 pub mod StatusFacts
 pub mod Dealing
 pub mod Joining
 pub mod Answering
+pub mod Objects
 pub mod PlayEnds
 pub mod LineOrder
 pub mod PlayedOut

@@ -22,9 +22,11 @@ use Rattle.location_run.specs.Crash.{KeepsPlayed}
 use Rattle.plain_list.specs.declared.entries.Lost.{Lost}
 use Rattle.kept_log.proofs.InJournal.{failed_cell-last, has_failed-none}
 use Rattle.lane_history.specs.LostSteps.{IsNextStep, LosesStep}
+use Rattle.location_run.specs.declared.reports.Report.{Report}
 use Rattle.location_run.specs.Answers.{AnswersAsOneList}
 use Rattle.location_run.specs.Playing.{IsStop, EndsRows, IsAnswered}
 use Rattle.location_run.specs.inside.Books.{IsLike, BeginsAs, StopsBook, LeavesLog, OpensBook, count_in}
+use Rattle.location_run.specs.inside.Ended.{EndsBook}
 use Rattle.location_run.proofs.CrashFacts.{some-same, keeps-opened}
 
 -- the log of a book, as it is left
@@ -126,11 +128,11 @@ attached-book {D = D} drive file old size b h disk opens leaves =
     subst (λ (d : D). (drive d).attached file false) kept.disk_is (kept.keeps.file file false (kept.like.attached file false opens.attached))
 
 -- answers and splits from an origin
-pub list-from : (old : Drive) (from : Origin) (s : State) (rows : List InRow) (h : List Entry) (status : ℕ) (before after : Output) → IsFoundOrigin old from → s ≡ from.state → AnswersAsOneList width s rows h status before after
-    → AnswersAsOneList from.width from.state rows h status before after
-list-from old from s rows h status before after found state list =
-    subst (λ (w : ℕ). AnswersAsOneList w from.state rows h status before after) (ap (λ (o : Origin). o.width) (sym found.origin_is))
-    (subst (λ (o : State). AnswersAsOneList width o rows h status before after) state list)
+list-from : (report : Report) (old : Drive) (from : Origin) (s : State) (rows : List InRow) (h : List Entry) (status : ℕ) (before after : Output) → IsFoundOrigin old from → s ≡ from.state → AnswersAsOneList report width s rows h status before after
+    → AnswersAsOneList report from.width from.state rows h status before after
+list-from report old from s rows h status before after found state list =
+    subst (λ (w : ℕ). AnswersAsOneList report w from.state rows h status before after) (ap (λ (o : Origin). o.width) (sym found.origin_is))
+    (subst (λ (o : State). AnswersAsOneList report width o rows h status before after) state list)
 
 pub settled-from : (old : Drive) (from : Origin) (size bucket : ℕ) (s : State) (first cells : Option ℕ) (h : List Entry) → IsFoundOrigin old from → s ≡ from.state → bucket ≡ size → first ≡ cells → IsSettled width bucket s first h
     → IsSettled from.width size from.state cells h
@@ -139,37 +141,35 @@ settled-from old from size bucket s first cells h found state sized count settle
     (subst (λ (o : State). IsSettled width size o cells h) state (subst (λ (n : ℕ). IsSettled width n s cells h) sized (subst (λ (c : Option ℕ). IsSettled width bucket s c h) count settled)))
 
 -- rows that were answered over a log
-pub answered-over : {D : Type 0} (drive : D → Drive) (file : List ℕ) (size : ℕ) (rows : List InRow) (b : BookView D) (was disk : D) (before after : Output) (status : ℕ) (h : List Entry) → OpensBook drive file (drive was) size b
-    → AnswersAsOneList width b.opening rows h status before after → EndsRows (StopsBook (IsNextStep width b.opening rows) h) status before after → (WritesLines status → IsSettled width b.bucket b.opening (count_in b.log) h)
-    → LeavesLog drive b.opening h b.log (Some disk)
-    → IsAnswered {D = D} (Some file) size rows (record { output = before; disk = was; drive = drive was }) (record { output = after; disk = disk; drive = drive disk }) status h
-answered-over drive file size rows b was disk before after status h opens list ends splits leaves = record {
+pub answered-over : {D : Type 0} (drive : D → Drive) (report : Report) (file : List ℕ) (size : ℕ) (rows : List InRow) (b : BookView D) (was disk : D) (before after : Output) (status : ℕ) (h : List Entry) → OpensBook drive file (drive was) size b
+    → EndsBook drive report rows b h status (Some disk) before after
+    → IsAnswered {D = D} report (Some file) size rows (record { output = before; disk = was; drive = drive was }) (record { output = after; disk = disk; drive = drive disk }) status h
+answered-over drive report file size rows b was disk before after status h opens ended = record {
   from = opens.from;
   begins = opens.found;
   book = opens.shows;
-  one_list = list-from (drive was) opens.from b.opening rows h status before after opens.found opens.state list;
-  ends = ends-weaker (StopsBook (IsNextStep width b.opening rows) h) (IsStop (Some file) opens.from rows (drive was) (drive disk) h) status before after (log-stop drive file rows (drive was) size b h disk opens leaves) ends;
-  splits = λ writes. settled-from (drive was) opens.from size b.bucket b.opening (count_in b.log) (option_map length opens.from.first) h opens.found opens.state opens.bucket opens.count (splits writes);
-  crash = keeps-book drive file (IsNextStep width b.opening rows) (drive was) size b h disk status before after opens leaves ends (λ writes. (splits writes).going);
-  calm = λ other. calm-book drive file (drive was) size b h disk opens leaves (unfailed (IsNextStep width b.opening rows) h status before after ends (λ writes. (splits writes).going) other);
-  attached = attached-book drive file (drive was) size b h disk opens leaves;
+  one_list = list-from report (drive was) opens.from b.opening rows h status before after opens.found opens.state ended.one_list;
+  ends = ends-weaker (StopsBook (IsNextStep width b.opening rows) h) (IsStop (Some file) opens.from rows (drive was) (drive disk) h) status before after (log-stop drive file rows (drive was) size b h disk opens ended.log) ended.ends;
+  splits = λ writes. settled-from (drive was) opens.from size b.bucket b.opening (count_in b.log) (option_map length opens.from.first) h opens.found opens.state opens.bucket opens.count (ended.splits writes);
+  crash = keeps-book drive file (IsNextStep width b.opening rows) (drive was) size b h disk status before after opens ended.log ended.ends (λ writes. (ended.splits writes).going);
+  calm = λ other. calm-book drive file (drive was) size b h disk opens ended.log (unfailed (IsNextStep width b.opening rows) h status before after ended.ends (λ writes. (ended.splits writes).going) other);
+  attached = attached-book drive file (drive was) size b h disk opens ended.log;
 }
 
 -- rows that were answered over no log
-pub answered-new : {D : Type 0} (drive : D → Drive) (size : ℕ) (rows : List InRow) (b : BookView D) (was : D) (left : Option D) (before after : Output) (status : ℕ) (h : List Entry) → b.opening ≡ empty_state → b.bucket ≡ size → b.log ≡ None
-    → AnswersAsOneList width b.opening rows h status before after → EndsRows (StopsBook (IsNextStep width b.opening rows) h) status before after → (WritesLines status → IsSettled width b.bucket b.opening (count_in b.log) h)
-    → LeavesLog drive b.opening h b.log left
-    → IsAnswered {D = D} None size rows (record { output = before; disk = was; drive = drive was }) (record { output = after; disk = was; drive = drive was }) status h
-answered-new {D = D} drive size rows b was left before after status h opening bucket none list ends splits leaves = record {
+pub answered-new : {D : Type 0} (drive : D → Drive) (report : Report) (size : ℕ) (rows : List InRow) (b : BookView D) (was : D) (left : Option D) (before after : Output) (status : ℕ) (h : List Entry) → b.opening ≡ empty_state → b.bucket ≡ size → b.log ≡ None
+    → EndsBook drive report rows b h status left before after
+    → IsAnswered {D = D} report None size rows (record { output = before; disk = was; drive = drive was }) (record { output = after; disk = was; drive = drive was }) status h
+answered-new {D = D} drive report size rows b was left before after status h opening bucket none ended = record {
   from = new_origin;
   begins = refl;
   book = refl;
-  one_list = subst (λ (o : State). AnswersAsOneList width o rows h status before after) opening list;
-  ends = ends-weaker (StopsBook (IsNextStep width b.opening rows) h) (IsStop None new_origin rows (drive was) (drive was) h) status before after (new-stop drive (IsNextStep width b.opening rows) new_origin rows (drive was) (drive was) b.opening h b.log left none leaves) ends;
+  one_list = subst (λ (o : State). AnswersAsOneList report width o rows h status before after) opening ended.one_list;
+  ends = ends-weaker (StopsBook (IsNextStep width b.opening rows) h) (IsStop None new_origin rows (drive was) (drive was) h) status before after (new-stop drive (IsNextStep width b.opening rows) new_origin rows (drive was) (drive was) b.opening h b.log left none ended.log) ended.ends;
   splits = λ writes.
       subst (λ (o : State). IsSettled width size o None h) opening
       (subst (λ (n : ℕ). IsSettled width n b.opening None h) bucket
-      (subst (λ (c : Option ℕ). IsSettled width b.bucket b.opening c h) (ap (λ (l : Option (KeptView D)). count_in l) none) (splits writes)));
+      (subst (λ (c : Option ℕ). IsSettled width b.bucket b.opening c h) (ap (λ (l : Option (KeptView D)). count_in l) none) (ended.splits writes)));
   crash = λ bytes first told is settled. absurd (cc is);
   calm = λ other. refl;
   attached = tt;

@@ -1,17 +1,20 @@
 -- How rows end that were played over a book.
-use Rattle.std.proofs.Common.{◌≡◌, inl, inr, ℕ, List, length, take, Option, Some, None, Result, Ok, Err, refl, subst, arith}
+use Rattle.std.proofs.Common.{◌≡◌, inl, inr, ℕ, List, take, Option, Some, None, Result, Ok, Err, refl, subst, arith}
 use Rattle.std.specs.Prelude.{IfSome}
 use Rattle.std.specs.Option.{option_map}
 use Rattle.std.specs.Io.KnownBytes.{Appends}
 use Rattle.causes.specs.Causes.{Counts}
 use Rattle.disk_trait.specs.Drive.{Drive}
 use Rattle.plain_list.specs.declared.entries.Entry.{Entry}
-use Rattle.plain_list.specs.State.{State, IsLegal}
+use Rattle.plain_list.specs.State.{State, IsLegal, state_after}
+use Rattle.plain_list.specs.History.{world_after}
+use Rattle.index_layer.specs.Stands.{Stands}
 use Rattle.kept_log.specs.KeptView.{KeptView}
-use Rattle.kept_log.specs.Journal.{disk_in, KeepsIn}
+use Rattle.kept_log.specs.Journal.{failed_cell, disk_in, KeepsIn}
 use Rattle.commit_book.specs.BookView.{BookView}
 use Rattle.commit_book.specs.IsBook.{IsBook}
 use Rattle.csv_rows.specs.declared.rows.InRow.{InRow}
+use Rattle.csv_rows.specs.InRows.{AreInRows}
 use Rattle.csv_rows.specs.declared.rows.Refusal.{Refusal}
 use Rattle.csv_rows.specs.declared.rows.Refusal.TheVariants as refusal
 use Rattle.io_edge.specs.Streams.{Output}
@@ -19,16 +22,19 @@ use Rattle.io_edge.specs.Puts.{Puts}
 use Rattle.lane_history.specs.LostSteps.{IsNextStep}
 use Rattle.lane_splits.specs.Settled.{IsSettled}
 use Rattle.location_run.specs.Limits.{width}
-use Rattle.location_run.specs.Lines.{lines_of}
+use Rattle.location_run.specs.declared.reports.Report.{Report}
+use Rattle.location_run.specs.Lines.{text_of}
 use Rattle.location_run.specs.Status.{WritesLines, written_status}
 use Rattle.location_run.specs.Ending.{EndsWriting}
 use Rattle.location_run.specs.Taking.{Refuses}
 use Rattle.location_run.specs.Playing.{EndsRows}
 use Rattle.location_run.specs.Answers.{AnswersAsOneList}
 use Rattle.location_run.specs.declared.lanes.LaneEnd.{LaneEnd}
-use Rattle.location_run.specs.inside.Books.{BeginsAs, StopsBook, LeavesLog, count_in}
-use Rattle.location_run.specs.inside.Answered.{IsPlayedBook, IsAnsweredBook, WritesAnswers, EndsPlay}
+use Rattle.location_run.specs.inside.Books.{BeginsAs, IsNewBook, StopsBook, LeavesLog, count_in}
+use Rattle.location_run.specs.inside.Answered.{IsPlayedBook, IsAnsweredBook, HasObjects, WritesText, EndsPlay}
+use Rattle.location_run.specs.inside.Ended.{EndsBook}
 use Rattle.location_run.proofs.Ends.{no-lines}
+use Rattle.location_run.proofs.Objects.{played-world}
 
 -- a log begins as itself
 pub begins-self : {D : Type 0} (drive : D → Drive) (log : Option (KeptView D)) → BeginsAs drive log log
@@ -49,36 +55,47 @@ pub if-mapped : {A B : Type 0} (f : A → B) (P : B → Type 0) (o : Option A) �
 if-mapped f P None holds = holds
 if-mapped f P (Some a) holds = holds
 
-module _ {D : Type 0} (drive : D → Drive) (rows : List InRow) (old new : BookView D) (ends : Option (List LaneEnd)) (status : ℕ) (before after : Output) (played : IsPlayedBook width rows old new)
-    (answered : IfSome ends (λ e. IsAnsweredBook width rows old new e)) (book : IsBook drive width new) (end : EndsPlay rows new.entries ends status before after) where
+module _ {D : Type 0} (drive : D → Drive) (report : Report) (rows : List InRow) (old new : BookView D) (ends : Option (List LaneEnd)) (status : ℕ) (before after : Output) (are : AreInRows rows) (begins : IsNewBook old)
+    (played : IsPlayedBook width rows old new) (answered : IfSome ends (λ e. IsAnsweredBook width rows old new e)) (book : IsBook drive width new) (end : EndsPlay report rows (failed_cell new.entries) new.leaves ends status before after) where
   abbrev h : List Entry
   h = new.entries
+
+  abbrev text : List ℕ
+  text = text_of report rows old.opening.world h
 
   legal : IsLegal width old.opening h
   legal = subst (λ (s : State). IsLegal width s h) played.opening book.legal
 
-  -- what the answers say, where the lines are written
+  -- the index stands for the objects at the end
+  objects : HasObjects new.leaves (world_after old.opening.world h)
+  objects = record {
+    is_world = played-world rows old.opening.world h are played.played begins.world;
+    names = (state_after width new.opening h).leaves;
+    stands = subst (λ (s : State). Stands new.leaves (world_after s.world h) (state_after width new.opening h).leaves) played.opening book.stands;
+  }
+
+  -- what the answers say, where the text is written
   some-answered : (e : List LaneEnd) → ends ≡ Some e → IsAnsweredBook width rows old new e
   some-answered e is = subst (λ (o : Option (List LaneEnd)). IfSome o (λ x. IsAnsweredBook width rows old new x)) is answered
 
   no-text : (why : Refusal) → Refuses why status before after → WritesLines status → ⊥
   no-text why refuses = no-lines why status refuses.status_is
 
-  writes : WritesAnswers rows h ends status before after → EndsWriting (lines_of old.opening.world (length rows) h) status before after
-  writes wrote = wrote.writes old.opening.world (some-answered wrote.some wrote.ends_are).answers
+  writes : WritesText report rows new.leaves ends status before after → EndsWriting text status before after
+  writes wrote = wrote.writes old.opening.world h (some-answered wrote.some wrote.ends_are).answers objects
 
-  all-lines : EndsWriting (lines_of old.opening.world (length rows) h) status before after → status ≡ 0 → Appends before.taken after.taken (lines_of old.opening.world (length rows) h)
-  all-lines (inl (zero, text, same)) e = text
+  all-lines : EndsWriting text status before after → status ≡ 0 → Appends before.taken after.taken text
+  all-lines (inl (zero, all, same)) e = all
   all-lines (inr (six, rose, part)) e = absurd (omega (arith, six, e))
 
-  some-lines : EndsWriting (lines_of old.opening.world (length rows) h) status before after → status ≡ 6 → (n : ℕ) × Appends before.taken after.taken (take n (lines_of old.opening.world (length rows) h))
-  some-lines (inl (zero, text, same)) e = absurd (omega (arith, zero, e))
+  some-lines : EndsWriting text status before after → status ≡ 6 → (n : ℕ) × Appends before.taken after.taken (take n text)
+  some-lines (inl (zero, all, same)) e = absurd (omega (arith, zero, e))
   some-lines (inr (six, rose, part)) e = part
 
-  pub end-answers : AnswersAsOneList width old.opening rows h status before after
+  end-answers : AnswersAsOneList report width old.opening rows h status before after
   end-answers = by_end end
     where
-      refused : (why : Refusal) → Refuses why status before after → AnswersAsOneList width old.opening rows h status before after
+      refused : (why : Refusal) → Refuses why status before after → AnswersAsOneList report width old.opening rows h status before after
       refused why refuses = record {
         legal = legal;
         played = played.played;
@@ -87,7 +104,7 @@ module _ {D : Type 0} (drive : D → Drive) (rows : List InRow) (old new : BookV
         part = λ e. absurd (no-text why refuses (inr e));
       }
 
-      by_end : EndsPlay rows h ends status before after → AnswersAsOneList width old.opening rows h status before after
+      by_end : EndsPlay report rows (failed_cell h) new.leaves ends status before after → AnswersAsOneList report width old.opening rows h status before after
       by_end (inl (cell, failed, refuses)) = refused (refusal.Disk (Some cell)) refuses
       by_end (inr (inl (none, refuses))) = refused refusal.Memory refuses
       by_end (inr (inr (none, wrote))) = record {
@@ -98,31 +115,34 @@ module _ {D : Type 0} (drive : D → Drive) (rows : List InRow) (old new : BookV
         part = some-lines (writes wrote);
       }
 
-  pub end-rows : EndsRows (StopsBook (IsNextStep width old.opening rows) h) status before after
+  end-rows : EndsRows (StopsBook (IsNextStep width old.opening rows) h) status before after
   end-rows = by_end end
     where
-      by_writing : EndsWriting (lines_of old.opening.world (length rows) h) status before after → EndsRows (StopsBook (IsNextStep width old.opening rows) h) status before after
-      by_writing (inl (zero, text, same)) = inl (zero, same)
+      by_writing : EndsWriting text status before after → EndsRows (StopsBook (IsNextStep width old.opening rows) h) status before after
+      by_writing (inl (zero, all, same)) = inl (zero, same)
       by_writing (inr (six, rose, part)) = inr (inl (six, rose))
 
-      by_end : EndsPlay rows h ends status before after → EndsRows (StopsBook (IsNextStep width old.opening rows) h) status before after
+      by_end : EndsPlay report rows (failed_cell h) new.leaves ends status before after → EndsRows (StopsBook (IsNextStep width old.opening rows) h) status before after
       by_end (inl (cell, failed, refuses)) = inr (inr (refusal.Disk (Some cell), inr (cell, refl, played.loses cell failed), refuses))
       by_end (inr (inl (none, refuses))) = inr (inr (refusal.Memory, inl (refl, none), refuses))
       by_end (inr (inr (none, wrote))) = by_writing (writes wrote)
 
-  pub end-splits : WritesLines status → IsSettled width old.bucket old.opening (count_in old.log) h
+  end-splits : WritesLines status → IsSettled width old.bucket old.opening (count_in old.log) h
   end-splits written = by_end end
     where
-      by_end : EndsPlay rows h ends status before after → IsSettled width old.bucket old.opening (count_in old.log) h
+      by_end : EndsPlay report rows (failed_cell h) new.leaves ends status before after → IsSettled width old.bucket old.opening (count_in old.log) h
       by_end (inl (cell, failed, refuses)) = absurd (no-text (refusal.Disk (Some cell)) refuses written)
       by_end (inr (inl (none, refuses))) = absurd (no-text refusal.Memory refuses written)
       by_end (inr (inr (none, wrote))) = (some-answered wrote.some wrote.ends_are).settled none
 
-  pub end-log : BeginsAs drive old.log new.log → LeavesLog drive old.opening h old.log (disk_in new.log)
-  end-log begins = record {
+  end-log : BeginsAs drive old.log new.log → LeavesLog drive old.opening h old.log (disk_in new.log)
+  end-log starts = record {
     log = new.log;
-    begins = begins;
+    begins = starts;
     first = played.first;
     keeps = subst (λ (s : State). KeepsIn drive width s h new.log) played.opening book.on_log;
     disk_is = refl;
   }
+
+  pub ends-book : BeginsAs drive old.log new.log → EndsBook drive report rows old h status (disk_in new.log) before after
+  ends-book starts = record { one_list = end-answers; ends = end-rows; splits = end-splits; log = end-log starts }

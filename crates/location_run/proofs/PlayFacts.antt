@@ -7,6 +7,8 @@ use Rattle.csv_rows.specs.declared.rows.InRow.{InRow}
 use Rattle.csv_rows.specs.declared.rows.Refusal.{Refusal}
 use Rattle.csv_rows.specs.declared.rows.Refusal.TheVariants as refusal
 use Rattle.io_edge.specs.Streams.{Input}
+use Rattle.location_run.specs.declared.reports.Report.{Report}
+use Rattle.location_run.specs.declared.reports.Report.TheVariants as reports
 use Rattle.location_run.specs.Ends.{Ends, Targets}
 use Rattle.location_run.specs.Origin.{Origin}
 use Rattle.location_run.specs.Judged.{judged}
@@ -67,7 +69,7 @@ read-or-memory log size old new status h (inl unread) bytes rows told good calm 
         by_status (inr (inr gives)) = absurd (ok-err (judged bytes) rows r good gives)
 
 -- over a log
-module _ {D : Type 0} (size : ℕ) (rows : List InRow) (old new : Targets D) (status : ℕ) (h : List Entry) where
+module _ {D : Type 0} (report : Report) (size : ℕ) (rows : List InRow) (old new : Targets D) (status : ℕ) (h : List Entry) where
   no-book-memory : (log : Option (List ℕ)) → IsGood log old.drive new.drive → (why : Refusal) → HasNoBook log old new why → why ≡ refusal.Memory
   no-book-memory None good why none = none.0
   no-book-memory (Some file) good why none = none.whole good
@@ -90,7 +92,7 @@ module _ {D : Type 0} (size : ℕ) (rows : List InRow) (old new : Targets D) (st
   stop-status log from good refusal.LongLog stop = absurd stop
   stop-status log from good (refusal.InUse len) stop = absurd stop
 
-  rows-done : (log : Option (List ℕ)) → PlaysRows log size rows old new status h → (Rose old.output.faults new.output.faults → ⊥) → IsGood log old.drive new.drive → (status ≡ 0) ⊎ (status ≡ 9)
+  pub rows-done : (log : Option (List ℕ)) → PlaysRows report log size rows old new status h → (Rose old.output.faults new.output.faults → ⊥) → IsGood log old.drive new.drive → (status ≡ 0) ⊎ (status ≡ 9)
   rows-done log (inl unopened) quiet good = by_why unopened.refused
     where
       by_why : EndsRefused (HasNoBook log old new) status old.output new.output → (status ≡ 0) ⊎ (status ≡ 9)
@@ -102,7 +104,7 @@ module _ {D : Type 0} (size : ℕ) (rows : List InRow) (old new : Targets D) (st
       by_end (inr (inl (six, rose))) = absurd (quiet rose)
       by_end (inr (inr (why, stop, refuses))) = inr (refuses.status_is ∙ stop-status log answered.from good why stop)
 
-  rows-log : (log : Option (List ℕ)) → PlaysRows log size rows old new status h → FollowsLog log old.drive new.drive status
+  pub rows-log : (log : Option (List ℕ)) → PlaysRows report log size rows old new status h → FollowsLog log old.drive new.drive status
   rows-log None plays = tt
   rows-log (Some file) (inl unopened) = by_why unopened.refused
     where
@@ -114,7 +116,7 @@ module _ {D : Type 0} (size : ℕ) (rows : List InRow) (old new : Targets D) (st
           named (inr memory) = inr (refuses.status_is ∙ ap status_of memory)
   rows-log (Some file) (inr answered) = λ bytes fault told shown at calm. absurd (answered.book bytes fault told shown at)
 
-nine-log : (log : Option (List ℕ)) (old new : Drive) (status : ℕ) → status ≡ 9 → FollowsLog log old new status
+pub nine-log : (log : Option (List ℕ)) (old new : Drive) (status : ℕ) → status ≡ 9 → FollowsLog log old new status
 nine-log None old new status nine = tt
 nine-log (Some file) old new status nine = λ bytes fault told shown at calm. inr nine
 
@@ -128,9 +130,9 @@ plays-of log size old new status h goes = record {
 }
   where
     followed : IsRead log size old new status h ⊎ (status ≡ 9) → FollowsLog log old.to.drive new.to.drive status
-    followed (inl read) = rows-log size read.rows old.to new.to status h log read.plays
+    followed (inl read) = rows-log reports.Lines size read.rows old.to new.to status h log read.plays
     followed (inr nine) = nine-log log old.to.drive new.to.drive status nine
 
     done : IsRead log size old new status h ⊎ (status ≡ 9) → (Rose old.to.output.faults new.to.output.faults → ⊥) → IsGood log old.to.drive new.to.drive → (status ≡ 0) ⊎ (status ≡ 9)
-    done (inl read) quiet good = rows-done size read.rows old.to new.to status h log read.plays quiet good
+    done (inl read) quiet good = rows-done reports.Lines size read.rows old.to new.to status h log read.plays quiet good
     done (inr nine) quiet good = inr nine

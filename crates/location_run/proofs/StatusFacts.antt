@@ -5,14 +5,19 @@ use Rattle.csv_rows.specs.declared.rows.InRow.{InRow}
 use Rattle.csv_rows.specs.declared.rows.Refusal.{Refusal}
 use Rattle.csv_rows.specs.declared.rows.Refusal.TheVariants as refusal
 use Rattle.io_edge.specs.Streams.{Output}
+use Rattle.make_moves.specs.Moves.{made_rows}
+use Rattle.location_run.specs.declared.reports.Report.{Report}
+use Rattle.location_run.specs.declared.reports.Report.TheVariants as reports
+use Rattle.location_run.specs.Limits.{trial_bucket}
 use Rattle.location_run.specs.Ends.{Ends, Targets}
-use Rattle.command_words.specs.Words.{Command, Init, Check, Play, Show, AsksFor}
+use Rattle.command_words.specs.Words.{Command, Init, Check, Play, Show, Trial, AsksFor}
 use Rattle.location_run.specs.Status.{status_of}
 use Rattle.location_run.specs.Ending.{EndsWriting, EndsRefused}
 use Rattle.location_run.specs.Making.{IsMakingCause, MakesOrRefuses}
 use Rattle.cell_format.specs.declared.cell.Cell.{Cell}
 use Rattle.location_run.specs.Checking.{EndsTelling, IsCheckingCause, TellsCells}
 use Rattle.location_run.specs.Playing.{IsInputCause, HasNoBook, IsStop, EndsRows, PlaysRows, IsUnread, IsRead}
+use Rattle.location_run.specs.Trying.{PlaysMade}
 use Rattle.location_run.specs.Run.{Keeps, AnswersUsage}
 
 -- a refusal whose cause isn't the words has another status than 2
@@ -43,9 +48,9 @@ no-book : {D : Type 0} (log : Option (List ℕ)) (old new : Targets D) → HasNo
 no-book None old new (memory, same) = absurd (cc memory)
 no-book (Some file) old new not = not.cause
 
-accepted-rows : {D : Type 0} (log : Option (List ℕ)) (size : ℕ) (rows : List InRow) (old new : Targets D) (status : ℕ) (h : List Entry) → PlaysRows log size rows old new status h → status ≡ 2 → ⊥
-accepted-rows log size rows old new status h (inl unopened) two = not-usage (HasNoBook log old new) status old.output new.output (no-book log old new) unopened.refused two
-accepted-rows log size rows old new status h (inr answered) two = by_status answered.ends
+accepted-rows : {D : Type 0} (report : Report) (log : Option (List ℕ)) (size : ℕ) (rows : List InRow) (old new : Targets D) (status : ℕ) (h : List Entry) → PlaysRows report log size rows old new status h → status ≡ 2 → ⊥
+accepted-rows report log size rows old new status h (inl unopened) two = not-usage (HasNoBook log old new) status old.output new.output (no-book log old new) unopened.refused two
+accepted-rows report log size rows old new status h (inr answered) two = by_status answered.ends
   where
     by_status : EndsRows (IsStop log answered.from rows old.drive new.drive h) status old.output new.output → ⊥
     by_status (inl (e, same)) = omega (arith, e, two)
@@ -72,7 +77,12 @@ accepted (Play log size) old new status h keeps two = by_end keeps.goes
   where
     by_end : IsUnread old new status h ⊎ IsRead log size old new status h → ⊥
     by_end (inl unread) = not-usage (IsInputCause old.input new.input) status old.to.output new.to.output (λ c. c) unread.refused two
-    by_end (inr read) = accepted-rows log size read.rows old.to new.to status h read.plays two
+    by_end (inr read) = accepted-rows reports.Lines log size read.rows old.to new.to status h read.plays two
+accepted (Trial log made) old new status h keeps two = by_end keeps.goes
+  where
+    by_end : PlaysMade log made old.to new.to status h → ⊥
+    by_end (inl unmade) = omega (arith, unmade.refused.status_is, two)
+    by_end (inr plays) = accepted-rows reports.Summary log trial_bucket (made_rows made.rows made.seed) old.to new.to status h plays two
 
 pub usage-accepted : {S D : Type 0} (words : List (List ℕ)) (c : Command) (old new : Ends S D) (status : ℕ) (h : List Entry) → AsksFor words c → Keeps c old new status h → AnswersUsage words old new status h
 usage-accepted words c old new status h asks keeps = record {

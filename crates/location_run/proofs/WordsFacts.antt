@@ -1,15 +1,19 @@
 -- What is promised of the command that words ask for.
-use Rattle.std.proofs.Common.{ℕ, List, Some, None, subst}
+use Rattle.std.proofs.Common.{◌≡◌, ℕ, ◌≤◌, List, Some, None, subst}
 use Rattle.plain_list.specs.declared.entries.Entry.{Entry}
 use Rattle.command_words.specs.Words.{Command, AsksFor}
 use Rattle.command_words.specs.Asked.{command_of, file_of}
 use Rattle.command_words.specs.declared.parsing.Command as declared
 use Rattle.command_words.specs.declared.parsing.Command.TheVariants as declared_command
+use Rattle.command_words.specs.declared.trials.Made.{Made}
 use Rattle.command_words.proofs.WordsFacts.{one-command}
+use Rattle.command_words.proofs.TrialFacts.{trial-few}
 use Rattle.location_run.specs.Ends.{Ends}
 use Rattle.location_run.specs.Playing.{Goes}
 use Rattle.location_run.specs.Run.{Keeps, KeepsAsked}
+use Rattle.location_run.specs.Trying.{PlaysMade}
 use Rattle.location_run.proofs.PlayFacts.{plays-of}
+use Rattle.location_run.proofs.TrialEnds.{tries-of}
 
 -- the command that was asked for keeps its promise
 pub keeps-asked : {S D : Type 0} (words : List (List ℕ)) (a : Command) (old new : Ends S D) (status : ℕ) (h : List Entry) → AsksFor words a → Keeps a old new status h → KeepsAsked words old new status h
@@ -24,5 +28,32 @@ pub keeps-play : {S D : Type 0} (a : declared.Command) (old new : Ends S D) (sta
 keeps-play (declared_command.Init file) old new status h plays = absurd plays
 keeps-play (declared_command.Check file) old new status h plays = absurd plays
 keeps-play (declared_command.Show file region) old new status h plays = absurd plays
+keeps-play (declared_command.Trial log made) old new status h plays = absurd plays
 keeps-play (declared_command.Play (Some log) size) old new status h plays = plays-of (Some log.now) size old new status h plays
 keeps-play (declared_command.Play None size) old new status h plays = plays-of None size old new status h plays
+
+-- what is promised of a command that plays made rows
+abbrev pub TriesIf : {S D : Type 0} → declared.Command → Ends S D → Ends S D → ℕ → List Entry → Type 0
+TriesIf (declared_command.Trial log made) old new status h = (new.source ≡ old.source) × PlaysMade (file_of (declared_command.Trial log made)) made old.to new.to status h
+TriesIf _ old new status h = ⊥
+
+pub keeps-trial : {S D : Type 0} (a : declared.Command) (old new : Ends S D) (status : ℕ) (h : List Entry) → TriesIf a old new status h → Keeps (command_of a) old new status h
+keeps-trial (declared_command.Init file) old new status h tries = absurd tries
+keeps-trial (declared_command.Check file) old new status h tries = absurd tries
+keeps-trial (declared_command.Show file region) old new status h tries = absurd tries
+keeps-trial (declared_command.Play log size) old new status h tries = absurd tries
+keeps-trial (declared_command.Trial (Some log) made) old new status h tries = tries-of (Some log.now) made old new status h tries.0 tries.1
+keeps-trial (declared_command.Trial None made) old new status h tries = tries-of None made old new status h tries.0 tries.1
+
+abbrev pub IsTrialOf : Made → declared.Command → Type 0
+IsTrialOf made (declared_command.Trial log other) = other ≡ made
+IsTrialOf made _ = ⊥
+
+-- no more rows are made than an input may have
+pub few-made : (words : List (List ℕ)) (a : declared.Command) (made : Made) → AsksFor words (command_of a) → IsTrialOf made a → made.rows ≤ 65536
+few-made words (declared_command.Init file) made asks is = absurd is
+few-made words (declared_command.Check file) made asks is = absurd is
+few-made words (declared_command.Show file region) made asks is = absurd is
+few-made words (declared_command.Play log size) made asks is = absurd is
+few-made words (declared_command.Trial (Some log) other) made asks is = subst (λ (m : Made). m.rows ≤ 65536) is (trial-few words (Some log.now) other asks)
+few-made words (declared_command.Trial None other) made asks is = subst (λ (m : Made). m.rows ≤ 65536) is (trial-few words None other asks)

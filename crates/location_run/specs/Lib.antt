@@ -11,6 +11,7 @@ pub mod Lines
 pub mod Origin
 pub mod Answers
 pub mod Playing
+pub mod Trying
 pub mod Run
 pub mod Crash
 pub mod Examples

@@ -13,6 +13,10 @@ most_bytes = 16777216
 abbrev pub most_cells : ℕ
 most_cells = 16777216
 
+-- how many points a bucket should have where made rows are played
+abbrev pub trial_bucket : ℕ
+trial_bucket = 64
+
 -- how many cells a log may have over which rows are played
 abbrev pub most_played : ℕ
 most_played = 16000000

@@ -1,4 +1,4 @@
--- The command `play`.
+-- The command `play`, and how rows go that are played.
 use Rattle.std.specs.Prelude.{◌≡◌, ◌≢◌, ◌⊎◌, ℕ, ◌≤◌, false, List, [], length, Option, Some, None, Ok, Err, ⊤}
 use Rattle.std.specs.Option.{option_map}
 use Rattle.causes.specs.Causes.{Rose}
@@ -22,6 +22,8 @@ use Rattle.location_run.specs.Ending.{EndsRefused}
 use Rattle.location_run.specs.Checking.{IsReadingCause, log_refusal}
 use Rattle.location_run.specs.Origin.{Origin, IsOrigin}
 use Rattle.lane_history.specs.LostSteps.{IsNextStep, LosesStep}
+use Rattle.location_run.specs.declared.reports.Report.{Report}
+use Rattle.location_run.specs.declared.reports.Report.TheVariants as reports
 use Rattle.location_run.specs.Answers.{AnswersAsOneList}
 use Rattle.lane_splits.specs.Settled.{IsSettled, cells_now}
 use Rattle.location_run.specs.Crash.{KeepsPlayed}
@@ -110,11 +112,11 @@ IsAttached None new = ⊤
 IsAttached (Some file) new = new.attached file false
 
 -- The rows are answered from one origin on. The drive's count rises with status 7 alone.
-pub record IsAnswered {D : Type 0} (log : Option (List ℕ)) (size : ℕ) (rows : List InRow) (old new : Targets D) (status : ℕ) (h : List Entry) : Type 0 where
+pub record IsAnswered {D : Type 0} (report : Report) (log : Option (List ℕ)) (size : ℕ) (rows : List InRow) (old new : Targets D) (status : ℕ) (h : List Entry) : Type 0 where
   pub from : Origin
   pub begins : IsOrigin log old.drive from
   pub book : HasBook log old new
-  pub one_list : AnswersAsOneList from.width from.state rows h status old.output new.output
+  pub one_list : AnswersAsOneList report from.width from.state rows h status old.output new.output
   pub ends : EndsRows (IsStop log from rows old.drive new.drive h) status old.output new.output
   pub splits : WritesLines status → IsSettled from.width size from.state (option_map length from.first) h
   pub crash : KeepsPlayed from old.drive new.drive status h
@@ -122,8 +124,8 @@ pub record IsAnswered {D : Type 0} (log : Option (List ℕ)) (size : ℕ) (rows 
   pub attached : IsAttached log new.drive
 
 -- how rows go that were read: there is no book for them, or they are answered
-abbrev pub PlaysRows : {D : Type 0} → Option (List ℕ) → ℕ → List InRow → Targets D → Targets D → ℕ → List Entry → Type 0
-PlaysRows log size rows old new status h = IsUnopened log old new status h ⊎ IsAnswered log size rows old new status h
+abbrev pub PlaysRows : {D : Type 0} → Report → Option (List ℕ) → ℕ → List InRow → Targets D → Targets D → ℕ → List Entry → Type 0
+PlaysRows report log size rows old new status h = IsUnopened log old new status h ⊎ IsAnswered report log size rows old new status h
 
 -- the source gave no rows: none is called, the drive is left as it was, and the source's count where it didn't fail
 pub record IsUnread {S D : Type 0} (old new : Ends S D) (status : ℕ) (h : List Entry) : Type 0 where
@@ -136,7 +138,7 @@ pub record IsUnread {S D : Type 0} (old new : Ends S D) (status : ℕ) (h : List
 pub record IsRead {S D : Type 0} (log : Option (List ℕ)) (size : ℕ) (old new : Ends S D) (status : ℕ) (h : List Entry) : Type 0 where
   pub rows : List InRow
   pub read : Reads old.input new.input rows
-  pub plays : PlaysRows log size rows old.to new.to status h
+  pub plays : PlaysRows reports.Lines log size rows old.to new.to status h
 
 -- how a play goes
 abbrev pub Goes : {S D : Type 0} → Option (List ℕ) → ℕ → Ends S D → Ends S D → ℕ → List Entry → Type 0

@@ -2,13 +2,14 @@
 use Rattle.std.specs.Prelude.{◌≡◌, ◌↔◌, ℕ, List, []}
 use Rattle.plain_list.specs.declared.entries.Entry.{Entry}
 use Rattle.csv_rows.specs.declared.rows.Refusal.TheVariants as refusal
-use Rattle.command_words.specs.Words.{Command, Init, Check, Play, Show, AsksFor, IsAccepted}
+use Rattle.command_words.specs.Words.{Command, Init, Check, Play, Show, Trial, AsksFor, IsAccepted}
 use Rattle.location_run.specs.Ends.{Ends}
 use Rattle.location_run.specs.Taking.{Refuses}
 use Rattle.location_run.specs.Making.{Inits}
 use Rattle.location_run.specs.Checking.{Checks}
 use Rattle.location_run.specs.Playing.{Plays}
 use Rattle.location_run.specs.Showing.{Shows}
+use Rattle.location_run.specs.Trying.{Tries}
 
 -- what each command promises, of what its ends were and are, its status and its history
 abbrev pub Keeps : {S D : Type 0} → Command → Ends S D → Ends S D → ℕ → List Entry → Type 0
@@ -16,6 +17,7 @@ Keeps (Init file) old new status h = Inits file old new status h
 Keeps (Check file) old new status h = Checks file old new status h
 Keeps (Play log size) old new status h = Plays log size old new status h
 Keeps (Show file region) old new status h = Shows file region old new status h
+Keeps (Trial log made) old new status h = Tries log made old new status h
 
 -- the command that the words ask for keeps its promise
 abbrev pub KeepsAsked : {S D : Type 0} → List (List ℕ) → Ends S D → Ends S D → ℕ → List Entry → Type 0

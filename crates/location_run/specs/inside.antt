@@ -3,3 +3,4 @@ pub mod Dealt
 pub mod Joined
 pub mod Answered
 pub mod Books
+pub mod Ended

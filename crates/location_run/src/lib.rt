@@ -4,12 +4,13 @@
 //! took, and the drive by its bytes and what a crash may leave of them. `run` promises that with status 0 the output is the line of each
 //! row, with its place in the one history and the answer that one plain list of objects gives there, which over a log begins with what
 //! the log says; that a crash at any moment leaves a log of a front of the changes (`crash`); what splits come to (`splits`); and which
-//! cause each other status has.
+//! cause each other status has. Of made rows it promises the same, with three numbers of that list in place of the lines.
 //!
 //! Rows are played by lanes, one for each session, over one store.
 //!
-//! Not here: which words ask for what (`command_words`), what a row is and how a line reads (`csv_rows`), the store and its lanes
-//! (`sessions`), what lanes come to (`lane_history`, `lane_splits`), how a log is opened (`recovery`), `main` (`mdloc`).
+//! Not here: which words ask for what (`command_words`), what a row is and how a line reads (`csv_rows`), which rows a seed makes
+//! (`make_moves`), the store and its lanes (`sessions`), what lanes come to (`lane_history`, `lane_splits`), the sum over an index
+//! (`world_sums`), how a log is opened (`recovery`), `main` (`mdloc`).
 #![tactic(auto)]
 
 mod checking;
@@ -24,9 +25,11 @@ mod output;
 mod play_book;
 mod playing;
 mod refusals;
+mod reports;
 mod sessions_play;
 mod showing;
 mod top;
+mod trying;
 
 pub use outcome::Outcome;
 pub use top::run;

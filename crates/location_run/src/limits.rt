@@ -13,5 +13,8 @@ pub(crate) const MOST_BYTES: usize = 16_777_216;
 /// How many cells a log may have that is inspected.
 pub(crate) const MOST_CELLS: u64 = 16_777_216;
 
+/// How many points a bucket should have where made rows are played.
+pub(crate) const TRIAL_BUCKET: u32 = 64;
+
 /// How many cells a log may have over which rows are played.
 pub(crate) const MOST_PLAYED: u64 = 16_000_000;

@@ -1,21 +1,17 @@
 //! Rows that are played over a book, and how that ends.
 ghost use Rattle.std.specs.Prelude.{◌≡◌, IfSome};
 ghost use Rattle.std.specs.Option.{option_map};
-ghost use Rattle.commit_book.specs.IsBook.{IsBook};
 ghost use Rattle.csv_rows.specs.InRows.{AreInRows};
-ghost use Rattle.kept_log.specs.Journal.{disk_in};
-ghost use Rattle.location_run.specs.Status.{WritesLines};
-ghost use Rattle.lane_splits.specs.Settled.{IsSettled};
-ghost use Rattle.lane_history.specs.LostSteps.{IsNextStep};
-ghost use Rattle.location_run.specs.Limits.{width};
-ghost use Rattle.location_run.specs.inside.Books.{IsNewBook, StopsBook, LeavesLog, count_in};
+ghost use Rattle.kept_log.specs.Journal.{disk_in, failed_cell};
+ghost use Rattle.location_run.specs.inside.Books.{IsNewBook};
 ghost use Rattle.location_run.specs.inside.Answered.{HasNumbers, EndsPlay};
-ghost use Rattle.location_run.specs.Playing.{EndsRows};
-ghost use Rattle.location_run.specs.Answers.{AnswersAsOneList};
+ghost use Rattle.location_run.specs.inside.Ended.{EndsBook};
 
+use crate::lanes::LaneEnd;
 use crate::limits::StoreIndex;
-use crate::output::{write_lines, written};
+use crate::output::{write_report, written};
 use crate::refusals::put_refusal;
+use crate::reports::Report;
 use crate::sessions_play::{Played, play_sessions};
 use commit_book::Book;
 use csv_rows::{InRow, Refusal};
@@ -36,57 +32,80 @@ pub(crate) struct BookEnd<D: LogDisk> {
     pub(crate) disk: Option<D>,
 }
 
-/// Plays rows over a book with no entries so far.
+// What is left of a book whose rows were played: the cell whose append failed, what the lanes left where each row was answered, and what
+// the book held.
+#[derive(Drop)]
+struct Closed<I: Index, D: LogDisk> {
+    failed: Option<u64>,
+    ends: Option<Vec<LaneEnd>>,
+    index: I,
+    events: Entries,
+    disk: Option<D>,
+}
+
+/// Plays rows over a book with no entries so far, and tells what a report tells of them.
 pub(crate) fn play_book<R: Threads + Wait + Sync, K: Sink, D: LogDisk + Send, G: Gate + Sync>(
     rt: &R,
     alloc: Global,
     rows: &[InRow],
+    report: Report,
     book: Book<StoreIndex, D>,
     sink: &mut K,
     gate: &G,
 ) -> BookEnd<D>
     requires rows { AreInRows rows.now }
     requires new { IsNewBook book }
-    ensures answers { AnswersAsOneList width book.opening rows.now result.events result.status (K.output sink.old) (K.output sink.new) }
-    ensures ends { EndsRows (StopsBook (IsNextStep width book.opening rows.now) result.events) result.status (K.output sink.old) (K.output sink.new) }
-    ensures splits { WritesLines result.status → IsSettled width book.bucket book.opening (count_in book.log) result.events }
-    ensures log { LeavesLog D.drive book.opening result.events book.log result.disk }
+    ensures { EndsBook D.drive report rows.now book result.events result.status result.disk (K.output sink.old) (K.output sink.new) }
 {
     let played = play_sessions::<R, StoreIndex, D, Brand, G>(rt, alloc, rows, book, gate);
-    let status = write_end(rows, &played, sink);
-    close(status, played.book)
+    let closed = close(played);
+    let status = write_end(report, rows, &closed, sink);
+    BookEnd {
+        status,
+        events: closed.events,
+        disk: closed.disk,
+    }
 }
 
-// Writes the lines of rows that were all answered, or the line of a refusal.
-fn write_end<K: Sink, D: LogDisk>(
+// Closes a book whose rows were played.
+fn close<I: Index, D: LogDisk>(played: Played<I, D>) -> Closed<I, D>
+    ensures failed { result.failed ≡ failed_cell played.book.entries }
+    ensures ends { result.ends ≡ played.ends }
+    ensures leaves { I.leaves result.index ≡ played.book.leaves }
+    ensures events { result.events ≡ played.book.entries }
+    ensures disk { result.disk ≡ disk_in played.book.log }
+{
+    let Played { book, ends } = played;
+    let failed = book.closed();
+    let parts = book.into_parts();
+    Closed {
+        failed,
+        ends,
+        index: parts.index,
+        events: parts.entries,
+        disk: parts.disk,
+    }
+}
+
+// Writes what a report tells of rows that were all answered, or the line of a refusal.
+fn write_end<I: Index, K: Sink, D: LogDisk>(
+    report: Report,
     rows: &[InRow],
-    played: &Played<StoreIndex, D>,
+    closed: &Closed<I, D>,
     sink: &mut K,
 ) -> u8
     requires rows { AreInRows rows.now }
-    requires numbers { IfSome played.now.ends (λ ends. HasNumbers rows.now ends.items) }
-    ensures { EndsPlay rows.now played.now.book.entries (option_map (λ ends. ends.items) played.now.ends) result (K.output sink.old) (K.output sink.new) }
+    requires numbers { IfSome closed.now.ends (λ ends. HasNumbers rows.now ends.items) }
+    ensures { EndsPlay report rows.now closed.now.failed (I.leaves closed.now.index) (option_map (λ ends. ends.items) closed.now.ends) result (K.output sink.old) (K.output sink.new) }
 {
-    if let Some(cell) = played.book.closed() {
+    if let Some(cell) = closed.failed {
         return put_refusal(&Refusal::Disk { cell: Some(cell) }, sink);
     }
-    match &played.ends {
-        Some(ends) => written(write_lines(sink, rows, ends.as_slice())),
+    match &closed.ends {
+        Some(ends) => {
+            let ends = ends.as_slice();
+            written(write_report(sink, report, rows, ends, &closed.index))
+        }
         None => put_refusal(&Refusal::Memory, sink),
-    }
-}
-
-// Ends with what a book held.
-fn close<I: Index, D: LogDisk>(status: u8, book: Book<I, D>) -> BookEnd<D>
-    ensures parts { result ≡ record { status = status; events = book.entries; disk = disk_in book.log } }
-    ensures book { IsBook D.drive I.WIDTH book }
-{
-    // The book tells what it keeps.
-    let _events = book.events();
-    let parts = book.into_parts();
-    BookEnd {
-        status,
-        events: parts.entries,
-        disk: parts.disk,
     }
 }

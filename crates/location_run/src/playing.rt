@@ -12,6 +12,7 @@ use crate::log_book::open_book;
 use crate::making::Unmade;
 use crate::play_book::{BookEnd, play_book};
 use crate::refusals::put_refusal;
+use crate::reports::Report;
 use command_words::Command;
 use commit_book::Book;
 use csv_rows::{InRow, Refusal};
@@ -45,16 +46,20 @@ pub(crate) fn play<R: Threads + Wait + Sync, S: Source, K: Sink, D: LogDisk + Se
         (ends S.input K.output D.drive source.new sink.new result.disk) result.status result.events }
 {
     match read_judged(alloc, source) {
-        Ok(rows) => play_rows(rt, alloc, rows.as_slice(), log, size, sink, disk, gate),
+        Ok(rows) => {
+            let rows = rows.as_slice();
+            play_rows(rt, alloc, rows, Report::Lines, log, size, sink, disk, gate)
+        }
         Err(why) => refuse_on(alloc, &why, sink, disk),
     }
 }
 
-// Plays rows that were read.
-fn play_rows<R: Threads + Wait + Sync, K: Sink, D: LogDisk + Send, G: Gate + Sync>(
+/// Plays rows, over the log in a file of this name or over none, and tells what a report tells of them.
+pub(crate) fn play_rows<R: Threads + Wait + Sync, K: Sink, D: LogDisk + Send, G: Gate + Sync>(
     rt: &R,
     alloc: Global,
     rows: &[InRow],
+    report: Report,
     log: Option<&str>,
     size: u32,
     sink: &mut K,
@@ -62,12 +67,12 @@ fn play_rows<R: Threads + Wait + Sync, K: Sink, D: LogDisk + Send, G: Gate + Syn
     gate: &G,
 ) -> Played<D>
     requires { AreInRows rows.now }
-    ensures plays { PlaysRows (file_of (Command.Play log.entry size)) size rows.now (targets K.output D.drive sink.old disk)
+    ensures plays { PlaysRows report (file_of (Command.Play log.entry size)) size rows.now (targets K.output D.drive sink.old disk)
         (targets K.output D.drive sink.new result.disk) result.status result.events }
 {
     match log {
-        Some(file) => play_over(rt, alloc, rows, file, size, sink, disk, gate),
-        None => play_new(rt, alloc, rows, size, sink, disk, gate),
+        Some(file) => play_over(rt, alloc, rows, report, file, size, sink, disk, gate),
+        None => play_new(rt, alloc, rows, report, size, sink, disk, gate),
     }
 }
 
@@ -76,18 +81,19 @@ fn play_new<R: Threads + Wait + Sync, K: Sink, D: LogDisk + Send, G: Gate + Sync
     rt: &R,
     alloc: Global,
     rows: &[InRow],
+    report: Report,
     size: u32,
     sink: &mut K,
     disk: D,
     gate: &G,
 ) -> Played<D>
     requires { AreInRows rows.now }
-    ensures plays { PlaysRows None size rows.now (targets K.output D.drive sink.old disk)
+    ensures plays { PlaysRows report None size rows.now (targets K.output D.drive sink.old disk)
         (targets K.output D.drive sink.new result.disk) result.status result.events }
 {
     match Book::<StoreIndex, D>::fresh(alloc, size) {
         Ok(book) => {
-            let end = play_book(rt, alloc, rows, book, sink, gate);
+            let end = play_book(rt, alloc, rows, report, book, sink, gate);
             Played {
                 status: end.status,
                 events: end.events,
@@ -103,6 +109,7 @@ fn play_over<R: Threads + Wait + Sync, K: Sink, D: LogDisk + Send, G: Gate + Syn
     rt: &R,
     alloc: Global,
     rows: &[InRow],
+    report: Report,
     file: &str,
     size: u32,
     sink: &mut K,
@@ -110,12 +117,12 @@ fn play_over<R: Threads + Wait + Sync, K: Sink, D: LogDisk + Send, G: Gate + Syn
     gate: &G,
 ) -> Played<D>
     requires { AreInRows rows.now }
-    ensures plays { PlaysRows (Some file.now) size rows.now (targets K.output D.drive sink.old disk)
+    ensures plays { PlaysRows report (Some file.now) size rows.now (targets K.output D.drive sink.old disk)
         (targets K.output D.drive sink.new result.disk) result.status result.events }
 {
     match open_book(alloc, file, size, disk) {
         Ok(book) => {
-            let end = play_book(rt, alloc, rows, book, sink, gate);
+            let end = play_book(rt, alloc, rows, report, book, sink, gate);
             with_drive(end)
         }
         Err(Unmade { disk, why }) => refuse_on(alloc, &why, sink, disk),
@@ -142,8 +149,13 @@ fn with_drive<D: LogDisk>(end: BookEnd<D>) -> Played<D>
     }
 }
 
-// Ends a play with a refusal, where no row was answered.
-fn refuse_on<K: Sink, D: LogDisk>(alloc: Global, why: &Refusal, sink: &mut K, disk: D) -> Played<D>
+/// Ends a play with a refusal, where no row was answered.
+pub(crate) fn refuse_on<K: Sink, D: LogDisk>(
+    alloc: Global,
+    why: &Refusal,
+    sink: &mut K,
+    disk: D,
+) -> Played<D>
     ensures none { result.events ≡ [] }
     ensures disk { result.disk ≡ disk }
     ensures refused { Refuses why.now result.status (K.output sink.old) (K.output sink.new) }

@@ -7,9 +7,10 @@ ghost use Rattle.location_run.specs.Run.{KeepsAsked, AnswersUsage};
 use crate::checking::check_log;
 use crate::making::make_log;
 use crate::outcome::Outcome;
-use crate::playing::play;
+use crate::playing::{Played, play};
 use crate::refusals::put_refusal;
 use crate::showing::show_log;
+use crate::trying::play_made;
 use command_words::{Command, command_in};
 use csv_rows::Refusal;
 use disk_trait::LogDisk;
@@ -23,7 +24,8 @@ use std::thread::Threads;
 ///
 /// The order of work, and of refusals, is for rows: words, source, length of the input, rows, then where there is a log its opening, then
 /// answers, each kept in the log before the next, and lines. The first line is written once all is there. For `init`, `check` and
-/// `show` it is: words, attach, making or inspecting, lines; the source isn't read.
+/// `show` it is: words, attach, making or inspecting, lines; for `trial`: words, making the rows, then as for rows. None of them reads the
+/// source.
 pub fn run<R: Threads + Wait + Sync, S: Source, K: Sink, D: LogDisk + Send, G: Gate + Sync>(
     rt: &R,
     alloc: Global,
@@ -62,17 +64,28 @@ pub fn run<R: Threads + Wait + Sync, S: Source, K: Sink, D: LogDisk + Send, G: G
         }
         Some(Command::Play(log, size)) => {
             let end = play(rt, alloc, log, size, source, sink, disk, gate);
-            Outcome {
-                status: end.status,
-                disk: end.disk,
-                other,
-                events: end.events,
-            }
+            with_rows(end, other)
+        }
+        Some(Command::Trial(log, made)) => {
+            let end = play_made(rt, alloc, log, made, sink, disk, gate);
+            with_rows(end, other)
         }
         None => {
             let status = put_refusal(&Refusal::Usage, sink);
             without_rows(alloc, status, disk, other)
         }
+    }
+}
+
+// What a run leaves that played rows.
+fn with_rows<D: LogDisk>(end: Played<D>, other: D) -> Outcome<D>
+    ensures { result ≡ record { status = end.status; disk = end.disk; other = other; events = end.events } }
+{
+    Outcome {
+        status: end.status,
+        disk: end.disk,
+        other,
+        events: end.events,
     }
 }
 

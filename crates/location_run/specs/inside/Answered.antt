@@ -1,9 +1,13 @@
 -- What lanes kept for the rows of their sessions, and books whose rows were played.
-use Rattle.std.specs.Prelude.{◌≡◌, ◌⊎◌, ℕ, ◌==◌, List, [], ◌∷◌, length, map, if◌then◌else◌, Option, Some, None}
+use Rattle.std.specs.Prelude.{◌≡◌, ◌⊎◌, ℕ, ◌==◌, Bool, List, [], ◌∷◌, map, if◌then◌else◌, Option, Some, None}
 use Rattle.zorder.specs.declared.points.Placed.{Placed}
 use Rattle.plain_list.specs.declared.ops.Op.{Op}
 use Rattle.plain_list.specs.declared.entries.Entry.{Entry}
 use Rattle.plain_list.specs.Played.{IsPlayed, IsPlayedWhole}
+use Rattle.plain_list.specs.World.{IsWorld}
+use Rattle.plain_list.specs.History.{world_after}
+use Rattle.index_layer.specs.Leaves.{Leaf}
+use Rattle.index_layer.specs.Stands.{Stands}
 use Rattle.csv_rows.specs.declared.rows.InRow.{InRow}
 use Rattle.kept_log.specs.Journal.{failed_cell}
 use Rattle.commit_book.specs.BookView.{BookView}
@@ -16,7 +20,8 @@ use Rattle.lane_history.specs.LostSteps.{IsNextStep, LosesStep}
 use Rattle.lane_splits.specs.Settled.{IsSettled, first_cells}
 use Rattle.csv_rows.specs.declared.rows.Refusal.TheVariants as refusal
 use Rattle.io_edge.specs.Streams.{Output}
-use Rattle.location_run.specs.Lines.{lines_of}
+use Rattle.location_run.specs.declared.reports.Report.{Report}
+use Rattle.location_run.specs.Lines.{text_of}
 use Rattle.location_run.specs.Taking.{Refuses}
 use Rattle.location_run.specs.Ending.{EndsWriting}
 use Rattle.location_run.specs.declared.lanes.LaneEnd.{LaneEnd}
@@ -64,15 +69,21 @@ pub record IsAnsweredBook {D : Type 0} (w : ℕ) (rows : List InRow) (old new : 
   pub answers : HasAnswers old.opening.world new.entries rows ends
   pub settled : failed_cell new.entries ≡ None → IsSettled w old.bucket old.opening (count_in old.log) new.entries
 
--- the lines are those of a history that gives the ends their answers
-pub record WritesAnswers (rows : List InRow) (h : List Entry) (ends : Option (List LaneEnd)) (status : ℕ) (old new : Output) : Type 0 where
+-- leaves stand for these objects
+pub record HasObjects (leaves : List Leaf) (world : List Placed) : Type 0 where
+  pub is_world : IsWorld world
+  pub names : List (List Bool)
+  pub stands : Stands leaves world names
+
+-- the text is that of a history that gives the ends their answers, and for whose objects at the end the leaves stand
+pub record WritesText (report : Report) (rows : List InRow) (leaves : List Leaf) (ends : Option (List LaneEnd)) (status : ℕ) (old new : Output) : Type 0 where
   pub some : List LaneEnd
   pub ends_are : ends ≡ Some some
-  pub writes : (world : List Placed) → HasAnswers world h rows some → EndsWriting (lines_of world (length rows) h) status old new
+  pub writes : (world : List Placed) (h : List Entry) → HasAnswers world h rows some → HasObjects leaves (world_after world h) → EndsWriting (text_of report rows world h) status old new
 
--- how rows end that were played: an append failed, memory ran out, or the lines are those of answers that the ends have
-abbrev pub EndsPlay : List InRow → List Entry → Option (List LaneEnd) → ℕ → Output → Output → Type 0
-EndsPlay rows h ends status old new =
-    ((cell : ℕ) × (failed_cell h ≡ Some cell) × Refuses (refusal.Disk (Some cell)) status old new)
-    ⊎ (((failed_cell h ≡ None) × Refuses refusal.Memory status old new)
-    ⊎ ((failed_cell h ≡ None) × WritesAnswers rows h ends status old new))
+-- how rows end that were played: an append failed, memory ran out, or the text is written
+abbrev pub EndsPlay : Report → List InRow → Option ℕ → List Leaf → Option (List LaneEnd) → ℕ → Output → Output → Type 0
+EndsPlay report rows failed leaves ends status old new =
+    ((cell : ℕ) × (failed ≡ Some cell) × Refuses (refusal.Disk (Some cell)) status old new)
+    ⊎ (((failed ≡ None) × Refuses refusal.Memory status old new)
+    ⊎ ((failed ≡ None) × WritesText report rows leaves ends status old new))

@@ -9,5 +9,4 @@ returns-in-Ok g c =
     let by = c.in-Ok.ensures in
     let before = g.K.Sink.output c.args.sink.now in
     let after = g.K.Sink.output c.play_book-end.new.sink in
-    let ends = c.play_book-end.ensures in
-    record { plays = inr (answered-new g.D.LogDisk.drive c.args.size c.args.rows.now book c.args.disk end.disk before after end.status end.events by.0 by.2 by.3 ends.answers ends.ends ends.splits ends.log) }
+    record { plays = inr (answered-new g.D.LogDisk.drive c.args.report c.args.size c.args.rows.now book c.args.disk end.disk before after end.status end.events by.0 by.2 by.3 c.play_book-end.ensures) }
