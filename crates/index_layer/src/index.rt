@@ -1,9 +1,10 @@
 //! What each index is: leaves in the order of their keys, a bucket for each.
-ghost use Rattle.std.specs.Prelude.{◌≡◌, ◌⊎◌, ◌^◌, ◌+◌, ◌≤◌, ◌↔◌, ℕ, List, length, map, false, true, IfOk, OnOk, OnErr, IfErr, IsErrOf};
+ghost use Rattle.std.specs.Prelude.{◌≡◌, ◌⊎◌, ◌^◌, ◌+◌, ◌≤◌, ◌↔◌, ℕ, Bool, List, [], length, map, false, true, IfOk, OnOk, OnErr, IfErr, IsErrOf};
 ghost use Rattle.std.specs.Arc.{arc_value};
 ghost use Rattle.bucket_versions.specs.Told.{Told};
 ghost use Rattle.index_layer.specs.Leaves.{Leaf, AreLeaves, one_leaf, has_name, leaf_under, replaced, split, AreUnder, AreAllUnder};
 ghost use Rattle.index_layer.specs.Part.{IsPart};
+ghost use Rattle.index_layer.specs.Below.{IsBelow};
 ghost use Rattle.index_layer.specs.RowChanges.{ChangesAt, Moves, Holds};
 ghost use Rattle.bucket_versions.specs.Rows.{put_row, gone_row};
 
@@ -21,6 +22,19 @@ pub enum Part<'a> {
     Leaf(&'a Arc<Bucket>),
     /// Neither.
     Outside,
+}
+
+/// What is below a place in an index.
+pub enum Below<'a, P> {
+    /// A leaf of the place's name.
+    Leaf(&'a Arc<Bucket>),
+    /// Leaves whose names begin with the place's and go on.
+    Halves {
+        /// The place of those that go on with 0.
+        zero: &'a P,
+        /// The place of those that go on with 1.
+        one: &'a P,
+    },
 }
 
 /// Why an index was not changed.
@@ -43,6 +57,12 @@ pub trait Index: Sized + Drop {
     /// The leaves, in the order of their keys.
     ghost leaves: { Self → List Leaf };
 
+    /// Where a walk over the index stands.
+    type Place;
+
+    /// A place has a name, and some leaf's name begins with it.
+    ghost is_at: { Self → Self.Place → List Bool → Type 0 };
+
     /// How many bits more a leaf's children have.
     ghost WIDTH: { ℕ };
 
@@ -64,6 +84,15 @@ pub trait Index: Sized + Drop {
     /// What stands at a name.
     fn part(&self, name: &Name) -> Part<'_>
         ensures { IsPart (leaves self.now) name.now result };
+
+    /// The place of the empty name.
+    fn top(&self) -> &Self::Place
+        ensures { is_at self.now result.now [] };
+
+    /// What is below a place. Unlike `part`, it begins there and not at the top.
+    fn below<'a>(&'a self, name: &Name, place: &'a Self::Place) -> Below<'a, Self::Place>
+        requires { is_at self.now place.now name.now }
+        ensures { IsBelow (leaves self.now) (is_at self.now) name.now result };
 
     /// The index with another bucket under a leaf's name.
     fn replaced(&self, name: &Name, bucket: Arc<Bucket>) -> Result<Self, IndexFault>

@@ -1,8 +1,8 @@
 //! The trait that every index meets: leaves in the order of their keys, a bucket of rows for each.
 //!
 //! Contracts see an index as the list of its leaves. Their names tile the key space, and the rows of each leaf are in
-//! order and under its name (`are_leaves`). `leaf_of` and `part` find a leaf by a key or a name; `whole`, `share`,
-//! `replaced` and `split` give new indexes and change none. `replace`, `replace_two` and `divide` change an index, once a
+//! order and under its name (`are_leaves`). `leaf_of` and `part` find a leaf by a key or a name, `top` and
+//! `below` lead a walk from a name to its halves; `whole`, `share`, `replaced` and `split` give new indexes and change none. `replace`, `replace_two` and `divide` change an index, once a
 //! step that may fail has succeeded; on an `Err` its leaves are as before.
 //!
 //! Not here: the forms of an index (`flat_index`), and walks over one (`table_share`, `range_query`, `knn_query`).
@@ -10,4 +10,4 @@
 
 mod index;
 
-pub use index::{Index, IndexFault, Part};
+pub use index::{Below, Index, IndexFault, Part};
