@@ -5,15 +5,15 @@ ghost use Rattle.index_layer.specs.Leaves.{all_rows};
 ghost use Rattle.table_share.specs.Subtree.{subtree, shares_key, leaves_between};
 
 use bucket_versions::{Bucket, Row};
-use index_layer::{Index, Part};
+use index_layer::{Below, Index};
 use prefix_names::key_range;
 use std::alloc::Global;
 use std::sync::ledger::Ledger;
 use step_count::Steps;
 use zorder::{Memory, Name, child};
 
-/// The rows with keys from `lo` to `hi`, both included, in order. Each bucket that it opens is a step. It walks names from
-/// the empty one, and passes over a subtree that shares no key with the range.
+/// The rows with keys from `lo` to `hi`, both included, in order. Each bucket that it opens is a step. It walks down from
+/// the top, and passes over a subtree that shares no key with the range.
 pub fn scan<I: Index, L: Ledger>(
     alloc: Global,
     index: &I,
@@ -28,7 +28,15 @@ pub fn scan<I: Index, L: Ledger>(
     ensures exact { IfOk result (λ _. steps.new ≡ steps.old + length (leaves_between lo hi (I.leaves index.now))) }
 {
     let mut found = Vec::new(alloc);
-    push_subtree(&mut found, index, &Name::whole(), lo, hi, steps)?;
+    push_subtree(
+        &mut found,
+        index,
+        &Name::whole(),
+        index.top(),
+        lo,
+        hi,
+        steps,
+    )?;
     Ok(found)
 }
 
@@ -37,10 +45,12 @@ fn push_subtree<I: Index, L: Ledger>(
     found: &mut Vec<Row>,
     index: &I,
     name: &Name,
+    place: &I::Place,
     lo: u64,
     hi: u64,
     steps: &mut Steps<L>,
 ) -> Result<(), Memory>
+    requires at { I.is_at index.now place.now name.now }
     ensures rows { OnOk result (found.new.items ≡ found.old.items ++ rows_between lo hi (all_rows (leaves_between lo hi (subtree name.now (I.leaves index.now))))) }
     ensures opened { steps.new ≤ steps.old + length (leaves_between lo hi (subtree name.now (I.leaves index.now))) }
     ensures exact { OnOk result (steps.new ≡ steps.old + length (leaves_between lo hi (subtree name.now (I.leaves index.now)))) }
@@ -48,13 +58,12 @@ fn push_subtree<I: Index, L: Ledger>(
     if !shares(name, lo, hi) {
         return Ok(());
     }
-    match index.part(name) {
-        Part::Leaf(bucket) => push_between(found, bucket, lo, hi, steps),
-        Part::Inner => {
-            push_subtree(found, index, &child(name, false), lo, hi, steps)?;
-            push_subtree(found, index, &child(name, true), lo, hi, steps)
+    match index.below(name, place) {
+        Below::Leaf(bucket) => push_between(found, bucket, lo, hi, steps),
+        Below::Halves { zero, one } => {
+            push_subtree(found, index, &child(name, false), zero, lo, hi, steps)?;
+            push_subtree(found, index, &child(name, true), one, lo, hi, steps)
         }
-        Part::Outside => Ok(()),
     }
 }
 

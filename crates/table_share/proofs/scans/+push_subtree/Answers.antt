@@ -3,7 +3,7 @@ use Rattle.std.specs.Arc.{arc_value}
 use Rattle.bucket_versions.specs.declared.row.Row.{Row}
 use Rattle.index_layer.specs.Leaves.{Leaf}
 use Rattle.table_share.specs.Subtree.{subtree, shares_key, leaves_of, leaves_between}
-use Rattle.table_share.proofs.Subtrees.{whenever, inner-room, passing-both, passing-leaf, passing-outside, subtree-failing}
+use Rattle.table_share.proofs.Subtrees.{whenever, inner-room, passing-both, passing-leaf, subtree-failing}
 use Rattle.table_share.proofs.SharedKeys.{shares_key-narrows, found_one, found_two, found_none}
 use Rattle.table_share.proofs.scans.+push_subtree.Goals as goal
 
@@ -23,14 +23,14 @@ returns-then-not-shares-clause-exact g t c =
 
 pub child-requires : goal.child-requires
 child-requires g t c =
-    inner-room c.args.name.now (g.I.Index.leaves c.args.index.now) (g.met.I.Index.are_leaves c.args.index.now).tile c.in-Inner.ensures.0
+    inner-room c.args.name.now (g.I.Index.leaves c.args.index.now) (g.met.I.Index.are_leaves c.args.index.now).tile c.in-Halves.ensures.0
 
-pub returns-in_err-push_subtree-in-Inner-clause-opened : goal.returns-in_err-push_subtree-in-Inner-clause-opened
-returns-in_err-push_subtree-in-Inner-clause-opened g t c =
+pub returns-in_err-push_subtree-in-Halves-clause-opened : goal.returns-in_err-push_subtree-in-Halves-clause-opened
+returns-in_err-push_subtree-in-Halves-clause-opened g t c =
     let leaves : List Leaf = g.I.Index.leaves c.args.index.now in
     let name = c.args.name.now in
     let passes : List Bool → Bool = shares_key c.args.lo c.args.hi in
-    let both = passing-both passes leaves (g.met.I.Index.are_leaves c.args.index.now).tile name c.child.result (name ++ true ∷ []) c.child.ensures refl c.in-Inner.ensures.0 c.in-Inner.ensures.1 in
+    let both = passing-both passes leaves (g.met.I.Index.are_leaves c.args.index.now).tile name c.child.result (name ++ true ∷ []) c.child.ensures refl c.in-Halves.ensures.0 c.in-Halves.ensures.1 in
     omega (arith, c.push_subtree.ensures.opened, ap length both, length-append (leaves_of passes (subtree c.child.result leaves)) (leaves_of passes (subtree (name ++ true ∷ []) leaves)))
 
 pub returns-in-Leaf-clause-rows : goal.returns-in-Leaf-clause-rows
@@ -58,52 +58,39 @@ returns-in-Leaf-clause-exact g t c =
     let one = passing-leaf passes leaves (g.met.I.Index.are_leaves c.args.index.now).tile c.args.name.now (arc_value c.in-Leaf.bucket.now) c.in-Leaf.ensures (sym c.shares.ensures ∙ c.if-not-shares.false) in
     whenever c.push_between.result (omega (arith, c.push_between.ensures.opened, ap length one))
 
-pub returns-in_ok-push_subtree-in-Inner-clause-rows : goal.returns-in_ok-push_subtree-in-Inner-clause-rows
-returns-in_ok-push_subtree-in-Inner-clause-rows g t c =
+pub returns-in_ok-push_subtree-in-Halves-clause-rows : goal.returns-in_ok-push_subtree-in-Halves-clause-rows
+returns-in_ok-push_subtree-in-Halves-clause-rows g t c =
     let leaves : List Leaf = g.I.Index.leaves c.args.index.now in
     let name = c.args.name.now in
     let found = c.args.found.now.items in
     let passes : List Bool → Bool = shares_key c.args.lo c.args.hi in
     let zero : List Leaf = leaves_of passes (subtree c.child.result leaves) in
-    let one : List Leaf = leaves_of passes (subtree c.child-in-Inner.result leaves) in
-    let both = passing-both passes leaves (g.met.I.Index.are_leaves c.args.index.now).tile name c.child.result c.child-in-Inner.result c.child.ensures c.child-in-Inner.ensures c.in-Inner.ensures.0 c.in-Inner.ensures.1 in
-    subst (λ (rs : List Row). OnOk c.push_subtree-in-Inner.result (c.push_subtree-in-Inner.new.found.items ≡ rs))
-    (found_two c.args.lo c.args.hi found c.push_subtree.new.found.items (leaves_of passes (subtree name leaves)) zero one both c.in_ok-push_subtree-in-Inner.ensures.rows)
-    c.push_subtree-in-Inner.ensures.rows
+    let one : List Leaf = leaves_of passes (subtree c.child-in-Halves.result leaves) in
+    let both = passing-both passes leaves (g.met.I.Index.are_leaves c.args.index.now).tile name c.child.result c.child-in-Halves.result c.child.ensures c.child-in-Halves.ensures c.in-Halves.ensures.0 c.in-Halves.ensures.1 in
+    subst (λ (rs : List Row). OnOk c.push_subtree-in-Halves.result (c.push_subtree-in-Halves.new.found.items ≡ rs))
+    (found_two c.args.lo c.args.hi found c.push_subtree.new.found.items (leaves_of passes (subtree name leaves)) zero one both c.in_ok-push_subtree-in-Halves.ensures.rows)
+    c.push_subtree-in-Halves.ensures.rows
 
-pub returns-in_ok-push_subtree-in-Inner-clause-opened : goal.returns-in_ok-push_subtree-in-Inner-clause-opened
-returns-in_ok-push_subtree-in-Inner-clause-opened g t c =
+pub returns-in_ok-push_subtree-in-Halves-clause-opened : goal.returns-in_ok-push_subtree-in-Halves-clause-opened
+returns-in_ok-push_subtree-in-Halves-clause-opened g t c =
     let leaves : List Leaf = g.I.Index.leaves c.args.index.now in
     let name = c.args.name.now in
     let passes : List Bool → Bool = shares_key c.args.lo c.args.hi in
-    let both = passing-both passes leaves (g.met.I.Index.are_leaves c.args.index.now).tile name c.child.result c.child-in-Inner.result c.child.ensures c.child-in-Inner.ensures c.in-Inner.ensures.0 c.in-Inner.ensures.1 in
+    let both = passing-both passes leaves (g.met.I.Index.are_leaves c.args.index.now).tile name c.child.result c.child-in-Halves.result c.child.ensures c.child-in-Halves.ensures c.in-Halves.ensures.0 c.in-Halves.ensures.1 in
     omega (
       arith,
-      c.in_ok-push_subtree-in-Inner.ensures.exact,
-      c.push_subtree-in-Inner.ensures.opened,
+      c.in_ok-push_subtree-in-Halves.ensures.exact,
+      c.push_subtree-in-Halves.ensures.opened,
       ap length both,
-      length-append (leaves_of passes (subtree c.child.result leaves)) (leaves_of passes (subtree c.child-in-Inner.result leaves)),
+      length-append (leaves_of passes (subtree c.child.result leaves)) (leaves_of passes (subtree c.child-in-Halves.result leaves)),
     )
 
-pub returns-in_ok-push_subtree-in-Inner-clause-exact : goal.returns-in_ok-push_subtree-in-Inner-clause-exact
-returns-in_ok-push_subtree-in-Inner-clause-exact g t c =
+pub returns-in_ok-push_subtree-in-Halves-clause-exact : goal.returns-in_ok-push_subtree-in-Halves-clause-exact
+returns-in_ok-push_subtree-in-Halves-clause-exact g t c =
     let leaves : List Leaf = g.I.Index.leaves c.args.index.now in
     let name = c.args.name.now in
     let passes : List Bool → Bool = shares_key c.args.lo c.args.hi in
-    let both = passing-both passes leaves (g.met.I.Index.are_leaves c.args.index.now).tile name c.child.result c.child-in-Inner.result c.child.ensures c.child-in-Inner.ensures c.in-Inner.ensures.0 c.in-Inner.ensures.1 in
-    let sum : c.push_subtree.new.steps + length (leaves_of passes (subtree c.child-in-Inner.result leaves)) ≡ c.args.steps.now + length (leaves_of passes (subtree name leaves)) =
-    omega (arith, c.in_ok-push_subtree-in-Inner.ensures.exact, ap length both, length-append (leaves_of passes (subtree c.child.result leaves)) (leaves_of passes (subtree c.child-in-Inner.result leaves))) in
-    subst (λ n. OnOk c.push_subtree-in-Inner.result (c.push_subtree-in-Inner.new.steps ≡ n)) sum c.push_subtree-in-Inner.ensures.exact
-
-pub returns-in-Outside-clause-rows : goal.returns-in-Outside-clause-rows
-returns-in-Outside-clause-rows g t c =
-    let leaves : List Leaf = g.I.Index.leaves c.args.index.now in
-    let passes : List Bool → Bool = shares_key c.args.lo c.args.hi in
-    let none = passing-outside passes leaves (g.met.I.Index.are_leaves c.args.index.now).tile c.args.name.now c.in-Outside.ensures.0 c.in-Outside.ensures.1 in
-    found_none c.args.lo c.args.hi c.args.found.now.items (leaves_of passes (subtree c.args.name.now leaves)) none
-
-pub returns-in-Outside-clause-exact : goal.returns-in-Outside-clause-exact
-returns-in-Outside-clause-exact g t c =
-    let leaves : List Leaf = g.I.Index.leaves c.args.index.now in
-    let none = passing-outside (shares_key c.args.lo c.args.hi) leaves (g.met.I.Index.are_leaves c.args.index.now).tile c.args.name.now c.in-Outside.ensures.0 c.in-Outside.ensures.1 in
-    omega (arith, ap length none)
+    let both = passing-both passes leaves (g.met.I.Index.are_leaves c.args.index.now).tile name c.child.result c.child-in-Halves.result c.child.ensures c.child-in-Halves.ensures c.in-Halves.ensures.0 c.in-Halves.ensures.1 in
+    let sum : c.push_subtree.new.steps + length (leaves_of passes (subtree c.child-in-Halves.result leaves)) ≡ c.args.steps.now + length (leaves_of passes (subtree name leaves)) =
+    omega (arith, c.in_ok-push_subtree-in-Halves.ensures.exact, ap length both, length-append (leaves_of passes (subtree c.child.result leaves)) (leaves_of passes (subtree c.child-in-Halves.result leaves))) in
+    subst (λ n. OnOk c.push_subtree-in-Halves.result (c.push_subtree-in-Halves.new.steps ≡ n)) sum c.push_subtree-in-Halves.ensures.exact
