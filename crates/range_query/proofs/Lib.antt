@@ -1,3 +1,4 @@
 pub mod BoxCounts
 pub mod BoxLeaves
 pub mod InOrder
+pub mod Listings

@@ -9,7 +9,7 @@ ghost use Rattle.range_query.specs.Cut.{is_met, is_cut, leaves_cut, below_met, n
 ghost use Rattle.table_share.specs.KeysUnder.{AreKeysUnder, AreAllKeysUnder};
 
 use bucket_versions::Bucket;
-use index_layer::{Index, Part};
+use index_layer::{Below, Index};
 use prefix_names::{inside, meets};
 use std::sync::ledger::Ledger;
 use step_count::Steps;
@@ -22,30 +22,31 @@ pub fn count_in<I: Index, L: Ledger>(index: &I, region: &Region, steps: &mut Ste
     ensures number { OfEachWorld (I.leaves index.now) (λ world. result ≡ length (members_in region.now world)) }
     ensures opened { steps.new ≡ steps.old + length (leaves_cut region.now (I.leaves index.now)) }
 {
-    count_below(index, &Name::whole(), region, steps)
+    count_below(index, &Name::whole(), index.top(), region, steps)
 }
 
 // How many there are below a name.
 fn count_below<I: Index, L: Ledger>(
     index: &I,
     name: &Name,
+    place: &I::Place,
     region: &Region,
     steps: &mut Steps<L>,
 ) -> u64
-    requires { IsBox region.now }
+    requires is_box { IsBox region.now }
+    requires at { I.is_at index.now place.now name.now }
     ensures number { AreAllKeysUnder (I.leaves index.now) → number_in region.now (all_rows (below_met region.now name.now (I.leaves index.now))) < 2 ^ 64 → result ≡ number_in region.now (all_rows (below_met region.now name.now (I.leaves index.now))) }
     ensures opened { steps.new ≡ steps.old + length (leaves_cut region.now (subtree name.now (I.leaves index.now))) }
 {
     if !meets(&prefix_names::region(name), region) {
         return 0;
     }
-    match index.part(name) {
-        Part::Leaf(bucket) => count_leaf(name, bucket, region, steps),
-        Part::Inner => {
-            let first = count_below(index, &child(name, false), region, steps);
-            first.saturating_add(count_below(index, &child(name, true), region, steps))
+    match index.below(name, place) {
+        Below::Leaf(bucket) => count_leaf(name, bucket, region, steps),
+        Below::Halves { zero, one } => {
+            let first = count_below(index, &child(name, false), zero, region, steps);
+            first.saturating_add(count_below(index, &child(name, true), one, region, steps))
         }
-        Part::Outside => 0,
     }
 }
 

@@ -8,7 +8,7 @@ ghost use Rattle.table_share.specs.Worlds.{OfEachWorld};
 ghost use Rattle.range_query.specs.Cut.{leaves_met, below_met, objects_held};
 
 use bucket_versions::Bucket;
-use index_layer::{Index, Part};
+use index_layer::{Below, Index};
 use plain_list::PlacedList;
 use prefix_names::{inside, meets};
 use std::alloc::Global;
@@ -31,7 +31,14 @@ pub fn range<I: Index, L: Ledger>(
     ensures exact { IfOk result (λ _. steps.new ≡ steps.old + length (leaves_met region.now (I.leaves index.now))) }
 {
     let mut found = Vec::new(alloc);
-    push_below(&mut found, index, &Name::whole(), region, steps)?;
+    push_below(
+        &mut found,
+        index,
+        &Name::whole(),
+        index.top(),
+        region,
+        steps,
+    )?;
     found.sort_unstable_by_key(|m| m.id);
     Ok(PlacedList::from_vec(found))
 }
@@ -41,10 +48,12 @@ fn push_below<I: Index, L: Ledger>(
     found: &mut Vec<Placed>,
     index: &I,
     name: &Name,
+    place: &I::Place,
     region: &Region,
     steps: &mut Steps<L>,
 ) -> Result<(), Memory>
-    requires { IsBox region.now }
+    requires is_box { IsBox region.now }
+    requires at { I.is_at index.now place.now name.now }
     ensures objects { AreAllKeysUnder (I.leaves index.now) → OnOk result (found.new.items ≡ found.old.items ++ objects_held region.now (below_met region.now name.now (I.leaves index.now))) }
     ensures opened { steps.new ≤ steps.old + length (below_met region.now name.now (I.leaves index.now)) }
     ensures exact { OnOk result (steps.new ≡ steps.old + length (below_met region.now name.now (I.leaves index.now))) }
@@ -52,13 +61,12 @@ fn push_below<I: Index, L: Ledger>(
     if !meets(&prefix_names::region(name), region) {
         return Ok(());
     }
-    match index.part(name) {
-        Part::Leaf(bucket) => push_leaf(found, name, bucket, region, steps),
-        Part::Inner => {
-            push_below(found, index, &child(name, false), region, steps)?;
-            push_below(found, index, &child(name, true), region, steps)
+    match index.below(name, place) {
+        Below::Leaf(bucket) => push_leaf(found, name, bucket, region, steps),
+        Below::Halves { zero, one } => {
+            push_below(found, index, &child(name, false), zero, region, steps)?;
+            push_below(found, index, &child(name, true), one, region, steps)
         }
-        Part::Outside => Ok(()),
     }
 }
 
@@ -81,7 +89,7 @@ fn push_leaf<L: Ledger>(
     }
 }
 
-fn push_all<L: Ledger>(
+pub(crate) fn push_all<L: Ledger>(
     found: &mut Vec<Placed>,
     bucket: &Bucket,
     steps: &mut Steps<L>,

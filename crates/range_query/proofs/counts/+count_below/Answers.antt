@@ -5,7 +5,7 @@ use Rattle.prefix_names.specs.Regions.{meet, lies_in, region_of}
 use Rattle.index_layer.specs.Leaves.{Leaf, all_rows}
 use Rattle.table_share.specs.KeysUnder.{AreKeysUnder}
 use Rattle.table_share.specs.Subtree.{subtree}
-use Rattle.table_share.proofs.Subtrees.{inner-room, passing-both, passing-leaf, passing-outside, subtree-failing, subtree-leaf}
+use Rattle.table_share.proofs.Subtrees.{inner-room, passing-both, passing-leaf, subtree-failing, subtree-leaf}
 use Rattle.range_query.specs.Cut.{is_met, is_cut, leaves_met, leaves_cut, number_in}
 use Rattle.range_query.proofs.BoxCounts.{count_one, count_two, cut_one}
 use Rattle.range_query.proofs.BoxLeaves.{is_met-narrows, is_cut-narrows, keys_of_leaf}
@@ -16,7 +16,7 @@ returns-then-not-meets-clause-number g t c under fits =
     let leaves : List Leaf = g.I.Index.leaves c.args.index.now in
     let region = c.args.region.now in
     let fails : is_met region c.args.name.now ≡ false = sym (c.meets.ensures.test ∙ ap (λ r. meet r region) c.region.ensures.value) ∙ c.if-not-meets.true in
-    sym (ap (λ (ls : List Leaf). number_in region (all_rows ls)) (subtree-failing (is_met region) (is_met-narrows region c.requires) c.args.name.now 0 leaves (g.met.I.Index.are_leaves c.args.index.now).tile fails))
+    sym (ap (λ (ls : List Leaf). number_in region (all_rows ls)) (subtree-failing (is_met region) (is_met-narrows region c.requires.is_box) c.args.name.now 0 leaves (g.met.I.Index.are_leaves c.args.index.now).tile fails))
 
 pub returns-then-not-meets-clause-opened : goal.returns-then-not-meets-clause-opened
 returns-then-not-meets-clause-opened g t c =
@@ -24,11 +24,11 @@ returns-then-not-meets-clause-opened g t c =
     let region = c.args.region.now in
     let fails : is_met region c.args.name.now ≡ false = sym (c.meets.ensures.test ∙ ap (λ r. meet r region) c.region.ensures.value) ∙ c.if-not-meets.true in
     let uncut : is_cut region c.args.name.now ≡ false = ap (λ b. b && not (lies_in (region_of c.args.name.now) region)) fails in
-    omega (arith, ap length (subtree-failing (is_cut region) (is_cut-narrows region c.requires) c.args.name.now 0 leaves (g.met.I.Index.are_leaves c.args.index.now).tile uncut))
+    omega (arith, ap length (subtree-failing (is_cut region) (is_cut-narrows region c.requires.is_box) c.args.name.now 0 leaves (g.met.I.Index.are_leaves c.args.index.now).tile uncut))
 
 pub child-requires : goal.child-requires
 child-requires g t c =
-    inner-room c.args.name.now (g.I.Index.leaves c.args.index.now) (g.met.I.Index.are_leaves c.args.index.now).tile c.in-Inner.ensures.0
+    inner-room c.args.name.now (g.I.Index.leaves c.args.index.now) (g.met.I.Index.are_leaves c.args.index.now).tile c.in-Halves.ensures.0
 
 pub returns-in-Leaf-clause-number : goal.returns-in-Leaf-clause-number
 returns-in-Leaf-clause-number g t c under fits =
@@ -50,31 +50,20 @@ returns-in-Leaf-clause-opened g t c =
     let one = subtree-leaf name 0 leaves (record { name = name; bucket = b }) (g.met.I.Index.are_leaves c.args.index.now).tile c.in-Leaf.ensures in
     omega (arith, c.count_leaf.ensures.opened, ap (λ (ls : List Leaf). length (leaves_cut region ls)) one, cut_one region name b)
 
-pub returns-in-Inner-clause-number : goal.returns-in-Inner-clause-number
-returns-in-Inner-clause-number g t c under fits =
+pub returns-in-Halves-clause-number : goal.returns-in-Halves-clause-number
+returns-in-Halves-clause-number g t c under fits =
     let leaves : List Leaf = g.I.Index.leaves c.args.index.now in
     let name = c.args.name.now in
     let region = c.args.region.now in
-    let both = passing-both (is_met region) leaves (g.met.I.Index.are_leaves c.args.index.now).tile name c.child.result c.child-in-Inner.result c.child.ensures c.child-in-Inner.ensures c.in-Inner.ensures.0 c.in-Inner.ensures.1 in
-    let sum = count_two region (leaves_met region (subtree name leaves)) (leaves_met region (subtree c.child.result leaves)) (leaves_met region (subtree c.child-in-Inner.result leaves)) both in
+    let both = passing-both (is_met region) leaves (g.met.I.Index.are_leaves c.args.index.now).tile name c.child.result c.child-in-Halves.result c.child.ensures c.child-in-Halves.ensures c.in-Halves.ensures.0 c.in-Halves.ensures.1 in
+    let sum = count_two region (leaves_met region (subtree name leaves)) (leaves_met region (subtree c.child.result leaves)) (leaves_met region (subtree c.child-in-Halves.result leaves)) both in
     let first = c.count_below-first.ensures.number under (omega (arith, sum, fits)) in
     let second = c.count_below.ensures.number under (omega (arith, sum, fits)) in
     omega (arith, c.saturating_add.ensures, first, second, sum, fits)
 
-pub returns-in-Inner-clause-opened : goal.returns-in-Inner-clause-opened
-returns-in-Inner-clause-opened g t c =
+pub returns-in-Halves-clause-opened : goal.returns-in-Halves-clause-opened
+returns-in-Halves-clause-opened g t c =
     let leaves : List Leaf = g.I.Index.leaves c.args.index.now in
     let region = c.args.region.now in
-    let both = passing-both (is_cut region) leaves (g.met.I.Index.are_leaves c.args.index.now).tile c.args.name.now c.child.result c.child-in-Inner.result c.child.ensures c.child-in-Inner.ensures c.in-Inner.ensures.0 c.in-Inner.ensures.1 in
-    omega (arith, c.count_below-first.ensures.opened, c.count_below.ensures.opened, ap length both, length-append (leaves_cut region (subtree c.child.result leaves)) (leaves_cut region (subtree c.child-in-Inner.result leaves)))
-
-pub returns-in-Outside-clause-number : goal.returns-in-Outside-clause-number
-returns-in-Outside-clause-number g t c under fits =
-    let leaves : List Leaf = g.I.Index.leaves c.args.index.now in
-    sym (ap (λ (ls : List Leaf). number_in c.args.region.now (all_rows ls))
-    (passing-outside (is_met c.args.region.now) leaves (g.met.I.Index.are_leaves c.args.index.now).tile c.args.name.now c.in-Outside.ensures.0 c.in-Outside.ensures.1))
-
-pub returns-in-Outside-clause-opened : goal.returns-in-Outside-clause-opened
-returns-in-Outside-clause-opened g t c =
-    let leaves : List Leaf = g.I.Index.leaves c.args.index.now in
-    omega (arith, ap length (passing-outside (is_cut c.args.region.now) leaves (g.met.I.Index.are_leaves c.args.index.now).tile c.args.name.now c.in-Outside.ensures.0 c.in-Outside.ensures.1))
+    let both = passing-both (is_cut region) leaves (g.met.I.Index.are_leaves c.args.index.now).tile c.args.name.now c.child.result c.child-in-Halves.result c.child.ensures c.child-in-Halves.ensures c.in-Halves.ensures.0 c.in-Halves.ensures.1 in
+    omega (arith, c.count_below-first.ensures.opened, c.count_below.ensures.opened, ap length both, length-append (leaves_cut region (subtree c.child.result leaves)) (leaves_cut region (subtree c.child-in-Halves.result leaves)))

@@ -5,7 +5,7 @@ use Rattle.index_layer.specs.Leaves.{Leaf}
 use Rattle.prefix_names.specs.Regions.{meet}
 use Rattle.table_share.specs.KeysUnder.{AreKeysUnder}
 use Rattle.table_share.specs.Subtree.{subtree, leaves_of}
-use Rattle.table_share.proofs.Subtrees.{whenever, inner-room, passing-both, passing-leaf, passing-outside, subtree-failing}
+use Rattle.table_share.proofs.Subtrees.{whenever, inner-room, passing-both, passing-leaf, subtree-failing}
 use Rattle.range_query.specs.Cut.{is_met, leaves_met}
 use Rattle.range_query.proofs.BoxLeaves.{is_met-narrows, found_one, found_two, found_none, keys_of_leaf}
 use Rattle.range_query.proofs.ranges.+push_below.Goals as goal
@@ -14,26 +14,26 @@ pub returns-then-not-meets-clause-objects : goal.returns-then-not-meets-clause-o
 returns-then-not-meets-clause-objects g t c under =
     let leaves : List Leaf = g.I.Index.leaves c.args.index.now in
     let fails : is_met c.args.region.now c.args.name.now ≡ false = sym (c.meets.ensures.test ∙ ap (λ r. meet r c.args.region.now) c.region.ensures.value) ∙ c.if-not-meets.true in
-    let none = subtree-failing (is_met c.args.region.now) (is_met-narrows c.args.region.now c.requires) c.args.name.now 0 leaves (g.met.I.Index.are_leaves c.args.index.now).tile fails in
-    found_none c.args.region.now c.requires c.args.found.now.items (leaves_met c.args.region.now (subtree c.args.name.now leaves)) none
+    let none = subtree-failing (is_met c.args.region.now) (is_met-narrows c.args.region.now c.requires.is_box) c.args.name.now 0 leaves (g.met.I.Index.are_leaves c.args.index.now).tile fails in
+    found_none c.args.region.now c.requires.is_box c.args.found.now.items (leaves_met c.args.region.now (subtree c.args.name.now leaves)) none
 
 pub returns-then-not-meets-clause-exact : goal.returns-then-not-meets-clause-exact
 returns-then-not-meets-clause-exact g t c =
     let leaves : List Leaf = g.I.Index.leaves c.args.index.now in
     let fails : is_met c.args.region.now c.args.name.now ≡ false = sym (c.meets.ensures.test ∙ ap (λ r. meet r c.args.region.now) c.region.ensures.value) ∙ c.if-not-meets.true in
-    let none = subtree-failing (is_met c.args.region.now) (is_met-narrows c.args.region.now c.requires) c.args.name.now 0 leaves (g.met.I.Index.are_leaves c.args.index.now).tile fails in
+    let none = subtree-failing (is_met c.args.region.now) (is_met-narrows c.args.region.now c.requires.is_box) c.args.name.now 0 leaves (g.met.I.Index.are_leaves c.args.index.now).tile fails in
     omega (arith, ap length none)
 
 pub child-requires : goal.child-requires
 child-requires g t c =
-    inner-room c.args.name.now (g.I.Index.leaves c.args.index.now) (g.met.I.Index.are_leaves c.args.index.now).tile c.in-Inner.ensures.0
+    inner-room c.args.name.now (g.I.Index.leaves c.args.index.now) (g.met.I.Index.are_leaves c.args.index.now).tile c.in-Halves.ensures.0
 
-pub returns-in_err-push_below-in-Inner-clause-opened : goal.returns-in_err-push_below-in-Inner-clause-opened
-returns-in_err-push_below-in-Inner-clause-opened g t c =
+pub returns-in_err-push_below-in-Halves-clause-opened : goal.returns-in_err-push_below-in-Halves-clause-opened
+returns-in_err-push_below-in-Halves-clause-opened g t c =
     let leaves : List Leaf = g.I.Index.leaves c.args.index.now in
     let name = c.args.name.now in
     let passes : List Bool → Bool = is_met c.args.region.now in
-    let both = passing-both passes leaves (g.met.I.Index.are_leaves c.args.index.now).tile name c.child.result (name ++ true ∷ []) c.child.ensures refl c.in-Inner.ensures.0 c.in-Inner.ensures.1 in
+    let both = passing-both passes leaves (g.met.I.Index.are_leaves c.args.index.now).tile name c.child.result (name ++ true ∷ []) c.child.ensures refl c.in-Halves.ensures.0 c.in-Halves.ensures.1 in
     omega (arith, c.push_below.ensures.opened, ap length both, length-append (leaves_of passes (subtree c.child.result leaves)) (leaves_of passes (subtree (name ++ true ∷ []) leaves)))
 
 pub returns-in-Leaf-clause-objects : goal.returns-in-Leaf-clause-objects
@@ -44,7 +44,7 @@ returns-in-Leaf-clause-objects g t c under =
     let passes : List Bool → Bool = is_met c.args.region.now in
     let one = passing-leaf passes leaves (g.met.I.Index.are_leaves c.args.index.now).tile name (arc_value c.in-Leaf.bucket.now) c.in-Leaf.ensures (sym (c.meets.ensures.test ∙ ap (λ r. meet r c.args.region.now) c.region.ensures.value) ∙ c.if-not-meets.false) in
     subst (λ (ms : List Placed). OnOk c.push_leaf.result (c.push_leaf.new.found.items ≡ ms))
-    (found_one c.args.region.now c.requires found c.deref.result.now.rows (leaves_of passes (subtree name leaves)) name (arc_value c.in-Leaf.bucket.now) (ap (λ b. b.rows) c.deref.ensures) one)
+    (found_one c.args.region.now c.requires.is_box found c.deref.result.now.rows (leaves_of passes (subtree name leaves)) name (arc_value c.in-Leaf.bucket.now) (ap (λ b. b.rows) c.deref.ensures) one)
     (c.push_leaf.ensures.objects (subst (λ b. AreKeysUnder name b.rows) (sym c.deref.ensures) (keys_of_leaf name (arc_value c.in-Leaf.bucket.now) leaves c.in-Leaf.ensures under)))
 
 pub returns-in-Leaf-clause-opened : goal.returns-in-Leaf-clause-opened
@@ -61,52 +61,39 @@ returns-in-Leaf-clause-exact g t c =
     let one = passing-leaf passes leaves (g.met.I.Index.are_leaves c.args.index.now).tile c.args.name.now (arc_value c.in-Leaf.bucket.now) c.in-Leaf.ensures (sym (c.meets.ensures.test ∙ ap (λ r. meet r c.args.region.now) c.region.ensures.value) ∙ c.if-not-meets.false) in
     whenever c.push_leaf.result (omega (arith, c.push_leaf.ensures.opened, ap length one))
 
-pub returns-in_ok-push_below-in-Inner-clause-objects : goal.returns-in_ok-push_below-in-Inner-clause-objects
-returns-in_ok-push_below-in-Inner-clause-objects g t c under =
+pub returns-in_ok-push_below-in-Halves-clause-objects : goal.returns-in_ok-push_below-in-Halves-clause-objects
+returns-in_ok-push_below-in-Halves-clause-objects g t c under =
     let leaves : List Leaf = g.I.Index.leaves c.args.index.now in
     let name = c.args.name.now in
     let found = c.args.found.now.items in
     let passes : List Bool → Bool = is_met c.args.region.now in
     let zero : List Leaf = leaves_of passes (subtree c.child.result leaves) in
-    let one : List Leaf = leaves_of passes (subtree c.child-in-Inner.result leaves) in
-    let both = passing-both passes leaves (g.met.I.Index.are_leaves c.args.index.now).tile name c.child.result c.child-in-Inner.result c.child.ensures c.child-in-Inner.ensures c.in-Inner.ensures.0 c.in-Inner.ensures.1 in
-    subst (λ (ms : List Placed). OnOk c.push_below-in-Inner.result (c.push_below-in-Inner.new.found.items ≡ ms))
-    (found_two c.args.region.now c.requires found c.push_below.new.found.items (leaves_of passes (subtree name leaves)) zero one both (c.in_ok-push_below-in-Inner.ensures.objects under))
-    (c.push_below-in-Inner.ensures.objects under)
+    let one : List Leaf = leaves_of passes (subtree c.child-in-Halves.result leaves) in
+    let both = passing-both passes leaves (g.met.I.Index.are_leaves c.args.index.now).tile name c.child.result c.child-in-Halves.result c.child.ensures c.child-in-Halves.ensures c.in-Halves.ensures.0 c.in-Halves.ensures.1 in
+    subst (λ (ms : List Placed). OnOk c.push_below-in-Halves.result (c.push_below-in-Halves.new.found.items ≡ ms))
+    (found_two c.args.region.now c.requires.is_box found c.push_below.new.found.items (leaves_of passes (subtree name leaves)) zero one both (c.in_ok-push_below-in-Halves.ensures.objects under))
+    (c.push_below-in-Halves.ensures.objects under)
 
-pub returns-in_ok-push_below-in-Inner-clause-opened : goal.returns-in_ok-push_below-in-Inner-clause-opened
-returns-in_ok-push_below-in-Inner-clause-opened g t c =
+pub returns-in_ok-push_below-in-Halves-clause-opened : goal.returns-in_ok-push_below-in-Halves-clause-opened
+returns-in_ok-push_below-in-Halves-clause-opened g t c =
     let leaves : List Leaf = g.I.Index.leaves c.args.index.now in
     let name = c.args.name.now in
     let passes : List Bool → Bool = is_met c.args.region.now in
-    let both = passing-both passes leaves (g.met.I.Index.are_leaves c.args.index.now).tile name c.child.result c.child-in-Inner.result c.child.ensures c.child-in-Inner.ensures c.in-Inner.ensures.0 c.in-Inner.ensures.1 in
+    let both = passing-both passes leaves (g.met.I.Index.are_leaves c.args.index.now).tile name c.child.result c.child-in-Halves.result c.child.ensures c.child-in-Halves.ensures c.in-Halves.ensures.0 c.in-Halves.ensures.1 in
     omega (
       arith,
-      c.in_ok-push_below-in-Inner.ensures.exact,
-      c.push_below-in-Inner.ensures.opened,
+      c.in_ok-push_below-in-Halves.ensures.exact,
+      c.push_below-in-Halves.ensures.opened,
       ap length both,
-      length-append (leaves_of passes (subtree c.child.result leaves)) (leaves_of passes (subtree c.child-in-Inner.result leaves)),
+      length-append (leaves_of passes (subtree c.child.result leaves)) (leaves_of passes (subtree c.child-in-Halves.result leaves)),
     )
 
-pub returns-in_ok-push_below-in-Inner-clause-exact : goal.returns-in_ok-push_below-in-Inner-clause-exact
-returns-in_ok-push_below-in-Inner-clause-exact g t c =
+pub returns-in_ok-push_below-in-Halves-clause-exact : goal.returns-in_ok-push_below-in-Halves-clause-exact
+returns-in_ok-push_below-in-Halves-clause-exact g t c =
     let leaves : List Leaf = g.I.Index.leaves c.args.index.now in
     let name = c.args.name.now in
     let passes : List Bool → Bool = is_met c.args.region.now in
-    let both = passing-both passes leaves (g.met.I.Index.are_leaves c.args.index.now).tile name c.child.result c.child-in-Inner.result c.child.ensures c.child-in-Inner.ensures c.in-Inner.ensures.0 c.in-Inner.ensures.1 in
-    let sum : c.push_below.new.steps + length (leaves_of passes (subtree c.child-in-Inner.result leaves)) ≡ c.args.steps.now + length (leaves_of passes (subtree name leaves)) =
-    omega (arith, c.in_ok-push_below-in-Inner.ensures.exact, ap length both, length-append (leaves_of passes (subtree c.child.result leaves)) (leaves_of passes (subtree c.child-in-Inner.result leaves))) in
-    subst (λ n. OnOk c.push_below-in-Inner.result (c.push_below-in-Inner.new.steps ≡ n)) sum c.push_below-in-Inner.ensures.exact
-
-pub returns-in-Outside-clause-objects : goal.returns-in-Outside-clause-objects
-returns-in-Outside-clause-objects g t c under =
-    let leaves : List Leaf = g.I.Index.leaves c.args.index.now in
-    let passes : List Bool → Bool = is_met c.args.region.now in
-    let none = passing-outside passes leaves (g.met.I.Index.are_leaves c.args.index.now).tile c.args.name.now c.in-Outside.ensures.0 c.in-Outside.ensures.1 in
-    found_none c.args.region.now c.requires c.args.found.now.items (leaves_of passes (subtree c.args.name.now leaves)) none
-
-pub returns-in-Outside-clause-exact : goal.returns-in-Outside-clause-exact
-returns-in-Outside-clause-exact g t c =
-    let leaves : List Leaf = g.I.Index.leaves c.args.index.now in
-    let none = passing-outside (is_met c.args.region.now) leaves (g.met.I.Index.are_leaves c.args.index.now).tile c.args.name.now c.in-Outside.ensures.0 c.in-Outside.ensures.1 in
-    omega (arith, ap length none)
+    let both = passing-both passes leaves (g.met.I.Index.are_leaves c.args.index.now).tile name c.child.result c.child-in-Halves.result c.child.ensures c.child-in-Halves.ensures c.in-Halves.ensures.0 c.in-Halves.ensures.1 in
+    let sum : c.push_below.new.steps + length (leaves_of passes (subtree c.child-in-Halves.result leaves)) ≡ c.args.steps.now + length (leaves_of passes (subtree name leaves)) =
+    omega (arith, c.in_ok-push_below-in-Halves.ensures.exact, ap length both, length-append (leaves_of passes (subtree c.child.result leaves)) (leaves_of passes (subtree c.child-in-Halves.result leaves))) in
+    subst (λ n. OnOk c.push_below-in-Halves.result (c.push_below-in-Halves.new.steps ≡ n)) sum c.push_below-in-Halves.ensures.exact

@@ -1,0 +1,91 @@
+-- What is found in a box so far, as leaves and rows are passed.
+use Rattle.std.proofs.Common.{◌≡◌, ℕ, ◌+◌, ◌<◌, ◌≤◌, ◌^◌, Bool, true, false, cond, List, [], ◌∷◌, ◌++◌, length, map, refl, sym, ap, subst, ◌∙◌, arith, length-append, append_assoc, Result, Ok, Err, OnOk}
+use Rattle.std.specs.Prelude.{nat_le}
+use Rattle.std.specs.List.Sorted.{IsPermutation}
+use Rattle.std.proofs.lemmas.List.{append-nil}
+use Rattle.std.proofs.lemmas.List.Sorted.{length_permutation}
+use Rattle.std.proofs.lemmas.Bool.Decides.{nat_tests}
+use Rattle.zorder.specs.declared.points.Placed.{Placed}
+use Rattle.zorder.specs.declared.points.Region.{Region}
+use Rattle.zorder.specs.Region.{has_point}
+use Rattle.bucket_versions.specs.declared.row.Row.{Row}
+use Rattle.index_layer.specs.Leaves.{Leaf, all_rows}
+use Rattle.plain_list.specs.declared.ops.Answer.TheVariants.{Found, Many}
+use Rattle.plain_list.specs.Answer.{members_in, listed}
+use Rattle.table_share.specs.Objects.{placed_of, objects_of}
+use Rattle.range_query.specs.Cut.{objects_held, number_in}
+use Rattle.range_query.specs.Listing.{IsListing}
+use Rattle.range_query.specs.declared.found.Listing.{Listing}
+
+-- where a result is Ok, what follows from what holds then
+pub on_ok : {T E A B : Type 0} (r : Result T E) → (A → B) → OnOk r A → OnOk r B
+on_ok (Ok x) f a = f a
+on_ok (Err e) f a = tt
+
+-- one object more
+pub listing-add : (ms : List Placed) (m : Placed) (old new : Listing) → new.count ≡ old.count + 1 → (old.count < 2048 → new.list.items ≡ old.list.items ++ m ∷ []) → IsListing ms old → IsListing (ms ++ m ∷ []) new
+listing-add ms m old new counted pushed is =
+    (omega (arith, counted, is.0, length-append ms (m ∷ [])), λ few. pushed (omega (arith, few, is.0, length-append ms (m ∷ []))) ∙ ap (λ (xs : List Placed). xs ++ m ∷ []) (is.1 (omega (arith, few, length-append ms (m ∷ [])))))
+
+-- many more
+pub listing-all : (ms more : List Placed) (old new : Listing) → new.count ≡ old.count + length more → (new.count ≤ 2048 → new.list.items ≡ old.list.items ++ more) → IsListing ms old → IsListing (ms ++ more) new
+listing-all ms more old new counted pushed is =
+    (omega (arith, counted, is.0, length-append ms more), λ few. pushed (omega (arith, few, counted, is.0, length-append ms more)) ∙ ap (λ (xs : List Placed). xs ++ more) (is.1 (omega (arith, few, length-append ms more))))
+
+-- the objects that rows that are gone stand for, where these are left
+pub record Passed (region : Region) (ms : List Placed) (all left : List Row) (listing : Listing) : Type 0 where
+  pub done : List Placed
+  pub is : IsListing done listing
+  pub rest : done ++ members_in region (objects_of left) ≡ ms ++ members_in region (objects_of all)
+
+pub passed-begin : (region : Region) (ms : List Placed) (all : List Row) (listing : Listing) → IsListing ms listing → Passed region ms all all listing
+passed-begin region ms all listing is = record { done = ms; is = is; rest = refl }
+
+pub passed-out : (region : Region) (ms : List Placed) (all rows left : List Row) (r : Row) (listing : Listing) → rows ≡ r ∷ left → has_point region (placed_of r).at ≡ false → Passed region ms all rows listing → Passed region ms all left listing
+passed-out region ms all rows left r listing first out p = record {
+  done = p.done;
+  is = p.is;
+  rest = ap (λ b. p.done ++ cond b (placed_of r ∷ members_in region (objects_of left)) (members_in region (objects_of left))) (sym out)
+      ∙ ap (λ (rs : List Row). p.done ++ members_in region (objects_of rs)) (sym first) ∙ p.rest;
+}
+
+module _ (region : Region) (ms : List Placed) (all rows left : List Row) (r : Row) (listing : Listing) (first : rows ≡ r ∷ left) (there : has_point region (placed_of r).at ≡ true) (p : Passed region ms all rows listing) where
+  next : (p.done ++ placed_of r ∷ []) ++ members_in region (objects_of left) ≡ ms ++ members_in region (objects_of all)
+  next =
+      append_assoc p.done (placed_of r ∷ []) (members_in region (objects_of left))
+      ∙ ap (λ b. p.done ++ cond b (placed_of r ∷ members_in region (objects_of left)) (members_in region (objects_of left))) (sym there)
+      ∙ ap (λ (rs : List Row). p.done ++ members_in region (objects_of rs)) (sym first) ∙ p.rest
+
+  pub passed-fits : length ms + number_in region all < 2 ^ 64 → length p.done + 1 < 2 ^ 64
+  passed-fits fits = by_length
+    where
+      long : length p.done + 1 + length (members_in region (objects_of left)) ≡ length ms + number_in region all
+      long = omega (
+        arith,
+        ap length next,
+        length-append (p.done ++ placed_of r ∷ []) (members_in region (objects_of left)),
+        length-append p.done (placed_of r ∷ []),
+        length-append ms (members_in region (objects_of all)),
+      )
+
+      by_length : length p.done + 1 < 2 ^ 64
+      by_length = omega (arith, long, fits)
+
+  pub passed-in : (new : Listing) → (IsListing p.done listing → IsListing (p.done ++ placed_of r ∷ []) new) → Passed region ms all left new
+  passed-in new add = record { done = p.done ++ placed_of r ∷ []; is = add p.is; rest = next }
+
+pub passed-end : (region : Region) (ms : List Placed) (all : List Row) (listing : Listing) → Passed region ms all [] listing → IsListing (ms ++ members_in region (objects_of all)) listing
+passed-end region ms all listing p = subst (λ (xs : List Placed). IsListing xs listing) (sym (append-nil p.done) ∙ p.rest) p.is
+
+-- the answer that a list of the objects is
+pub listed-many : (ms found : List Placed) (n : ℕ) → IsPermutation ms found → n ≡ length found → 2048 < n → Many n ≡ listed ms
+listed-many ms found n moved is many =
+    let long : length ms ≡ n = omega (arith, is, length_permutation ms found moved) in
+    let no : nat_le (length ms) 2048 ≡ false = grind (arith, nat_tests) in
+    ap Many (sym long) ∙ ap (λ b. cond b (Found ms) (Many (length ms))) (sym no)
+
+pub listed-found : (ms found list : List Placed) (n : ℕ) → IsPermutation ms found → n ≡ length found → n ≤ 2048 → list ≡ ms → Found list ≡ listed ms
+listed-found ms found list n moved is few same =
+    let long : length ms ≡ n = omega (arith, is, length_permutation ms found moved) in
+    let yes : nat_le (length ms) 2048 ≡ true = grind (arith, nat_tests) in
+    ap Found same ∙ ap (λ b. cond b (Found ms) (Many (length ms))) (sym yes)

@@ -1,0 +1,112 @@
+use Rattle.std.proofs.Common.{◌≡◌, ◌≤◌, ◌+◌, ◌++◌, ◌∷◌, ◌∙◌, [], Bool, List, OnOk, length, length-append, true, false, refl, sym, ap, subst, arith}
+use Rattle.std.specs.Arc.{arc_value}
+use Rattle.zorder.specs.declared.points.Placed.{Placed}
+use Rattle.index_layer.specs.Leaves.{Leaf}
+use Rattle.prefix_names.specs.Regions.{meet}
+use Rattle.table_share.specs.KeysUnder.{AreKeysUnder}
+use Rattle.table_share.specs.Subtree.{subtree, leaves_of}
+use Rattle.table_share.proofs.Subtrees.{inner-room, passing-both, passing-leaf, subtree-failing}
+use Rattle.range_query.specs.Cut.{is_met, leaves_met, objects_held}
+use Rattle.range_query.specs.Listing.{IsListing}
+use Rattle.range_query.proofs.BoxLeaves.{is_met-narrows, found_one, found_two, found_none, held-append, keys_of_leaf}
+use Rattle.range_query.proofs.Listings.{on_ok}
+use Rattle.range_query.proofs.found.+list_below.Goals as goal
+
+pub returns-then-not-meets-clause-lists : goal.returns-then-not-meets-clause-lists
+returns-then-not-meets-clause-lists g t c under ms fits is =
+    let leaves : List Leaf = g.I.Index.leaves c.args.index.now in
+    let fails : is_met c.args.region.now c.args.name.now ≡ false = sym (c.meets.ensures.test ∙ ap (λ r. meet r c.args.region.now) c.region.ensures.value) ∙ c.if-not-meets.true in
+    let none = subtree-failing (is_met c.args.region.now) (is_met-narrows c.args.region.now c.requires.is_box) c.args.name.now 0 leaves (g.met.I.Index.are_leaves c.args.index.now).tile fails in
+    subst (λ (xs : List Placed). IsListing xs c.args.found.now) (found_none c.args.region.now c.requires.is_box ms (leaves_met c.args.region.now (subtree c.args.name.now leaves)) none) is
+
+pub returns-then-not-meets-clause-exact : goal.returns-then-not-meets-clause-exact
+returns-then-not-meets-clause-exact g t c few =
+    let leaves : List Leaf = g.I.Index.leaves c.args.index.now in
+    let fails : is_met c.args.region.now c.args.name.now ≡ false = sym (c.meets.ensures.test ∙ ap (λ r. meet r c.args.region.now) c.region.ensures.value) ∙ c.if-not-meets.true in
+    let none = subtree-failing (is_met c.args.region.now) (is_met-narrows c.args.region.now c.requires.is_box) c.args.name.now 0 leaves (g.met.I.Index.are_leaves c.args.index.now).tile fails in
+    omega (arith, ap length none)
+
+pub child-requires : goal.child-requires
+child-requires g t c =
+    inner-room c.args.name.now (g.I.Index.leaves c.args.index.now) (g.met.I.Index.are_leaves c.args.index.now).tile c.in-Halves.ensures.0
+
+pub returns-in_err-list_below-in-Halves-clause-opened : goal.returns-in_err-list_below-in-Halves-clause-opened
+returns-in_err-list_below-in-Halves-clause-opened g t c =
+    let leaves : List Leaf = g.I.Index.leaves c.args.index.now in
+    let name = c.args.name.now in
+    let passes : List Bool → Bool = is_met c.args.region.now in
+    let both = passing-both passes leaves (g.met.I.Index.are_leaves c.args.index.now).tile name c.child.result (name ++ true ∷ []) c.child.ensures refl c.in-Halves.ensures.0 c.in-Halves.ensures.1 in
+    omega (arith, c.list_below.ensures.opened, ap length both, length-append (leaves_of passes (subtree c.child.result leaves)) (leaves_of passes (subtree (name ++ true ∷ []) leaves)))
+
+pub returns-in-Leaf-clause-lists : goal.returns-in-Leaf-clause-lists
+returns-in-Leaf-clause-lists g t c under ms fits is =
+    let leaves : List Leaf = g.I.Index.leaves c.args.index.now in
+    let name = c.args.name.now in
+    let region = c.args.region.now in
+    let b = arc_value c.in-Leaf.bucket.now in
+    let rows = c.deref.result.now.rows in
+    let passes : List Bool → Bool = is_met region in
+    let ls : List Leaf = leaves_of passes (subtree name leaves) in
+    let one = passing-leaf passes leaves (g.met.I.Index.are_leaves c.args.index.now).tile name b c.in-Leaf.ensures (sym (c.meets.ensures.test ∙ ap (λ r. meet r region) c.region.ensures.value) ∙ c.if-not-meets.false) in
+    let count = ap length (found_one region c.requires.is_box [] rows ls name b (ap (λ r. r.rows) c.deref.ensures) one) in
+    subst (λ (xs : List Placed). OnOk c.list_leaf.result (IsListing xs c.list_leaf.new.found)) (found_one region c.requires.is_box ms rows ls name b (ap (λ r. r.rows) c.deref.ensures) one)
+    (c.list_leaf.ensures.lists (subst (λ r. AreKeysUnder name r.rows) (sym c.deref.ensures) (keys_of_leaf name b leaves c.in-Leaf.ensures under)) ms (omega (arith, fits, count)) is)
+
+pub returns-in-Leaf-clause-opened : goal.returns-in-Leaf-clause-opened
+returns-in-Leaf-clause-opened g t c =
+    let leaves : List Leaf = g.I.Index.leaves c.args.index.now in
+    let passes : List Bool → Bool = is_met c.args.region.now in
+    let one = passing-leaf passes leaves (g.met.I.Index.are_leaves c.args.index.now).tile c.args.name.now (arc_value c.in-Leaf.bucket.now) c.in-Leaf.ensures (sym (c.meets.ensures.test ∙ ap (λ r. meet r c.args.region.now) c.region.ensures.value) ∙ c.if-not-meets.false) in
+    omega (arith, c.list_leaf.ensures.opened, ap length one)
+
+pub returns-in-Leaf-clause-exact : goal.returns-in-Leaf-clause-exact
+returns-in-Leaf-clause-exact g t c =
+    let leaves : List Leaf = g.I.Index.leaves c.args.index.now in
+    let passes : List Bool → Bool = is_met c.args.region.now in
+    let one = passing-leaf passes leaves (g.met.I.Index.are_leaves c.args.index.now).tile c.args.name.now (arc_value c.in-Leaf.bucket.now) c.in-Leaf.ensures (sym (c.meets.ensures.test ∙ ap (λ r. meet r c.args.region.now) c.region.ensures.value) ∙ c.if-not-meets.false) in
+    subst (λ n. OnOk c.list_leaf.result (c.list_leaf.new.found.count ≤ 2048 → c.list_leaf.new.steps ≡ c.args.steps.now + n)) (sym (ap length one)) c.list_leaf.ensures.exact
+
+pub returns-in_ok-list_below-in-Halves-clause-lists : goal.returns-in_ok-list_below-in-Halves-clause-lists
+returns-in_ok-list_below-in-Halves-clause-lists g t c under ms fits is =
+    let leaves : List Leaf = g.I.Index.leaves c.args.index.now in
+    let name = c.args.name.now in
+    let region = c.args.region.now in
+    let passes : List Bool → Bool = is_met region in
+    let ls : List Leaf = leaves_of passes (subtree name leaves) in
+    let zero : List Leaf = leaves_of passes (subtree c.child.result leaves) in
+    let one : List Leaf = leaves_of passes (subtree c.child-in-Halves.result leaves) in
+    let both = passing-both passes leaves (g.met.I.Index.are_leaves c.args.index.now).tile name c.child.result c.child-in-Halves.result c.child.ensures c.child-in-Halves.ensures c.in-Halves.ensures.0 c.in-Halves.ensures.1 in
+    let held : List Leaf → List Placed = objects_held region in
+    let sum = ap length (ap held both ∙ held-append region c.requires.is_box zero one) in
+    let parts = length-append (held zero) (held one) in
+    let first = c.in_ok-list_below-in-Halves.ensures.lists under ms (omega (arith, fits, sum, parts)) is in
+    subst (λ (xs : List Placed). OnOk c.list_below-in-Halves.result (IsListing xs c.list_below-in-Halves.new.found)) (found_two region c.requires.is_box ms (ms ++ held zero) ls zero one both refl)
+    (c.list_below-in-Halves.ensures.lists under (ms ++ held zero) (omega (arith, fits, sum, parts, length-append ms (held zero))) first)
+
+pub returns-in_ok-list_below-in-Halves-clause-opened : goal.returns-in_ok-list_below-in-Halves-clause-opened
+returns-in_ok-list_below-in-Halves-clause-opened g t c =
+    let leaves : List Leaf = g.I.Index.leaves c.args.index.now in
+    let name = c.args.name.now in
+    let passes : List Bool → Bool = is_met c.args.region.now in
+    let both = passing-both passes leaves (g.met.I.Index.are_leaves c.args.index.now).tile name c.child.result c.child-in-Halves.result c.child.ensures c.child-in-Halves.ensures c.in-Halves.ensures.0 c.in-Halves.ensures.1 in
+    omega (
+      arith,
+      c.list_below.ensures.opened,
+      c.list_below-in-Halves.ensures.opened,
+      ap length both,
+      length-append (leaves_of passes (subtree c.child.result leaves)) (leaves_of passes (subtree c.child-in-Halves.result leaves)),
+    )
+
+pub returns-in_ok-list_below-in-Halves-clause-exact : goal.returns-in_ok-list_below-in-Halves-clause-exact
+returns-in_ok-list_below-in-Halves-clause-exact g t c =
+    let leaves : List Leaf = g.I.Index.leaves c.args.index.now in
+    let name = c.args.name.now in
+    let passes : List Bool → Bool = is_met c.args.region.now in
+    let zero : List Leaf = leaves_of passes (subtree c.child.result leaves) in
+    let one : List Leaf = leaves_of passes (subtree c.child-in-Halves.result leaves) in
+    let both = passing-both passes leaves (g.met.I.Index.are_leaves c.args.index.now).tile name c.child.result c.child-in-Halves.result c.child.ensures c.child-in-Halves.ensures c.in-Halves.ensures.0 c.in-Halves.ensures.1 in
+    let first = c.in_ok-list_below-in-Halves.ensures.exact in
+    let grows = c.list_below-in-Halves.ensures.grows in
+    on_ok c.list_below-in-Halves.result
+    (λ rest few. let before = first (omega (arith, few, grows)) in let after = rest few in omega (arith, before, after, ap length both, length-append zero one))
+    c.list_below-in-Halves.ensures.exact

@@ -1,0 +1,23 @@
+-- What is found in a box so far.
+use Rattle.std.specs.Prelude.{◌≡◌, ◌≤◌, ⊤, ℕ, List, length}
+use Rattle.zorder.specs.declared.points.Point.{Point}
+use Rattle.zorder.specs.declared.points.Placed.{Placed}
+use Rattle.plain_list.specs.declared.ops.Answer.{Answer}
+use Rattle.plain_list.specs.declared.ops.Answer.TheVariants.{Done, Present, Full, Moved, Gone, At, Absent, Found, Many}
+use Rattle.range_query.specs.declared.found.Listing.{Listing}
+
+-- so many objects, and these, where they are not too many to be listed
+abbrev pub IsListing : List Placed → Listing → Type 0
+IsListing ms listing = (listing.count ≡ length ms) × (length ms ≤ 2048 → listing.list.items ≡ ms)
+
+-- it holds where objects are listed
+abbrev pub OnFound : Answer → Type 0 → Type 0
+OnFound Done P = ⊤
+OnFound (Present p) P = ⊤
+OnFound Full P = ⊤
+OnFound (Moved p) P = ⊤
+OnFound (Gone p) P = ⊤
+OnFound (At p) P = ⊤
+OnFound Absent P = ⊤
+OnFound (Found ms) P = P
+OnFound (Many n) P = ⊤

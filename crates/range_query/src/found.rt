@@ -1,0 +1,171 @@
+//! The objects in a box, or how many they are, in one walk.
+ghost use Rattle.std.specs.Prelude.{◌≡◌, ◌≤◌, ◌<◌, ◌+◌, ◌++◌, ◌∷◌, ◌^◌, [], List, length, true, IfOk, OnOk};
+ghost use Rattle.zorder.specs.declared.points.Placed.{Placed};
+ghost use Rattle.zorder.specs.Region.{IsBox};
+ghost use Rattle.plain_list.specs.Answer.{members_in, listed};
+ghost use Rattle.table_share.specs.KeysUnder.{AreKeysUnder, AreAllKeysUnder};
+ghost use Rattle.table_share.specs.Objects.{objects_of};
+ghost use Rattle.table_share.specs.Worlds.{OfEachWorld};
+ghost use Rattle.range_query.specs.Cut.{is_met, leaves_met, below_met, number_in, objects_held};
+ghost use Rattle.range_query.specs.Listing.{IsListing, OnFound};
+
+use crate::ranges::push_all;
+use bucket_versions::Bucket;
+use index_layer::{Below, Index};
+use plain_list::{Answer, PlacedList};
+use prefix_names::{inside, meets};
+use std::alloc::Global;
+use std::sync::ledger::Ledger;
+use step_count::Steps;
+use table_share::placed;
+use zorder::{Memory, Name, Placed, Region, child};
+
+// How many objects the answer to a box may list.
+const MOST_LISTED: u64 = 2_048;
+
+// What was found so far. Once there are too many to be listed, only their number goes on.
+#[derive(Drop)]
+struct Listing {
+    list: Vec<Placed>,
+    count: u64,
+}
+
+impl Listing {
+    fn new(alloc: Global) -> Listing
+        ensures { IsListing [] result }
+    {
+        Listing {
+            list: Vec::new(alloc),
+            count: 0,
+        }
+    }
+
+    fn add(&mut self, m: Placed) -> Result<(), Memory>
+        ensures lists { (ms : List Placed) → length ms + 1 < 2 ^ 64 → IsListing ms self.old → OnOk result (IsListing (ms ++ m ∷ []) self.new) }
+        ensures grows { self.old.count ≤ self.new.count }
+    {
+        if self.count < MOST_LISTED {
+            self.list.push(m)?;
+        }
+        self.count = self.count.saturating_add(1);
+        Ok(())
+    }
+}
+
+/// The answer to a box: the objects in the order of their ids, or how many they are where that is too long a list. A leaf's
+/// bucket is opened, which is a step, where the box has some points of its region, and once: objects are counted and listed
+/// in one walk. Once there are too many to be listed, a leaf inside the box is counted without a step. Memory is taken for
+/// no more objects than may be listed.
+pub fn found_in<I: Index, L: Ledger>(
+    alloc: Global,
+    index: &I,
+    region: &Region,
+    steps: &mut Steps<L>,
+) -> Result<Answer, Memory>
+    requires { IsBox region.now }
+    ensures answer { OfEachWorld (I.leaves index.now) (λ world. IfOk result (λ answer. answer ≡ listed (members_in region.now world))) }
+    ensures opened { steps.new ≤ steps.old + length (leaves_met region.now (I.leaves index.now)) }
+    ensures exact { IfOk result (λ answer. OnFound answer (steps.new ≡ steps.old + length (leaves_met region.now (I.leaves index.now)))) }
+{
+    let mut found = Listing::new(alloc);
+    list_below(
+        &mut found,
+        index,
+        &Name::whole(),
+        index.top(),
+        region,
+        steps,
+    )?;
+    if found.count > MOST_LISTED {
+        return Ok(Answer::Many(found.count));
+    }
+    found.list.sort_unstable_by_key(|m| m.id);
+    Ok(Answer::Found(PlacedList::from_vec(found.list)))
+}
+
+// The objects below a name, in the order of their keys.
+fn list_below<I: Index, L: Ledger>(
+    found: &mut Listing,
+    index: &I,
+    name: &Name,
+    place: &I::Place,
+    region: &Region,
+    steps: &mut Steps<L>,
+) -> Result<(), Memory>
+    requires is_box { IsBox region.now }
+    requires at { I.is_at index.now place.now name.now }
+    ensures lists { AreAllKeysUnder (I.leaves index.now) → (ms : List Placed) → length ms + length (objects_held region.now (below_met region.now name.now (I.leaves index.now))) < 2 ^ 64 → IsListing ms found.old → OnOk result (IsListing (ms ++ objects_held region.now (below_met region.now name.now (I.leaves index.now))) found.new) }
+    ensures grows { found.old.count ≤ found.new.count }
+    ensures opened { steps.new ≤ steps.old + length (below_met region.now name.now (I.leaves index.now)) }
+    ensures exact { OnOk result (found.new.count ≤ 2048 → steps.new ≡ steps.old + length (below_met region.now name.now (I.leaves index.now))) }
+{
+    if !meets(&prefix_names::region(name), region) {
+        return Ok(());
+    }
+    match index.below(name, place) {
+        Below::Leaf(bucket) => list_leaf(found, name, bucket, region, steps),
+        Below::Halves { zero, one } => {
+            list_below(found, index, &child(name, false), zero, region, steps)?;
+            list_below(found, index, &child(name, true), one, region, steps)
+        }
+    }
+}
+
+// The objects of a leaf that the box meets. Those of a leaf inside the box are all there.
+fn list_leaf<L: Ledger>(
+    found: &mut Listing,
+    name: &Name,
+    bucket: &Bucket,
+    region: &Region,
+    steps: &mut Steps<L>,
+) -> Result<(), Memory>
+    requires { IsBox region.now }
+    ensures lists { AreKeysUnder name.now bucket.now.rows → (ms : List Placed) → length ms + number_in region.now bucket.now.rows < 2 ^ 64 → IsListing ms found.old → OnOk result (IsListing (ms ++ members_in region.now (objects_of bucket.now.rows)) found.new) }
+    ensures grows { found.old.count ≤ found.new.count }
+    ensures opened { steps.new ≤ steps.old + 1 }
+    ensures exact { OnOk result (found.new.count ≤ 2048 → steps.new ≡ steps.old + 1) }
+{
+    if inside(&prefix_names::region(name), region) {
+        list_all(found, bucket, steps)
+    } else {
+        list_rows(found, bucket, region, steps)
+    }
+}
+
+// All objects of a bucket; opens it only where they are listed.
+fn list_all<L: Ledger>(
+    found: &mut Listing,
+    bucket: &Bucket,
+    steps: &mut Steps<L>,
+) -> Result<(), Memory>
+    ensures lists { (ms : List Placed) → length ms + length bucket.now.rows < 2 ^ 64 → IsListing ms found.old → OnOk result (IsListing (ms ++ objects_of bucket.now.rows) found.new) }
+    ensures grows { found.old.count ≤ found.new.count }
+    ensures opened { steps.new ≤ steps.old + 1 }
+    ensures exact { OnOk result (found.new.count ≤ 2048 → steps.new ≡ steps.old + 1) }
+{
+    let count = found.count.saturating_add(bucket.count());
+    if count <= MOST_LISTED {
+        push_all(&mut found.list, bucket, steps)?;
+    }
+    found.count = count;
+    Ok(())
+}
+
+fn list_rows<L: Ledger>(
+    found: &mut Listing,
+    bucket: &Bucket,
+    region: &Region,
+    steps: &mut Steps<L>,
+) -> Result<(), Memory>
+    ensures lists { (ms : List Placed) → length ms + number_in region.now bucket.now.rows < 2 ^ 64 → IsListing ms found.old → OnOk result (IsListing (ms ++ members_in region.now (objects_of bucket.now.rows)) found.new) }
+    ensures grows { found.old.count ≤ found.new.count }
+    ensures opened { steps.new ≡ steps.old + 1 }
+{
+    for row in bucket.rows(steps) {
+        let object = placed(row);
+        if region.has(object.at) {
+            found.add(object)?;
+        }
+    }
+    Ok(())
+}
