@@ -1,15 +1,16 @@
 //! All leaves, in one list.
-ghost use Rattle.std.specs.Prelude.{◌≡◌, ◌≤◌, ◌<◌, ◌+◌, length, map, slice_index_or, IfOk};
+ghost use Rattle.std.specs.Prelude.{◌≡◌, ◌≤◌, ◌<◌, ◌+◌, length, map, slice_index_or, true, IfOk};
 ghost use Rattle.std.specs.Arc.{arc_value};
 ghost use Rattle.bucket_versions.specs.Rows.{IsRows};
 ghost use Rattle.index_layer.specs.Leaves.{Leaf, AreLeaves, AreUnder, AreAllUnder, replaced, split};
+ghost use Rattle.index_layer.specs.Below.{begins_some};
 ghost use Rattle.index_layer.specs.LeavesProp.{AreLeaves-prop};
 ghost use Rattle.flat_index.specs.Seen.{seen, seen_leaf};
 
 use crate::leaf::{FlatLeaf, front_of, push_shared};
 use crate::places::{place_named, place_of};
 use bucket_versions::Bucket;
-use index_layer::{Index, IndexFault, Part};
+use index_layer::{Below, Index, IndexFault, Part};
 use std::alloc::{AllocError, Global};
 use std::sync::Arc;
 use zorder::{Memory, Name, begins, child};
@@ -23,7 +24,11 @@ pub struct FlatIndex {
 }
 
 impl Index for FlatIndex {
+    type Place = Vec<FlatLeaf>;
+
     ghost leaves = { λ s. seen s.leaves.items };
+
+    ghost is_at = { λ s place name. begins_some name (seen s.leaves.items) ≡ true };
 
     ghost WIDTH = { 1 };
 
@@ -66,6 +71,21 @@ impl Index for FlatIndex {
             Part::Inner
         } else {
             Part::Outside
+        }
+    }
+
+    fn top(&self) -> &Vec<FlatLeaf> {
+        &self.leaves
+    }
+
+    fn below<'a>(&'a self, name: &Name, place: &'a Vec<FlatLeaf>) -> Below<'a, Vec<FlatLeaf>> {
+        match self.part(name) {
+            Part::Leaf(bucket) => Below::Leaf(bucket),
+            Part::Inner => Below::Halves {
+                zero: place,
+                one: place,
+            },
+            Part::Outside => unreachable!(),
         }
     }
 
