@@ -16,7 +16,7 @@ use zorder::Memory;
 /// A leaf's bucket, or what is under the next bit.
 #[derive(Drop)]
 #[cycle(trie)]
-pub(crate) enum Node {
+pub enum Node {
     Leaf(Arc<Bucket>),
     Inner(Arc<Pair>),
 }
@@ -24,7 +24,7 @@ pub(crate) enum Node {
 /// What is under the next bit 0, and under the next bit 1.
 #[derive(Drop)]
 #[cycle(trie)]
-pub(crate) struct Pair {
+pub struct Pair {
     pub(crate) zero: Node,
     pub(crate) one: Node,
 }

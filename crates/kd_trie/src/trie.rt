@@ -1,16 +1,16 @@
 //! The trie: nodes under one root, with leaves that tile the key space.
-ghost use Rattle.std.specs.Prelude.{◌≡◌, ◌<◌, ◌≤◌, ◌^◌, []};
+ghost use Rattle.std.specs.Prelude.{◌≡◌, ◌<◌, ◌≤◌, ◌^◌, [], Some};
 ghost use Rattle.std.specs.Arc.{arc_value};
 ghost use Rattle.bucket_versions.specs.Rows.{IsRows};
 ghost use Rattle.index_layer.specs.Leaves.{AreLeaves, has_name};
 ghost use Rattle.index_layer.specs.LeavesProp.{AreLeaves-prop};
-ghost use Rattle.kd_trie.specs.Tries.{height, leaves_under};
+ghost use Rattle.kd_trie.specs.Tries.{height, leaves_under, reach};
 ghost use Rattle.kd_trie.specs.Nodes.{seen};
 
 use crate::node::{Node, Way, divide, leaf_of, put, put_two};
 use crate::rows;
 use bucket_versions::{AtOnce, Bucket, Commit, Row, Undone};
-use index_layer::{Index, IndexFault, Part};
+use index_layer::{Below, Index, IndexFault, Part};
 use std::alloc::Global;
 use std::sync::Arc;
 use zorder::{Memory, Name, begins, first_bits};
@@ -37,7 +37,11 @@ impl KdTrie {
 }
 
 impl Index for KdTrie {
+    type Place = Node;
+
     ghost leaves = { λ s. leaves_under [] (seen s.root) };
+
+    ghost is_at = { λ s place name. reach name (seen s.root) ≡ Some (seen place) };
 
     ghost WIDTH = { 1 };
 
@@ -78,6 +82,20 @@ impl Index for KdTrie {
             Part::Inner
         } else {
             Part::Outside
+        }
+    }
+
+    fn top(&self) -> &Node {
+        &self.root
+    }
+
+    fn below<'a>(&'a self, _name: &Name, place: &'a Node) -> Below<'a, Node> {
+        match place {
+            Node::Leaf(bucket) => Below::Leaf(bucket),
+            Node::Inner(pair) => Below::Halves {
+                zero: &pair.zero,
+                one: &pair.one,
+            },
         }
     }
 
