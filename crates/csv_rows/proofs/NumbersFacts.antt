@@ -1,12 +1,16 @@
 -- Numbers between two others.
-use Rattle.std.proofs.Common.{◌≡◌, ◌<◌, ◌≤◌, ℕ, Bool, true, false, List, length, [], ◌∷◌, Some, None, refl, arith, cond, ◌&&◌, ◌+◌, get_or, rules}
+use Rattle.std.proofs.Common.{◌≡◌, ◌<◌, ◌≤◌, ℕ, Bool, true, false, List, length, [], ◌∷◌, Some, None, ◌^◌, refl, sym, ap, ◌∙◌, arith, cond, ◌&&◌, ◌+◌, ◌*◌, get_or, take, rules}
 use Rattle.std.proofs.lemmas.Bool.{and_from, le-leb, leb-true}
 use Rattle.std.specs.Prelude.{nat_le}
 use Rattle.std.specs.Char.{is_ascii_digit}
 use Rattle.std.specs.List.{list_all}
 use Rattle.std.specs.Cmp.{first_so, second_so}
 use Rattle.std.specs.Cmp.Derive.{both_true}
-use Rattle.std.proofs.lemmas.Str.Parse.{IsNumeralModel, digit_at, numerals_by_value}
+use Rattle.std.proofs.lemmas.Str.Parse.{IsNumeralModel, digit_at, digits_value_short, numerals_by_value}
+use Rattle.std.proofs.Math.Seq.{take-length}
+use Rattle.std.proofs.lemmas.List.{length-take}
+use Rattle.std.proofs.lemmas.Int.Digits.{digits_value_more}
+use Rattle.std.proofs.lemmas.List.Folds.{list_all_more}
 use Rattle.std.proofs.lemmas.Str.{digit_value_digit}
 use Rattle.std.specs.Char.{digit_value}
 use Rattle.std.specs.Str.Parse.{digits_value}
@@ -83,3 +87,20 @@ digit_in ds i p lt =
 -- the same of a digit by itself
 pub digit_of : (d : ℕ) → is_ascii_digit d ≡ true → (48 ≤ d) × (d ≤ 57) × (digit_value d + 48 ≡ d)
 digit_of d e = digit_in (d ∷ []) 0 (and_from _ _ e refl) (omega arith)
+
+-- a text of digits is its front and its last one
+pub last_digit : (bytes : List ℕ) (end : ℕ) → end + 1 ≡ length bytes
+    → (list_all is_ascii_digit bytes ≡ (list_all is_ascii_digit (take end bytes) && is_ascii_digit (get_or bytes end 0))) × (digits_value 10 bytes ≡ digits_value 10 (take end bytes) * 10 + digit_value (get_or bytes end 0))
+last_digit bytes end e =
+    let whole : take (end + 1) bytes ≡ bytes = ap (λ n. take n bytes) e ∙ take-length bytes in
+    let lt : end < length bytes = omega (arith, e) in (
+      sym (ap (λ (l : List ℕ). list_all is_ascii_digit l) whole) ∙ list_all_more is_ascii_digit bytes end 0 lt,
+      sym (ap (λ (l : List ℕ). digits_value 10 l) whole) ∙ digits_value_more 10 bytes end lt,
+    )
+
+-- eighteen digits stay far below 2^64
+pub short_number : (ds : List ℕ) (i : ℕ) → list_all is_ascii_digit (take i ds) ≡ true → i ≤ 18 → digits_value 10 (take i ds) < 10 ^ 18
+short_number ds i all few = digits_value_short numerals (take i ds) 18 all (take-few ds i few)
+  where
+    take-few : (xs : List ℕ) (k : ℕ) → k ≤ 18 → length (take k xs) ≤ 18
+    take-few xs k le = omega (arith, le, length-take k xs)

@@ -6,7 +6,7 @@ ghost use Rattle.csv_rows.specs.Lines.{line_text, title_line};
 ghost use Rattle.csv_rows.specs.Pieces.{HoldsBack};
 
 use crate::lines::add_line;
-use crate::pieces::{Piece, make_room};
+use crate::pieces::{Piece, make_room, push_str};
 use io_edge::{Sink, SinkFault};
 use plain_list::Answer;
 use std::marker::Model;
@@ -21,7 +21,7 @@ pub struct Gathered {
 impl Model for Gathered {
     ghost Value = { List ℕ };
 
-    ghost view = { λ g. g.piece.bytes };
+    ghost view = { λ g. g.piece.items };
 }
 
 impl Gathered {
@@ -40,7 +40,7 @@ impl Gathered {
         ensures cause { Counts (K.output sink.old).faults (K.output sink.new).faults result }
     {
         make_room(sink, &mut self.piece)?;
-        self.piece.push_str("row,place,answer,detail\n");
+        push_str(&mut self.piece, "row,place,answer,detail\n");
         Ok(())
     }
 
@@ -63,6 +63,6 @@ impl Gathered {
         ensures bytes { Puts (K.output sink.old).taken (K.output sink.new).taken self result }
         ensures cause { Counts (K.output sink.old).faults (K.output sink.new).faults result }
     {
-        sink.put(self.piece.as_str().as_bytes())
+        sink.put(self.piece.as_slice())
     }
 }

@@ -2,13 +2,13 @@
 ghost use Rattle.std.specs.Prelude.{◌≡◌, ◌≤◌, ◌+◌, ◌++◌, codes, length, OnOk};
 ghost use Rattle.std.specs.Fmt.{decimal};
 ghost use Rattle.std.specs.List.{join_by};
-ghost use Rattle.arrayvec.specs.ArrayString.{array_string_len};
+ghost use Rattle.arrayvec.specs.ArrayVec.{array_vec_len};
 ghost use Rattle.causes.specs.Causes.{Counts};
 ghost use Rattle.io_edge.specs.Puts.{Puts};
 ghost use Rattle.csv_rows.specs.Lines.{placed_text, word_text, detail_text, front_text, line_text, title_line, cause_text, reason_text, refusal_text};
 ghost use Rattle.csv_rows.specs.Pieces.{HoldsBack};
 
-use crate::pieces::{Piece, add_number, add_point, make_room};
+use crate::pieces::{Piece, add_listed, add_number, add_point, make_room, push_str};
 use crate::rows::Refusal;
 use cell_format::Cause;
 use io_edge::{Sink, SinkFault};
@@ -36,7 +36,7 @@ pub fn write_line<K: Sink>(
 {
     let mut piece = Piece::new();
     add_line(sink, &mut piece, row, place, answer)?;
-    sink.put(piece.as_str().as_bytes())
+    sink.put(piece.as_slice())
 }
 
 /// Adds the line of a row.
@@ -47,28 +47,28 @@ pub(crate) fn add_line<K: Sink>(
     place: u64,
     answer: &Answer,
 ) -> Result<(), SinkFault>
-    ensures bytes { HoldsBack (K.output sink.old).taken (K.output sink.new).taken (piece.old.bytes ++ line_text row place answer.now) piece.new.bytes result }
+    ensures bytes { HoldsBack (K.output sink.old).taken (K.output sink.new).taken (piece.old.items ++ line_text row place answer.now) piece.new.items result }
     ensures cause { Counts (K.output sink.old).faults (K.output sink.new).faults result }
 {
     make_room(sink, piece)?;
     add_front(piece, row, place, answer);
     add_detail(sink, piece, answer)?;
-    piece.push_str("\n");
+    push_str(piece, "\n");
     Ok(())
 }
 
 // Adds what stands before the detail of an answer.
 fn add_front(piece: &mut Piece, row: u32, place: u64, answer: &Answer)
-    requires { array_string_len piece.old ≤ 65408 }
-    ensures bytes { piece.new.bytes ≡ piece.old.bytes ++ front_text row place answer.now }
-    ensures len { array_string_len piece.new ≤ array_string_len piece.old + 50 }
+    requires { array_vec_len piece.old ≤ 65408 }
+    ensures bytes { piece.new.items ≡ piece.old.items ++ front_text row place answer.now }
+    ensures len { array_vec_len piece.new ≤ array_vec_len piece.old + 50 }
 {
     add_number(piece, u64::from(row));
-    piece.push_str(",");
+    push_str(piece, ",");
     add_number(piece, place);
-    piece.push_str(",");
-    piece.push_str(word_of(answer));
-    piece.push_str(",");
+    push_str(piece, ",");
+    push_str(piece, word_of(answer));
+    push_str(piece, ",");
 }
 
 fn word_of(answer: &Answer) -> &'static str
@@ -89,10 +89,10 @@ fn word_of(answer: &Answer) -> &'static str
 }
 
 fn add_detail<K: Sink>(sink: &mut K, piece: &mut Piece, answer: &Answer) -> Result<(), SinkFault>
-    requires { array_string_len piece.old ≤ 65472 }
-    ensures bytes { HoldsBack (K.output sink.old).taken (K.output sink.new).taken (piece.old.bytes ++ detail_text answer.now) piece.new.bytes result }
+    requires { array_vec_len piece.old ≤ 65472 }
+    ensures bytes { HoldsBack (K.output sink.old).taken (K.output sink.new).taken (piece.old.items ++ detail_text answer.now) piece.new.items result }
     ensures cause { Counts (K.output sink.old).faults (K.output sink.new).faults result }
-    ensures room { OnOk result (array_string_len piece.new ≤ 65535) }
+    ensures room { OnOk result (array_vec_len piece.new ≤ 65535) }
 {
     match answer {
         Answer::Done | Answer::Full | Answer::Absent => Ok(()),
@@ -109,10 +109,10 @@ fn add_detail<K: Sink>(sink: &mut K, piece: &mut Piece, answer: &Answer) -> Resu
 }
 
 fn add_list<K: Sink>(sink: &mut K, piece: &mut Piece, list: &[Placed]) -> Result<(), SinkFault>
-    requires { array_string_len piece.old ≤ 65472 }
-    ensures bytes { HoldsBack (K.output sink.old).taken (K.output sink.new).taken (piece.old.bytes ++ join_by placed_text (codes ";") list.now) piece.new.bytes result }
+    requires { array_vec_len piece.old ≤ 65472 }
+    ensures bytes { HoldsBack (K.output sink.old).taken (K.output sink.new).taken (piece.old.items ++ join_by placed_text (codes ";") list.now) piece.new.items result }
     ensures cause { Counts (K.output sink.old).faults (K.output sink.new).faults result }
-    ensures room { OnOk result (array_string_len piece.new ≤ 65535) }
+    ensures room { OnOk result (array_vec_len piece.new ≤ 65535) }
 {
     let Some((first, rest)) = list.split_first() else {
         return Ok(());
@@ -120,19 +120,18 @@ fn add_list<K: Sink>(sink: &mut K, piece: &mut Piece, list: &[Placed]) -> Result
     add_placed(piece, first);
     for placed in rest {
         make_room(sink, piece)?;
-        piece.push_str(";");
-        add_placed(piece, placed);
+        add_listed(piece, placed);
     }
     Ok(())
 }
 
 fn add_placed(piece: &mut Piece, placed: &Placed)
-    requires { array_string_len piece.old ≤ 65473 }
-    ensures bytes { piece.new.bytes ≡ piece.old.bytes ++ placed_text placed.now }
-    ensures len { array_string_len piece.new ≤ array_string_len piece.old + 62 }
+    requires { array_vec_len piece.old ≤ 65473 }
+    ensures bytes { piece.new.items ≡ piece.old.items ++ placed_text placed.now }
+    ensures len { array_vec_len piece.new ≤ array_vec_len piece.old + 62 }
 {
     add_number(piece, placed.id);
-    piece.push_str(":");
+    push_str(piece, ":");
     add_point(piece, placed.at, ":");
 }
 
@@ -142,57 +141,57 @@ pub fn refusal_line<K: Sink>(sink: &mut K, refusal: &Refusal) -> Result<(), Sink
     ensures cause { Counts (K.output sink.old).faults (K.output sink.new).faults result }
 {
     let mut piece = Piece::new();
-    piece.push_str("refused ");
+    push_str(&mut piece, "refused ");
     add_reason(&mut piece, refusal);
-    piece.push_str("\n");
-    sink.put(piece.as_str().as_bytes())
+    push_str(&mut piece, "\n");
+    sink.put(piece.as_slice())
 }
 
 fn add_reason(piece: &mut Piece, refusal: &Refusal)
-    requires { array_string_len piece.old ≤ 64 }
-    ensures bytes { piece.new.bytes ≡ piece.old.bytes ++ reason_text refusal.now }
-    ensures len { array_string_len piece.new ≤ 1024 }
+    requires { array_vec_len piece.old ≤ 64 }
+    ensures bytes { piece.new.items ≡ piece.old.items ++ reason_text refusal.now }
+    ensures len { array_vec_len piece.new ≤ 1024 }
 {
     match refusal {
-        Refusal::Usage => piece.push_str("usage"),
-        Refusal::Header => piece.push_str("header"),
+        Refusal::Usage => push_str(piece, "usage"),
+        Refusal::Header => push_str(piece, "header"),
         Refusal::Csv { row } => {
             add_counted(piece, "row ", u64::from(*row));
-            piece.push_str(" length");
+            push_str(piece, " length");
         }
         Refusal::Field { row, column } => {
             add_counted(piece, "row ", u64::from(*row));
             add_counted(piece, " column ", u64::from(*column));
         }
-        Refusal::NotLog => piece.push_str("not a log"),
+        Refusal::NotLog => push_str(piece, "not a log"),
         Refusal::OldLog { version, width } => {
             add_counted(piece, "log version ", u64::from(*version));
             add_counted(piece, " width ", u64::from(*width));
         }
         Refusal::Damaged { cell, cause } => {
             add_counted(piece, "cell ", *cell);
-            piece.push_str(" ");
-            piece.push_str(word_of_cause(*cause));
+            push_str(piece, " ");
+            push_str(piece, word_of_cause(*cause));
         }
-        Refusal::Source => piece.push_str("source"),
+        Refusal::Source => push_str(piece, "source"),
         Refusal::Disk { cell: Some(cell) } => add_counted(piece, "disk cell ", *cell),
-        Refusal::Disk { cell: None } => piece.push_str("disk"),
-        Refusal::LongInput => piece.push_str("limit bytes"),
-        Refusal::ManyRows => piece.push_str("limit rows"),
-        Refusal::LongLog => piece.push_str("limit cells"),
-        Refusal::Memory => piece.push_str("memory"),
+        Refusal::Disk { cell: None } => push_str(piece, "disk"),
+        Refusal::LongInput => push_str(piece, "limit bytes"),
+        Refusal::ManyRows => push_str(piece, "limit rows"),
+        Refusal::LongLog => push_str(piece, "limit cells"),
+        Refusal::Memory => push_str(piece, "memory"),
         Refusal::InUse { len } => add_counted(piece, "in use ", *len),
     }
 }
 
 /// Adds a word and a number.
 fn add_counted(piece: &mut Piece, word: &str, number: u64)
-    requires room { array_string_len piece.old ≤ 1024 }
+    requires room { array_vec_len piece.old ≤ 1024 }
     requires word { length word.now ≤ 16 }
-    ensures bytes { piece.new.bytes ≡ piece.old.bytes ++ word.now ++ decimal number }
-    ensures len { array_string_len piece.new ≤ array_string_len piece.old + 36 }
+    ensures bytes { piece.new.items ≡ piece.old.items ++ word.now ++ decimal number }
+    ensures len { array_vec_len piece.new ≤ array_vec_len piece.old + 36 }
 {
-    piece.push_str(word);
+    push_str(piece, word);
     add_number(piece, number);
 }
 

@@ -1,11 +1,11 @@
 //! Lines of counts: what was found in a log, and what made rows leave.
 ghost use Rattle.std.specs.Prelude.{◌≡◌, ◌≤◌, ◌+◌, ◌++◌, length};
-ghost use Rattle.arrayvec.specs.ArrayString.{array_string_len};
+ghost use Rattle.arrayvec.specs.ArrayVec.{array_vec_len};
 ghost use Rattle.causes.specs.Causes.{Counts};
 ghost use Rattle.io_edge.specs.Puts.{Puts};
 ghost use Rattle.csv_rows.specs.LogLines.{made_line, count_line, counts_text, summary_text};
 
-use crate::pieces::{Piece, add_number};
+use crate::pieces::{Piece, add_number, push_str};
 use crate::rows::{LogCounts, Summary};
 use io_edge::{Sink, SinkFault};
 
@@ -27,7 +27,7 @@ pub fn write_counts<K: Sink>(sink: &mut K, counts: &LogCounts) -> Result<(), Sin
     add_count(&mut piece, "points ", counts.points);
     add_count(&mut piece, "leaves ", counts.leaves);
     add_count(&mut piece, "unfinished ", counts.unfinished);
-    sink.put(piece.as_str().as_bytes())
+    sink.put(piece.as_slice())
 }
 
 /// Writes the three lines of what made rows leave, as one piece.
@@ -39,17 +39,17 @@ pub fn write_summary<K: Sink>(sink: &mut K, summary: &Summary) -> Result<(), Sin
     add_count(&mut piece, "rows ", summary.rows);
     add_count(&mut piece, "points ", summary.points);
     add_count(&mut piece, "sum ", summary.sum);
-    sink.put(piece.as_str().as_bytes())
+    sink.put(piece.as_slice())
 }
 
 /// Adds the line of a count.
 fn add_count(piece: &mut Piece, word: &str, count: u64)
-    requires room { array_string_len piece.old ≤ 1024 }
+    requires room { array_vec_len piece.old ≤ 1024 }
     requires word { length word.now ≤ 16 }
-    ensures bytes { piece.new.bytes ≡ piece.old.bytes ++ count_line word.now count }
-    ensures len { array_string_len piece.new ≤ array_string_len piece.old + 37 }
+    ensures bytes { piece.new.items ≡ piece.old.items ++ count_line word.now count }
+    ensures len { array_vec_len piece.new ≤ array_vec_len piece.old + 37 }
 {
-    piece.push_str(word);
+    push_str(piece, word);
     add_number(piece, count);
-    piece.push_str("\n");
+    push_str(piece, "\n");
 }

@@ -1,5 +1,5 @@
 //! Decimal numbers, read by hand from bytes.
-ghost use Rattle.std.specs.Prelude.{◌≡◌, ◌<◌, ◌^◌, true, SomeIff};
+ghost use Rattle.std.specs.Prelude.{◌≡◌, ◌≤◌, ◌<◌, ◌^◌, true, length, SomeIff};
 ghost use Rattle.std.specs.Char.{is_ascii_digit};
 ghost use Rattle.std.specs.List.{list_all};
 ghost use Rattle.std.specs.Str.Parse.{digits_value};
@@ -25,18 +25,34 @@ pub fn number_in(field: &[u8], low: u64, high: u64) -> Option<u64>
     Some(value)
 }
 
-// The number that these bytes say, where all of them are digits and it fits 64 bits.
+// The number that these bytes say, where all of them are digits and it fits 64 bits. Only the last one can make it too much.
 fn value_of(bytes: &[u8]) -> Option<u64>
+    requires some { 1 ≤ length bytes.now }
+    requires few { length bytes.now ≤ 20 }
     ensures { SomeIff result ((list_all is_ascii_digit bytes.now ≡ true) × (digits_value 10 bytes.now < 2 ^ 64)) (digits_value 10 bytes.now) }
+{
+    let end = bytes.len() - 1;
+    let last = bytes[end];
+    if !last.is_ascii_digit() {
+        return None;
+    }
+    let front = front_value(&bytes[..end])?;
+    let tens = front.checked_mul(10)?;
+    let value = tens.checked_add(u64::from(last - b'0'))?;
+    Some(value)
+}
+
+// The same of at most nineteen bytes, which always fits.
+fn front_value(bytes: &[u8]) -> Option<u64>
+    requires { length bytes.now ≤ 19 }
+    ensures { SomeIff result (list_all is_ascii_digit bytes.now ≡ true) (digits_value 10 bytes.now) }
 {
     let mut value: u64 = 0;
     for byte in bytes {
         if !byte.is_ascii_digit() {
             return None;
         }
-        let tens = value.checked_mul(10)?;
-        let more = tens.checked_add(u64::from(*byte - b'0'))?;
-        value = more;
+        value = value * 10 + u64::from(*byte - b'0');
     }
     Some(value)
 }

@@ -1,13 +1,13 @@
 //! The text of the objects in a box.
 ghost use Rattle.std.specs.Prelude.{◌≡◌, ◌≤◌, ◌+◌, ◌++◌, [], if◌then◌else◌};
-ghost use Rattle.arrayvec.specs.ArrayString.{array_string_len};
+ghost use Rattle.arrayvec.specs.ArrayVec.{array_vec_len};
 ghost use Rattle.zorder.specs.Region.{has_point};
 ghost use Rattle.causes.specs.Causes.{Counts};
 ghost use Rattle.io_edge.specs.Puts.{Puts};
 ghost use Rattle.csv_rows.specs.ObjectLines.{object_line, objects_text};
 ghost use Rattle.csv_rows.specs.Pieces.{HoldsBack};
 
-use crate::pieces::{Piece, add_number, add_point, make_room};
+use crate::pieces::{Piece, add_number, add_point, make_room, push_str};
 use io_edge::{Sink, SinkFault};
 use zorder::{Placed, Region};
 
@@ -22,11 +22,11 @@ pub fn write_objects<K: Sink>(
     ensures cause { Counts (K.output sink.old).faults (K.output sink.new).faults result }
 {
     let mut piece = Piece::new();
-    piece.push_str("id,x,y\n");
+    push_str(&mut piece, "id,x,y\n");
     for object in objects {
         add_within(sink, &mut piece, object, region)?;
     }
-    sink.put(piece.as_str().as_bytes())
+    sink.put(piece.as_slice())
 }
 
 // Adds the line of an object where it is in the box.
@@ -36,7 +36,7 @@ fn add_within<K: Sink>(
     object: &Placed,
     region: &Region,
 ) -> Result<(), SinkFault>
-    ensures bytes { HoldsBack (K.output sink.old).taken (K.output sink.new).taken (piece.old.bytes ++ (if has_point region.now object.now.at then object_line object.now else [])) piece.new.bytes result }
+    ensures bytes { HoldsBack (K.output sink.old).taken (K.output sink.new).taken (piece.old.items ++ (if has_point region.now object.now.at then object_line object.now else [])) piece.new.items result }
     ensures cause { Counts (K.output sink.old).faults (K.output sink.new).faults result }
 {
     if !region.has(object.at) {
@@ -48,11 +48,11 @@ fn add_within<K: Sink>(
 }
 
 fn add_object(piece: &mut Piece, object: &Placed)
-    requires { array_string_len piece.old ≤ 65408 }
-    ensures bytes { piece.new.bytes ≡ piece.old.bytes ++ object_line object.now }
+    requires { array_vec_len piece.old ≤ 65408 }
+    ensures bytes { piece.new.items ≡ piece.old.items ++ object_line object.now }
 {
     add_number(piece, object.id);
-    piece.push_str(",");
+    push_str(piece, ",");
     add_point(piece, object.at, ",");
-    piece.push_str("\n");
+    push_str(piece, "\n");
 }

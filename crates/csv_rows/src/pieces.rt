@@ -1,53 +1,99 @@
 //! Texts that go to a sink in pieces of up to 64 KiB, built in a buffer that takes no memory.
-ghost use Rattle.std.specs.Prelude.{◌≡◌, ◌≤◌, ◌+◌, ◌++◌, length, OnOk};
+ghost use Rattle.std.specs.Prelude.{◌≡◌, ◌≤◌, ◌+◌, ◌∷◌, ◌++◌, codes, drop, length, OnOk};
 ghost use Rattle.std.specs.Fmt.{decimal};
-ghost use Rattle.arrayvec.specs.ArrayString.{array_string_len};
+ghost use Rattle.arrayvec.specs.ArrayVec.{array_vec_len};
 ghost use Rattle.causes.specs.Causes.{Counts};
+ghost use Rattle.csv_rows.specs.Lines.{placed_text};
 ghost use Rattle.csv_rows.specs.Pieces.{HoldsBack};
 
-use arrayvec::ArrayString;
+use arrayvec::ArrayVec;
 use io_edge::{Sink, SinkFault};
-use itoa::Buffer;
-use zorder::Point;
+use itoa::{Buffer, write_digits};
+use zorder::{Placed, Point};
 
 /// The piece that is built, and put when it is nearly full.
-pub(crate) type Piece = ArrayString<65536>;
+pub(crate) type Piece = ArrayVec<u8, 65536>;
 
 // A piece with as much as this has room for one more entry, which has at most 128 bytes.
 const ROOM_FOR_ONE: usize = 65_408;
 
 /// Puts the piece where it is nearly full, and begins the next.
 pub(crate) fn make_room<K: Sink>(sink: &mut K, piece: &mut Piece) -> Result<(), SinkFault>
-    ensures bytes { HoldsBack (K.output sink.old).taken (K.output sink.new).taken piece.old.bytes piece.new.bytes result }
+    ensures bytes { HoldsBack (K.output sink.old).taken (K.output sink.new).taken piece.old.items piece.new.items result }
     ensures cause { Counts (K.output sink.old).faults (K.output sink.new).faults result }
-    ensures room { OnOk result (array_string_len piece.new ≤ 65408) }
+    ensures room { OnOk result (array_vec_len piece.new ≤ 65408) }
 {
     if piece.len() <= ROOM_FOR_ONE {
         return Ok(());
     }
-    let put = sink.put(piece.as_str().as_bytes());
+    let put = sink.put(piece.as_slice());
     piece.clear();
     put
 }
 
+/// Adds a text, for which there is room.
+pub(crate) fn push_str(piece: &mut Piece, text: &str)
+    requires { array_vec_len piece.old + length text.now ≤ 65536 }
+    ensures bytes { piece.new.items ≡ piece.old.items ++ text.now }
+    ensures len { array_vec_len piece.new ≡ array_vec_len piece.old + length text.now }
+{
+    push_bytes(piece, text.as_bytes());
+}
+
+fn push_bytes(piece: &mut Piece, bytes: &[u8])
+    requires { array_vec_len piece.old + length bytes.now ≤ 65536 }
+    ensures bytes { piece.new.items ≡ piece.old.items ++ bytes.now }
+    ensures len { array_vec_len piece.new ≡ array_vec_len piece.old + length bytes.now }
+{
+    // There is room for them.
+    let _ = piece.try_extend_from_slice(bytes);
+}
+
 /// Adds a decimal number.
 pub(crate) fn add_number(piece: &mut Piece, number: u64)
-    requires { array_string_len piece.old ≤ 65516 }
-    ensures bytes { piece.new.bytes ≡ piece.old.bytes ++ decimal number }
-    ensures len { array_string_len piece.new ≤ array_string_len piece.old + 20 }
+    requires { array_vec_len piece.old ≤ 65516 }
+    ensures bytes { piece.new.items ≡ piece.old.items ++ decimal number }
+    ensures len { array_vec_len piece.new ≤ array_vec_len piece.old + 20 }
 {
     let mut buffer = Buffer::new();
-    piece.push_str(buffer.format(number));
+    push_str(piece, buffer.format(number));
 }
 
 /// Adds both coordinates, with a mark between them.
 pub(crate) fn add_point(piece: &mut Piece, at: Point, mark: &str)
-    requires room { array_string_len piece.old ≤ 65495 }
+    requires room { array_vec_len piece.old ≤ 65495 }
     requires mark { length mark.now ≤ 1 }
-    ensures bytes { piece.new.bytes ≡ piece.old.bytes ++ decimal at.x ++ mark.now ++ decimal at.y }
-    ensures len { array_string_len piece.new ≤ array_string_len piece.old + 41 }
+    ensures bytes { piece.new.items ≡ piece.old.items ++ decimal at.x ++ mark.now ++ decimal at.y }
+    ensures len { array_vec_len piece.new ≤ array_vec_len piece.old + 41 }
 {
     add_number(piece, u64::from(at.x));
-    piece.push_str(mark);
+    push_str(piece, mark);
     add_number(piece, u64::from(at.y));
+}
+
+/// Adds a listed point behind another, with its id: all at once, since a list may have thousands.
+pub(crate) fn add_listed(piece: &mut Piece, placed: &Placed)
+    requires { array_vec_len piece.old ≤ 65408 }
+    ensures bytes { piece.new.items ≡ piece.old.items ++ (codes ";" ++ placed_text placed.now) }
+    ensures len { array_vec_len piece.new ≤ array_vec_len piece.old + 63 }
+{
+    let mut text = [0; 63];
+    let y = write_marked(&mut text, b':', u64::from(placed.at.y), 63);
+    let x = write_marked(&mut text, b':', u64::from(placed.at.x), y);
+    let id = write_marked(&mut text, b';', placed.id, x);
+    push_bytes(piece, &text[id..]);
+}
+
+// Writes a mark and a number so that they end there, and returns where they start.
+fn write_marked(text: &mut [u8], mark: u8, number: u64, end: usize) -> usize
+    requires room { 21 ≤ end }
+    requires within { end ≤ length text.old }
+    ensures text { drop result text.new ≡ mark ∷ decimal number ++ drop end text.old }
+    ensures length { length text.new ≡ length text.old }
+    ensures start { end ≤ result + 21 }
+    ensures within { result ≤ end }
+{
+    let start = write_digits(number, text, end) - 1;
+    text[start] = mark;
+    start
 }

@@ -1,13 +1,13 @@
 //! Rows as text, as they are read.
 ghost use Rattle.std.specs.Prelude.{◌≡◌, ◌≤◌, ◌+◌, ◌++◌, codes, length, Ok};
 ghost use Rattle.std.specs.Fmt.{decimal};
-ghost use Rattle.arrayvec.specs.ArrayString.{array_string_len};
+ghost use Rattle.arrayvec.specs.ArrayVec.{array_vec_len};
 ghost use Rattle.causes.specs.Causes.{Counts};
 ghost use Rattle.io_edge.specs.Puts.{Puts};
 ghost use Rattle.csv_rows.specs.Rows.{rows_of};
 ghost use Rattle.csv_rows.specs.RowLines.{row_line, rows_text};
 
-use crate::pieces::{Piece, add_number, add_point, make_room};
+use crate::pieces::{Piece, add_number, add_point, make_room, push_str};
 use crate::rows::{InRow, Rows};
 use io_edge::{Sink, SinkFault};
 use plain_list::Op;
@@ -20,18 +20,18 @@ pub fn write_rows<K: Sink>(sink: &mut K, rows: &Rows) -> Result<(), SinkFault>
     ensures again { rows_of (rows_text rows.now) ≡ Ok rows.now }
 {
     let mut piece = Piece::new();
-    piece.push_str("session,op,id,x,y,a,b\n");
+    push_str(&mut piece, "session,op,id,x,y,a,b\n");
     for row in rows.as_slice() {
         make_room(sink, &mut piece)?;
         add_row(&mut piece, row);
     }
-    sink.put(piece.as_str().as_bytes())
+    sink.put(piece.as_slice())
 }
 
 fn add_row(piece: &mut Piece, row: &InRow)
-    requires { array_string_len piece.old ≤ 65408 }
-    ensures bytes { piece.new.bytes ≡ piece.old.bytes ++ row_line row.now }
-    ensures len { array_string_len piece.new ≤ array_string_len piece.old + 120 }
+    requires { array_vec_len piece.old ≤ 65408 }
+    ensures bytes { piece.new.items ≡ piece.old.items ++ row_line row.now }
+    ensures len { array_vec_len piece.new ≤ array_vec_len piece.old + 120 }
 {
     add_number(piece, u64::from(row.session));
     match row.op {
@@ -45,49 +45,49 @@ fn add_row(piece: &mut Piece, row: &InRow)
 }
 
 fn add_placed_op(piece: &mut Piece, word: &str, id: u64, at: Point)
-    requires room { array_string_len piece.old ≤ 65428 }
+    requires room { array_vec_len piece.old ≤ 65428 }
     requires word { length word.now ≤ 7 }
-    ensures bytes { piece.new.bytes ≡ piece.old.bytes ++ word.now ++ decimal id ++ codes "," ++ decimal at.x ++ codes "," ++ decimal at.y ++ codes ",,\n" }
-    ensures len { array_string_len piece.new ≤ array_string_len piece.old + 100 }
+    ensures bytes { piece.new.items ≡ piece.old.items ++ word.now ++ decimal id ++ codes "," ++ decimal at.x ++ codes "," ++ decimal at.y ++ codes ",,\n" }
+    ensures len { array_vec_len piece.new ≤ array_vec_len piece.old + 100 }
 {
-    piece.push_str(word);
+    push_str(piece, word);
     add_number(piece, id);
-    piece.push_str(",");
+    push_str(piece, ",");
     add_point(piece, at, ",");
-    piece.push_str(",,\n");
+    push_str(piece, ",,\n");
 }
 
 fn add_id_op(piece: &mut Piece, word: &str, id: u64)
-    requires room { array_string_len piece.old ≤ 65428 }
+    requires room { array_vec_len piece.old ≤ 65428 }
     requires word { length word.now ≤ 7 }
-    ensures bytes { piece.new.bytes ≡ piece.old.bytes ++ word.now ++ decimal id ++ codes ",,,,\n" }
-    ensures len { array_string_len piece.new ≤ array_string_len piece.old + 100 }
+    ensures bytes { piece.new.items ≡ piece.old.items ++ word.now ++ decimal id ++ codes ",,,,\n" }
+    ensures len { array_vec_len piece.new ≤ array_vec_len piece.old + 100 }
 {
-    piece.push_str(word);
+    push_str(piece, word);
     add_number(piece, id);
-    piece.push_str(",,,,\n");
+    push_str(piece, ",,,,\n");
 }
 
 fn add_box(piece: &mut Piece, region: Region)
-    requires { array_string_len piece.old ≤ 65428 }
-    ensures bytes { piece.new.bytes ≡ piece.old.bytes ++ codes ",box,," ++ decimal region.lo.x ++ codes "," ++ decimal region.lo.y ++ codes "," ++ decimal region.hi.x ++ codes "," ++ decimal region.hi.y ++ codes "\n" }
-    ensures len { array_string_len piece.new ≤ array_string_len piece.old + 100 }
+    requires { array_vec_len piece.old ≤ 65428 }
+    ensures bytes { piece.new.items ≡ piece.old.items ++ codes ",box,," ++ decimal region.lo.x ++ codes "," ++ decimal region.lo.y ++ codes "," ++ decimal region.hi.x ++ codes "," ++ decimal region.hi.y ++ codes "\n" }
+    ensures len { array_vec_len piece.new ≤ array_vec_len piece.old + 100 }
 {
-    piece.push_str(",box,,");
+    push_str(piece, ",box,,");
     add_point(piece, region.lo, ",");
-    piece.push_str(",");
+    push_str(piece, ",");
     add_point(piece, region.hi, ",");
-    piece.push_str("\n");
+    push_str(piece, "\n");
 }
 
 fn add_near(piece: &mut Piece, at: Point, k: u32)
-    requires { array_string_len piece.old ≤ 65428 }
-    ensures bytes { piece.new.bytes ≡ piece.old.bytes ++ codes ",near,," ++ decimal at.x ++ codes "," ++ decimal at.y ++ codes "," ++ decimal k ++ codes ",\n" }
-    ensures len { array_string_len piece.new ≤ array_string_len piece.old + 100 }
+    requires { array_vec_len piece.old ≤ 65428 }
+    ensures bytes { piece.new.items ≡ piece.old.items ++ codes ",near,," ++ decimal at.x ++ codes "," ++ decimal at.y ++ codes "," ++ decimal k ++ codes ",\n" }
+    ensures len { array_vec_len piece.new ≤ array_vec_len piece.old + 100 }
 {
-    piece.push_str(",near,,");
+    push_str(piece, ",near,,");
     add_point(piece, at, ",");
-    piece.push_str(",");
+    push_str(piece, ",");
     add_number(piece, u64::from(k));
-    piece.push_str(",\n");
+    push_str(piece, ",\n");
 }

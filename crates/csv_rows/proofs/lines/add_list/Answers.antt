@@ -20,22 +20,20 @@ list-text before front list first rest is e =
     ap (λ l. l ++ flat_map entry rest) e ∙ append_assoc before (placed_text first) (flat_map entry rest) ∙ ap (λ (l : List Placed). before ++ join_by placed_text (codes ";") l) (sym is)
 
 pub loop-placed-init : goal.loop-placed-init
-loop-placed-init g c = (added-none entry _ _ c.add_placed.new.piece.bytes c.in-Some.rest.now, omega (arith, c.add_placed.ensures.len, c.requires))
+loop-placed-init g c = (added-none entry _ _ c.add_placed.new.piece.items c.in-Some.rest.now, omega (arith, c.add_placed.ensures.len, c.requires))
 
 pub loop-placed-preserved : goal.loop-placed-preserved
-loop-placed-preserved g c =
-    let added = c.add_placed-in-loop-placed.ensures.bytes ∙ ap (λ l. l ++ placed_text (get_or c.in-Some.rest.now c.loop-placed.placed-index blank)) c.push_str.ensures.bytes
-    ∙ append_assoc c.make_room.new.piece.bytes (codes ";") (placed_text (get_or c.in-Some.rest.now c.loop-placed.placed-index blank)) in (
-      added-more entry _ _ _ c.in-Some.rest.now _ _ _ _ _ _ c.make_room.new.piece.bytes _ blank c.loop-placed.invariant.0 c.in_ok-make_room.ensures.bytes c.in_ok-make_room.ensures.cause.same added c.loop-placed-test.true,
-      omega (arith, c.add_placed-in-loop-placed.ensures.len, c.push_str.ensures.len, c.in_ok-make_room.ensures.room),
-    )
+loop-placed-preserved g c = (
+  added-more entry _ _ _ c.in-Some.rest.now _ _ _ _ _ _ c.make_room.new.piece.items _ blank c.loop-placed.invariant.0 c.in_ok-make_room.ensures.bytes c.in_ok-make_room.ensures.cause.same c.add_listed.ensures.bytes c.loop-placed-test.true,
+  omega (arith, c.add_listed.ensures.len, c.in_ok-make_room.ensures.room),
+)
 
 pub returns-in_err-make_room-clause-bytes : goal.returns-in_err-make_room-clause-bytes
 returns-in_err-make_room-clause-bytes g c =
     let lost = c.in_err-make_room.ensures.bytes in
     let moved = added-lost entry _ _ _ c.in-Some.rest.now _ _ _ _ _ _ c.loop-placed.invariant.0 lost.1 in
     holds-lost _ _ _ _ _ c.from_residual.result c.from_residual.ensures.0
-    (moves-is _ _ _ _ _ (list-text c.args.piece.now.bytes c.add_placed.new.piece.bytes c.args.list.now c.in-Some.first.now c.in-Some.rest.now c.in-Some.ensures.cases.0 c.add_placed.ensures.bytes) moved)
+    (moves-is _ _ _ _ _ (list-text c.args.piece.now.items c.add_placed.new.piece.items c.args.list.now c.in-Some.first.now c.in-Some.rest.now c.in-Some.ensures.cases.0 c.add_placed.ensures.bytes) moved)
 
 pub returns-in_err-make_room-clause-cause : goal.returns-in_err-make_room-clause-cause
 returns-in_err-make_room-clause-cause g c = counts-lost _ _ _ c.from_residual.result c.from_residual.ensures.0 c.loop-placed.invariant.0.same c.in_err-make_room.ensures.cause.later c.in_err-make_room.ensures.cause.failed
@@ -43,4 +41,4 @@ returns-in_err-make_room-clause-cause g c = counts-lost _ _ _ c.from_residual.re
 pub returns-clause-bytes : goal.returns-clause-bytes
 returns-clause-bytes g c =
     let moved = added-all entry _ _ _ c.in-Some.rest.now _ _ _ _ c.loop-placed.invariant.0 (omega arith) in
-    moves-is _ _ _ _ _ (list-text c.args.piece.now.bytes c.add_placed.new.piece.bytes c.args.list.now c.in-Some.first.now c.in-Some.rest.now c.in-Some.ensures.cases.0 c.add_placed.ensures.bytes) moved
+    moves-is _ _ _ _ _ (list-text c.args.piece.now.items c.add_placed.new.piece.items c.args.list.now c.in-Some.first.now c.in-Some.rest.now c.in-Some.ensures.cases.0 c.add_placed.ensures.bytes) moved

@@ -7,5 +7,5 @@ use Rattle.csv_rows.proofs.lines.add_list.Given as goal
 
 abbrev pub invariant-loop-placed : goal.invariant-loop-placed
 invariant-loop-placed g l =
-    HasAdded (λ (m : Placed). codes ";" ++ placed_text m) (g.K.Sink.output l.fn.sink).taken (g.K.Sink.output l.sink).taken (g.K.Sink.output l.fn.sink).faults (g.K.Sink.output l.sink).faults l.initial.piece.bytes l.rest l.placed-index l.piece.bytes
-    × (length l.piece.bytes ≤ 65535)
+    HasAdded (λ (m : Placed). codes ";" ++ placed_text m) (g.K.Sink.output l.fn.sink).taken (g.K.Sink.output l.sink).taken (g.K.Sink.output l.fn.sink).faults (g.K.Sink.output l.sink).faults l.initial.piece.items l.rest l.placed-index l.piece.items
+    × (length l.piece.items ≤ 65535)

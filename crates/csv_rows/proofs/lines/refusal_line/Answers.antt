@@ -9,4 +9,4 @@ unfolding refusal_text
 returns-clause-bytes g c =
     let front = c.push_str.ensures.bytes ∙ ap (λ l. l ++ codes "refused ") c.new-piece.ensures in
     let reason = c.add_reason.ensures.bytes ∙ ap (λ l. l ++ reason_text c.args.refusal.now) front in
-    puts-is _ _ c.as_bytes.result.now _ c.put.result (c.as_bytes.ensures.value ∙ c.as_str.ensures.value ∙ c.push_str-2.ensures.bytes ∙ ap (λ l. l ++ codes "\n") reason) c.put.ensures.bytes
+    puts-is _ _ c.as_slice.result.now _ c.put.result (c.as_slice.ensures.value ∙ c.push_str-2.ensures.bytes ∙ ap (λ l. l ++ codes "\n") reason) c.put.ensures.bytes

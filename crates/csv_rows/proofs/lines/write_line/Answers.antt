@@ -7,8 +7,8 @@ use Rattle.csv_rows.proofs.lines.write_line.Goals as goal
 pub returns-clause-bytes : goal.returns-clause-bytes
 returns-clause-bytes g c =
     let line = line_text c.args.row c.args.place c.args.answer.now in
-    puts-is _ _ (c.new-piece.result.bytes ++ line) line c.put.result (ap (λ l. l ++ line) c.new-piece.ensures)
-    (puts-last _ _ _ _ _ c.put.result c.in_ok-add_line.ensures.bytes (puts-is _ _ c.as_bytes.result.now _ c.put.result (c.as_bytes.ensures.value ∙ c.as_str.ensures.value) c.put.ensures.bytes))
+    puts-is _ _ (c.new-piece.result.items ++ line) line c.put.result (ap (λ l. l ++ line) c.new-piece.ensures)
+    (puts-last _ _ _ _ _ c.put.result c.in_ok-add_line.ensures.bytes (puts-is _ _ c.as_slice.result.now _ c.put.result (c.as_slice.ensures.value) c.put.ensures.bytes))
 
 pub returns-in_err-add_line-clause-bytes : goal.returns-in_err-add_line-clause-bytes
 returns-in_err-add_line-clause-bytes g c =

@@ -16,4 +16,4 @@ returns-clause-bytes g c =
     let two = c.add_count-2.ensures.bytes ∙ ap (λ (l : List ℕ). l ++ points) one in
     let three = c.add_count-3.ensures.bytes ∙ ap (λ (l : List ℕ). l ++ leaves) two in
     let four = c.add_count-4.ensures.bytes ∙ ap (λ (l : List ℕ). l ++ unfinished) three in
-    puts-is _ _ c.as_bytes.result.now _ c.put.result (c.as_bytes.ensures.value ∙ c.as_str.ensures.value ∙ four) c.put.ensures.bytes
+    puts-is _ _ c.as_slice.result.now _ c.put.result (c.as_slice.ensures.value ∙ four) c.put.ensures.bytes

@@ -14,4 +14,4 @@ returns-clause-bytes g c =
     let one = c.add_count.ensures.bytes ∙ ap (λ (l : List ℕ). l ++ rows) c.new-piece.ensures in
     let two = c.add_count-2.ensures.bytes ∙ ap (λ (l : List ℕ). l ++ points) one in
     let three = c.add_count-3.ensures.bytes ∙ ap (λ (l : List ℕ). l ++ sum) two in
-    puts-is _ _ c.as_bytes.result.now _ c.put.result (c.as_bytes.ensures.value ∙ c.as_str.ensures.value ∙ three) c.put.ensures.bytes
+    puts-is _ _ c.as_slice.result.now _ c.put.result (c.as_slice.ensures.value ∙ three) c.put.ensures.bytes
