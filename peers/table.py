@@ -1,0 +1,66 @@
+#!/usr/bin/env python3
+"""Tables in Markdown from the lines that run.py --json wrote: python3 table.py ONE SIXTEEN [DURABLE]
+
+ONE has runs of --sessions 1, SIXTEEN those of 16 sessions; the peers are taken from ONE. Of several runs of a program, profile
+and size the best counts. In memory it is processor time in milliseconds, which a busy machine changes less than the time on the
+clock; over a log, where most of it is waiting, milliseconds on the clock, without a program's start and end."""
+import json
+import sys
+
+import gen
+
+MEMORY = [('grid', 'grid'), ('trie', 'C++ trie'), ('rstar', 'R*-tree'), ('nanoflann', 'nanoflann'), ('sqlite-mem', 'SQLite')]
+DURABLE = [('log-2-syncs', 'four device calls alone'), ('trie-wal', 'C++ trie + log'), ('rocksdb', 'RocksDB'), ('lmdb', 'LMDB'),
+           ('sqlite-wal', 'SQLite')]
+
+
+def best(name):
+    """The best run by profile, rows and peer, with the least processor time of any."""
+    runs = {}
+    for line in open(name):
+        run = json.loads(line)
+        if 'profile' in run:
+            key = run['profile'], run['rows'], run['peer']
+            other = runs.get(key, run)
+            runs[key] = dict(min(run, other, key=lambda r: r['net']), cpu=min(run['cpu'], other['cpu']))
+    return runs
+
+
+def number(run, key='cpu', scale=1e3):
+    if not run:
+        return ''
+    value = run[key] * scale
+    return f'{value:,.0f}' if value >= 100 else f'{value:.1f}'
+
+
+def table(head, rows):
+    print('| ' + ' | '.join(head) + ' |\n|---' + '|--:' * (len(head) - 1) + '|')
+    for row in rows:
+        print('| ' + ' | '.join(row) + ' |')
+    print()
+
+
+def in_memory(one, sixteen):
+    sizes = sorted({key[1] for key in one})
+    table(['Profile', 'Rows', 'this, one session', 'this, 16 sessions'] + [name for _, name in MEMORY],
+          [[profile, f'{rows:,}', number(one.get((profile, rows, 'mdloc'))), number(sixteen.get((profile, rows, 'mdloc')))]
+           + [number(one.get((profile, rows, peer))) for peer, _ in MEMORY]
+           for profile in gen.PROFILES for rows in sizes if (profile, rows, 'mdloc') in one])
+    most = sizes[-1]
+    table(['Profile, memory in MB', 'this, one session', 'this, 16 sessions'] + [name for _, name in MEMORY],
+          [[profile] + [number(runs.get((profile, most, peer)), 'rss', 1) if runs.get((profile, most, peer)) else ''
+                        for runs, peer in [(one, 'mdloc'), (sixteen, 'mdloc')] + [(one, peer) for peer, _ in MEMORY]]
+           for profile in gen.PROFILES if (profile, most, 'mdloc') in one])
+
+
+def durable(runs):
+    keys = sorted({key[:2] for key in runs if key[2] == 'mdloc-log'})
+    table(['Profile', 'Rows', 'this'] + [name for _, name in DURABLE],
+          [[profile, f'{rows:,}'] + [number(runs.get((profile, rows, peer)), 'net') for peer, _ in [('mdloc-log', '')] + DURABLE]
+           for profile, rows in keys])
+
+
+if __name__ == '__main__':
+    in_memory(best(sys.argv[1]), best(sys.argv[2]))
+    if len(sys.argv) > 3:
+        durable(best(sys.argv[3]))
