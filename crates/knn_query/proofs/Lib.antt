@@ -1,3 +1,4 @@
 pub mod Passing
 pub mod Searching
 pub mod Steps
+pub mod Places

@@ -31,7 +31,7 @@ use Rattle.table_share.specs.Worlds.{OfEachWorld}
 use Rattle.table_share.proofs.TableRows.{table_of}
 use Rattle.table_share.proofs.RowObjects.{objects-permutation}
 use Rattle.table_share.proofs.LeafRows.{leaves_under}
-use Rattle.table_share.proofs.Subtrees.{subtree-whole, subtree-leaf, subtree-halves, subtree-outside, inner-room}
+use Rattle.table_share.proofs.Subtrees.{subtree-whole, subtree-leaf, subtree-halves, inner-room}
 use Rattle.knn_query.specs.Ahead.{least_to, reach_of, number_nearer, IsAhead, IsFirst, leaves_ahead, objects_ahead, Searches, weight_of}
 use Rattle.knn_query.specs.Passes.{Keeps, Passes, IsList}
 use Rattle.knn_query.specs.declared.ahead.Ahead.{Ahead}
@@ -255,20 +255,6 @@ module _ (p : Point) (k : ℕ) (leaves : List Leaf) (before : ℕ) where
               searches_permuted p k world (below ++ objects_ahead leaves left) (objects_ahead leaves ((left ++ fore ∷ []) ++ hind ∷ [])) kept (two-permutation leaves left fore hind (subtree a.name leaves) both) (t.worlds world names is_world stands);
           opened = count every t.opened;
           near = λ world names is_world stands d many. count (within p (reach_of p k world d)) (t.near world names is_world stands d many);
-          some = t.some;
-        }
-
-    -- an empty one
-    pub outside-state : is_inner a.name leaves ≡ false → has_name a.name leaves ≡ false → State now left kept
-    outside-state inner none =
-        let empty : subtree a.name leaves ≡ [] = subtree-outside a.name leaves inner none in
-        record {
-          from = t.from;
-          k_is = t.k_is;
-          are = t.are;
-          worlds = λ world names is_world stands. subst (λ (ls : List Leaf). Searches p k world (objects_of (all_rows ls) ++ objects_ahead leaves left) kept) empty (t.worlds world names is_world stands);
-          opened = subst (λ (ls : List Leaf). Counts every now (ls ++ leaves_ahead leaves left)) empty t.opened;
-          near = λ world names is_world stands d many. subst (λ (ls : List Leaf). Counts (within p (reach_of p k world d)) now (ls ++ leaves_ahead leaves left)) empty (t.near world names is_world stands d many);
           some = t.some;
         }
 

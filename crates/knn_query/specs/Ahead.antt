@@ -1,5 +1,6 @@
 -- The subtrees that are still ahead of a search.
-use Rattle.std.specs.Prelude.{◌≡◌, ◌≤◌, ◌+◌, ◌-◌, ◌^◌, ◌++◌, ◌∷◌, ℕ, Bool, nat_le, nat_lt, List, length, slice_index_or}
+use Rattle.std.specs.Prelude.{◌≡◌, ◌≤◌, ◌+◌, ◌-◌, ◌^◌, ◌++◌, ◌∷◌, ◌<◌, [], ℕ, ⊤, Bool, nat_le, nat_lt, List, length, remove, slice_index_or}
+use denote.Ref.{Bor}
 use Rattle.std.specs.List.{All, flat_map, count_by}
 use Rattle.zorder.specs.declared.points.Point.{Point}
 use Rattle.zorder.specs.declared.points.Placed.{Placed}
@@ -50,6 +51,20 @@ pub record Searches (p : Point) (k : ℕ) (world rest : List Placed) (kept : Kep
 abbrev pub IsFirst : List Ahead → List Ahead → Ahead → Type 0
 IsFirst old new a =
     (front : List Ahead) × (back : List Ahead) × (old ≡ front ++ a ∷ back) × (new ≡ front ++ back) × All (λ (b : Ahead). a.least ≤ b.least) old
+
+-- the same, by its number
+pub record IsTaken (old new : List Ahead) (i : ℕ) (a : Ahead) : Type 0 where
+  pub less : i < length old
+  pub left : new ≡ remove old i
+  pub is : a ≡ slice_index_or old i a
+  pub low : All (λ (b : Ahead). a.least ≤ b.least) old
+
+-- each place is that of its name
+abbrev pub AreAt : {P : Type 0} → (P → List Bool → Type 0) → List Ahead → List (Bor P) → Type 0
+AreAt is_at [] [] = ⊤
+AreAt is_at [] (p ∷ places) = ⊥
+AreAt is_at (a ∷ ahead) [] = ⊥
+AreAt is_at (a ∷ ahead) (p ∷ places) = is_at p.now a.name × AreAt is_at ahead places
 
 -- where there are k objects, no more was opened than the leaves of which some point may be as near as the k-th
 abbrev pub OpensNear : Point → ℕ → List Leaf → ℕ → ℕ → List Placed → Type 0

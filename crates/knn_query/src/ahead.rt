@@ -3,7 +3,7 @@ ghost use Rattle.std.specs.Prelude.{◌≡◌, ◌≤◌, ◌<◌, [], length, s
 ghost use Rattle.std.specs.List.{All};
 ghost use Rattle.zorder.specs.declared.points.Point.{Point};
 ghost use Rattle.knn_query.specs.declared.ahead.Ahead.{Ahead};
-ghost use Rattle.knn_query.specs.Ahead.{IsAhead, IsFirst};
+ghost use Rattle.knn_query.specs.Ahead.{IsAhead, IsTaken};
 
 use prefix_names::{least, region};
 use zorder::{Name, Point};
@@ -27,15 +27,16 @@ impl Ahead {
     }
 }
 
-/// Takes the nearest out.
-pub(crate) fn take_nearest(ahead: &mut Vec<Ahead>) -> Option<Ahead>
-    ensures { MatchOption result ((ahead.old.items ≡ []) × (ahead.new.items ≡ [])) (IsFirst ahead.old.items ahead.new.items) }
+/// Takes the nearest out, and tells its number.
+pub(crate) fn take_nearest(ahead: &mut Vec<Ahead>) -> Option<(usize, Ahead)>
+    ensures { MatchOption result ((ahead.old.items ≡ []) × (ahead.new.items ≡ [])) (λ next. IsTaken ahead.old.items ahead.new.items next.0 next.1) }
 {
     if ahead.is_empty() {
         return None;
     }
     let place = nearest_place(ahead.as_slice());
-    Some(ahead.remove(place))
+    let next = ahead.remove(place);
+    Some((place, next))
 }
 
 fn nearest_place(ahead: &[Ahead]) -> usize

@@ -1,5 +1,5 @@
 //! The nearest of the objects that were seen so far.
-ghost use Rattle.std.specs.Prelude.{◌≡◌, ◌∷◌, nat_le, List, [], None, take, OnOk};
+ghost use Rattle.std.specs.Prelude.{◌≡◌, ◌∷◌, nat_le, List, [], None, take, IfOk, OnOk};
 ghost use Rattle.std.specs.Option.{option_map};
 ghost use Rattle.zorder.specs.declared.points.Placed.{Placed};
 ghost use Rattle.plain_list.specs.Answer.{ranked};
@@ -40,7 +40,7 @@ impl Kept {
     {
         if self.may_belong(&m) {
             self.list.push(m)?;
-            self.last = cut_full(&mut self.list, self.from, self.k, self.last);
+            self.last = cut_full(&mut self.list, self.from, self.k, self.last)?;
         }
         Ok(())
     }
@@ -62,25 +62,30 @@ impl Kept {
     }
 
     /// The nearest, in order.
-    pub(crate) fn into_list(mut self) -> PlacedList
-        ensures { (world : List Placed) → AreOf world self.list.items → result ≡ take self.k (ranked self.from self.list.items) }
+    pub(crate) fn into_list(mut self) -> Result<PlacedList, AllocError>
+        ensures { (world : List Placed) → AreOf world self.list.items → IfOk result (λ list. list ≡ take self.k (ranked self.from self.list.items)) }
     {
-        cut(&mut self.list, self.from, self.k);
-        PlacedList::from_vec(self.list)
+        cut(&mut self.list, self.from, self.k)?;
+        Ok(PlacedList::from_vec(self.list))
     }
 }
 
 /// Cuts a list of twice `k` objects or more, and gives the last of the nearest then.
-fn cut_full(list: &mut Vec<Placed>, from: Point, k: usize, last: Option<Placed>) -> Option<Placed>
-    ensures { IsKept from k list.old.items (option_map (rank_of from) last) list.new.items (option_map (rank_of from) result) }
+fn cut_full(
+    list: &mut Vec<Placed>,
+    from: Point,
+    k: usize,
+    last: Option<Placed>,
+) -> Result<Option<Placed>, AllocError>
+    ensures { IfOk result (λ end. IsKept from k list.old.items (option_map (rank_of from) last) list.new.items (option_map (rank_of from) end)) }
 {
     if list.len() / 2 < k {
-        return last;
+        return Ok(last);
     }
-    cut(list, from, k);
+    cut(list, from, k)?;
     match list.last() {
-        Some(m) => Some(*m),
-        None => None,
+        Some(m) => Ok(Some(*m)),
+        None => Ok(None),
     }
 }
 
@@ -96,11 +101,13 @@ fn count_nearer(list: &[Placed], from: Point, least: u128) -> usize
     count
 }
 
-fn cut(list: &mut Vec<Placed>, from: Point, k: usize)
-    ensures { IsCut from k list.old.items list.new.items }
+// Sorts by distances that are computed once.
+fn cut(list: &mut Vec<Placed>, from: Point, k: usize) -> Result<(), AllocError>
+    ensures { OnOk result (IsCut from k list.old.items list.new.items) }
 {
-    list.sort_unstable_by_key(|m| (dist(m.at, from), m.id));
+    list.sort_by_cached_key(|m| (dist(m.at, from), m.id))?;
     list.truncate(k);
+    Ok(())
 }
 
 // Whether an object comes before another one: nearer, or as near with the lesser id.

@@ -9,7 +9,7 @@ ghost use Rattle.knn_query.specs.Passes.{IsList, Keeps, Passes};
 use crate::ahead::{Ahead, take_nearest};
 use crate::kept::Kept;
 use bucket_versions::Bucket;
-use index_layer::{Index, Part};
+use index_layer::{Below, Index};
 use plain_list::PlacedList;
 use std::alloc::{AllocError, Global};
 use std::sync::ledger::Ledger;
@@ -19,7 +19,8 @@ use zorder::{Memory, Name, Point, child};
 
 /// The first `k` objects, or all where there are fewer, the nearest first, and of two as near the one with the lesser id.
 /// Each bucket that it opens is a step. It is a best-first search (Hjaltason and Samet, "Distance Browsing in Spatial
-/// Databases", 1999): subtrees are taken by the least distance of their region, and it keeps less than `2 k` objects.
+/// Databases", 1999): subtrees are taken by the least distance of their region, and it keeps less than `2 k` objects, with
+/// their distances while it sorts them.
 pub fn nearest<I: Index, L: Ledger>(
     alloc: Global,
     index: &I,
@@ -35,10 +36,10 @@ pub fn nearest<I: Index, L: Ledger>(
     ensures some { IfOk result (λ list. 0 < length list → steps.old < steps.new) }
 {
     let kept = keep_nearest(alloc, Kept::new(alloc, from, k as usize), index, steps)?;
-    Ok(kept.into_list())
+    Ok(kept.into_list()?)
 }
 
-// Names from the empty one, the nearest first, until k of those that are kept are nearer than any that is left.
+// Places from the top, the nearest first, until k of those that are kept are nearer than any that is left.
 fn keep_nearest<I: Index, L: Ledger>(
     alloc: Global,
     mut kept: Kept,
@@ -54,20 +55,23 @@ fn keep_nearest<I: Index, L: Ledger>(
     ensures some { IfOk result (λ new. (steps.old ≤ steps.new) × (steps.new ≡ steps.old → new.list.items ≡ [])) }
 {
     let mut ahead = Vec::new(alloc);
+    let mut places = Vec::new(alloc);
     ahead.push(Ahead::new(Name::whole(), kept.from))?;
-    while let Some(next) = take_nearest(&mut ahead) {
-        match index.part(&next.name) {
-            Part::Leaf(bucket) => {
+    places.push(index.top())?;
+    while let Some((number, next)) = take_nearest(&mut ahead) {
+        match index.below(&next.name, places.remove(number)) {
+            Below::Leaf(bucket) => {
                 if kept.has_nearer(next.least) {
                     return Ok(kept);
                 }
                 add_rows(&mut kept, bucket, steps)?;
             }
-            Part::Inner => {
+            Below::Halves { zero, one } => {
                 ahead.push(Ahead::new(child(&next.name, false), kept.from))?;
+                places.push(zero)?;
                 ahead.push(Ahead::new(child(&next.name, true), kept.from))?;
+                places.push(one)?;
             }
-            Part::Outside => {}
         }
     }
     Ok(kept)

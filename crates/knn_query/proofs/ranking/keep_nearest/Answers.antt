@@ -7,20 +7,25 @@ use Rattle.bucket_versions.specs.Rows.{Rows}
 use Rattle.index_layer.specs.Leaves.{Leaf}
 use Rattle.table_share.specs.Objects.{objects_of}
 use Rattle.table_share.proofs.Subtrees.{inner-room}
-use Rattle.knn_query.specs.Ahead.{IsAhead, number_nearer, reach_of, leaves_ahead, objects_ahead, weight_of}
+use Rattle.knn_query.specs.Ahead.{IsAhead, AreAt, number_nearer, reach_of, leaves_ahead, objects_ahead, weight_of}
 use Rattle.knn_query.specs.Passes.{Keeps, Passes}
 use Rattle.knn_query.specs.declared.ahead.Ahead.{Ahead}
-use Rattle.knn_query.proofs.Steps.{State, within, taken, begins-state, closed, opened-leaf, near-leaf, leaf-state, inner-state, outside-state, ends, ends-every, weight-less, weight-two}
+use Rattle.knn_query.proofs.Places.{first-of, length-at, at-number, left-at, at-push}
+use Rattle.knn_query.proofs.Steps.{State, within, taken, begins-state, closed, opened-leaf, near-leaf, leaf-state, inner-state, ends, ends-every, weight-less, weight-two}
 use Rattle.knn_query.proofs.ranking.keep_nearest.Goals as goal
 
-pub loop-next-init : goal.loop-next-init
-loop-next-init g c =
+pub loop-number-init : goal.loop-number-init
+loop-number-init g c =
     let leaves : List Leaf = g.I.Index.leaves c.args.index.now in
     let p = c.args.kept.from in
-    let k = c.args.kept.k in (
+    let k = c.args.kept.k in
+    let is_at = g.I.Index.is_at c.args.index.now in
+    let named : c.new.result.name ≡ [] = c.new.ensures.name ∙ c.whole.ensures in (
       subst (λ (xs : List Ahead). State p k leaves c.args.steps.now c.args.steps.now xs c.args.kept) (sym (c.in_ok-push.ensures.items ∙ ap (λ (xs : List Ahead). xs ++ c.new.result ∷ []) c.new-ahead.ensures.items))
           (begins-state p k leaves c.args.steps.now c.new.result c.args.kept c.requires.list (c.new.ensures.name ∙ c.whole.ensures) c.new.ensures.ahead),
       omega arith,
+      subst (λ (xs : List Ahead). AreAt is_at xs c.push-2.new.self.items) (sym (c.in_ok-push.ensures.items ∙ ap (λ (xs : List Ahead). xs ++ c.new.result ∷ []) c.new-ahead.ensures.items))
+          (subst (λ ps. AreAt is_at (c.new.result ∷ []) ps) (sym (c.in_ok-push-2.ensures.items ∙ ap (λ ps. ps ++ c.top.result ∷ []) c.new-places.ensures.items)) (subst (is_at c.top.result.now) (sym named) c.top.ensures, tt)),
     )
 
 pub returns-then-has_nearer-clause-keeps : goal.returns-then-has_nearer-clause-keeps
@@ -28,112 +33,129 @@ returns-then-has_nearer-clause-keeps g c =
     let leaves : List Leaf = g.I.Index.leaves c.args.index.now in
     let p = c.args.kept.from in
     let k = c.args.kept.k in
-    let s = c.loop-next.invariant.0 in
+    let s = c.loop-number.invariant.0 in
     let tile = (g.met.I.Index.are_leaves c.args.index.now).tile in
     let a : Ahead = c.in-Some.next in
     let left : List Ahead = c.take_nearest.new.ahead.items in
-    let t = taken p k leaves c.args.steps.now c.loop-next.steps c.loop-next.ahead.items left a c.loop-next.kept s c.in-Some.ensures in
-    let number : ℕ = number_nearer p a.least c.loop-next.kept.list.items in
-    let test : nat_le k number ≡ c.has_nearer.result = (λ i. nat_le (sym s.k_is i) (number_nearer (sym s.from i) a.least c.loop-next.kept.list.items)) ∙ sym c.has_nearer.ensures in
-    closed p k leaves c.args.steps.now tile c.loop-next.steps a left c.loop-next.kept t (leb-true k number (test ∙ c.if-has_nearer.true))
+    let t = taken p k leaves c.args.steps.now c.loop-number.steps c.loop-number.ahead.items left a c.loop-number.kept s (first-of c.loop-number.ahead.items c.take_nearest.new.ahead.items c.in-Some.number c.in-Some.next c.in-Some.ensures) in
+    let number : ℕ = number_nearer p a.least c.loop-number.kept.list.items in
+    let test : nat_le k number ≡ c.has_nearer.result = (λ i. nat_le (sym s.k_is i) (number_nearer (sym s.from i) a.least c.loop-number.kept.list.items)) ∙ sym c.has_nearer.ensures in
+    closed p k leaves c.args.steps.now tile c.loop-number.steps a left c.loop-number.kept t (leb-true k number (test ∙ c.if-has_nearer.true))
 
 pub returns-then-has_nearer-clause-opened : goal.returns-then-has_nearer-clause-opened
 returns-then-has_nearer-clause-opened g c =
     let leaves : List Leaf = g.I.Index.leaves c.args.index.now in
     let p = c.args.kept.from in
     let k = c.args.kept.k in
-    ends-every p k leaves c.args.steps.now c.loop-next.steps (leaves_ahead leaves c.loop-next.ahead.items) c.loop-next.invariant.0.opened
+    ends-every p k leaves c.args.steps.now c.loop-number.steps (leaves_ahead leaves c.loop-number.ahead.items) c.loop-number.invariant.0.opened
 
 pub returns-then-has_nearer-clause-near : goal.returns-then-has_nearer-clause-near
 returns-then-has_nearer-clause-near g c world names is_world stands d many =
     let leaves : List Leaf = g.I.Index.leaves c.args.index.now in
     let p = c.args.kept.from in
     let k = c.args.kept.k in
-    ends p k leaves c.args.steps.now (within p (reach_of p k world d)) c.loop-next.steps (leaves_ahead leaves c.loop-next.ahead.items) (c.loop-next.invariant.0.near world names is_world stands d many)
+    ends p k leaves c.args.steps.now (within p (reach_of p k world d)) c.loop-number.steps (leaves_ahead leaves c.loop-number.ahead.items) (c.loop-number.invariant.0.near world names is_world stands d many)
 
-pub returns-in_err-push-in-Inner-clause-opened : goal.returns-in_err-push-in-Inner-clause-opened
-returns-in_err-push-in-Inner-clause-opened g c =
+pub returns-in_err-push-in-Halves-clause-opened : goal.returns-in_err-push-in-Halves-clause-opened
+returns-in_err-push-in-Halves-clause-opened g c =
     let leaves : List Leaf = g.I.Index.leaves c.args.index.now in
     let p = c.args.kept.from in
     let k = c.args.kept.k in
-    ends-every p k leaves c.args.steps.now c.loop-next.steps (leaves_ahead leaves c.loop-next.ahead.items) c.loop-next.invariant.0.opened
+    ends-every p k leaves c.args.steps.now c.loop-number.steps (leaves_ahead leaves c.loop-number.ahead.items) c.loop-number.invariant.0.opened
 
-pub returns-in_err-push-in-Inner-clause-near : goal.returns-in_err-push-in-Inner-clause-near
-returns-in_err-push-in-Inner-clause-near g c world names is_world stands d many =
+pub returns-in_err-push-in-Halves-clause-near : goal.returns-in_err-push-in-Halves-clause-near
+returns-in_err-push-in-Halves-clause-near g c world names is_world stands d many =
     let leaves : List Leaf = g.I.Index.leaves c.args.index.now in
     let p = c.args.kept.from in
     let k = c.args.kept.k in
-    ends p k leaves c.args.steps.now (within p (reach_of p k world d)) c.loop-next.steps (leaves_ahead leaves c.loop-next.ahead.items) (c.loop-next.invariant.0.near world names is_world stands d many)
+    ends p k leaves c.args.steps.now (within p (reach_of p k world d)) c.loop-number.steps (leaves_ahead leaves c.loop-number.ahead.items) (c.loop-number.invariant.0.near world names is_world stands d many)
 
-pub returns-in_err-push-in-Inner-2-clause-opened : goal.returns-in_err-push-in-Inner-2-clause-opened
-returns-in_err-push-in-Inner-2-clause-opened g c =
+pub returns-in_err-push-in-Halves-2-clause-opened : goal.returns-in_err-push-in-Halves-2-clause-opened
+returns-in_err-push-in-Halves-2-clause-opened g c =
     let leaves : List Leaf = g.I.Index.leaves c.args.index.now in
     let p = c.args.kept.from in
     let k = c.args.kept.k in
-    ends-every p k leaves c.args.steps.now c.loop-next.steps (leaves_ahead leaves c.loop-next.ahead.items) c.loop-next.invariant.0.opened
+    ends-every p k leaves c.args.steps.now c.loop-number.steps (leaves_ahead leaves c.loop-number.ahead.items) c.loop-number.invariant.0.opened
 
-pub returns-in_err-push-in-Inner-2-clause-near : goal.returns-in_err-push-in-Inner-2-clause-near
-returns-in_err-push-in-Inner-2-clause-near g c world names is_world stands d many =
+pub returns-in_err-push-in-Halves-3-clause-opened : goal.returns-in_err-push-in-Halves-3-clause-opened
+returns-in_err-push-in-Halves-3-clause-opened g c =
     let leaves : List Leaf = g.I.Index.leaves c.args.index.now in
     let p = c.args.kept.from in
     let k = c.args.kept.k in
-    ends p k leaves c.args.steps.now (within p (reach_of p k world d)) c.loop-next.steps (leaves_ahead leaves c.loop-next.ahead.items) (c.loop-next.invariant.0.near world names is_world stands d many)
+    ends-every p k leaves c.args.steps.now c.loop-number.steps (leaves_ahead leaves c.loop-number.ahead.items) c.loop-number.invariant.0.opened
+
+pub returns-in_err-push-in-Halves-4-clause-opened : goal.returns-in_err-push-in-Halves-4-clause-opened
+returns-in_err-push-in-Halves-4-clause-opened g c =
+    let leaves : List Leaf = g.I.Index.leaves c.args.index.now in
+    let p = c.args.kept.from in
+    let k = c.args.kept.k in
+    ends-every p k leaves c.args.steps.now c.loop-number.steps (leaves_ahead leaves c.loop-number.ahead.items) c.loop-number.invariant.0.opened
+
+pub returns-in_err-push-in-Halves-2-clause-near : goal.returns-in_err-push-in-Halves-2-clause-near
+returns-in_err-push-in-Halves-2-clause-near g c world names is_world stands d many =
+    let leaves : List Leaf = g.I.Index.leaves c.args.index.now in
+    let p = c.args.kept.from in
+    let k = c.args.kept.k in
+    ends p k leaves c.args.steps.now (within p (reach_of p k world d)) c.loop-number.steps (leaves_ahead leaves c.loop-number.ahead.items) (c.loop-number.invariant.0.near world names is_world stands d many)
+
+pub returns-in_err-push-in-Halves-3-clause-near : goal.returns-in_err-push-in-Halves-3-clause-near
+returns-in_err-push-in-Halves-3-clause-near g c world names is_world stands d many =
+    let leaves : List Leaf = g.I.Index.leaves c.args.index.now in
+    let p = c.args.kept.from in
+    let k = c.args.kept.k in
+    ends p k leaves c.args.steps.now (within p (reach_of p k world d)) c.loop-number.steps (leaves_ahead leaves c.loop-number.ahead.items) (c.loop-number.invariant.0.near world names is_world stands d many)
+
+pub returns-in_err-push-in-Halves-4-clause-near : goal.returns-in_err-push-in-Halves-4-clause-near
+returns-in_err-push-in-Halves-4-clause-near g c world names is_world stands d many =
+    let leaves : List Leaf = g.I.Index.leaves c.args.index.now in
+    let p = c.args.kept.from in
+    let k = c.args.kept.k in
+    ends p k leaves c.args.steps.now (within p (reach_of p k world d)) c.loop-number.steps (leaves_ahead leaves c.loop-number.ahead.items) (c.loop-number.invariant.0.near world names is_world stands d many)
 
 pub returns-clause-opened : goal.returns-clause-opened
 returns-clause-opened g c =
     let leaves : List Leaf = g.I.Index.leaves c.args.index.now in
     let p = c.args.kept.from in
     let k = c.args.kept.k in
-    ends-every p k leaves c.args.steps.now c.loop-next.steps (leaves_ahead leaves c.loop-next.ahead.items) c.loop-next.invariant.0.opened
+    ends-every p k leaves c.args.steps.now c.loop-number.steps (leaves_ahead leaves c.loop-number.ahead.items) c.loop-number.invariant.0.opened
 
 pub returns-clause-near : goal.returns-clause-near
 returns-clause-near g c world names is_world stands d many =
     let leaves : List Leaf = g.I.Index.leaves c.args.index.now in
     let p = c.args.kept.from in
     let k = c.args.kept.k in
-    ends p k leaves c.args.steps.now (within p (reach_of p k world d)) c.loop-next.steps (leaves_ahead leaves c.loop-next.ahead.items) (c.loop-next.invariant.0.near world names is_world stands d many)
+    ends p k leaves c.args.steps.now (within p (reach_of p k world d)) c.loop-number.steps (leaves_ahead leaves c.loop-number.ahead.items) (c.loop-number.invariant.0.near world names is_world stands d many)
 
-pub loop-next-smaller-in-Continue-branch-2 : goal.loop-next-smaller-in-Continue-branch-2
-loop-next-smaller-in-Continue-branch-2 g c =
+pub loop-number-smaller-in-Continue-branch-3 : goal.loop-number-smaller-in-Continue-branch-3
+loop-number-smaller-in-Continue-branch-3 g c =
     let leaves : List Leaf = g.I.Index.leaves c.args.index.now in
     let p = c.args.kept.from in
     let k = c.args.kept.k in
-    let s = c.loop-next.invariant.0 in
+    let s = c.loop-number.invariant.0 in
     let tile = (g.met.I.Index.are_leaves c.args.index.now).tile in
     let a : Ahead = c.in-Some.next in
     let left : List Ahead = c.take_nearest.new.ahead.items in
-    let t = taken p k leaves c.args.steps.now c.loop-next.steps c.loop-next.ahead.items left a c.loop-next.kept s c.in-Some.ensures in
-    weight-less c.loop-next.ahead.items left a c.in-Some.ensures t.is.1
+    let t = taken p k leaves c.args.steps.now c.loop-number.steps c.loop-number.ahead.items left a c.loop-number.kept s (first-of c.loop-number.ahead.items c.take_nearest.new.ahead.items c.in-Some.number c.in-Some.next c.in-Some.ensures) in
+    weight-less c.loop-number.ahead.items left a (first-of c.loop-number.ahead.items c.take_nearest.new.ahead.items c.in-Some.number c.in-Some.next c.in-Some.ensures) t.is.1
 
-pub loop-next-smaller : goal.loop-next-smaller
-loop-next-smaller g c =
+pub loop-number-preserved-in-Continue-branch-3 : goal.loop-number-preserved-in-Continue-branch-3
+loop-number-preserved-in-Continue-branch-3 g c =
     let leaves : List Leaf = g.I.Index.leaves c.args.index.now in
     let p = c.args.kept.from in
     let k = c.args.kept.k in
-    let s = c.loop-next.invariant.0 in
+    let s = c.loop-number.invariant.0 in
     let tile = (g.met.I.Index.are_leaves c.args.index.now).tile in
     let a : Ahead = c.in-Some.next in
     let left : List Ahead = c.take_nearest.new.ahead.items in
-    let t = taken p k leaves c.args.steps.now c.loop-next.steps c.loop-next.ahead.items left a c.loop-next.kept s c.in-Some.ensures in
-    weight-less c.loop-next.ahead.items left a c.in-Some.ensures t.is.1
-
-pub loop-next-preserved-in-Continue-branch-2 : goal.loop-next-preserved-in-Continue-branch-2
-loop-next-preserved-in-Continue-branch-2 g c =
-    let leaves : List Leaf = g.I.Index.leaves c.args.index.now in
-    let p = c.args.kept.from in
-    let k = c.args.kept.k in
-    let s = c.loop-next.invariant.0 in
-    let tile = (g.met.I.Index.are_leaves c.args.index.now).tile in
-    let a : Ahead = c.in-Some.next in
-    let left : List Ahead = c.take_nearest.new.ahead.items in
-    let t = taken p k leaves c.args.steps.now c.loop-next.steps c.loop-next.ahead.items left a c.loop-next.kept s c.in-Some.ensures in
-    let number : ℕ = number_nearer p a.least c.loop-next.kept.list.items in
-    let test : nat_le k number ≡ c.has_nearer.result = (λ i. nat_le (sym s.k_is i) (number_nearer (sym s.from i) a.least c.loop-next.kept.list.items)) ∙ sym c.has_nearer.ensures in
+    let t = taken p k leaves c.args.steps.now c.loop-number.steps c.loop-number.ahead.items left a c.loop-number.kept s (first-of c.loop-number.ahead.items c.take_nearest.new.ahead.items c.in-Some.number c.in-Some.next c.in-Some.ensures) in
+    let number : ℕ = number_nearer p a.least c.loop-number.kept.list.items in
+    let test : nat_le k number ≡ c.has_nearer.result = (λ i. nat_le (sym s.k_is i) (number_nearer (sym s.from i) a.least c.loop-number.kept.list.items)) ∙ sym c.has_nearer.ensures in
     let few : number < k = leb-false k number (test ∙ c.if-has_nearer.false) in
     let b : Rows = arc_value c.in-Leaf.bucket.now in
-    let passes : Passes (objects_of b.rows) c.loop-next.kept c.add_rows.new.kept = subst (λ (r : Rows). Passes (objects_of r.rows) c.loop-next.kept c.add_rows.new.kept) c.deref.ensures c.in_ok-add_rows-in-Leaf.ensures.passes in (
-      leaf-state p k leaves c.args.steps.now tile c.loop-next.steps a left c.loop-next.kept t b c.in-Leaf.ensures few c.add_rows.new.kept c.add_rows.new.steps c.add_rows.ensures.opened c.loop-next.invariant.1 passes,
-      omega (arith, c.loop-next.invariant.1, c.add_rows.ensures.opened),
+    let passes : Passes (objects_of b.rows) c.loop-number.kept c.add_rows.new.kept = subst (λ (r : Rows). Passes (objects_of r.rows) c.loop-number.kept c.add_rows.new.kept) c.deref.ensures c.in_ok-add_rows-in-Leaf.ensures.passes in (
+      leaf-state p k leaves c.args.steps.now tile c.loop-number.steps a left c.loop-number.kept t b c.in-Leaf.ensures few c.add_rows.new.kept c.add_rows.new.steps c.add_rows.ensures.opened c.loop-number.invariant.1 passes,
+      omega (arith, c.loop-number.invariant.1, c.add_rows.ensures.opened),
+      left-at (g.I.Index.is_at c.args.index.now) c.loop-number.ahead.items left c.loop-number.places.items c.remove.new.self.items c.in-Some.number a c.loop-number.invariant.2 c.in-Some.ensures c.remove.ensures.items,
     )
 
 pub returns-in_err-add_rows-in-Leaf-clause-opened : goal.returns-in_err-add_rows-in-Leaf-clause-opened
@@ -141,16 +163,16 @@ returns-in_err-add_rows-in-Leaf-clause-opened g c =
     let leaves : List Leaf = g.I.Index.leaves c.args.index.now in
     let p = c.args.kept.from in
     let k = c.args.kept.k in
-    let s = c.loop-next.invariant.0 in
+    let s = c.loop-number.invariant.0 in
     let tile = (g.met.I.Index.are_leaves c.args.index.now).tile in
     let a : Ahead = c.in-Some.next in
     let left : List Ahead = c.take_nearest.new.ahead.items in
-    let t = taken p k leaves c.args.steps.now c.loop-next.steps c.loop-next.ahead.items left a c.loop-next.kept s c.in-Some.ensures in
-    let number : ℕ = number_nearer p a.least c.loop-next.kept.list.items in
-    let test : nat_le k number ≡ c.has_nearer.result = (λ i. nat_le (sym s.k_is i) (number_nearer (sym s.from i) a.least c.loop-next.kept.list.items)) ∙ sym c.has_nearer.ensures in
+    let t = taken p k leaves c.args.steps.now c.loop-number.steps c.loop-number.ahead.items left a c.loop-number.kept s (first-of c.loop-number.ahead.items c.take_nearest.new.ahead.items c.in-Some.number c.in-Some.next c.in-Some.ensures) in
+    let number : ℕ = number_nearer p a.least c.loop-number.kept.list.items in
+    let test : nat_le k number ≡ c.has_nearer.result = (λ i. nat_le (sym s.k_is i) (number_nearer (sym s.from i) a.least c.loop-number.kept.list.items)) ∙ sym c.has_nearer.ensures in
     let few : number < k = leb-false k number (test ∙ c.if-has_nearer.false) in
     let b : Rows = arc_value c.in-Leaf.bucket.now in
-    let most = ends-every p k leaves c.args.steps.now (c.loop-next.steps + 1) (leaves_ahead leaves left) (opened-leaf p k leaves c.args.steps.now tile c.loop-next.steps a left c.loop-next.kept t b c.in-Leaf.ensures few) in
+    let most = ends-every p k leaves c.args.steps.now (c.loop-number.steps + 1) (leaves_ahead leaves left) (opened-leaf p k leaves c.args.steps.now tile c.loop-number.steps a left c.loop-number.kept t b c.in-Leaf.ensures few) in
     omega (arith, most, c.add_rows.ensures.opened)
 
 pub returns-in_err-add_rows-in-Leaf-clause-near : goal.returns-in_err-add_rows-in-Leaf-clause-near
@@ -158,78 +180,80 @@ returns-in_err-add_rows-in-Leaf-clause-near g c world names is_world stands d ma
     let leaves : List Leaf = g.I.Index.leaves c.args.index.now in
     let p = c.args.kept.from in
     let k = c.args.kept.k in
-    let s = c.loop-next.invariant.0 in
+    let s = c.loop-number.invariant.0 in
     let tile = (g.met.I.Index.are_leaves c.args.index.now).tile in
     let a : Ahead = c.in-Some.next in
     let left : List Ahead = c.take_nearest.new.ahead.items in
-    let t = taken p k leaves c.args.steps.now c.loop-next.steps c.loop-next.ahead.items left a c.loop-next.kept s c.in-Some.ensures in
-    let number : ℕ = number_nearer p a.least c.loop-next.kept.list.items in
-    let test : nat_le k number ≡ c.has_nearer.result = (λ i. nat_le (sym s.k_is i) (number_nearer (sym s.from i) a.least c.loop-next.kept.list.items)) ∙ sym c.has_nearer.ensures in
+    let t = taken p k leaves c.args.steps.now c.loop-number.steps c.loop-number.ahead.items left a c.loop-number.kept s (first-of c.loop-number.ahead.items c.take_nearest.new.ahead.items c.in-Some.number c.in-Some.next c.in-Some.ensures) in
+    let number : ℕ = number_nearer p a.least c.loop-number.kept.list.items in
+    let test : nat_le k number ≡ c.has_nearer.result = (λ i. nat_le (sym s.k_is i) (number_nearer (sym s.from i) a.least c.loop-number.kept.list.items)) ∙ sym c.has_nearer.ensures in
     let few : number < k = leb-false k number (test ∙ c.if-has_nearer.false) in
     let b : Rows = arc_value c.in-Leaf.bucket.now in
-    let most = ends p k leaves c.args.steps.now (within p (reach_of p k world d)) (c.loop-next.steps + 1) (leaves_ahead leaves left)
-    (near-leaf p k leaves c.args.steps.now tile c.loop-next.steps a left c.loop-next.kept t b c.in-Leaf.ensures few world names is_world stands d many) in
+    let most = ends p k leaves c.args.steps.now (within p (reach_of p k world d)) (c.loop-number.steps + 1) (leaves_ahead leaves left)
+    (near-leaf p k leaves c.args.steps.now tile c.loop-number.steps a left c.loop-number.kept t b c.in-Leaf.ensures few world names is_world stands d many) in
     omega (arith, most, c.add_rows.ensures.opened)
 
 pub child-requires : goal.child-requires
 child-requires g c =
-    inner-room c.in-Some.next.name (g.I.Index.leaves c.args.index.now) (g.met.I.Index.are_leaves c.args.index.now).tile c.in-Inner.ensures.0
+    inner-room c.in-Some.next.name (g.I.Index.leaves c.args.index.now) (g.met.I.Index.are_leaves c.args.index.now).tile c.in-Halves.ensures.0
 
-pub loop-next-smaller-in-Continue-branch-4 : goal.loop-next-smaller-in-Continue-branch-4
-loop-next-smaller-in-Continue-branch-4 g c =
+pub loop-number-smaller : goal.loop-number-smaller
+loop-number-smaller g c =
     let leaves : List Leaf = g.I.Index.leaves c.args.index.now in
     let p = c.args.kept.from in
     let k = c.args.kept.k in
-    let s = c.loop-next.invariant.0 in
+    let s = c.loop-number.invariant.0 in
     let tile = (g.met.I.Index.are_leaves c.args.index.now).tile in
     let a : Ahead = c.in-Some.next in
     let left : List Ahead = c.take_nearest.new.ahead.items in
-    let t = taken p k leaves c.args.steps.now c.loop-next.steps c.loop-next.ahead.items left a c.loop-next.kept s c.in-Some.ensures in
-    let fore : Ahead = c.new-in-Inner.result in
-    let hind : Ahead = c.new-in-Inner-2.result in
-    let fore_name : fore.name ≡ a.name ++ false ∷ [] = c.new-in-Inner.ensures.name ∙ c.child.ensures in
-    let hind_name : hind.name ≡ a.name ++ true ∷ [] = c.new-in-Inner-2.ensures.name ∙ c.child-in-Inner.ensures in
-    let items : c.push-in-Inner-2.new.self.items ≡ (left ++ fore ∷ []) ++ hind ∷ [] = c.in_ok-push-in-Inner-2.ensures.items ∙ ap (λ (xs : List Ahead). xs ++ hind ∷ []) c.in_ok-push-in-Inner.ensures.items in
-    subst (λ (xs : List Ahead). sum_by weight_of xs < sum_by weight_of c.loop-next.ahead.items) (sym items)
-    (weight-two c.loop-next.ahead.items left a fore hind c.in-Some.ensures (inner-room a.name leaves tile c.in-Inner.ensures.0) fore_name hind_name)
+    let t = taken p k leaves c.args.steps.now c.loop-number.steps c.loop-number.ahead.items left a c.loop-number.kept s (first-of c.loop-number.ahead.items c.take_nearest.new.ahead.items c.in-Some.number c.in-Some.next c.in-Some.ensures) in
+    let fore : Ahead = c.new-in-Halves.result in
+    let hind : Ahead = c.new-in-Halves-2.result in
+    let fore_name : fore.name ≡ a.name ++ false ∷ [] = c.new-in-Halves.ensures.name ∙ c.child.ensures in
+    let hind_name : hind.name ≡ a.name ++ true ∷ [] = c.new-in-Halves-2.ensures.name ∙ c.child-in-Halves.ensures in
+    let items : c.push-in-Halves-3.new.self.items ≡ (left ++ fore ∷ []) ++ hind ∷ [] = c.in_ok-push-in-Halves-3.ensures.items ∙ ap (λ (xs : List Ahead). xs ++ hind ∷ []) c.in_ok-push-in-Halves.ensures.items in
+    subst (λ (xs : List Ahead). sum_by weight_of xs < sum_by weight_of c.loop-number.ahead.items) (sym items)
+    (weight-two c.loop-number.ahead.items left a fore hind (first-of c.loop-number.ahead.items c.take_nearest.new.ahead.items c.in-Some.number c.in-Some.next c.in-Some.ensures) (inner-room a.name leaves tile c.in-Halves.ensures.0) fore_name hind_name)
 
-pub loop-next-preserved-in-Continue-branch-4 : goal.loop-next-preserved-in-Continue-branch-4
-loop-next-preserved-in-Continue-branch-4 g c =
+pub loop-number-preserved : goal.loop-number-preserved
+loop-number-preserved g c =
     let leaves : List Leaf = g.I.Index.leaves c.args.index.now in
+    let is_at = g.I.Index.is_at c.args.index.now in
     let p = c.args.kept.from in
     let k = c.args.kept.k in
-    let s = c.loop-next.invariant.0 in
+    let s = c.loop-number.invariant.0 in
     let tile = (g.met.I.Index.are_leaves c.args.index.now).tile in
     let a : Ahead = c.in-Some.next in
     let left : List Ahead = c.take_nearest.new.ahead.items in
-    let t = taken p k leaves c.args.steps.now c.loop-next.steps c.loop-next.ahead.items left a c.loop-next.kept s c.in-Some.ensures in
-    let fore : Ahead = c.new-in-Inner.result in
-    let hind : Ahead = c.new-in-Inner-2.result in
-    let fore_name : fore.name ≡ a.name ++ false ∷ [] = c.new-in-Inner.ensures.name ∙ c.child.ensures in
-    let hind_name : hind.name ≡ a.name ++ true ∷ [] = c.new-in-Inner-2.ensures.name ∙ c.child-in-Inner.ensures in
-    let items : c.push-in-Inner-2.new.self.items ≡ (left ++ fore ∷ []) ++ hind ∷ [] = c.in_ok-push-in-Inner-2.ensures.items ∙ ap (λ (xs : List Ahead). xs ++ hind ∷ []) c.in_ok-push-in-Inner.ensures.items in
-    let fore_is : IsAhead p fore = subst (λ q. IsAhead q fore) s.from c.new-in-Inner.ensures.ahead in
-    let hind_is : IsAhead p hind = subst (λ q. IsAhead q hind) s.from c.new-in-Inner-2.ensures.ahead in (
-      subst (λ (xs : List Ahead). State p k leaves c.args.steps.now c.loop-next.steps xs c.loop-next.kept) (sym items)
-          (inner-state p k leaves c.args.steps.now tile c.loop-next.steps a left c.loop-next.kept t fore hind c.in-Inner.ensures.0 c.in-Inner.ensures.1 fore_name hind_name fore_is hind_is),
-      c.loop-next.invariant.1,
+    let t = taken p k leaves c.args.steps.now c.loop-number.steps c.loop-number.ahead.items left a c.loop-number.kept s (first-of c.loop-number.ahead.items c.take_nearest.new.ahead.items c.in-Some.number c.in-Some.next c.in-Some.ensures) in
+    let rest = left-at is_at c.loop-number.ahead.items left c.loop-number.places.items c.remove.new.self.items c.in-Some.number a c.loop-number.invariant.2 c.in-Some.ensures c.remove.ensures.items in
+    let fore : Ahead = c.new-in-Halves.result in
+    let hind : Ahead = c.new-in-Halves-2.result in
+    let fore_name : fore.name ≡ a.name ++ false ∷ [] = c.new-in-Halves.ensures.name ∙ c.child.ensures in
+    let hind_name : hind.name ≡ a.name ++ true ∷ [] = c.new-in-Halves-2.ensures.name ∙ c.child-in-Halves.ensures in
+    let items : c.push-in-Halves-3.new.self.items ≡ (left ++ fore ∷ []) ++ hind ∷ [] = c.in_ok-push-in-Halves-3.ensures.items ∙ ap (λ (xs : List Ahead). xs ++ hind ∷ []) c.in_ok-push-in-Halves.ensures.items in
+    let fore_is : IsAhead p fore = subst (λ q. IsAhead q fore) s.from c.new-in-Halves.ensures.ahead in
+    let hind_is : IsAhead p hind = subst (λ q. IsAhead q hind) s.from c.new-in-Halves-2.ensures.ahead in (
+      subst (λ (xs : List Ahead). State p k leaves c.args.steps.now c.loop-number.steps xs c.loop-number.kept) (sym items)
+          (inner-state p k leaves c.args.steps.now tile c.loop-number.steps a left c.loop-number.kept t fore hind c.in-Halves.ensures.0 c.in-Halves.ensures.1 fore_name hind_name fore_is hind_is),
+      c.loop-number.invariant.1,
+      subst (λ (xs : List Ahead). AreAt is_at xs c.push-in-Halves-4.new.self.items) (sym items)
+          (subst (λ ps. AreAt is_at ((left ++ fore ∷ []) ++ hind ∷ []) ps) (sym (c.in_ok-push-in-Halves-4.ensures.items ∙ ap (λ ps. ps ++ c.in-Halves.one ∷ []) c.in_ok-push-in-Halves-2.ensures.items))
+          (at-push is_at (left ++ fore ∷ []) (c.remove.new.self.items ++ c.in-Halves.zero ∷ []) hind c.in-Halves.one
+          (at-push is_at left c.remove.new.self.items fore c.in-Halves.zero rest (subst (is_at c.in-Halves.zero.now) (sym fore_name) c.in-Halves.ensures.2))
+          (subst (is_at c.in-Halves.one.now) (sym hind_name) c.in-Halves.ensures.3))),
     )
-
-pub loop-next-preserved : goal.loop-next-preserved
-loop-next-preserved g c =
-    let leaves : List Leaf = g.I.Index.leaves c.args.index.now in
-    let p = c.args.kept.from in
-    let k = c.args.kept.k in
-    let s = c.loop-next.invariant.0 in
-    let tile = (g.met.I.Index.are_leaves c.args.index.now).tile in
-    let a : Ahead = c.in-Some.next in
-    let left : List Ahead = c.take_nearest.new.ahead.items in
-    let t = taken p k leaves c.args.steps.now c.loop-next.steps c.loop-next.ahead.items left a c.loop-next.kept s c.in-Some.ensures in
-    (outside-state p k leaves c.args.steps.now tile c.loop-next.steps a left c.loop-next.kept t c.in-Outside.ensures.0 c.in-Outside.ensures.1, c.loop-next.invariant.1)
 
 pub returns-clause-keeps : goal.returns-clause-keeps
 returns-clause-keeps g c world names is_world stands =
     let leaves : List Leaf = g.I.Index.leaves c.args.index.now in
     let p = c.args.kept.from in
     let k = c.args.kept.k in
-    subst (λ (xs : List Ahead). Keeps p k world (objects_ahead leaves xs) c.loop-next.kept) c.in_default.ensures.0 (c.loop-next.invariant.0.worlds world names is_world stands).keeps
+    subst (λ (xs : List Ahead). Keeps p k world (objects_ahead leaves xs) c.loop-number.kept) c.in_default.ensures.0 (c.loop-number.invariant.0.worlds world names is_world stands).keeps
+
+pub remove-requires : goal.remove-requires
+remove-requires g c = omega (arith, c.in-Some.ensures.less, length-at (g.I.Index.is_at c.args.index.now) c.loop-number.ahead.items c.loop-number.places.items c.loop-number.invariant.2)
+
+pub below-requires : goal.below-requires
+below-requires g c =
+    at-number (g.I.Index.is_at c.args.index.now) c.loop-number.ahead.items c.loop-number.places.items c.in-Some.number c.in-Some.next c.remove.result c.loop-number.invariant.2 c.in-Some.ensures.less c.in-Some.ensures.is c.remove.ensures.value

@@ -21,7 +21,7 @@ returns-clause-objects g c world names is_world stands =
     let nearest : take k (take k (ranked p items)) ≡ take k (ranked p world) =
     subst (λ (q : Point). take k (take k (ranked q items)) ≡ take k (ranked q world)) c.new.ensures.list.from
     (subst (λ j. take j (take j (ranked c.new.result.from items)) ≡ take j (ranked c.new.result.from world)) c.new.ensures.list.k_is keeps.nearest) in
-    c.into_list.ensures world keeps.are_of ∙ (λ i. take (k_is i) (ranked (from_is i) items)) ∙ sym (take-take k k (ranked p items) (omega arith)) ∙ nearest
+    c.in_ok-into_list.ensures world keeps.are_of ∙ (λ i. take (k_is i) (ranked (from_is i) items)) ∙ sym (take-take k k (ranked p items) (omega arith)) ∙ nearest
 
 pub returns-in_err-kept-clause-near : goal.returns-in_err-kept-clause-near
 returns-in_err-kept-clause-near g c world names is_world stands =
@@ -35,12 +35,18 @@ returns-clause-near g c world names is_world stands =
     subst (λ q. OpensNear q c.args.k leaves c.args.steps.now c.keep_nearest.new.steps world) c.new.ensures.list.from
     (subst (λ j. OpensNear c.new.result.from j leaves c.args.steps.now c.keep_nearest.new.steps world) c.new.ensures.list.k_is (c.keep_nearest.ensures.near world names is_world stands))
 
+pub returns-in_err-into_list-clause-near : goal.returns-in_err-into_list-clause-near
+returns-in_err-into_list-clause-near g c world names is_world stands =
+    let leaves : List Leaf = g.I.Index.leaves c.args.index.now in
+    subst (λ q. OpensNear q c.args.k leaves c.args.steps.now c.keep_nearest.new.steps world) c.new.ensures.list.from
+    (subst (λ j. OpensNear c.new.result.from j leaves c.args.steps.now c.keep_nearest.new.steps world) c.new.ensures.list.k_is (c.keep_nearest.ensures.near world names is_world stands))
+
 pub returns-clause-some : goal.returns-clause-some
 returns-clause-some g c some =
     let kept = c.in_ok-kept.kept in
-    let none : c.keep_nearest.new.steps ≡ c.args.steps.now → length c.into_list.result ≡ 0 = λ same.
+    let none : c.keep_nearest.new.steps ≡ c.args.steps.now → length c.in_ok-into_list.field-0 ≡ 0 = λ same.
     let empty : kept.list.items ≡ [] = c.in_ok-kept.ensures.some.1 same in
     let are : AreOf [] kept.list.items = subst (AreOf []) (sym empty) (λ i d lt. absurd (omega (arith, lt))) in
-    let list : c.into_list.result ≡ take kept.k (ranked kept.from []) = c.into_list.ensures [] are ∙ ap (λ ms. take kept.k (ranked kept.from ms)) empty in
+    let list : c.in_ok-into_list.field-0 ≡ take kept.k (ranked kept.from []) = c.in_ok-into_list.ensures [] are ∙ ap (λ ms. take kept.k (ranked kept.from ms)) empty in
     ap length (list ∙ take-none kept.k) in
-    opens-some c.args.steps.now c.keep_nearest.new.steps (length c.into_list.result) c.in_ok-kept.ensures.some.0 none some
+    opens-some c.args.steps.now c.keep_nearest.new.steps (length c.in_ok-into_list.field-0) c.in_ok-kept.ensures.some.0 none some

@@ -4,8 +4,8 @@ use Rattle.plain_list.specs.Nearest.{rank_of}
 use Rattle.plain_list.proofs.Cuts.{IsPass, pass_skips, pass_adds, pass_cuts}
 use Rattle.knn_query.proofs.kept.Kept.add.Goals as goal
 
-pub returns-in_ok-push : goal.returns-in_ok-push
-returns-in_ok-push c = record {
+pub returns-in_ok-self : goal.returns-in_ok-self
+returns-in_ok-self c = record {
   from = refl;
   k_is = refl;
   keeps = λ world rest are_of pass.
@@ -14,7 +14,7 @@ returns-in_ok-push c = record {
       let last = option_map (rank_of p) c.args.self.now.last in
       let more = pass_adds p k world c.args.m rest c.args.self.now.list.items last pass (are_of 0 c.args.m (lit< tt)) (sym c.may_belong.ensures ∙ c.if-may_belong.true) in
       let pushed : IsPass p k world rest c.push.new.self.items last = subst (λ l. IsPass p k world rest l last) (sym c.in_ok-push.ensures.items) more in
-      pass_cuts p k world rest c.push.new.self.items c.cut_full-self.new.list.items last (option_map (rank_of p) c.cut_full-self.result) pushed (c.cut_full-self.ensures world pushed.are_of pushed.is_last);
+      pass_cuts p k world rest c.push.new.self.items c.cut_full.new.list.items last (option_map (rank_of p) c.in_ok-self.field-0) pushed (c.in_ok-self.ensures world pushed.are_of pushed.is_last);
 }
 
 pub returns-else-may_belong : goal.returns-else-may_belong

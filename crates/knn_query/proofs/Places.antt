@@ -1,0 +1,60 @@
+-- What is ahead, and its places.
+use Rattle.std.proofs.Common.{◌≡◌, ◌<◌, ℕ, zero, suc, Bool, List, [], ◌∷◌, ◌++◌, length, get_or, refl, sym, ap, subst, ◌∙◌, arith}
+use Rattle.std.specs.Prelude.{remove}
+use denote.Ref.{Bor}
+use Rattle.knn_query.specs.Ahead.{IsFirst, IsTaken, AreAt}
+use Rattle.knn_query.specs.declared.ahead.Ahead.{Ahead}
+
+-- an element between those before it and those behind it
+record Split (xs : List Ahead) (i : ℕ) (a : Ahead) : Type 0 where
+  front : List Ahead
+  back : List Ahead
+  is : xs ≡ front ++ a ∷ back
+  left : remove xs i ≡ front ++ back
+
+split : (xs : List Ahead) (i : ℕ) (a : Ahead) → i < length xs → a ≡ get_or xs i a → Split xs i a
+split [] i a less is = absurd (omega (arith, less))
+split (x ∷ xs) zero a less is = record { front = []; back = xs; is = ap (λ (y : Ahead). y ∷ xs) (sym is); left = refl }
+split (x ∷ xs) (suc i) a less is =
+    let s = split xs i a (omega (arith, less)) is in
+    record { front = x ∷ s.front; back = s.back; is = ap (λ (l : List Ahead). x ∷ l) s.is; left = ap (λ (l : List Ahead). x ∷ l) s.left }
+
+-- the nearest, without its number
+pub first-of : (old new : List Ahead) (i : ℕ) (a : Ahead) → IsTaken old new i a → IsFirst old new a
+first-of old new i a t =
+    let s = split old i a t.less t.is in
+    (s.front, s.back, s.is, t.left ∙ s.left, t.low)
+
+module _ {P : Type 0} (is_at : P → List Bool → Type 0) where
+  pub length-at : (ahead : List Ahead) (places : List (Bor P)) → AreAt is_at ahead places → length ahead ≡ length places
+  length-at [] [] are = refl
+  length-at [] (p ∷ places) are = absurd are
+  length-at (a ∷ ahead) [] are = absurd are
+  length-at (a ∷ ahead) (p ∷ places) are = ap suc (length-at ahead places are.1)
+
+  -- one of them
+  pub at-number : (ahead : List Ahead) (places : List (Bor P)) (i : ℕ) (a : Ahead) (p : Bor P) → AreAt is_at ahead places → i < length ahead → a ≡ get_or ahead i a → p ≡ get_or places i p → is_at p.now a.name
+  at-number [] places i a p are less is_a is_p = absurd (omega (arith, less))
+  at-number (b ∷ ahead) [] i a p are less is_a is_p = absurd are
+  at-number (b ∷ ahead) (q ∷ places) zero a p are less is_a is_p =
+      subst (λ (r : Bor P). is_at r.now a.name) (sym is_p) (subst (λ (c : Ahead). is_at q.now c.name) (sym is_a) are.0)
+  at-number (b ∷ ahead) (q ∷ places) (suc i) a p are less is_a is_p = at-number ahead places i a p are.1 (omega (arith, less)) is_a is_p
+
+  -- without one of them
+  pub at-removed : (ahead : List Ahead) (places : List (Bor P)) (i : ℕ) → AreAt is_at ahead places → i < length ahead → AreAt is_at (remove ahead i) (remove places i)
+  at-removed [] places i are less = absurd (omega (arith, less))
+  at-removed (a ∷ ahead) [] i are less = absurd are
+  at-removed (a ∷ ahead) (p ∷ places) zero are less = are.1
+  at-removed (a ∷ ahead) (p ∷ places) (suc i) are less = (are.0, at-removed ahead places i are.1 (omega (arith, less)))
+
+  -- with one more
+  pub at-push : (ahead : List Ahead) (places : List (Bor P)) (a : Ahead) (p : Bor P) → AreAt is_at ahead places → is_at p.now a.name → AreAt is_at (ahead ++ a ∷ []) (places ++ p ∷ [])
+  at-push [] [] a p are at = (at, tt)
+  at-push [] (q ∷ places) a p are at = absurd are
+  at-push (b ∷ ahead) [] a p are at = absurd are
+  at-push (b ∷ ahead) (q ∷ places) a p are at = (are.0, at-push ahead places a p are.1 at)
+
+  -- where the nearest was taken out
+  pub left-at : (old new : List Ahead) (places rest : List (Bor P)) (i : ℕ) (a : Ahead) → AreAt is_at old places → IsTaken old new i a → rest ≡ remove places i → AreAt is_at new rest
+  left-at old new places rest i a are t is =
+      subst (λ (xs : List Ahead). AreAt is_at xs rest) (sym t.left) (subst (λ (ps : List (Bor P)). AreAt is_at (remove old i) ps) (sym is) (at-removed old places i are t.less))
