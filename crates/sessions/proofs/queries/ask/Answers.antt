@@ -9,7 +9,7 @@ answers (Ok answer) a b same is = is ∙ same
 answers (Err e) a b same is = tt
 
 pub returns-in-Within : goal.returns-in-Within
-returns-in-Within g c = λ world names is stands. answers c.within.result _ (answer_of world c.args.op.now) (ap (answer_of world) (sym c.in-Within.is)) (c.within.ensures world names is stands)
+returns-in-Within g c = λ world names is stands. answers c.found_in.result _ (answer_of world c.args.op.now) (ap (answer_of world) (sym c.in-Within.is)) (c.found_in.ensures.answer world names is stands)
 
 pub returns-in-Near : goal.returns-in-Near
 returns-in-Near g c = λ world names is stands. answers c.near.result _ (answer_of world c.args.op.now) (ap (answer_of world) (sym c.in-Near.is)) (c.near.ensures world names is stands)
