@@ -1,0 +1,155 @@
+//! A day of the company.
+ghost use Rattle.std.specs.Prelude.{◌≡◌, ◌+◌, [], false};
+ghost use Rattle.std.specs.Thread.{IsSync};
+ghost use Rattle.plain_list.specs.World.{IsWorld};
+ghost use Rattle.dispatch.specs.Callers.{IsFree, KeepsPass};
+
+use crate::callers::{Caller, TaxiPass, Taxis, call, work};
+use crate::town::{DISPATCHER, STATION, WAITING};
+use commit_book::Book;
+use disk_mem::MemDisk;
+use io_edge::OpenGate;
+use kd_trie::KdTrie;
+use plain_list::{Answer, Entries, Entry, Op, PlacedList};
+use sessions::Store;
+use std::alloc::Global;
+use std::marker::Brand;
+use std::sync::Wait;
+use std::sync::ledger::{Blank, Ledger};
+use std::thread::{Threads, join_mut};
+use step_count::Steps;
+
+/// What a day came to.
+#[derive(Drop)]
+pub struct Day {
+    /// Of each session, how many answers were as they should be.
+    pub good: [u32; 4],
+    pub events: Entries,
+    /// The taxis nearest to the station in the end.
+    pub nearest: PlacedList,
+}
+
+// Two callers at once, one of them in a thread of its own.
+fn two_at_once<R: Threads + Wait + Sync>(
+    rt: &R,
+    alloc: Global,
+    taxis: &Taxis,
+    one: &mut Caller,
+    two: &mut Caller,
+)
+    requires { IsFree taxis.now one.old.pass × IsFree taxis.now two.old.pass }
+    ensures { KeepsPass one.old.pass one.new.pass × KeepsPass two.old.pass two.new.pass }
+{
+    join_mut(
+        rt,
+        &mut ||
+            requires { IsFree taxis.now one.now.pass }
+            ensures { KeepsPass one.entry.now.pass one.exit.now.pass }
+        { work(rt, alloc, taxis, one) },
+        &mut ||
+            requires { IsFree taxis.now two.now.pass }
+            ensures { KeepsPass two.entry.now.pass two.exit.now.pass }
+        { work(rt, alloc, taxis, two) },
+    );
+}
+
+/// A day over an empty store: three drivers and the dispatcher at once, and then the dispatcher's last question.
+pub fn play_day<R: Threads + Wait + Sync, L: Ledger>(
+    rt: &R,
+    alloc: Global,
+    book: Book<KdTrie, MemDisk>,
+    blank: Blank,
+) -> Option<Day>
+    requires entries { book.entries ≡ [] }
+    requires world { IsWorld book.opening.world }
+    requires name { blank.name ≡ L.name }
+    requires parts { blank.parts ≡ L.parts }
+    requires one_part { blank.parts ≡ 1 }
+{
+    let Ok((taxis, mut pass)) = Store::<KdTrie, MemDisk, Brand>::new(alloc, book) else {
+        return None;
+    };
+    let mut steps = Steps::<L>::new(blank);
+    let at = STATION;
+    let waits = Op::Put { id: WAITING, at };
+    let _ = call(
+        rt, alloc, &taxis, &mut pass, DISPATCHER, 0, &waits, &mut steps,
+    );
+    let mut one = Caller::new(1, taxis.split_pass(&mut pass));
+    let mut two = Caller::new(2, taxis.split_pass(&mut pass));
+    let mut three = Caller::new(3, taxis.split_pass(&mut pass));
+    let mut four = Caller::new(DISPATCHER, taxis.split_pass(&mut pass));
+    join_mut(
+        rt,
+        &mut ||
+            requires { IsSync R.row × IsFree taxis one.pass × IsFree taxis two.pass }
+            ensures { KeepsPass one.entry.pass one.exit.pass × KeepsPass two.entry.pass two.exit.pass }
+        { two_at_once(rt, alloc, &taxis, &mut one, &mut two) },
+        &mut ||
+            requires { IsSync R.row × IsFree taxis three.pass × IsFree taxis four.pass }
+            ensures { KeepsPass three.entry.pass three.exit.pass × KeepsPass four.entry.pass four.exit.pass }
+        { two_at_once(rt, alloc, &taxis, &mut three, &mut four) },
+    );
+    // From here on the dispatcher has seen what the first driver did.
+    taxis.meet(&mut one.pass, &mut four.pass);
+    let near = Op::Near { at, k: 3 };
+    let nearest = call(
+        rt,
+        alloc,
+        &taxis,
+        &mut four.pass,
+        DISPATCHER,
+        101,
+        &near,
+        &mut steps,
+    );
+    let good = [
+        go_home(&taxis, &mut pass, one),
+        go_home(&taxis, &mut pass, two),
+        go_home(&taxis, &mut pass, three),
+        go_home(&taxis, &mut pass, four),
+    ];
+    let _ = taxis.settle(rt, alloc, &mut pass, &OpenGate);
+    let events = taxis.close(pass).into_parts().entries;
+    match nearest {
+        Ok(Answer::Found(nearest)) => Some(Day {
+            good,
+            events,
+            nearest,
+        }),
+        _ => None,
+    }
+}
+
+// Joins a caller's pass to another, and gives how many answers were as they should be.
+fn go_home(taxis: &Taxis, pass: &mut TaxiPass, caller: Caller) -> u32
+    requires lock { IsFree taxis.now pass.old × IsFree taxis.now caller.pass }
+    ensures same { IsFree taxis.now pass.new }
+    ensures parts { pass.new.parts ≡ pass.old.parts + caller.pass.parts }
+{
+    let Caller {
+        session: _,
+        pass: other,
+        good,
+    } = caller;
+    taxis.join_pass(pass, other);
+    good
+}
+
+impl Day {
+    /// How many calls there were.
+    pub fn calls(&self) -> usize {
+        let entries = self.events.as_slice().iter();
+        entries
+            .filter(|entry| matches!(entry, Entry::Call { .. }))
+            .count()
+    }
+
+    /// How many leaves were split.
+    pub fn splits(&self) -> usize {
+        let entries = self.events.as_slice().iter();
+        entries
+            .filter(|entry| matches!(entry, Entry::Install { .. }))
+            .count()
+    }
+}

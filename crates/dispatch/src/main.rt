@@ -1,0 +1,41 @@
+//! A taxi company over the store, and no CSV: three drivers put and move their taxis while a dispatcher asks who is nearest to the station,
+//! each in a thread of their own.
+//!
+//! What it prints is the same however the threads run: the drivers move taxis of their own, each in a quarter of the town of their own, so
+//! what each is told, how many calls and splits there are, and who is nearest in the end don't depend on who comes first.
+#![tactic(auto)]
+
+mod callers;
+mod day;
+mod town;
+
+use commit_book::Book;
+use day::play_day;
+use disk_mem::MemDisk;
+use kd_trie::KdTrie;
+use std::io;
+use std::marker::Brand;
+use std::sync::ledger::Blank;
+
+// How many taxis a leaf should have.
+const BUCKET: u32 = 4;
+
+fn main(rt: HostRuntime) -> io::Result<()> {
+    let Ok(book) = Book::<KdTrie, MemDisk>::fresh(rt.alloc(), BUCKET) else {
+        return println!(rt; "no memory");
+    };
+    let Some(day) = play_day::<HostRuntime, Brand>(&rt, rt.alloc(), book, Blank::new(1)) else {
+        return println!(rt; "no memory");
+    };
+    for (i, good) in day.good.iter().enumerate() {
+        println!(rt; "session {}: {good} answers as they should be", i + 1)?;
+    }
+    println!(rt; "calls {}, splits {}", day.calls(), day.splits())?;
+    for taxi in day.nearest.as_slice() {
+        println!(rt;
+            "near the station: taxi {} at {}:{}",
+            taxi.id, taxi.at.x, taxi.at.y
+        )?;
+    }
+    Ok(())
+}
