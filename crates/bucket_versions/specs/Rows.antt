@@ -2,6 +2,7 @@
 use Rattle.std.specs.Prelude.{ℕ, suc, nat_le, nat_lt, Bool, not, ◌&&◌, ◌||◌, ◌==◌, List, [], ◌∷◌, if◌then◌else◌, ⊤, IsTrue}
 use Rattle.std.specs.List.{filter, list_any}
 use Rattle.bucket_versions.specs.declared.row.Row.{Row}
+use Rattle.bucket_versions.specs.declared.row.RowChange.{RowChange}
 
 -- what a clause sees of a bucket: the rows that it was made of, and its rows now
 pub record Rows : Type 0 where
@@ -62,6 +63,17 @@ put_row r b = with_rows (with_row r b.rows) b
 
 abbrev pub gone_row : Row → Rows → Rows
 gone_row r b = with_rows (without_row r b.rows) b
+
+-- a bucket with other rows, on its base where that is kept, and else on themselves
+abbrev pub rows_over : Bool → List Row → Rows → Rows
+rows_over keeps rows b = record { base = if keeps then b.base else rows; rows = rows }
+
+-- a bucket to which a row came, and one from which a row went
+abbrev pub after_put : RowChange → Rows → Rows
+after_put c b = rows_over c.keeps_base (with_row c.row b.rows) b
+
+abbrev pub after_gone : RowChange → Rows → Rows
+after_gone c b = rows_over c.keeps_base (without_row c.row b.rows) b
 
 -- how many of the rows, from the first one on, are below this one
 abbrev pub row_place : Row → List Row → ℕ

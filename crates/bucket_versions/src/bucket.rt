@@ -1,14 +1,16 @@
-//! A bucket: a base that versions share, and the rows that were turned since.
-ghost use Rattle.std.specs.Prelude.{◌≡◌, ◌+◌, ◌<◌, ◌^◌, ◌↔◌, length, true, false, IfOk, IsTrue, IsErrOf};
+//! A bucket: rows in order, and the base that they came from.
+ghost use Rattle.std.specs.Prelude.{◌≡◌, ◌+◌, ◌↔◌, length, true, false, IfOk, IsTrue, IsErrOf};
 ghost use Rattle.std.specs.Arc.{arc_value};
-ghost use Rattle.bucket_versions.specs.Rows.{IsRows, AreRows, has_row, as_base, with_rows, put_row, gone_row, rows_between};
+ghost use Rattle.bucket_versions.specs.Rows.{IsRows, AreRows, has_row, as_base, with_rows, put_row, gone_row, rows_over, rows_between};
 ghost use Rattle.bucket_versions.specs.Delta.{AreParts, delta_len, difference, turn};
 
 mod in_place;
 
+use crate::content::{Base, Content};
+use crate::deltas::merged;
+use crate::places;
 use crate::row::Row;
 use crate::walk::BucketRows;
-use crate::{deltas, places};
 pub use in_place::{pass, put, shift, take};
 use std::alloc::{AllocError, Global};
 use std::marker::Model;
@@ -29,13 +31,12 @@ pub enum BucketFault {
 }
 
 /// Rows in order, none twice, and those that were there when it was last folded.
+///
+/// Mostly its rows are their own base, in one list. A base that is kept while rows change stands apart, and versions share it.
 #[derive(Drop)]
 pub struct Bucket {
     alloc: Global,
-    base: Arc<Vec<Row>>,
-    // In order: the rows where it is whole, and else the delta, the rows that stand in exactly one of the base and the rows.
-    list: Vec<Row>,
-    whole: bool,
+    content: Content,
 }
 
 impl Model for Bucket {
@@ -56,20 +57,20 @@ impl Bucket {
         requires { IsRows rows.now }
         ensures { IfOk result (λ b. b ≡ as_base rows.now) }
     {
-        Bucket::on_base(alloc, shared(alloc, Vec::from_slice(alloc, rows)?)?)
+        Ok(Bucket::of(alloc, Vec::from_slice(alloc, rows)?))
     }
 
-    // A bucket of a base, with no delta.
-    fn on_base(alloc: Global, base: Arc<Vec<Row>>) -> Result<Bucket, Memory>
-        requires { IsRows (arc_value base).items }
-        ensures { IfOk result (λ b. b ≡ as_base (arc_value base).items) }
+    fn of(alloc: Global, list: Vec<Row>) -> Bucket
+        requires { IsRows list.items }
+        ensures { result ≡ as_base list.items }
     {
-        Ok(Bucket {
+        Bucket {
             alloc,
-            base,
-            list: Vec::new(alloc),
-            whole: false,
-        })
+            content: Content {
+                base: Base::Own,
+                list,
+            },
+        }
     }
 
     /// The bucket with one row more, on the same base.
@@ -97,38 +98,30 @@ impl Bucket {
     }
 
     // The bucket without a row where it is there, and with it where it isn't, on the same base.
-    fn with_turn(&self, row: Row) -> Result<Bucket, Memory>
-        ensures { IfOk result (λ b. b ≡ with_rows (turn row self.now.rows) self.now) }
-    {
-        let list = deltas::turned(self.alloc, &self.list, row)?;
-        let base = another(&self.base)?;
-        Ok(Bucket {
-            alloc: self.alloc,
-            base,
-            list,
-            whole: self.whole,
-        })
-    }
-
-    // The same, whose rows are listed whole where its delta is long.
     fn turned(&self, row: Row) -> Result<Bucket, Memory>
         ensures { IfOk result (λ b. b ≡ with_rows (turn row self.now.rows) self.now) }
     {
-        let mut bucket = self.with_turn(row)?;
-        bucket.relist()?;
-        Ok(bucket)
+        let mut content = self.content.share(self.alloc)?;
+        content.turn_apart(self.alloc, row)?;
+        Ok(Bucket {
+            alloc: self.alloc,
+            content,
+        })
     }
 
     /// The bucket with its rows as base.
     pub fn folded(&self) -> Result<Bucket, Memory>
         ensures { IfOk result (λ b. b ≡ as_base self.now.rows) }
     {
-        if !self.whole && self.list.is_empty() {
-            return Bucket::on_base(self.alloc, another(&self.base)?);
-        }
         let (base, delta) = self.parts();
-        let rows = deltas::merged(self.alloc, base, delta)?;
-        Bucket::on_base(self.alloc, shared(self.alloc, rows)?)
+        Ok(Bucket::of(self.alloc, merged(self.alloc, base, delta)?))
+    }
+
+    /// The bucket on its base where that is kept, and else with its rows as base.
+    pub fn settled(self, keeps_base: bool) -> Result<Bucket, Memory>
+        ensures { IfOk result (λ b. b ≡ rows_over keeps_base self.rows self) }
+    {
+        if keeps_base { Ok(self) } else { self.folded() }
     }
 
     /// This bucket, which was cut out of the base of another one, with the rows that that one has now.
@@ -139,8 +132,7 @@ impl Bucket {
         let (base, delta) = from.parts();
         let some = places::between(base, lo, hi);
         let late = places::between(delta, lo, hi);
-        let rows = deltas::merged(self.alloc, some, late)?;
-        Bucket::on_base(self.alloc, shared(self.alloc, rows)?)
+        Ok(Bucket::of(self.alloc, merged(self.alloc, some, late)?))
     }
 
     /// This bucket, under a pointer that indexes share.
@@ -158,31 +150,22 @@ impl Bucket {
         ensures base { result.now ≡ self.now.base }
         ensures in_order { AreRows self.now }
     {
-        self.base.as_slice()
+        self.content.base_rows()
     }
 
-    /// How many rows there are. It costs one pass over a delta of 32 rows at most, and else nothing.
+    /// How many rows there are. Where a base is kept it costs one pass over it and a delta of 32 rows at most, and else nothing.
     pub fn count(&self) -> u64
         ensures count { result ≡ length self.now.rows }
         ensures in_order { AreRows self.now }
     {
-        if self.whole {
-            return self.list.len() as u64;
-        }
-        if self.list.is_empty() {
-            return self.base.len() as u64;
-        }
-        how_many(&self.base, &self.list)
+        self.content.count()
     }
 
     /// How many rows stand in exactly one of the base and the rows: so a put that is taken back counts for nothing.
     pub fn delta_len(&self) -> u64
         ensures { result ≡ delta_len self.now }
     {
-        if !self.whole {
-            return self.list.len() as u64;
-        }
-        how_many(&self.base, &self.list)
+        self.content.delta_len()
     }
 
     // Two lists whose difference the rows are.
@@ -191,11 +174,7 @@ impl Bucket {
         ensures in_order { AreParts result.0.now result.1.now }
         ensures rising { AreRows self.now }
     {
-        if self.whole {
-            (&self.list, &[])
-        } else {
-            (&self.base, &self.list)
-        }
+        self.content.parts()
     }
 
     fn walk(&self) -> BucketRows<'_>
@@ -224,26 +203,4 @@ impl Bucket {
         let in_base = places::place_of(base, row).is_ok();
         in_base != places::place_of(delta, row).is_ok()
     }
-}
-
-fn how_many(base: &[Row], delta: &[Row]) -> u64
-    requires { length (difference base.now delta.now) < 2 ^ 64 }
-    ensures { result ≡ length (difference base.now delta.now) }
-{
-    BucketRows::over(base, delta).count() as u64
-}
-
-fn shared(alloc: Global, rows: Vec<Row>) -> Result<Arc<Vec<Row>>, Memory>
-    ensures { IfOk result (λ shared. arc_value shared ≡ rows) }
-{
-    match Arc::new(alloc, rows) {
-        Ok(rows) => Ok(rows),
-        Err(refused) => Err(AllocError::from(refused).into()),
-    }
-}
-
-fn another(rows: &Arc<Vec<Row>>) -> Result<Arc<Vec<Row>>, Memory>
-    ensures { IfOk result (λ copy. arc_value copy ≡ arc_value rows.now) }
-{
-    Ok(Arc::try_clone(rows)?)
 }

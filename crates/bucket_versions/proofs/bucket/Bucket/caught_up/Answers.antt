@@ -1,16 +1,15 @@
 use Rattle.std.proofs.Common.{◌≡◌, ◌∙◌, List, ap, sym, subst, rules}
-use Rattle.std.specs.Result.{IfOk}
 use Rattle.bucket_versions.specs.declared.row.Row.{Row}
 use Rattle.bucket_versions.specs.Rows.{IsRows, rows_between, as_base}
 use Rattle.bucket_versions.specs.Delta.{difference}
 use Rattle.bucket_versions.proofs.RowSets.{difference-between, IsRows-difference}
 use Rattle.bucket_versions.proofs.bucket.Bucket.caught_up.Goals as goal
 
-pub on_base-requires : goal.on_base-requires
-on_base-requires c =
+pub of-requires : goal.of-requires
+of-requires c =
     let some = c.between-some.result.now in
     let late = c.between-late.result.now in
-    let rows : c.in_ok-shared.field-0.value.items ≡ difference some late = search rules in
+    let rows : c.in_ok-merged.field-0.items ≡ difference some late = search rules in
     subst IsRows (sym rows) (IsRows-difference some late c.between-some.ensures.in_order c.between-late.ensures.in_order)
 
 pub returns : goal.returns
@@ -19,10 +18,9 @@ returns c =
     let hi = c.args.hi in
     let base = c.parts.result.0.now in
     let delta = c.parts.result.1.now in
-    let merged : c.in_ok-shared.field-0.value.items ≡ difference c.between-some.result.now c.between-late.result.now = search rules in
+    let merged : c.in_ok-merged.field-0.items ≡ difference c.between-some.result.now c.between-late.result.now = search rules in
     let some : c.between-some.result.now ≡ rows_between lo hi base = search rules in
     let late : c.between-late.result.now ≡ rows_between lo hi delta = search rules in
-    let rows : c.in_ok-shared.field-0.value.items ≡ rows_between lo hi c.args.from.now.rows =
+    let rows : c.in_ok-merged.field-0.items ≡ rows_between lo hi c.args.from.now.rows =
     merged ∙ (λ i. difference (some i) (late i)) ∙ difference-between lo hi base delta c.parts.ensures.in_order.base c.parts.ensures.in_order.delta ∙ ap (rows_between lo hi) c.parts.ensures.rows in
-    let P : List Row → Type 0 = λ l. IfOk c.on_base.result (λ b. b ≡ as_base l) in
-    subst P rows c.on_base.ensures
+    c.of.ensures ∙ ap as_base rows

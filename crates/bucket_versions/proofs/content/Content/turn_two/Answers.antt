@@ -1,0 +1,16 @@
+use Rattle.std.proofs.Common.{◌∙◌, ap}
+use Rattle.bucket_versions.specs.Rows.{rows_over}
+use Rattle.bucket_versions.specs.Delta.{turn}
+use Rattle.bucket_versions.specs.Content.{kept}
+use Rattle.bucket_versions.proofs.Contents.{ready_twice}
+use Rattle.bucket_versions.proofs.content.Content.turn_two.Goals as goal
+
+pub returns-clause-ok : goal.returns-clause-ok
+returns-clause-ok g c =
+    let keeps = c.args.to.keeps_base in
+    let from = c.args.from in
+    let to = c.args.to.row in
+    let ready = c.make_ready.new.self in
+    ap kept c.settle.ensures
+    ∙ ready_twice keeps ready.base ready.list.items c.turn_two.new.rows.items from to c.make_ready.ensures.in_order c.in-Ok.ensures.ok c.in_default-turn_two.ensures.ok
+    ∙ ap (λ v. rows_over keeps (turn to (turn from v.rows)) v) c.make_ready.ensures.same
