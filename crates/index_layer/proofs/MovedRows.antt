@@ -7,7 +7,8 @@ use Rattle.zorder.specs.SameName.{same_name, same_name-decides}
 use Rattle.zorder.specs.Name.{first_key}
 use Rattle.zorder.specs.Tile.{tiles_from}
 use Rattle.bucket_versions.specs.declared.row.Row.{Row}
-use Rattle.bucket_versions.specs.Rows.{Rows, has_row, gone_row, without_row, same_row}
+use Rattle.bucket_versions.specs.declared.row.RowChange.{RowChange}
+use Rattle.bucket_versions.specs.Rows.{Rows, has_row, after_gone, without_row, same_row}
 use Rattle.index_layer.specs.Leaves.{Leaf, AreLeaves, names_of, leaf_under, replaced, with_bucket}
 use Rattle.index_layer.specs.RowChanges.{Holds, ChangesAt}
 use Rattle.index_layer.proofs.LeafKeys.{first_key-fits, first_key-under}
@@ -22,7 +23,7 @@ one-named leaves l m tile first second same =
     one-leaf leaves l m (first_key l.name) tile (first_key-fits l.name short) first second under (ap (λ (n : List Bool). is_under n (first_key l.name)) (sym same) ∙ under)
 
 -- a leaf with another bucket has its name
-with_bucket-name : (name : List Bool) (b : Rows) (l : Leaf) → (with_bucket name b l).name ≡ l.name
+pub with_bucket-name : (name : List Bool) (b : Rows) (l : Leaf) → (with_bucket name b l).name ≡ l.name
 with_bucket-name name b l = by_test (same_name l.name name)
   where
     by_test : (t : Bool) → (cond t (record { name = l.name; bucket = b }) l).name ≡ l.name
@@ -41,10 +42,10 @@ leaf_under-replaced key name b (l ∷ leaves) =
     by_test true rest = refl
     by_test false rest = rest
 
-pub holds-after : (from to : Row) (old new : List Leaf) → AreLeaves old → ChangesAt from.key (gone_row from) old new → Holds to old false → Holds to new false
+pub holds-after : (from : RowChange) (to : Row) (old new : List Leaf) → AreLeaves old → ChangesAt from.row.key (after_gone from) old new → Holds to old false → Holds to new false
 holds-after from to old new are change none =
-    let is : leaf_under to.key new ≡ option_map (with_bucket change.leaf.name (gone_row from change.leaf.bucket)) (leaf_under to.key old) =
-    ap (leaf_under to.key) change.leaves ∙ leaf_under-replaced to.key change.leaf.name (gone_row from change.leaf.bucket) old in
+    let is : leaf_under to.key new ≡ option_map (with_bucket change.leaf.name (after_gone from change.leaf.bucket)) (leaf_under to.key old) =
+    ap (leaf_under to.key) change.leaves ∙ leaf_under-replaced to.key change.leaf.name (after_gone from change.leaf.bucket) old in
     let P : Option Leaf → Type 0 = λ o. IfSome o (λ (l : Leaf). has_row to l.bucket.rows ≡ false) in
     subst P (sym is) (by_found (leaf_under to.key old) refl none)
   where
@@ -52,19 +53,19 @@ holds-after from to old new are change none =
     from_pass true has e = refl
     from_pass false has e = e
 
-    gone_too : (l : Leaf) → l ≡ change.leaf → has_row to l.bucket.rows ≡ false → has_row to (without_row from change.leaf.bucket.rows) ≡ false
+    gone_too : (l : Leaf) → l ≡ change.leaf → has_row to l.bucket.rows ≡ false → has_row to (without_row from.row change.leaf.bucket.rows) ≡ false
     gone_too l same absent =
-        has_row-without_row from change.leaf.bucket.rows to
-        ∙ from_pass (same_row from to) (has_row to change.leaf.bucket.rows) (ap (λ (m : Leaf). has_row to m.bucket.rows) (sym same) ∙ absent)
+        has_row-without_row from.row change.leaf.bucket.rows to
+        ∙ from_pass (same_row from.row to) (has_row to change.leaf.bucket.rows) (ap (λ (m : Leaf). has_row to m.bucket.rows) (sym same) ∙ absent)
 
     by_name : (l : Leaf) (t : Bool) → same_name l.name change.leaf.name ≡ t → leaf_under to.key old ≡ Some l → has_row to l.bucket.rows ≡ false
-        → has_row to (cond t (record { name = l.name; bucket = gone_row from change.leaf.bucket }) l).bucket.rows ≡ false
+        → has_row to (cond t (record { name = l.name; bucket = after_gone from change.leaf.bucket }) l).bucket.rows ≡ false
     by_name l false test found absent = absent
     by_name l true test found absent =
         let same : l.name ≡ change.leaf.name = (same_name-decides l.name change.leaf.name).0 test in
-        gone_too l (one-named old l change.leaf are.tile (find-among (λ (m : Leaf). is_under m.name to.key) old l found).0 (find-among (λ (m : Leaf). is_under m.name from.key) old change.leaf change.found).0 same) absent
+        gone_too l (one-named old l change.leaf are.tile (find-among (λ (m : Leaf). is_under m.name to.key) old l found).0 (find-among (λ (m : Leaf). is_under m.name from.row.key) old change.leaf change.found).0 same) absent
 
     by_found : (o : Option Leaf) → leaf_under to.key old ≡ o → IfSome o (λ (l : Leaf). has_row to l.bucket.rows ≡ false)
-        → IfSome (option_map (with_bucket change.leaf.name (gone_row from change.leaf.bucket)) o) (λ (l : Leaf). has_row to l.bucket.rows ≡ false)
+        → IfSome (option_map (with_bucket change.leaf.name (after_gone from change.leaf.bucket)) o) (λ (l : Leaf). has_row to l.bucket.rows ≡ false)
     by_found None found absent = absent
     by_found (Some l) found absent = by_name l (same_name l.name change.leaf.name) refl found absent

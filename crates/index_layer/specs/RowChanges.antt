@@ -1,7 +1,8 @@
 -- Leaves of which one has a row more or less.
 use Rattle.std.specs.Prelude.{◌≡◌, ℕ, Bool, List, Some, IfSome}
 use Rattle.bucket_versions.specs.declared.row.Row.{Row}
-use Rattle.bucket_versions.specs.Rows.{Rows, has_row, put_row, gone_row}
+use Rattle.bucket_versions.specs.declared.row.RowChange.{RowChange}
+use Rattle.bucket_versions.specs.Rows.{Rows, has_row, after_put, after_gone}
 use Rattle.index_layer.specs.Leaves.{Leaf, leaf_under, replaced}
 
 -- whether a row is there, in the leaf that its key is under
@@ -15,7 +16,7 @@ pub record ChangesAt (key : ℕ) (change : Rows → Rows) (old new : List Leaf) 
   pub leaves : new ≡ replaced leaf.name (change leaf.bucket) old
 
 -- a row goes out of the leaf of its key, and then another one into that of its own
-pub record Moves (from to : Row) (old new : List Leaf) : Type 0 where
+pub record Moves (from to : RowChange) (old new : List Leaf) : Type 0 where
   pub between : List Leaf
-  pub takes : ChangesAt from.key (gone_row from) old between
-  pub puts : ChangesAt to.key (put_row to) between new
+  pub takes : ChangesAt from.row.key (after_gone from) old between
+  pub puts : ChangesAt to.row.key (after_put to) between new

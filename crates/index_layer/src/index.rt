@@ -6,9 +6,9 @@ ghost use Rattle.index_layer.specs.Leaves.{Leaf, AreLeaves, one_leaf, has_name, 
 ghost use Rattle.index_layer.specs.Part.{IsPart};
 ghost use Rattle.index_layer.specs.Below.{IsBelow};
 ghost use Rattle.index_layer.specs.RowChanges.{ChangesAt, Moves, Holds};
-ghost use Rattle.bucket_versions.specs.Rows.{put_row, gone_row};
+ghost use Rattle.bucket_versions.specs.Rows.{after_put, after_gone};
 
-use bucket_versions::{Bucket, Commit, Row, Undone};
+use bucket_versions::{Bucket, Commit, RowChange, Undone};
 use std::alloc::Global;
 use std::sync::Arc;
 use zorder::{Memory, Name};
@@ -111,15 +111,15 @@ pub trait Index: Sized + Drop {
         ensures fault { IfErr result (λ e. (e ≡ IndexFault.NoLeaf name.now) ⊎ (e ≡ IndexFault.Memory)) };
 
     /// The index with a row more in the leaf of its key.
-    fn with_row(&self, row: Row) -> Result<Self, Memory>
-        requires { Holds row (leaves self.now) false }
-        ensures { IfOk result (λ index. ChangesAt row.key (put_row row) (leaves self.now) (leaves index)) }
+    fn with_row(&self, put: RowChange) -> Result<Self, Memory>
+        requires { Holds put.row (leaves self.now) false }
+        ensures { IfOk result (λ index. ChangesAt put.row.key (after_put put) (leaves self.now) (leaves index)) }
     {
-        let (name, bucket) = self.leaf_of(row.key);
-        let Ok(bucket) = bucket.with_put(row) else {
+        let (name, bucket) = self.leaf_of(put.row.key);
+        let Ok(bucket) = bucket.with_put(put.row) else {
             return Err(Memory);
         };
-        let bucket = bucket.into_shared()?;
+        let bucket = bucket.settled(put.keeps_base)?.into_shared()?;
         let Ok(index) = self.replaced(&name, bucket) else {
             return Err(Memory);
         };
@@ -127,15 +127,15 @@ pub trait Index: Sized + Drop {
     }
 
     /// The index with a row less in the leaf of its key.
-    fn without_row(&self, row: &Row) -> Result<Self, Memory>
-        requires { Holds row.now (leaves self.now) true }
-        ensures { IfOk result (λ index. ChangesAt row.now.key (gone_row row.now) (leaves self.now) (leaves index)) }
+    fn without_row(&self, gone: RowChange) -> Result<Self, Memory>
+        requires { Holds gone.row (leaves self.now) true }
+        ensures { IfOk result (λ index. ChangesAt gone.row.key (after_gone gone) (leaves self.now) (leaves index)) }
     {
-        let (name, bucket) = self.leaf_of(row.key);
-        let Ok(bucket) = bucket.with_gone(*row) else {
+        let (name, bucket) = self.leaf_of(gone.row.key);
+        let Ok(bucket) = bucket.with_gone(gone.row) else {
             return Err(Memory);
         };
-        let bucket = bucket.into_shared()?;
+        let bucket = bucket.settled(gone.keeps_base)?.into_shared()?;
         let Ok(index) = self.replaced(&name, bucket) else {
             return Err(Memory);
         };
@@ -222,14 +222,14 @@ pub trait Index: Sized + Drop {
     }
 
     /// Adds a row to the leaf of its key, once the step has succeeded.
-    fn put_row<C: Commit>(&mut self, row: Row, commit: &mut C) -> Result<(), Undone>
+    fn put_row<C: Commit>(&mut self, put: RowChange, commit: &mut C) -> Result<(), Undone>
         requires can { C.can commit.old }
-        requires absent { Holds row (leaves self.old) false }
-        ensures ok { OnOk result (ChangesAt row.key (put_row row) (leaves self.old) (leaves self.new)) }
+        requires absent { Holds put.row (leaves self.old) false }
+        ensures ok { OnOk result (ChangesAt put.row.key (after_put put) (leaves self.old) (leaves self.new)) }
         ensures err { OnErr result (leaves self.new ≡ leaves self.old) }
         ensures told { Told C.done C.lost commit.old commit.new result }
     {
-        let Ok(index) = self.with_row(row) else {
+        let Ok(index) = self.with_row(put) else {
             return Err(Undone::Memory);
         };
         if !commit.commit() {
@@ -240,14 +240,14 @@ pub trait Index: Sized + Drop {
     }
 
     /// Takes a row out of the leaf of its key, once the step has succeeded.
-    fn take_row<C: Commit>(&mut self, row: &Row, commit: &mut C) -> Result<(), Undone>
+    fn take_row<C: Commit>(&mut self, gone: RowChange, commit: &mut C) -> Result<(), Undone>
         requires can { C.can commit.old }
-        requires present { Holds row.now (leaves self.old) true }
-        ensures ok { OnOk result (ChangesAt row.now.key (gone_row row.now) (leaves self.old) (leaves self.new)) }
+        requires present { Holds gone.row (leaves self.old) true }
+        ensures ok { OnOk result (ChangesAt gone.row.key (after_gone gone) (leaves self.old) (leaves self.new)) }
         ensures err { OnErr result (leaves self.new ≡ leaves self.old) }
         ensures told { Told C.done C.lost commit.old commit.new result }
     {
-        let Ok(index) = self.without_row(row) else {
+        let Ok(index) = self.without_row(gone) else {
             return Err(Undone::Memory);
         };
         if !commit.commit() {
@@ -258,11 +258,16 @@ pub trait Index: Sized + Drop {
     }
 
     /// Takes a row out of the leaf of its key and adds another one to that of its own, once the step has succeeded.
-    fn move_row<C: Commit>(&mut self, from: &Row, to: Row, commit: &mut C) -> Result<(), Undone>
+    fn move_row<C: Commit>(
+        &mut self,
+        from: RowChange,
+        to: RowChange,
+        commit: &mut C,
+    ) -> Result<(), Undone>
         requires can { C.can commit.old }
-        requires present { Holds from.now (leaves self.old) true }
-        requires absent { Holds to (leaves self.old) false }
-        ensures ok { OnOk result (Moves from.now to (leaves self.old) (leaves self.new)) }
+        requires present { Holds from.row (leaves self.old) true }
+        requires absent { Holds to.row (leaves self.old) false }
+        ensures ok { OnOk result (Moves from to (leaves self.old) (leaves self.new)) }
         ensures err { OnErr result (leaves self.new ≡ leaves self.old) }
         ensures told { Told C.done C.lost commit.old commit.new result }
     {
