@@ -4,7 +4,8 @@ use Rattle.std.specs.List.{AllByRecursion}
 use Rattle.zorder.specs.Bits.{low_bits}
 use Rattle.zorder.specs.Key.{is_under}
 use Rattle.bucket_versions.specs.declared.row.Row.{Row}
-use Rattle.bucket_versions.specs.Rows.{Rows, IsRows, has_row, put_row, gone_row}
+use Rattle.bucket_versions.specs.declared.row.RowChange.{RowChange}
+use Rattle.bucket_versions.specs.Rows.{Rows, IsRows, has_row, after_put, after_gone}
 use Rattle.bucket_versions.proofs.RowOrder.{IsRows-with_row, IsRows-without_row}
 use Rattle.index_layer.specs.Leaves.{Leaf, AreLeaves, AreUnder, replaced, leaf_under}
 use Rattle.index_layer.proofs.LeafKeys.{all_at}
@@ -79,18 +80,19 @@ rows-found key t row b lt h are has =
     let f = find-leaf key t lt h are in
     ap (has_row row) (rows-bucket (low_bits 64 key) t f.bucket f.held) ∙ subst (λ o. IfSome o (λ (l : Leaf). has_row row l.bucket.rows ≡ b)) f.found has
 
-pub puts : (row : Row) (t : Trie) → row.key < 2 ^ 64 → height t ≤ 64 → AreLeaves (leaves_under [] t) → has_row row (rows_at (low_bits 64 row.key) t) ≡ false
-    → Changed row.key (put_row row) t (changed_at (low_bits 64 row.key) (put_row row) t)
-puts row t lt h are absent =
+pub puts : (put : RowChange) (t : Trie) → put.row.key < 2 ^ 64 → height t ≤ 64 → AreLeaves (leaves_under [] t) → has_row put.row (rows_at (low_bits 64 put.row.key) t) ≡ false
+    → Changed put.row.key (after_put put) t (changed_at (low_bits 64 put.row.key) (after_put put) t)
+puts put t lt h are absent =
+    let row : Row = put.row in
     let f = find-leaf row.key t lt h are in
     let none : has_row row f.bucket.rows ≡ false = ap (has_row row) (sym (rows-bucket (low_bits 64 row.key) t f.bucket f.held)) ∙ absent in
-    changes row.key (put_row row) t f h are (IsRows-with_row row f.bucket.rows none f.in_order) (AreUnder-with_row f.name row f.bucket.rows f.under f.all_under)
+    changes row.key (after_put put) t f h are (IsRows-with_row row f.bucket.rows none f.in_order) (AreUnder-with_row f.name row f.bucket.rows f.under f.all_under)
 
-pub takes : (row : Row) (t : Trie) → row.key < 2 ^ 64 → height t ≤ 64 → AreLeaves (leaves_under [] t)
-    → Changed row.key (gone_row row) t (changed_at (low_bits 64 row.key) (gone_row row) t)
-takes row t lt h are =
-    let f = find-leaf row.key t lt h are in
-    changes row.key (gone_row row) t f h are (IsRows-without_row row f.bucket.rows f.in_order) (AreUnder-without_row f.name row f.bucket.rows f.all_under)
+pub takes : (gone : RowChange) (t : Trie) → gone.row.key < 2 ^ 64 → height t ≤ 64 → AreLeaves (leaves_under [] t)
+    → Changed gone.row.key (after_gone gone) t (changed_at (low_bits 64 gone.row.key) (after_gone gone) t)
+takes gone t lt h are =
+    let f = find-leaf gone.row.key t lt h are in
+    changes gone.row.key (after_gone gone) t f h are (IsRows-without_row gone.row f.bucket.rows f.in_order) (AreUnder-without_row f.name gone.row f.bucket.rows f.all_under)
 
 -- what holds after a change that was made or not
 pub changes-made : {A E : Type 0} (r : Result A E) (key : ℕ) (change : Rows → Rows) (leaves : List Leaf) (old made new : Trie) → leaves_under [] old ≡ leaves → Changed key change old made
@@ -98,11 +100,11 @@ pub changes-made : {A E : Type 0} (r : Result A E) (key : ℕ) (change : Rows �
 changes-made (Ok x) key change leaves old made new same d ok = subst (λ (ls : List Leaf). ChangesAt key change ls (leaves_under [] new)) same (subst (λ (t : Trie). ChangesAt key change (leaves_under [] old) (leaves_under [] t)) (sym ok) d.changes)
 changes-made (Err e) key change leaves old made new same d ok = tt
 
-pub moves-made : {A E : Type 0} (r : Result A E) (from to : Row) (leaves : List Leaf) (old once twice new : Trie) → leaves_under [] old ≡ leaves → Changed from.key (gone_row from) old once → Changed to.key (put_row to) once twice
+pub moves-made : {A E : Type 0} (r : Result A E) (from to : RowChange) (leaves : List Leaf) (old once twice new : Trie) → leaves_under [] old ≡ leaves → Changed from.row.key (after_gone from) old once → Changed to.row.key (after_put to) once twice
     → OnOk r (new ≡ twice) → OnOk r (Moves from to leaves (leaves_under [] new))
 moves-made (Ok x) from to leaves old once twice new same d e ok = record {
   between = leaves_under [] once;
-  takes = subst (λ (ls : List Leaf). ChangesAt from.key (gone_row from) ls (leaves_under [] once)) same d.changes;
-  puts = subst (λ (t : Trie). ChangesAt to.key (put_row to) (leaves_under [] once) (leaves_under [] t)) (sym ok) e.changes;
+  takes = subst (λ (ls : List Leaf). ChangesAt from.row.key (after_gone from) ls (leaves_under [] once)) same d.changes;
+  puts = subst (λ (t : Trie). ChangesAt to.row.key (after_put to) (leaves_under [] once) (leaves_under [] t)) (sym ok) e.changes;
 }
 moves-made (Err x) from to leaves old once twice new same d e ok = tt

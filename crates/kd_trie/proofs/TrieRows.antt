@@ -1,7 +1,8 @@
 -- Rows in the leaf on a path.
 use Rattle.std.proofs.Common.{◌≡◌, Bool, true, false, ◌||◌, not, List, [], ◌∷◌, suc, max, Some, refl, ◌∙◌, ap, cond}
 use Rattle.bucket_versions.specs.declared.row.Row.{Row}
-use Rattle.bucket_versions.specs.Rows.{Rows, has_row, same_row, without_row, gone_row}
+use Rattle.bucket_versions.specs.declared.row.RowChange.{RowChange}
+use Rattle.bucket_versions.specs.Rows.{Rows, has_row, same_row, without_row, after_gone}
 use Rattle.bucket_versions.proofs.RowOrder.{not_first}
 use Rattle.kd_trie.specs.Tries.{Trie, tip, fork, height, bucket_at, rows_at, changed_at}
 
@@ -25,8 +26,8 @@ absent-without to from (s ∷ rows) none =
     by_test true rest = (λ i. (not_first to s rows none).0 i || has_row to (without_row from rows)) ∙ rest
     by_test false rest = rest
 
-pub absent-after : (path other : List Bool) (to from : Row) (t : Trie) → has_row to (rows_at path t) ≡ false → has_row to (rows_at path (changed_at other (gone_row from) t)) ≡ false
-absent-after path other to from (tip a) none = absent-without to from a.rows none
+pub absent-after : (path other : List Bool) (to : Row) (from : RowChange) (t : Trie) → has_row to (rows_at path t) ≡ false → has_row to (rows_at path (changed_at other (after_gone from) t)) ≡ false
+absent-after path other to from (tip a) none = absent-without to from.row a.rows none
 absent-after [] [] to from (fork z o) none = none
 absent-after [] (true ∷ other) to from (fork z o) none = none
 absent-after [] (false ∷ other) to from (fork z o) none = none

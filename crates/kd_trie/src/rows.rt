@@ -2,13 +2,13 @@
 ghost use Rattle.std.specs.Prelude.{◌≡◌, ◌≤◌, true, false, OnOk, OnErr};
 ghost use Rattle.std.specs.Arc.{arc_value};
 ghost use Rattle.zorder.specs.Bits.{low_bits};
-ghost use Rattle.bucket_versions.specs.Rows.{has_row, put_row, gone_row};
+ghost use Rattle.bucket_versions.specs.Rows.{has_row, after_put, after_gone};
 ghost use Rattle.bucket_versions.specs.Told.{Told};
 ghost use Rattle.kd_trie.specs.Tries.{height, changed_at, rows_at};
 ghost use Rattle.kd_trie.specs.Nodes.{seen};
 
 use crate::node::{Node, Pair, next_bit, own};
-use bucket_versions::{Bucket, Commit, Row, Undone, pass, put, shift, take};
+use bucket_versions::{Bucket, Commit, RowChange, Undone, pass, put, shift, take};
 use std::alloc::Global;
 use std::sync::Arc;
 
@@ -16,20 +16,20 @@ use std::sync::Arc;
 pub(crate) fn put_row<C: Commit>(
     alloc: Global,
     node: &mut Node,
-    row: Row,
+    change: RowChange,
     left: u8,
     commit: &mut C,
 ) -> Result<(), Undone>
     requires can { C.can commit.old }
     requires height { height (seen node.old) ≤ left }
     requires most { left ≤ 64 }
-    requires absent { has_row row (rows_at (low_bits left row.key) (seen node.old)) ≡ false }
-    ensures ok { OnOk result (seen node.new ≡ changed_at (low_bits left row.key) (put_row row) (seen node.old)) }
+    requires absent { has_row change.row (rows_at (low_bits left change.row.key) (seen node.old)) ≡ false }
+    ensures ok { OnOk result (seen node.new ≡ changed_at (low_bits left change.row.key) (after_put change) (seen node.old)) }
     ensures err { OnErr result (seen node.new ≡ seen node.old) }
     ensures told { Told C.done C.lost commit.old commit.new result }
 {
     match node {
-        Node::Leaf(leaf) => put(leaf, row, commit),
+        Node::Leaf(leaf) => put(leaf, change, commit),
         Node::Inner(pair) => {
             let Ok(()) = own(alloc, pair) else {
                 return Err(Undone::Memory);
@@ -37,10 +37,10 @@ pub(crate) fn put_row<C: Commit>(
             let Some(pair) = Arc::get_mut(pair) else {
                 return Err(Undone::Memory);
             };
-            if next_bit(row.key, left) {
-                put_row(alloc, &mut pair.one, row, left - 1, commit)
+            if next_bit(change.row.key, left) {
+                put_row(alloc, &mut pair.one, change, left - 1, commit)
             } else {
-                put_row(alloc, &mut pair.zero, row, left - 1, commit)
+                put_row(alloc, &mut pair.zero, change, left - 1, commit)
             }
         }
     }
@@ -50,20 +50,20 @@ pub(crate) fn put_row<C: Commit>(
 pub(crate) fn take_row<C: Commit>(
     alloc: Global,
     node: &mut Node,
-    row: &Row,
+    change: RowChange,
     left: u8,
     commit: &mut C,
 ) -> Result<(), Undone>
     requires can { C.can commit.old }
     requires height { height (seen node.old) ≤ left }
     requires most { left ≤ 64 }
-    requires present { has_row row.now (rows_at (low_bits left row.now.key) (seen node.old)) ≡ true }
-    ensures ok { OnOk result (seen node.new ≡ changed_at (low_bits left row.now.key) (gone_row row.now) (seen node.old)) }
+    requires present { has_row change.row (rows_at (low_bits left change.row.key) (seen node.old)) ≡ true }
+    ensures ok { OnOk result (seen node.new ≡ changed_at (low_bits left change.row.key) (after_gone change) (seen node.old)) }
     ensures err { OnErr result (seen node.new ≡ seen node.old) }
     ensures told { Told C.done C.lost commit.old commit.new result }
 {
     match node {
-        Node::Leaf(leaf) => take(leaf, row, commit),
+        Node::Leaf(leaf) => take(leaf, change, commit),
         Node::Inner(pair) => {
             let Ok(()) = own(alloc, pair) else {
                 return Err(Undone::Memory);
@@ -71,10 +71,10 @@ pub(crate) fn take_row<C: Commit>(
             let Some(pair) = Arc::get_mut(pair) else {
                 return Err(Undone::Memory);
             };
-            if next_bit(row.key, left) {
-                take_row(alloc, &mut pair.one, row, left - 1, commit)
+            if next_bit(change.row.key, left) {
+                take_row(alloc, &mut pair.one, change, left - 1, commit)
             } else {
-                take_row(alloc, &mut pair.zero, row, left - 1, commit)
+                take_row(alloc, &mut pair.zero, change, left - 1, commit)
             }
         }
     }
@@ -84,17 +84,17 @@ pub(crate) fn take_row<C: Commit>(
 pub(crate) fn shift_row<C: Commit>(
     alloc: Global,
     node: &mut Node,
-    from: &Row,
-    to: Row,
+    from: RowChange,
+    to: RowChange,
     left: u8,
     commit: &mut C,
 ) -> Result<(), Undone>
     requires can { C.can commit.old }
     requires height { height (seen node.old) ≤ left }
     requires most { left ≤ 64 }
-    requires present { has_row from.now (rows_at (low_bits left from.now.key) (seen node.old)) ≡ true }
-    requires absent { has_row to (rows_at (low_bits left to.key) (changed_at (low_bits left from.now.key) (gone_row from.now) (seen node.old))) ≡ false }
-    ensures ok { OnOk result (seen node.new ≡ changed_at (low_bits left to.key) (put_row to) (changed_at (low_bits left from.now.key) (gone_row from.now) (seen node.old))) }
+    requires present { has_row from.row (rows_at (low_bits left from.row.key) (seen node.old)) ≡ true }
+    requires absent { has_row to.row (rows_at (low_bits left to.row.key) (changed_at (low_bits left from.row.key) (after_gone from) (seen node.old))) ≡ false }
+    ensures ok { OnOk result (seen node.new ≡ changed_at (low_bits left to.row.key) (after_put to) (changed_at (low_bits left from.row.key) (after_gone from) (seen node.old))) }
     ensures err { OnErr result (seen node.new ≡ seen node.old) }
     ensures told { Told C.done C.lost commit.old commit.new result }
 {
@@ -107,14 +107,14 @@ pub(crate) fn shift_row<C: Commit>(
             let Some(pair) = Arc::get_mut(pair) else {
                 return Err(Undone::Memory);
             };
-            if next_bit(from.key, left) {
-                if next_bit(to.key, left) {
+            if next_bit(from.row.key, left) {
+                if next_bit(to.row.key, left) {
                     shift_row(alloc, &mut pair.one, from, to, left - 1, commit)
                 } else {
                     let Pair { zero, one } = pair;
                     pass_row(alloc, one, from, left - 1, zero, to, left - 1, commit)
                 }
-            } else if next_bit(to.key, left) {
+            } else if next_bit(to.row.key, left) {
                 let Pair { zero, one } = pair;
                 pass_row(alloc, zero, from, left - 1, one, to, left - 1, commit)
             } else {
@@ -128,10 +128,10 @@ pub(crate) fn shift_row<C: Commit>(
 fn pass_row<C: Commit>(
     alloc: Global,
     node: &mut Node,
-    from: &Row,
+    from: RowChange,
     left: u8,
     other: &mut Node,
-    to: Row,
+    to: RowChange,
     other_left: u8,
     commit: &mut C,
 ) -> Result<(), Undone>
@@ -140,10 +140,10 @@ fn pass_row<C: Commit>(
     requires most { left ≤ 64 }
     requires other_height { height (seen other.old) ≤ other_left }
     requires other_most { other_left ≤ 64 }
-    requires present { has_row from.now (rows_at (low_bits left from.now.key) (seen node.old)) ≡ true }
-    requires absent { has_row to (rows_at (low_bits other_left to.key) (seen other.old)) ≡ false }
-    ensures ok { OnOk result (seen node.new ≡ changed_at (low_bits left from.now.key) (gone_row from.now) (seen node.old)) }
-    ensures other { OnOk result (seen other.new ≡ changed_at (low_bits other_left to.key) (put_row to) (seen other.old)) }
+    requires present { has_row from.row (rows_at (low_bits left from.row.key) (seen node.old)) ≡ true }
+    requires absent { has_row to.row (rows_at (low_bits other_left to.row.key) (seen other.old)) ≡ false }
+    ensures ok { OnOk result (seen node.new ≡ changed_at (low_bits left from.row.key) (after_gone from) (seen node.old)) }
+    ensures other { OnOk result (seen other.new ≡ changed_at (low_bits other_left to.row.key) (after_put to) (seen other.old)) }
     ensures err { OnErr result (seen node.new ≡ seen node.old) }
     ensures other_err { OnErr result (seen other.new ≡ seen other.old) }
     ensures told { Told C.done C.lost commit.old commit.new result }
@@ -157,7 +157,7 @@ fn pass_row<C: Commit>(
             let Some(pair) = Arc::get_mut(pair) else {
                 return Err(Undone::Memory);
             };
-            if next_bit(from.key, left) {
+            if next_bit(from.row.key, left) {
                 pass_row(
                     alloc,
                     &mut pair.one,
@@ -188,19 +188,19 @@ fn pass_row<C: Commit>(
 fn pass_on<C: Commit>(
     alloc: Global,
     leaf: &mut Arc<Bucket>,
-    from: &Row,
+    from: RowChange,
     node: &mut Node,
-    to: Row,
+    to: RowChange,
     left: u8,
     commit: &mut C,
 ) -> Result<(), Undone>
     requires can { C.can commit.old }
     requires height { height (seen node.old) ≤ left }
     requires most { left ≤ 64 }
-    requires present { has_row from.now (arc_value leaf.old).rows ≡ true }
-    requires absent { has_row to (rows_at (low_bits left to.key) (seen node.old)) ≡ false }
-    ensures leaf { OnOk result (arc_value leaf.new ≡ gone_row from.now (arc_value leaf.old)) }
-    ensures ok { OnOk result (seen node.new ≡ changed_at (low_bits left to.key) (put_row to) (seen node.old)) }
+    requires present { has_row from.row (arc_value leaf.old).rows ≡ true }
+    requires absent { has_row to.row (rows_at (low_bits left to.row.key) (seen node.old)) ≡ false }
+    ensures leaf { OnOk result (arc_value leaf.new ≡ after_gone from (arc_value leaf.old)) }
+    ensures ok { OnOk result (seen node.new ≡ changed_at (low_bits left to.row.key) (after_put to) (seen node.old)) }
     ensures leaf_err { OnErr result (arc_value leaf.new ≡ arc_value leaf.old) }
     ensures err { OnErr result (seen node.new ≡ seen node.old) }
     ensures told { Told C.done C.lost commit.old commit.new result }
@@ -214,7 +214,7 @@ fn pass_on<C: Commit>(
             let Some(pair) = Arc::get_mut(pair) else {
                 return Err(Undone::Memory);
             };
-            if next_bit(to.key, left) {
+            if next_bit(to.row.key, left) {
                 pass_on(alloc, leaf, from, &mut pair.one, to, left - 1, commit)
             } else {
                 pass_on(alloc, leaf, from, &mut pair.zero, to, left - 1, commit)

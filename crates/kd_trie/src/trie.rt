@@ -9,7 +9,7 @@ ghost use Rattle.kd_trie.specs.Nodes.{seen};
 
 use crate::node::{Node, Way, divide, leaf_of, put, put_two};
 use crate::rows;
-use bucket_versions::{AtOnce, Bucket, Commit, Row, Undone};
+use bucket_versions::{AtOnce, Bucket, Commit, RowChange, Undone};
 use index_layer::{Below, Index, IndexFault, Part};
 use std::alloc::Global;
 use std::sync::Arc;
@@ -188,19 +188,24 @@ impl Index for KdTrie {
         )
     }
 
-    fn put_row<C: Commit>(&mut self, row: Row, commit: &mut C) -> Result<(), Undone> {
-        in_range(row.key);
-        rows::put_row(self.alloc, &mut self.root, row, 64, commit)
+    fn put_row<C: Commit>(&mut self, put: RowChange, commit: &mut C) -> Result<(), Undone> {
+        in_range(put.row.key);
+        rows::put_row(self.alloc, &mut self.root, put, 64, commit)
     }
 
-    fn take_row<C: Commit>(&mut self, row: &Row, commit: &mut C) -> Result<(), Undone> {
-        in_range(row.key);
-        rows::take_row(self.alloc, &mut self.root, row, 64, commit)
+    fn take_row<C: Commit>(&mut self, gone: RowChange, commit: &mut C) -> Result<(), Undone> {
+        in_range(gone.row.key);
+        rows::take_row(self.alloc, &mut self.root, gone, 64, commit)
     }
 
-    fn move_row<C: Commit>(&mut self, from: &Row, to: Row, commit: &mut C) -> Result<(), Undone> {
-        in_range(from.key);
-        in_range(to.key);
+    fn move_row<C: Commit>(
+        &mut self,
+        from: RowChange,
+        to: RowChange,
+        commit: &mut C,
+    ) -> Result<(), Undone> {
+        in_range(from.row.key);
+        in_range(to.row.key);
         rows::shift_row(self.alloc, &mut self.root, from, to, 64, commit)
     }
 }
