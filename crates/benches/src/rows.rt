@@ -4,7 +4,7 @@ ghost use Rattle.std.specs.Arc.{arc_value};
 ghost use Rattle.bucket_versions.specs.Rows.{as_base};
 ghost use Rattle.index_layer.specs.RowChanges.{Holds};
 
-use bucket_versions::{AtOnce, Bucket, Row, Undone};
+use bucket_versions::{AtOnce, Bucket, Row, RowChange, Undone};
 use index_layer::Index;
 use std::alloc::Global;
 use std::sync::Arc;
@@ -24,7 +24,7 @@ pub(crate) fn add<I: Index>(index: &mut I, row: Row) -> Result<bool, Undone> {
     if holds(index, &row) {
         return Ok(false);
     }
-    match index.put_row(row, &mut AtOnce) {
+    match index.put_row(free(row), &mut AtOnce) {
         Ok(()) => Ok(true),
         Err(undone) => Err(undone),
     }
@@ -35,9 +35,19 @@ pub(crate) fn shift<I: Index>(index: &mut I, from: &Row, to: Row) -> Result<bool
     if !holds(index, from) || holds(index, &to) {
         return Ok(false);
     }
-    match index.move_row(from, to, &mut AtOnce) {
+    match index.move_row(free(*from), free(to), &mut AtOnce) {
         Ok(()) => Ok(true),
         Err(undone) => Err(undone),
+    }
+}
+
+// A change of a row in a leaf that has no open split.
+fn free(row: Row) -> RowChange
+    ensures { result.row ≡ row }
+{
+    RowChange {
+        row,
+        keeps_base: false,
     }
 }
 
