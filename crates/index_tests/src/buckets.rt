@@ -4,7 +4,7 @@ ghost use Rattle.std.specs.Arc.{arc_value};
 ghost use Rattle.bucket_versions.specs.Rows.{as_base};
 ghost use Rattle.index_layer.specs.Leaves.{AreUnder};
 
-use bucket_versions::{Bucket, Row};
+use bucket_versions::{Bucket, Row, RowChange};
 use std::alloc::Global;
 use std::sync::Arc;
 use std::test::*;
@@ -25,4 +25,14 @@ pub(crate) fn three_rows(alloc: Global) -> Result<Arc<Bucket>, Fail>
     let bucket = Bucket::from_rows(alloc, &two)?;
     let bucket = bucket.with_put(Row { key: 2, id: 4 })?;
     Ok(bucket.into_shared()?)
+}
+
+/// A row that comes or goes.
+pub(crate) fn change(key: u64, id: u64, keeps_base: bool) -> RowChange
+    ensures { result.row ≡ record { key = key; id = id } }
+{
+    RowChange {
+        row: Row { key, id },
+        keeps_base,
+    }
 }

@@ -8,6 +8,8 @@ mod buckets;
 #[cfg(test)]
 mod builds;
 #[cfg(test)]
+mod changes;
+#[cfg(test)]
 mod never;
 #[cfg(test)]
 mod queries;

@@ -3,9 +3,9 @@ ghost use Rattle.std.specs.Prelude.{◌≡◌, [], IfOk};
 ghost use Rattle.index_layer.specs.Leaves.{one_leaf};
 ghost use Rattle.bucket_versions.specs.Rows.{as_base};
 
-use crate::buckets::{empty, three_rows};
+use crate::buckets::{change, empty, three_rows};
 use crate::never::Never;
-use bucket_versions::{AtOnce, Row, Undone};
+use bucket_versions::{AtOnce, Undone};
 use flat_index::FlatIndex;
 use index_layer::{Index, IndexFault, Part};
 use kd_trie::KdTrie;
@@ -63,7 +63,7 @@ fn one_empty_leaf<I: Index>(alloc: Global) -> Result<I, Fail>
 fn keeps_what_is_shared<I: Index>(rt: &impl Abort, alloc: Global) -> Result<(), Fail> {
     let mut index = one_empty_leaf::<I>(alloc)?;
     let before = index.share()?;
-    index.put_row(Row { key: 27, id: 7 }, &mut AtOnce)?;
+    index.put_row(change(27, 7, false), &mut AtOnce)?;
     assert_eq!(rt; index.leaf_of(27).1.count(), 1);
     assert_eq!(rt; before.leaf_of(27).1.count(), 0);
     Ok(())
@@ -71,7 +71,7 @@ fn keeps_what_is_shared<I: Index>(rt: &impl Abort, alloc: Global) -> Result<(), 
 
 fn waits_for_its_step<I: Index>(rt: &impl Abort, alloc: Global) -> Result<(), Fail> {
     let mut index = one_empty_leaf::<I>(alloc)?;
-    let put = index.put_row(Row { key: 27, id: 7 }, &mut Never);
+    let put = index.put_row(change(27, 7, false), &mut Never);
     assert_eq!(rt; put.err(), Some(Undone::Lost));
     assert_eq!(rt; index.leaf_of(27).1.count(), 0);
     Ok(())
