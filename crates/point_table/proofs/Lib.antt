@@ -11,6 +11,7 @@ pub mod MemberSteps
 pub mod Rising
 pub mod RisingMembers
 pub mod RowSteps
+pub mod Settled
 pub mod SplitLemmas
 pub mod Splitting
 pub mod Standing

@@ -7,13 +7,15 @@ use Rattle.zorder.specs.declared.points.Point.{Point}
 use Rattle.zorder.specs.declared.points.Placed.{Placed}
 use Rattle.zorder.specs.Key.{key_of, is_under}
 use Rattle.zorder.specs.SameName.{same_name, same_name-decides}
-use Rattle.bucket_versions.specs.Rows.{Rows, has_row, put_row, gone_row}
+use Rattle.bucket_versions.specs.declared.row.RowChange.{RowChange}
+use Rattle.bucket_versions.specs.Rows.{Rows, has_row, after_put, after_gone}
+use Rattle.plain_list.specs.State.{OpenSplit, is_splitting}
 use Rattle.index_layer.specs.Leaves.{Leaf, AreLeaves, names_of, has_name, leaf_under, replaced, with_bucket}
 use Rattle.index_layer.specs.RowChanges.{ChangesAt, Moves}
 use Rattle.index_layer.specs.Stands.{HasRowsOf, is_at_key}
 use Rattle.zorder.specs.Tile.{tiles_from}
 use Rattle.index_layer.proofs.LeafChanges.{names_of-replaced}
-use Rattle.index_layer.proofs.MovedRows.{leaf_under-replaced}
+use Rattle.index_layer.proofs.MovedRows.{leaf_under-replaced, with_bucket-name}
 use Rattle.index_layer.proofs.FoundLeaves.{found_named}
 use Rattle.point_table.proofs.Standing.{found_has}
 use Rattle.std.proofs.lemmas.Bool.{eq-eqb}
@@ -25,6 +27,7 @@ use Rattle.plain_list.specs.World.{IsWorld, IsRising, place_of}
 use Rattle.plain_list.specs.Answer.{with_member, with_moved, without}
 use Rattle.plain_list.proofs.MemberMaps.{with_moved-absent, IsAbove-lower}
 use Rattle.point_table.specs.Crowds.{crowded_of, mark_under}
+use Rattle.point_table.proofs.Settled.{settled_then}
 use Rattle.point_table.proofs.TableSteps.{Steps, put_steps, gone_steps, as_leaf, with_member-without}
 
 -- what holds of each value holds of an option's
@@ -40,23 +43,31 @@ leaf_after key change old new at =
     ∙ ap (option_map (with_bucket at.leaf.name (change at.leaf.bucket))) at.found
     ∙ ap (λ b. Some (cond b (record { name = at.leaf.name; bucket = change at.leaf.bucket }) at.leaf)) ((same_name-decides at.leaf.name at.leaf.name).1 refl)
 
-module _ (w size : ℕ) (old new : List Leaf) (world : List Placed) (names after : List (List Bool)) (are : AreLeaves old) (rows : AllByRecursion (HasRowsOf world) old)
-    (was : names ≡ crowded_of w size old) where
-  pub put_after : (id : ℕ) (at : Point) → place_of world id ≡ None → (change : ChangesAt (key_of at) (put_row (record { key = key_of at; id = id })) old new)
-      → ((l : Leaf) → leaf_under (key_of at) new ≡ Some l → after ≡ mark_under w size l names) → Steps w size old new (with_member (record { id = id; at = at }) world) after
-  put_after id at none change marks =
-      let key = key_of at in
-      let row = put_row (record { key = key; id = id }) in
-      let steps = put_steps w size old new world (record { id = id; at = at }) _ _ names are.tile rows none (as_leaf w size key row old new change) was in
-      record { rows = steps.rows; crowded = marks _ (leaf_after key row old new change) ∙ steps.crowded; bases = steps.bases }
+-- a row of an object comes or goes, and keeps the base or doesn't
+abbrev pub change_of : ℕ → Point → Bool → RowChange
+change_of id at keeps = record { row = record { key = key_of at; id = id }; keeps_base = keeps }
 
-  pub gone_after : (id : ℕ) (at : Point) → place_of world id ≡ Some at → (change : ChangesAt (key_of at) (gone_row (record { key = key_of at; id = id })) old new)
-      → ((l : Leaf) → leaf_under (key_of at) new ≡ Some l → after ≡ mark_under w size l names) → Steps w size old new (without id world) after
-  gone_after id at there change marks =
+-- the base is kept where the split of the key's leaf is open
+abbrev pub KeepsAt : List OpenSplit → List Leaf → ℕ → Bool → Type 0
+KeepsAt splits leaves key keeps = (l : Leaf) → leaf_under key leaves ≡ Some l → keeps ≡ is_splitting splits l.name
+
+module _ (w size : ℕ) (splits : List OpenSplit) (keeps : Bool) (old new : List Leaf) (world : List Placed) (names after : List (List Bool)) (are : AreLeaves old)
+    (rows : AllByRecursion (HasRowsOf world) old) (was : names ≡ crowded_of w size old) where
+  pub put_after : (id : ℕ) (at : Point) → place_of world id ≡ None → (change : ChangesAt (key_of at) (after_put (change_of id at keeps)) old new) → KeepsAt splits old (key_of at) keeps
+      → ((l : Leaf) → leaf_under (key_of at) new ≡ Some l → after ≡ mark_under w size l names) → Steps w size splits old new (with_member (record { id = id; at = at }) world) after
+  put_after id at none change keeps_is marks =
       let key = key_of at in
-      let row = gone_row (record { key = key; id = id }) in
-      let steps = gone_steps w size old new world id at _ _ names are.tile rows there (as_leaf w size key row old new change) was in
-      record { rows = steps.rows; crowded = marks _ (leaf_after key row old new change) ∙ steps.crowded; bases = steps.bases }
+      let row = after_put (change_of id at keeps) in
+      let steps = put_steps w size splits keeps old new world (record { id = id; at = at }) _ _ names are.tile rows none (as_leaf w size key row old new change) was (keeps_is change.leaf change.found) in
+      record { rows = steps.rows; crowded = marks _ (leaf_after key row old new change) ∙ steps.crowded; bases = steps.bases; settled = steps.settled }
+
+  pub gone_after : (id : ℕ) (at : Point) → place_of world id ≡ Some at → (change : ChangesAt (key_of at) (after_gone (change_of id at keeps)) old new) → KeepsAt splits old (key_of at) keeps
+      → ((l : Leaf) → leaf_under (key_of at) new ≡ Some l → after ≡ mark_under w size l names) → Steps w size splits old new (without id world) after
+  gone_after id at there change keeps_is marks =
+      let key = key_of at in
+      let row = after_gone (change_of id at keeps) in
+      let steps = gone_steps w size splits keeps old new world id at _ _ names are.tile rows there (as_leaf w size key row old new change) was (keeps_is change.leaf change.found) in
+      record { rows = steps.rows; crowded = marks _ (leaf_after key row old new change) ∙ steps.crowded; bases = steps.bases; settled = steps.settled }
 
 -- putting a bucket under a name twice is putting the last one
 same_bucket : (name : List Bool) (a b : Rows) (l : Leaf) → with_bucket name b (with_bucket name a l) ≡ with_bucket name b l
@@ -95,27 +106,28 @@ twice w size n a b old new names is tile has had was =
     ∙ sym (crowded_of-replaced w size 0 n b (replaced n b old) tile_after had)
     ∙ ap (crowded_of w size) (replaced-twice n b b old ∙ sym (replaced-twice n a b old) ∙ sym is)
 
-pub move_after : (w size : ℕ) (old new : List Leaf) (world : List Placed) (names mid after : List (List Bool)) → AreLeaves old → AllByRecursion (HasRowsOf world) old → names ≡ crowded_of w size old
+pub move_after : (w size : ℕ) (splits : List OpenSplit) (from_keeps to_keeps : Bool) (old new : List Leaf) (world : List Placed) (names mid after : List (List Bool)) → AreLeaves old → AllByRecursion (HasRowsOf world) old → names ≡ crowded_of w size old
     → IsWorld world → (id : ℕ) (from at : Point) → place_of world id ≡ Some from
-    → (moves : Moves (record { key = key_of from; id = id }) (record { key = key_of at; id = id }) old new)
+    → (moves : Moves (change_of id from from_keeps) (change_of id at to_keeps) old new) → KeepsAt splits old (key_of from) from_keeps → KeepsAt splits old (key_of at) to_keeps
     → ((l : Leaf) → leaf_under (key_of from) new ≡ Some l → mid ≡ mark_under w size l names)
     → ((l : Leaf) → leaf_under (key_of at) new ≡ Some l → after ≡ mark_under w size l mid)
-    → Steps w size old new (with_moved id at world) after
-move_after w size old new world names mid after are rows was is_world id from at there moves first second =
+    → Steps w size splits old new (with_moved id at world) after
+move_after w size splits from_keeps to_keeps old new world names mid after are rows was is_world id from at there moves from_is_open to_is_open first second =
     record {
       rows = subst (λ (ms : List Placed). AllByRecursion (HasRowsOf ms) new) (with_member-without id from at world is_world there) put.rows;
       crowded = second _ (leaf_after (key_of at) put_it between new moves.puts) ∙ ap (mark_under w size to) (first _ from_is) ∙ by_name (same_name here.name to.name) refl;
       bases = put.bases ∙ gone.bases;
+      settled = settled_then splits old between new gone.settled put.settled;
     }
   where
     between : List Leaf
     between = moves.between
 
     take_it : Rows → Rows
-    take_it = gone_row (record { key = key_of from; id = id })
+    take_it = after_gone (change_of id from from_keeps)
 
     put_it : Rows → Rows
-    put_it = put_row (record { key = key_of at; id = id })
+    put_it = after_put (change_of id at to_keeps)
 
     here : Leaf
     here = record { name = moves.takes.leaf.name; bucket = take_it moves.takes.leaf.bucket }
@@ -123,16 +135,31 @@ move_after w size old new world names mid after are rows was is_world id from at
     to : Leaf
     to = record { name = moves.puts.leaf.name; bucket = put_it moves.puts.leaf.bucket }
 
-    gone : Steps w size old between (without id world) (mark_under w size here names)
-    gone = gone_steps w size old between world id from _ _ names are.tile rows there (as_leaf w size (key_of from) take_it old between moves.takes) was
+    gone : Steps w size splits old between (without id world) (mark_under w size here names)
+    gone =
+        gone_steps w size splits from_keeps old between world id from _ _ names are.tile rows there (as_leaf w size (key_of from) take_it old between moves.takes) was
+        (from_is_open moves.takes.leaf moves.takes.found)
 
     tile : tiles_from 0 (names_of between) ≡ true
     tile = ap (λ (ls : List Leaf). tiles_from 0 (names_of ls)) moves.takes.leaves ∙ ap (tiles_from 0) (names_of-replaced here.name here.bucket old) ∙ are.tile
 
-    put : Steps w size between new (with_member (record { id = id; at = at }) (without id world)) (mark_under w size to (mark_under w size here names))
+    named : (o : Option Leaf) → leaf_under (key_of at) old ≡ o → option_map (with_bucket here.name here.bucket) o ≡ Some moves.puts.leaf → to_keeps ≡ is_splitting splits moves.puts.leaf.name
+    named None found is = cc is
+    named (Some l) found is =
+        to_is_open l found ∙ ap (is_splitting splits) (sym (with_bucket-name here.name here.bucket l) ∙ ap (λ (m : Leaf). m.name) (some_is (with_bucket here.name here.bucket l) moves.puts.leaf is))
+      where
+        some_is : (a b : Leaf) → Some a ≡ Some b → a ≡ b
+        some_is a b e = cc e
+
+    to_between : to_keeps ≡ is_splitting splits moves.puts.leaf.name
+    to_between =
+        named (leaf_under (key_of at) old) refl
+        (sym (leaf_under-replaced (key_of at) here.name here.bucket old) ∙ ap (leaf_under (key_of at)) (sym moves.takes.leaves) ∙ moves.puts.found)
+
+    put : Steps w size splits between new (with_member (record { id = id; at = at }) (without id world)) (mark_under w size to (mark_under w size here names))
     put =
-        put_steps w size between new (without id world) (record { id = id; at = at }) _ _ (mark_under w size here names) tile gone.rows (place_of-gone id world)
-        (as_leaf w size (key_of at) put_it between new moves.puts) gone.crowded
+        put_steps w size splits to_keeps between new (without id world) (record { id = id; at = at }) _ _ (mark_under w size here names) tile gone.rows (place_of-gone id world)
+        (as_leaf w size (key_of at) put_it between new moves.puts) gone.crowded to_between
 
     from_is : leaf_under (key_of from) new ≡ Some (with_bucket to.name to.bucket here)
     from_is =

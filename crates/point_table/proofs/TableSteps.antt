@@ -1,5 +1,5 @@
 -- What a table keeps through a put and a removal.
-use Rattle.std.proofs.Common.{◌≡◌, ℕ, ◌<◌, ◌≤◌, ◌^◌, Bool, true, false, cond, List, [], ◌∷◌, Some, None, refl, sym, ap, subst, ◌∙◌, arith}
+use Rattle.std.proofs.Common.{◌≡◌, ℕ, ◌<◌, ◌≤◌, ◌^◌, Bool, true, false, cond, List, [], ◌∷◌, Option, Some, None, refl, sym, ap, subst, ◌∙◌, arith}
 use Rattle.std.specs.Prelude.{◌&&◌}
 use mathlib.Core.Bool.{true≢false}
 use Rattle.std.specs.List.{find, AllByRecursion}
@@ -14,20 +14,23 @@ use Rattle.zorder.specs.Tile.{tiles_from, next_key}
 use Rattle.zorder.proofs.Places.{key_of-lt}
 use Rattle.zorder.specs.SameName.{same_name, same_name-decides}
 use Rattle.bucket_versions.specs.declared.row.Row.{Row}
-use Rattle.bucket_versions.specs.Rows.{Rows, has_row, put_row, gone_row}
+use Rattle.bucket_versions.specs.declared.row.RowChange.{RowChange}
+use Rattle.bucket_versions.specs.Rows.{Rows, has_row, with_row, without_row, after_put, after_gone}
 use Rattle.index_layer.specs.Leaves.{Leaf, names_of, leaf_under, replaced}
 use Rattle.index_layer.specs.RowChanges.{ChangesAt}
 use Rattle.index_layer.specs.Stands.{HasRowsOf, is_at_key}
 use Rattle.plain_list.specs.World.{IsWorld, IsRising, IsAbove, place_of}
 use Rattle.plain_list.specs.Answer.{with_member, with_moved, without}
 use Rattle.plain_list.proofs.Members.{place_of-with_member, place_of-without}
-use Rattle.point_table.specs.Changes.{ChangesLeaf, base_of, bases_of}
+use Rattle.plain_list.specs.State.{OpenSplit, is_splitting}
+use Rattle.point_table.specs.Changes.{ChangesLeaf, open_base, base_of, bases_of, AreSettled}
 use Rattle.point_table.specs.Crowded.{remarked}
 use Rattle.point_table.specs.Crowds.{is_crowded, crowded_of}
 use Rattle.point_table.proofs.Covered.{Tiles, tiles, none_under, below_next, only_under}
 use Rattle.point_table.proofs.CrowdLemmas.{crowded_of-replaced}
 use Rattle.point_table.proofs.FoundLeaves.{found_named}
 use Rattle.plain_list.proofs.MemberMaps.{IsAbove-lower, without-absent, with_moved-absent, place_of-above}
+use Rattle.point_table.proofs.Settled.{open_or_none, settled_replaced}
 use Rattle.point_table.proofs.Standing.{found_has, find-names_of, rows_after_put}
 use Rattle.point_table.proofs.StandingLess.{rows_after_gone}
 
@@ -48,15 +51,25 @@ row_there world leaves id at rows there l found =
     ∙ ap (λ b. b && is_under l.name (key_of at)) (eq-eqb (key_of at) (key_of at) refl)
     ∙ (found_named (key_of at) leaves l found).1
 
-base_if : (b : Bool) (l : Leaf) (bucket : Rows) → (b ≡ true → bucket.base ≡ l.bucket.base) → base_of (cond b (record { name = l.name; bucket = bucket }) l) ≡ base_of l
-base_if true l bucket same = ap (λ (base : List Row). record { name = l.name; base = base }) (same refl)
-base_if false l bucket same = refl
+base_if : (splits : List OpenSplit) (b : Bool) (l : Leaf) (bucket : Rows) → (b ≡ true → open_base (is_splitting splits l.name) bucket.base ≡ open_base (is_splitting splits l.name) l.bucket.base)
+    → base_of splits (cond b (record { name = l.name; bucket = bucket }) l) ≡ base_of splits l
+base_if splits true l bucket same = ap (λ (base : Option (List Row)). record { name = l.name; base = base }) (same refl)
+base_if splits false l bucket same = refl
 
--- a leaf that is replaced by one on the same base
-bases_of-replaced : (key : ℕ) (leaf : Leaf) (bucket : Rows) (leaves : List Leaf) → bucket.base ≡ leaf.bucket.base
-    → AllByRecursion (λ (l : Leaf). same_name l.name leaf.name ≡ true → l.bucket.base ≡ leaf.bucket.base) leaves → bases_of (replaced leaf.name bucket leaves) ≡ bases_of leaves
-bases_of-replaced key leaf bucket [] same all = refl
-bases_of-replaced key leaf bucket (l ∷ leaves) same all = λ i. base_if (same_name l.name leaf.name) l bucket (λ e. same ∙ sym (all.0 e)) i ∷ bases_of-replaced key leaf bucket leaves same all.1 i
+same_open : (b : Bool) (one other : List Row) → (b ≡ true → one ≡ other) → open_base b one ≡ open_base b other
+same_open true one other same = ap Some (same refl)
+same_open false one other same = refl
+
+-- a leaf that is replaced by one on the same base, where its split is open
+bases_of-replaced : (splits : List OpenSplit) (leaf : Leaf) (bucket : Rows) (leaves : List Leaf) → (is_splitting splits leaf.name ≡ true → bucket.base ≡ leaf.bucket.base)
+    → AllByRecursion (λ (l : Leaf). same_name l.name leaf.name ≡ true → l.bucket.base ≡ leaf.bucket.base) leaves → bases_of splits (replaced leaf.name bucket leaves) ≡ bases_of splits leaves
+bases_of-replaced splits leaf bucket [] same all = refl
+bases_of-replaced splits leaf bucket (l ∷ leaves) same all = λ i. base_if splits (same_name l.name leaf.name) l bucket first i ∷ bases_of-replaced splits leaf bucket leaves same all.1 i
+  where
+    first : same_name l.name leaf.name ≡ true → open_base (is_splitting splits l.name) bucket.base ≡ open_base (is_splitting splits l.name) l.bucket.base
+    first e =
+        same_open (is_splitting splits l.name) bucket.base l.bucket.base
+        (λ is. same (ap (is_splitting splits) (sym ((same_name-decides l.name leaf.name).0 e)) ∙ is) ∙ sym (all.0 e))
 
 none_same : (key : ℕ) (leaf : Leaf) (leaves : List Leaf) → is_under leaf.name key ≡ true → AllByRecursion (λ (n : List Bool). is_under n key ≡ false) (names_of leaves)
     → AllByRecursion (λ (l : Leaf). same_name l.name leaf.name ≡ true → l.bucket.base ≡ leaf.bucket.base) leaves
@@ -87,19 +100,21 @@ only_found k key (l ∷ leaves) leaf tile small found = by_test (is_under l.name
         let leaf_is = (found_named key leaves leaf there).1 in
         (λ e. absurd (true≢false (sym leaf_is ∙ ap (λ n. is_under n key) (sym ((same_name-decides l.name leaf.name).0 e)) ∙ other)), rest t.rest small there)
 
--- the leaves stand for a world, those to be split are known, and names and bases are as before
-pub record Steps (w size : ℕ) (old new : List Leaf) (world : List Placed) (names : List (List Bool)) : Type 0 where
+-- the leaves stand for a world, those to be split are known, names and the bases of open splits are as before, and the other leaves are settled
+pub record Steps (w size : ℕ) (splits : List OpenSplit) (old new : List Leaf) (world : List Placed) (names : List (List Bool)) : Type 0 where
   pub rows : AllByRecursion (HasRowsOf world) new
   pub crowded : names ≡ crowded_of w size new
-  pub bases : bases_of new ≡ bases_of old
+  pub bases : bases_of splits new ≡ bases_of splits old
+  pub settled : AreSettled splits old new
 
-pub put_steps : (w size : ℕ) (old new : List Leaf) (world : List Placed) (m : Placed) (name : List Bool) (crowded : Bool) (names : List (List Bool)) → tiles_from 0 (names_of old) ≡ true → AllByRecursion (HasRowsOf world) old
-    → place_of world m.id ≡ None → ChangesLeaf w size (key_of m.at) (put_row (record { key = key_of m.at; id = m.id })) old new name crowded → names ≡ crowded_of w size old
-    → Steps w size old new (with_member m world) (remarked crowded name names)
-put_steps w size old new world m name crowded names tile rows none change was =
+pub put_steps : (w size : ℕ) (splits : List OpenSplit) (keeps : Bool) (old new : List Leaf) (world : List Placed) (m : Placed) (name : List Bool) (crowded : Bool) (names : List (List Bool)) → tiles_from 0 (names_of old) ≡ true → AllByRecursion (HasRowsOf world) old
+    → place_of world m.id ≡ None → (change : ChangesLeaf w size (key_of m.at) (after_put (record { row = record { key = key_of m.at; id = m.id }; keeps_base = keeps })) old new name crowded) → names ≡ crowded_of w size old
+    → keeps ≡ is_splitting splits change.leaf.name → Steps w size splits old new (with_member m world) (remarked crowded name names)
+put_steps w size splits keeps old new world m name crowded names tile rows none change was keeps_is =
     let key = key_of m.at in
     let leaf = change.leaf in
-    let bucket = put_row (record { key = key; id = m.id }) leaf.bucket in
+    let row : Row = record { key = key; id = m.id } in
+    let bucket = after_put (record { row = row; keeps_base = keeps }) leaf.bucket in
     let found : find (λ n. is_under n key) (names_of old) ≡ Some leaf.name = find-names_of key old ∙ ap (option_map (λ (l : Leaf). l.name)) change.found in
     let only = only_under 0 key (names_of old) leaf.name tile (key_of-lt m.at) found in
     record {
@@ -108,16 +123,22 @@ put_steps w size old new world m name crowded names tile rows none change was =
       crowded =
           ap (λ (n : List Bool). remarked crowded n names) change.name_is ∙ ap (remarked crowded leaf.name) was ∙ ap (λ b. remarked b leaf.name (crowded_of w size old)) change.crowded_is
           ∙ sym (crowded_of-replaced w size 0 leaf.name bucket old tile (found_named key old leaf change.found).0) ∙ ap (crowded_of w size) (sym change.leaves);
-      bases = ap bases_of change.leaves ∙ bases_of-replaced key leaf bucket old refl (only_found 0 key old leaf tile (key_of-lt m.at) change.found);
+      bases =
+          ap (bases_of splits) change.leaves
+          ∙ bases_of-replaced splits leaf bucket old (λ is. ap (λ b. cond b leaf.bucket.base (with_row row leaf.bucket.rows)) (keeps_is ∙ is)) (only_found 0 key old leaf tile (key_of-lt m.at) change.found);
+      settled =
+          subst (AreSettled splits old) (sym change.leaves)
+          (settled_replaced splits leaf.name bucket old (open_or_none keeps (is_splitting splits leaf.name) leaf.bucket.base (with_row row leaf.bucket.rows) keeps_is));
     }
 
-pub gone_steps : (w size : ℕ) (old new : List Leaf) (world : List Placed) (id : ℕ) (at : Point) (name : List Bool) (crowded : Bool) (names : List (List Bool)) → tiles_from 0 (names_of old) ≡ true → AllByRecursion (HasRowsOf world) old
-    → place_of world id ≡ Some at → ChangesLeaf w size (key_of at) (gone_row (record { key = key_of at; id = id })) old new name crowded → names ≡ crowded_of w size old
-    → Steps w size old new (without id world) (remarked crowded name names)
-gone_steps w size old new world id at name crowded names tile rows there change was =
+pub gone_steps : (w size : ℕ) (splits : List OpenSplit) (keeps : Bool) (old new : List Leaf) (world : List Placed) (id : ℕ) (at : Point) (name : List Bool) (crowded : Bool) (names : List (List Bool)) → tiles_from 0 (names_of old) ≡ true → AllByRecursion (HasRowsOf world) old
+    → place_of world id ≡ Some at → (change : ChangesLeaf w size (key_of at) (after_gone (record { row = record { key = key_of at; id = id }; keeps_base = keeps })) old new name crowded) → names ≡ crowded_of w size old
+    → keeps ≡ is_splitting splits change.leaf.name → Steps w size splits old new (without id world) (remarked crowded name names)
+gone_steps w size splits keeps old new world id at name crowded names tile rows there change was keeps_is =
     let key = key_of at in
     let leaf = change.leaf in
-    let bucket = gone_row (record { key = key; id = id }) leaf.bucket in
+    let row : Row = record { key = key; id = id } in
+    let bucket = after_gone (record { row = row; keeps_base = keeps }) leaf.bucket in
     let found : find (λ n. is_under n key) (names_of old) ≡ Some leaf.name = find-names_of key old ∙ ap (option_map (λ (l : Leaf). l.name)) change.found in
     let only = only_under 0 key (names_of old) leaf.name tile (key_of-lt at) found in
     record {
@@ -126,7 +147,12 @@ gone_steps w size old new world id at name crowded names tile rows there change 
       crowded =
           ap (λ (n : List Bool). remarked crowded n names) change.name_is ∙ ap (remarked crowded leaf.name) was ∙ ap (λ b. remarked b leaf.name (crowded_of w size old)) change.crowded_is
           ∙ sym (crowded_of-replaced w size 0 leaf.name bucket old tile (found_named key old leaf change.found).0) ∙ ap (crowded_of w size) (sym change.leaves);
-      bases = ap bases_of change.leaves ∙ bases_of-replaced key leaf bucket old refl (only_found 0 key old leaf tile (key_of-lt at) change.found);
+      bases =
+          ap (bases_of splits) change.leaves
+          ∙ bases_of-replaced splits leaf bucket old (λ is. ap (λ b. cond b leaf.bucket.base (without_row row leaf.bucket.rows)) (keeps_is ∙ is)) (only_found 0 key old leaf tile (key_of-lt at) change.found);
+      settled =
+          subst (AreSettled splits old) (sym change.leaves)
+          (settled_replaced splits leaf.name bucket old (open_or_none keeps (is_splitting splits leaf.name) leaf.bucket.base (without_row row leaf.bucket.rows) keeps_is));
     }
 
 above_first : (id : ℕ) (at : Point) (ms : List Placed) → IsAbove id ms → with_member (record { id = id; at = at }) ms ≡ record { id = id; at = at } ∷ ms
@@ -150,6 +176,6 @@ pub with_member-without : (id : ℕ) (old at : Point) (world : List Placed) → 
 with_member-without id old at world w there = moves id old at world w.rising there
 
 -- one leaf's bucket has changed, and whether it is to be split is told by its rows
-pub as_leaf : (w size key : ℕ) (change : Rows → Rows) (old new : List Leaf) (at : ChangesAt key change old new)
+abbrev pub as_leaf : (w size key : ℕ) (change : Rows → Rows) (old new : List Leaf) (at : ChangesAt key change old new)
     → ChangesLeaf w size key change old new at.leaf.name (is_crowded w size (record { name = at.leaf.name; bucket = change at.leaf.bucket }))
 as_leaf w size key change old new at = record { leaf = at.leaf; found = at.found; name_is = refl; leaves = at.leaves; crowded_is = refl }

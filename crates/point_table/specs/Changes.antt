@@ -1,8 +1,9 @@
 -- An index whose leaves have changed at one name.
-use Rattle.std.specs.Prelude.{◌≡◌, ℕ, Bool, List, Some, map}
+use Rattle.std.specs.Prelude.{◌≡◌, ◌⊎◌, ℕ, Bool, true, false, List, [], ◌∷◌, Option, Some, None, map, ⊤}
 use Rattle.bucket_versions.specs.declared.row.Row.{Row}
 use Rattle.bucket_versions.specs.Rows.{Rows}
 use Rattle.index_layer.specs.Leaves.{Leaf, leaf_under, replaced}
+use Rattle.plain_list.specs.State.{OpenSplit, is_splitting}
 use Rattle.point_table.specs.Crowds.{is_crowded}
 
 -- the leaf of a key has another bucket, and whether it is to be split then
@@ -13,14 +14,28 @@ pub record ChangesLeaf (w size key : ℕ) (change : Rows → Rows) (old new : Li
   pub leaves : new ≡ replaced leaf.name (change leaf.bucket) old
   pub crowded_is : crowded ≡ is_crowded w size (record { name = leaf.name; bucket = change leaf.bucket })
 
--- a leaf's name, and the base of its bucket
+-- a leaf's name, and the base of its bucket where its split is open
 pub record LeafBase : Type 0 where
   pub name : List Bool
-  pub base : List Row
+  pub base : Option (List Row)
 
-abbrev pub base_of : Leaf → LeafBase
-base_of l = record { name = l.name; base = l.bucket.base }
+abbrev pub open_base : Bool → List Row → Option (List Row)
+open_base true base = Some base
+open_base false base = None
 
--- the leaves' names and bases
-abbrev pub bases_of : List Leaf → List LeafBase
-bases_of leaves = map base_of leaves
+abbrev pub base_of : List OpenSplit → Leaf → LeafBase
+base_of splits l = record { name = l.name; base = open_base (is_splitting splits l.name) l.bucket.base }
+
+-- the leaves' names, and the bases of those whose splits are open
+abbrev pub bases_of : List OpenSplit → List Leaf → List LeafBase
+bases_of splits leaves = map (base_of splits) leaves
+
+-- a leaf is as it was, or its split is open, or its bucket has no delta: its rows are its base
+abbrev pub IsSettled : List OpenSplit → Leaf → Leaf → Type 0
+IsSettled splits old new = (new ≡ old) ⊎ ((is_splitting splits new.name ≡ true) ⊎ (new.bucket.base ≡ new.bucket.rows))
+
+abbrev pub AreSettled : List OpenSplit → List Leaf → List Leaf → Type 0
+AreSettled splits [] [] = ⊤
+AreSettled splits [] (n ∷ new) = ⊥
+AreSettled splits (o ∷ old) [] = ⊥
+AreSettled splits (o ∷ old) (n ∷ new) = IsSettled splits o n × AreSettled splits old new

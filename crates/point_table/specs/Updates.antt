@@ -7,7 +7,8 @@ use Rattle.plain_list.specs.declared.ops.Op.{Op}
 use Rattle.plain_list.specs.declared.ops.Op.TheVariants.{Within, Near}
 use Rattle.plain_list.specs.declared.ops.Answer.{Answer}
 use Rattle.plain_list.specs.Answer.{answer_of, after_of}
-use Rattle.point_table.specs.Changes.{bases_of}
+use Rattle.plain_list.specs.State.{OpenSplit}
+use Rattle.point_table.specs.Changes.{bases_of, AreSettled}
 use Rattle.point_table.specs.TableView.{TableView}
 
 -- an operation that a table answers: a change or a find
@@ -16,16 +17,17 @@ IsUpdate (Within region) = ⊥
 IsUpdate (Near at k) = ⊥
 IsUpdate _ = ⊤
 
--- the world after; the leaves keep their names and bases
-pub record Changes (old new : TableView) (after : List Placed) : Type 0 where
+-- the world after; the leaves keep their names, and their bases where their splits are open; else those that changed have no delta
+pub record Changes (splits : List OpenSplit) (old new : TableView) (after : List Placed) : Type 0 where
   pub world : new.world ≡ after
-  pub bases : bases_of new.leaves ≡ bases_of old.leaves
+  pub bases : bases_of splits new.leaves ≡ bases_of splits old.leaves
+  pub settled : AreSettled splits old.leaves new.leaves
   pub size : new.size ≡ old.size
 
 -- the answer of the world, and the world after
-pub record Updates (old new : TableView) (op : Op) (answer : Answer) : Type 0 where
+pub record Updates (splits : List OpenSplit) (old new : TableView) (op : Op) (answer : Answer) : Type 0 where
   pub answer_is : answer ≡ answer_of old.world op
-  pub changes : Changes old new (after_of old.world op)
+  pub changes : Changes splits old new (after_of old.world op)
 
 -- the step was taken where the operation changes the world; else it wasn't asked for, and the answer is sure
 abbrev pub TellsIf : {C A : Type 0} → (C → C → Type 0) → (C → C → Type 0) → Bool → C → C → Result A Undone → Type 0

@@ -3,7 +3,7 @@ ghost use Rattle.std.specs.Prelude.{◌≡◌, ◌+◌, ◌-◌, ◌<◌, ◌≤
 ghost use Rattle.std.specs.Arc.{arc_value};
 ghost use Rattle.std.specs.List.{AllByRecursion, find};
 ghost use Rattle.bucket_versions.specs.Told.{Told};
-ghost use Rattle.bucket_versions.specs.Rows.{has_row, put_row, gone_row};
+ghost use Rattle.bucket_versions.specs.Rows.{has_row};
 ghost use Rattle.plain_list.specs.World.{most_members, IsWorld, place_of};
 ghost use Rattle.plain_list.specs.Answer.{with_member, with_moved, without, answer_of, is_change};
 ghost use Rattle.plain_list.specs.Size.{is_over};
@@ -19,9 +19,9 @@ ghost use Rattle.point_table.specs.Updates.{IsUpdate, Changes, Updates, TellsIf}
 mod built;
 mod splits;
 
-use crate::crowded::{Begun, Crowded, is_over};
+use crate::crowded::{Begun, Crowded, is_among, is_over};
 use crate::members::Members;
-use bucket_versions::{Bucket, Commit, Row, Undone};
+use bucket_versions::{Bucket, Commit, Row, RowChange, Undone};
 use index_layer::{Index, Part};
 use plain_list::{Answer, MOST_MEMBERS, Op};
 use std::alloc::Global;
@@ -107,27 +107,40 @@ impl<I: Index> PointTable<I> {
         }
     }
 
-    /// Answers a change or a find. A change is made once the step has succeeded.
-    pub fn update<C: Commit>(&mut self, op: &Op, commit: &mut C) -> Result<Answer, Undone>
+    /// Answers a change or a find, where these splits are open. A change is made once the step has succeeded.
+    #[tactic(auto, using(crate::proofs::Settled::settled_same))]
+    pub fn update<C: Commit>(
+        &mut self,
+        op: &Op,
+        begun: &[Begun],
+        commit: &mut C,
+    ) -> Result<Answer, Undone>
         requires update { IsUpdate op.now }
         requires can { is_change (answer_of self.old.world op.now) ≡ true → C.can commit.old }
-        ensures ok { IfOk result (λ a. Updates self.old self.new op.now a) }
+        ensures ok { IfOk result (λ a. Updates (splits_of begun.now) self.old self.new op.now a) }
         ensures err { OnErr result (self.new ≡ self.old) }
         ensures told { TellsIf C.done C.lost (is_change (answer_of self.old.world op.now)) commit.old commit.new result }
     {
         match *op {
-            Op::Put { id, at } => self.put(id, at, commit),
-            Op::Move { id, at } => self.relocate(id, at, commit),
-            Op::Remove { id } => self.remove(id, commit),
+            Op::Put { id, at } => self.put(id, at, begun, commit),
+            Op::Move { id, at } => self.relocate(id, at, begun, commit),
+            Op::Remove { id } => self.remove(id, begun, commit),
             Op::Find { id } => Ok(self.find(id)),
             Op::Within { .. } => unreachable!(),
             Op::Near { .. } => unreachable!(),
         }
     }
 
-    fn put<C: Commit>(&mut self, id: u64, at: Point, commit: &mut C) -> Result<Answer, Undone>
+    #[tactic(auto, using(crate::proofs::Settled::settled_same))]
+    fn put<C: Commit>(
+        &mut self,
+        id: u64,
+        at: Point,
+        begun: &[Begun],
+        commit: &mut C,
+    ) -> Result<Answer, Undone>
         requires { is_change (answer_of self.old.world (Op.Put id at)) ≡ true → C.can commit.old }
-        ensures ok { IfOk result (λ a. Updates self.old self.new (Op.Put id at) a) }
+        ensures ok { IfOk result (λ a. Updates (splits_of begun.now) self.old self.new (Op.Put id at) a) }
         ensures err { OnErr result (self.new ≡ self.old) }
         ensures told { TellsIf C.done C.lost (is_change (answer_of self.old.world (Op.Put id at))) commit.old commit.new result }
     {
@@ -137,37 +150,50 @@ impl<I: Index> PointTable<I> {
         if self.len() >= MOST_MEMBERS {
             return Ok(Answer::Full);
         }
-        match self.add(id, at, commit) {
+        match self.add(id, at, begun, commit) {
             Ok(()) => Ok(Answer::Done),
             Err(undone) => Err(undone),
         }
     }
 
-    fn relocate<C: Commit>(&mut self, id: u64, at: Point, commit: &mut C) -> Result<Answer, Undone>
+    #[tactic(auto, using(crate::proofs::Settled::settled_same))]
+    fn relocate<C: Commit>(
+        &mut self,
+        id: u64,
+        at: Point,
+        begun: &[Begun],
+        commit: &mut C,
+    ) -> Result<Answer, Undone>
         requires { is_change (answer_of self.old.world (Op.Move id at)) ≡ true → C.can commit.old }
-        ensures ok { IfOk result (λ a. Updates self.old self.new (Op.Move id at) a) }
+        ensures ok { IfOk result (λ a. Updates (splits_of begun.now) self.old self.new (Op.Move id at) a) }
         ensures err { OnErr result (self.new ≡ self.old) }
         ensures told { TellsIf C.done C.lost (is_change (answer_of self.old.world (Op.Move id at))) commit.old commit.new result }
     {
         let Some(old) = self.place(id) else {
             return Ok(Answer::Absent);
         };
-        match self.shift(id, old, at, commit) {
+        match self.shift(id, old, at, begun, commit) {
             Ok(()) => Ok(Answer::Moved(old)),
             Err(undone) => Err(undone),
         }
     }
 
-    fn remove<C: Commit>(&mut self, id: u64, commit: &mut C) -> Result<Answer, Undone>
+    #[tactic(auto, using(crate::proofs::Settled::settled_same))]
+    fn remove<C: Commit>(
+        &mut self,
+        id: u64,
+        begun: &[Begun],
+        commit: &mut C,
+    ) -> Result<Answer, Undone>
         requires { is_change (answer_of self.old.world (Op.Remove id)) ≡ true → C.can commit.old }
-        ensures ok { IfOk result (λ a. Updates self.old self.new (Op.Remove id) a) }
+        ensures ok { IfOk result (λ a. Updates (splits_of begun.now) self.old self.new (Op.Remove id) a) }
         ensures err { OnErr result (self.new ≡ self.old) }
         ensures told { TellsIf C.done C.lost (is_change (answer_of self.old.world (Op.Remove id))) commit.old commit.new result }
     {
         let Some(old) = self.place(id) else {
             return Ok(Answer::Absent);
         };
-        match self.take(id, old, commit) {
+        match self.take(id, old, begun, commit) {
             Ok(()) => Ok(Answer::Gone(old)),
             Err(undone) => Err(undone),
         }
@@ -183,11 +209,17 @@ impl<I: Index> PointTable<I> {
     }
 
     // Adds an object, which isn't there.
-    fn add<C: Commit>(&mut self, id: u64, at: Point, commit: &mut C) -> Result<(), Undone>
+    fn add<C: Commit>(
+        &mut self,
+        id: u64,
+        at: Point,
+        begun: &[Begun],
+        commit: &mut C,
+    ) -> Result<(), Undone>
         requires can { C.can commit.old }
         requires absent { place_of self.old.world id ≡ None }
         requires few { length self.old.world < most_members }
-        ensures ok { OnOk result (Changes self.old self.new (with_member (record { id = id; at = at }) self.old.world)) }
+        ensures ok { OnOk result (Changes (splits_of begun.now) self.old self.new (with_member (record { id = id; at = at }) self.old.world)) }
         ensures err { OnErr result (self.new ≡ self.old) }
         ensures told { Told C.done C.lost commit.old commit.new result }
     {
@@ -199,7 +231,8 @@ impl<I: Index> PointTable<I> {
             return Err(Undone::Memory);
         };
         // All memory but the index's own is taken: the step is the last thing that can fail.
-        if let Err(undone) = self.index.put_row(row, commit) {
+        let put = change(&self.index, begun, row);
+        if let Err(undone) = self.index.put_row(put, commit) {
             return Err(undone);
         }
         coordinates_fit(at);
@@ -214,11 +247,12 @@ impl<I: Index> PointTable<I> {
         id: u64,
         old: Point,
         at: Point,
+        begun: &[Begun],
         commit: &mut C,
     ) -> Result<(), Undone>
         requires can { C.can commit.old }
         requires there { place_of self.old.world id ≡ Some old }
-        ensures ok { OnOk result (Changes self.old self.new (with_moved id at self.old.world)) }
+        ensures ok { OnOk result (Changes (splits_of begun.now) self.old self.new (with_moved id at self.old.world)) }
         ensures err { OnErr result (self.new ≡ self.old) }
         ensures told { Told C.done C.lost commit.old commit.new result }
     {
@@ -235,7 +269,9 @@ impl<I: Index> PointTable<I> {
                 Err(Undone::Lost)
             };
         }
-        if let Err(undone) = self.index.move_row(&from, to, commit) {
+        let gone = change(&self.index, begun, from);
+        let put = change(&self.index, begun, to);
+        if let Err(undone) = self.index.move_row(gone, put, commit) {
             return Err(undone);
         }
         coordinates_fit(at);
@@ -246,10 +282,16 @@ impl<I: Index> PointTable<I> {
     }
 
     // Takes an object out, which is there.
-    fn take<C: Commit>(&mut self, id: u64, old: Point, commit: &mut C) -> Result<(), Undone>
+    fn take<C: Commit>(
+        &mut self,
+        id: u64,
+        old: Point,
+        begun: &[Begun],
+        commit: &mut C,
+    ) -> Result<(), Undone>
         requires can { C.can commit.old }
         requires there { place_of self.old.world id ≡ Some old }
-        ensures ok { OnOk result (Changes self.old self.new (without id self.old.world)) }
+        ensures ok { OnOk result (Changes (splits_of begun.now) self.old self.new (without id self.old.world)) }
         ensures err { OnErr result (self.new ≡ self.old) }
         ensures told { Told C.done C.lost commit.old commit.new result }
     {
@@ -257,7 +299,8 @@ impl<I: Index> PointTable<I> {
             return Err(Undone::Memory);
         };
         let row = Row { key: key(old), id };
-        if let Err(undone) = self.index.take_row(&row, commit) {
+        let gone = change(&self.index, begun, row);
+        if let Err(undone) = self.index.take_row(gone, commit) {
             return Err(undone);
         }
         self.members.remove(id);
@@ -298,6 +341,25 @@ impl<I: Index> PointTable<I> {
         ensures { I.leaves result ≡ self.leaves }
     {
         self.index
+    }
+}
+
+// A change of a row, which keeps the base of its leaf where that one's split is open.
+fn change<I: Index>(index: &I, begun: &[Begun], row: Row) -> RowChange
+    ensures row { result.row ≡ row }
+    ensures keeps { (l : Leaf) → leaf_under row.key (I.leaves index.now) ≡ Some l → result.keeps_base ≡ is_splitting (splits_of begun.now) l.name }
+{
+    // Mostly no split is open, and no leaf is looked for.
+    if begun.is_empty() {
+        return RowChange {
+            row,
+            keeps_base: false,
+        };
+    }
+    let (name, _) = index.leaf_of(row.key);
+    RowChange {
+        row,
+        keeps_base: is_among(begun, &name),
     }
 }
 
