@@ -79,7 +79,7 @@ module _ {I D : Type 0} (drive : D → Drive) (w : ℕ) (o : State) (old new : I
 
   -- a call
   pub inside-call : (session row : ℕ) (op : Op) → length h < most_events → new.history.entries ≡ h ++ Call session row op ∷ [] → length old.splits.splits ≤ new.history.room
-      → new.table.world ≡ after_of old.table.world op → bases_of new.table.leaves ≡ bases_of old.table.leaves → new.splits ≡ old.splits → IsInside drive w o new
+      → new.table.world ≡ after_of old.table.world op → bases_of old.splits.splits new.table.leaves ≡ bases_of old.splits.splits old.table.leaves → new.splits ≡ old.splits → IsInside drive w o new
   inside-call session row op few entries room world bases splits =
       let e : Entry = Call session row op in
       let steps = steps_on w o h e inside.legal sound refl in
@@ -87,13 +87,14 @@ module _ {I D : Type 0} (drive : D → Drive) (w : ℕ) (o : State) (old new : I
         opening = inside.opening;
         legal = rw entries steps.legal;
         world = rw entries (world ∙ ap (λ (ms : List Placed). after_of ms op) inside.world ∙ sym (ap (λ (t : State). t.world) steps.after));
-        names = rw entries (same_names _ _ bases ∙ inside.names ∙ sym (ap (λ (t : State). t.leaves) steps.after));
+        names = rw entries (same_names old.splits.splits _ _ bases ∙ inside.names ∙ sym (ap (λ (t : State). t.leaves) steps.after));
         splits = rw entries (ap (λ v. v.splits) splits ∙ inside.splits ∙ sym (ap (λ (t : State). t.splits) steps.after));
         begun = rw entries (ap (λ v. v.begun) splits ∙ inside.begun ∙ sym (ap (λ (t : State). t.begun) steps.after));
         bases = rw entries (KeepsBases-push w o h e old.table.leaves new.table.leaves (record {
           begun = λ number name is. absurd (not_begin number name is);
           was = λ before after number name there now. ap (λ (t : State). split_name t.splits number) (sym steps.after) ∙ now;
-          keeps = λ number name was now ms kept. KeepsBase-bases old.table.leaves new.table.leaves ms name bases kept;
+          keeps = λ number name was now ms kept.
+              KeepsBase-bases old.splits.splits old.table.leaves new.table.leaves ms name bases (ap (λ (os : List OpenSplit). is_splitting os name) inside.splits ∙ splitting-found s.splits number name was) kept;
         }) inside.bases);
         few = rw entries (one_more h e few);
         room = λ _. omega (arith, room, ap (λ v. length v.splits) splits);
@@ -203,7 +204,7 @@ module _ {I D : Type 0} (drive : D → Drive) (w : ℕ) (o : State) (old new : I
         bases = rw entries (KeepsBases-push w o h e old.table.leaves new.table.leaves (record {
           begun = λ n nm is. absurd (not_begin n nm is);
           was = λ before after n nm there now. left-open s.splits number n nm (ap (λ (t : State). split_name t.splits n) (sym steps.after) ∙ now);
-          keeps = λ n nm was now ms kept. KeepsBase-bases old.table.leaves new.table.leaves ms nm (ap (λ (v : TableView). bases_of v.leaves) table) kept;
+          keeps = λ n nm was now ms kept. subst (λ (v : TableView). KeepsBase v.leaves ms nm) (sym table) kept;
         }) inside.bases);
         few = rw entries (one_more h e few);
         room = λ _. omega (arith, room, inside.room going, ap length splits, ap length inside.splits, ap (λ (os : List OpenSplit). length (without_number number os)) inside.splits, length-without s.splits number name tidy.apart open_one);

@@ -7,16 +7,17 @@ use Rattle.plain_list.specs.declared.ops.Op.TheVariants.{Put, Move, Remove, Find
 use Rattle.plain_list.specs.Answer.{after_of, is_change, listed, members_in}
 use Rattle.index_layer.specs.Leaves.{Leaf, AreLeaves, names_of}
 use Rattle.index_layer.specs.Stands.{Stands, HasRowsOf}
+use Rattle.plain_list.specs.State.{OpenSplit}
 use Rattle.commit_book.specs.Answers.{IsQuery}
 use Rattle.point_table.specs.Changes.{LeafBase, bases_of}
 
-names_from_bases : (leaves : List Leaf) → map (λ (b : LeafBase). b.name) (bases_of leaves) ≡ names_of leaves
-names_from_bases [] = refl
-names_from_bases (l ∷ leaves) = ap (λ (names : List (List Bool)). l.name ∷ names) (names_from_bases leaves)
+names_from_bases : (splits : List OpenSplit) (leaves : List Leaf) → map (λ (b : LeafBase). b.name) (bases_of splits leaves) ≡ names_of leaves
+names_from_bases splits [] = refl
+names_from_bases splits (l ∷ leaves) = ap (λ (names : List (List Bool)). l.name ∷ names) (names_from_bases splits leaves)
 
 -- leaves with the same names and bases have the same names
-pub same_names : (old new : List Leaf) → bases_of new ≡ bases_of old → names_of new ≡ names_of old
-same_names old new same = sym (names_from_bases new) ∙ ap (map (λ (b : LeafBase). b.name)) same ∙ names_from_bases old
+pub same_names : (splits : List OpenSplit) (old new : List Leaf) → bases_of splits new ≡ bases_of splits old → names_of new ≡ names_of old
+same_names splits old new same = sym (names_from_bases splits new) ∙ ap (map (λ (b : LeafBase). b.name)) same ∙ names_from_bases splits old
 
 -- a query leaves the world
 pub query_keeps : (op : Op) (world : List Placed) → IsQuery op → after_of world op ≡ world

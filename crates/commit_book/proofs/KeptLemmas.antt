@@ -19,9 +19,10 @@ use Rattle.index_layer.proofs.LeafKeys.{false_if, first_key-under, first_key-fit
 use Rattle.index_layer.proofs.LeafNames.{IsAmong, later_leaf, find-among, among-any, some_found, short-among, one-leaf}
 use Rattle.plain_list.specs.declared.entries.Entry.{Entry}
 use Rattle.plain_list.specs.declared.entries.Entry.TheVariants.{Begin}
-use Rattle.plain_list.specs.State.{State, split_leaf, split_name, state_after}
+use Rattle.plain_list.specs.State.{State, OpenSplit, is_splitting, split_leaf, split_name, state_after}
 use Rattle.plain_list.specs.History.{world_after}
-use Rattle.point_table.specs.Changes.{LeafBase, base_of, bases_of}
+use Rattle.point_table.specs.Changes.{LeafBase, open_base, base_of, bases_of}
+use Rattle.point_table.proofs.Folding.{named_is}
 use Rattle.point_table.specs.Divisions.{Folds}
 use Rattle.commit_book.specs.KeptBases.{KeepsBase, KeepsBases}
 
@@ -73,23 +74,23 @@ KeepsBases-push w o h e old new on kept before after number name same now = by_p
         on.keeps number name was now (world_after o.world before) (kept before earlier.0 number name earlier.1 was)
 
 -- a leaf among others that have the same names and bases
-pub record SameBase (name : List Bool) (new : List Leaf) (b : LeafBase) : Type 0 where
+pub record SameBase (splits : List OpenSplit) (name : List Bool) (new : List Leaf) (b : LeafBase) : Type 0 where
   pub leaf : Leaf
   pub named : leaf_named name new ≡ Some leaf
-  pub same : base_of leaf ≡ b
+  pub same : base_of splits leaf ≡ b
 
 some_same : (a b : Leaf) → Some a ≡ Some b → a ≡ b
 some_same a b e = cc e
 
-pub leaf_named-bases : (name : List Bool) (old new : List Leaf) (leaf : Leaf) → bases_of new ≡ bases_of old → leaf_named name old ≡ Some leaf → SameBase name new (base_of leaf)
-leaf_named-bases name [] new leaf same found = cc found
-leaf_named-bases name (o ∷ old) [] leaf same found = absurd (none (base_of o) (bases_of old) same)
+pub leaf_named-bases : (splits : List OpenSplit) (name : List Bool) (old new : List Leaf) (leaf : Leaf) → bases_of splits new ≡ bases_of splits old → leaf_named name old ≡ Some leaf → SameBase splits name new (base_of splits leaf)
+leaf_named-bases splits name [] new leaf same found = cc found
+leaf_named-bases splits name (o ∷ old) [] leaf same found = absurd (none (base_of splits o) (bases_of splits old) same)
   where
     none : (b : LeafBase) (bs : List LeafBase) → [] ≡ b ∷ bs → ⊥
     none b bs e = cc e
-leaf_named-bases name (o ∷ old) (n ∷ new) leaf same found =
-    by_test (same_name o.name name) (same_name n.name name) (ap (λ (b : LeafBase). same_name b.name name) (head (base_of n) (base_of o) (bases_of new) (bases_of old) same)) found
-    (leaf_named-bases name old new leaf (rest (base_of n) (base_of o) (bases_of new) (bases_of old) same)) refl
+leaf_named-bases splits name (o ∷ old) (n ∷ new) leaf same found =
+    by_test (same_name o.name name) (same_name n.name name) (ap (λ (b : LeafBase). same_name b.name name) (head (base_of splits n) (base_of splits o) (bases_of splits new) (bases_of splits old) same)) found
+    (leaf_named-bases splits name old new leaf (rest (base_of splits n) (base_of splits o) (bases_of splits new) (bases_of splits old) same)) refl
   where
     head : (a b : LeafBase) (xs ys : List LeafBase) → a ∷ xs ≡ b ∷ ys → a ≡ b
     head a b xs ys e = cc e
@@ -105,21 +106,36 @@ leaf_named-bases name (o ∷ old) (n ∷ new) leaf same found =
     here true e = refl
     here false e = absurd (true≢false (sym e))
 
-    by_test : (a b : Bool) → b ≡ a → cond a (Some o) (leaf_named name old) ≡ Some leaf → (leaf_named name old ≡ Some leaf → SameBase name new (base_of leaf))
-        → b ≡ same_name n.name name → SameBase name (n ∷ new) (base_of leaf)
-    by_test true b e found later test = record { leaf = n; named = here (same_name n.name name) (sym test ∙ e); same = head (base_of n) (base_of o) (bases_of new) (bases_of old) same ∙ ap base_of (some_same o leaf found) }
+    by_test : (a b : Bool) → b ≡ a → cond a (Some o) (leaf_named name old) ≡ Some leaf → (leaf_named name old ≡ Some leaf → SameBase splits name new (base_of splits leaf))
+        → b ≡ same_name n.name name → SameBase splits name (n ∷ new) (base_of splits leaf)
+    by_test true b e found later test = record { leaf = n; named = here (same_name n.name name) (sym test ∙ e); same = head (base_of splits n) (base_of splits o) (bases_of splits new) (bases_of splits old) same ∙ ap (base_of splits) (some_same o leaf found) }
     by_test false b e found later test = let r = later found in record { leaf = r.leaf; named = skip (same_name n.name name) (sym test ∙ e) r.leaf r.named; same = r.same }
 
--- the names and bases say what a base is
-pub KeepsBase-bases : (old new : List Leaf) (world : List Placed) (name : List Bool) → bases_of new ≡ bases_of old → KeepsBase old world name → KeepsBase new world name
-KeepsBase-bases old new world name same kept =
-    let found = leaf_named-bases name old new kept.leaf same kept.named in
+open_is : (b : Bool) (base : List Row) → b ≡ true → open_base b base ≡ Some base
+open_is true base e = refl
+open_is false base e = absurd (true≢false (sym e))
+
+some_rows : (a b : List Row) → Some a ≡ Some b → a ≡ b
+some_rows a b e = cc e
+
+-- the names, and the bases of open splits, say what the base of an open split is
+pub KeepsBase-bases : (splits : List OpenSplit) (old new : List Leaf) (world : List Placed) (name : List Bool) → bases_of splits new ≡ bases_of splits old → is_splitting splits name ≡ true
+    → KeepsBase old world name → KeepsBase new world name
+KeepsBase-bases splits old new world name same open_one kept =
+    let found = leaf_named-bases splits name old new kept.leaf same kept.named in
+    let name_is : found.leaf.name ≡ kept.leaf.name = ap (λ (b : LeafBase). b.name) found.same in
+    let was : is_splitting splits kept.leaf.name ≡ true = ap (is_splitting splits) (named_is name old kept.leaf kept.named).1 ∙ open_one in
+    let base_is : found.leaf.bucket.base ≡ kept.leaf.bucket.base =
+    some_rows found.leaf.bucket.base kept.leaf.bucket.base
+    (sym (open_is (is_splitting splits found.leaf.name) found.leaf.bucket.base (ap (is_splitting splits) name_is ∙ was))
+    ∙ ap (λ (b : LeafBase). b.base) found.same
+    ∙ open_is (is_splitting splits kept.leaf.name) kept.leaf.bucket.base was) in
     record {
       leaf = found.leaf;
       named = found.named;
       base = record {
-        in_order = subst (λ (b : LeafBase). IsRows b.base) (sym found.same) kept.base.in_order;
-        rows = λ r. subst (λ (b : LeafBase). has_row r b.base ≡ (world_has world r && is_under b.name r.key)) (sym found.same) (kept.base.rows r);
+        in_order = subst IsRows (sym base_is) kept.base.in_order;
+        rows = λ r. ap (has_row r) base_is ∙ kept.base.rows r ∙ ap (λ (n : List Bool). world_has world r && is_under n r.key) (sym name_is);
       };
     }
 

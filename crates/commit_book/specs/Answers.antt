@@ -9,6 +9,7 @@ use Rattle.plain_list.specs.History.{world_after, call_count}
 use Rattle.plain_list.specs.State.{state_after}
 use Rattle.plain_list.specs.Size.{full_leaf}
 use Rattle.commit_book.specs.BookView.{BookView}
+use Rattle.point_table.specs.Changes.{AreSettled}
 pub use Rattle.point_table.specs.Updates.{IsUpdate}
 
 -- an operation that is answered from a snapshot
@@ -22,8 +23,9 @@ pub record Notes {D : Type 0} (old new : BookView D) (session row : ℕ) (op : O
   pub entries : new.entries ≡ old.entries ++ Call session row op ∷ []
   pub place_is : place ≡ call_count new.entries
 
--- the reply at its place, and the leaf that is to be split next
+-- the reply at its place, and the leaf that is to be split next; a leaf that changed has no delta, where its split isn't open
 pub record Replies {D : Type 0} (w : ℕ) (old new : BookView D) (session row : ℕ) (op : Op) (place : ℕ) (answer : Answer) (full : Option (List Bool)) : Type 0 where
   pub notes : Notes old new session row op place
   pub answer_is : answer ≡ answer_of (world_after old.opening.world old.entries) op
   pub full_is : full ≡ full_leaf w new.bucket (state_after w new.opening new.entries)
+  pub settled : AreSettled (state_after w old.opening old.entries).splits old.leaves new.leaves

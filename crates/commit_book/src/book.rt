@@ -192,7 +192,7 @@ impl<I: Index, D: LogDisk> Book<I, D> {
             journal: &mut self.journal,
             lost: Lost::Call { session, row, op },
         };
-        let answer = match self.table.update(&op, &mut step) {
+        let answer = match self.table.update(&op, self.splits.as_slice(), &mut step) {
             Ok(answer) => answer,
             Err(undone) => {
                 let cell = self.journal.cells();

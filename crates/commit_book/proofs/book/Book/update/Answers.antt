@@ -1,10 +1,12 @@
-use Rattle.std.proofs.Common.{◌≡◌, ◌+◌, true, List, length, refl, sym, ap, ◌∙◌, arith}
+use Rattle.std.proofs.Common.{◌≡◌, ◌+◌, true, List, length, refl, sym, ap, subst, ◌∙◌, arith}
 use Rattle.zorder.specs.declared.points.Placed.{Placed}
 use Rattle.plain_list.specs.declared.ops.Answer.{Answer}
 use Rattle.plain_list.specs.declared.entries.Entry.TheVariants.{Call}
 use Rattle.plain_list.specs.declared.entries.Lost.TheVariants as lost
 use Rattle.plain_list.specs.Answer.{answer_of, is_change}
 use Rattle.plain_list.specs.History.{world_after}
+use Rattle.plain_list.specs.State.{OpenSplit}
+use Rattle.point_table.specs.Changes.{AreSettled}
 use Rattle.plain_list.proofs.Histories.{state_after-world}
 use Rattle.kept_log.proofs.InJournal.{has_failed-none, leaves-quiet}
 use Rattle.commit_book.specs.BookInside.{book_of}
@@ -102,7 +104,7 @@ invariant_of-self-2 g c =
     (call_step w b.opening h c.self.invariant.legal may.call.going c.args.session c.args.row op) steps.legal refl c.in-Ok.ensures.ok refl now
     (ap is_change c.in-Ok-update.ensures.ok.answer_is) c.in-Ok-update.ensures.told c.note_quiet.ensures.noted c.note_quiet.ensures.quiet in
     inside-call g.D.LogDisk.drive w b.opening b _ c.self.invariant may.call.going it.keeps c.args.session c.args.row op may.call.few it.entries (omega (arith, it.room, c.len.ensures))
-    c.in-Ok-update.ensures.ok.changes.world c.in-Ok-update.ensures.ok.changes.bases refl
+    c.in-Ok-update.ensures.ok.changes.world (rw c.as_slice.ensures at c.in-Ok-update.ensures.ok.changes.bases) refl
 
 pub returns-clause-ok : goal.returns-clause-ok
 returns-clause-ok g c =
@@ -123,6 +125,7 @@ returns-clause-ok g c =
       notes = record { entries = it.entries; place_is = c.calls.ensures };
       answer_is = c.in-Ok-update.ensures.ok.answer_is ∙ ap (λ (ms : List Placed). answer_of ms op) world;
       full_is = c.full.ensures.full;
+      settled = subst (λ (os : List OpenSplit). AreSettled os b.table.leaves c.update.new.self.leaves) (c.as_slice.ensures ∙ c.self.invariant.splits) c.in-Ok-update.ensures.ok.changes.settled;
     })
 
 pub returns-clause-any_moment : goal.returns-clause-any_moment
