@@ -6,6 +6,8 @@
 
 mod crowd;
 mod tally;
+#[cfg(test)]
+mod tests;
 
 use book_lock::BookLock;
 use std::time::Duration;
