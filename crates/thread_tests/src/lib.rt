@@ -1,5 +1,13 @@
-//! Tests of a store that several sessions use at once: passes by hand, and lanes in threads; and no other code.
+//! Tests of sessions that run at once: passes by hand, lanes in an order that a gate makes, and sixteen lanes together; and no other code.
 #![tactic(auto)]
 
 #[cfg(test)]
-mod tests;
+mod crowds;
+#[cfg(test)]
+mod fixtures;
+#[cfg(test)]
+mod orders;
+#[cfg(test)]
+mod passes;
+#[cfg(test)]
+mod turns;

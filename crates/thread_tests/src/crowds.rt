@@ -1,0 +1,100 @@
+//! Sixteen lanes together, with no gate.
+ghost use Rattle.std.specs.Prelude.{◌≤◌};
+
+use crate::fixtures::{HEADER, Left, abandons, calls, play};
+use io_edge::OpenGate;
+use plain_list::{Entries, Entry};
+use std::alloc::{AllocError, Global};
+use std::process::Abort;
+use std::sync::Wait;
+use std::test::*;
+use std::thread::Threads;
+
+const SESSIONS: u32 = 16;
+
+// How many of a session's rows, its first, put ids that nobody else has.
+const PUTS: u32 = 100;
+
+// A coordinate that depends on a number as if by chance.
+fn spread(number: u32) -> u32 {
+    number.wrapping_mul(2_654_435_769)
+}
+
+// A row of a session: its puts, and then every operation in turn on the ids that it has put.
+fn row_text(alloc: Global, session: u32, row: u32) -> Result<String, AllocError> {
+    let id = session.wrapping_mul(1_000).wrapping_add(row % PUTS);
+    let (x, y) = (spread(id), spread(row));
+    if row < PUTS {
+        return format!(in alloc; "{session},put,{id},{x},{y},,\n");
+    }
+    match row % 5 {
+        0 => format!(in alloc; "{session},move,{id},{y},{x},,\n"),
+        1 => format!(in alloc; "{session},where,{id},,,,\n"),
+        2 => format!(in alloc; "{session},box,,0,0,{x},{y}\n"),
+        3 => format!(in alloc; "{session},near,,{x},{y},3,\n"),
+        _ => format!(in alloc; "{session},drop,{id},,,,\n"),
+    }
+}
+
+// So many rows of each session, in turn.
+fn crowd_text(alloc: Global, rows: u32) -> Result<Vec<u8>, AllocError> {
+    let mut text = HEADER.as_bytes().to_vec(alloc)?;
+    for row in 0..rows {
+        for session in 1..SESSIONS + 1 {
+            text.extend_from_slice(row_text(alloc, session, row)?.as_bytes())?;
+        }
+    }
+    Ok(text)
+}
+
+fn lines(left: &Left) -> usize {
+    left.written
+        .as_slice()
+        .iter()
+        .filter(|byte| **byte == b'\n')
+        .count()
+}
+
+// Whether a split was installed before the last call.
+fn splits_among_calls(events: &Entries) -> bool {
+    let mut installed = false;
+    let mut among = false;
+    for entry in events.as_slice() {
+        match entry {
+            Entry::Install { .. } => installed = true,
+            Entry::Call { .. } => among = installed,
+            _ => {}
+        }
+    }
+    among
+}
+
+// Plays so many rows of each session: each row is answered, and leaves are split among the calls.
+fn a_crowd_is_answered<R: Threads + Wait + Abort + Sync>(
+    rt: &R,
+    alloc: Global,
+    rows: u32,
+) -> Result<(), Fail>
+    requires { rows ≤ 4000 }
+{
+    let left = play(rt, alloc, "64", crowd_text(alloc, rows)?, &OpenGate)?;
+    let all = SESSIONS as usize * rows as usize;
+    assert_eq!(rt; left.status, 0);
+    assert_eq!(rt; lines(&left), all + 1);
+    assert_eq!(rt; calls(&left.events), all);
+    assert_eq!(rt; abandons(&left.events), 0);
+    assert!(rt; splits_among_calls(&left.events));
+    Ok(())
+}
+
+#[test]
+fn sixteen_sessions_of_400_rows_split_leaves_among_their_calls(
+    rt: HostRuntime,
+) -> Result<(), Fail> {
+    a_crowd_is_answered(&rt, rt.alloc(), 400)
+}
+
+#[test]
+fn sixteen_sessions_of_4000_rows_are_all_answered(rt: HostRuntime) -> Result<(), Fail> {
+    a_crowd_is_answered(&rt, rt.alloc(), 4_000)
+}

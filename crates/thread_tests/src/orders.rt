@@ -1,0 +1,169 @@
+//! Lanes that wait for one another, so that what each is told can be said beforehand.
+//!
+//! Who makes the first call of all isn't up to the gate. So each output has two forms, with the places 1 and 2 exchanged.
+use crate::fixtures::{HEADER, Left, play};
+use crate::turns::{Turn, Turns};
+use io_edge::GatePoint;
+use plain_list::Entry;
+use std::alloc::Global;
+use std::process::Abort;
+use std::sync::Wait;
+use std::test::*;
+use std::thread::Threads;
+
+const fn turn(point: GatePoint, lane: u8, until: u64) -> Turn {
+    Turn { point, lane, until }
+}
+
+const fn answered(lane: u8, until: u64) -> Turn {
+    turn(GatePoint::Answered, lane, until)
+}
+
+// Plays rows in buckets of four, with turns all of which are to be taken.
+fn play_in_turns<R: Threads + Wait + Abort + Sync>(
+    rt: &R,
+    alloc: Global,
+    rows: &str,
+    list: &[Turn],
+) -> Result<Left, Fail> {
+    let turns = Turns::new(list);
+    let input = format!(in alloc; "{HEADER}{rows}")?;
+    let left = play(rt, alloc, "4", input.as_bytes().to_vec(alloc)?, &turns)?;
+    assert_eq!(rt; left.status, 0);
+    assert!(rt; turns.are_over(), "a lane waited for what didn't come");
+    Ok(left)
+}
+
+// Whether these lines were written, behind the title, or those.
+fn wrote(alloc: Global, left: &Left, these: &str, those: &str) -> Result<bool, Fail> {
+    let these = format!(in alloc; "row,place,answer,detail\n{these}")?;
+    let those = format!(in alloc; "row,place,answer,detail\n{those}")?;
+    let written = left.written.as_slice();
+    Ok(written == these.as_bytes() || written == those.as_bytes())
+}
+
+// Each of two lanes stays behind its row until the other has come there too.
+fn each_lane_sees_the_other<R: Threads + Wait + Abort + Sync>(
+    rt: &R,
+    alloc: Global,
+) -> Result<(), Fail> {
+    let rows = "1,where,9,,,,\n2,where,9,,,,\n";
+    let left = play_in_turns(rt, alloc, rows, &[answered(1, 2), answered(2, 2)])?;
+    let wrote = wrote(
+        alloc,
+        &left,
+        "1,1,absent,\n2,2,absent,\n",
+        "1,2,absent,\n2,1,absent,\n",
+    )?;
+    assert!(rt; wrote);
+    Ok(())
+}
+
+#[test]
+fn lanes_run_side_by_side(rt: HostRuntime) -> Result<(), Fail> {
+    each_lane_sees_the_other(&rt, rt.alloc())
+}
+
+// Lane 1 has taken the index for its box, and stays until the put of lane 2 was answered.
+fn a_put_overtakes_a_box<R: Threads + Wait + Abort + Sync>(
+    rt: &R,
+    alloc: Global,
+) -> Result<(), Fail> {
+    let rows = "1,put,1,0,0,,\n1,box,,0,0,9,9\n2,where,9,,,,\n2,put,2,5,5,,\n2,box,,0,0,9,9\n";
+    let taken = turn(GatePoint::Taken, 1, 4);
+    let turns = [answered(1, 2), answered(2, 3), taken, answered(2, 0)];
+    let left = play_in_turns(rt, alloc, rows, &turns)?;
+    let wrote = wrote(
+        alloc,
+        &left,
+        "1,1,done,\n2,3,found,1:0:0\n3,2,absent,\n4,4,done,\n5,5,found,1:0:0;2:5:5\n",
+        "1,2,done,\n2,3,found,1:0:0\n3,1,absent,\n4,4,done,\n5,5,found,1:0:0;2:5:5\n",
+    )?;
+    assert!(rt; wrote);
+    Ok(())
+}
+
+#[test]
+fn a_query_that_is_held_answers_as_at_its_place(rt: HostRuntime) -> Result<(), Fail> {
+    a_put_overtakes_a_box(&rt, rt.alloc())
+}
+
+// Lane 1's fifth put makes the one leaf full. It has begun the split, and stays until the put of lane 2 was answered.
+fn a_put_comes_between<R: Threads + Wait + Abort + Sync>(
+    rt: &R,
+    alloc: Global,
+) -> Result<(), Fail> {
+    let rows =
+        "1,put,1,0,0,,\n1,put,2,1,0,,\n1,put,3,2,0,,\n1,put,4,3,0,,\n1,put,5,4000000000,0,,\n1,box,,4000000000,0,4000000009,9\n\
+        2,where,9,,,,\n2,put,6,4000000001,0,,\n";
+    let begun = turn(GatePoint::Begun, 1, 4);
+    let turns = [answered(1, 2), answered(2, 3), begun, answered(2, 0)];
+    let left = play_in_turns(rt, alloc, rows, &turns)?;
+    let wrote = wrote(
+        alloc,
+        &left,
+        "1,1,done,\n2,3,done,\n3,4,done,\n4,5,done,\n5,6,done,\n6,8,found,5:4000000000:0;6:4000000001:0\n7,2,absent,\n8,7,done,\n",
+        "1,2,done,\n2,3,done,\n3,4,done,\n4,5,done,\n5,6,done,\n6,8,found,5:4000000000:0;6:4000000001:0\n7,1,absent,\n8,7,done,\n",
+    )?;
+    assert!(rt; wrote);
+    let split = left.events.as_slice().get(6..9);
+    assert!(rt;
+        matches!(
+            split,
+            Some([
+                Entry::Begin { number: 1, .. },
+                Entry::Call {
+                    session: 2,
+                    row: 8,
+                    ..
+                },
+                Entry::Install { number: 1 }
+            ])
+        )
+    );
+    Ok(())
+}
+
+#[test]
+fn a_put_between_begin_and_install_lands_in_the_child(rt: HostRuntime) -> Result<(), Fail> {
+    a_put_comes_between(&rt, rt.alloc())
+}
+
+// Both sessions put the same taxi, and the gate says who comes first.
+fn the_first_put_stands<R: Threads + Wait + Abort + Sync>(
+    rt: &R,
+    alloc: Global,
+) -> Result<(), Fail> {
+    let left = play_in_turns(
+        rt,
+        alloc,
+        "1,put,7,3,5,,\n2,where,9,,,,\n2,put,7,8,8,,\n",
+        &[answered(1, 0), answered(2, 0)],
+    )?;
+    let first = wrote(
+        alloc,
+        &left,
+        "1,1,done,\n2,2,absent,\n3,3,present,3:5\n",
+        "1,2,done,\n2,1,absent,\n3,3,present,3:5\n",
+    )?;
+    assert!(rt; first);
+    let left = play_in_turns(
+        rt,
+        alloc,
+        "1,where,9,,,,\n1,put,7,3,5,,\n2,put,7,8,8,,\n",
+        &[answered(2, 0), answered(1, 0)],
+    )?;
+    let second = wrote(
+        alloc,
+        &left,
+        "1,1,absent,\n2,3,present,8:8\n3,2,done,\n",
+        "1,2,absent,\n2,3,present,8:8\n3,1,done,\n",
+    )?;
+    assert!(rt; second);
+    Ok(())
+}
+
+#[test]
+fn of_two_puts_of_one_id_the_first_stands(rt: HostRuntime) -> Result<(), Fail> {
+    the_first_put_stands(&rt, rt.alloc())
+}
