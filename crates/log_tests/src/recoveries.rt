@@ -1,121 +1,153 @@
 //! What a log recovers to, and what is no log.
-use crate::fixtures::{disk_of, log_of};
+use crate::fixtures::{AT, EMPTY_LOG, PUT_7, disk_of, found_in, log_of, made_of};
 use cell_format::{Cause, Cell};
-use recovery::{InitFault, OpenFault, init, inspect, open};
+use disk_trait::LogDisk;
+use recovery::{InitFault, OpenFault, Seen, open};
+use std::alloc::Global;
+use std::process::Abort;
 use std::test::Fail;
-use zorder::{Name, Placed, Point};
+use zorder::{Memory, Name, Placed};
 
-const EMPTY_LOG: &[u8; 17] = b"MDLOCLOG\x01\x01\0\0\0\0\0\0\0";
-
-const AT: Point = Point { x: 3, y: 5 };
-
-const PUT_7: Cell = Cell::Put { id: 7, at: AT };
+// Makes a log in a file with five bytes.
+fn makes_a_log(rt: &impl Abort, alloc: Global) -> Result<(), Fail> {
+    let (bytes, fault) = made_of(alloc, b"MDLOC")?;
+    assert_eq!(rt; fault, None);
+    assert_eq!(rt; bytes.as_slice(), EMPTY_LOG);
+    let seen = found_in(alloc, bytes.as_slice(), 0)?;
+    assert_eq!(rt; seen.cells, 0);
+    assert_eq!(rt; seen.world.as_slice().len(), 0);
+    assert!(rt; seen.leaves.as_slice() == [Name::whole()].as_slice());
+    Ok(())
+}
 
 #[test]
 fn a_new_log_is_a_header_and_a_clear_commit_byte(rt: HostRuntime) -> Result<(), Fail> {
-    let Ok(disk) = init(disk_of(rt.alloc(), b"MDLOC")?, 1) else {
-        panic!(rt; "the log isn't made");
-    };
-    assert_eq!(rt; disk.bytes(), EMPTY_LOG.as_slice());
-    let Ok(opened) = open(rt.alloc(), disk, 1, 0) else {
-        panic!(rt; "the log isn't opened");
-    };
-    assert_eq!(rt; opened.seen.cells, 0);
-    assert_eq!(rt; opened.seen.world.as_slice().len(), 0);
-    assert!(rt; opened.seen.leaves.as_slice() == [Name::whole()].as_slice());
-    assert_eq!(rt; opened.log.cells(), 0);
+    makes_a_log(&rt, rt.alloc())
+}
+
+fn makes_none(rt: &impl Abort, alloc: Global) -> Result<(), Fail> {
+    let (bytes, fault) = made_of(alloc, &[1; 18])?;
+    assert_eq!(rt; fault, Some(InitFault::InUse { len: 18 }));
+    assert_eq!(rt; bytes.as_slice(), [1; 18].as_slice());
     Ok(())
 }
 
 #[test]
 fn no_log_is_made_of_18_bytes(rt: HostRuntime) -> Result<(), Fail> {
-    let Err(refused) = init(disk_of(rt.alloc(), &[1; 18])?, 1) else {
-        panic!(rt; "a log is made");
+    makes_none(&rt, rt.alloc())
+}
+
+// Opens the log on a drive. It gives how many cells were found, how many the log has, and the drive.
+fn opened_on<D: LogDisk>(alloc: Global, disk: D) -> Option<(u64, u64, D)> {
+    match open(alloc, disk, 1, 1) {
+        Ok(opened) => Some((
+            opened.seen.cells,
+            opened.log.cells(),
+            opened.log.give_back(),
+        )),
+        Err(_) => None,
+    }
+}
+
+// Whether a log of one cell is opened, and its file then has so many bytes and ends in this one.
+fn opens_one(alloc: Global, bytes: &[u8], len: usize, last: u8) -> Result<bool, Memory> {
+    let Some((found, cells, disk)) = opened_on(alloc, disk_of(alloc, bytes, &[])?) else {
+        return Ok(false);
     };
-    assert_eq!(rt; refused.cause, InitFault::InUse { len: 18 });
-    assert_eq!(rt; refused.disk.bytes(), [1; 18].as_slice());
+    let held = disk.bytes();
+    Ok(found == 1 && cells == 1 && held.len() == len && held.last().copied() == Some(last))
+}
+
+fn cuts_off_what_stands_behind(rt: &impl Abort, alloc: Global) -> Result<(), Fail> {
+    let mut tail = [5; 41];
+    tail[0] = 77;
+    let torn = log_of(alloc, &[PUT_7], &tail)?;
+    let seen = found_in(alloc, torn.as_slice(), 1)?;
+    assert_eq!(rt; seen.cells, 1);
+    assert!(rt; seen.world.as_slice() == [Placed { id: 7, at: AT }].as_slice());
+    assert!(rt; opens_one(alloc, torn.as_slice(), 49, 77)?);
     Ok(())
 }
 
 #[test]
 fn an_open_cuts_off_what_stands_behind_the_last_commit_byte(rt: HostRuntime) -> Result<(), Fail> {
-    let mut tail = [5; 41];
-    tail[0] = 77;
-    let mut disk = log_of(rt.alloc(), &[PUT_7], &tail)?;
-    let seen = inspect(rt.alloc(), &mut disk, 1, 1)?;
-    assert_eq!(rt; seen.cells, 1);
-    assert!(rt; seen.world.as_slice() == [Placed { id: 7, at: AT }].as_slice());
-    assert_eq!(rt; disk.bytes().len(), 89);
-    let Ok(opened) = open(rt.alloc(), disk, 1, 1) else {
-        panic!(rt; "the log isn't opened");
-    };
-    assert_eq!(rt; opened.seen.cells, 1);
-    assert_eq!(rt; opened.log.cells(), 1);
-    let disk = opened.log.give_back();
-    assert_eq!(rt; disk.bytes().len(), 49);
-    assert_eq!(rt; disk.bytes().get(48).copied(), Some(77));
+    cuts_off_what_stands_behind(&rt, rt.alloc())
+}
+
+// Whether nothing is found in a log of these cells with these bytes behind them, for this cause.
+fn is_at_fault(
+    alloc: Global,
+    cells: &[Cell],
+    tail: &[u8],
+    fault: OpenFault,
+) -> Result<bool, Memory> {
+    let bytes = log_of(alloc, cells, tail)?;
+    Ok(found_in(alloc, bytes.as_slice(), 1).err() == Some(fault))
+}
+
+fn damaged(cause: Cause) -> OpenFault {
+    OpenFault::Damaged { cell: 0, cause }
+}
+
+fn tells_the_first_fault(rt: &impl Abort, alloc: Global) -> Result<(), Fail> {
+    let mut bad_kind = [0; 33];
+    bad_kind[0] = 1;
+    bad_kind[1] = 9;
+    let drop_7 = Cell::Remove { id: 7 };
+    assert!(rt; is_at_fault(alloc, &[], &bad_kind, damaged(Cause::Kind))?);
+    assert!(rt; is_at_fault(alloc, &[], &[1], damaged(Cause::ShortCell))?);
+    assert!(rt; is_at_fault(alloc, &[drop_7], &[0], damaged(Cause::Impossible))?);
+    assert!(rt; is_at_fault(alloc, &[], &[], OpenFault::NotLog)?);
+    assert!(rt;
+        is_at_fault(
+            alloc,
+            &[PUT_7, drop_7],
+            &[0],
+            OpenFault::TooLong { most: 1 }
+        )?
+    );
     Ok(())
 }
 
 #[test]
 fn the_first_place_at_fault_is_told(rt: HostRuntime) -> Result<(), Fail> {
-    let mut bad_kind = [0; 33];
-    bad_kind[0] = 1;
-    bad_kind[1] = 9;
-    let damaged = |cause| OpenFault::Damaged { cell: 0, cause };
-    let table = [
-        (log_of(rt.alloc(), &[], &bad_kind)?, damaged(Cause::Kind)),
-        (log_of(rt.alloc(), &[], &[1])?, damaged(Cause::ShortCell)),
-        (
-            log_of(rt.alloc(), &[Cell::Remove { id: 7 }], &[0])?,
-            damaged(Cause::Impossible),
-        ),
-        (log_of(rt.alloc(), &[], &[])?, OpenFault::NotLog),
-        (
-            disk_of(rt.alloc(), b"MDLOCLOG\x03\x01\0\0\0\0\0\0\0")?,
-            OpenFault::OldLog {
-                version: 3,
-                width: 1,
-            },
-        ),
-        (
-            log_of(rt.alloc(), &[PUT_7, Cell::Remove { id: 7 }], &[0])?,
-            OpenFault::TooLong { most: 1 },
-        ),
-    ];
-    for (mut disk, fault) in table {
-        assert_eq!(rt; inspect(rt.alloc(), &mut disk, 1, 1).err(), Some(fault));
-    }
+    let alloc = rt.alloc();
+    tells_the_first_fault(&rt, alloc)?;
+    let old = OpenFault::OldLog {
+        version: 3,
+        width: 1,
+    };
+    assert_eq!(rt;
+        found_in(alloc, b"MDLOCLOG\x03\x01\0\0\0\0\0\0\0", 1).err(),
+        Some(old)
+    );
     Ok(())
+}
+
+// Whether a log of these cells has so many leaves and so many splits that haven't ended, after one that was begun.
+fn has_split(
+    alloc: Global,
+    cells: &[Cell],
+    leaves: usize,
+    unfinished: u64,
+) -> Result<bool, OpenFault> {
+    let bytes = log_of(alloc, cells, &[0])?;
+    let seen = found_in(alloc, bytes.as_slice(), 16)?;
+    Ok(is_split(&seen, leaves, unfinished))
+}
+
+fn is_split(seen: &Seen, leaves: usize, unfinished: u64) -> bool {
+    seen.leaves.as_slice().len() == leaves && seen.unfinished == unfinished && seen.begun == 1
 }
 
 #[test]
 fn a_begin_alone_leaves_its_leaf(rt: HostRuntime) -> Result<(), Fail> {
-    let mut disk = log_of(
-        rt.alloc(),
-        &[Cell::Begin {
-            number: 1,
-            name: Name::whole(),
-        }],
-        &[0],
-    )?;
-    let seen = inspect(rt.alloc(), &mut disk, 1, 16)?;
-    assert_eq!(rt; seen.leaves.as_slice().len(), 1);
-    assert_eq!(rt; seen.unfinished, 1);
-    assert_eq!(rt; seen.begun, 1);
-    let mut split = log_of(
-        rt.alloc(),
-        &[
-            Cell::Begin {
-                number: 1,
-                name: Name::whole(),
-            },
-            Cell::Install { number: 1 },
-        ],
-        &[0],
-    )?;
-    let seen = inspect(rt.alloc(), &mut split, 1, 16)?;
-    assert_eq!(rt; seen.leaves.as_slice().len(), 2);
-    assert_eq!(rt; seen.unfinished, 0);
+    let alloc = rt.alloc();
+    let begin = Cell::Begin {
+        number: 1,
+        name: Name::whole(),
+    };
+    assert!(rt; has_split(alloc, &[begin], 1, 1)?);
+    assert!(rt; has_split(alloc, &[begin, Cell::Install { number: 1 }], 2, 0)?);
     Ok(())
 }

@@ -1,79 +1,92 @@
 //! What one append leaves, and what a crash may.
-use crate::fixtures::{empty_log, opened_log};
-use cell_format::Cell;
+use crate::appends::{Appended, Kept, append_in, journal_of};
+use crate::fixtures::{EMPTY_LOG, ONE_CELL, PUT_7, disk_of};
 use disk_mem::{DiskCall, Fail as Failing, PickFault};
 use split_log::AppendFault;
+use std::alloc::Global;
+use std::process::Abort;
 use std::test::Fail;
-use zorder::Point;
+use zorder::Memory;
 
-const PUT_7: Cell = Cell::Put {
-    id: 7,
-    at: Point { x: 3, y: 5 },
+const DONE: Appended = Appended {
+    fault: None,
+    closed: None,
+    cells: 1,
 };
+
+const LOST: Appended = Appended {
+    fault: Some(AppendFault::Disk { cell: 0 }),
+    closed: Some(0),
+    cells: 0,
+};
+
+const KEPT: Kept = Kept {
+    cells: 1,
+    closed: None,
+    is_full: false,
+    len: 49,
+};
+
+// Whether an append leaves a log of one cell, in the file and in the image of a crash, over five moments: a sync of the opening, and a
+// write, a sync, a write and a sync.
+fn appends_the_worked_bytes(alloc: Global) -> Result<bool, Memory> {
+    let Some(left) = append_in(alloc, EMPTY_LOG, &PUT_7, &[], 0, 9)? else {
+        return Ok(false);
+    };
+    let is_written = left.bytes.as_slice() == ONE_CELL && left.image.as_slice() == ONE_CELL;
+    Ok(is_written && left.appended == DONE && left.moments == 5)
+}
 
 #[test]
 fn an_append_leaves_the_worked_bytes(rt: HostRuntime) -> Result<(), Fail> {
-    let mut log = empty_log(rt.alloc(), Vec::new(rt.alloc()))?;
-    assert_eq!(rt; log.append(&PUT_7), Ok(()));
-    assert_eq!(rt; log.cells(), 1);
-    assert_eq!(rt; log.failed(), None);
-    let disk = log.give_back();
-    let text =
-        b"MDLOCLOG\x01\x01\0\0\0\0\0\0\x01\x01\0\0\0\0\0\0\0\x07\0\0\0\x03\0\0\0\x05\0\0\0\0\0\0\0\0\0\0\0\0\0\0\0";
-    assert_eq!(rt; disk.bytes(), text.as_slice());
-    let image = disk.pick(disk.moments(), 0, &[9])?;
-    assert_eq!(rt; image.as_slice(), text.as_slice());
+    assert!(rt; appends_the_worked_bytes(rt.alloc())?);
     Ok(())
 }
 
 #[test]
 fn an_opened_log_keeps_the_worked_cell(rt: HostRuntime) -> Result<(), Fail> {
-    let mut log = opened_log(rt.alloc())?;
-    assert_eq!(rt; log.append(&PUT_7), Ok(()));
-    assert_eq!(rt; log.cells(), 1);
-    assert_eq!(rt; log.closed(), None);
-    assert!(rt; !log.is_full());
-    let Some(disk) = log.give_back() else {
-        panic!(rt; "there is no drive");
+    assert_eq!(rt; journal_of(rt.alloc(), EMPTY_LOG, &PUT_7)?, Some(KEPT));
+    Ok(())
+}
+
+// Whether the image that has this in each free byte has this commit byte, where the sync of this number fails: the opening's is the first.
+fn is_closed(alloc: Global, sync: u64, fill: u8, commit_byte: u8) -> Result<bool, Memory> {
+    let failing = Failing {
+        call: DiskCall::Sync,
+        number: sync,
     };
-    assert_eq!(rt; disk.bytes().len(), 49);
+    let Some(left) = append_in(alloc, EMPTY_LOG, &PUT_7, &[failing], 49, fill)? else {
+        return Ok(false);
+    };
+    let is_whole = left.image.len() == 49 && left.image.get(16).copied() == Some(commit_byte);
+    Ok(is_whole && left.appended == LOST)
+}
+
+fn closes_at_a_failed_sync(rt: &impl Abort, alloc: Global) -> Result<(), Fail> {
+    assert!(rt; is_closed(alloc, 2, 1, 0)?);
+    assert!(rt; is_closed(alloc, 2, 0, 0)?);
+    assert!(rt; is_closed(alloc, 3, 1, 1)?);
+    assert!(rt; is_closed(alloc, 3, 0, 0)?);
     Ok(())
 }
 
 #[test]
 fn a_failed_sync_closes_the_log_at_its_cell(rt: HostRuntime) -> Result<(), Fail> {
-    for (sync, fill, commit_byte) in [(1, 1, 0), (1, 0, 0), (2, 1, 1), (2, 0, 0)] {
-        let failing = vec![in rt.alloc();
-            Failing {
-                call: DiskCall::Sync,
-                number: sync
-            },
-        ]?;
-        let mut log = empty_log(rt.alloc(), failing)?;
-        assert_eq!(rt; log.append(&PUT_7), Err(AppendFault::Disk { cell: 0 }));
-        assert_eq!(rt; log.failed(), Some(0));
-        assert_eq!(rt; log.cells(), 0);
-        let disk = log.give_back();
-        let image = disk.pick(disk.moments(), 49, &[fill])?;
-        assert_eq!(rt; image.len(), 49);
-        assert_eq!(rt;
-            image.get(16).copied(),
-            Some(commit_byte),
-            "sync {sync}, fill {fill}"
-        );
-    }
-    Ok(())
+    closes_at_a_failed_sync(&rt, rt.alloc())
+}
+
+// Why no image of a moment of a new drive is picked.
+fn unpicked(alloc: Global, moment: u64) -> Result<Option<PickFault>, Memory> {
+    let disk = disk_of(alloc, EMPTY_LOG, &[])?;
+    Ok(disk.pick(moment, 49, &[1]).err())
 }
 
 #[test]
 fn no_image_is_picked_above_the_clock(rt: HostRuntime) -> Result<(), Fail> {
-    let mut log = empty_log(rt.alloc(), Vec::new(rt.alloc()))?;
-    assert_eq!(rt; log.append(&PUT_7), Ok(()));
-    let disk = log.give_back();
-    assert_eq!(rt; disk.moments(), 4);
+    assert_eq!(rt; unpicked(rt.alloc(), 0)?, None);
     assert_eq!(rt;
-        disk.pick(5, 49, &[1]).err(),
-        Some(PickFault::NoMoment { moments: 4 })
+        unpicked(rt.alloc(), 1)?,
+        Some(PickFault::NoMoment { moments: 0 })
     );
     Ok(())
 }
