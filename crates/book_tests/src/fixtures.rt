@@ -1,36 +1,27 @@
-//! The drives that books begin with, and a put.
-use commit_book::{Book, BookFault, Done};
+//! The books that the tests begin with.
+use commit_book::Book;
 use disk_mem::{DiskCall, Fail, MemDisk};
 use disk_trait::LogDisk;
 use flat_index::FlatIndex;
-use index_layer::Index;
-use plain_list::Op;
 use recovery::open;
 use std::alloc::Global;
-use zorder::{Memory, Point};
+use zorder::Memory;
+
+/// A book over the flat index, and over a log in memory or none.
+pub type FlatBook = Book<FlatIndex, MemDisk>;
 
 /// A log of width 1 with no cells.
 pub const EMPTY_LOG: &[u8] = b"MDLOCLOG\x01\x01\0\0\0\0\0\0\0";
 
-/// Puts an object in a row of session 1.
-pub fn put<I: Index, D: LogDisk>(
-    book: &mut Book<I, D>,
-    row: u32,
-    id: u64,
-    x: u32,
-    y: u32,
-) -> Result<Done, BookFault> {
-    let at = Point { x, y };
-    book.update(1, row, &Op::Put { id, at })
+/// A book without a log.
+pub fn fresh(alloc: Global, bucket: u32) -> Result<FlatBook, Memory> {
+    Book::fresh(alloc, bucket)
 }
 
 /// A book over a log with these bytes, on a drive where these calls fail.
-pub fn book_over(
-    alloc: Global,
-    bytes: &[u8],
-    failing: Vec<Fail>,
-) -> Result<Book<FlatIndex, MemDisk>, Memory> {
+pub fn book_over(alloc: Global, bytes: &[u8], failing: &[Fail]) -> Result<FlatBook, Memory> {
     let bytes = Vec::from_slice(alloc, bytes)?;
+    let failing = Vec::from_slice(alloc, failing)?;
     let disk = MemDisk::new(alloc, bytes, 1_024, 64, failing)?;
     book_on(alloc, disk)
 }
@@ -47,11 +38,14 @@ fn book_on<D: LogDisk>(alloc: Global, disk: D) -> Result<Book<FlatIndex, D>, Mem
 }
 
 /// A book over a log of no cells, on a drive where one call fails.
-pub fn failing_book(
-    alloc: Global,
-    call: DiskCall,
-    number: u64,
-) -> Result<Book<FlatIndex, MemDisk>, Memory> {
-    let failing = vec![in alloc; Fail { call, number }]?;
-    book_over(alloc, EMPTY_LOG, failing)
+pub fn failing_book(alloc: Global, call: DiskCall, number: u64) -> Result<FlatBook, Memory> {
+    book_over(alloc, EMPTY_LOG, &[Fail { call, number }])
+}
+
+/// The bytes of the log under a book, or none.
+pub fn bytes_under(alloc: Global, book: FlatBook) -> Result<Vec<u8>, Memory> {
+    match book.into_parts().disk {
+        Some(disk) => Ok(disk.bytes().to_vec(alloc)?),
+        None => Ok(Vec::new(alloc)),
+    }
 }

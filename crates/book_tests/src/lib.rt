@@ -1,6 +1,10 @@
 //! Tests of the book over the flat index, without a log and over one in memory: worked calls, and no other code.
+//!
+//! The tests' steps stand in functions over any index and any drive, and their calls in `calls`, which says nothing of a book.
 #![tactic(auto)]
 
+#[cfg(test)]
+mod calls;
 #[cfg(test)]
 mod deltas;
 #[cfg(test)]

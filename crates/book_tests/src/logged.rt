@@ -1,17 +1,15 @@
 //! Books over a log in memory: the cell of each step, a drive that fails, and what a log brings.
-use crate::fixtures::{EMPTY_LOG, book_over, failing_book, put};
-use commit_book::{Book, BookFault};
+use crate::calls::{abandon, begin, counts, find, look, put, split};
+use crate::fixtures::{EMPTY_LOG, book_over, bytes_under, failing_book};
+use commit_book::{Book, BookFault, Done};
 use disk_mem::DiskCall;
 use disk_trait::LogDisk;
 use index_layer::Index;
 use plain_list::{Answer, Entry, Lost, Op};
-use split_prepare::prepare;
 use std::alloc::Global;
 use std::process::Abort;
 use std::test::Fail;
 use zorder::{Name, Point, child};
-
-const AT: Point = Point { x: 3, y: 5 };
 
 // Put 7 at (3,5), begin 1 of the empty name, install 1, begin 2 of `0`, abandon 2.
 const SPLIT_LOG: &[u8] = b"MDLOCLOG\x01\x01\0\0\0\0\0\0\
@@ -26,14 +24,13 @@ fn adds_cells_of_changes<I: Index, D: LogDisk>(
     rt: &impl Abort,
     book: &mut Book<I, D>,
 ) -> Result<(), Fail> {
-    assert_eq!(rt; book.cells(), 0);
+    assert!(rt; counts(book) == (0, 0, None));
     let _done = put(book, 1, 7, 3, 5)?;
-    assert_eq!(rt; book.cells(), 1);
+    assert!(rt; counts(book) == (1, 1, None));
     let _present = put(book, 2, 7, 8, 8)?;
-    let _found = book.update(1, 3, &Op::Find { id: 7 })?;
-    let _seen = book.snapshot(1, 4, &Op::Near { at: AT, k: 1 })?;
-    assert_eq!(rt; book.cells(), 1);
-    assert_eq!(rt; book.events(), 4);
+    let _found = find(book, 3, 7)?;
+    let _seen = look(book, 4)?;
+    assert!(rt; counts(book) == (1, 4, None));
     Ok(())
 }
 
@@ -43,30 +40,22 @@ fn adds_cells_of_splits<I: Index, D: LogDisk>(
     book: &mut Book<I, D>,
 ) -> Result<(), Fail> {
     let whole = Name::whole();
-    let ticket = book.begin(&whole)?;
-    assert_eq!(rt; book.cells(), 2);
-    let prepared = prepare(alloc, &ticket, I::WIDTH)?;
-    book.install(&prepared)?;
-    assert_eq!(rt; book.cells(), 3);
-    let _ticket = book.begin(&child(&whole, false))?;
-    book.abandon(2)?;
-    assert_eq!(rt; book.cells(), 5);
-    assert_eq!(rt; book.events(), 8);
-    assert_eq!(rt; book.closed(), None);
+    split(alloc, book, &whole)?;
+    assert!(rt; counts(book) == (3, 6, None));
+    assert_eq!(rt; begin(book, &child(&whole, false))?, 2);
+    assert!(rt; counts(book) == (4, 7, None));
+    abandon(book, 2)?;
+    assert!(rt; counts(book) == (5, 8, None));
     Ok(())
 }
 
 #[test]
 fn a_change_and_a_step_of_a_split_add_a_cell_each(rt: HostRuntime) -> Result<(), Fail> {
     let alloc = rt.alloc();
-    let mut book = book_over(alloc, EMPTY_LOG, Vec::new(alloc))?;
+    let mut book = book_over(alloc, EMPTY_LOG, &[])?;
     adds_cells_of_changes(&rt, &mut book)?;
     adds_cells_of_splits(&rt, alloc, &mut book)?;
-    let parts = book.into_parts();
-    let Some(disk) = &parts.disk else {
-        panic!(rt; "there is no drive");
-    };
-    assert_eq!(rt; disk.bytes(), SPLIT_LOG);
+    assert!(rt; bytes_under(alloc, book)?.as_slice() == SPLIT_LOG);
     Ok(())
 }
 
@@ -92,16 +81,9 @@ fn closes_at_a_put<I: Index, D: LogDisk>(
     rt: &impl Abort,
     mut book: Book<I, D>,
 ) -> Result<(), Fail> {
-    assert_eq!(rt;
-        put(&mut book, 1, 7, 3, 5).err(),
-        Some(BookFault::Disk { cell: 0 })
-    );
-    assert_eq!(rt; book.closed(), Some(0));
-    assert_eq!(rt; book.cells(), 0);
-    assert_eq!(rt;
-        put(&mut book, 2, 8, 1, 1).err(),
-        Some(BookFault::Closed { cell: 0 })
-    );
+    assert!(rt; put(&mut book, 1, 7, 3, 5).err() == Some(BookFault::Disk { cell: 0 }));
+    assert!(rt; counts(&book) == (0, 1, Some(0)));
+    assert!(rt; put(&mut book, 2, 8, 1, 1).err() == Some(BookFault::Closed { cell: 0 }));
     let parts = book.into_parts();
     assert_eq!(rt; parts.index.leaf_of(27).1.count(), 0);
     assert!(rt; is_lost_put(parts.entries.as_slice()));
@@ -112,40 +94,35 @@ fn closes_at_a_put<I: Index, D: LogDisk>(
 fn a_put_whose_append_fails_closes_the_book(rt: HostRuntime) -> Result<(), Fail> {
     let alloc = rt.alloc();
     // An opening syncs once, and an append writes, syncs, writes and syncs.
-    let calls = [
-        (DiskCall::Write, 1),
-        (DiskCall::Sync, 2),
-        (DiskCall::Write, 2),
-        (DiskCall::Sync, 3),
-    ];
-    for (call, number) in calls {
-        let book = failing_book(alloc, call, number)?;
-        closes_at_a_put(&rt, book)?;
-    }
+    closes_at_a_put(&rt, failing_book(alloc, DiskCall::Write, 1)?)?;
+    closes_at_a_put(&rt, failing_book(alloc, DiskCall::Sync, 2)?)?;
+    closes_at_a_put(&rt, failing_book(alloc, DiskCall::Write, 2)?)?;
+    closes_at_a_put(&rt, failing_book(alloc, DiskCall::Sync, 3)?)?;
     Ok(())
 }
 
+fn is_at(done: &Done) -> bool {
+    done.place == 1 && matches!(done.answer, Answer::At(Point { x: 3, y: 5 }))
+}
+
+fn is_present(done: &Done) -> bool {
+    done.place == 2 && matches!(done.answer, Answer::Present(Point { x: 3, y: 5 }))
+}
+
 fn goes_on<I: Index, D: LogDisk>(rt: &impl Abort, book: &mut Book<I, D>) -> Result<(), Fail> {
-    assert_eq!(rt; book.cells(), 5);
-    assert_eq!(rt; book.events(), 0);
-    let done = book.update(1, 1, &Op::Find { id: 7 })?;
-    assert!(rt; done.place == 1 && matches!(done.answer, Answer::At(Point { x: 3, y: 5 })));
-    let done = put(book, 2, 7, 8, 8)?;
-    assert!(rt; done.place == 2 && matches!(done.answer, Answer::Present(Point { x: 3, y: 5 })));
+    assert!(rt; counts(book) == (5, 0, None));
+    assert!(rt; is_at(&find(book, 1, 7)?));
+    assert!(rt; is_present(&put(book, 2, 7, 8, 8)?));
     let whole = Name::whole();
-    assert_eq!(rt; book.begin(&whole).err(), Some(BookFault::NoLeaf));
-    assert_eq!(rt;
-        book.abandon(2).err(),
-        Some(BookFault::NotOpen { number: 2 })
-    );
-    assert_eq!(rt; book.begin(&child(&whole, false))?.number, 3);
-    assert_eq!(rt; book.cells(), 6);
+    assert!(rt; begin(book, &whole).err() == Some(BookFault::NoLeaf));
+    assert!(rt; abandon(book, 2).err() == Some(BookFault::NotOpen { number: 2 }));
+    assert_eq!(rt; begin(book, &child(&whole, false))?, 3);
+    assert!(rt; counts(book) == (6, 3, None));
     Ok(())
 }
 
 #[test]
 fn a_book_goes_on_with_what_its_log_says(rt: HostRuntime) -> Result<(), Fail> {
-    let alloc = rt.alloc();
-    let mut book = book_over(alloc, SPLIT_LOG, Vec::new(alloc))?;
+    let mut book = book_over(rt.alloc(), SPLIT_LOG, &[])?;
     goes_on(&rt, &mut book)
 }
