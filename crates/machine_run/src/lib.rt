@@ -1,0 +1,10 @@
+//! The top call over standard input and output, for the programs that share it, and what they hand it: words, and drives over files.
+//!
+//! Not here: what the words ask for and what is promised (`location_run`), the drive over a file (`disk_file`), `main` (`mdloc`).
+#![tactic(auto)]
+
+mod command_line;
+mod ends;
+
+pub use command_line::words_of;
+pub use ends::{file_drive, out_of_memory, run_words};
