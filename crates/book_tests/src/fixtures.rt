@@ -44,7 +44,8 @@ pub fn failing_book(alloc: Global, call: DiskCall, number: u64) -> Result<FlatBo
 
 /// The bytes of the log under a book, or none.
 pub fn bytes_under(alloc: Global, book: FlatBook) -> Result<Vec<u8>, Memory> {
-    match book.into_parts().disk {
+    let parts = book.into_parts();
+    match &parts.disk {
         Some(disk) => Ok(disk.bytes().to_vec(alloc)?),
         None => Ok(Vec::new(alloc)),
     }

@@ -1,36 +1,65 @@
 //! A world of all the objects that it may have, through a log of their puts.
-use crate::fixtures::{NO_FAULTS, run_over, text};
 use disk_mem::MemDisk;
+use memory_runs::{NO_FAULTS, run_over, text};
 use std::alloc::{AllocError, Global};
+use std::sync::Wait;
 use std::test::Fail;
+use std::thread::Threads;
+use zorder::Memory;
 
 // A log of 1,048,576 puts with rising ids, at points of the axis.
 fn full_log(alloc: Global) -> Result<Vec<u8>, AllocError> {
     let mut log = b"MDLOCLOG\x01\x01\0\0\0\0\0\0".to_vec(alloc)?;
     for id in 0..1_048_576u32 {
-        log.extend_from_slice(b"\x01\x01\0\0\0\0")?;
-        log.extend_from_slice(&id.to_be_bytes())?;
-        log.extend_from_slice(&id.reverse_bits().to_be_bytes())?;
-        log.extend_from_slice(&[0; 18])?;
+        add_put(&mut log, id)?;
     }
     log.push(0)?;
     Ok(log)
 }
 
-#[test]
-fn a_world_of_1048576_objects_takes_no_other(rt: HostRuntime) -> Result<(), Fail> {
-    let alloc = rt.alloc();
+fn add_put(log: &mut Vec<u8>, id: u32) -> Result<(), AllocError> {
+    log.extend_from_slice(b"\x01\x01\0\0\0\0")?;
+    log.extend_from_slice(&id.to_be_bytes())?;
+    log.extend_from_slice(&id.reverse_bits().to_be_bytes())?;
+    log.extend_from_slice(&[0; 18])
+}
+
+// What stands behind the 1,048,576 cells: begin 1 of the empty name, install 1, begin 2 of `0`, install 2, drop 2, begin 3 of `00`,
+// install 3, and put 1,048,576 at (3,5).
+const BEHIND: &[u8] = b"\
+    \x01\x04\0\0\0\0\0\0\0\x01\0\0\0\0\0\0\0\0\0\0\0\0\0\0\0\0\0\0\0\0\0\0\
+    \x01\x05\0\0\0\0\0\0\0\x01\0\0\0\0\0\0\0\0\0\0\0\0\0\0\0\0\0\0\0\0\0\0\
+    \x01\x04\0\0\0\0\0\0\0\x02\0\0\0\0\0\0\0\0\x01\0\0\0\0\0\0\0\0\0\0\0\0\0\
+    \x01\x05\0\0\0\0\0\0\0\x02\0\0\0\0\0\0\0\0\0\0\0\0\0\0\0\0\0\0\0\0\0\0\
+    \x01\x03\0\0\0\0\0\0\0\x02\0\0\0\0\0\0\0\0\0\0\0\0\0\0\0\0\0\0\0\0\0\0\
+    \x01\x04\0\0\0\0\0\0\0\x03\0\0\0\0\0\0\0\0\x02\0\0\0\0\0\0\0\0\0\0\0\0\0\
+    \x01\x05\0\0\0\0\0\0\0\x03\0\0\0\0\0\0\0\0\0\0\0\0\0\0\0\0\0\0\0\0\0\0\
+    \x01\x01\0\0\0\0\0\x10\0\0\0\0\0\x03\0\0\0\x05\0\0\0\0\0\0\0\0\0\0\0\0\0\0";
+
+const LINES: &str =
+    "row,place,answer,detail\n1,1,full,\n2,2,present,2147483648:0\n3,3,gone,1073741824:0\n4,4,done,\n";
+
+// A put that finds the world full, and one of an object that is there, leave no record of their own. Behind each row the first full leaf is
+// split before the next one. With those at the end there are 511 splits, of two records each: 509 to have 4,096 objects in each leaf, and
+// two where (3,5) is one more.
+fn keeps_changes_and_splits_alone<R: Threads + Wait + Sync>(
+    rt: &R,
+    alloc: Global,
+) -> Result<bool, Memory> {
     let input = text(
         alloc,
         "1,put,1048576,3,5,,\n1,put,1,3,5,,\n1,drop,2,,,,\n1,put,1048576,3,5,,\n",
     )?;
     let disk = MemDisk::new(alloc, full_log(alloc)?, 34_000_000, 20_000, Vec::new(alloc))?;
     let words = &["play", "log", "--bucket", "4096"];
-    let left = run_over(&rt, alloc, words, &input, disk, &NO_FAULTS)?;
-    assert_eq!(rt; left.status, 0);
-    assert_eq!(rt;
-        left.taken.as_slice(),
-        b"row,place,answer,detail\n1,1,full,\n2,2,present,2147483648:0\n3,3,gone,1073741824:0\n4,4,done,\n".as_slice()
-    );
+    let left = run_over(rt, alloc, words, &input, disk, &NO_FAULTS)?;
+    let behind = left.file().get(16 + 32 * 1_048_576..).unwrap_or(&[]);
+    let is_kept = behind.starts_with(BEHIND) && behind.len() == 32 * (2 + 2 * 511) + 1;
+    Ok(is_kept && left.tells(0, LINES))
+}
+
+#[test]
+fn a_world_of_1048576_objects_takes_no_other(rt: HostRuntime) -> Result<(), Fail> {
+    assert!(rt; keeps_changes_and_splits_alone(&rt, rt.alloc())?);
     Ok(())
 }

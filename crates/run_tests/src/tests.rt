@@ -1,203 +1,230 @@
-//! Runs over sources and sinks in memory: worked inputs, each refusal's line, and faults of both ends.
-use crate::fixtures::{HEADER, text, words};
-use disk_mem::MemDisk;
-use io_edge::{MemSink, MemSource, OpenGate};
-use location_run::{Outcome, run};
+//! Runs over no log: worked inputs, each refusal's line, and faults of both ends. Each call of a drive fails.
+use crate::checks::{PLAY_NO_LOG, ended, failing_ends, tells, told, well};
+use memory_runs::{HEADER, NO_FAULTS, run_apart, text};
 use std::alloc::{AllocError, Global};
+use std::process::Abort;
 use std::sync::Wait;
 use std::test::Fail;
 use std::thread::Threads;
+use zorder::Memory;
 
-fn drive(alloc: Global) -> Result<MemDisk, Fail> {
-    Ok(MemDisk::new(alloc, Vec::new(alloc), 0, 0, Vec::new(alloc))?)
-}
-
-// A run over drives that fail at each call.
-fn run_apart<R: Threads + Wait + Sync>(
+fn has_a_line_for_each_row<R: Abort + Threads + Wait + Sync>(
     rt: &R,
     alloc: Global,
-    words: &[String],
-    source: &mut MemSource,
-    sink: &mut MemSink,
-) -> Result<Outcome<MemDisk>, Fail> {
-    Ok(run(
-        rt,
-        alloc,
-        words,
-        source,
-        sink,
-        drive(alloc)?,
-        drive(alloc)?,
-        &OpenGate,
-    ))
-}
-
-// What `play -` makes of an input, over ends that fail at the listed calls: the status and what the sink took.
-fn play<R: Threads + Wait + Sync>(
-    rt: &R,
-    alloc: Global,
-    input: &str,
-    reads: &[u64],
-    puts: &[u64],
-) -> Result<(u8, Vec<u8>), Fail> {
-    let words = words(alloc, &["play", "-"])?;
-    let mut source = MemSource::new(input.as_bytes().to_vec(alloc)?, reads.to_vec(alloc)?);
-    let mut sink = MemSink::new(alloc, 1 << 16, puts.to_vec(alloc)?)?;
-    let outcome = run_apart(rt, alloc, words.as_slice(), &mut source, &mut sink)?;
-    Ok((outcome.status, sink.bytes().to_vec(alloc)?))
+) -> Result<(), Fail> {
+    let rows = "1,put,7,3,5,,\n1,where,7,,,,\n";
+    let lines = well("row,place,answer,detail\n1,1,done,\n2,2,at,3:5\n");
+    assert!(rt; tells(rt, alloc, PLAY_NO_LOG, rows, lines)?);
+    assert!(rt;
+        tells(
+            rt,
+            alloc,
+            PLAY_NO_LOG,
+            "",
+            well("row,place,answer,detail\n")
+        )?
+    );
+    Ok(())
 }
 
 #[test]
 fn each_row_has_its_line(rt: HostRuntime) -> Result<(), Fail> {
-    let alloc = rt.alloc();
-    let (status, taken) = play(
-        &rt,
-        alloc,
-        &text(alloc, "1,put,7,3,5,,\n1,where,7,,,,\n")?,
-        &[],
-        &[],
-    )?;
-    assert_eq!(rt; status, 0);
-    assert_eq!(rt;
-        taken.as_slice(),
-        b"row,place,answer,detail\n1,1,done,\n2,2,at,3:5\n".as_slice()
-    );
-    let (status, taken) = play(&rt, alloc, HEADER, &[], &[])?;
-    assert_eq!(rt; status, 0);
-    assert_eq!(rt; taken.as_slice(), b"row,place,answer,detail\n".as_slice());
-    Ok(())
+    has_a_line_for_each_row(&rt, rt.alloc())
 }
 
-// The places are those of one history, whichever thread came first.
-#[test]
-fn rows_of_several_sessions_have_their_lines_in_order(rt: HostRuntime) -> Result<(), Fail> {
-    let alloc = rt.alloc();
-    let rows = "3,put,7,3,5,,\n1,put,8,4,6,,\n16,where,9,,,,\n3,where,7,,,,\n1,move,8,4,7,,\n";
-    let (status, mut taken) = play(&rt, alloc, &text(alloc, rows)?, &[], &[])?;
-    assert_eq!(rt; status, 0);
-    for at in [26, 36, 46, 58, 69] {
-        if let Some(place) = taken.get_mut(at) {
+// Where the lines of the rows below have their places.
+const PLACES: [usize; 5] = [26, 36, 46, 58, 69];
+
+fn without_places(mut lines: Vec<u8>) -> Vec<u8> {
+    for at in PLACES {
+        if let Some(place) = lines.get_mut(at) {
             *place = b'?';
         }
     }
-    assert_eq!(rt;
-        taken.as_slice(),
-        b"row,place,answer,detail\n1,?,done,\n2,?,done,\n3,?,absent,\n4,?,at,3:5\n5,?,moved,4:6\n".as_slice()
+    lines
+}
+
+// The places are those of one history, whichever thread came first.
+fn keeps_the_order_of_rows<R: Threads + Wait + Sync>(
+    rt: &R,
+    alloc: Global,
+) -> Result<bool, Memory> {
+    let rows = "3,put,7,3,5,,\n1,put,8,4,6,,\n16,where,9,,,,\n3,where,7,,,,\n1,move,8,4,7,,\n";
+    let left = run_apart(rt, alloc, PLAY_NO_LOG, &text(alloc, rows)?, &NO_FAULTS)?;
+    let lines = without_places(left.taken);
+    let wanted =
+        "row,place,answer,detail\n1,?,done,\n2,?,done,\n3,?,absent,\n4,?,at,3:5\n5,?,moved,4:6\n";
+    Ok(left.status == 0 && lines.as_slice() == wanted.as_bytes())
+}
+
+#[test]
+fn rows_of_several_sessions_have_their_lines_in_order(rt: HostRuntime) -> Result<(), Fail> {
+    assert!(rt; keeps_the_order_of_rows(&rt, rt.alloc())?);
+    Ok(())
+}
+
+fn refuses_bad_input<R: Abort + Threads + Wait + Sync>(rt: &R, alloc: Global) -> Result<(), Fail> {
+    assert!(rt;
+        told(
+            rt,
+            alloc,
+            PLAY_NO_LOG,
+            "",
+            &NO_FAULTS,
+            ended(3, "refused header\n")
+        )?
+    );
+    assert!(rt;
+        tells(
+            rt,
+            alloc,
+            PLAY_NO_LOG,
+            "1,put,7,3,5,\n",
+            ended(3, "refused row 1 length\n")
+        )?
+    );
+    assert!(rt;
+        tells(
+            rt,
+            alloc,
+            PLAY_NO_LOG,
+            "1,put,7,-3,5,,\n",
+            ended(3, "refused row 1 column 4\n")
+        )?
+    );
+    let rows = "1,where,7,,,,\n17,where,7,,,,\n";
+    assert!(rt;
+        tells(
+            rt,
+            alloc,
+            PLAY_NO_LOG,
+            rows,
+            ended(3, "refused row 2 column 1\n")
+        )?
     );
     Ok(())
 }
 
 #[test]
 fn bad_input_gets_one_line(rt: HostRuntime) -> Result<(), Fail> {
-    let alloc = rt.alloc();
-    let (status, taken) = play(&rt, alloc, "", &[], &[])?;
-    assert_eq!(rt; status, 3);
-    assert_eq!(rt; taken.as_slice(), b"refused header\n".as_slice());
-    let (status, taken) = play(&rt, alloc, &text(alloc, "1,put,7,3,5,\n")?, &[], &[])?;
-    assert_eq!(rt; status, 3);
-    assert_eq!(rt; taken.as_slice(), b"refused row 1 length\n".as_slice());
-    let (status, taken) = play(&rt, alloc, &text(alloc, "1,put,7,-3,5,,\n")?, &[], &[])?;
-    assert_eq!(rt; status, 3);
-    assert_eq!(rt; taken.as_slice(), b"refused row 1 column 4\n".as_slice());
-    let (status, taken) = play(
-        &rt,
-        alloc,
-        &text(alloc, "1,where,7,,,,\n17,where,7,,,,\n")?,
-        &[],
-        &[],
-    )?;
-    assert_eq!(rt; status, 3);
-    assert_eq!(rt; taken.as_slice(), b"refused row 2 column 1\n".as_slice());
+    refuses_bad_input(&rt, rt.alloc())
+}
+
+fn tells_of_failing_ends<R: Abort + Threads + Wait + Sync>(
+    rt: &R,
+    alloc: Global,
+) -> Result<(), Fail> {
+    let input = text(alloc, "1,put,7,3,5,,\n")?;
+    let unread = failing_ends(&[1], &[]);
+    assert!(rt;
+        told(
+            rt,
+            alloc,
+            PLAY_NO_LOG,
+            &input,
+            &unread,
+            ended(5, "refused source\n")
+        )?
+    );
+    let unwritten = failing_ends(&[], &[1]);
+    assert!(rt; told(rt, alloc, PLAY_NO_LOG, &input, &unwritten, ended(6, ""))?);
     Ok(())
 }
 
 #[test]
 fn failing_ends_have_their_statuses(rt: HostRuntime) -> Result<(), Fail> {
-    let alloc = rt.alloc();
-    let input = text(alloc, "1,put,7,3,5,,\n")?;
-    let (status, taken) = play(&rt, alloc, &input, &[1], &[])?;
-    assert_eq!(rt; status, 5);
-    assert_eq!(rt; taken.as_slice(), b"refused source\n".as_slice());
-    let (status, taken) = play(&rt, alloc, &input, &[], &[1])?;
-    assert_eq!(rt; status, 6);
-    assert!(rt; taken.as_slice().is_empty());
-    Ok(())
+    tells_of_failing_ends(&rt, rt.alloc())
 }
 
-// What these words make of an input: the status, how many events there are, and what the sink took.
-fn ask<R: Threads + Wait + Sync>(
+// Whether these words are usage, and nothing is called.
+fn is_usage<R: Threads + Wait + Sync>(
     rt: &R,
     alloc: Global,
-    all: &[&str],
-    input: &str,
-) -> Result<(u8, usize, Vec<u8>), Fail> {
-    let words = words(alloc, all)?;
-    let mut source = MemSource::new(input.as_bytes().to_vec(alloc)?, Vec::new(alloc));
-    let mut sink = MemSink::new(alloc, 1 << 16, Vec::new(alloc))?;
-    let Outcome { status, events, .. } = run_apart(
-        rt,
-        alloc,
-        words.as_slice(),
-        &mut source,
-        &mut sink,
-    )?;
-    Ok((status, events.as_slice().len(), sink.bytes().to_vec(alloc)?))
+    words: &[&str],
+) -> Result<bool, Memory> {
+    let left = run_apart(rt, alloc, words, HEADER, &NO_FAULTS)?;
+    Ok(left.tells(2, "refused usage\n") && left.history().is_empty())
+}
+
+fn refuses_other_words<R: Abort + Threads + Wait + Sync>(
+    rt: &R,
+    alloc: Global,
+) -> Result<(), Fail> {
+    assert!(rt; is_usage(rt, alloc, &["play"])?);
+    assert!(rt; is_usage(rt, alloc, &["init", "-"])?);
+    assert!(rt; is_usage(rt, alloc, &["check", ""])?);
+    assert!(rt; is_usage(rt, alloc, &["play", "-log"])?);
+    assert!(rt; is_usage(rt, alloc, &["play", "", "--bucket", "4"])?);
+    assert!(rt; is_usage(rt, alloc, &["play", "-", "--bucket", "3"])?);
+    assert!(rt; is_usage(rt, alloc, &["play", "-", "--bucket", "4097"])?);
+    assert!(rt; is_usage(rt, alloc, &["play", "--bucket", "4", "-"])?);
+    let largest = &["play", "-", "--bucket", "4096"];
+    assert!(rt; tells(rt, alloc, largest, "", well("row,place,answer,detail\n"))?);
+    Ok(())
 }
 
 #[test]
 fn other_words_are_usage(rt: HostRuntime) -> Result<(), Fail> {
-    let alloc = rt.alloc();
-    let none: &[&str] = &["play"];
-    let unnamed: &[&str] = &["init", "-"];
-    let empty: &[&str] = &["check", ""];
-    let option: &[&str] = &["play", "-log"];
-    let nameless: &[&str] = &["play", "", "--bucket", "4"];
-    let small: &[&str] = &["play", "-", "--bucket", "3"];
-    let large: &[&str] = &["play", "-", "--bucket", "4097"];
-    let before: &[&str] = &["play", "--bucket", "4", "-"];
-    for words in [none, unnamed, empty, option, nameless, small, large, before] {
-        let (status, events, taken) = ask(&rt, alloc, words, HEADER)?;
-        assert_eq!(rt; status, 2);
-        assert_eq!(rt; events, 0);
-        assert_eq!(rt; taken.as_slice(), b"refused usage\n".as_slice());
-    }
-    let (status, _, _) = ask(&rt, alloc, &["play", "-", "--bucket", "4096"], HEADER)?;
-    assert_eq!(rt; status, 0);
-    Ok(())
+    refuses_other_words(&rt, rt.alloc())
+}
+
+// Whether queries behind a split of the five points' leaf find what they should.
+fn finds_behind_a_split<R: Threads + Wait + Sync>(rt: &R, alloc: Global) -> Result<bool, Memory> {
+    let rows =
+        "1,put,1,0,0,,\n1,put,2,2147483648,0,,\n1,put,3,0,2147483648,,\n1,put,4,2147483648,2147483648,,\n1,put,5,1,1,,\n1,near,,0,0,2,\n1,box,,0,0,1,1\n";
+    let words = &["play", "-", "--bucket", "4"];
+    let left = run_apart(rt, alloc, words, &text(alloc, rows)?, &NO_FAULTS)?;
+    Ok(
+        left.status == 0
+            && left
+                .taken
+                .as_slice()
+                .ends_with(b"6,6,found,1:0:0;5:1:1\n7,7,found,1:0:0;5:1:1\n"),
+    )
 }
 
 #[test]
 fn queries_see_the_points_of_split_leaves(rt: HostRuntime) -> Result<(), Fail> {
-    let alloc = rt.alloc();
-    let corners =
-        "1,put,1,0,0,,\n1,put,2,2147483648,0,,\n1,put,3,0,2147483648,,\n1,put,4,2147483648,2147483648,,\n1,put,5,1,1,,\n";
-    let queries = "1,near,,0,0,2,\n1,box,,0,0,1,1\n";
-    let rows = format!(in alloc; "{HEADER}{corners}{queries}")?;
-    let (status, _, taken) = ask(&rt, alloc, &["play", "-", "--bucket", "4"], &rows)?;
-    assert_eq!(rt; status, 0);
+    assert!(rt; finds_behind_a_split(&rt, rt.alloc())?);
+    Ok(())
+}
+
+// An input of so many rows.
+fn finds(alloc: Global, count: u32) -> Result<String, AllocError> {
+    let mut input = String::from_str(alloc, HEADER)?;
+    for _ in 0..count {
+        input.push_str("1,where,7,,,,\n")?;
+    }
+    Ok(input)
+}
+
+fn is_over_its_limits<R: Abort + Threads + Wait + Sync>(rt: &R, alloc: Global) -> Result<(), Fail> {
+    let rows = finds(alloc, 65_537)?;
     assert!(rt;
-        taken
-            .as_slice()
-            .ends_with(b"6,6,found,1:0:0;5:1:1\n7,7,found,1:0:0;5:1:1\n")
+        told(
+            rt,
+            alloc,
+            PLAY_NO_LOG,
+            &rows,
+            &NO_FAULTS,
+            ended(8, "refused limit rows\n")
+        )?
+    );
+    let bytes = finds(alloc, 1_198_373)?;
+    assert!(rt;
+        told(
+            rt,
+            alloc,
+            PLAY_NO_LOG,
+            &bytes,
+            &NO_FAULTS,
+            ended(8, "refused limit bytes\n")
+        )?
     );
     Ok(())
 }
 
 #[test]
 fn the_65537th_row_and_too_many_bytes_are_over_a_limit(rt: HostRuntime) -> Result<(), Fail> {
-    let alloc = rt.alloc();
-    let mut input = String::from_str(alloc, HEADER)?;
-    for _ in 0..65_537 {
-        input.push_str("1,where,7,,,,\n")?;
-    }
-    let (status, taken) = play(&rt, alloc, &input, &[], &[])?;
-    assert_eq!(rt; status, 8);
-    assert_eq!(rt; taken.as_slice(), b"refused limit rows\n".as_slice());
-    for _ in 0..1_132_836 {
-        input.push_str("1,where,7,,,,\n")?;
-    }
-    let (status, taken) = play(&rt, alloc, &input, &[], &[])?;
-    assert_eq!(rt; status, 8);
-    assert_eq!(rt; taken.as_slice(), b"refused limit bytes\n".as_slice());
-    Ok(())
+    is_over_its_limits(&rt, rt.alloc())
 }

@@ -1,9 +1,12 @@
 //! Worked rows and their lines, and the bytes that rows leave in a log.
-use crate::fixtures::{EMPTY_LOG, Left, NO_FAULTS, PUT_LOG, run_on, text};
+use crate::checks::{PLAY, PLAY_BY_4, PLAY_NO_LOG, ended, leaves, tells, well};
+use memory_runs::{EMPTY_LOG, NO_FAULTS, PUT_LOG, run_on, text};
 use std::alloc::{AllocError, Global};
+use std::process::Abort;
 use std::sync::Wait;
 use std::test::Fail;
 use std::thread::Threads;
+use zorder::Memory;
 
 // A log of put 7 at (3,5), move 7 to (4,5) and drop 7.
 const CHANGED_LOG: &[u8] = b"MDLOCLOG\x01\x01\0\0\0\0\0\0\
@@ -25,105 +28,171 @@ const SPLIT_AND_PUT: &[u8] = b"\
     \x01\x01\0\0\0\0\0\0\0\x06\0\0\0\x02\0\0\0\x02\0\0\0\0\0\0\0\0\0\0\0\0\0\0\
     \0";
 
-fn play<R: Threads + Wait + Sync>(
-    rt: &R,
-    alloc: Global,
-    all: &[&str],
-    rows: &str,
-    file: &[u8],
-) -> Result<Left, Fail> {
-    let input = text(alloc, rows)?;
-    run_on(rt, alloc, all, &input, file, &NO_FAULTS)
+fn tells_of_ties<R: Abort + Threads + Wait + Sync>(rt: &R, alloc: Global) -> Result<(), Fail> {
+    let ties = "1,put,9,0,1,,\n1,put,3,1,0,,\n1,near,,0,0,1,\n";
+    let nearest = "row,place,answer,detail\n1,1,done,\n2,2,done,\n3,3,found,3:1:0\n";
+    assert!(rt; tells(rt, alloc, PLAY_NO_LOG, ties, well(nearest))?);
+    let far = "1,put,9,0,5,,\n1,put,4,3,4,,\n1,near,,0,0,1,\n1,near,,0,0,2048,\n";
+    let both =
+        "row,place,answer,detail\n1,1,done,\n2,2,done,\n3,3,found,4:3:4\n4,4,found,4:3:4;9:0:5\n";
+    assert!(rt; tells(rt, alloc, PLAY_NO_LOG, far, well(both))?);
+    let none = "1,put,9,0,5,,\n1,put,4,3,4,,\n1,near,,0,0,0,\n";
+    assert!(rt;
+        tells(
+            rt,
+            alloc,
+            PLAY_NO_LOG,
+            none,
+            ended(3, "refused row 3 column 6\n")
+        )?
+    );
+    Ok(())
 }
 
 #[test]
-fn ties_go_to_the_lesser_id_and_what_is_absent_has_no_detail(rt: HostRuntime) -> Result<(), Fail> {
-    let alloc = rt.alloc();
-    let worked: [(&str, &[u8]); 2] = [
-        (
-            "1,put,9,0,1,,\n1,put,3,1,0,,\n1,near,,0,0,1,\n",
-            b"row,place,answer,detail\n1,1,done,\n2,2,done,\n3,3,found,3:1:0\n",
-        ),
-        (
-            "1,put,7,3,5,,\n1,move,7,4,5,,\n1,move,8,4,5,,\n1,drop,8,,,,\n1,where,8,,,,\n1,box,,0,0,3,5\n",
-            b"row,place,answer,detail\n1,1,done,\n2,2,moved,3:5\n3,3,absent,\n4,4,absent,\n5,5,absent,\n6,6,found,\n",
-        ),
-    ];
-    for (rows, lines) in worked {
-        let left = play(&rt, alloc, &["play", "-"], rows, b"")?;
-        assert_eq!(rt; left.status, 0);
-        assert_eq!(rt; left.taken.as_slice(), lines);
-    }
+fn ties_go_to_the_lesser_id(rt: HostRuntime) -> Result<(), Fail> {
+    tells_of_ties(&rt, rt.alloc())
+}
+
+fn tells_of_boxes<R: Abort + Threads + Wait + Sync>(rt: &R, alloc: Global) -> Result<(), Fail> {
+    let rows = "1,put,7,3,5,,\n1,box,,3,5,3,5\n1,box,,0,0,2,2\n";
+    let lines = "row,place,answer,detail\n1,1,done,\n2,2,found,7:3:5\n3,3,found,\n";
+    assert!(rt; tells(rt, alloc, PLAY_NO_LOG, rows, well(lines))?);
+    let turned = "1,put,7,3,5,,\n1,box,,4,5,3,5\n";
+    assert!(rt;
+        tells(
+            rt,
+            alloc,
+            PLAY_NO_LOG,
+            turned,
+            ended(3, "refused row 2 column 6\n")
+        )?
+    );
     Ok(())
+}
+
+#[test]
+fn a_box_has_both_its_corners(rt: HostRuntime) -> Result<(), Fail> {
+    tells_of_boxes(&rt, rt.alloc())
+}
+
+fn tells_of_one_object<R: Abort + Threads + Wait + Sync>(
+    rt: &R,
+    alloc: Global,
+) -> Result<(), Fail> {
+    let rows =
+        "1,put,7,3,5,,\n1,put,7,8,8,,\n1,move,7,8,8,,\n1,drop,7,,,,\n1,drop,7,,,,\n1,move,7,4,5,,\n1,where,7,,,,\n1,box,,0,0,8,8\n";
+    let lines =
+        "row,place,answer,detail\n1,1,done,\n2,2,present,3:5\n3,3,moved,3:5\n4,4,gone,8:8\n5,5,absent,\n6,6,absent,\n7,7,absent,\n8,8,found,\n";
+    assert!(rt; tells(rt, alloc, PLAY_NO_LOG, rows, well(lines))?);
+    Ok(())
+}
+
+#[test]
+fn a_change_tells_where_the_object_was(rt: HostRuntime) -> Result<(), Fail> {
+    tells_of_one_object(&rt, rt.alloc())
 }
 
 // Puts of ids from 0 on at (id,0), and these rows.
 fn puts_and(alloc: Global, count: u32, rows: &str) -> Result<String, AllocError> {
     let mut all = String::new(alloc);
     for id in 0..count {
-        let row = format!(in alloc; "1,put,{id},{id},0,,\n")?;
-        all.push_str(&row)?;
+        add_put(alloc, &mut all, id)?;
     }
     all.push_str(rows)?;
     Ok(all)
 }
 
+fn add_put(alloc: Global, all: &mut String, id: u32) -> Result<(), AllocError> {
+    let row = format!(in alloc; "1,put,{id},{id},0,,\n")?;
+    all.push_str(&row)
+}
+
+// Whether the lines of so many puts and this query end in this.
+fn ends_in<R: Threads + Wait + Sync>(
+    rt: &R,
+    alloc: Global,
+    count: u32,
+    query: &str,
+    end: &str,
+) -> Result<bool, Memory> {
+    let input = text(alloc, &puts_and(alloc, count, query)?)?;
+    let left = run_on(rt, alloc, PLAY_NO_LOG, &input, &[], &NO_FAULTS)?;
+    Ok(left.status == 0 && left.taken.as_slice().ends_with(end.as_bytes()))
+}
+
+fn lists_and_counts<R: Abort + Threads + Wait + Sync>(rt: &R, alloc: Global) -> Result<(), Fail> {
+    assert!(rt; ends_in(rt, alloc, 2_048, "1,box,,0,0,9999,0\n", ";2047:2047:0\n")?);
+    assert!(rt;
+        ends_in(
+            rt,
+            alloc,
+            2_049,
+            "1,box,,0,0,9999,0\n",
+            "2050,2050,many,2049\n"
+        )?
+    );
+    assert!(rt; ends_in(rt, alloc, 2_049, "1,near,,0,0,2048,\n", ";2047:2047:0\n")?);
+    Ok(())
+}
+
 #[test]
 fn a_box_lists_2048_points_and_counts_2049(rt: HostRuntime) -> Result<(), Fail> {
-    let alloc = rt.alloc();
-    let worked: [(u32, &str, &[u8]); 3] = [
-        (2_048, "1,box,,0,0,9999,0\n", b";2047:2047:0\n"),
-        (2_049, "1,box,,0,0,9999,0\n", b"2050,2050,many,2049\n"),
-        (2_049, "1,near,,0,0,2048,\n", b";2047:2047:0\n"),
-    ];
-    for (count, query, end) in worked {
-        let left = play(
-            &rt,
+    lists_and_counts(&rt, rt.alloc())
+}
+
+// A log of put 7 at (3,5), with 41 bytes behind it that no log needs.
+fn torn_log(alloc: Global) -> Result<Vec<u8>, AllocError> {
+    let mut torn = PUT_LOG[..48].to_vec(alloc)?;
+    torn.extend_from_slice(&[77; 41])?;
+    Ok(torn)
+}
+
+fn keeps_each_change<R: Abort + Threads + Wait + Sync>(rt: &R, alloc: Global) -> Result<(), Fail> {
+    let changes = "1,put,7,3,5,,\n1,move,7,4,5,,\n1,drop,7,,,,\n";
+    let lines = well("row,place,answer,detail\n1,1,done,\n2,2,moved,3:5\n3,3,gone,4:5\n");
+    assert!(rt; leaves(rt, alloc, PLAY, changes, EMPTY_LOG, lines, CHANGED_LOG)?);
+    let torn = torn_log(alloc)?;
+    let line = well("row,place,answer,detail\n1,1,done,\n");
+    assert!(rt;
+        leaves(
+            rt,
             alloc,
-            &["play", "-"],
-            &puts_and(alloc, count, query)?,
-            b"",
-        )?;
-        assert_eq!(rt; left.status, 0);
-        assert!(rt; left.taken.as_slice().ends_with(end));
-    }
+            PLAY,
+            "1,put,8,4,5,,\n",
+            torn.as_slice(),
+            line,
+            TWO_PUTS_LOG
+        )?
+    );
     Ok(())
 }
 
 #[test]
 fn each_change_is_one_record_behind_the_last_commit_byte(rt: HostRuntime) -> Result<(), Fail> {
-    let alloc = rt.alloc();
-    let mut torn = PUT_LOG[..48].to_vec(alloc)?;
-    torn.extend_from_slice(&[77; 41])?;
-    let worked: [(&[u8], &str, &[u8]); 2] = [
-        (
-            EMPTY_LOG,
-            "1,put,7,3,5,,\n1,move,7,4,5,,\n1,drop,7,,,,\n",
-            CHANGED_LOG,
-        ),
-        (torn.as_slice(), "1,put,8,4,5,,\n", TWO_PUTS_LOG),
-    ];
-    for (file, rows, after) in worked {
-        let left = play(&rt, alloc, &["play", "log"], rows, file)?;
-        assert_eq!(rt; left.status, 0);
-        assert_eq!(rt; left.disk.bytes(), after);
-    }
-    Ok(())
+    keeps_each_change(&rt, rt.alloc())
+}
+
+// Whether six puts leave a log that ends in the split of the five and the sixth.
+fn splits_before_the_sixth<R: Threads + Wait + Sync>(
+    rt: &R,
+    alloc: Global,
+) -> Result<bool, Memory> {
+    let rows =
+        "1,put,1,0,0,,\n1,put,2,2147483648,0,,\n1,put,3,0,2147483648,,\n1,put,4,2147483648,2147483648,,\n1,put,5,1,1,,\n1,put,6,2,2,,\n";
+    let left = run_on(
+        rt,
+        alloc,
+        PLAY_BY_4,
+        &text(alloc, rows)?,
+        EMPTY_LOG,
+        &NO_FAULTS,
+    )?;
+    Ok(left.status == 0 && left.file().ends_with(SPLIT_AND_PUT))
 }
 
 #[test]
 fn a_leaf_is_split_before_the_next_row(rt: HostRuntime) -> Result<(), Fail> {
-    let alloc = rt.alloc();
-    let rows =
-        "1,put,1,0,0,,\n1,put,2,2147483648,0,,\n1,put,3,0,2147483648,,\n1,put,4,2147483648,2147483648,,\n1,put,5,1,1,,\n1,put,6,2,2,,\n";
-    let left = play(
-        &rt,
-        alloc,
-        &["play", "log", "--bucket", "4"],
-        rows,
-        EMPTY_LOG,
-    )?;
-    assert_eq!(rt; left.status, 0);
-    assert!(rt; left.disk.bytes().ends_with(SPLIT_AND_PUT));
+    assert!(rt; splits_before_the_sixth(&rt, rt.alloc())?);
     Ok(())
 }

@@ -1,0 +1,103 @@
+//! Runs over ends in memory.
+use crate::faults::Faults;
+use crate::inputs::words;
+use crate::left::Left;
+use crate::noting::NotingDisk;
+use disk_mem::MemDisk;
+use io_edge::{MemSink, MemSource, OpenGate};
+use location_run::{Outcome, run};
+use std::alloc::Global;
+use std::sync::Wait;
+use std::thread::Threads;
+use zorder::Memory;
+
+/// A run of these words and this input over a file with these bytes.
+pub fn run_on<R: Threads + Wait + Sync>(
+    rt: &R,
+    alloc: Global,
+    all: &[&str],
+    input: &str,
+    file: &[u8],
+    faults: &Faults<'_>,
+) -> Result<Left, Memory> {
+    let calls = faults.calls.to_vec(alloc)?;
+    let disk = MemDisk::new(alloc, file.to_vec(alloc)?, 8_192, 1_024, calls)?;
+    run_over(rt, alloc, all, input, disk, faults)
+}
+
+/// The same over drives that fail at each call.
+pub fn run_apart<R: Threads + Wait + Sync>(
+    rt: &R,
+    alloc: Global,
+    all: &[&str],
+    input: &str,
+    faults: &Faults<'_>,
+) -> Result<Left, Memory> {
+    let disk = failing_disk(alloc)?;
+    run_over(rt, alloc, all, input, disk, faults)
+}
+
+// A drive that fails at each call.
+fn failing_disk(alloc: Global) -> Result<MemDisk, Memory> {
+    MemDisk::new(alloc, Vec::new(alloc), 0, 0, Vec::new(alloc))
+}
+
+/// The same over a drive.
+pub fn run_over<R: Threads + Wait + Sync>(
+    rt: &R,
+    alloc: Global,
+    all: &[&str],
+    input: &str,
+    disk: MemDisk,
+    faults: &Faults<'_>,
+) -> Result<Left, Memory> {
+    let words = words(alloc, all)?;
+    let source = MemSource::new(input.as_bytes().to_vec(alloc)?, faults.reads.to_vec(alloc)?);
+    let sink = MemSink::new(alloc, 65_536, faults.puts.to_vec(alloc)?)?;
+    let other = failing_disk(alloc)?;
+    let disk = NotingDisk::new(alloc, disk);
+    let other = NotingDisk::new(alloc, other);
+    run_all(rt, alloc, words.as_slice(), source, sink, disk, other)
+}
+
+// The one call of `run`.
+fn run_all<R: Threads + Wait + Sync>(
+    rt: &R,
+    alloc: Global,
+    words: &[String],
+    mut source: MemSource,
+    mut sink: MemSink,
+    disk: NotingDisk,
+    other: NotingDisk,
+) -> Result<Left, Memory> {
+    let outcome = run(
+        rt,
+        alloc,
+        words,
+        &mut source,
+        &mut sink,
+        disk,
+        other,
+        &OpenGate,
+    );
+    let taken = sink.bytes().to_vec(alloc)?;
+    Ok(left_of(outcome, taken))
+}
+
+fn left_of(outcome: Outcome<NotingDisk>, taken: Vec<u8>) -> Left {
+    let Outcome {
+        status,
+        disk,
+        other,
+        events,
+    } = outcome;
+    let NotingDisk { disk, attaches } = disk;
+    Left {
+        status,
+        taken,
+        disk,
+        events,
+        attaches,
+        others: other.attaches.len(),
+    }
+}
