@@ -1,0 +1,107 @@
+//! The bytes of a log, spelled and read as docs/FORMATS has them, by code that shares nothing with the program's.
+use std::alloc::{AllocError, Global};
+use zorder::Point;
+
+/// The header of a log whose splits make two children.
+pub const HEADER: &[u8] = b"MDLOCLOG\x01\x01\0\0\0\0\0\0";
+
+/// A log of no records.
+pub const EMPTY_LOG: &[u8] = b"MDLOCLOG\x01\x01\0\0\0\0\0\0\0";
+
+pub const PUT: u8 = 1;
+
+pub const MOVE: u8 = 2;
+
+pub const DROP: u8 = 3;
+
+pub const BEGIN: u8 = 4;
+
+pub const INSTALL: u8 = 5;
+
+pub const ABANDON: u8 = 6;
+
+/// A record by its kind, its id or number, the eight bytes behind that (a point, or a name's bits), and the byte behind these.
+#[derive(Clone, Copy, Debug, PartialEq, Eq)]
+pub struct Record {
+    pub kind: u8,
+    pub number: u64,
+    pub place: u64,
+    pub len: u8,
+}
+
+impl Record {
+    /// A put or a move.
+    pub fn at(kind: u8, id: u64, at: Point) -> Record {
+        Record {
+            kind,
+            number: id,
+            place: (at.x as u64) << 32 | at.y as u64,
+            len: 0,
+        }
+    }
+
+    /// A drop, an install or an abandon.
+    pub fn of(kind: u8, number: u64) -> Record {
+        Record {
+            kind,
+            number,
+            place: 0,
+            len: 0,
+        }
+    }
+
+    pub fn begin(number: u64, bits: u64, len: u8) -> Record {
+        Record {
+            kind: BEGIN,
+            number,
+            place: bits,
+            len,
+        }
+    }
+
+    pub fn bytes(&self) -> [u8; 32] {
+        let mut bytes = [0; 32];
+        bytes[0] = 1;
+        bytes[1] = self.kind;
+        bytes[2..10].copy_from_slice(&self.number.to_be_bytes());
+        bytes[10..18].copy_from_slice(&self.place.to_be_bytes());
+        bytes[18] = self.len;
+        bytes
+    }
+
+    /// The point of a put or a move.
+    pub fn point(&self) -> Point {
+        let [a, b, c, d, e, f, g, h] = self.place.to_be_bytes();
+        Point {
+            x: u32::from_be_bytes([a, b, c, d]),
+            y: u32::from_be_bytes([e, f, g, h]),
+        }
+    }
+}
+
+/// A log of these records, and these bytes behind them.
+pub fn log_of(alloc: Global, records: &[Record], tail: &[u8]) -> Result<Vec<u8>, AllocError> {
+    let mut bytes = Vec::from_slice(alloc, HEADER)?;
+    for record in records {
+        bytes.extend_from_slice(record.bytes().as_slice())?;
+    }
+    bytes.extend_from_slice(tail)?;
+    Ok(bytes)
+}
+
+/// How many of these records a file has, where it is a log of the first ones of them and of no others.
+pub fn front(file: &[u8], records: &[Record]) -> Option<usize> {
+    let mut rest = file.strip_prefix(HEADER)?;
+    let mut count: usize = 0;
+    for record in records {
+        match rest.strip_prefix(record.bytes().as_slice()) {
+            Some(next) => rest = next,
+            None => break,
+        }
+        count = count.saturating_add(1);
+    }
+    match rest.first() {
+        Some(1) | None => None,
+        Some(_) => Some(count),
+    }
+}
