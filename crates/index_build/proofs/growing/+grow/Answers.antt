@@ -128,7 +128,7 @@ grow-requires g t c κs within =
     let lt : c.loop-place.place < 2 ^ g.I.Index.WIDTH = omega (arith, c.loop-place-test.true, shifted c.WIDTH.result g.I.Index.WIDTH c.WIDTH.ensures a.width) in
     let is = child-at g.I.Index.WIDTH c.args.name.now c.loop-place.place c.child_at.result at in
     let less : 64 - length c.child_at.result < 64 - length c.args.name.now = omega (arith, is.long, room, width-positive g.I.Index.WIDTH a.width) in
-    (omega (arith, less, c.decreases), (within, (c.requires.in_order, (c.requires.grown, (child-splits a c.loop-place.invariant room c.child_at.result at, (child-no_longer a c.loop-place.invariant room c.child_at.result at (g.met.I.Index.are_leaves c.loop-place.growing.index) lt, child-there a c.loop-place.invariant room c.child_at.result at))))))
+    (omega (arith, less, c.decreases), (within.0, (within.1, (c.requires.in_order, (c.requires.grown, (child-splits a c.loop-place.invariant room c.child_at.result at, (child-no_longer a c.loop-place.invariant room c.child_at.result at (g.met.I.Index.are_leaves c.loop-place.growing.index) lt, child-there a c.loop-place.invariant room c.child_at.result at)))))))
 
 pub loop-place-preserved : goal.loop-place-preserved
 loop-place-preserved g t c =
