@@ -112,7 +112,12 @@ pub fn full<I: Index, D: LogDisk>(book: &Book<I, D>) -> Option<Name> {
     book.full()
 }
 
-/// How many cells and entries a book has, and the cell at which it is closed.
-pub fn counts<I: Index, D: LogDisk>(book: &Book<I, D>) -> (u64, u64, Option<u64>) {
-    (book.cells(), book.events(), book.closed())
+/// Whether a book has so many cells and entries, and is closed at this cell.
+pub fn has<I: Index, D: LogDisk>(
+    book: &Book<I, D>,
+    cells: u64,
+    events: u64,
+    closed: Option<u64>,
+) -> bool {
+    book.cells() == cells && book.events() == events && book.closed() == closed
 }

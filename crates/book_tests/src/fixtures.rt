@@ -42,11 +42,10 @@ pub fn failing_book(alloc: Global, call: DiskCall, number: u64) -> Result<FlatBo
     book_over(alloc, EMPTY_LOG, &[Fail { call, number }])
 }
 
-/// The bytes of the log under a book, or none.
-pub fn bytes_under(alloc: Global, book: FlatBook) -> Result<Vec<u8>, Memory> {
-    let parts = book.into_parts();
-    match &parts.disk {
-        Some(disk) => Ok(disk.bytes().to_vec(alloc)?),
-        None => Ok(Vec::new(alloc)),
+/// Whether there is a drive that holds these bytes.
+pub fn holds(disk: &Option<MemDisk>, bytes: &[u8]) -> bool {
+    match disk {
+        Some(disk) => disk.bytes() == bytes,
+        None => false,
     }
 }

@@ -1,6 +1,6 @@
 //! Books over a log in memory: the cell of each step, a drive that fails, and what a log brings.
-use crate::calls::{abandon, begin, counts, find, look, put, split};
-use crate::fixtures::{EMPTY_LOG, book_over, bytes_under, failing_book};
+use crate::calls::{abandon, begin, find, has, look, put, split};
+use crate::fixtures::{EMPTY_LOG, book_over, failing_book, holds};
 use commit_book::{Book, BookFault, Done};
 use disk_mem::DiskCall;
 use disk_trait::LogDisk;
@@ -24,13 +24,13 @@ fn adds_cells_of_changes<I: Index, D: LogDisk>(
     rt: &impl Abort,
     book: &mut Book<I, D>,
 ) -> Result<(), Fail> {
-    assert!(rt; counts(book) == (0, 0, None));
-    let _done = put(book, 1, 7, 3, 5)?;
-    assert!(rt; counts(book) == (1, 1, None));
-    let _present = put(book, 2, 7, 8, 8)?;
-    let _found = find(book, 3, 7)?;
-    let _seen = look(book, 4)?;
-    assert!(rt; counts(book) == (1, 4, None));
+    assert!(rt; has(book, 0, 0, None));
+    put(book, 1, 7, 3, 5)?;
+    assert!(rt; has(book, 1, 1, None));
+    put(book, 2, 7, 8, 8)?;
+    find(book, 3, 7)?;
+    look(book, 4)?;
+    assert!(rt; has(book, 1, 4, None));
     Ok(())
 }
 
@@ -41,21 +41,35 @@ fn adds_cells_of_splits<I: Index, D: LogDisk>(
 ) -> Result<(), Fail> {
     let whole = Name::whole();
     split(alloc, book, &whole)?;
-    assert!(rt; counts(book) == (3, 6, None));
+    assert!(rt; has(book, 3, 6, None));
     assert_eq!(rt; begin(book, &child(&whole, false))?, 2);
-    assert!(rt; counts(book) == (4, 7, None));
+    assert!(rt; has(book, 4, 7, None));
     abandon(book, 2)?;
-    assert!(rt; counts(book) == (5, 8, None));
+    assert!(rt; has(book, 5, 8, None));
     Ok(())
+}
+
+// What is left of a book: the drive under it.
+fn drive_under<I: Index, D: LogDisk>(book: Book<I, D>) -> Option<D> {
+    let parts = book.into_parts();
+    parts.disk
+}
+
+fn adds_a_cell_each<I: Index, D: LogDisk>(
+    rt: &impl Abort,
+    alloc: Global,
+    mut book: Book<I, D>,
+) -> Result<Option<D>, Fail> {
+    adds_cells_of_changes(rt, &mut book)?;
+    adds_cells_of_splits(rt, alloc, &mut book)?;
+    Ok(drive_under(book))
 }
 
 #[test]
 fn a_change_and_a_step_of_a_split_add_a_cell_each(rt: HostRuntime) -> Result<(), Fail> {
     let alloc = rt.alloc();
-    let mut book = book_over(alloc, EMPTY_LOG, &[])?;
-    adds_cells_of_changes(&rt, &mut book)?;
-    adds_cells_of_splits(&rt, alloc, &mut book)?;
-    assert!(rt; bytes_under(alloc, book)?.as_slice() == SPLIT_LOG);
+    let disk = adds_a_cell_each(&rt, alloc, book_over(alloc, EMPTY_LOG, &[])?)?;
+    assert!(rt; holds(&disk, SPLIT_LOG));
     Ok(())
 }
 
@@ -82,7 +96,7 @@ fn closes_at_a_put<I: Index, D: LogDisk>(
     mut book: Book<I, D>,
 ) -> Result<(), Fail> {
     assert!(rt; put(&mut book, 1, 7, 3, 5).err() == Some(BookFault::Disk { cell: 0 }));
-    assert!(rt; counts(&book) == (0, 1, Some(0)));
+    assert!(rt; has(&book, 0, 1, Some(0)));
     assert!(rt; put(&mut book, 2, 8, 1, 1).err() == Some(BookFault::Closed { cell: 0 }));
     let parts = book.into_parts();
     assert_eq!(rt; parts.index.leaf_of(27).1.count(), 0);
@@ -109,20 +123,20 @@ fn is_present(done: &Done) -> bool {
     done.place == 2 && matches!(done.answer, Answer::Present(Point { x: 3, y: 5 }))
 }
 
-fn goes_on<I: Index, D: LogDisk>(rt: &impl Abort, book: &mut Book<I, D>) -> Result<(), Fail> {
-    assert!(rt; counts(book) == (5, 0, None));
+fn goes_on<I: Index, D: LogDisk>(rt: &impl Abort, mut book: Book<I, D>) -> Result<(), Fail> {
+    let book = &mut book;
+    assert!(rt; has(book, 5, 0, None));
     assert!(rt; is_at(&find(book, 1, 7)?));
     assert!(rt; is_present(&put(book, 2, 7, 8, 8)?));
     let whole = Name::whole();
     assert!(rt; begin(book, &whole).err() == Some(BookFault::NoLeaf));
     assert!(rt; abandon(book, 2).err() == Some(BookFault::NotOpen { number: 2 }));
     assert_eq!(rt; begin(book, &child(&whole, false))?, 3);
-    assert!(rt; counts(book) == (6, 3, None));
+    assert!(rt; has(book, 6, 3, None));
     Ok(())
 }
 
 #[test]
 fn a_book_goes_on_with_what_its_log_says(rt: HostRuntime) -> Result<(), Fail> {
-    let mut book = book_over(rt.alloc(), SPLIT_LOG, &[])?;
-    goes_on(&rt, &mut book)
+    goes_on(&rt, book_over(rt.alloc(), SPLIT_LOG, &[])?)
 }

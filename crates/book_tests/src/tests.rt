@@ -1,6 +1,6 @@
 //! Worked calls of a book.
 use crate::calls::{
-    abandon, begin, begin_and_cut, counts, find, full, install, look, put, remove, shift, split,
+    abandon, begin, begin_and_cut, find, full, has, install, look, put, remove, shift, split,
 };
 use crate::fixtures::fresh;
 use bucket_versions::Row;
@@ -19,39 +19,42 @@ fn at(x: u32, y: u32) -> Point {
     Point { x, y }
 }
 
-// Whether a call has this place and this answer.
-fn is_done(done: &Done, place: u64, answer: &Answer) -> bool {
-    done.place == place && is_same(&done.answer, answer)
+// An answer's word, and its point, if it has one.
+fn told(answer: &Answer) -> (&'static str, Point) {
+    match answer {
+        Answer::Done => ("done", at(0, 0)),
+        Answer::Present(point) => ("present", *point),
+        Answer::Moved(point) => ("moved", *point),
+        Answer::Gone(point) => ("gone", *point),
+        Answer::At(point) => ("at", *point),
+        Answer::Absent => ("absent", at(0, 0)),
+        _ => ("", at(0, 0)),
+    }
 }
 
-fn is_same(one: &Answer, other: &Answer) -> bool {
-    match (one, other) {
-        (Answer::Done, Answer::Done) | (Answer::Absent, Answer::Absent) => true,
-        (Answer::Present(p), Answer::Present(q))
-        | (Answer::Moved(p), Answer::Moved(q))
-        | (Answer::Gone(p), Answer::Gone(q))
-        | (Answer::At(p), Answer::At(q)) => p == q,
-        _ => false,
-    }
+// Whether a call has this place, and its answer this word and this point.
+fn is_done(done: &Done, place: u64, word: &str, at: Point) -> bool {
+    let (told, point) = told(&done.answer);
+    done.place == place && told == word && point == at
 }
 
 fn answers_as_one_list<I: Index, D: LogDisk>(
     rt: &impl Abort,
-    book: &mut Book<I, D>,
+    mut book: Book<I, D>,
 ) -> Result<(), Fail> {
-    assert!(rt; is_done(&put(book, 1, 7, 3, 5)?, 1, &Answer::Done));
-    assert!(rt; is_done(&put(book, 2, 7, 8, 8)?, 2, &Answer::Present(at(3, 5))));
-    assert!(rt; is_done(&shift(book, 3, 7, 8, 8)?, 3, &Answer::Moved(at(3, 5))));
-    assert!(rt; is_done(&remove(book, 4, 7)?, 4, &Answer::Gone(at(8, 8))));
-    assert!(rt; is_done(&find(book, 5, 7)?, 5, &Answer::Absent));
-    assert!(rt; counts(book) == (0, 5, None));
+    let book = &mut book;
+    assert!(rt; is_done(&put(book, 1, 7, 3, 5)?, 1, "done", at(0, 0)));
+    assert!(rt; is_done(&put(book, 2, 7, 8, 8)?, 2, "present", at(3, 5)));
+    assert!(rt; is_done(&shift(book, 3, 7, 8, 8)?, 3, "moved", at(3, 5)));
+    assert!(rt; is_done(&remove(book, 4, 7)?, 4, "gone", at(8, 8)));
+    assert!(rt; is_done(&find(book, 5, 7)?, 5, "absent", at(0, 0)));
+    assert!(rt; has(book, 0, 5, None));
     Ok(())
 }
 
 #[test]
 fn a_book_answers_as_one_list(rt: HostRuntime) -> Result<(), Fail> {
-    let mut book = fresh(rt.alloc(), 64)?;
-    answers_as_one_list(&rt, &mut book)
+    answers_as_one_list(&rt, fresh(rt.alloc(), 64)?)
 }
 
 // Whether a put of this id on the axis has a leaf to be split next.
@@ -66,8 +69,9 @@ fn is_whole(name: Option<Name>) -> bool {
 
 fn fills_a_bucket_of_four<I: Index, D: LogDisk>(
     rt: &impl Abort,
-    book: &mut Book<I, D>,
+    mut book: Book<I, D>,
 ) -> Result<(), Fail> {
+    let book = &mut book;
     for id in 1..5u32 {
         assert!(rt; !has_full(book, id)?, "after {id}");
     }
@@ -78,8 +82,7 @@ fn fills_a_bucket_of_four<I: Index, D: LogDisk>(
 
 #[test]
 fn the_fifth_point_makes_a_bucket_of_four_full(rt: HostRuntime) -> Result<(), Fail> {
-    let mut book = fresh(rt.alloc(), 4)?;
-    fills_a_bucket_of_four(&rt, &mut book)
+    fills_a_bucket_of_four(&rt, fresh(rt.alloc(), 4)?)
 }
 
 // How many rows the leaf of (3,5) has.
@@ -91,9 +94,9 @@ fn keeps_the_rows_of_a_snapshot<I: Index, D: LogDisk>(
     rt: &impl Abort,
     mut book: Book<I, D>,
 ) -> Result<(), Fail> {
-    let _first = put(&mut book, 1, 7, 3, 5)?;
+    put(&mut book, 1, 7, 3, 5)?;
     let seen = look(&mut book, 2)?;
-    let _second = put(&mut book, 3, 8, 4, 4)?;
+    put(&mut book, 3, 8, 4, 4)?;
     assert_eq!(rt; seen.place, 2);
     assert_eq!(rt; rows_there(&seen.index), 1);
     let parts = book.into_parts();
@@ -104,8 +107,7 @@ fn keeps_the_rows_of_a_snapshot<I: Index, D: LogDisk>(
 
 #[test]
 fn a_snapshot_keeps_its_rows_while_the_book_goes_on(rt: HostRuntime) -> Result<(), Fail> {
-    let book = fresh(rt.alloc(), 64)?;
-    keeps_the_rows_of_a_snapshot(&rt, book)
+    keeps_the_rows_of_a_snapshot(&rt, fresh(rt.alloc(), 64)?)
 }
 
 fn row(id: u64, x: u32, y: u32) -> Row {
@@ -125,10 +127,8 @@ fn is_inner<I: Index>(index: &I, name: &Name) -> bool {
     matches!(index.part(name), Part::Inner)
 }
 
-fn refuses_splits<I: Index, D: LogDisk>(
-    rt: &impl Abort,
-    book: &mut Book<I, D>,
-) -> Result<(), Fail> {
+fn refuses_splits<I: Index, D: LogDisk>(rt: &impl Abort, mut book: Book<I, D>) -> Result<(), Fail> {
+    let book = &mut book;
     let whole = Name::whole();
     let unopened = |number| Some(BookFault::NotOpen { number });
     assert!(rt; begin(book, &child(&whole, false)).err() == Some(BookFault::NoLeaf));
@@ -138,14 +138,13 @@ fn refuses_splits<I: Index, D: LogDisk>(
     abandon(book, 1)?;
     assert!(rt; abandon(book, 1).err() == unopened(1));
     assert_eq!(rt; begin(book, &whole)?, 2);
-    assert!(rt; counts(book) == (0, 3, None));
+    assert!(rt; has(book, 0, 3, None));
     Ok(())
 }
 
 #[test]
 fn a_split_is_refused_by_the_cause_that_comes_first(rt: HostRuntime) -> Result<(), Fail> {
-    let mut book = fresh(rt.alloc(), 4)?;
-    refuses_splits(&rt, &mut book)
+    refuses_splits(&rt, fresh(rt.alloc(), 4)?)
 }
 
 // Whether the whole leaf was split, and only its upper child has this row.
@@ -162,7 +161,7 @@ fn takes_a_point_during_a_split<I: Index, D: LogDisk>(
     mut book: Book<I, D>,
 ) -> Result<(), Fail> {
     let prepared = begin_and_cut(alloc, &mut book, &Name::whole())?;
-    let _late = put(&mut book, 1, 9, HALF, 0)?;
+    put(&mut book, 1, 9, HALF, 0)?;
     install(&mut book, &prepared)?;
     assert!(rt; install(&mut book, &prepared).err() == Some(BookFault::Stale { number: 1 }));
     let parts = book.into_parts();
@@ -173,8 +172,7 @@ fn takes_a_point_during_a_split<I: Index, D: LogDisk>(
 
 #[test]
 fn a_point_that_comes_during_a_split_stands_in_its_child(rt: HostRuntime) -> Result<(), Fail> {
-    let book = fresh(rt.alloc(), 4)?;
-    takes_a_point_during_a_split(&rt, rt.alloc(), book)
+    takes_a_point_during_a_split(&rt, rt.alloc(), fresh(rt.alloc(), 4)?)
 }
 
 const POINTS: [(u32, u32, u32); 5] = [
@@ -217,6 +215,5 @@ fn spreads_five_points<I: Index, D: LogDisk>(
 
 #[test]
 fn five_points_are_spread_over_the_two_children(rt: HostRuntime) -> Result<(), Fail> {
-    let book = fresh(rt.alloc(), 4)?;
-    spreads_five_points(&rt, rt.alloc(), book)
+    spreads_five_points(&rt, rt.alloc(), fresh(rt.alloc(), 4)?)
 }
