@@ -103,7 +103,8 @@ fn query_beside_put<R: Threads + Wait + Sync + Abort>(rt: &R, alloc: Global) -> 
 fn put_beside_split<R: Threads + Wait + Sync + Abort>(rt: &R, alloc: Global) -> Result<(), Fail> {
     const HALF: u32 = 1 << 31;
     let input =
-        "session,op,id,x,y,a,b\n1,put,1,0,0,,\n1,put,2,2147483648,0,,\n1,put,3,0,2147483648,,\n1,put,4,2147483648,2147483648,,\n1,put,5,1,1,,\n2,where,9,,,,\n2,put,9,2147483648,0,,\n";
+        "session,op,id,x,y,a,b\n1,put,1,0,0,,\n1,put,2,2147483648,0,,\n1,put,3,0,2147483648,,\n\
+        1,put,4,2147483648,2147483648,,\n1,put,5,1,1,,\n2,where,9,,,,\n2,put,9,2147483648,0,,\n";
     let left = meet(rt, alloc, GatePoint::Begun, input)?;
     let put = |id, x, y| Record::at(PUT, id, Point { x, y });
     let records = [

@@ -80,14 +80,14 @@ fn owned(alloc: Global, all: &[&str]) -> Result<Vec<String>, AllocError> {
     Ok(words)
 }
 
-// A drive whose file may grow by 8 KiB, in at most 1,024 calls.
+// A drive whose file may grow by 64 KiB, in at most 16,384 calls: a few objects near each other take up to 64 splits.
 fn drive(alloc: Global, file: &[u8], calls: &[Failing]) -> Result<MemDisk, Fail> {
-    let room = file.len().saturating_add(8_192);
+    let room = file.len().saturating_add(65_536);
     Ok(MemDisk::new(
         alloc,
         file.to_vec(alloc)?,
         room,
-        1_024,
+        16_384,
         calls.to_vec(alloc)?,
     )?)
 }

@@ -1,9 +1,9 @@
 //! Plays six rows over a log in memory, with buckets of four, and judges what they leave: for runs in which a request for memory is
 //! refused.
 //!
-//! `rt try --fail-alloc N` in this folder refuses the N-th request, and `rt try --fail-alloc 1..` each in a run of its own. It prints `kept`
-//! and ends with 0 where the status was 0, or 9 with its line, and a crash leaves a log of all changes of the history and of nothing else;
-//! also where memory for the judging itself was refused. Else it prints `lost`, and ends with 1.
+//! `rt try --fail-alloc N` in this folder refuses the N-th request, and `rt try --fail-alloc 1..` each in a run of its own. It prints
+//! `kept` and ends with 0 where the status was 0, or 9 with its line, and a crash leaves a log of all changes of the history and of
+//! nothing else; also where memory for the judging itself was refused. Else it prints `lost`, and ends with 1.
 #![tactic(auto)]
 
 mod runs;
