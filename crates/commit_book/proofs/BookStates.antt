@@ -48,7 +48,7 @@ steps_on w o h e legal sound may = record {
 }
 
 -- what holds of a book whose table stands for its world
-pub is_book : {I D : Type 0} (drive : D → Drive) (w : ℕ) (b : Inside I D) → IsInside drive w b.opening b → AreLeaves b.table.leaves → AllByRecursion (HasRowsOf b.table.world) b.table.leaves → IsBook drive w (book_of b)
+pub is_book : {I D P : Type 0} (drive : D → Drive) (w : ℕ) (b : Inside I D P) → IsInside drive w b.opening b → AreLeaves b.table.leaves → AllByRecursion (HasRowsOf b.table.world) b.table.leaves → IsBook drive w (book_of b)
 is_book drive w b inside are rows = record {
   opening = inside.opening;
   legal = inside.legal;
@@ -66,7 +66,7 @@ is_book drive w b inside are rows = record {
 one_more : (h : List Entry) (e : Entry) → length h < most_events → length (h ++ e ∷ []) ≤ most_events
 one_more h e few = omega (arith, length-append h (e ∷ []), few)
 
-module _ {I D : Type 0} (drive : D → Drive) (w : ℕ) (o : State) (old new : Inside I D) (inside : IsInside drive w o old)
+module _ {I D P : Type 0} (drive : D → Drive) (w : ℕ) (o : State) (old new : Inside I D P) (inside : IsInside drive w o old)
     (going : failed_cell old.history.entries ≡ None) (on_log : KeepsIn drive w o new.history.entries new.journal) where
   abbrev pub h : List Entry
   h = old.history.entries

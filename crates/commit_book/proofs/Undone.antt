@@ -35,7 +35,7 @@ use Rattle.commit_book.proofs.OnLog.{in-most, in-failed}
 use Rattle.commit_book.proofs.UpdateCalls.{fewer_cells}
 
 -- a step with a cell may be tried at a book that is going on and has room for it
-pub can_step : {I D : Type 0} (drive : D → Drive) (w : ℕ) (o : State) (b : Inside I D) (events : Events) (step : Lost) (cell : Cell) → lost_cells step ≡ cell ∷ [] → IsInside drive w o b
+pub can_step : {I D P : Type 0} (drive : D → Drive) (w : ℕ) (o : State) (b : Inside I D P) (events : Events) (step : Lost) (cell : Cell) → lost_cells step ≡ cell ∷ [] → IsInside drive w o b
     → failed_cell b.history.entries ≡ None → (cells_in b.journal == most_cells) ≡ false → events.entries ≡ b.history.entries → 0 < events.room → CanStep step events b.journal
 can_step drive w o b events step cell has inside going room same promised = record {
   cell = cell;
@@ -46,7 +46,7 @@ can_step drive w o b events step cell has inside going room same promised = reco
   few = omega (arith, ap length same, inside.few);
 }
 
-module _ {I D : Type 0} (drive : D → Drive) (w : ℕ) (o : State) (old : Inside I D) (inside : IsInside drive w o old) (going : failed_cell old.history.entries ≡ None) where
+module _ {I D P : Type 0} (drive : D → Drive) (w : ℕ) (o : State) (old : Inside I D P) (inside : IsInside drive w o old) (going : failed_cell old.history.entries ≡ None) where
   abbrev pub h : List Entry
   h = old.history.entries
 
@@ -54,7 +54,7 @@ module _ {I D : Type 0} (drive : D → Drive) (w : ℕ) (o : State) (old : Insid
   pub inside-undone : (A : Type 0) (table : TableView) (splits : SplitsView) (opening : State) (n : ℕ) (why : Undone) (a b : Step D) → length h < most_events → IsStep w o h a.lost
       → a.history.now ≡ record { entries = h; room = n } → a.journal.now ≡ old.journal → length old.splits.splits ≤ n
       → table ≡ old.table → splits.splits ≡ old.splits.splits → splits.begun ≡ old.splits.begun
-      → Told {A = A} (Takes drive) (Loses drive) a b (Err why) → IsInside {I = I} drive w o (record { table = table; splits = splits; history = b.history.now; journal = b.journal.now; opening = opening })
+      → Told {A = A} (Takes drive) (Loses drive) a b (Err why) → IsInside {I = I} {P = P} drive w o (record { table = table; splits = splits; history = b.history.now; journal = b.journal.now; opening = opening })
   inside-undone A table splits opening n undone.Lost a b few step events log room same opens begun told =
       let ends : Ends drive a.lost (Fail (cells_in a.journal.now) a.lost) (record { entries = h; room = n }) b.history.now a.journal.now b.journal.now =
       subst (λ (v : Events). Ends drive a.lost (Fail (cells_in a.journal.now) a.lost) v b.history.now a.journal.now b.journal.now) events told.ends in

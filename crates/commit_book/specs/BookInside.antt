@@ -9,12 +9,12 @@ use Rattle.commit_book.specs.IsBook.{most_events, IsOpening}
 use Rattle.commit_book.specs.KeptBases.{KeepsBases}
 use Rattle.commit_book.specs.declared.book.Book.TheInside.{Inside}
 
-abbrev pub book_of : {I D : Type 0} → Inside I D → BookView D
+abbrev pub book_of : {I D P : Type 0} → Inside I D P → BookView D
 book_of b = record { leaves = b.table.leaves; opening = b.opening; entries = b.history.entries; bucket = b.table.size; log = b.journal }
 
 -- The table and the open splits are those of the history's state, where the book began at the state o. While no append has failed, an entry
 -- has room for each open split.
-pub record IsInside {I D : Type 0} (drive : D → Drive) (w : ℕ) (o : State) (b : Inside I D) : Type 0 where
+pub record IsInside {I D P : Type 0} (drive : D → Drive) (w : ℕ) (o : State) (b : Inside I D P) : Type 0 where
   pub opening : IsOpening o
   pub legal : IsLegal w o b.history.entries
   pub world : b.table.world ≡ (state_after w o b.history.entries).world
