@@ -216,21 +216,21 @@ calm-loses A world op (book.NotOpen number) calm = tt
 look-calm : (A : Type 0) (h : List Entry) (fault : BookFault) → IsRefusedBy {A = A} IsMemory (call_refusal h) (Err fault) → IsCalm fault
 look-calm A h fault refused = refused-cause A IsMemory IsCalm (call_refusal h) fault (call-causes IsCalm h (λ n. tt) tt) (λ memory. subst IsCalm (sym memory) tt) refused
 
-module _ {I D : Type 0} (leaves : I → List Leaf) (drive : D → Drive) (w : ℕ) (b mid : BookView D) (old took back : Known) (session row : ℕ) (op : Op) (was : WasTaken drive b old took) (books : AreBooks drive w b mid) where
-  look-added : (r : Result (Snapshot I) BookFault) → IfOk r (λ s. Notes b mid session row op s.place) → Says (λ (s : Snapshot I). mid.entries ≡ b.entries ++ Call session row op ∷ []) r
+module _ {I D P : Type 0} (leaves : I → List Leaf) (drive : D → Drive) (w : ℕ) (b mid : BookView D) (old took back : Known) (session row : ℕ) (op : Op) (was : WasTaken drive b old took) (books : AreBooks drive w b mid) where
+  look-added : (r : Result (Snapshot I P) BookFault) → IfOk r (λ s. Notes b mid session row op s.place) → Says (λ (s : Snapshot I P). mid.entries ≡ b.entries ++ Call session row op ∷ []) r
   look-added (Ok s) ok = ok.entries
   look-added (Err fault) ok = tt
 
-  look-left : (r : Result (Snapshot I) BookFault) → IsRefusedBy IsMemory (call_refusal b.entries) r → IfErr r (λ (f : BookFault). mid ≡ b) → IfErr r (LeavesRefused drive (lost.Call session row op) b mid)
+  look-left : (r : Result (Snapshot I P) BookFault) → IsRefusedBy IsMemory (call_refusal b.entries) r → IfErr r (λ (f : BookFault). mid ≡ b) → IfErr r (LeavesRefused drive (lost.Call session row op) b mid)
   look-left (Ok s) refused err = tt
-  look-left (Err fault) refused err = calm-left drive (lost.Call session row op) b mid fault (look-calm (Snapshot I) b.entries fault refused) err
+  look-left (Err fault) refused err = calm-left drive (lost.Call session row op) b mid fault (look-calm (Snapshot I P) b.entries fault refused) err
 
-  pub look-step : (r : Result (Snapshot I) BookFault) → IfOk r (λ s. Notes b mid session row op s.place) → IsRefusedBy IsMemory (call_refusal b.entries) r → IfErr r (λ (f : BookFault). mid ≡ b)
-      → BookStep drive IsMemory (call_refusal b.entries) (λ (s : Snapshot I). Call session row op) (lost.Call session row op) b mid r
+  pub look-step : (r : Result (Snapshot I P) BookFault) → IfOk r (λ s. Notes b mid session row op s.place) → IsRefusedBy IsMemory (call_refusal b.entries) r → IfErr r (λ (f : BookFault). mid ≡ b)
+      → BookStep drive IsMemory (call_refusal b.entries) (λ (s : Snapshot I P). Call session row op) (lost.Call session row op) b mid r
   look-step r ok refused err = record { refused = refused; added = look-added r ok; left = look-left r refused err }
 
-  look-says : (names : List (List Bool)) (r : Result (Snapshot I) BookFault) → IfOk r (λ s. Notes b mid session row op s.place) → IfOk r (λ s. Stands (leaves s.index) (world_after b.opening.world b.entries) names) → HasWorld b
-      → back ≡ has_given took (has_entry r) mid.entries → Says (λ (s : Snapshot I). Shows (leaves s.index) old back b.entries s.place) r
+  look-says : (names : List (List Bool)) (r : Result (Snapshot I P) BookFault) → IfOk r (λ s. Notes b mid session row op s.place) → IfOk r (λ s. Stands (leaves s.index) (world_after b.opening.world b.entries) names) → HasWorld b
+      → back ≡ has_given took (has_entry r) mid.entries → Says (λ (s : Snapshot I P). Shows (leaves s.index) old back b.entries s.place) r
   look-says names (Ok s) ok stands has given =
       let world : world_after b.opening.world b.entries ≡ world_after old.origin.world b.entries = ap (λ (o : Origin). world_after o.world b.entries) was.origin in
       record {
@@ -241,10 +241,10 @@ module _ {I D : Type 0} (leaves : I → List Leaf) (drive : D → Drive) (w : �
       }
   look-says names (Err fault) ok stands has given = tt
 
-  pub looked : (names : List (List Bool)) (r : Result (Snapshot I) BookFault) → IfOk r (λ s. Notes b mid session row op s.place) → IfOk r (λ s. Stands (leaves s.index) (world_after b.opening.world b.entries) names) → HasWorld b
+  pub looked : (names : List (List Bool)) (r : Result (Snapshot I P) BookFault) → IfOk r (λ s. Notes b mid session row op s.place) → IfOk r (λ s. Stands (leaves s.index) (world_after b.opening.world b.entries) names) → HasWorld b
       → IsRefusedBy IsMemory (call_refusal b.entries) r → IfErr r (λ (f : BookFault). mid ≡ b) → back ≡ has_given took (has_entry r) mid.entries → Looks leaves session row op old back r
   looked names r ok stands has refused err given =
-      stepped drive w IsMemory (λ (cells : ℕ). call_refusal) (λ (s : Snapshot I). Call session row op) (λ (h : List Entry). lost.Call session row op) (λ (h : List Entry) (s : Snapshot I). Shows (leaves s.index) old back h s.place) b mid old took back r
+      stepped drive w IsMemory (λ (cells : ℕ). call_refusal) (λ (s : Snapshot I P). Call session row op) (λ (h : List Entry). lost.Call session row op) (λ (h : List Entry) (s : Snapshot I P). Shows (leaves s.index) old back h s.place) b mid old took back r
       books.before was (look-step r ok refused err) (look-says names r ok stands has given) given
 
 -- a call that isn't refused is answered
@@ -337,38 +337,39 @@ module _ (w session row : ℕ) (op : Op) (old new : Known) where
     leaves = fault-leaves Done w session row op old updates.step.before new fault updates.step.leaves updates.loses;
   }
 
-module _ {I : Type 0} (leaves : I → List Leaf) (w session row : ℕ) (op : Op) (old new : Known) (query : IsQuery op) where
-  pub look-fault : (fault : BookFault) → Looks leaves session row op old new (Err fault) → IsCallFault fault
-  look-fault fault step =
-      refused-cause (Snapshot I) IsMemory IsCallFault (call_refusal step.before) fault (call-causes IsCallFault step.before (λ n. tt) tt) (λ memory. subst IsCallFault (sym memory) tt) step.refused
-
+module _ (op : Op) (old : Known) (query : IsQuery op) where
   cause-is : (result : Result Done CallFault) (cells : ℕ) (before : List Entry) → IsAnswered op (call_refusal before) result → IsAnswered op (call_cause old.origin op cells before) result
   cause-is result cells before answered = subst (λ (o : Option BookFault). IsAnswered op o result) (sym (query-cause old.origin op cells before query)) answered
 
-  pub query-err : (fault : BookFault) → Looks leaves session row op old new (Err fault) → Called w session row op old new (Err (call_fault fault))
+module _ {I P : Type 0} (leaves : I → List Leaf) (w session row : ℕ) (op : Op) (old new : Known) (query : IsQuery op) where
+  pub look-fault : (fault : BookFault) → Looks {P = P} leaves session row op old new (Err fault) → IsCallFault fault
+  look-fault fault step =
+      refused-cause (Snapshot I P) IsMemory IsCallFault (call_refusal step.before) fault (call-causes IsCallFault step.before (λ n. tt) tt) (λ memory. subst IsCallFault (sym memory) tt) step.refused
+
+  pub query-err : (fault : BookFault) → Looks {P = P} leaves session row op old new (Err fault) → Called w session row op old new (Err (call_fault fault))
   query-err fault step = record {
     before = step.before;
     later = step.later;
     alone = step.alone;
     cells = step.cells;
     are_cells = step.are_cells;
-    answered = cause-is (Err (call_fault fault)) step.cells step.before (answered-err (Snapshot I) IsMemory op (call_refusal step.before) fault (memory-comes op fault) step.refused);
-    leaves = fault-leaves (Snapshot I) w session row op old step.before new fault step.leaves
-        (calm-loses (Snapshot I) (world_after old.origin.world step.before) op fault (look-calm (Snapshot I) step.before fault step.refused));
+    answered = cause-is op old query (Err (call_fault fault)) step.cells step.before (answered-err (Snapshot I P) IsMemory op (call_refusal step.before) fault (memory-comes op fault) step.refused);
+    leaves = fault-leaves (Snapshot I P) w session row op old step.before new fault step.leaves
+        (calm-loses (Snapshot I P) (world_after old.origin.world step.before) op fault (look-calm (Snapshot I P) step.before fault step.refused));
   }
 
-  pub query-memory : (shown : Snapshot I) → Looks leaves session row op old new (Ok shown) → Called w session row op old new (Err (call.Memory (Some shown.place)))
+  pub query-memory : (shown : Snapshot I P) → Looks leaves session row op old new (Ok shown) → Called w session row op old new (Err (call.Memory (Some shown.place)))
   query-memory shown step = record {
     before = step.before;
     later = step.later;
     alone = step.alone;
     cells = step.cells;
     are_cells = step.are_cells;
-    answered = cause-is (Err (call.Memory (Some shown.place))) step.cells step.before (answered-ok IsMemory op (call_refusal step.before) shown (Err (call.Memory (Some shown.place))) step.refused query);
+    answered = cause-is op old query (Err (call.Memory (Some shown.place))) step.cells step.before (answered-ok IsMemory op (call_refusal step.before) shown (Err (call.Memory (Some shown.place))) step.refused query);
     leaves = (step.leaves, step.says.place_is);
   }
 
-  pub query-ok : (shown : Snapshot I) (answer : Answer) (step : Looks leaves session row op old new (Ok shown)) → answer ≡ answer_of (world_after old.origin.world step.before) op
+  pub query-ok : (shown : Snapshot I P) (answer : Answer) (step : Looks leaves session row op old new (Ok shown)) → answer ≡ answer_of (world_after old.origin.world step.before) op
       → Called w session row op old new (Ok (record { place = shown.place; answer = answer; full = None }))
   query-ok shown answer step is = record {
     before = step.before;
@@ -376,7 +377,7 @@ module _ {I : Type 0} (leaves : I → List Leaf) (w session row : ℕ) (op : Op)
     alone = step.alone;
     cells = step.cells;
     are_cells = step.are_cells;
-    answered = cause-is (Ok (record { place = shown.place; answer = answer; full = None })) step.cells step.before
+    answered = cause-is op old query (Ok (record { place = shown.place; answer = answer; full = None })) step.cells step.before
         (answered-ok IsMemory op (call_refusal step.before) shown (Ok (record { place = shown.place; answer = answer; full = None })) step.refused tt);
     leaves = (step.leaves, record { replies = record { place_is = step.says.place_is; answer_is = is }; full_is = sym (told-query w op new query) });
   }

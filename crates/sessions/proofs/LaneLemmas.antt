@@ -23,8 +23,8 @@ keeps-more w session old mid new [] (x ∷ kept) r k all one = absurd all
 keeps-more w session old mid new (x ∷ rows) [] r k all one = absurd all
 keeps-more w session old mid new (x ∷ rows) (y ∷ kept) r k (next, first, rest) one = (next, first, keeps-more w session next mid new rows kept r k rest one)
 
-module _ {I D O : Type 0} (w : ℕ) where
-  pub plays-none : (lock : TableId) (lane : Lane I D O) → IsReady lock lane → PlaysTo w 0 lane lane
+module _ {I D O P : Type 0} (w : ℕ) where
+  pub plays-none : (lock : TableId) (lane : Lane I D O P) → IsReady lock lane → PlaysTo w 0 lane lane
   plays-none lock lane ready = record {
     session = refl;
     rows = refl;
@@ -34,7 +34,7 @@ module _ {I D O : Type 0} (w : ℕ) where
     keeps = subst (λ (kept : List KeptRow). KeepsAll w lane.session lane.pass [] kept lane.pass) (sym ready.kept) refl;
   }
 
-  pub plays-more : (i : ℕ) (old mid new : Lane I D O) → i < length old.rows.items → PlaysTo w i old mid → KeepsOne w i mid new → PlaysTo w (i + 1) old new
+  pub plays-more : (i : ℕ) (old mid new : Lane I D O P) → i < length old.rows.items → PlaysTo w i old mid → KeepsOne w i mid new → PlaysTo w (i + 1) old new
   plays-more i old mid new within plays one =
       let d : ℕ × Op = (0, Find 0) in
       let r : ℕ × Op = slice_index_or old.rows.items i d in
@@ -58,7 +58,7 @@ module _ {I D O : Type 0} (w : ℕ) where
       }
 
   -- all rows were played
-  pub plays-all : (n : ℕ) (old new : Lane I D O) → length old.rows.items ≤ n → PlaysTo w n old new → Plays w old new
+  pub plays-all : (n : ℕ) (old new : Lane I D O P) → length old.rows.items ≤ n → PlaysTo w n old new → Plays w old new
   plays-all n old new long plays = record {
     session = plays.session;
     rows = plays.rows;
@@ -71,7 +71,7 @@ module _ {I D O : Type 0} (w : ℕ) where
   }
 
   -- the next row was refused
-  pub plays-stop : (i : ℕ) (old mid new : Lane I D O) → i < length old.rows.items → PlaysTo w i old mid → StopsAt w i mid new → Plays w old new
+  pub plays-stop : (i : ℕ) (old mid new : Lane I D O P) → i < length old.rows.items → PlaysTo w i old mid → StopsAt w i mid new → Plays w old new
   plays-stop i old mid new within plays stop =
       let d : ℕ × Op = (0, Find 0) in
       let r : ℕ × Op = slice_index_or old.rows.items i d in
@@ -90,5 +90,5 @@ module _ {I D O : Type 0} (w : ℕ) where
         stops = subst (λ (fault : Option CallFault). Stops w old.session mid.pass new.pass (r ∷ drop (suc i) old.rows.items) fault) (sym stop.fault_is) called;
       }
 
-pub ready-pass : {I D O : Type 0} (lock : TableId) (old new : Lane I D O) → IsReady lock old → SamePass old.pass new.pass → (new.pass.lock ≡ lock) × (new.pass.holds ≡ false)
+pub ready-pass : {I D O P : Type 0} (lock : TableId) (old new : Lane I D O P) → IsReady lock old → SamePass old.pass new.pass → (new.pass.lock ≡ lock) × (new.pass.holds ≡ false)
 ready-pass lock old new ready same = (ap (λ (k : Known). k.lock) same.1 ∙ ready.lock_is, ap (λ (k : Known). k.holds) same.1 ∙ ready.off)

@@ -20,25 +20,25 @@ use Rattle.sessions.specs.contracts.store.lanes.Lane as Lane
 use Rattle.sessions.specs.contracts.shared.SharedBook as Shared
 use Rattle.sessions.specs.contracts.shared.SharedBook.TheInside as inside
 
-pub shared_send : (I D O : RattleType) (g : Ghosts I.Denot) (h : DriveGhosts D.Denot) (k : StartGhosts O.Denot) → IsSend I → IsSend D → IsSend O → IsSend (Shared.the_row I D O g h k)
-shared_send I D O g h k i d o =
-    view_send (inside.the_row I D O g h k) _ _ _ _ (recorded_send (inside.the_field I D O g h k).row _ _ (inside.the_type I D O g h k).to_one
-    (struct_send (shape (inside.the_type I D O g h k)) (book_send I D g h i d, (search (sendable, crosses) depth 8, tt))))
+pub shared_send : (I D O P : RattleType) (g : Ghosts I.Denot P.Denot) (h : DriveGhosts D.Denot) (k : StartGhosts O.Denot) → IsSend I → IsSend D → IsSend O → IsSend (Shared.the_row I D O P g h k)
+shared_send I D O P g h k i d o =
+    view_send (inside.the_row I D O P g h k) _ _ _ _ (recorded_send (inside.the_field I D O P g h k).row _ _ (inside.the_type I D O P g h k).to_one
+    (struct_send (shape (inside.the_type I D O P g h k)) (book_send I D P g h i d, (search (sendable, crosses) depth 8, tt))))
 
-pub store_send : (I D O : RattleType) (g : Ghosts I.Denot) (h : DriveGhosts D.Denot) (k : StartGhosts O.Denot) → IsSend I → IsSend D → IsSend O → IsSend (Store.the_row I D O g h k)
-store_send I D O g h k i d o = search (sendable, shared_send, lock.the_send) depth 12
+pub store_send : (I D O P : RattleType) (g : Ghosts I.Denot P.Denot) (h : DriveGhosts D.Denot) (k : StartGhosts O.Denot) → IsSend I → IsSend D → IsSend O → IsSend (Store.the_row I D O P g h k)
+store_send I D O P g h k i d o = search (sendable, shared_send, lock.the_send) depth 12
 
-pub store_sync : (I D O : RattleType) (g : Ghosts I.Denot) (h : DriveGhosts D.Denot) (k : StartGhosts O.Denot) → IsSend I → IsSend D → IsSend O → IsSync (Store.the_row I D O g h k)
-store_sync I D O g h k i d o = search (sendable, shared_send, lock.the_sync) depth 12
+pub store_sync : (I D O P : RattleType) (g : Ghosts I.Denot P.Denot) (h : DriveGhosts D.Denot) (k : StartGhosts O.Denot) → IsSend I → IsSend D → IsSend O → IsSync (Store.the_row I D O P g h k)
+store_sync I D O P g h k i d o = search (sendable, shared_send, lock.the_sync) depth 12
 
-pub pass_send : (I D O : RattleType) (g : Ghosts I.Denot) (h : DriveGhosts D.Denot) (k : StartGhosts O.Denot) → IsSend I → IsSend D → IsSend O → IsSend (Pass.the_row (Shared.the_row I D O g h k))
-pass_send I D O g h k i d o = search (sendable, shared_send, pass.the_send) depth 12
+pub pass_send : (I D O P : RattleType) (g : Ghosts I.Denot P.Denot) (h : DriveGhosts D.Denot) (k : StartGhosts O.Denot) → IsSend I → IsSend D → IsSend O → IsSend (Pass.the_row (Shared.the_row I D O P g h k))
+pass_send I D O P g h k i d o = search (sendable, shared_send, pass.the_send) depth 12
 
 -- each field by itself
-pub lane_send : (I D O : RattleType) (g : Ghosts I.Denot) (h : DriveGhosts D.Denot) (k : StartGhosts O.Denot) → IsSend I → IsSend D → IsSend O → IsSend (Lane.the_row I D O g h k)
-lane_send I D O g h k i d o =
-    let p : IsSend (Pass.the_row (Shared.the_row I D O g h k)) = pass_send I D O g h k i d o in
-    recorded_send (Lane.the_field I D O g h k).row _ _ (Lane.the_type I D O g h k).to_one (struct_send (shape (Lane.the_type I D O g h k))
+pub lane_send : (I D O P : RattleType) (g : Ghosts I.Denot P.Denot) (h : DriveGhosts D.Denot) (k : StartGhosts O.Denot) → IsSend I → IsSend D → IsSend O → IsSend (Lane.the_row I D O P g h k)
+lane_send I D O P g h k i d o =
+    let p : IsSend (Pass.the_row (Shared.the_row I D O P g h k)) = pass_send I D O P g h k i d o in
+    recorded_send (Lane.the_field I D O P g h k).row _ _ (Lane.the_type I D O P g h k).to_one (struct_send (shape (Lane.the_type I D O P g h k))
     (plain_send _ _ _ _ _, (p, (search (sendable, crosses) depth 20, (search (sendable, crosses, kept.the_send) depth 20, (search (sendable, crosses) depth 20, tt))))))
 
 -- a closure over four captures

@@ -72,7 +72,7 @@ pub update_world : {D : Type 0} (w : ℕ) (drive : D → Drive) (old new : BookV
 update_world w drive old new session row op (Ok d) ok err opening fits has = world_more old new (Call session row op) fits opening ok.notes.entries has
 update_world w drive old new session row op (Err fault) ok err opening fits has = world_refused drive (lost.Call session row op) old new fault opening has err
 
-pub snapshot_world : {I D : Type 0} (old new : BookView D) (session row : ℕ) (op : Op) (r : Result (Snapshot I) BookFault) → IfOk r (λ s. Notes old new session row op s.place)
+pub snapshot_world : {I D P : Type 0} (old new : BookView D) (session row : ℕ) (op : Op) (r : Result (Snapshot I P) BookFault) → IfOk r (λ s. Notes old new session row op s.place)
     → IfErr r (λ _. new ≡ old) → new.opening ≡ old.opening → FitsOp op → HasWorld old → HasWorld new
 snapshot_world old new session row op (Ok s) ok err opening fits has = world_more old new (Call session row op) fits opening ok.entries has
 snapshot_world old new session row op (Err fault) ok err opening fits has = subst HasWorld (sym err) has
@@ -93,7 +93,7 @@ abandon_world n drive old new (Ok t) ok err opening has = world_more old new (Ab
 abandon_world n drive old new (Err fault) ok err opening has = world_refused drive (lost.Abandon n) old new fault opening has err
 
 -- a query leaves the world
-pub snapshot_stands : {I D : Type 0} (leaves : I → List Leaf) (names : List (List Bool)) (old new : BookView D) (session row : ℕ) (op : Op) (r : Result (Snapshot I) BookFault) → IsQuery op → new.opening ≡ old.opening
+pub snapshot_stands : {I D P : Type 0} (leaves : I → List Leaf) (names : List (List Bool)) (old new : BookView D) (session row : ℕ) (op : Op) (r : Result (Snapshot I P) BookFault) → IsQuery op → new.opening ≡ old.opening
     → IfOk r (λ s. Notes old new session row op s.place) → IfOk r (λ s. Stands (leaves s.index) (world_after new.opening.world new.entries) names) → IfOk r (λ s. Stands (leaves s.index) (world_after old.opening.world old.entries) names)
 snapshot_stands leaves names old new session row op (Ok s) query opening ok index =
     let world : world_after new.opening.world new.entries ≡ world_after old.opening.world old.entries =

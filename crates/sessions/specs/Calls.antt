@@ -138,6 +138,6 @@ pub record Shows (leaves : List Leaf) (old new : Known) (before : List Entry) (p
   pub stands : Stands leaves (world_after old.origin.world before) names
 
 -- a query under the lock, which hands out the index as it stands there
-abbrev pub Looks : {I : Type 0} → (I → List Leaf) → ℕ → ℕ → Op → Known → Known → Result (Snapshot I) BookFault → Type 0
+abbrev pub Looks : {I P : Type 0} → (I → List Leaf) → ℕ → ℕ → Op → Known → Known → Result (Snapshot I P) BookFault → Type 0
 Looks leaves session row op old new result =
     IsStep IsMemory (λ cells. call_refusal) (λ shown. Call session row op) (λ before. lost.Call session row op) (λ before shown. Shows (leaves shown.index) old new before shown.place) old new result

@@ -13,7 +13,7 @@ use Rattle.sessions.specs.Calls.{Called}
 use Rattle.sessions.specs.Splits.{SplitEnds, SamePass}
 
 -- the lane has a pass of this lock, and rows that may be asked, none of them kept yet, and room for all of them
-pub record IsReady {I D O : Type 0} (lock : TableId) (lane : Lane I D O) : Type 0 where
+pub record IsReady {I D O P : Type 0} (lock : TableId) (lane : Lane I D O P) : Type 0 where
   pub lock_is : lane.pass.lock ≡ lock
   pub off : lane.pass.holds ≡ false
   pub valid : (i : ℕ) (d : ℕ × Op) → i < length lane.rows.items → IsValid (slice_index_or lane.rows.items i d).1
@@ -51,7 +51,7 @@ Stops w session mid new (r ∷ rest) None = ⊥
 Stops w session mid new (r ∷ rest) (Some fault) = Called w session r.0 r.1 mid new (Err fault)
 
 -- A lane was played: its rows from the first on are kept, one after another, and it stopped at the first that was refused, or at the end.
-pub record Plays {I D O : Type 0} (w : ℕ) (old new : Lane I D O) : Type 0 where
+pub record Plays {I D O P : Type 0} (w : ℕ) (old new : Lane I D O P) : Type 0 where
   pub session : new.session ≡ old.session
   pub rows : new.rows.items ≡ old.rows.items
   pub front : List (ℕ × Op)
@@ -62,7 +62,7 @@ pub record Plays {I D O : Type 0} (w : ℕ) (old new : Lane I D O) : Type 0 wher
   pub stops : Stops w old.session mid new.pass rest new.fault
 
 -- a lane went on by a row, which is kept
-pub record KeepsOne {I D O : Type 0} (w i : ℕ) (old new : Lane I D O) : Type 0 where
+pub record KeepsOne {I D O P : Type 0} (w i : ℕ) (old new : Lane I D O P) : Type 0 where
   pub session : new.session ≡ old.session
   pub rows : new.rows.items ≡ old.rows.items
   pub fault : new.fault ≡ None
@@ -74,7 +74,7 @@ pub record KeepsOne {I D O : Type 0} (w i : ℕ) (old new : Lane I D O) : Type 0
   pub keeps : (d : ℕ × Op) → Keeps w old.session old.pass new.pass (slice_index_or old.rows.items i d) kept
 
 -- a lane stopped at a row
-pub record StopsAt {I D O : Type 0} (w i : ℕ) (old new : Lane I D O) : Type 0 where
+pub record StopsAt {I D O P : Type 0} (w i : ℕ) (old new : Lane I D O P) : Type 0 where
   pub session : new.session ≡ old.session
   pub rows : new.rows.items ≡ old.rows.items
   pub kept : new.kept.items ≡ old.kept.items
@@ -83,12 +83,12 @@ pub record StopsAt {I D O : Type 0} (w i : ℕ) (old new : Lane I D O) : Type 0 
   pub called : (d : ℕ × Op) → Called w old.session (slice_index_or old.rows.items i d).0 (slice_index_or old.rows.items i d).1 old.pass new.pass (Err fault)
 
 -- either, as is told
-abbrev pub Advances : {I D O : Type 0} → ℕ → ℕ → Lane I D O → Lane I D O → Bool → Type 0
+abbrev pub Advances : {I D O P : Type 0} → ℕ → ℕ → Lane I D O P → Lane I D O P → Bool → Type 0
 Advances w i old new true = KeepsOne w i old new
 Advances w i old new false = StopsAt w i old new
 
 -- a lane has played so many rows
-pub record PlaysTo {I D O : Type 0} (w i : ℕ) (old new : Lane I D O) : Type 0 where
+pub record PlaysTo {I D O P : Type 0} (w i : ℕ) (old new : Lane I D O P) : Type 0 where
   pub session : new.session ≡ old.session
   pub rows : new.rows.items ≡ old.rows.items
   pub fault : new.fault ≡ None

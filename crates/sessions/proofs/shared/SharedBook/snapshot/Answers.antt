@@ -17,5 +17,5 @@ pub returns-clause-index : goal.returns-clause-index
 returns-clause-index g c =
     let new = c.snapshot.new.self in
     let names = (state_after g.I.Index.WIDTH new.opening new.entries).leaves in
-    subst (λ (b : BookView g.row.D.Denot). IfOk c.snapshot.result (λ (s : Snapshot g.row.I.Denot). Stands (g.I.Index.leaves s.index) (world_after b.opening.world b.entries) names)) c.self.view_is
+    subst (λ (b : BookView g.row.D.Denot). IfOk c.snapshot.result (λ (s : Snapshot g.row.I.Denot g.row.I-Place.Denot). Stands (g.I.Index.leaves s.index) (world_after b.opening.world b.entries) names)) c.self.view_is
     (snapshot_stands g.I.Index.leaves names c.self.inside.book new c.args.session c.args.row c.args.op.now c.snapshot.result c.requires c.snapshot.ensures.book.origin.opening c.snapshot.ensures.ok c.snapshot.ensures.index)

@@ -21,9 +21,9 @@ give-requires-clause-entries g c =
     let op = c.args.op.now in
     let was : WasTaken g.D.LogDisk.drive c.take-book.result c.args.pass.now c.take-book.new.pass = record { entries = take.value.0; origin = take.value.1; later = take.later; took_is = take.pass; off = c.requires.off; alone = take.alone } in
     subst (λ (grown : Bool). MayGive took grown mid.entries) (sym c.has_entry-grown.ensures)
-    (may-give g.D.LogDisk.drive IsMemory (call_refusal b.entries) (λ (s : Snapshot g.row.I.Denot). Call c.args.session c.args.row op) (lost.Call c.args.session c.args.row op) b mid took take.value.0 c.snapshot-answer.result
+    (may-give g.D.LogDisk.drive IsMemory (call_refusal b.entries) (λ (s : Snapshot g.row.I.Denot g.row.I-Place.Denot). Call c.args.session c.args.row op) (lost.Call c.args.session c.args.row op) b mid took take.value.0 c.snapshot-answer.result
     (look-step g.I.Index.leaves g.D.LogDisk.drive g.I.Index.WIDTH b mid old took took c.args.session c.args.row op was snapshot.book c.snapshot-answer.result snapshot.ok snapshot.refused snapshot.err)
-    (says-all (λ (s : Snapshot g.row.I.Denot). MayNote took.seen took.own (Call c.args.session c.args.row op)) (λ (s : Snapshot g.row.I.Denot). call-may c.args.session c.args.row op took.seen took.own) c.snapshot-answer.result))
+    (says-all (λ (s : Snapshot g.row.I.Denot g.row.I-Place.Denot). MayNote took.seen took.own (Call c.args.session c.args.row op)) (λ (s : Snapshot g.row.I.Denot g.row.I-Place.Denot). call-may c.args.session c.args.row op took.seen took.own) c.snapshot-answer.result))
 
 pub returns : goal.returns
 returns g c =

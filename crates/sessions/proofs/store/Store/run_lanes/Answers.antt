@@ -15,12 +15,12 @@ for_each_mut-requires-send-T g c κs within = search crossing
 
 pub for_each_mut-requires-sync-F : goal.for_each_mut-requires-sync-F
 for_each_mut-requires-sync-F g c κs within =
-    let s : IsSync (Store.the_row (param 0 g.row.I) (param 1 g.row.D) (param 2 g.row.O) g.I.Index g.D.LogDisk g.O.Start) =
-    store_sync (param 0 g.row.I) (param 1 g.row.D) (param 2 g.row.O) g.I.Index g.D.LogDisk g.O.Start c.type_bounds.send-I c.type_bounds.send-D c.type_bounds.send-O in
+    let s : IsSync (Store.the_row (param 0 g.row.I) (param 1 g.row.D) (param 2 g.row.O) (param 3 g.row.I-Place) g.I.Index g.D.LogDisk g.O.Start) =
+    store_sync (param 0 g.row.I) (param 1 g.row.D) (param 2 g.row.O) (param 3 g.row.I-Place) g.I.Index g.D.LogDisk g.O.Start c.type_bounds.send-I c.type_bounds.send-D c.type_bounds.send-O in
     param_sync 2 _ (arg_sync _ no _ (closure_sync _ _ _ _ _ (shr_sync _ _ _ s) (shr_sync _ _ _ c.type_bounds.sync-R) (shr_sync _ _ _ global.the_sync) (shr_sync _ _ _ c.type_bounds.sync-G)))
 
 pub returns : goal.returns
 returns g c i d lt =
     let h = (c.for_each_mut.ensures i d lt).1 in
     let w = g.I.Index.WIDTH in
-    subst (λ (x : Lane g.row.I.Denot g.row.D.Denot g.row.O.Denot). Plays w x (slice_index_or c.for_each_mut.new.s i d)) h.argument_is (subst (λ (y : Lane g.row.I.Denot g.row.D.Denot g.row.O.Denot). Plays w h.argument.now y) h.left h.call)
+    subst (λ (x : Lane g.row.I.Denot g.row.D.Denot g.row.O.Denot g.row.I-Place.Denot). Plays w x (slice_index_or c.for_each_mut.new.s i d)) h.argument_is (subst (λ (y : Lane g.row.I.Denot g.row.D.Denot g.row.O.Denot g.row.I-Place.Denot). Plays w h.argument.now y) h.left h.call)
