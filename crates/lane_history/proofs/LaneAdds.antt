@@ -113,7 +113,7 @@ stops-with w s rows front (r ∷ rest) mid new None whole stops = absurd stops
 stops-with w s rows front (r ∷ rest) mid new (Some fault) whole stops = stop-fault w s rows front rest r mid new whole fault stops
 
 -- What a played lane has added: its calls are a prefix of its rows, and all of them where it met no fault.
-pub record IsLane {I D O : Type 0} (w : ℕ) (origin : Origin) (s : ℕ) (rows : List (ℕ × Op)) (lane : Lane I D O) : Type 0 where
+pub record IsLane {I D O P : Type 0} (w : ℕ) (origin : Origin) (s : ℕ) (rows : List (ℕ × Op)) (lane : Lane I D O P) : Type 0 where
   pub calls : List (ℕ × Op)
   pub front : IsPrefix calls rows
   pub calm : lane.fault ≡ None → calls ≡ rows
@@ -122,7 +122,7 @@ pub record IsLane {I D O : Type 0} (w : ℕ) (origin : Origin) (s : ℕ) (rows :
   pub others : (t : ℕ) → t ≢ s → calls_of t (own_of lane.pass) ≡ []
   pub added : (p : ℕ) → Owns lane.pass.own p → IsAdded (LaneLost w origin s rows calls) lane.pass.seen p
 
-module _ {I D O : Type 0} (w : ℕ) (origin : Origin) (s : ℕ) (rows : List (ℕ × Op)) (lane : Lane I D O) (played : HasPlayed w origin s rows lane) where
+module _ {I D O P : Type 0} (w : ℕ) (origin : Origin) (s : ℕ) (rows : List (ℕ × Op)) (lane : Lane I D O P) (played : HasPlayed w origin s rows lane) where
   abbrev Old : Known
   Old = played.old.pass
 
@@ -215,7 +215,7 @@ all-stood w s origin h old new (r ∷ rows) (k ∷ kept) same later (mid, one, r
     )
 
 -- each kept row of a lane stands in what its pass has seen
-pub lane-stood : {I D O : Type 0} (w : ℕ) (origin : Origin) (s : ℕ) (rows : List (ℕ × Op)) (lane : Lane I D O) (played : HasPlayed w origin s rows lane) (h : List Entry) → IsPrefix lane.pass.seen h → HaveStood origin s h played.plays.front lane.kept.items
+pub lane-stood : {I D O P : Type 0} (w : ℕ) (origin : Origin) (s : ℕ) (rows : List (ℕ × Op)) (lane : Lane I D O P) (played : HasPlayed w origin s rows lane) (h : List Entry) → IsPrefix lane.pass.seen h → HaveStood origin s h played.plays.front lane.kept.items
 lane-stood w origin s rows lane played h later =
     let stop = stopped w origin s rows lane played in
     all-stood w s origin h played.old.pass played.plays.mid played.plays.front lane.kept.items played.begins

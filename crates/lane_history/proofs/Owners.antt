@@ -19,7 +19,7 @@ use Rattle.lane_history.proofs.Adds.{own_of}
 use Rattle.lane_history.proofs.LaneAdds.{IsLane, is-lane}
 
 -- the lane is that of this session
-abbrev pub IsOf : {I D O : Type 0} → ℕ → Lane I D O → List ℕ → List (Lane I D O) → Type 0
+abbrev pub IsOf : {I D O P : Type 0} → ℕ → Lane I D O P → List ℕ → List (Lane I D O P) → Type 0
 IsOf s lane [] lanes = ⊥
 IsOf s lane (t ∷ sessions) [] = ⊥
 IsOf s lane (t ∷ sessions) (l ∷ lanes) = ((t ≡ s) × (l ≡ lane)) ⊎ IsOf s lane sessions lanes
@@ -29,16 +29,16 @@ pub rise-none : (s least : ℕ) (sessions : List ℕ) → RiseFrom least session
 rise-none s least [] rise le = refl
 rise-none s least (t ∷ sessions) rise le = let a = rise-none s t sessions rise.1 (let lt = rise.0 in omega arith) in let b = one_other t s (λ e. let lt = rise.0 in omega arith) in omega arith
 
-module _ {I D O : Type 0} (w : ℕ) (origin : Origin) (rows : List InRow) (pass : Known) where
+module _ {I D O P : Type 0} (w : ℕ) (origin : Origin) (rows : List InRow) (pass : Known) where
   -- an entry of a lane's own is no call of another session
-  lane-quiet : (s t : ℕ) (lane : Lane I D O) → HasPlayed w origin t (session_rows rows t) lane → IsPrefix lane.pass.seen pass.seen → s ≢ t → (p : ℕ) (e : Entry) → slice_get pass.seen p ≡ Some e → Owns lane.pass.own p → calls_of s (e ∷ []) ≡ []
+  lane-quiet : (s t : ℕ) (lane : Lane I D O P) → HasPlayed w origin t (session_rows rows t) lane → IsPrefix lane.pass.seen pass.seen → s ≢ t → (p : ℕ) (e : Entry) → slice_get pass.seen p ≡ Some e → Owns lane.pass.own p → calls_of s (e ∷ []) ≡ []
   lane-quiet s t lane played seen apart p e at owns =
       let is : IsLane w origin t (session_rows rows t) lane = is-lane w origin t (session_rows rows t) lane played in
       let none : calls_of s (own_entries 0 lane.pass.own pass.seen) ≡ [] = ap (calls_of s) (own-seen lane.pass.own lane.pass.seen pass.seen is.below seen) ∙ is.others s apart in
       let here : p ≡ 0 + p = omega arith in
       quiet-at s 0 lane.pass.own pass.seen p e none at (subst (Owns lane.pass.own) here owns)
 
-  lanes-quiet : (s : ℕ) (sessions : List ℕ) (lanes : List (Lane I D O)) → HaveAllPlayed w origin rows sessions lanes → HaveSeen lanes pass → times s sessions ≡ 0 → (p : ℕ) (e : Entry) → slice_get pass.seen p ≡ Some e → 1 ≤ owned_by p lanes
+  lanes-quiet : (s : ℕ) (sessions : List ℕ) (lanes : List (Lane I D O P)) → HaveAllPlayed w origin rows sessions lanes → HaveSeen lanes pass → times s sessions ≡ 0 → (p : ℕ) (e : Entry) → slice_get pass.seen p ≡ Some e → 1 ≤ owned_by p lanes
       → calls_of s (e ∷ []) ≡ []
   lanes-quiet s [] [] played seen none p e at owned = absurd (omega arith)
   lanes-quiet s [] (lane ∷ lanes) played seen none p e at owned = absurd played
@@ -53,25 +53,25 @@ module _ {I D O : Type 0} (w : ℕ) (origin : Origin) (rows : List InRow) (pass 
       by_owner later (inr skips) = later (omega arith)
 
   -- a lane that covers its session's calls
-  abbrev pub IsCovered : ℕ → List (Lane I D O) → Lane I D O → Type 0
+  abbrev pub IsCovered : ℕ → List (Lane I D O P) → Lane I D O P → Type 0
   IsCovered s lanes lane = (p : ℕ) (e : Entry) → slice_get pass.seen p ≡ Some e → (Owns lane.pass.own p → 1 ≤ owned_by p lanes) × (1 ≤ owned_by p lanes → Owns lane.pass.own p ⊎ (calls_of s (e ∷ []) ≡ []))
 
-  of-greater : (s least : ℕ) (lane : Lane I D O) (sessions : List ℕ) (lanes : List (Lane I D O)) → RiseFrom least sessions → IsOf s lane sessions lanes → least < s
+  of-greater : (s least : ℕ) (lane : Lane I D O P) (sessions : List ℕ) (lanes : List (Lane I D O P)) → RiseFrom least sessions → IsOf s lane sessions lanes → least < s
   of-greater s least lane [] lanes rise of = absurd of
   of-greater s least lane (t ∷ sessions) [] rise of = absurd of
   of-greater s least lane (t ∷ sessions) (l ∷ lanes) rise (inl (same, is)) = let lt = rise.0 in omega arith
   of-greater s least lane (t ∷ sessions) (l ∷ lanes) rise (inr of) = let a = of-greater s t lane sessions lanes rise.1 of in let lt = rise.0 in omega arith
 
-  covered : (s least : ℕ) (lane : Lane I D O) (sessions : List ℕ) (lanes : List (Lane I D O)) → HaveAllPlayed w origin rows sessions lanes → HaveSeen lanes pass → RiseFrom least sessions → IsOf s lane sessions lanes → IsCovered s lanes lane
+  covered : (s least : ℕ) (lane : Lane I D O P) (sessions : List ℕ) (lanes : List (Lane I D O P)) → HaveAllPlayed w origin rows sessions lanes → HaveSeen lanes pass → RiseFrom least sessions → IsOf s lane sessions lanes → IsCovered s lanes lane
   covered s least lane [] lanes played seen rise of = absurd of
   covered s least lane (t ∷ sessions) [] played seen rise of = absurd of
   covered s least lane (t ∷ sessions) (l ∷ lanes) played seen rise (inl (same, is)) = λ p e at. (
-    (λ owns. let o : Owns l.pass.own p = subst (λ (k : Lane I D O). Owns k.pass.own p) (sym is) owns in omega arith),
+    (λ owns. let o : Owns l.pass.own p = subst (λ (k : Lane I D O P). Owns k.pass.own p) (sym is) owns in omega arith),
     (λ owned. by_owner p e at owned (owns-or-not p l.pass.own)),
   )
     where
       by_owner : (p : ℕ) (e : Entry) → slice_get pass.seen p ≡ Some e → 1 ≤ times p l.pass.own + owned_by p lanes → OwnsOrNot p l.pass.own → Owns lane.pass.own p ⊎ (calls_of s (e ∷ []) ≡ [])
-      by_owner p e at owned (inl owns) = inl (subst (λ (k : Lane I D O). Owns k.pass.own p) is owns)
+      by_owner p e at owned (inl owns) = inl (subst (λ (k : Lane I D O P). Owns k.pass.own p) is owns)
       by_owner p e at owned (inr skips) = inr (lanes-quiet s sessions lanes played.1 seen.1 (rise-none s t sessions rise.1 (omega arith)) p e at (omega arith))
   covered s least lane (t ∷ sessions) (l ∷ lanes) played seen rise (inr of) = by_rest (covered s t lane sessions lanes played.1 seen.1 rise.1 of)
     where
@@ -90,21 +90,21 @@ module _ {I D O : Type 0} (w : ℕ) (origin : Origin) (rows : List InRow) (pass 
       )
 
   -- a lane of these sessions was played, and its pass taken in
-  pub record IsJoined (s : ℕ) (lane : Lane I D O) : Type 0 where
+  pub record IsJoined (s : ℕ) (lane : Lane I D O P) : Type 0 where
     pub played : HasPlayed w origin s (session_rows rows s) lane
     pub seen : IsPrefix lane.pass.seen pass.seen
 
-  pub joined-of : (s : ℕ) (lane : Lane I D O) (sessions : List ℕ) (lanes : List (Lane I D O)) → HaveAllPlayed w origin rows sessions lanes → HaveSeen lanes pass → IsOf s lane sessions lanes → IsJoined s lane
+  pub joined-of : (s : ℕ) (lane : Lane I D O P) (sessions : List ℕ) (lanes : List (Lane I D O P)) → HaveAllPlayed w origin rows sessions lanes → HaveSeen lanes pass → IsOf s lane sessions lanes → IsJoined s lane
   joined-of s lane [] lanes played seen of = absurd of
   joined-of s lane (t ∷ sessions) [] played seen of = absurd of
   joined-of s lane (t ∷ sessions) (l ∷ lanes) played seen (inl (same, is)) = record {
-    played = subst (λ (k : Lane I D O). HasPlayed w origin s (session_rows rows s) k) is (subst (λ (r : ℕ). HasPlayed w origin r (session_rows rows r) l) same played.0);
-    seen = subst (λ (k : Lane I D O). IsPrefix k.pass.seen pass.seen) is seen.0;
+    played = subst (λ (k : Lane I D O P). HasPlayed w origin s (session_rows rows s) k) is (subst (λ (r : ℕ). HasPlayed w origin r (session_rows rows r) l) same played.0);
+    seen = subst (λ (k : Lane I D O P). IsPrefix k.pass.seen pass.seen) is seen.0;
   }
   joined-of s lane (t ∷ sessions) (l ∷ lanes) played seen (inr of) = joined-of s lane sessions lanes played.1 seen.1 of
 
   -- the calls of a lane's session are the lane's calls
-  pub calls-of-lane : (s least : ℕ) (lane : Lane I D O) (sessions : List ℕ) (lanes : List (Lane I D O)) → HaveAllPlayed w origin rows sessions lanes → HaveSeen lanes pass → RiseFrom least sessions → IsOf s lane sessions lanes
+  pub calls-of-lane : (s least : ℕ) (lane : Lane I D O P) (sessions : List ℕ) (lanes : List (Lane I D O P)) → HaveAllPlayed w origin rows sessions lanes → HaveSeen lanes pass → RiseFrom least sessions → IsOf s lane sessions lanes
       → ((p : ℕ) → times p pass.own ≡ owned_by p lanes) → calls_of s (own_of pass) ≡ calls_of s (own_of lane.pass)
   calls-of-lane s least lane sessions lanes played seen rise of owned =
       let joined = joined-of s lane sessions lanes played seen of in
@@ -120,7 +120,7 @@ module _ {I D O : Type 0} (w : ℕ) (origin : Origin) (rows : List InRow) (pass 
           ((λ owns. let a = c.0 owns in omega arith), (λ owns. c.1 (omega arith)))
 
   -- of a session without a lane there is none
-  pub calls-of-none : (s : ℕ) (sessions : List ℕ) (lanes : List (Lane I D O)) → HaveAllPlayed w origin rows sessions lanes → HaveSeen lanes pass → times s sessions ≡ 0
+  pub calls-of-none : (s : ℕ) (sessions : List ℕ) (lanes : List (Lane I D O P)) → HaveAllPlayed w origin rows sessions lanes → HaveSeen lanes pass → times s sessions ≡ 0
       → ((p : ℕ) → times p pass.own ≡ owned_by p lanes) → calls_of s (own_of pass) ≡ []
   calls-of-none s sessions lanes played seen none owned = calls-covered s 0 [] pass.own pass.seen covers ∙ ap (calls_of s) (own-none 0 [] pass.seen (λ p le. refl))
     where
@@ -132,23 +132,23 @@ module _ {I D O : Type 0} (w : ℕ) (origin : Origin) (rows : List InRow) (pass 
           ((λ owns. absurd (omega arith)), (λ owns. inr (lanes-quiet s sessions lanes played seen none k e at (omega arith))))
 
   -- a session that is named has a lane
-  pub lane-of : (s : ℕ) (sessions : List ℕ) (lanes : List (Lane I D O)) → HaveAllPlayed w origin rows sessions lanes → 0 < times s sessions → (lane : Lane I D O) × IsOf s lane sessions lanes
+  pub lane-of : (s : ℕ) (sessions : List ℕ) (lanes : List (Lane I D O P)) → HaveAllPlayed w origin rows sessions lanes → 0 < times s sessions → (lane : Lane I D O P) × IsOf s lane sessions lanes
   lane-of s [] lanes played has = absurd (omega arith)
   lane-of s (t ∷ sessions) [] played has = absurd played
   lane-of s (t ∷ sessions) (l ∷ lanes) played has = by_place (cases_eq t s) (lane-of s sessions lanes played.1)
     where
-      by_place : (t ≡ s) ⊎ (t ≡ s → ⊥) → (0 < times s sessions → (lane : Lane I D O) × IsOf s lane sessions lanes) → (lane : Lane I D O) × IsOf s lane (t ∷ sessions) (l ∷ lanes)
+      by_place : (t ≡ s) ⊎ (t ≡ s → ⊥) → (0 < times s sessions → (lane : Lane I D O P) × IsOf s lane sessions lanes) → (lane : Lane I D O P) × IsOf s lane (t ∷ sessions) (l ∷ lanes)
       by_place (inl same) later = (l, inl (same, refl))
       by_place (inr apart) later = let o = one_other t s apart in let (lane, of) = later (omega arith) in (lane, inr of)
 
   -- a position that lanes own is of one of them
-  pub owner-of : (p : ℕ) (sessions : List ℕ) (lanes : List (Lane I D O)) → HaveAllPlayed w origin rows sessions lanes → 1 ≤ owned_by p lanes → (s : ℕ) × (lane : Lane I D O) × IsOf s lane sessions lanes × Owns lane.pass.own p
+  pub owner-of : (p : ℕ) (sessions : List ℕ) (lanes : List (Lane I D O P)) → HaveAllPlayed w origin rows sessions lanes → 1 ≤ owned_by p lanes → (s : ℕ) × (lane : Lane I D O P) × IsOf s lane sessions lanes × Owns lane.pass.own p
   owner-of p [] [] played owned = absurd (omega arith)
   owner-of p [] (lane ∷ lanes) played owned = absurd played
   owner-of p (t ∷ sessions) [] played owned = absurd played
   owner-of p (t ∷ sessions) (l ∷ lanes) played owned = by_owner (owns-or-not p l.pass.own) (owner-of p sessions lanes played.1)
     where
-      by_owner : OwnsOrNot p l.pass.own → (1 ≤ owned_by p lanes → (s : ℕ) × (lane : Lane I D O) × IsOf s lane sessions lanes × Owns lane.pass.own p)
-          → (s : ℕ) × (lane : Lane I D O) × IsOf s lane (t ∷ sessions) (l ∷ lanes) × Owns lane.pass.own p
+      by_owner : OwnsOrNot p l.pass.own → (1 ≤ owned_by p lanes → (s : ℕ) × (lane : Lane I D O P) × IsOf s lane sessions lanes × Owns lane.pass.own p)
+          → (s : ℕ) × (lane : Lane I D O P) × IsOf s lane (t ∷ sessions) (l ∷ lanes) × Owns lane.pass.own p
       by_owner (inl owns) later = (t, l, inl (refl, refl), owns)
       by_owner (inr skips) later = let (s, lane, of, owns) = later (omega arith) in (s, lane, inr of, owns)

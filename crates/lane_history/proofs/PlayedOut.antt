@@ -32,10 +32,10 @@ use Rattle.lane_history.proofs.Owners.{IsOf, joined-of, calls-of-lane, calls-of-
 use Rattle.lane_history.proofs.Places.{place-of, reply-of}
 use Rattle.lane_history.proofs.Fails.{fails-at, fail-last, same-place}
 
-calm-of : {I D O : Type 0} (s : ℕ) (lane : Lane I D O) (sessions : List ℕ) (lanes : List (Lane I D O)) → AreCalm lanes → IsOf s lane sessions lanes → lane.fault ≡ None
+calm-of : {I D O P : Type 0} (s : ℕ) (lane : Lane I D O P) (sessions : List ℕ) (lanes : List (Lane I D O P)) → AreCalm lanes → IsOf s lane sessions lanes → lane.fault ≡ None
 calm-of s lane [] lanes calm of = absurd of
 calm-of s lane (t ∷ sessions) [] calm of = absurd of
-calm-of s lane (t ∷ sessions) (l ∷ lanes) calm (inl (same, is)) = ap (λ (k : Lane _ _ _). k.fault) (sym is) ∙ calm.0
+calm-of s lane (t ∷ sessions) (l ∷ lanes) calm (inl (same, is)) = ap (λ (k : Lane _ _ _ _). k.fault) (sym is) ∙ calm.0
 calm-of s lane (t ∷ sessions) (l ∷ lanes) calm (inr of) = calm-of s lane sessions lanes calm.1 of
 
 -- what stood in a history of played sessions is right there
@@ -51,8 +51,8 @@ are-right rows origin s h [] (k ∷ kept) played stood = absurd stood
 are-right rows origin s h (r ∷ front) [] played stood = absurd stood
 are-right rows origin s h (r ∷ front) (k ∷ kept) played stood = (stood-right rows origin s h r k played stood.0, are-right rows origin s h front kept played stood.1)
 
-module _ {I D O : Type 0} (w : ℕ) (origin : Origin) (rows : List InRow) where
-  all-right : (sessions : List ℕ) (lanes : List (Lane I D O)) (pass : Known) (h : List Entry) → HaveAllPlayed w origin rows sessions lanes → HaveSeen lanes pass → IsPrefix pass.seen h → IsPlayed (session_rows rows) h → AllRight origin.world h lanes
+module _ {I D O P : Type 0} (w : ℕ) (origin : Origin) (rows : List InRow) where
+  all-right : (sessions : List ℕ) (lanes : List (Lane I D O P)) (pass : Known) (h : List Entry) → HaveAllPlayed w origin rows sessions lanes → HaveSeen lanes pass → IsPrefix pass.seen h → IsPlayed (session_rows rows) h → AllRight origin.world h lanes
   all-right [] [] pass h all seen later played = tt
   all-right [] (lane ∷ lanes) pass h all seen later played = absurd all
   all-right (s ∷ sessions) [] pass h all seen later played = absurd all
@@ -61,7 +61,7 @@ module _ {I D O : Type 0} (w : ℕ) (origin : Origin) (rows : List InRow) where
     all-right sessions lanes pass h all.1 seen.1 later played,
   )
 
-module _ {I D O : Type 0} (w : ℕ) (origin : Origin) (rows : List InRow) (sessions : List ℕ) (lanes : List (Lane I D O)) (last : Known) (out : IsPlayedOut w origin rows sessions lanes last) where
+module _ {I D O P : Type 0} (w : ℕ) (origin : Origin) (rows : List InRow) (sessions : List ℕ) (lanes : List (Lane I D O P)) (last : Known) (out : IsPlayedOut w origin rows sessions lanes last) where
   abbrev Pass : Known
   Pass = out.pass
 
@@ -89,11 +89,11 @@ module _ {I D O : Type 0} (w : ℕ) (origin : Origin) (rows : List InRow) (sessi
   calls-last s = ap (calls_of s) last-own ∙ calls-append s (own_of Pass) goes.entries ∙ ap (λ (l : List (ℕ × Op)). calls_of s (own_of Pass) ++ l) (goes.quiet s) ∙ append-nil (calls_of s (own_of Pass))
 
   -- the calls of a lane's session
-  record LaneCalls (s : ℕ) (lane : Lane I D O) : Type 0 where
+  record LaneCalls (s : ℕ) (lane : Lane I D O P) : Type 0 where
     pub is : IsLane w origin s (session_rows rows s) lane
     pub calls_are : calls_of s last.seen ≡ is.calls
 
-  lane-calls : (s : ℕ) (lane : Lane I D O) → IsOf s lane sessions lanes → LaneCalls s lane
+  lane-calls : (s : ℕ) (lane : Lane I D O P) → IsOf s lane sessions lanes → LaneCalls s lane
   lane-calls s lane of =
       let joined = joined-of w origin rows Pass s lane sessions lanes out.played out.joined.seen of in
       let is : IsLane w origin s (session_rows rows s) lane = is-lane w origin s (session_rows rows s) lane joined.played in

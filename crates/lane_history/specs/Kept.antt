@@ -17,6 +17,6 @@ AreRight world h [] = ⊤
 AreRight world h (k ∷ kept) = IsRight world h k × AreRight world h kept
 
 -- the same of all lanes
-abbrev pub AllRight : {I D O : Type 0} → List Placed → List Entry → List (Lane I D O) → Type 0
+abbrev pub AllRight : {I D O P : Type 0} → List Placed → List Entry → List (Lane I D O P) → Type 0
 AllRight world h [] = ⊤
 AllRight world h (lane ∷ lanes) = AreRight world h lane.kept.items × AllRight world h lanes

@@ -14,8 +14,8 @@ use Rattle.sessions.specs.Settles.{Settles}
 use Rattle.lane_history.specs.SessionRows.{session_rows}
 
 -- a lane with the rows of a session was played, from a pass of this origin that had seen nothing and owned nothing
-pub record HasPlayed {I D O : Type 0} (w : ℕ) (origin : Origin) (session : ℕ) (rows : List (ℕ × Op)) (lane : Lane I D O) : Type 0 where
-  pub old : Lane I D O
+pub record HasPlayed {I D O P : Type 0} (w : ℕ) (origin : Origin) (session : ℕ) (rows : List (ℕ × Op)) (lane : Lane I D O P) : Type 0 where
+  pub old : Lane I D O P
   pub session_is : old.session ≡ session
   pub rows_are : old.rows.items ≡ rows
   pub seen : old.pass.seen ≡ []
@@ -24,7 +24,7 @@ pub record HasPlayed {I D O : Type 0} (w : ℕ) (origin : Origin) (session : ℕ
   pub plays : Plays w old lane
 
 -- a lane of each of these sessions was played, in their order
-abbrev pub HaveAllPlayed : {I D O : Type 0} → ℕ → Origin → List InRow → List ℕ → List (Lane I D O) → Type 0
+abbrev pub HaveAllPlayed : {I D O P : Type 0} → ℕ → Origin → List InRow → List ℕ → List (Lane I D O P) → Type 0
 HaveAllPlayed w origin rows [] [] = ⊤
 HaveAllPlayed w origin rows [] (lane ∷ lanes) = ⊥
 HaveAllPlayed w origin rows (s ∷ sessions) [] = ⊥
@@ -41,17 +41,17 @@ pub record AreSessions (rows : List InRow) (sessions : List ℕ) : Type 0 where
   pub all : (s : ℕ) → session_rows rows s ≢ [] → 0 < times s sessions
 
 -- how often lanes own a position
-abbrev pub owned_by : {I D O : Type 0} → ℕ → List (Lane I D O) → ℕ
+abbrev pub owned_by : {I D O P : Type 0} → ℕ → List (Lane I D O P) → ℕ
 owned_by p [] = 0
 owned_by p (lane ∷ lanes) = times p lane.pass.own + owned_by p lanes
 
 -- each lane's pass has seen a beginning of this history
-abbrev pub HaveSeen : {I D O : Type 0} → List (Lane I D O) → Known → Type 0
+abbrev pub HaveSeen : {I D O P : Type 0} → List (Lane I D O P) → Known → Type 0
 HaveSeen [] pass = ⊤
 HaveSeen (lane ∷ lanes) pass = IsPrefix lane.pass.seen pass.seen × HaveSeen lanes pass
 
 -- a pass that had seen nothing and owned nothing took the lanes' passes in
-pub record TakesIn {I D O : Type 0} (origin : Origin) (lanes : List (Lane I D O)) (pass : Known) : Type 0 where
+pub record TakesIn {I D O P : Type 0} (origin : Origin) (lanes : List (Lane I D O P)) (pass : Known) : Type 0 where
   pub begins : pass.origin ≡ origin
   pub seen : HaveSeen lanes pass
   pub owned : (p : ℕ) → times p pass.own ≡ owned_by p lanes
@@ -66,7 +66,7 @@ OwnsAll pass = (p : ℕ) → times p pass.own ≡ once_below p (length pass.seen
 
 -- Lanes of the sessions of these rows were played over a store of this origin, one pass took theirs in and maybe settled the splits, and
 -- the last pass has the whole history.
-pub record IsPlayedOut {I D O : Type 0} (w : ℕ) (origin : Origin) (rows : List InRow) (sessions : List ℕ) (lanes : List (Lane I D O)) (last : Known) : Type 0 where
+pub record IsPlayedOut {I D O P : Type 0} (w : ℕ) (origin : Origin) (rows : List InRow) (sessions : List ℕ) (lanes : List (Lane I D O P)) (last : Known) : Type 0 where
   pub sessions_are : AreSessions rows sessions
   pub played : HaveAllPlayed w origin rows sessions lanes
   pub pass : Known
@@ -75,6 +75,6 @@ pub record IsPlayedOut {I D O : Type 0} (w : ℕ) (origin : Origin) (rows : List
   pub whole : OwnsAll last
 
 -- no lane met a fault
-abbrev pub AreCalm : {I D O : Type 0} → List (Lane I D O) → Type 0
+abbrev pub AreCalm : {I D O P : Type 0} → List (Lane I D O P) → Type 0
 AreCalm [] = ⊤
 AreCalm (lane ∷ lanes) = (lane.fault ≡ None) × AreCalm lanes
