@@ -39,7 +39,7 @@ pub record AreJoined (origin : Origin) (h : List Entry) (own : List ℕ) (most :
   pub few : weight (at calls h) own (length h) ≤ most
   pub even : IsCalm origin h → weight (at begins h) own (length h) ≤ weight (at ends h) own (length h)
 
-joined-from : {I D O : Type 0} (origin : Origin) (h : List Entry) (own : List ℕ) (lanes : List (Lane I D O)) (a b : ℕ) → ((g : ℕ → ℕ) (n : ℕ) → weight g own n ≡ lanes_weight g lanes n) → Together origin h lanes a → a ≤ b → AreJoined origin h own b
+joined-from : {I D O P : Type 0} (origin : Origin) (h : List Entry) (own : List ℕ) (lanes : List (Lane I D O P)) (a b : ℕ) → ((g : ℕ → ℕ) (n : ℕ) → weight g own n ≡ lanes_weight g lanes n) → Together origin h lanes a → a ≤ b → AreJoined origin h own b
 joined-from origin h own lanes a b same together less = record {
   fair = λ n. let x = same (at begins h) n in let y = same (at calls h) n in let z = together.fair n in omega arith;
   room = λ n. same (crowd h (bad origin h)) n ∙ together.room n;
@@ -51,7 +51,7 @@ pub goes-prefix : (w : ℕ) (pass last : Known) → GoesOn w pass last → IsPre
 goes-prefix w pass last (inl same) = subst (λ (k : Known). IsPrefix pass.seen k.seen) (sym same) (prefix_refl pass.seen)
 goes-prefix w pass last (inr (result, settles)) = (settles-same w pass last result settles).0
 
-pub joined : {I D O : Type 0} (w : ℕ) (origin : Origin) (rows : List InRow) (sessions : List ℕ) (lanes : List (Lane I D O)) (last : Known) (out : IsPlayedOut w origin rows sessions lanes last)
+pub joined : {I D O P : Type 0} (w : ℕ) (origin : Origin) (rows : List InRow) (sessions : List ℕ) (lanes : List (Lane I D O P)) (last : Known) (out : IsPlayedOut w origin rows sessions lanes last)
     → AreJoined origin last.seen out.pass.own (length rows)
 joined w origin rows sessions lanes last out =
     joined-from origin last.seen out.pass.own lanes (rows_of 1 rows sessions) (length rows) (λ g n. lanes-weight g out.pass.own lanes out.joined.owned n)
@@ -143,7 +143,7 @@ record AreBelow (origin : Origin) (h : List Entry) (most : ℕ) : Type 0 where
   pub room : (n : ℕ) → n < length h → 1 ≤ at begins h n → (n ≤ 4000000) × (cells_after origin (take n h) ≤ 16000000)
   pub few : all_below (at calls h) (length h) ≤ most
 
-are-below : {I D O : Type 0} (w : ℕ) (origin : Origin) (rows : List InRow) (sessions : List ℕ) (lanes : List (Lane I D O)) (last : Known) → IsPlayedOut w origin rows sessions lanes last → AreBelow origin last.seen (length rows)
+are-below : {I D O P : Type 0} (w : ℕ) (origin : Origin) (rows : List InRow) (sessions : List ℕ) (lanes : List (Lane I D O P)) (last : Known) → IsPlayedOut w origin rows sessions lanes last → AreBelow origin last.seen (length rows)
 are-below w origin rows sessions lanes last out =
     let h = last.seen in
     let end = last-goes w origin out.pass last (length rows) out.joined.begins (joined w origin rows sessions lanes last out) out.goes_on in
@@ -194,7 +194,7 @@ module _ (w : ℕ) (origin : Origin) (h : List Entry) (legal : IsLegal w (start_
       let calls_few = below.few in
       omega arith
 
-pub bounded : {I D O : Type 0} (w : ℕ) (origin : Origin) (rows : List InRow) (sessions : List ℕ) (lanes : List (Lane I D O)) (last : Known) → IsPlayedOut w origin rows sessions lanes last
+pub bounded : {I D O P : Type 0} (w : ℕ) (origin : Origin) (rows : List InRow) (sessions : List ℕ) (lanes : List (Lane I D O P)) (last : Known) → IsPlayedOut w origin rows sessions lanes last
     → IsLegal w (start_of origin) last.seen → length rows ≤ 65536 → origin.cells ≤ 16000000 → IsBounded origin last.seen
 bounded w origin rows sessions lanes last out legal few_rows few_cells =
     let h = last.seen in
@@ -212,6 +212,6 @@ bounded w origin rows sessions lanes last out legal few_rows few_cells =
     }
 
 -- how many calls there are
-pub calls-few : {I D O : Type 0} (w : ℕ) (origin : Origin) (rows : List InRow) (sessions : List ℕ) (lanes : List (Lane I D O)) (last : Known) → IsPlayedOut w origin rows sessions lanes last
+pub calls-few : {I D O P : Type 0} (w : ℕ) (origin : Origin) (rows : List InRow) (sessions : List ℕ) (lanes : List (Lane I D O P)) (last : Known) → IsPlayedOut w origin rows sessions lanes last
     → all_below (at calls last.seen) (length last.seen) ≤ length rows
 calls-few w origin rows sessions lanes last out = (are-below w origin rows sessions lanes last out).few

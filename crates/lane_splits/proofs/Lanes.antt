@@ -106,7 +106,7 @@ stops-same w session mid new (r ∷ rest) None none = absurd none
 stops-same w session mid new (r ∷ rest) (Some fault) called = called-same w session r.0 r.1 mid new (Err fault) called
 
 -- a lane that was played
-pub lane-gains : {I D O : Type 0} (w : ℕ) (origin : Origin) (h : List Entry) (session : ℕ) (rows : List (ℕ × Op)) (lane : Lane I D O) → HasPlayed w origin session rows lane → IsPrefix lane.pass.seen h
+pub lane-gains : {I D O P : Type 0} (w : ℕ) (origin : Origin) (h : List Entry) (session : ℕ) (rows : List (ℕ × Op)) (lane : Lane I D O P) → HasPlayed w origin session rows lane → IsPrefix lane.pass.seen h
     → LaneGains origin h [] lane.pass.own (length rows)
 lane-gains w origin h session rows lane played pre =
     let plays = played.plays in

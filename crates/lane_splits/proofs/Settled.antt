@@ -66,7 +66,7 @@ few-stray w origin pass last goes few =
     let is : stray_begins w origin.bucket (start_of origin) h ≡ stray_begins w origin.bucket (start_of origin) (pass.seen ++ goes.more) = ap (stray_begins w origin.bucket (start_of origin)) goes.seen in
     omega arith
 
-pub settled : {I D O : Type 0} (w : ℕ) (origin : Origin) (rows : List InRow) (sessions : List ℕ) (lanes : List (Lane I D O)) (last : Known) (first : Option ℕ) (s : Settled) → (out : IsPlayedOut w origin rows sessions lanes last)
+pub settled : {I D O P : Type 0} (w : ℕ) (origin : Origin) (rows : List InRow) (sessions : List ℕ) (lanes : List (Lane I D O P)) (last : Known) (first : Option ℕ) (s : Settled) → (out : IsPlayedOut w origin rows sessions lanes last)
     → out.pass.parts ≡ all_parts → Settles w out.pass last (Ok s) → IsLegal w (start_of origin) last.seen → length rows ≤ 65536 → origin.cells ≤ 16000000 → first_cells first ≡ origin.cells → failed_cell last.seen ≡ None
     → IsSettled w origin.bucket (start_of origin) first last.seen
 settled w origin rows sessions lanes last first s out all settles legal few_rows few_cells is going =

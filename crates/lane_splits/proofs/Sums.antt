@@ -23,15 +23,15 @@ use Rattle.lane_splits.proofs.Steps.{bad, IsCalm}
 use Rattle.lane_splits.proofs.Lanes.{lane-gains}
 
 -- what the own positions of lanes weigh
-abbrev pub lanes_weight : {I D O : Type 0} → (ℕ → ℕ) → List (Lane I D O) → ℕ → ℕ
+abbrev pub lanes_weight : {I D O P : Type 0} → (ℕ → ℕ) → List (Lane I D O P) → ℕ → ℕ
 lanes_weight g [] n = 0
 lanes_weight g (lane ∷ lanes) n = weight g lane.pass.own n + lanes_weight g lanes n
 
-lanes-zero : {I D O : Type 0} (g : ℕ → ℕ) (lanes : List (Lane I D O)) → lanes_weight g lanes 0 ≡ 0
+lanes-zero : {I D O P : Type 0} (g : ℕ → ℕ) (lanes : List (Lane I D O P)) → lanes_weight g lanes 0 ≡ 0
 lanes-zero g [] = refl
 lanes-zero g (lane ∷ lanes) = let rest = lanes-zero g lanes in omega arith
 
-lanes-next : {I D O : Type 0} (g : ℕ → ℕ) (lanes : List (Lane I D O)) (n : ℕ) → lanes_weight g lanes (suc n) ≡ lanes_weight g lanes n + owned_by n lanes * g n
+lanes-next : {I D O P : Type 0} (g : ℕ → ℕ) (lanes : List (Lane I D O P)) (n : ℕ) → lanes_weight g lanes (suc n) ≡ lanes_weight g lanes n + owned_by n lanes * g n
 lanes-next g [] n = omega arith
 lanes-next g (lane ∷ lanes) n =
     let rest = lanes-next g lanes n in
@@ -39,7 +39,7 @@ lanes-next g (lane ∷ lanes) n =
     omega arith
 
 -- who took the lanes' passes in has their weight
-pub lanes-weight : {I D O : Type 0} (g : ℕ → ℕ) (own : List ℕ) (lanes : List (Lane I D O)) → ((p : ℕ) → times p own ≡ owned_by p lanes) → (n : ℕ) → weight g own n ≡ lanes_weight g lanes n
+pub lanes-weight : {I D O P : Type 0} (g : ℕ → ℕ) (own : List ℕ) (lanes : List (Lane I D O P)) → ((p : ℕ) → times p own ≡ owned_by p lanes) → (n : ℕ) → weight g own n ≡ lanes_weight g lanes n
 lanes-weight g own lanes owned zero = sym (lanes-zero g lanes)
 lanes-weight g own lanes owned (suc n) =
     let h = lanes-weight g own lanes owned n in
@@ -100,13 +100,13 @@ rows-few row least (r ∷ rows) sessions rise =
     omega arith
 
 -- what the lanes come to together
-pub record Together {I D O : Type 0} (origin : Origin) (h : List Entry) (lanes : List (Lane I D O)) (most : ℕ) : Type 0 where
+pub record Together {I D O P : Type 0} (origin : Origin) (h : List Entry) (lanes : List (Lane I D O P)) (most : ℕ) : Type 0 where
   pub fair : (n : ℕ) → lanes_weight (at begins h) lanes n ≤ lanes_weight (at calls h) lanes n
   pub room : (n : ℕ) → lanes_weight (crowd h (bad origin h)) lanes n ≡ 0
   pub few : lanes_weight (at calls h) lanes (length h) ≤ most
   pub even : IsCalm origin h → lanes_weight (at begins h) lanes (length h) ≤ lanes_weight (at ends h) lanes (length h)
 
-pub together : {I D O : Type 0} (w : ℕ) (origin : Origin) (h : List Entry) (rows : List InRow) (sessions : List ℕ) (lanes : List (Lane I D O)) (pass : Known) → HaveAllPlayed w origin rows sessions lanes → HaveSeen lanes pass
+pub together : {I D O P : Type 0} (w : ℕ) (origin : Origin) (h : List Entry) (rows : List InRow) (sessions : List ℕ) (lanes : List (Lane I D O P)) (pass : Known) → HaveAllPlayed w origin rows sessions lanes → HaveSeen lanes pass
     → IsPrefix pass.seen h → Together origin h lanes (rows_of 1 rows sessions)
 together w origin h rows [] [] pass all seen pre = record { fair = λ n. omega arith; room = λ n. refl; few = omega arith; even = λ calm. omega arith }
 together w origin h rows [] (lane ∷ lanes) pass all seen pre = absurd all
