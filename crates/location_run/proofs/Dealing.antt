@@ -44,7 +44,7 @@ stops-same w session mid new [] (Some fault) stops = absurd stops
 stops-same w session mid new (r ∷ rest) None stops = absurd stops
 stops-same w session mid new (r ∷ rest) (Some fault) called = called-same w session r.0 r.1 mid new (Err fault) called
 
-plays-same : {I D O : Type 0} (w : ℕ) (old new : Lane I D O) → Plays w old new → SamePass old.pass new.pass
+plays-same : {I D O P : Type 0} (w : ℕ) (old new : Lane I D O P) → Plays w old new → SamePass old.pass new.pass
 plays-same w old new plays =
     same-later old.pass plays.mid new.pass (keeps-same w old.session old.pass plays.mid plays.front new.kept.items plays.keeps) (stops-same w old.session plays.mid new.pass plays.rest new.fault plays.stops)
 
@@ -60,21 +60,21 @@ valid-rows n s (r ∷ rows) (first, all) i d within = by_test (valid-rows (n + 1
     by_test more true (suc j) lt = more j d (omega (arith, lt))
     by_test more false j lt = more j d lt
 
-module _ {I D O : Type 0} (lock : TableId) (origin : Origin) (rows : List InRow) where
-  dealt-one : (sessions : List ℕ) (lanes : List (Lane I D O)) (s : ℕ) (lane : Lane I D O) → AreDealt lock origin rows sessions lanes → IsDealt lock origin s (session_rows rows s) lane
+module _ {I D O P : Type 0} (lock : TableId) (origin : Origin) (rows : List InRow) where
+  dealt-one : (sessions : List ℕ) (lanes : List (Lane I D O P)) (s : ℕ) (lane : Lane I D O P) → AreDealt lock origin rows sessions lanes → IsDealt lock origin s (session_rows rows s) lane
       → AreDealt lock origin rows (sessions ++ s ∷ []) (lanes ++ lane ∷ [])
   dealt-one [] [] s lane all one = (one, tt)
   dealt-one [] (x ∷ lanes) s lane all one = absurd all
   dealt-one (x ∷ sessions) [] s lane all one = absurd all
   dealt-one (x ∷ sessions) (y ∷ lanes) s lane (first, all) one = (first, dealt-one sessions lanes s lane all one)
 
-  dealt-length : (sessions : List ℕ) (lanes : List (Lane I D O)) → AreDealt lock origin rows sessions lanes → length lanes ≡ length sessions
+  dealt-length : (sessions : List ℕ) (lanes : List (Lane I D O P)) → AreDealt lock origin rows sessions lanes → length lanes ≡ length sessions
   dealt-length [] [] all = refl
   dealt-length [] (x ∷ lanes) all = absurd all
   dealt-length (x ∷ sessions) [] all = absurd all
   dealt-length (x ∷ sessions) (y ∷ lanes) (first, all) = ap suc (dealt-length sessions lanes all)
 
-  idle-dealt : (sessions : List ℕ) (lanes : List (Lane I D O)) → AreDealt lock origin rows sessions lanes → AreIdle lock lanes
+  idle-dealt : (sessions : List ℕ) (lanes : List (Lane I D O P)) → AreDealt lock origin rows sessions lanes → AreIdle lock lanes
   idle-dealt [] [] all = tt
   idle-dealt [] (x ∷ lanes) all = absurd all
   idle-dealt (x ∷ sessions) [] all = absurd all
@@ -83,7 +83,7 @@ module _ {I D O : Type 0} (lock : TableId) (origin : Origin) (rows : List InRow)
     idle-dealt sessions lanes all,
   )
 
-  is-ready : (s : ℕ) (lane : Lane I D O) → AreInRows rows → IsDealt lock origin s (session_rows rows s) lane → IsReady lock lane
+  is-ready : (s : ℕ) (lane : Lane I D O P) → AreInRows rows → IsDealt lock origin s (session_rows rows s) lane → IsReady lock lane
   is-ready s lane are dealt = record {
     lock_is = ap (λ (k : Known). k.lock) dealt.pass_is;
     off = ap (λ (k : Known). k.holds) dealt.pass_is;
@@ -93,14 +93,14 @@ module _ {I D O : Type 0} (lock : TableId) (origin : Origin) (rows : List InRow)
     fault = dealt.fault;
   }
 
-  ready-dealt : (sessions : List ℕ) (lanes : List (Lane I D O)) → AreInRows rows → AreDealt lock origin rows sessions lanes → (i : ℕ) (d : Lane I D O) → i < length lanes → IsReady lock (slice_index_or lanes i d)
+  ready-dealt : (sessions : List ℕ) (lanes : List (Lane I D O P)) → AreInRows rows → AreDealt lock origin rows sessions lanes → (i : ℕ) (d : Lane I D O P) → i < length lanes → IsReady lock (slice_index_or lanes i d)
   ready-dealt [] [] are all i d lt = absurd (omega (arith, lt))
   ready-dealt [] (x ∷ lanes) are all i d lt = absurd all
   ready-dealt (x ∷ sessions) [] are all i d lt = absurd all
   ready-dealt (x ∷ sessions) (y ∷ lanes) are (first, all) zero d lt = is-ready x y are first
   ready-dealt (x ∷ sessions) (y ∷ lanes) are (first, all) (suc i) d lt = ready-dealt sessions lanes are all i d (omega (arith, lt))
 
-  has-played : (w s : ℕ) (old new : Lane I D O) → IsDealt lock origin s (session_rows rows s) old → Plays w old new → HasPlayed w origin s (session_rows rows s) new
+  has-played : (w s : ℕ) (old new : Lane I D O P) → IsDealt lock origin s (session_rows rows s) old → Plays w old new → HasPlayed w origin s (session_rows rows s) new
   has-played w s old new dealt plays = record {
     old = old;
     session_is = dealt.session_is;
@@ -111,7 +111,7 @@ module _ {I D O : Type 0} (lock : TableId) (origin : Origin) (rows : List InRow)
     plays = plays;
   }
 
-  idle-played : (w s : ℕ) (old new : Lane I D O) → IsDealt lock origin s (session_rows rows s) old → Plays w old new → IsIdle lock new
+  idle-played : (w s : ℕ) (old new : Lane I D O P) → IsDealt lock origin s (session_rows rows s) old → Plays w old new → IsIdle lock new
   idle-played w s old new dealt plays =
       let same = (plays-same w old new plays).1 in
       record {
@@ -120,8 +120,8 @@ module _ {I D O : Type 0} (lock : TableId) (origin : Origin) (rows : List InRow)
         parts = ap (λ (k : Known). k.parts) same ∙ ap (λ (k : Known). k.parts) dealt.pass_is;
       }
 
-  pub all-played : (w : ℕ) (sessions : List ℕ) (old new : List (Lane I D O)) → AreDealt lock origin rows sessions old → length new ≡ length old
-      → ((i : ℕ) (d : Lane I D O) → i < length old → Plays w (slice_index_or old i d) (slice_index_or new i d)) → HaveAllPlayed w origin rows sessions new × AreIdle lock new
+  pub all-played : (w : ℕ) (sessions : List ℕ) (old new : List (Lane I D O P)) → AreDealt lock origin rows sessions old → length new ≡ length old
+      → ((i : ℕ) (d : Lane I D O P) → i < length old → Plays w (slice_index_or old i d) (slice_index_or new i d)) → HaveAllPlayed w origin rows sessions new × AreIdle lock new
   all-played w [] [] [] all same plays = (tt, tt)
   all-played w [] [] (y ∷ new) all same plays = absurd (omega (arith, same))
   all-played w [] (x ∷ old) new all same plays = absurd all
@@ -148,19 +148,19 @@ sessions-few rows (suc n) =
 true-false : true ≡ false → ⊥
 true-false e = cc e
 
-module _ {I D O : Type 0} (lock : TableId) (rows : List InRow) where
+module _ {I D O P : Type 0} (lock : TableId) (rows : List InRow) where
   -- how many lanes there are
-  pub lanes-few : (n : ℕ) (lanes : List (Lane I D O)) (pass : Known) → HasDealt lock rows n lanes pass → length lanes ≤ n
+  pub lanes-few : (n : ℕ) (lanes : List (Lane I D O P)) (pass : Known) → HasDealt lock rows n lanes pass → length lanes ≤ n
   lanes-few n lanes pass has = omega (arith, dealt-length lock pass.origin rows (sessions_to n rows) lanes has.dealt, sessions-few rows n)
 
-  pub lanes-idle : (n : ℕ) (lanes : List (Lane I D O)) (pass : Known) → HasDealt lock rows n lanes pass → AreIdle lock lanes
+  pub lanes-idle : (n : ℕ) (lanes : List (Lane I D O P)) (pass : Known) → HasDealt lock rows n lanes pass → AreIdle lock lanes
   lanes-idle n lanes pass has = idle-dealt lock pass.origin rows (sessions_to n rows) lanes has.dealt
 
-  pub lanes-ready : (n : ℕ) (lanes : List (Lane I D O)) (pass : Known) → AreInRows rows → HasDealt lock rows n lanes pass → (i : ℕ) (d : Lane I D O) → i < length lanes → IsReady lock (slice_index_or lanes i d)
+  pub lanes-ready : (n : ℕ) (lanes : List (Lane I D O P)) (pass : Known) → AreInRows rows → HasDealt lock rows n lanes pass → (i : ℕ) (d : Lane I D O P) → i < length lanes → IsReady lock (slice_index_or lanes i d)
   lanes-ready n lanes pass are has = ready-dealt lock pass.origin rows (sessions_to n rows) lanes are has.dealt
 
   -- a session without rows has no lane
-  pub deal-none : (n : ℕ) (lanes : List (Lane I D O)) (pass : Known) (own : List (ℕ × Op)) → own ≡ session_rows rows (suc n) → length own ≡ 0 → HasDealt lock rows n lanes pass → HasDealt lock rows (suc n) lanes pass
+  pub deal-none : (n : ℕ) (lanes : List (Lane I D O P)) (pass : Known) (own : List (ℕ × Op)) → own ≡ session_rows rows (suc n) → length own ≡ 0 → HasDealt lock rows n lanes pass → HasDealt lock rows (suc n) lanes pass
   deal-none n lanes pass [] is none has = record {
     dealt = subst (λ (l : List ℕ). AreDealt lock pass.origin rows l lanes) (sym (append-nil (sessions_to n rows)) ∙ ap (λ (o : List (ℕ × Op)). sessions_to n rows ++ one_if (suc n) o) is) has.dealt;
     pass_is = has.pass_is;
@@ -169,12 +169,12 @@ module _ {I D O : Type 0} (lock : TableId) (rows : List InRow) where
   deal-none n lanes pass (r ∷ own) is none has = absurd (omega (arith, none))
 
   -- a session with rows has one
-  pub deal-more : (n : ℕ) (before after : List (Lane I D O)) (old new : Known) (own : List (ℕ × Op)) (len : ℕ) → own ≡ session_rows rows (suc n) → len ≡ length own → (len == 0) ≡ false → HasDealt lock rows n before old
+  pub deal-more : (n : ℕ) (before after : List (Lane I D O P)) (old new : Known) (own : List (ℕ × Op)) (len : ℕ) → own ≡ session_rows rows (suc n) → len ≡ length own → (len == 0) ≡ false → HasDealt lock rows n before old
       → AddsLane (suc n) own old new before after → HasDealt lock rows (suc n) after new
   deal-more n before after old new [] len is count some has adds = absurd (true-false (subst (λ (m : ℕ). (m == 0) ≡ false) count some))
   deal-more n before after old new (r ∷ own) len is count some has adds = record {
     dealt = subst (λ (o : Origin). AreDealt lock o rows (sessions_to (suc n) rows) after) (sym origin_is)
-        (subst (λ (l : List (Lane I D O)). AreDealt lock old.origin rows (sessions_to (suc n) rows) l) (sym adds.lanes)
+        (subst (λ (l : List (Lane I D O P)). AreDealt lock old.origin rows (sessions_to (suc n) rows) l) (sym adds.lanes)
         (subst (λ (o : List (ℕ × Op)). AreDealt lock old.origin rows (sessions_to n rows ++ one_if (suc n) o) (before ++ adds.lane ∷ [])) is
         (dealt-one lock old.origin rows (sessions_to n rows) before (suc n) adds.lane has.dealt one)));
     pass_is = adds.pass ∙ ap (λ (k : Known). record k { parts = new.parts }) has.pass_is ∙ ap (λ (o : Origin). fresh_pass lock o new.parts) (sym origin_is);

@@ -44,18 +44,18 @@ played-none : (w : ℕ) (origin : Origin) (rows : List InRow) (h : List Entry) �
 played-none w origin rows [] none = record { played = λ s. (session_rows rows s, refl); loses = λ cell failed. absurd (cc failed) }
 played-none w origin rows (e ∷ h) none = absurd (cc none)
 
-module _ {I D O : Type 0} (w : ℕ) (origin : Origin) (rows : List InRow) (ends : List LaneEnd) (last : Known) (are : AreInRows rows) (own : OwnsAll last) where
-  abbrev out : (done : Bool) (ran : HasRun I D O w origin rows ends last done) → IsPlayedOut w origin rows (sessions_to 16 rows) ran.lanes last
+module _ {I D O P : Type 0} (w : ℕ) (origin : Origin) (rows : List InRow) (ends : List LaneEnd) (last : Known) (are : AreInRows rows) (own : OwnsAll last) where
+  abbrev out : (done : Bool) (ran : HasRun I D O P w origin rows ends last done) → IsPlayedOut w origin rows (sessions_to 16 rows) ran.lanes last
   out done ran = record { sessions_are = sessions-are rows are; played = ran.played; pass = ran.pass; joined = ran.joined; goes_on = ran.goes_on; whole = own }
 
-  pub are-played : (done : Bool) → HasRun I D O w origin rows ends last done ⊎ HasNotRun last done → IsLegal w (start_of origin) last.seen → ArePlayed w origin rows last.seen
+  pub are-played : (done : Bool) → HasRun I D O P w origin rows ends last done ⊎ HasNotRun last done → IsLegal w (start_of origin) last.seen → ArePlayed w origin rows last.seen
   are-played done (inl ran) legal = record {
     played = played w origin rows (sessions_to 16 rows) ran.lanes last (out done ran);
     loses = λ cell failed. loses w origin rows (sessions_to 16 rows) ran.lanes last (out done ran) cell legal failed;
   }
   are-played done (inr none) legal = played-none w origin rows last.seen (unseen last.seen last.own own none.own)
 
-  pub are-answered : HasRun I D O w origin rows ends last true ⊎ HasNotRun last true → IsLegal w (start_of origin) last.seen → origin.cells ≤ 16000000 → AreAnswered w origin rows last.seen ends
+  pub are-answered : HasRun I D O P w origin rows ends last true ⊎ HasNotRun last true → IsLegal w (start_of origin) last.seen → origin.cells ≤ 16000000 → AreAnswered w origin rows last.seen ends
   are-answered (inr none) legal few = absurd (cc none.not_done)
   are-answered (inl ran) legal few =
       let all = out true ran in
@@ -121,7 +121,7 @@ module _ {D : Type 0} (drive : D → Drive) (w : ℕ) (rows : List InRow) (old n
   answered-from f (Some e) origin is are = answered-book (f e) (subst (λ (o : Origin). AreAnswered w o rows new.entries (f e)) is are)
 
 -- a book that a store of this origin gave back
-module _ {D : Type 0} (I O : Type 0) (drive : D → Drive) (w : ℕ) (rows : List InRow) (b : BookView D) (old last : Known) (ends : List LaneEnd) (are : AreInRows rows) (book : IsBook drive w b)
+module _ {D : Type 0} (I O P : Type 0) (drive : D → Drive) (w : ℕ) (rows : List InRow) (b : BookView D) (old last : Known) (ends : List LaneEnd) (are : AreInRows rows) (book : IsBook drive w b)
     (value : (b.entries ≡ last.seen) × (origin_of drive b ≡ last.origin)) (own : OwnsAll last) (parts : HasAllParts old last) where
   pub origin-same : origin_of drive b ≡ old.origin
   origin-same = value.1 ∙ parts.origin
@@ -131,10 +131,10 @@ module _ {D : Type 0} (I O : Type 0) (drive : D → Drive) (w : ℕ) (rows : Lis
       subst (λ (h : List Entry). IsLegal w (start_of old.origin) h) value.0
       (subst (λ (s : State). IsLegal w s b.entries) (sym (opening-is drive w b book) ∙ ap start_of origin-same) book.legal)
 
-  pub store-played : (done : Bool) → HasRun I D O w old.origin rows ends last done ⊎ HasNotRun last done → ArePlayed w old.origin rows b.entries
+  pub store-played : (done : Bool) → HasRun I D O P w old.origin rows ends last done ⊎ HasNotRun last done → ArePlayed w old.origin rows b.entries
   store-played done ran = subst (λ (h : List Entry). ArePlayed w old.origin rows h) (sym value.0) (are-played w old.origin rows ends last are own done ran legal-seen)
 
-  pub store-answered : (done : Bool) → done ≡ true → old.origin.cells ≤ 16000000 → HasRun I D O w old.origin rows ends last done ⊎ HasNotRun last done → AreAnswered w old.origin rows b.entries ends
+  pub store-answered : (done : Bool) → done ≡ true → old.origin.cells ≤ 16000000 → HasRun I D O P w old.origin rows ends last done ⊎ HasNotRun last done → AreAnswered w old.origin rows b.entries ends
   store-answered done sure few ran =
       subst (λ (h : List Entry). AreAnswered w old.origin rows h ends) (sym value.0)
-      (are-answered w old.origin rows ends last are own (subst (λ (d : Bool). HasRun I D O w old.origin rows ends last d ⊎ HasNotRun last d) sure ran) legal-seen few)
+      (are-answered w old.origin rows ends last are own (subst (λ (d : Bool). HasRun I D O P w old.origin rows ends last d ⊎ HasNotRun last d) sure ran) legal-seen few)

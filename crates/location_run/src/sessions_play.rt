@@ -113,7 +113,7 @@ fn play_lanes<
     requires rows { AreInRows rows.now }
     requires pass { pass.old ≡ fresh_pass store.now pass.old.origin 65536 }
     requires none { ends.old.items ≡ [] }
-    ensures ran { HasRun I D O I.WIDTH pass.old.origin rows.now ends.new.items pass.new result ⊎ HasNotRun pass.new result }
+    ensures ran { HasRun I D O I.Place I.WIDTH pass.old.origin rows.now ends.new.items pass.new result ⊎ HasNotRun pass.new result }
     ensures parts { HasAllParts pass.old pass.new }
 {
     let mut lanes = Vec::new(alloc);

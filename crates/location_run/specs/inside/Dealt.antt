@@ -23,7 +23,7 @@ abbrev pub fresh_pass : TableId → Origin → ℕ → Known
 fresh_pass lock origin parts = record { lock = lock; seen = []; own = []; origin = origin; parts = parts; holds = false }
 
 -- a lane of a session with these rows, ready to be run
-pub record IsDealt {I D O : Type 0} (lock : TableId) (origin : Origin) (s : ℕ) (own : List (ℕ × Op)) (lane : Lane I D O) : Type 0 where
+pub record IsDealt {I D O P : Type 0} (lock : TableId) (origin : Origin) (s : ℕ) (own : List (ℕ × Op)) (lane : Lane I D O P) : Type 0 where
   pub session_is : lane.session ≡ s
   pub rows_are : lane.rows.items ≡ own
   pub pass_is : lane.pass ≡ fresh_pass lock origin 1
@@ -31,22 +31,22 @@ pub record IsDealt {I D O : Type 0} (lock : TableId) (origin : Origin) (s : ℕ)
   pub room : vec_len lane.kept + length lane.rows.items ≤ vec_capacity lane.kept
   pub fault : lane.fault ≡ None
 
-abbrev pub AreDealt : {I D O : Type 0} → TableId → Origin → List InRow → List ℕ → List (Lane I D O) → Type 0
+abbrev pub AreDealt : {I D O P : Type 0} → TableId → Origin → List InRow → List ℕ → List (Lane I D O P) → Type 0
 AreDealt lock origin rows [] [] = ⊤
 AreDealt lock origin rows [] (lane ∷ lanes) = ⊥
 AreDealt lock origin rows (s ∷ sessions) [] = ⊥
 AreDealt lock origin rows (s ∷ sessions) (lane ∷ lanes) = IsDealt lock origin s (session_rows rows s) lane × AreDealt lock origin rows sessions lanes
 
 -- one lane more, whose pass was split off
-pub record AddsLane {I D O : Type 0} (s : ℕ) (own : List (ℕ × Op)) (old new : Known) (before after : List (Lane I D O)) : Type 0 where
-  pub lane : Lane I D O
+pub record AddsLane {I D O P : Type 0} (s : ℕ) (own : List (ℕ × Op)) (old new : Known) (before after : List (Lane I D O P)) : Type 0 where
+  pub lane : Lane I D O P
   pub lanes : after ≡ before ++ lane ∷ []
   pub dealt : IsDealt old.lock old.origin s own lane
   pub pass : new ≡ record old { parts = new.parts }
   pub parts : new.parts + 1 ≡ old.parts
 
 -- the sessions of the numbers 1 to this one have their lanes, and this pass has the other parts
-pub record HasDealt {I D O : Type 0} (lock : TableId) (rows : List InRow) (n : ℕ) (lanes : List (Lane I D O)) (pass : Known) : Type 0 where
+pub record HasDealt {I D O P : Type 0} (lock : TableId) (rows : List InRow) (n : ℕ) (lanes : List (Lane I D O P)) (pass : Known) : Type 0 where
   pub dealt : AreDealt lock pass.origin rows (sessions_to n rows) lanes
   pub pass_is : pass ≡ fresh_pass lock pass.origin pass.parts
   pub whole : pass.parts + length lanes ≡ 65536

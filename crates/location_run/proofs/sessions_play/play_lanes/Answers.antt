@@ -28,7 +28,7 @@ returns-in_default-deal-clause-ran g c =
 pub run_lanes-requires-clause-ready : goal.run_lanes-requires-clause-ready
 run_lanes-requires-clause-ready g c κs within = λ i d lt.
     let has = c.in-Ok-deal.ensures.all in
-    subst (λ l. i < length l → IsReady {I = g.row.I.Denot} {D = g.row.D.Denot} {O = g.row.O.Denot} c.args.store.now (slice_index_or l i d)) (sym c.as_mut_slice.ensures.value)
+    subst (λ l. i < length l → IsReady {I = g.row.I.Denot} {D = g.row.D.Denot} {O = g.row.O.Denot} {P = g.row.I-Place.Denot} c.args.store.now (slice_index_or l i d)) (sym c.as_mut_slice.ensures.value)
     (lanes-ready c.args.store.now c.args.rows.now 16 c.deal.new.lanes.items c.deal.new.pass c.requires.rows has i d) lt
 
 pub gather-requires-2-clause-idle : goal.gather-requires-2-clause-idle
@@ -75,5 +75,5 @@ returns-clause-ran g c =
     let takes = subst (λ l. Takes c.deal.new.pass c.gather-2.new.pass l) back c.gather-2.ensures.takes in
     let ends_are : c.gather-2.new.ends.items ≡ ends_of after = c.gather-2.ensures.ends ∙ (λ j. (c.reserve.ensures.items ∙ c.requires.none) j ++ ends_of (back j)) in
     let calm = subst (λ l. AreCalm l) (c.as_slice.ensures.value ∙ back) (c.are_calm-calm.ensures c.if-not-calm.false) in
-    inl (subst (λ b. HasRun g.row.I.Denot g.row.D.Denot g.row.O.Denot g.I.Index.WIDTH c.args.pass.now.origin c.args.rows.now c.gather-2.new.ends.items c.settle.new.pass b) (sym c.is_ok.ensures.value)
+    inl (subst (λ b. HasRun g.row.I.Denot g.row.D.Denot g.row.O.Denot g.row.I-Place.Denot g.I.Index.WIDTH c.args.pass.now.origin c.args.rows.now c.gather-2.new.ends.items c.settle.new.pass b) (sym c.is_ok.ensures.value)
     (run-settled g.I.Index.WIDTH c.args.store.now c.args.rows.now c.args.pass.now c.deal.new.pass c.gather-2.new.pass before after c.gather-2.new.ends.items has (ap (λ (k : Known). k.lock) c.requires.pass) c.deal.ensures.origin same c.run_lanes.ensures takes ends_are c.settle.new.pass c.settle.result calm c.settle.ensures.settles))
