@@ -11,6 +11,7 @@ use Rattle.std.specs.contracts.marker.Brand as Brand
 use Rattle.std.proofs.marker.Brand.TheSendSync as brand
 use Rattle.kd_trie.specs.contracts.trie.KdTrie as Index
 use Rattle.kd_trie.specs.contracts.trie.KdTrieIndex.TheImpl as indexed
+use Rattle.kd_trie.specs.contracts.node.Node as Place
 use Rattle.kd_trie.proofs.node.Node.TheLaws.TheKnot as knot
 use Rattle.disk_mem.specs.contracts.disk.MemDisk as Drive
 use Rattle.disk_mem.specs.contracts.disk.MemDiskLogDisk.TheImpl as logged
@@ -25,11 +26,11 @@ use Rattle.dispatch.specs.contracts.callers.Caller as Caller
 index_send : IsSend Index.the_row
 index_send = search (sendable, crosses, knot.crosses, knot.crosses_both) depth 20
 
-pub taxis_sync : IsSync (Store.the_row Index.the_row Drive.the_row Brand.the_row indexed.ghosts logged.ghosts started.ghosts)
-taxis_sync = store_sync Index.the_row Drive.the_row Brand.the_row indexed.ghosts logged.ghosts started.ghosts index_send drive.the_send brand.the_send
+pub taxis_sync : IsSync (Store.the_row Index.the_row Drive.the_row Brand.the_row Place.the_row indexed.ghosts logged.ghosts started.ghosts)
+taxis_sync = store_sync Index.the_row Drive.the_row Brand.the_row Place.the_row indexed.ghosts logged.ghosts started.ghosts index_send drive.the_send brand.the_send
 
-taxi_pass_send : IsSend (Pass.the_row (Shared.the_row Index.the_row Drive.the_row Brand.the_row indexed.ghosts logged.ghosts started.ghosts))
-taxi_pass_send = pass_send Index.the_row Drive.the_row Brand.the_row indexed.ghosts logged.ghosts started.ghosts index_send drive.the_send brand.the_send
+taxi_pass_send : IsSend (Pass.the_row (Shared.the_row Index.the_row Drive.the_row Brand.the_row Place.the_row indexed.ghosts logged.ghosts started.ghosts))
+taxi_pass_send = pass_send Index.the_row Drive.the_row Brand.the_row Place.the_row indexed.ghosts logged.ghosts started.ghosts index_send drive.the_send brand.the_send
 
 -- each field by itself
 pub caller_send : IsSend Caller.the_row
