@@ -25,7 +25,14 @@ fn each_round_comes<R: Threads + Wait + Clock + Abort + Sync>(
     let Ok((lock, mut pass)) = BookLock::new(alloc, Tally::new()) else {
         return Err(AllocError.into());
     };
-    run_all(rt, &lock, &mut pass, threads, rounds, Duration::from_millis(1));
+    run_all(
+        rt,
+        &lock,
+        &mut pass,
+        threads,
+        rounds,
+        Duration::from_millis(1),
+    );
     let tally = lock.close(pass);
     assert_eq!(rt; Some(tally.count()), rounds.checked_mul(u64::from(threads)));
     Ok(())
