@@ -15,6 +15,9 @@ const SESSIONS: u32 = 16;
 // How many of a session's rows, its first, put ids that nobody else has.
 const PUTS: u32 = 100;
 
+// How far a box reaches on each axis: a few points are in it, so the output of 64,000 rows has a few million bytes.
+const REACH: u32 = 200_000_000;
+
 // A coordinate that depends on a number as if by chance.
 fn spread(number: u32) -> u32 {
     number.wrapping_mul(2_654_435_769)
@@ -30,7 +33,10 @@ fn row_text(alloc: Global, session: u32, row: u32) -> Result<String, AllocError>
     match row % 5 {
         0 => format!(in alloc; "{session},move,{id},{y},{x},,\n"),
         1 => format!(in alloc; "{session},where,{id},,,,\n"),
-        2 => format!(in alloc; "{session},box,,0,0,{x},{y}\n"),
+        2 => {
+            let (far_x, far_y) = (x.saturating_add(REACH), y.saturating_add(REACH));
+            format!(in alloc; "{session},box,,{x},{y},{far_x},{far_y}\n")
+        }
         3 => format!(in alloc; "{session},near,,{x},{y},3,\n"),
         _ => format!(in alloc; "{session},drop,{id},,,,\n"),
     }
