@@ -24,7 +24,7 @@ use Rattle.sessions.proofs.Sent.{store_sync, pass_send}
 use Rattle.dispatch.specs.contracts.callers.Caller as Caller
 
 index_send : IsSend Index.the_row
-index_send = search (sendable, crosses, knot.crosses, knot.crosses_both) depth 20
+index_send = search (sendable, crosses, knot.crosses, knot.crosses_both) depth 40 fits 100000
 
 pub taxis_sync : IsSync (Store.the_row Index.the_row Drive.the_row Brand.the_row Place.the_row indexed.ghosts logged.ghosts started.ghosts)
 taxis_sync = store_sync Index.the_row Drive.the_row Brand.the_row Place.the_row indexed.ghosts logged.ghosts started.ghosts index_send drive.the_send brand.the_send
