@@ -5,7 +5,6 @@ use disk_mem::MemDisk;
 use disk_trait::LogDisk;
 use flat_index::FlatIndex;
 use index_layer::Index;
-use kd_trie::KdTrie;
 use std::alloc::Global;
 use std::process::Abort;
 use std::test::Fail;
@@ -61,9 +60,4 @@ fn fresh<I: Index, D: LogDisk>(alloc: Global) -> Result<Book<I, D>, Memory> {
 #[test]
 fn an_abandoned_split_leaves_its_delta_to_the_next_update(rt: HostRuntime) -> Result<(), Fail> {
     folds_behind_an_abandoned_split(&rt, fresh::<FlatIndex, MemDisk>(rt.alloc())?)
-}
-
-#[test]
-fn so_it_is_over_a_trie(rt: HostRuntime) -> Result<(), Fail> {
-    folds_behind_an_abandoned_split(&rt, fresh::<KdTrie, MemDisk>(rt.alloc())?)
 }
