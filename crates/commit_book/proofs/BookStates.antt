@@ -17,12 +17,11 @@ use Rattle.plain_list.specs.declared.entries.Entry.{Entry}
 use Rattle.plain_list.specs.declared.entries.Entry.TheVariants.{Fail, Call, Begin, Install, Abandon}
 use Rattle.plain_list.specs.declared.entries.Lost.{Lost}
 use Rattle.plain_list.specs.Answer.{after_of}
-use Rattle.plain_list.specs.History.{world_after}
+use Rattle.plain_list.specs.History.{world_after, failed_cell}
 use Rattle.plain_list.specs.State.{State, OpenSplit, IsLegal, state_after, step, is_possible, is_free, may_split, is_splitting, split_name, split_leaf, installed, without_number}
-use Rattle.plain_list.proofs.Histories.{has_failed, state_after-append, state_after-world, is_legal-push}
+use Rattle.plain_list.proofs.Histories.{has_failed, state_after-append, state_after-world, is_legal-push, has_failed-none, failed_cell-last}
 use Rattle.disk_trait.specs.Drive.{Drive}
-use Rattle.kept_log.specs.Journal.{failed_cell, KeepsIn}
-use Rattle.kept_log.proofs.InJournal.{has_failed-none, failed_cell-last}
+use Rattle.kept_log.specs.Journal.{KeepsIn}
 use Rattle.commit_book.specs.BookInside.{IsInside, book_of}
 use Rattle.point_table.specs.Changes.{bases_of}
 use Rattle.point_table.specs.Divisions.{Folds, Divides}
@@ -33,8 +32,8 @@ use Rattle.commit_book.specs.declared.book.Book.TheInside.{Inside}
 use Rattle.commit_book.proofs.BookSteps.{same_names}
 use Rattle.commit_book.proofs.OnLog.{in-named}
 use Rattle.commit_book.proofs.KeptLemmas.{KeepsBases-push, KeepsBase-bases, KeepsBase-begun, KeepsBase-replaced, KeepsBase-split}
-use Rattle.commit_book.proofs.SplitHistories.{tidy-history, begun-number}
-use Rattle.commit_book.proofs.SplitStates.{without_name-none, splitting-found, left-open, left-apart, length-without, found-push}
+use Rattle.plain_list.proofs.SplitHistories.{tidy-history, begun-number}
+use Rattle.plain_list.proofs.SplitStates.{without_name-none, splitting-found, left-open, left-apart, length-without, found-push}
 
 -- a step that is possible and free is legal after each history that hasn't failed
 pub record StepsOn (w : ℕ) (o : State) (h : List Entry) (e : Entry) : Type 0 where

@@ -1,6 +1,5 @@
 pub mod BookStates
 pub mod BookSteps
-pub mod CallCounts
 pub mod FirstBooks
 pub mod FoundStates
 pub mod KeptLemmas
@@ -9,7 +8,5 @@ pub mod RefusalLemmas
 pub mod Sent
 pub mod SplitCalls
 pub mod SplitCells
-pub mod SplitHistories
-pub mod SplitStates
 pub mod Undone
 pub mod UpdateCalls

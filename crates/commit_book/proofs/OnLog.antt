@@ -2,9 +2,10 @@
 use Rattle.std.proofs.Common.{◌≡◌, ◌≤◌, ℕ, List, Option, Some, None, refl, ◌∙◌, arith}
 use Rattle.plain_list.specs.declared.entries.Entry.{Entry}
 use Rattle.plain_list.specs.State.{State}
+use Rattle.plain_list.specs.History.{failed_cell}
 use Rattle.disk_trait.specs.Drive.{Drive}
 use Rattle.kept_log.specs.KeptView.{KeptView}
-use Rattle.kept_log.specs.Journal.{failed_cell, failed_in, cells_in, KeepsIn}
+use Rattle.kept_log.specs.Journal.{failed_in, cells_in, KeepsIn}
 
 -- a log has no more cells than it may
 pub in-most : {D : Type 0} (drive : D → Drive) (w : ℕ) (s : State) (h : List Entry) (log : Option (KeptView D)) → KeepsIn drive w s h log → cells_in log ≤ 16777216

@@ -12,8 +12,9 @@ use Rattle.bucket_versions.specs.declared.row.Row.{Row}
 use Rattle.index_layer.specs.Leaves.{Leaf, names_of, has_name, leaf_named}
 use Rattle.plain_list.specs.declared.entries.Entry.{Entry}
 use Rattle.plain_list.specs.State.{State, OpenSplit, split_name, is_splitting, is_leaf, state_after}
+use Rattle.plain_list.specs.History.{failed_cell}
 use Rattle.commit_book.specs.IsBook.{most_events}
-use Rattle.kept_log.specs.Journal.{failed_cell, cells_in}
+use Rattle.kept_log.specs.Journal.{cells_in}
 use Rattle.commit_book.specs.BookView.{BookView}
 use Rattle.commit_book.specs.Refusals.{IsRefusedBy, IsNoFault, first_of, closed_refusal, events_refusal, call_refusal, end_refusal, room_refusal, most_cells, most_events_to_begin, most_cells_to_begin, split_number, leaf_refusal, begin_refusal, is_open, same_rows, has_base, install_refusal, abandon_refusal}
 use Rattle.commit_book.specs.declared.faults.BookFault.{BookFault}

@@ -17,7 +17,7 @@ use Rattle.plain_list.proofs.Histories.{state_after-append}
 use Rattle.split_prepare.specs.declared.ticket.SplitTicket.{SplitTicket}
 use Rattle.commit_book.specs.BookView.{BookView}
 use Rattle.disk_trait.specs.Drive.{Drive}
-use Rattle.kept_log.specs.Journal.{failed_cell, cells_in}
+use Rattle.kept_log.specs.Journal.{cells_in}
 use Rattle.commit_book.specs.IsBook.{AreBooks}
 use Rattle.commit_book.specs.Refusals.{first_of, room_refusal, leaf_refusal, end_refusal, begin_refusal, is_open, has_base, install_refusal}
 use Rattle.commit_book.specs.SplitSteps.{Begins}
@@ -25,8 +25,9 @@ use Rattle.commit_book.specs.declared.faults.BookFault.{BookFault}
 use Rattle.commit_book.specs.declared.faults.BookFault.TheVariants.{Closed, Splitting, Stale}
 use Rattle.commit_book.proofs.KeptLemmas.{leaf_named-replaced}
 use Rattle.commit_book.proofs.RefusalLemmas.{number-none, leaf-split, has_base-named, same_rows-decides}
-use Rattle.commit_book.proofs.SplitHistories.{not-false, tidy-history}
-use Rattle.commit_book.proofs.SplitStates.{all-filter}
+use Rattle.plain_list.proofs.SplitHistories.{tidy-history}
+use Rattle.plain_list.proofs.SplitStates.{all-filter}
+use Rattle.plain_list.specs.History.{failed_cell}
 
 -- a leaf that is full is one, has bits left, and no open split
 pub record IsFree (w : ℕ) (s : State) (name : List Bool) : Type 0 where
@@ -43,7 +44,7 @@ full_leaf-free w size s name full = let parts = found s.leaves full in record { 
     free_at : (n : List Bool) → (is_over w size s.world n && not (is_splitting s.splits n)) ≡ true → (length n + w ≤ 64) × (is_splitting s.splits n ≡ false)
     free_at n e =
         let over = first_so (is_over w size s.world n) (not (is_splitting s.splits n)) e in
-        (leb-true (length n + w) 64 (second_so (nat_lt size _) (nat_le (length n + w) 64) over), not-false (is_splitting s.splits n) (second_so (is_over w size s.world n) (not (is_splitting s.splits n)) e))
+        (leb-true (length n + w) 64 (second_so (nat_lt size _) (nat_le (length n + w) 64) over), not-true (is_splitting s.splits n) (second_so (is_over w size s.world n) (not (is_splitting s.splits n)) e))
 
     or-true : (a b : Bool) → b ≡ true → (a || b) ≡ true
     or-true true b e = refl

@@ -18,11 +18,10 @@ use Rattle.plain_list.specs.declared.entries.Lost.TheVariants as lost
 use Rattle.plain_list.specs.declared.ops.Answer.TheVariants.{At, Absent}
 use Rattle.plain_list.specs.Answer.{answer_of, is_change}
 use Rattle.plain_list.specs.World.{place_of}
-use Rattle.plain_list.specs.History.{world_after}
+use Rattle.plain_list.specs.History.{world_after, failed_cell}
 use Rattle.plain_list.specs.State.{State, IsLegal, OpenSplit, state_after, is_possible, is_free, split_name}
+use Rattle.plain_list.proofs.Histories.{has_failed-none}
 use Rattle.log_state.specs.Changes.{cells_of, change_cells, lost_cells}
-use Rattle.kept_log.specs.Journal.{failed_cell}
-use Rattle.kept_log.proofs.InJournal.{has_failed-none}
 use Rattle.commit_book.specs.Answers.{IsUpdate}
 use Rattle.commit_book.specs.Refusals.{most_cells, most_cells_to_begin}
 use Rattle.commit_book.specs.Steps.{entry_of, IsStep}

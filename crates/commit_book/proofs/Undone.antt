@@ -13,12 +13,12 @@ use Rattle.plain_list.specs.declared.entries.Entry.TheVariants.{Call, Fail}
 use Rattle.plain_list.specs.declared.entries.Lost.{Lost}
 use Rattle.plain_list.specs.declared.entries.Lost.TheVariants as lost
 use Rattle.plain_list.specs.Answer.{answer_of, is_change}
-use Rattle.plain_list.specs.History.{world_after}
+use Rattle.plain_list.specs.History.{world_after, failed_cell}
 use Rattle.plain_list.specs.State.{State, IsLegal}
 use Rattle.disk_trait.specs.Drive.{Drive, KeepsLaws}
 use Rattle.log_state.specs.Changes.{lost_cells}
 use Rattle.kept_log.specs.KeptView.{KeptView}
-use Rattle.kept_log.specs.Journal.{failed_cell, cells_in, KeepsIn, RoseIn, LeavesEither}
+use Rattle.kept_log.specs.Journal.{cells_in, KeepsIn, RoseIn, LeavesEither}
 use Rattle.kept_log.proofs.InJournal.{in-call, leaves-quiet}
 use Rattle.point_table.specs.TableView.{TableView}
 use Rattle.point_table.specs.Updates.{TellsIf}

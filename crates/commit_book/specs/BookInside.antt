@@ -1,9 +1,10 @@
 -- What a book's fields stand for, and what holds of them.
 use Rattle.std.specs.Prelude.{◌≡◌, ℕ, ◌≤◌, None, length}
 use Rattle.plain_list.specs.State.{State, IsLegal, state_after}
+use Rattle.plain_list.specs.History.{failed_cell}
 use Rattle.index_layer.specs.Leaves.{names_of}
 use Rattle.disk_trait.specs.Drive.{Drive}
-use Rattle.kept_log.specs.Journal.{failed_cell, KeepsIn}
+use Rattle.kept_log.specs.Journal.{KeepsIn}
 use Rattle.commit_book.specs.BookView.{BookView}
 use Rattle.commit_book.specs.IsBook.{most_events, IsOpening}
 use Rattle.commit_book.specs.KeptBases.{KeepsBases}

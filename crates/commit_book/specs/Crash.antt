@@ -1,8 +1,9 @@
 -- What a crash leaves while a call of a book is made.
 use Rattle.std.specs.Prelude.{◌≡◌, ℕ, None}
 use Rattle.plain_list.specs.declared.entries.Entry.{Entry}
+use Rattle.plain_list.specs.History.{failed_cell}
 use Rattle.disk_trait.specs.Drive.{Drive}
-use Rattle.kept_log.specs.Journal.{failed_cell, LeavesEither}
+use Rattle.kept_log.specs.Journal.{LeavesEither}
 use Rattle.commit_book.specs.BookView.{BookView}
 
 -- At every moment of a call a crash leaves the cells of the entries that stood at its start, or these and those of the call's own entry,

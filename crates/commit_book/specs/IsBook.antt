@@ -1,10 +1,10 @@
 -- What holds of each book.
 use Rattle.std.specs.Prelude.{◌≡◌, ℕ, ◌≤◌, [], length, Some}
 use Rattle.plain_list.specs.State.{State, IsLegal, state_after}
-use Rattle.plain_list.specs.History.{world_after}
+use Rattle.plain_list.specs.History.{world_after, failed_cell}
 use Rattle.index_layer.specs.Stands.{Stands}
 use Rattle.disk_trait.specs.Drive.{Drive}
-use Rattle.kept_log.specs.Journal.{failed_cell, cells_in, KeepsIn, IsSinceIn}
+use Rattle.kept_log.specs.Journal.{cells_in, KeepsIn, IsSinceIn}
 use Rattle.commit_book.specs.BookView.{BookView}
 use Rattle.commit_book.specs.KeptBases.{KeepsBases}
 

@@ -12,10 +12,10 @@ use Rattle.plain_list.specs.declared.entries.Entry.TheVariants.{Fail}
 use Rattle.plain_list.specs.declared.entries.Lost.{Lost}
 use Rattle.plain_list.specs.declared.entries.Lost.TheVariants as lost
 use Rattle.plain_list.specs.Answer.{answer_of, is_change}
-use Rattle.plain_list.specs.History.{world_after}
+use Rattle.plain_list.specs.History.{world_after, failed_cell}
 use Rattle.plain_list.specs.State.{State, OpenSplit, split_name, is_leaf, state_after}
 use Rattle.disk_trait.specs.Drive.{Drive}
-use Rattle.kept_log.specs.Journal.{failed_cell, cells_in, RoseIn}
+use Rattle.kept_log.specs.Journal.{cells_in, RoseIn}
 use Rattle.commit_book.specs.BookView.{BookView}
 use Rattle.commit_book.specs.IsBook.{most_events}
 use Rattle.commit_book.specs.declared.faults.BookFault.{BookFault}

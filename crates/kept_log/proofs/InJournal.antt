@@ -10,9 +10,10 @@ use Rattle.plain_list.specs.declared.entries.Entry.TheVariants.{Fail, Call, Begi
 use Rattle.plain_list.specs.declared.entries.Lost.{Lost}
 use Rattle.plain_list.specs.declared.ops.Op.{Op}
 use Rattle.plain_list.specs.Answer.{answer_of, is_change}
-use Rattle.plain_list.specs.History.{world_after}
+use Rattle.plain_list.specs.History.{world_after, failed_cell}
 use Rattle.plain_list.specs.State.{State, is_fail, IsLegal}
-use Rattle.plain_list.proofs.Histories.{has_failed}
+use Rattle.plain_list.proofs.Histories.{has_failed, failed_cell-none, failed_cell-last}
+pub use Rattle.plain_list.proofs.Histories.{has_failed-none, failed_cell-push}
 use Rattle.disk_trait.specs.Drive.{Drive, KeepsLaws, SameFile}
 use Rattle.disk_trait.specs.Moments.{LeavesOnly}
 use Rattle.split_log.specs.LogText.{IsLog, HoldsEither}
@@ -22,41 +23,11 @@ use Rattle.log_state.specs.Changes.{cells_of, failed_cells}
 use Rattle.kept_log.specs.KeptView.{KeptView}
 use Rattle.kept_log.specs.Kept.{StartsWith, IsOpened}
 use Rattle.kept_log.specs.Steps.{IsSince}
-use Rattle.kept_log.specs.Journal.{failed_cell, KeepsIn, Added, Missed, LeavesEither, LeavesNext}
+use Rattle.kept_log.specs.Journal.{KeepsIn, Added, Missed, LeavesEither, LeavesNext}
 use Rattle.kept_log.proofs.StepCells.{call-no_cells}
 use Rattle.kept_log.proofs.Starting.{kept-opened}
 use Rattle.kept_log.proofs.Adding.{sound-push, kept-quiet}
 use Rattle.kept_log.proofs.Appending.{leaves-either, leaves-alone, keeps-next, closed-at, keeps-failed}
-
--- where no append has failed, none names a cell
-pub failed_cell-none : (h : List Entry) → has_failed h ≡ false → failed_cell h ≡ None
-failed_cell-none [] sound = refl
-failed_cell-none (Call session row op ∷ h) sound = failed_cell-none h sound
-failed_cell-none (Begin number name ∷ h) sound = failed_cell-none h sound
-failed_cell-none (Install number ∷ h) sound = failed_cell-none h sound
-failed_cell-none (Abandon number ∷ h) sound = failed_cell-none h sound
-failed_cell-none (Fail number lost ∷ h) sound = absurd (true≢false sound)
-
--- and the other way round
-pub has_failed-none : (h : List Entry) → failed_cell h ≡ None → has_failed h ≡ false
-has_failed-none [] none = refl
-has_failed-none (Call session row op ∷ h) none = has_failed-none h none
-has_failed-none (Begin number name ∷ h) none = has_failed-none h none
-has_failed-none (Install number ∷ h) none = has_failed-none h none
-has_failed-none (Abandon number ∷ h) none = has_failed-none h none
-has_failed-none (Fail number lost ∷ h) none = absurd (cc none)
-
--- behind a history without a failed append only the last entry may name a cell
-pub failed_cell-push : (h : List Entry) (e : Entry) → has_failed h ≡ false → failed_cell (h ++ e ∷ []) ≡ failed_cell (e ∷ [])
-failed_cell-push [] e sound = refl
-failed_cell-push (Call session row op ∷ h) e sound = failed_cell-push h e sound
-failed_cell-push (Begin number name ∷ h) e sound = failed_cell-push h e sound
-failed_cell-push (Install number ∷ h) e sound = failed_cell-push h e sound
-failed_cell-push (Abandon number ∷ h) e sound = failed_cell-push h e sound
-failed_cell-push (Fail number lost ∷ h) e sound = absurd (true≢false sound)
-
-pub failed_cell-last : (h : List Entry) (number : ℕ) (lost : Lost) → has_failed h ≡ false → failed_cell (h ++ Fail number lost ∷ []) ≡ Some number
-failed_cell-last h number lost = failed_cell-push h (Fail number lost)
 
 -- where no cell is named, none was lost
 pub failed_cells-none : (h : List Entry) → failed_cell h ≡ None → failed_cells h ≡ []

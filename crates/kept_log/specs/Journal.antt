@@ -7,6 +7,7 @@ use Rattle.plain_list.specs.declared.entries.Entry.TheVariants.{Fail, Call, Begi
 use Rattle.plain_list.specs.declared.entries.Lost.{Lost}
 use Rattle.zorder.specs.declared.points.Placed.{Placed}
 use Rattle.plain_list.specs.State.{State}
+pub use Rattle.plain_list.specs.History.{failed_cell}
 use Rattle.disk_trait.specs.Drive.{Drive, Made, SameFile}
 use Rattle.disk_trait.specs.Moments.{LeavesOnly}
 use Rattle.log_state.specs.Recovers.{Recovers}
@@ -14,15 +15,6 @@ use Rattle.log_state.specs.Changes.{cells_of, lost_cells}
 use Rattle.kept_log.specs.KeptView.{KeptView}
 use Rattle.kept_log.specs.Kept.{StartsWith, Keeps}
 use Rattle.kept_log.specs.Steps.{IsNext, IsSince}
-
--- the cell that a history's failed append names
-abbrev pub failed_cell : List Entry → Option ℕ
-failed_cell [] = None
-failed_cell (Fail cell lost ∷ h) = Some cell
-failed_cell (Call session row op ∷ h) = failed_cell h
-failed_cell (Begin number name ∷ h) = failed_cell h
-failed_cell (Install number ∷ h) = failed_cell h
-failed_cell (Abandon number ∷ h) = failed_cell h
 
 -- how many cells there are: none without a log
 abbrev pub cells_in : {D : Type 0} → Option (KeptView D) → ℕ

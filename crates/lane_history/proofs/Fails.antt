@@ -6,7 +6,7 @@ use Rattle.plain_list.specs.declared.entries.Entry.{Entry}
 use Rattle.plain_list.specs.declared.entries.Entry.TheVariants.{Fail, Call, Begin, Install, Abandon}
 use Rattle.plain_list.specs.declared.entries.Lost.{Lost}
 use Rattle.plain_list.specs.State.{State, step, is_possible, is_free, is_fail, is_empty, is_legal_history, IsLegal}
-use Rattle.kept_log.specs.Journal.{failed_cell}
+use Rattle.plain_list.specs.History.{failed_cell}
 
 -- the first failed append
 pub record FailsAt (h : List Entry) (cell : ℕ) : Type 0 where

@@ -6,11 +6,10 @@ use Rattle.plain_list.specs.declared.entries.Entry.{Entry}
 use Rattle.plain_list.specs.declared.entries.Entry.TheVariants.{Fail}
 use Rattle.plain_list.specs.declared.entries.Lost.{Lost}
 use Rattle.plain_list.specs.declared.entries.Lost.TheVariants as lost
-use Rattle.plain_list.specs.History.{reply_at}
+use Rattle.plain_list.specs.History.{reply_at, failed_cell}
 use Rattle.plain_list.specs.Played.{calls_of, IsPlayed, IsPlayedWhole}
 use Rattle.plain_list.specs.State.{IsLegal}
 use Rattle.csv_rows.specs.declared.rows.InRow.{InRow}
-use Rattle.kept_log.specs.Journal.{failed_cell}
 use Rattle.book_lock.specs.Pass.{Known}
 use Rattle.book_lock.specs.Own.{times, Owns, IsBelow}
 use Rattle.book_lock.specs.declared.origin.Origin.{Origin}

@@ -6,11 +6,10 @@ use Rattle.plain_list.specs.declared.entries.Entry.TheVariants as entry
 use Rattle.plain_list.specs.declared.entries.Lost.{Lost}
 use Rattle.plain_list.specs.declared.entries.Lost.TheVariants.{Call, Begin, Install, Abandon}
 use Rattle.plain_list.specs.Answer.{answer_of, is_change}
-use Rattle.plain_list.specs.History.{world_after}
+use Rattle.plain_list.specs.History.{world_after, failed_cell}
 use Rattle.plain_list.specs.Played.{calls_of}
 use Rattle.plain_list.specs.State.{State, state_after, is_possible}
 use Rattle.csv_rows.specs.declared.rows.InRow.{InRow}
-use Rattle.kept_log.specs.Journal.{failed_cell}
 use Rattle.lane_history.specs.SessionRows.{session_rows}
 
 -- behind the calls of a session this is the next of its rows, with its number and its operation

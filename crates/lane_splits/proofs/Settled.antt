@@ -3,9 +3,8 @@ use Rattle.std.proofs.Common.{◌≡◌, ℕ, ◌+◌, ◌≤◌, List, [], ◌+
 use mathlib.Core.List.{IsPrefix}
 use Rattle.std.proofs.lemmas.List.{take_all, nil_from_length}
 use Rattle.plain_list.specs.declared.entries.Entry.{Entry}
-use Rattle.plain_list.specs.History.{call_count}
+use Rattle.plain_list.specs.History.{call_count, failed_cell}
 use Rattle.plain_list.specs.State.{IsLegal, state_after}
-use Rattle.kept_log.specs.Journal.{failed_cell}
 use Rattle.csv_rows.specs.declared.rows.InRow.{InRow}
 use Rattle.book_lock.specs.Pass.{Known}
 use Rattle.book_lock.specs.declared.origin.Origin.{Origin}

@@ -7,11 +7,10 @@ use Rattle.std.specs.Option.{option_map}
 use Rattle.std.proofs.lemmas.Bool.{ltb-true}
 use Rattle.zorder.specs.declared.points.Placed.{Placed}
 use Rattle.plain_list.specs.declared.entries.Entry.{Entry}
-use Rattle.plain_list.specs.History.{world_after}
+use Rattle.plain_list.specs.History.{world_after, failed_cell}
 use Rattle.plain_list.specs.State.{State, OpenSplit, is_leaf, is_splitting, state_after}
 use Rattle.plain_list.specs.Size.{is_over, full_leaf, IsSized}
 use Rattle.plain_list.proofs.Histories.{state_after-world}
-use Rattle.kept_log.specs.Journal.{failed_cell}
 use Rattle.commit_book.specs.IsBook.{most_events}
 use Rattle.commit_book.specs.Refusals.{IsRefusedBy, IsMemoryOrDisk, first_of, closed_refusal, room_refusal, leaf_refusal, split_number}
 use Rattle.commit_book.specs.declared.faults.BookFault.{BookFault}

@@ -6,11 +6,10 @@ use Rattle.std.specs.Option.{option_map_or}
 use Rattle.zorder.specs.SameName.{same_name}
 use Rattle.plain_list.specs.declared.entries.Entry.{Entry}
 use Rattle.plain_list.specs.declared.entries.Entry.TheVariants.{Begin, Abandon}
-use Rattle.plain_list.specs.History.{world_after, call_count}
+use Rattle.plain_list.specs.History.{world_after, call_count, failed_cell}
 use Rattle.plain_list.specs.State.{State, state_after, step}
 use Rattle.plain_list.specs.Size.{IsSized, full_leaf}
 use Rattle.log_state.specs.Changes.{cells_of}
-use Rattle.kept_log.specs.Journal.{failed_cell}
 use Rattle.commit_book.specs.IsBook.{most_events}
 use Rattle.commit_book.specs.Refusals.{most_cells}
 use Rattle.book_lock.specs.declared.origin.Origin.{Origin}

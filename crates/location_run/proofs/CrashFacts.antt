@@ -5,13 +5,14 @@ use Rattle.zorder.specs.declared.points.Placed.{Placed}
 use Rattle.cell_format.specs.declared.cell.Cell.{Cell}
 use Rattle.plain_list.specs.declared.entries.Entry.{Entry}
 use Rattle.plain_list.specs.State.{State}
+use Rattle.plain_list.specs.History.{failed_cell}
 use Rattle.disk_trait.specs.Drive.{Drive, Stays, IsSettled}
 use Rattle.log_state.specs.Recovers.{Recovers}
 use Rattle.log_state.specs.Changes.{cells_of, failed_cells, IsPrefixRecovered}
 use Rattle.log_state.specs.Keeps.{KeepsHistory}
 use Rattle.log_state.proofs.Tiling.{leaves_tile}
 use Rattle.kept_log.specs.KeptView.{KeptView}
-use Rattle.kept_log.specs.Journal.{failed_cell, KeepsLog}
+use Rattle.kept_log.specs.Journal.{KeepsLog}
 use Rattle.kept_log.proofs.Starting.{starts-settled}
 use Rattle.kept_log.proofs.InJournal.{failed_cells-none}
 use Rattle.location_run.specs.Limits.{width}

@@ -7,7 +7,7 @@ use Rattle.plain_list.specs.declared.entries.Entry.{Entry}
 use Rattle.plain_list.specs.State.{State, empty_state}
 use Rattle.recovery.proofs.OnlyReading.{rose-earlier, stays-trans}
 use Rattle.kept_log.specs.KeptView.{KeptView}
-use Rattle.kept_log.specs.Journal.{failed_cell, disk_in, KeepsLog, KeepsIn}
+use Rattle.kept_log.specs.Journal.{disk_in, KeepsLog, KeepsIn}
 use Rattle.commit_book.specs.BookView.{BookView}
 use Rattle.sessions.specs.Shared.{first_in}
 use Rattle.csv_rows.specs.declared.rows.InRow.{InRow}
@@ -20,7 +20,8 @@ use Rattle.log_state.specs.Changes.{cells_of}
 use Rattle.lane_splits.specs.Settled.{IsSettled, cells_now}
 use Rattle.location_run.specs.Crash.{KeepsPlayed}
 use Rattle.plain_list.specs.declared.entries.Lost.{Lost}
-use Rattle.kept_log.proofs.InJournal.{failed_cell-last, has_failed-none}
+use Rattle.plain_list.specs.History.{failed_cell}
+use Rattle.plain_list.proofs.Histories.{failed_cell-last, has_failed-none}
 use Rattle.lane_history.specs.LostSteps.{IsNextStep, LosesStep}
 use Rattle.location_run.specs.declared.reports.Report.{Report}
 use Rattle.location_run.specs.Answers.{AnswersAsOneList}

@@ -7,10 +7,10 @@ use Rattle.causes.specs.Causes.{Counts}
 use Rattle.disk_trait.specs.Drive.{Drive}
 use Rattle.plain_list.specs.declared.entries.Entry.{Entry}
 use Rattle.plain_list.specs.State.{State, IsLegal, state_after}
-use Rattle.plain_list.specs.History.{world_after}
+use Rattle.plain_list.specs.History.{world_after, failed_cell}
 use Rattle.index_layer.specs.Stands.{Stands}
 use Rattle.kept_log.specs.KeptView.{KeptView}
-use Rattle.kept_log.specs.Journal.{failed_cell, disk_in, KeepsIn}
+use Rattle.kept_log.specs.Journal.{disk_in, KeepsIn}
 use Rattle.commit_book.specs.BookView.{BookView}
 use Rattle.commit_book.specs.IsBook.{IsBook}
 use Rattle.csv_rows.specs.declared.rows.InRow.{InRow}

@@ -5,11 +5,10 @@ use Rattle.plain_list.specs.declared.ops.Op.{Op}
 use Rattle.plain_list.specs.declared.entries.Entry.{Entry}
 use Rattle.plain_list.specs.Played.{IsPlayed, IsPlayedWhole}
 use Rattle.plain_list.specs.World.{IsWorld}
-use Rattle.plain_list.specs.History.{world_after}
+use Rattle.plain_list.specs.History.{world_after, failed_cell}
 use Rattle.index_layer.specs.Leaves.{Leaf}
 use Rattle.index_layer.specs.Stands.{Stands}
 use Rattle.csv_rows.specs.declared.rows.InRow.{InRow}
-use Rattle.kept_log.specs.Journal.{failed_cell}
 use Rattle.commit_book.specs.BookView.{BookView}
 use Rattle.book_lock.specs.declared.origin.Origin.{Origin}
 use Rattle.sessions.specs.Shared.{first_in, start_of}

@@ -8,13 +8,14 @@ use Rattle.plain_list.specs.World.{IsWorld}
 use Rattle.recovery.specs.declared.seen.OpenFault.{OpenFault}
 use Rattle.recovery.specs.Faults.{IsFault, IsInBytes}
 use Rattle.kept_log.specs.KeptView.{KeptView}
-use Rattle.kept_log.specs.Journal.{failed_cell, cells_in, disk_in, KeepsIn}
+use Rattle.kept_log.specs.Journal.{cells_in, disk_in, KeepsIn}
 use Rattle.commit_book.specs.BookView.{BookView}
 use Rattle.sessions.specs.Shared.{first_in, StartsAs}
 use Rattle.csv_rows.specs.declared.rows.Refusal.{Refusal}
 use Rattle.csv_rows.specs.declared.rows.Refusal.TheVariants as refusal
 use Rattle.location_run.specs.Limits.{width, most_played}
 use Rattle.plain_list.specs.declared.entries.Lost.{Lost}
+use Rattle.plain_list.specs.History.{failed_cell}
 use Rattle.lane_history.specs.LostSteps.{LosesStep}
 use Rattle.location_run.specs.Origin.{Origin, IsFoundOrigin}
 

@@ -1,6 +1,7 @@
 use Rattle.std.proofs.Common.{sym, subst, List}
 use Rattle.std.specs.Option.{option_map}
-use Rattle.kept_log.specs.Journal.{failed_cell, disk_in}
+use Rattle.plain_list.specs.History.{failed_cell}
+use Rattle.kept_log.specs.Journal.{disk_in}
 use Rattle.location_run.specs.Limits.{width}
 use Rattle.location_run.specs.declared.lanes.LaneEnd.{LaneEnd}
 use Rattle.location_run.specs.inside.Answered.{IsAnsweredBook, EndsPlay}

@@ -17,7 +17,7 @@ use Rattle.commit_book.proofs.BookStates.{inside-begin}
 use Rattle.commit_book.proofs.KeptLemmas.{folded-under}
 use Rattle.commit_book.proofs.RefusalLemmas.{MayBegin, may_begin, passed, is_leaf-names_of}
 use Rattle.commit_book.proofs.SplitCells.{begin_step, few_cells}
-use Rattle.commit_book.proofs.SplitHistories.{open-le, begun-le}
+use Rattle.plain_list.proofs.SplitHistories.{open-le, begun-le}
 use Rattle.commit_book.proofs.Undone.{can_step, inside-undone, moments-undone, taken}
 use Rattle.commit_book.proofs.book.Book.begin.Goals as goal
 

@@ -2,14 +2,13 @@ use Rattle.std.proofs.Common.{◌≡◌, ◌≤◌, List, [], ◌∷◌, ◌++�
 use Rattle.plain_list.specs.declared.entries.Entry.{Entry}
 use Rattle.plain_list.specs.declared.entries.Entry.TheVariants.{Call}
 use Rattle.plain_list.specs.State.{State}
-use Rattle.plain_list.proofs.Histories.{state_after-world}
+use Rattle.plain_list.proofs.Histories.{state_after-world, has_failed-none}
 use Rattle.kept_log.specs.Journal.{KeepsIn}
-use Rattle.kept_log.proofs.InJournal.{has_failed-none}
 use Rattle.commit_book.specs.Events.{Events}
 use Rattle.commit_book.proofs.BookStates.{inside-call, steps_on}
 use Rattle.commit_book.proofs.BookSteps.{query_keeps, stands_again}
 use Rattle.commit_book.proofs.RefusalLemmas.{MayCall, may_call, passed}
-use Rattle.commit_book.proofs.SplitHistories.{open-le}
+use Rattle.plain_list.proofs.SplitHistories.{open-le}
 use Rattle.commit_book.proofs.UpdateCalls.{keeps-query}
 use Rattle.commit_book.proofs.book.Book.snapshot.Goals as goal
 

@@ -7,8 +7,8 @@ use Rattle.plain_list.specs.Answer.{answer_of, is_change}
 use Rattle.plain_list.specs.History.{world_after}
 use Rattle.plain_list.specs.State.{OpenSplit}
 use Rattle.point_table.specs.Changes.{AreSettled}
-use Rattle.plain_list.proofs.Histories.{state_after-world}
-use Rattle.kept_log.proofs.InJournal.{has_failed-none, leaves-quiet}
+use Rattle.plain_list.proofs.Histories.{state_after-world, has_failed-none}
+use Rattle.kept_log.proofs.InJournal.{leaves-quiet}
 use Rattle.commit_book.specs.BookInside.{book_of}
 use Rattle.commit_book.specs.Events.{Events}
 use Rattle.commit_book.specs.Steps.{Takes, Loses}
@@ -16,7 +16,7 @@ use Rattle.commit_book.specs.declared.steps.Step.{Step}
 use Rattle.commit_book.proofs.BookStates.{inside-call, steps_on}
 use Rattle.commit_book.proofs.RefusalLemmas.{passed}
 use Rattle.commit_book.proofs.SplitCells.{call_step, cell_there}
-use Rattle.commit_book.proofs.SplitHistories.{open-le}
+use Rattle.plain_list.proofs.SplitHistories.{open-le}
 use Rattle.commit_book.proofs.Undone.{can_step, inside-undone, moments-undone, refused-undone, would_change, quiet_told, noted}
 use Rattle.commit_book.proofs.UpdateCalls.{may_update}
 use Rattle.commit_book.proofs.book.Book.update.Goals as goal

@@ -1,5 +1,5 @@
 use Rattle.std.proofs.Common.{◌<◌, ◌^◌, ◌∷◌, [], arith, length, length-append}
-use Rattle.commit_book.proofs.CallCounts.{call_count-append, call_count-le}
+use Rattle.plain_list.proofs.Histories.{call_count-append, call_count-le}
 use Rattle.commit_book.proofs.history.History.push.Goals as goal
 
 pub overflow_add-self : goal.overflow_add-self
