@@ -38,17 +38,6 @@ ready_twice false Own list now from to parts ready is = λ i. record { base = is
 ready_twice false (Beside base) list now from to parts ready is = λ i. record { base = is i; rows = is i }
 ready_twice false (Below base) list now from to parts ready is = absurd (true≢false (sym ready))
 
--- and base and list still rise
-pub ready_parts : (keeps : Bool) (b : Base) (list now : List Row) → AreParts (base_in b list) list → IsReady keeps b → IsRows now → AreParts (base_in (settled keeps b) now) now
-ready_parts true Own list now parts ready rising = absurd (true≢false ready)
-ready_parts true (Beside base) list now parts ready rising = record { base = parts.base; delta = rising }
-ready_parts true (Below base) list now parts ready rising = record { base = parts.base; delta = rising }
-ready_parts false b list now parts ready rising = record { base = rising; delta = rising }
-
--- they rise in other words where nothing was turned
-pub unready_parts : (b : Base) (list now : List Row) → AreParts (base_in b list) list → now ≡ list → AreParts (base_in b now) now
-unready_parts b list now parts is = rw is parts
-
 pub kept_rising : (b : Base) (list : List Row) → AreParts (base_in b list) list → AreRows (kept_in b list)
 kept_rising b list parts = AreRows-now (is_listed b) (base_in b list) list parts
 

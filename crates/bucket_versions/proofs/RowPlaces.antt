@@ -76,16 +76,6 @@ pub there : (r : Row) (rows : List Row) → IsRows rows → has_row r rows ≡ t
 there r [] rising has = absurd (cc has)
 there r (s ∷ rows) rising has = by_tests r s rows rising (is_below s r) (same_row s r) refl refl has (there r rows rising.1)
 
--- what stands at a place is in the list
-pub has_row-at : (rows : List Row) (i : ℕ) (d : Row) → i < length rows → has_row (get_or rows i d) rows ≡ true
-has_row-at [] i d lt = absurd (omega arith)
-has_row-at (s ∷ rows) zero d lt = λ i. same_row-refl s i || has_row s rows
-has_row-at (s ∷ rows) (suc i) d lt = (λ j. same_row s (get_or rows i d) || has_row-at rows i d (omega arith) j) ∙ or_true (same_row s (get_or rows i d))
-  where
-    or_true : (b : Bool) → (b || true) ≡ true
-    or_true true = refl
-    or_true false = refl
-
 -- a row that isn't at its place isn't in the list
 pub nowhere : (r : Row) (rows : List Row) (d : Row) → IsRows rows → (row_place r rows < length rows → same_row (get_or rows (row_place r rows) d) r ≡ false) → has_row r rows ≡ false
 nowhere r rows d rising differs = by_test (has_row r rows) refl

@@ -1,8 +1,7 @@
 -- Rows in order are told by what is among them; what is among the rows that a call makes.
-use Rattle.std.proofs.Common.{◌≡◌, ℕ, suc, ◌+◌, ◌≤◌, Bool, true, false, not, ◌&&◌, ◌||◌, List, [], ◌∷◌, length, Result, Ok, Err, OnOk, subst, refl, sym, ◌∙◌, ap, arith, cond}
+use Rattle.std.proofs.Common.{◌≡◌, ℕ, suc, ◌+◌, ◌≤◌, Bool, true, false, not, ◌&&◌, ◌||◌, List, [], ◌∷◌, length, Result, Ok, Err, OnOk, refl, sym, ◌∙◌, ap, arith, cond}
 use Rattle.std.specs.Prelude.{nat_le}
 use Rattle.std.specs.List.{filter, insert, remove}
-use Rattle.std.specs.Result.{IfOk}
 use Rattle.std.proofs.lemmas.Bool.Decides.{nat_tests}
 use mathlib.Core.Bool.{true≢false}
 use Rattle.bucket_versions.specs.declared.row.Row.{Row}
@@ -308,11 +307,6 @@ gone_turns old now r i rising has at is =
     let both = gone_at_place old now r i rising has at is in
     (both.0 ∙ sym (turn-present r old has), both.1)
 
--- what holds of a list that a call gave
-pub given_rows : {A E : Type 0} (items : A → List Row) (r : Result A E) (made : List Row) → IfOk r (λ v. items v ≡ made) → IsRows made → IfOk r (λ v. IsRows (items v))
-given_rows items (Ok v) made is rising = subst IsRows (sym is) rising
-given_rows items (Err e) made is rising = is
-
 -- the rows that a list stands for rise
 pub IsRows-now : (w : Bool) (base list : List Row) → AreParts base list → IsRows (rows_now w base list)
 IsRows-now true base list parts = parts.delta
@@ -320,26 +314,6 @@ IsRows-now false base list parts = IsRows-difference base list parts.base parts.
 
 pub AreRows-now : (w : Bool) (base list : List Row) → AreParts base list → AreRows (record { base = base; rows = rows_now w base list })
 AreRows-now w base list parts = record { base = parts.base; rows = IsRows-now w base list parts }
-
--- a row turned in the list is turned in the rows
-pub turned_now : (w : Bool) (base list : List Row) (r : Row) → AreParts base list → rows_now w base (turn r list) ≡ turn r (rows_now w base list)
-turned_now true base list r parts = refl
-turned_now false base list r parts = difference-turn r base list parts.base parts.delta
-
-pub put_now : (w : Bool) (base list now : List Row) (r : Row) → AreParts base list → has_row r (rows_now w base list) ≡ false → now ≡ turn r list → rows_now w base now ≡ with_row r (rows_now w base list)
-put_now w base list now r parts none is =
-    ap (rows_now w base) is ∙ turned_now w base list r parts ∙ turn-absent r (rows_now w base list) none
-
-pub gone_now : (w : Bool) (base list now : List Row) (r : Row) → AreParts base list → has_row r (rows_now w base list) ≡ true → now ≡ turn r list → rows_now w base now ≡ without_row r (rows_now w base list)
-gone_now w base list now r parts has is =
-    ap (rows_now w base) is ∙ turned_now w base list r parts ∙ turn-present r (rows_now w base list) has
-
-pub moved_now : (w : Bool) (base list now : List Row) (from to : Row) → AreParts base list → has_row from (rows_now w base list) ≡ true
-    → has_row to (without_row from (rows_now w base list)) ≡ false → now ≡ turn to (turn from list) → rows_now w base now ≡ with_row to (without_row from (rows_now w base list))
-moved_now w base list now from to parts has none is =
-    let between : AreParts base (turn from list) = record { base = parts.base; delta = IsRows-turn from list parts.delta } in
-    let gone : rows_now w base (turn from list) ≡ without_row from (rows_now w base list) = gone_now w base list (turn from list) from parts has refl in
-    put_now w base (turn from list) now to between (ap (has_row to) gone ∙ none) is ∙ ap (with_row to) gone
 
 -- the delta of a base and the rows on it
 differ_twice : (x y : Bool) → differ x (differ x y) ≡ y
@@ -373,7 +347,3 @@ on_ok (Err e) f p = p
 pub difference-empty : (base delta : List Row) → length delta ≡ 0 → difference base delta ≡ base
 difference-empty base [] none = difference-none base
 difference-empty base (d ∷ delta) none = absurd (omega (arith, none))
-
--- a list with no rows stands for the base
-pub now_empty : (w : Bool) (base list : List Row) → w ≡ false → length list ≡ 0 → rows_now w base list ≡ base
-now_empty w base list turned none = (λ i. rows_now (turned i) base list) ∙ difference-empty base list none

@@ -35,12 +35,6 @@ not-tried words none trial = let (log, made, spells) = spells-trial words trial 
 trial-log : (words : List (List ℕ)) (log : List ℕ) (made : Made) → SpellsTrial words log made → get_or words 1 [] ≡ log
 trial-log words log made (rows, seed, spells, numbers) = ap (λ (ws : List (List ℕ)). get_or ws 1 []) spells
 
--- that word names no file, and isn't a dash
-pub untried : (words : List (List ℕ)) (log : List ℕ) (made : Made) → SpellsTrial words log made → (log ≡ codes "-" → ⊥) → (IsTrue (is_file_name log) → ⊥) → IsTrial words → ⊥
-untried words log made spells dash file (None, other, plain) = dash (sym (trial-log words log made spells) ∙ trial-log words (codes "-") other plain)
-untried words log made spells dash file (Some name, other, (named, over)) =
-    file (subst (λ (l : List ℕ). IsTrue (is_file_name l)) (sym (trial-log words name other over) ∙ trial-log words log made spells) named)
-
 -- the command's word
 pub trial-word : (words : List (List ℕ)) → IsTrial words → get_or words 0 [] ≡ codes "trial"
 trial-word words trial = let (log, made, spells) = spells-trial words trial in by_form log made spells

@@ -4,7 +4,7 @@ use Rattle.std.specs.Prelude.{codes, IsTrue}
 use Rattle.std.proofs.lemmas.Bool.{true≢false}
 use Rattle.zorder.specs.declared.points.Region.{Region}
 use Rattle.csv_rows.specs.Numbers.{number_in}
-use Rattle.command_words.specs.Words.{Command, AsksFor, NamesFile, SpellsBox, SpellsPlay, SpellsShow, IsInit, IsCheck, IsPlay, IsShow, IsTrial, IsUnlogged, IsLogged, IsAccepted, is_file_name, Init, Check, Play, Show, Trial}
+use Rattle.command_words.specs.Words.{Command, AsksFor, NamesFile, SpellsBox, SpellsPlay, SpellsShow, IsInit, IsCheck, IsPlay, IsShow, IsTrial, IsUnlogged, IsLogged, is_file_name, Init, Check, Play, Show, Trial}
 use Rattle.command_words.proofs.TrialFacts.{trial-word, one-trial}
 
 init-word : (words : List (List ℕ)) → IsInit words → get_or words 0 [] ≡ codes "init"
@@ -25,12 +25,6 @@ not-played words none play = let (log, size, spells) = spells-play words play in
 log-word : (words : List (List ℕ)) (log : List ℕ) (size : ℕ) → SpellsPlay words log size → get_or words 1 [] ≡ log
 log-word words log size (inl two) = ap (λ (ws : List (List ℕ)). get_or ws 1 []) two.0
 log-word words log size (inr sized) = ap (λ (ws : List (List ℕ)). get_or ws 1 []) sized.1
-
--- it names a file, or is a dash
-pub misnamed : (words : List (List ℕ)) (log : List ℕ) (size : ℕ) → SpellsPlay words log size → (log ≡ codes "-" → ⊥) → (IsTrue (is_file_name log) → ⊥) → IsPlay words → ⊥
-misnamed words log size spells dash file (n, (None, as_none)) = dash (sym (log-word words log size spells) ∙ log-word words (codes "-") n as_none)
-misnamed words log size spells dash file (n, (Some name, (named, as_file))) =
-    file (subst (λ (l : List ℕ). IsTrue (is_file_name l)) (sym (log-word words name n as_file) ∙ log-word words log size spells) named)
 
 play-word : (words : List (List ℕ)) → IsPlay words → get_or words 0 [] ≡ codes "play"
 play-word words play = let (log, size, spells) = spells-play words play in by_form log size spells
@@ -58,12 +52,6 @@ unnamed words log region spells bad (file, other, (named, as_file)) =
 pub unlogged-logged : (words : List (List ℕ)) → IsUnlogged words → IsLogged words → ⊥
 unlogged-logged words (size, plain) (file, n, (named, over)) =
     absurd (true≢false (sym (ap is_file_name (sym (log-word words (codes "-") size plain) ∙ log-word words file n over) ∙ named)))
-
-pub unlogged-play : (words : List (List ℕ)) → IsUnlogged words → IsPlay words
-unlogged-play words (size, asks) = (size, (None, asks))
-
-pub logged-play : (words : List (List ℕ)) → IsLogged words → IsPlay words
-logged-play words (file, size, asks) = (size, (Some file, asks))
 
 first_letter : (xs ys : List ℕ) → xs ≡ ys → get_or xs 0 0 ≡ get_or ys 0 0
 first_letter xs ys e = ap (λ (l : List ℕ). get_or l 0 0) e
@@ -103,17 +91,6 @@ play-trial words p t = let e : 112 ≡ 116 = first-letter words (codes "play") (
 
 show-trial : (words : List (List ℕ)) → IsShow words → IsTrial words → ⊥
 show-trial words s t = let e : 115 ≡ 116 = first-letter words (codes "show") (codes "trial") (shown-word words s) (trial-word words t) in omega (arith, e)
-
--- words of none of the commands aren't accepted
-pub none-accepted : (words : List (List ℕ)) → (IsInit words → ⊥) → (IsCheck words → ⊥) → (IsShow words → ⊥) → (IsTrial words → ⊥) → (IsPlay words → ⊥) → IsAccepted words → ⊥
-none-accepted words i k s t p (Init file, asks) = i (file, asks)
-none-accepted words i k s t p (Check file, asks) = k (file, asks)
-none-accepted words i k s t p (Play file size, asks) = p (size, (file, asks))
-none-accepted words i k s t p (Show file region, asks) = s (file, region, asks)
-none-accepted words i k s t p (Trial log made, asks) = t (log, made, asks)
-
-pub accepted-play : (words : List (List ℕ)) → IsPlay words → IsAccepted words
-accepted-play words (size, (file, asks)) = (Play file size, asks)
 
 -- words ask for one command
 same-file : (command : List ℕ) (words : List (List ℕ)) (f g : List ℕ) → NamesFile command words f → NamesFile command words g → f ≡ g

@@ -1,15 +1,12 @@
 -- A drive of which nothing is known meets what the trait says of each call.
 use Rattle.std.proofs.Common.{ℕ, Bool, List, Ok, Err, Result, refl, inl, arith, length}
 use Rattle.disk_trait.proofs.Itself.{torn_itself, shortened_itself}
-use Rattle.disk_trait.specs.Drive.{Elapses, Stays, Writes, Cuts, Syncs}
+use Rattle.disk_trait.specs.Drive.{Elapses, Writes, Cuts, Syncs}
 use Rattle.disk_trait.specs.declared.disk.DiskFault.{DiskFault}
 use Rattle.disk_file.specs.Served.{untold}
 
 elapses : (a b : Bool) (f g : ℕ) → Elapses (untold a f) (untold b g)
 elapses a b f g = record { later = omega arith; nothing_else = λ t c le left. inl left; keeps = λ t c le left. left }
-
-pub untold-stays : (a b : Bool) (f g : ℕ) → Stays (untold a f) (untold b g)
-untold-stays a b f g = record { bytes = refl; images = λ c left. left; moment = refl; since = λ t c left. left; keeps = λ t c left. left; calls = λ all told. told }
 
 pub untold-writes : {T : Type 0} (a b : Bool) (f g at : ℕ) (piece : List ℕ) (result : Result T DiskFault) → Writes (untold a f) (untold b g) at piece result
 untold-writes a b f g at piece (Ok x) = record { done = λ xs told. cc; told = refl; crash = λ c left. (c, left, torn_itself at (length piece) c); time = elapses a b f g }

@@ -65,15 +65,6 @@ idle-stored n (FailedCut len) idle = tt
 idle-stored n Synced idle = tt
 idle-stored n FailedSync idle = tt
 
--- the call of an entry without a piece is the same in every list of pieces
-pub change_of-idle : (pieces others : List ℕ) (t : Touch) → IsIdle t → change_of pieces t ≡ change_of others t
-change_of-idle pieces others (Wrote at from len) idle = absurd idle
-change_of-idle pieces others (FailedWrite at len) idle = refl
-change_of-idle pieces others (DidCut len) idle = refl
-change_of-idle pieces others (FailedCut len) idle = refl
-change_of-idle pieces others Synced idle = refl
-change_of-idle pieces others FailedSync idle = refl
-
 -- after a call that leaves what a read gives
 pub held-idle : (first pieces : List ℕ) (ts : List Touch) (t : Touch) (held : List ℕ) → IsIdle t → held ≡ (file_by first pieces ts).held → held ≡ (file_by first pieces (ts ++ t ∷ [])).held
 held-idle first pieces ts t held idle is =

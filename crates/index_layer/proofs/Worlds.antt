@@ -1,5 +1,5 @@
 -- An index that stands for a world, after a change of both, and all its rows.
-use Rattle.std.proofs.Common.{◌≡◌, ◌⊎◌, inl, inr, ℕ, ◌+◌, ◌^◌, ◌<◌, ◌≤◌, Bool, true, false, not, ◌&&◌, ◌||◌, ◌==◌, List, [], ◌∷◌, ◌++◌, length, map, Option, Some, None, refl, sym, ◌∙◌, ap, subst, arith, cond}
+use Rattle.std.proofs.Common.{◌≡◌, ◌⊎◌, inl, inr, ℕ, ◌+◌, ◌^◌, ◌<◌, Bool, true, false, not, ◌&&◌, ◌||◌, ◌==◌, List, [], ◌∷◌, ◌++◌, map, Option, Some, None, refl, sym, ◌∙◌, ap, subst, arith, cond}
 use Rattle.std.specs.List.{filter, list_any, AllByRecursion}
 use Rattle.std.specs.Cmp.{both_ways, first_so}
 use Rattle.std.specs.Cmp.Derive.{both_true}
@@ -9,22 +9,16 @@ use Rattle.zorder.specs.declared.points.Point.{Point}
 use Rattle.zorder.specs.declared.points.Placed.{Placed}
 use Rattle.zorder.specs.Key.{key_of, is_under}
 use Rattle.zorder.specs.SameName.{same_name, same_name-decides}
-use Rattle.zorder.specs.Tile.{bit_lists, children}
 use Rattle.zorder.proofs.Places.{key_of-lt}
 use Rattle.bucket_versions.specs.declared.row.Row.{Row}
 use Rattle.bucket_versions.specs.Rows.{Rows, IsRows, has_row, with_row, without_row, same_row, is_below, put_row, gone_row}
 use Rattle.bucket_versions.proofs.RowOrder.{IsRows-with_row, IsRows-without_row, same_row-eq, same_row-refl}
-use Rattle.index_layer.specs.Leaves.{Leaf, AreUnder, names_of, leaf_under, with_bucket, replaced, leaves_of, split, all_rows, AreAllUnder}
+use Rattle.index_layer.specs.Leaves.{Leaf, AreUnder, leaf_under, with_bucket, replaced, all_rows}
 use Rattle.index_layer.specs.Stands.{Stands, HasRowsOf, world_has, is_at_key}
 use Rattle.index_layer.proofs.LeafKeys.{false_if, leaf_under-some}
-use Rattle.index_layer.proofs.LeafNames.{IsAmong, later_leaf, find-among, any-among, among-any, one-leaf, under-front}
-use Rattle.index_layer.proofs.LeafChanges.{leaf_at, names_of-replaced, AreLeaves-replaced, AreLeaves-split}
+use Rattle.index_layer.proofs.LeafNames.{IsAmong, later_leaf, find-among, any-among, among-any, one-leaf}
+use Rattle.index_layer.proofs.LeafChanges.{leaf_at, names_of-replaced, AreLeaves-replaced}
 use Rattle.index_layer.proofs.Puts.{where_is, HasMore, rows_with_put}
-
--- what holds of each leaf of a list, by recursion and by places
-pub all-among : (P : Leaf → Type 0) (leaves : List Leaf) → ((l : Leaf) → IsAmong leaves l → P l) → AllByRecursion P leaves
-all-among P [] each = tt
-all-among P (l ∷ leaves) each = (each l ([], leaves, refl), all-among P leaves (λ m at. each m (later_leaf l leaves m at)))
 
 pub among-all : (P : Leaf → Type 0) (leaves : List Leaf) (l : Leaf) → AllByRecursion P leaves → IsAmong leaves l → P l
 among-all P leaves l all at = by_front at.0 (let Q : List Leaf → Type 0 = λ ls. AllByRecursion P ls in subst Q at.2 all)
@@ -177,50 +171,6 @@ module _ (leaves : List Leaf) (old new : List Placed) (names : List (List Bool))
           ∙ by_id (m.id == q.id) (key_of m.at == q.key) (is_under l.name q.key) q.key (where_is old q.id) (where_is new q.id) refl
           (λ e. let same : m.id ≡ q.id = eqb-true m.id q.id e in (ap (where_is old) (sym same) ∙ there, less q.id ∙ (λ i. cond (e i) None (where_is old q.id))))
           (λ e. less q.id ∙ (λ i. cond (e i) None (where_is old q.id)))
-
--- each bucket has the rows that are under the name at its place
-abbrev pub AreCut : List Row → List (List Bool) → List Rows → Type 0
-AreCut rows [] buckets = Unit {0}
-AreCut rows (name ∷ names) [] = Unit {0}
-AreCut rows (name ∷ names) (b ∷ buckets) = ((r : Row) → has_row r b.rows ≡ (has_row r rows && is_under name r.key)) × AreCut rows names buckets
-
--- a split of a leaf whose rows the children share out by their names
-pub Stands-split : (leaves : List Leaf) (world : List Placed) (names : List (List Bool)) (w : ℕ) (l : Leaf) (buckets : List Rows) → Stands leaves world names → IsAmong leaves l
-    → length l.name + w ≤ 64 → length buckets ≡ 2 ^ w → AllByRecursion (λ (b : Rows). IsRows b.rows) buckets → AreAllUnder w l.name buckets → AreCut l.bucket.rows (children w l.name) buckets
-    → Stands (split w l.name buckets leaves) world (names_of (split w l.name buckets leaves))
-Stands-split leaves world names w l buckets stands at room count rising under shared = record {
-  names_are = refl;
-  are_leaves = AreLeaves-split w l.name buckets room count leaves stands.are_leaves rising under;
-  rows = each leaves stands.rows;
-}
-  where
-    had : HasRowsOf world l
-    had = among-all (HasRowsOf world) leaves l stands.rows at
-
-    both : (a b c : Bool) → (c ≡ true → b ≡ true) → ((a && b) && c) ≡ (a && c)
-    both true true c so = refl
-    both true false true so = so refl
-    both true false false so = refl
-    both false b c so = refl
-
-    one : (bits : List Bool) (b : Rows) → ((r : Row) → has_row r b.rows ≡ (has_row r l.bucket.rows && is_under (l.name ++ bits) r.key)) → HasRowsOf world (leaf_at (l.name ++ bits) b)
-    one bits b cut = λ r.
-        cut r ∙ ap (λ (h : Bool). h && is_under (l.name ++ bits) r.key) (had r)
-        ∙ both (world_has world r) (is_under l.name r.key) (is_under (l.name ++ bits) r.key) (λ e. under-front l.name (l.name ++ bits) r.key (bits, refl) e)
-
-    children_rows : (lists : List (List Bool)) (bs : List Rows) (rest : List Leaf) → AreCut l.bucket.rows (map (λ bits. l.name ++ bits) lists) bs → AllByRecursion (HasRowsOf world) rest
-        → AllByRecursion (HasRowsOf world) (leaves_of (map (λ bits. l.name ++ bits) lists) bs ++ rest)
-    children_rows [] bs rest cut all = all
-    children_rows (bits ∷ lists) [] rest cut all = all
-    children_rows (bits ∷ lists) (b ∷ bs) rest cut all = (one bits b cut.0, children_rows lists bs rest cut.1 all)
-
-    each : (ls : List Leaf) → AllByRecursion (HasRowsOf world) ls → AllByRecursion (HasRowsOf world) (split w l.name buckets ls)
-    each [] all = tt
-    each (n ∷ ls) all = by_test (same_name n.name l.name) (each ls all.1)
-      where
-        by_test : (b : Bool) → AllByRecursion (HasRowsOf world) (split w l.name buckets ls) → AllByRecursion (HasRowsOf world) (cond b (leaves_of (children w l.name) buckets ++ ls) (n ∷ split w l.name buckets ls))
-        by_test true rest = children_rows (bit_lists w) buckets ls shared all.1
-        by_test false rest = (all.0, rest)
 
 -- a row is among all rows exactly where some leaf has it
 has_row-append : (r : Row) (xs ys : List Row) → has_row r (xs ++ ys) ≡ (has_row r xs || has_row r ys)

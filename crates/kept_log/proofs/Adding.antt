@@ -8,8 +8,6 @@ use Rattle.cell_format.specs.declared.cell.Cell.{Cell}
 use Rattle.plain_list.specs.declared.entries.Entry.{Entry}
 use Rattle.plain_list.specs.declared.entries.Entry.TheVariants.{Fail, Call, Begin, Install, Abandon}
 use Rattle.plain_list.specs.declared.entries.Lost.{Lost}
-use Rattle.plain_list.specs.declared.ops.Op.{Op}
-use Rattle.plain_list.specs.Answer.{answer_of, is_change}
 use Rattle.plain_list.specs.History.{world_after}
 use Rattle.plain_list.specs.State.{State, empty_state, step, is_possible, is_free, is_fail, is_empty, is_legal_history, IsLegal}
 use Rattle.plain_list.proofs.Histories.{has_failed}
@@ -27,7 +25,7 @@ use Rattle.kept_log.specs.KeptView.{KeptView}
 use Rattle.kept_log.specs.Kept.{KeepsSince, Keeps}
 use Rattle.kept_log.specs.Steps.{IsNext}
 use Rattle.kept_log.proofs.Starting.{leaves-log}
-use Rattle.kept_log.proofs.StepCells.{call-no_cells, cells-fail}
+use Rattle.kept_log.proofs.StepCells.{cells-fail}
 
 not_last : (h : List Entry) (e : Entry) → is_empty (h ++ e ∷ []) ≡ false
 not_last [] e = refl
@@ -134,10 +132,3 @@ kept-quiet drive w s h e log legal none going kept =
     lost_going (Begin number name) going = refl
     lost_going (Install number) going = refl
     lost_going (Abandon number) going = refl
-
--- a call that changes nothing has no cell
-pub kept-call : {D : Type 0} (drive : D → Drive) (w : ℕ) (s : State) (h : List Entry) (session row : ℕ) (op : Op) (log : KeptView D)
-    → IsLegal w s (h ++ Call session row op ∷ [])
-    → is_change (answer_of (world_after s.world h) op) ≡ false → Keeps drive w s h log → Keeps drive w s (h ++ Call session row op ∷ []) log
-kept-call drive w s h session row op log legal none =
-    kept-quiet drive w s h (Call session row op) log legal (call-no_cells (world_after s.world h) session row op none) refl

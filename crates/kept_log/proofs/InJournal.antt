@@ -67,10 +67,6 @@ no_number cell n none some = absurd (cc (none, some))
 rose_since : (a b c : ℕ) → a ≤ b → Rose b c → Rose a c
 rose_since a b c before rose = omega (arith, before, rose)
 
--- a journal with no log keeps the empty history
-pub in-none : {D : Type 0} (drive : D → Drive) (w : ℕ) (s : State) → KeepsIn drive w s [] None
-in-none drive w s = refl
-
 -- an entry without a cell leaves all as it was
 pub in-quiet : {D : Type 0} (drive : D → Drive) (w : ℕ) (s : State) (h : List Entry) (e : Entry) (log : Option (KeptView D)) → IsLegal w s (h ++ e ∷ [])
     → cells_of (world_after s.world h) (e ∷ []) ≡ []

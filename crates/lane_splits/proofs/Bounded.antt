@@ -23,7 +23,7 @@ use Rattle.sessions.specs.declared.store.lanes.Lane.{Lane}
 use Rattle.lane_history.specs.Lanes.{IsPlayedOut, GoesOn}
 use Rattle.lane_splits.specs.Settled.{IsBounded}
 use Rattle.lane_splits.proofs.Weights.{weight, weight-all, all_below, at, at-is, below-take}
-use Rattle.lane_splits.proofs.Cells.{cells-few}
+use Rattle.log_state.proofs.CellCounts.{cells-few}
 use Rattle.lane_splits.proofs.Entries.{begins, calls, ends, fails, one-kind, legal-begin, one-fail, open-few}
 use Rattle.lane_splits.proofs.Bounds.{AreFew, size-few}
 use Rattle.lane_splits.proofs.Gains.{crowd}
@@ -210,8 +210,3 @@ bounded w origin rows sessions lanes last out legal few_rows few_cells =
           let same : cells_after origin (take (length g) h) ≡ cells_after origin g = ap (cells_after origin) (take-prefix g h pre) in
           omega arith;
     }
-
--- how many calls there are
-pub calls-few : {I D O P : Type 0} (w : ℕ) (origin : Origin) (rows : List InRow) (sessions : List ℕ) (lanes : List (Lane I D O P)) (last : Known) → IsPlayedOut w origin rows sessions lanes last
-    → all_below (at calls last.seen) (length last.seen) ≤ length rows
-calls-few w origin rows sessions lanes last out = (are-below w origin rows sessions lanes last out).few

@@ -1,6 +1,5 @@
 pub mod Weights
 pub mod Entries
-pub mod Cells
 pub mod Bounds
 pub mod Gains
 pub mod Rounds

@@ -17,7 +17,7 @@ use Rattle.sessions.specs.declared.store.lanes.Lane.{Lane}
 use Rattle.lane_history.specs.Lanes.{IsPlayedOut, OwnsAll}
 use Rattle.lane_splits.specs.Settled.{IsSettled, first_cells, stray_begins}
 use Rattle.lane_splits.proofs.Weights.{weight-all, at, below-take, sum_of}
-use Rattle.lane_splits.proofs.Cells.{cells-few}
+use Rattle.log_state.proofs.CellCounts.{cells-few}
 use Rattle.lane_splits.proofs.Entries.{begins, calls, ends, calls-count, sum-append, open-few}
 use Rattle.lane_splits.proofs.Steps.{IsCalm, take-prefix}
 use Rattle.lane_splits.proofs.Ends.{EndPairs, settles-same, settles-well, all-splits-same}

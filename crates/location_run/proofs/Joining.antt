@@ -18,7 +18,7 @@ use Rattle.lane_history.specs.Lanes.{HaveAllPlayed, TakesIn, HaveSeen, owned_by,
 use Rattle.location_run.specs.declared.lanes.LaneEnd.{LaneEnd}
 use Rattle.sessions.specs.Lanes.{Plays}
 use Rattle.sessions.specs.Splits.{SamePass}
-use Rattle.location_run.specs.inside.Dealt.{sessions_to, fresh_pass, AreDealt, HasDealt}
+use Rattle.location_run.specs.inside.Dealt.{sessions_to, AreDealt, HasDealt}
 use Rattle.location_run.specs.inside.Joined.{IsIdle, AreIdle, end_of, ends_of, Takes, IsDone, HasRun, HasNotRun, HasAllParts}
 use Rattle.location_run.proofs.Dealing.{all-played}
 
@@ -152,15 +152,3 @@ module _ {I D O P : Type 0} (w : ℕ) (lock : TableId) (rows : List InRow) (old 
     parts = ap (λ (k : Known). k.parts) still.1 ∙ parts-not.parts;
     origin = ap (λ (k : Known). k.origin) still.1 ∙ parts-not.origin;
   }
-
--- a pass that has all parts of a store that nobody has used
-pub fresh-parts : (lock : TableId) (pass : Known) → pass ≡ fresh_pass lock pass.origin 65536 → HasNotRun pass false × HasAllParts pass pass
-fresh-parts lock pass is = (
-  record { own = λ p. ap (λ (k : Known). times p k.own) is; not_done = refl },
-  record { lock = refl; off = ap (λ (k : Known). k.holds) is; parts = ap (λ (k : Known). k.parts) is; origin = refl },
-)
-
--- no lane is dealt at first
-pub dealt-none : {I D O P : Type 0} (lock : TableId) (rows : List InRow) (lanes : List (Lane I D O P)) (pass : Known) → lanes ≡ [] → pass ≡ fresh_pass lock pass.origin 65536 → HasDealt lock rows 0 lanes pass
-dealt-none lock rows [] pass none is = record { dealt = tt; pass_is = is ∙ ap (λ (n : ℕ). fresh_pass lock pass.origin n) (sym (ap (λ (k : Known). k.parts) is)); whole = omega (arith, ap (λ (k : Known). k.parts) is) }
-dealt-none lock rows (x ∷ lanes) pass none is = absurd (cc none)

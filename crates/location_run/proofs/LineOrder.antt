@@ -150,9 +150,6 @@ pub record HasTold (rows : List InRow) (i : ℕ) (told : List ℕ) : Type 0 wher
   pub size : length told ≡ 17
   pub each : (t : ℕ) → t ≤ 16 → get_or told t 0 ≡ before rows i t
 
-pub told-none : (rows : List InRow) (told : List ℕ) → length told ≡ 17 → ((t : ℕ) → t ≤ 16 → get_or told t 0 ≡ 0) → HasTold rows 0 told
-told-none rows told size none = record { size = size; each = none }
-
 same-of : (s t : ℕ) → (s == t) ≡ true → t ≡ s
 same-of s t e = grind (arith, nat_tests)
 
@@ -217,13 +214,6 @@ module _ (world : List Placed) (h : List Entry) (rows : List InRow) (ends : List
       puts-is old now ((title_line ++ flat_map (line_of world h) items) ++ []) (lines_of world (length rows) h) result (append-nil (title_line ++ flat_map (line_of world h) items))
       (puts-fault old now (title_line ++ flat_map (line_of world h) items) (more ++ flat_map (line_of world h) (drop (i + 1) items)) [] result err lost)
 
--- the title was added
-pub title-added : (line : ℕ → List ℕ) (numbers : List ℕ) (old now : Option (List ℕ)) (faults later : ℕ) (empty held : List ℕ) → empty ≡ [] → Moves old now (empty ++ title_line) held → later ≡ faults → HasAdded line old now faults later title_line numbers 0 held
-title-added line numbers old now faults later empty held none moved calm = record {
-  moved = moves-is old now (empty ++ title_line) (title_line ++ []) held (ap (λ (l : List ℕ). l ++ title_line) none ∙ sym (append-nil title_line)) moved;
-  same = calm;
-}
-
 -- a fault came on the way of the title
 pub title-lost : {T E : Type 0} (world : List Placed) (h : List Entry) (rows : List InRow) (old now : Option (List ℕ)) (empty lost : List ℕ) (result : Result T E) → empty ≡ [] → Moves old now (empty ++ title_line) lost → IsErr result
     → Puts old now (lines_of world (length rows) h) result
@@ -240,9 +230,6 @@ lines-put world h rows old mid now faults later i held result has end puts =
 -- where a row's session is, and how many of its rows were told
 pub told-is : (rows : List InRow) (i : ℕ) (row : InRow) (told : List ℕ) → HasTold rows i told → (get_or rows i row).session ≤ 16 → get_or told (get_or rows i row).session 0 ≡ before rows i (get_or rows i row).session
 told-is rows i row told has few = has.each (get_or rows i row).session few
-
-pub before-least : (rows : List InRow) (i t : ℕ) → before rows i t ≤ length (take i rows)
-before-least rows i t = before-few 1 t (take i rows)
 
 -- a row's session is one of 1 to 16
 pub row-few : (rows : List InRow) → AllByRecursion IsInRow rows → (i : ℕ) (d : InRow) → i < length rows → (get_or rows i d).session ≤ 16

@@ -1,10 +1,9 @@
 -- What the opening of a log comes to.
-use Rattle.std.proofs.Common.{◌≡◌, ◌⊎◌, inl, inr, ◌∙◌, ℕ, ◌≤◌, Bool, List, length, Some, Result, Ok, Err, refl, sym, ap, subst}
+use Rattle.std.proofs.Common.{◌≡◌, ◌⊎◌, inl, inr, ◌∙◌, ℕ, ◌≤◌, List, length, Some, Result, Ok, Err, refl, sym, ap, subst}
 use Rattle.std.specs.Prelude.{IfErr}
 use Rattle.causes.specs.Causes.{Rose}
-use Rattle.disk_trait.specs.declared.disk.AttachFault.{AttachFault}
 use Rattle.disk_trait.specs.declared.disk.AttachFault.TheVariants as attach_fault
-use Rattle.disk_trait.specs.Drive.{Drive, KeepsLaws, Stays, CountsAttach}
+use Rattle.disk_trait.specs.Drive.{Drive, KeepsLaws, Stays}
 use Rattle.cell_format.specs.declared.cell.Cell.{Cell}
 use Rattle.log_state.specs.Recovers.{Recovers}
 use Rattle.recovery.specs.Faults.{IsFault, IsInBytes}
@@ -16,22 +15,14 @@ use Rattle.recovery.proofs.OnlyReading.{rose-earlier}
 use Rattle.recovery.proofs.OpeningLemmas.{leaves-trans, leaves-stays}
 use Rattle.csv_rows.specs.declared.rows.Refusal.{Refusal}
 use Rattle.csv_rows.specs.declared.rows.Refusal.TheVariants as refusal
-use Rattle.location_run.specs.Checking.{IsReadingCause, attach_refusal, log_refusal}
+use Rattle.location_run.specs.Checking.{IsReadingCause, log_refusal}
 use Rattle.location_run.specs.Limits.{width, most_played}
 use Rattle.location_run.specs.Playing.{IsNotOpened}
-
--- a call that only reads leaves what recovers
-pub keeps-stays-cells : (w : ℕ) (a b : Drive) → KeepsLaws a → Stays a b → KeepsCells w a b
-keeps-stays-cells w a b laws stays bytes cells told now = leaves-stays a b (Recovers w cells) laws now stays
 
 pub keeps-cells-after : (w : ℕ) (a b c : Drive) → KeepsLaws a → Stays a b → KeepsCells w b c → KeepsCells w a c
 keeps-cells-after w a b c laws stays keeps bytes cells told now =
     leaves-trans a b c (Recovers w cells) (leaves-stays a b (Recovers w cells) laws now stays)
     (keeps bytes cells (stays.bytes ∙ told) (λ x left. now x (stays.images x left)))
-
--- a file that is left as it was
-stays-untouched : (a b : Drive) → Stays a b → IsUntouched a b
-stays-untouched a b stays = record { bytes = stays.bytes; images = stays.images; since = λ t c le left. inl (stays.since t c left) }
 
 untouched-after : (a b c : Drive) → Stays a b → IsUntouched b c → IsUntouched a c
 untouched-after a b c stays left = record {
@@ -79,25 +70,6 @@ open-refused a b c why laws stays later same wrong exact whole keeps rose leaves
     named : (fault : OpenFault) → (Rose a.faults c.faults → ⊥) → (why ≡ fault) ⊎ IsFree b c why → (log_refusal why ≡ log_refusal fault) ⊎ (log_refusal why ≡ refusal.Memory)
     named fault calm (inl same) = inl (ap log_refusal same)
     named fault calm (inr free) = inr (free-memory a b c why later calm free)
-
--- a file that wasn't attached
-pub attach-refused : {T : Type 0} (name : List ℕ) (make : Bool) (a b : Drive) (result : Result T AttachFault) (fault : AttachFault) → result ≡ Err fault → KeepsLaws a → Stays a b → CountsAttach name make a b result → IsNotOpened a b (attach_refusal fault)
-attach-refused name make a b result attach_fault.Disk is laws stays counts = record {
-  cause = counts.failed is;
-  exact = λ bytes fault told shown at calm. absurd (calm (counts.failed is));
-  whole = λ good. absurd (good.calm (counts.failed is));
-  keeps = keeps-stays-cells 1 a b laws stays;
-  untouched = λ bytes told none. stays-untouched a b stays;
-  calm = λ other. absurd (other refl);
-}
-attach-refused name make a b result attach_fault.Memory is laws stays counts = record {
-  cause = tt;
-  exact = λ bytes fault told shown at calm. inr refl;
-  whole = λ good. refl;
-  keeps = keeps-stays-cells 1 a b laws stays;
-  untouched = λ bytes told none. stays-untouched a b stays;
-  calm = λ other. counts.memory is;
-}
 
 -- memory ran out once the log was open
 pub memory-refused : (a c : Drive) (why : Refusal) → why ≡ refusal.Memory → KeepsCells 1 a c → ((bytes : List ℕ) → a.bytes ≡ Some bytes → IsNoLog bytes → ⊥) → c.faults ≡ a.faults → IsNotOpened a c why

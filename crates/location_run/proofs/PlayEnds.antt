@@ -9,7 +9,6 @@ use Rattle.plain_list.specs.declared.entries.Entry.{Entry}
 use Rattle.plain_list.specs.State.{State, IsLegal, state_after}
 use Rattle.plain_list.specs.History.{world_after, failed_cell}
 use Rattle.index_layer.specs.Stands.{Stands}
-use Rattle.kept_log.specs.KeptView.{KeptView}
 use Rattle.kept_log.specs.Journal.{disk_in, KeepsIn}
 use Rattle.commit_book.specs.BookView.{BookView}
 use Rattle.commit_book.specs.IsBook.{IsBook}
@@ -35,15 +34,6 @@ use Rattle.location_run.specs.inside.Answered.{IsPlayedBook, IsAnsweredBook, Has
 use Rattle.location_run.specs.inside.Ended.{EndsBook}
 use Rattle.location_run.proofs.Ends.{no-lines}
 use Rattle.location_run.proofs.Objects.{played-world}
-
--- a log begins as itself
-pub begins-self : {D : Type 0} (drive : D → Drive) (log : Option (KeptView D)) → BeginsAs drive log log
-begins-self drive None = tt
-begins-self drive (Some log) = record {
-  stays = record { bytes = refl; images = λ c left. left; moment = refl; since = λ t c left. left; keeps = λ t c left. left; calls = λ all told. told };
-  calm = refl;
-  attached = λ file make at. at;
-}
 
 -- the status of a text that was written, or not
 pub ends-writing : {T E : Type 0} (text : List ℕ) (before after : Output) (result : Result T E) → Puts before.taken after.taken text result → Counts before.faults after.faults result → EndsWriting text (written_status result) before after

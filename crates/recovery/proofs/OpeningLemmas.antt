@@ -12,7 +12,7 @@ use Rattle.split_log.proofs.Cells.{length-log}
 use Rattle.split_log.proofs.Unique.{holds-same}
 use Rattle.recovery.specs.declared.seen.Seen.{Seen}
 use Rattle.log_state.specs.Recovers.{Recovers}
-use Rattle.recovery.specs.Opening.{KeepsCells, IsUntouched, IsReady}
+use Rattle.recovery.specs.Opening.{KeepsCells, IsReady}
 use Rattle.recovery.specs.Reading.{IsFoundIn}
 
 -- one stretch after another
@@ -29,22 +29,6 @@ leaves-stays a b P laws now stays = record {
   later = omega (arith, stays.moment);
   each = λ x left. now x (laws.only_now x (stays.since a.moment x left));
   before = λ t x le left. inl (stays.since t x left);
-}
-
--- a sync leaves the file untouched
-pub untouched-sync : {T : Type 0} (a b : Drive) (result : Result T DiskFault) → Syncs a b result → IsUntouched a b
-untouched-sync a b result syncs = record {
-  bytes = syncs.bytes;
-  images = syncs.crash;
-  since = λ t x le left. ⊎_elim (λ before. inl before) (λ now. inr (syncs.crash x now)) (syncs.time.nothing_else t x le left);
-}
-
--- and so do calls that only read
-pub untouched-stays : (a b c : Drive) → IsUntouched a b → Stays b c → IsUntouched a c
-untouched-stays a b c first stays = record {
-  bytes = stays.bytes ∙ first.bytes;
-  images = λ x left. first.images x (stays.images x left);
-  since = λ t x le left. first.since t x le (stays.since t x left);
 }
 
 -- a sync

@@ -75,18 +75,6 @@ walks most from number old now piece tail stop come stops = record {
   stops = subst (λ n. StopsAt most n tail stop) come.count stops;
 }
 
--- before the first cell
-pub comes_first : (most from : ℕ) (old : WalkView) (piece : List ℕ) → from ≤ most → 1 ≤ length piece → Comes most from from old old piece piece
-comes_first most from old piece few some = record {
-  cells = [];
-  passed = record { cells_fit = tt; legal = refl; parts = refl };
-  state = refl;
-  width = refl;
-  count = omega arith;
-  few = few;
-  some = some;
-}
-
 -- what is said of a fault is said of the one that is passed on
 pub passed_on : {T : Type 0} (result : Result T OpenFault) (fault : OpenFault) (P : OpenFault → Type 0) → IsErrAnd result (λ e. e ≡ fault) → P fault → IfErr result P
 passed_on (Ok x) fault P same holds = tt
