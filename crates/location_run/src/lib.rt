@@ -3,14 +3,12 @@
 //! Contracts see the history as a list of entries, the rows as those of all bytes that the source had left, the output as what the sink
 //! took, and the drive by its bytes and what a crash may leave of them. `run` promises that with status 0 the output is the line of each
 //! row, with its place in the one history and the answer that one plain list of objects gives there, which over a log begins with what
-//! the log says; that a crash at any moment leaves a log of a front of the changes (`crash`); what splits come to (`splits`); and which
-//! cause each other status has. Of made rows it promises the same, with three numbers of that list in place of the lines.
+//! the log says; that a crash at any moment leaves a log of a prefix of the changes (`crash`); what splits come to (`splits`); and which
+//! cause each other status has. Of made rows it promises the same, with three numbers of that list in place of the lines. Rows are
+//! played by lanes, one for each session, over one store.
 //!
-//! Rows are played by lanes, one for each session, over one store.
-//!
-//! Not here: which words ask for what (`command_words`), what a row is and how a line reads (`csv_rows`), which rows a seed makes
-//! (`make_moves`), the store and its lanes (`sessions`), what lanes come to (`lane_history`, `lane_splits`), the sum over an index
-//! (`world_sums`), how a log is opened (`recovery`), `main` (`mdloc`).
+//! Not here: what words ask for (`command_words`), rows and their lines (`csv_rows`), made rows (`make_moves`), the store and its lanes
+//! (`sessions`, `lane_history`, `lane_splits`), the sum over an index (`world_sums`), how a log is opened (`recovery`), `main` (`mdloc`).
 #![tactic(auto)]
 
 mod checking;
