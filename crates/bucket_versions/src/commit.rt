@@ -1,5 +1,7 @@
 //! The step that a change of an index waits for.
 ghost use Rattle.std.specs.Prelude.{◌≡◌, ⊤, IsTrue, IsFalse};
+use std::alloc::AllocError;
+use zorder::Memory;
 
 /// A step that may fail, as the append of a record. Who is handed one takes it when all memory is there, and before anything changes.
 pub trait Commit {
@@ -42,4 +44,24 @@ pub enum Undone {
     Lost,
     /// Memory ran out, and the step was not taken.
     Memory,
+}
+
+impl From<AllocError> for Undone {
+    ghost use Rattle.bucket_versions.specs.declared.commit.Undone.TheVariants.{Memory};
+
+    ghost from_gives = { λ _ undone. undone ≡ Memory };
+
+    fn from(_: AllocError) -> Undone {
+        Undone::Memory
+    }
+}
+
+impl From<Memory> for Undone {
+    ghost use Rattle.bucket_versions.specs.declared.commit.Undone.TheVariants.{Memory};
+
+    ghost from_gives = { λ _ undone. undone ≡ Memory };
+
+    fn from(_: Memory) -> Undone {
+        Undone::Memory
+    }
 }

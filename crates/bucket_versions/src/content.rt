@@ -194,9 +194,7 @@ impl Content {
         ensures err { OnErr result (kept self.new ≡ kept self.old) }
         ensures told { Told C.done C.lost commit.old commit.new result }
     {
-        let Ok(()) = self.make_ready(alloc, change.keeps_base) else {
-            return Err(Undone::Memory);
-        };
+        self.make_ready(alloc, change.keeps_base)?;
         if let Err(undone) = own_rows::turn_one(&mut self.list, change.row, commit) {
             return Err(undone);
         }
@@ -219,9 +217,7 @@ impl Content {
         ensures err { OnErr result (kept self.new ≡ kept self.old) }
         ensures told { Told C.done C.lost commit.old commit.new result }
     {
-        let Ok(()) = self.make_ready(alloc, to.keeps_base) else {
-            return Err(Undone::Memory);
-        };
+        self.make_ready(alloc, to.keeps_base)?;
         if let Err(undone) = own_rows::turn_two(&mut self.list, from, to.row, commit) {
             return Err(undone);
         }
@@ -248,9 +244,7 @@ impl Content {
         ensures other_err { OnErr result (arc_value other.new ≡ arc_value other.old) }
         ensures told { Told C.done C.lost commit.old commit.new result }
     {
-        let Ok(()) = self.make_ready(alloc, from.keeps_base) else {
-            return Err(Undone::Memory);
-        };
+        self.make_ready(alloc, from.keeps_base)?;
         if let Err(undone) = own_rows::hand_over(&mut self.list, from.row, other, to, commit) {
             return Err(undone);
         }

@@ -75,15 +75,11 @@ impl MemDisk {
     ) -> Result<MemDisk, Memory>
         ensures { IfOk result (λ d. d ≡ record { plan = record { failing = failing.items; numbers = no_calls; left = calls }; first = bytes.items; changes = []; room = room; faults = 0 }) }
     {
-        let plan = Plan::new(failing, calls);
-        match RecordedFile::new(alloc, bytes, room, calls) {
-            Ok(file) => Ok(MemDisk {
-                plan,
-                file,
-                faults: 0,
-            }),
-            Err(_) => Err(Memory),
-        }
+        Ok(MemDisk {
+            plan: Plan::new(failing, calls),
+            file: RecordedFile::new(alloc, bytes, room, calls)?,
+            faults: 0,
+        })
     }
 
     /// The clock: how many calls have changed or synced the file, failed ones included.

@@ -42,20 +42,15 @@ impl Index for FlatIndex {
 
     fn whole(alloc: Global, bucket: Arc<Bucket>) -> Result<Self, Memory> {
         let mut leaves = Vec::new(alloc);
-        match leaves.push(FlatLeaf::new(Name::whole(), bucket)) {
-            Ok(()) => Ok(FlatIndex { alloc, leaves }),
-            Err(_) => Err(Memory),
-        }
+        leaves.push(FlatLeaf::new(Name::whole(), bucket))?;
+        Ok(FlatIndex { alloc, leaves })
     }
 
     fn share(&self) -> Result<Self, Memory> {
-        match front_of(self.alloc, &self.leaves, self.leaves.len(), 0) {
-            Ok(leaves) => Ok(FlatIndex {
-                alloc: self.alloc,
-                leaves,
-            }),
-            Err(_) => Err(Memory),
-        }
+        Ok(FlatIndex {
+            alloc: self.alloc,
+            leaves: front_of(self.alloc, &self.leaves, self.leaves.len(), 0)?,
+        })
     }
 
     fn leaf_of(&self, key: u64) -> (Name, &Arc<Bucket>) {
@@ -93,31 +88,21 @@ impl Index for FlatIndex {
         let Some(place) = place_named(&self.leaves, name) else {
             return Err(IndexFault::NoLeaf { name: *name });
         };
-        match with_leaf(
-            self.alloc,
-            &self.leaves,
-            place,
-            FlatLeaf::new(*name, bucket),
-        ) {
-            Ok(leaves) => Ok(FlatIndex {
-                alloc: self.alloc,
-                leaves,
-            }),
-            Err(_) => Err(IndexFault::Memory),
-        }
+        let leaf = FlatLeaf::new(*name, bucket);
+        Ok(FlatIndex {
+            alloc: self.alloc,
+            leaves: with_leaf(self.alloc, &self.leaves, place, leaf)?,
+        })
     }
 
     fn split(&self, name: &Name, children: &[Arc<Bucket>]) -> Result<Self, IndexFault> {
         let Some(place) = place_named(&self.leaves, name) else {
             return Err(IndexFault::NoLeaf { name: *name });
         };
-        match with_children(self.alloc, &self.leaves, place, name, children) {
-            Ok(leaves) => Ok(FlatIndex {
-                alloc: self.alloc,
-                leaves,
-            }),
-            Err(_) => Err(IndexFault::Memory),
-        }
+        Ok(FlatIndex {
+            alloc: self.alloc,
+            leaves: with_children(self.alloc, &self.leaves, place, name, children)?,
+        })
     }
 }
 

@@ -18,9 +18,7 @@ pub fn build<I: Index>(alloc: Global, world: &World, leaves: &[Name]) -> Result<
     ensures stands { IfOk result (λ index. Stands (I.leaves index) world.now leaves.now) }
     ensures folded { IfOk result (λ index. AllByRecursion IsFolded (I.leaves index)) }
 {
-    let Ok(rows) = rows_of(alloc, world) else {
-        return Err(Memory);
-    };
+    let rows = rows_of(alloc, world)?;
     let whole = Name::whole();
     let index = I::whole(alloc, bucket_under(alloc, &rows, &whole)?)?;
     let growing = grow(alloc, Growing { index, done: 0 }, &whole, &rows, leaves)?;

@@ -18,10 +18,7 @@ pub(crate) fn bucket_under(alloc: Global, rows: &[Row], name: &Name) -> Result<A
 {
     let (lo, hi) = key_range(name);
     let bucket = Bucket::from_rows(alloc, between(rows, lo, hi))?;
-    match Arc::new(alloc, bucket) {
-        Ok(bucket) => Ok(bucket),
-        Err(_) => Err(Memory),
-    }
+    Ok(Arc::new(alloc, bucket)?)
 }
 
 /// Such a bucket for each child of a name, in key order.
@@ -39,9 +36,7 @@ pub(crate) fn buckets_under(
     let mut buckets = Vec::new(alloc);
     for place in 0..1 << width {
         let bucket = bucket_under(alloc, rows, &child_at(name, width, place))?;
-        let Ok(()) = buckets.push(bucket) else {
-            return Err(Memory);
-        };
+        buckets.push(bucket)?;
     }
     Ok(buckets)
 }

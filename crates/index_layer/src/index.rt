@@ -9,7 +9,7 @@ ghost use Rattle.index_layer.specs.RowChanges.{ChangesAt, Moves, Holds};
 ghost use Rattle.bucket_versions.specs.Rows.{after_put, after_gone};
 
 use bucket_versions::{Bucket, Commit, RowChange, Undone};
-use std::alloc::Global;
+use std::alloc::{AllocError, Global};
 use std::sync::Arc;
 use zorder::{Memory, Name};
 
@@ -47,6 +47,16 @@ pub enum IndexFault {
     },
     /// Memory ran out.
     Memory,
+}
+
+impl From<AllocError> for IndexFault {
+    ghost use Rattle.index_layer.specs.declared.index.IndexFault.TheVariants.{Memory};
+
+    ghost from_gives = { λ _ fault. fault ≡ Memory };
+
+    fn from(_: AllocError) -> IndexFault {
+        IndexFault::Memory
+    }
 }
 
 /// Leaves whose names tile the key space, each with a bucket of rows under its name.
@@ -229,9 +239,7 @@ pub trait Index: Sized + Drop {
         ensures err { OnErr result (leaves self.new ≡ leaves self.old) }
         ensures told { Told C.done C.lost commit.old commit.new result }
     {
-        let Ok(index) = self.with_row(put) else {
-            return Err(Undone::Memory);
-        };
+        let index = self.with_row(put)?;
         if !commit.commit() {
             return Err(Undone::Lost);
         }
@@ -247,9 +255,7 @@ pub trait Index: Sized + Drop {
         ensures err { OnErr result (leaves self.new ≡ leaves self.old) }
         ensures told { Told C.done C.lost commit.old commit.new result }
     {
-        let Ok(index) = self.without_row(gone) else {
-            return Err(Undone::Memory);
-        };
+        let index = self.without_row(gone)?;
         if !commit.commit() {
             return Err(Undone::Lost);
         }
@@ -271,12 +277,8 @@ pub trait Index: Sized + Drop {
         ensures err { OnErr result (leaves self.new ≡ leaves self.old) }
         ensures told { Told C.done C.lost commit.old commit.new result }
     {
-        let Ok(between) = self.without_row(from) else {
-            return Err(Undone::Memory);
-        };
-        let Ok(index) = between.with_row(to) else {
-            return Err(Undone::Memory);
-        };
+        let between = self.without_row(from)?;
+        let index = between.with_row(to)?;
         if !commit.commit() {
             return Err(Undone::Lost);
         }

@@ -33,14 +33,11 @@ impl MemSink {
     pub fn new(alloc: Global, room: usize, failing: Vec<u64>) -> Result<MemSink, Memory>
         ensures { IfOk result (λ s. s ≡ record { taken = []; room = room; plan = planned failing.items }) }
     {
-        match Vec::with_capacity(alloc, room) {
-            Ok(bytes) => Ok(MemSink {
-                bytes,
-                room,
-                plan: Plan::new(failing),
-            }),
-            Err(_) => Err(Memory),
-        }
+        Ok(MemSink {
+            bytes: Vec::with_capacity(alloc, room)?,
+            room,
+            plan: Plan::new(failing),
+        })
     }
 
     /// What it took so far.

@@ -49,18 +49,13 @@ fn buffer(alloc: Global) -> Result<Vec<u8>, ReadFault>
     ensures room { IfOk result (λ v. 0 < length v.items) }
     ensures memory { IsOkUnless result ReadFault.Memory }
 {
-    match vec![in alloc; 0u8; PIECE] {
-        Ok(piece) => Ok(piece),
-        Err(_) => Err(ReadFault::Memory),
-    }
+    Ok(vec![in alloc; 0u8; PIECE]?)
 }
 
 fn keep(all: &mut Vec<u8>, piece: &[u8]) -> Result<(), ReadFault>
     ensures items { OnOk result (all.new.items ≡ all.old.items ++ piece.now) }
     ensures memory { IsOkUnless result ReadFault.Memory }
 {
-    match all.extend_from_slice(piece) {
-        Ok(()) => Ok(()),
-        Err(_) => Err(ReadFault::Memory),
-    }
+    all.extend_from_slice(piece)?;
+    Ok(())
 }

@@ -1,8 +1,10 @@
 //! Where bytes come from.
-ghost use Rattle.std.specs.Prelude.{◌≤◌, IfOk, length};
+ghost use Rattle.std.specs.Prelude.{◌≡◌, ◌≤◌, IfOk, length};
 ghost use Rattle.std.specs.Io.KnownBytes.{ReadConsumes};
 ghost use Rattle.causes.specs.Causes.{Counts};
 ghost use Rattle.io_edge.specs.Streams.{Input};
+
+use std::alloc::AllocError;
 
 /// A read failed, and took nothing.
 #[derive(Clone, Copy, Debug, PartialEq, Eq)]
@@ -17,6 +19,16 @@ pub enum ReadFault {
     TooLong,
     /// Memory ran out.
     Memory,
+}
+
+impl From<AllocError> for ReadFault {
+    ghost use Rattle.io_edge.specs.declared.source.ReadFault.TheVariants.{Memory};
+
+    ghost from_gives = { λ _ fault. fault ≡ Memory };
+
+    fn from(_: AllocError) -> ReadFault {
+        ReadFault::Memory
+    }
 }
 
 /// Where bytes come from, a piece at a time.

@@ -38,9 +38,7 @@ pub fn prepare(alloc: Global, ticket: &SplitTicket, width: u8) -> Result<Prepare
     ensures rows { IfOk result (λ p. HaveRowsUnder (children width ticket.now.name) (arc_value ticket.now.bucket).base p.children) }
 {
     let children = cut_rows(alloc, ticket.bucket.base_rows(), &ticket.name, width)?;
-    let Ok(bucket) = Arc::try_clone(&ticket.bucket) else {
-        return Err(Memory);
-    };
+    let bucket = Arc::try_clone(&ticket.bucket)?;
     Ok(Prepared {
         number: ticket.number,
         name: ticket.name,
@@ -60,9 +58,7 @@ fn cut_rows(alloc: Global, rows: &[Row], name: &Name, width: u8) -> Result<Vec<B
     for place in 0..1_usize << width {
         let (lo, hi) = key_range(&child_at(name, width, place));
         let bucket = Bucket::from_rows(alloc, between(rows, lo, hi))?;
-        let Ok(()) = buckets.push(bucket) else {
-            return Err(Memory);
-        };
+        buckets.push(bucket)?;
     }
     Ok(buckets)
 }

@@ -1,5 +1,4 @@
-use Rattle.std.proofs.Common.{◌≡◌, ◌∙◌, List, ap, sym, subst, rules}
-use Rattle.bucket_versions.specs.declared.row.Row.{Row}
+use Rattle.std.proofs.Common.{◌≡◌, ◌∙◌, ap, sym, subst, rules}
 use Rattle.bucket_versions.specs.Rows.{IsRows, rows_between, as_base}
 use Rattle.bucket_versions.specs.Delta.{difference}
 use Rattle.bucket_versions.proofs.RowSets.{difference-between, IsRows-difference}

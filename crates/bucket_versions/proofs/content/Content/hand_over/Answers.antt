@@ -11,5 +11,5 @@ returns-clause-ok g c =
     let row = c.args.from.row in
     let ready = c.make_ready.new.self in
     ap kept c.settle.ensures
-    ∙ ready_turned keeps ready.base ready.list.items c.hand_over.new.rows.items row c.make_ready.ensures.in_order c.in-Ok.ensures.ok c.in_default-hand_over.ensures.ok.0
+    ∙ ready_turned keeps ready.base ready.list.items c.hand_over.new.rows.items row c.make_ready.ensures.in_order c.in_ok-make_ready.ensures.ok c.in_default.ensures.ok.0
     ∙ ap (λ v. rows_over keeps (turn row v.rows) v) c.make_ready.ensures.same

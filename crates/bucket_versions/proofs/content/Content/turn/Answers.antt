@@ -11,5 +11,5 @@ returns-clause-ok g c =
     let row = c.args.change.row in
     let ready = c.make_ready.new.self in
     ap kept c.settle.ensures
-    ∙ ready_turned keeps ready.base ready.list.items c.turn_one.new.rows.items row c.make_ready.ensures.in_order c.in-Ok.ensures.ok c.in_default-turn_one.ensures.ok
+    ∙ ready_turned keeps ready.base ready.list.items c.turn_one.new.rows.items row c.make_ready.ensures.in_order c.in_ok-make_ready.ensures.ok c.in_default.ensures.ok
     ∙ ap (λ v. rows_over keeps (turn row v.rows) v) c.make_ready.ensures.same

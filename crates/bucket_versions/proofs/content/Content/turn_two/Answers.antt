@@ -12,5 +12,5 @@ returns-clause-ok g c =
     let to = c.args.to.row in
     let ready = c.make_ready.new.self in
     ap kept c.settle.ensures
-    ∙ ready_twice keeps ready.base ready.list.items c.turn_two.new.rows.items from to c.make_ready.ensures.in_order c.in-Ok.ensures.ok c.in_default-turn_two.ensures.ok
+    ∙ ready_twice keeps ready.base ready.list.items c.turn_two.new.rows.items from to c.make_ready.ensures.in_order c.in_ok-make_ready.ensures.ok c.in_default.ensures.ok
     ∙ ap (λ v. rows_over keeps (turn to (turn from v.rows)) v) c.make_ready.ensures.same
