@@ -18,8 +18,6 @@ mod deltas;
 mod own_rows;
 mod places;
 mod row;
-#[cfg(test)]
-mod tests;
 mod walk;
 
 pub use bucket::{Bucket, BucketFault, pass, put, shift, take};

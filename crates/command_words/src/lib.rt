@@ -11,8 +11,6 @@ mod boxes;
 mod files;
 mod parsing;
 mod plays;
-#[cfg(test)]
-mod tests;
 mod trials;
 
 pub use parsing::{Command, command_in};

@@ -21,8 +21,6 @@ mod read;
 mod records;
 mod row_lines;
 mod rows;
-#[cfg(test)]
-mod tests;
 
 pub use gathering::Gathered;
 pub use lines::{refusal_line, write_line, write_title};

@@ -11,7 +11,5 @@ mod disk;
 mod moves;
 mod opening;
 mod sending;
-#[cfg(test)]
-mod tests;
 
 pub use disk::FileDisk;

@@ -14,8 +14,6 @@ mod images;
 mod plans;
 mod recorded;
 mod scans;
-#[cfg(test)]
-mod tests;
 mod touches;
 
 pub use disk::{MemDisk, PickFault};

@@ -17,8 +17,6 @@ mod sink;
 mod source;
 mod std_sink;
 mod std_source;
-#[cfg(test)]
-mod tests;
 
 pub use gate::{Gate, GatePoint, OpenGate};
 pub use mem_sink::MemSink;

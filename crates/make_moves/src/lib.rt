@@ -9,7 +9,5 @@
 
 mod draws;
 mod moves;
-#[cfg(test)]
-mod tests;
 
 pub use moves::make;

@@ -10,8 +10,6 @@
 mod boxes;
 mod distances;
 mod regions;
-#[cfg(test)]
-mod tests;
 
 pub use boxes::{inside, meets};
 pub use distances::{dist, least};

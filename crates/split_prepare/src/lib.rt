@@ -9,8 +9,6 @@
 
 mod cuts;
 mod prepared;
-#[cfg(test)]
-mod tests;
 mod ticket;
 
 pub use cuts::{child_at, prepare};

@@ -1,5 +1,5 @@
 //! Worked calls on one list, and boxes at the limit of what is listed.
-use crate::{
+use plain_list::{
     Answer, Call, Entries, Entry, Op, PlacedList, World, after, answer, find_id, is_box, is_legal,
     ranking_is_in_order,
 };

@@ -1,7 +1,7 @@
 //! The format's worked spellings, and what spells nothing.
 ghost use Rattle.std.specs.Prelude.{◌≤◌, length};
 
-use crate::{Cell, CellFault, decode, encode, header};
+use cell_format::{Cell, CellFault, decode, encode, header};
 use zorder::{Name, Point};
 
 /// These bytes, and zeros behind them.

@@ -1,6 +1,6 @@
 ghost use Rattle.std.specs.Prelude.{None};
 
-use crate::{
+use csv_rows::{
     InRow, Refusal, Rows, RowsFault, number_in, read_rows, refusal_line, write_line, write_rows,
     write_title,
 };

@@ -1,5 +1,5 @@
 //! Words that are accepted, and words that aren't.
-use crate::{Command, Made, command_in};
+use command_words::{Command, Made, command_in};
 use std::alloc::Global;
 use std::test::Fail;
 use zorder::{Point, Region};

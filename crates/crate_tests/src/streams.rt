@@ -1,5 +1,5 @@
 //! Reads and puts on the happy path, failing in mid-stream, and over short reads and writes.
-use crate::{
+use io_edge::{
     MemSink, MemSource, ReadFault, Sink, SinkFault, Source, SourceFault, StdSink, StdSource,
     read_all,
 };

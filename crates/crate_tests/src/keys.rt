@@ -1,5 +1,5 @@
 //! Worked values, and the fast forms beside plain loops over the bits.
-use super::{Name, Point, begins, child, common, key, point};
+use zorder::{Name, Point, begins, child, common, key, point};
 
 // The same bits one by one.
 fn key_by_loop(at: Point) -> u64 {

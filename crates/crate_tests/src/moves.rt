@@ -1,5 +1,5 @@
 //! The first rows of some seeds.
-use crate::make;
+use make_moves::make;
 use csv_rows::InRow;
 use plain_list::Op;
 use std::test::Fail;

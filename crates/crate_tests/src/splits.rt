@@ -3,7 +3,7 @@ ghost use Rattle.std.specs.Prelude.{◌≡◌, [], IfOk};
 ghost use Rattle.std.specs.Arc.{arc_value};
 ghost use Rattle.bucket_versions.specs.Under.{AreUnder};
 
-use crate::{Prepared, SplitTicket, prepare};
+use split_prepare::{Prepared, SplitTicket, prepare};
 use bucket_versions::{Bucket, Row};
 use std::alloc::Global;
 use std::sync::Arc;

@@ -1,5 +1,5 @@
 //! A drive over a real file of the temporary folder.
-use crate::FileDisk;
+use disk_file::FileDisk;
 use disk_trait::{AttachFault, DiskFault, LogDisk};
 use std::alloc::Global;
 use std::path::PathBuf;

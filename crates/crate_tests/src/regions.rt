@@ -2,7 +2,7 @@
 ghost use Rattle.std.specs.Prelude.{◌≤◌};
 ghost use Rattle.zorder.specs.Region.{IsBox};
 
-use super::{dist, inside, key_range, least, meets, region};
+use prefix_names::{dist, inside, key_range, least, meets, region};
 use zorder::{Name, Point, Region};
 
 const END: u32 = 4294967295;

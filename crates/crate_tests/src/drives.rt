@@ -1,7 +1,7 @@
 //! What a drive in memory leaves, picked by length and fill, and where it fails.
 ghost use Rattle.std.specs.Prelude.{◌≤◌, ◌^◌, length};
 
-use crate::{DiskCall, Fail as Failing, MemDisk, PickFault};
+use disk_mem::{DiskCall, Fail as Failing, MemDisk, PickFault};
 use disk_trait::{AttachFault, DiskFault, LogDisk};
 use std::alloc::Global;
 use std::process::Abort;

@@ -1,7 +1,7 @@
 //! Worked values of a bucket's calls.
 ghost use Rattle.std.specs.Prelude.{◌≡◌, [], ◌∷◌};
 
-use crate::{Bucket, BucketFault, Row};
+use bucket_versions::{Bucket, BucketFault, Row};
 use std::alloc::{AllocError, Global};
 use std::marker::Brand;
 use std::sync::ledger::{Blank, Ledger};
