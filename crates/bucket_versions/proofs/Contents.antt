@@ -1,13 +1,13 @@
 -- A list of rows and a base, through a change that keeps the base or doesn't.
-use Rattle.std.proofs.Common.{◌≡◌, ◌∙◌, Bool, true, false, List, [], ◌∷◌, length, refl, ap, sym}
+use Rattle.std.proofs.Common.{◌≡◌, ◌∙◌, Bool, true, false, List, [], ap, sym}
 use mathlib.Core.Bool.{true≢false}
 use Rattle.std.specs.Arc.{arc_value}
 use Rattle.bucket_versions.specs.declared.row.Row.{Row}
 use Rattle.bucket_versions.specs.declared.content.Base.{Base}
 use Rattle.bucket_versions.specs.declared.content.Base.TheVariants.{Own, Beside, Below}
-use Rattle.bucket_versions.specs.Rows.{Rows, IsRows, AreRows, as_base, rows_over}
+use Rattle.bucket_versions.specs.Rows.{IsRows, AreRows, as_base, rows_over}
 use Rattle.bucket_versions.specs.Delta.{AreParts, delta_len, difference, turn}
-use Rattle.bucket_versions.specs.Content.{base_in, is_listed, is_own, kept_in, IsReady, settled}
+use Rattle.bucket_versions.specs.Content.{base_in, is_listed, kept_in, IsReady, settled}
 use Rattle.bucket_versions.proofs.RowSets.{AreRows-now, IsRows-turn, difference-turn, difference-none, length-delta}
 
 -- a row is turned in the list

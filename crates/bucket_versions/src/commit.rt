@@ -1,5 +1,6 @@
 //! The step that a change of an index waits for.
 ghost use Rattle.std.specs.Prelude.{◌≡◌, ⊤, IsTrue, IsFalse};
+
 use std::alloc::AllocError;
 use zorder::Memory;
 

@@ -1,10 +1,10 @@
 ghost use Rattle.std.specs.Prelude.{None};
 
+use cell_format::Cause;
 use csv_rows::{
     InRow, Refusal, Rows, RowsFault, number_in, read_rows, refusal_line, write_line, write_rows,
     write_title,
 };
-use cell_format::Cause;
 use io_edge::{Sink, SinkFault};
 use plain_list::{Answer, Op, PlacedList};
 use std::alloc::Global;

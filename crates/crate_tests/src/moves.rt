@@ -1,6 +1,6 @@
 //! The first rows of some seeds.
-use make_moves::make;
 use csv_rows::InRow;
+use make_moves::make;
 use plain_list::Op;
 use std::test::Fail;
 use zorder::Point;

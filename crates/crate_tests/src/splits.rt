@@ -3,8 +3,8 @@ ghost use Rattle.std.specs.Prelude.{◌≡◌, [], IfOk};
 ghost use Rattle.std.specs.Arc.{arc_value};
 ghost use Rattle.bucket_versions.specs.Under.{AreUnder};
 
-use split_prepare::{Prepared, SplitTicket, prepare};
 use bucket_versions::{Bucket, Row};
+use split_prepare::{Prepared, SplitTicket, prepare};
 use std::alloc::Global;
 use std::sync::Arc;
 use std::test::*;
