@@ -1,3 +1,4 @@
+//! Rows that are read, and lines that are written.
 ghost use Rattle.std.specs.Prelude.{None};
 
 use cell_format::Cause;
