@@ -53,6 +53,34 @@ fn two_at_once<R: Threads + Wait + Sync>(
     );
 }
 
+// Four callers at once.
+fn all_at_once<R: Threads + Wait + Sync>(
+    rt: &R,
+    alloc: Global,
+    taxis: &Taxis,
+    one: &mut Caller,
+    two: &mut Caller,
+    three: &mut Caller,
+    four: &mut Caller,
+)
+    requires first { IsFree taxis.now one.old.pass × IsFree taxis.now two.old.pass }
+    requires others { IsFree taxis.now three.old.pass × IsFree taxis.now four.old.pass }
+    ensures first { KeepsPass one.old.pass one.new.pass × KeepsPass two.old.pass two.new.pass }
+    ensures others { KeepsPass three.old.pass three.new.pass × KeepsPass four.old.pass four.new.pass }
+{
+    join_mut(
+        rt,
+        &mut ||
+            requires { IsSync R.row × IsFree taxis.now one.now.pass × IsFree taxis.now two.now.pass }
+            ensures { KeepsPass one.entry.now.pass one.exit.now.pass × KeepsPass two.entry.now.pass two.exit.now.pass }
+        { two_at_once(rt, alloc, taxis, one, two) },
+        &mut ||
+            requires { IsSync R.row × IsFree taxis.now three.now.pass × IsFree taxis.now four.now.pass }
+            ensures { KeepsPass three.entry.now.pass three.exit.now.pass × KeepsPass four.entry.now.pass four.exit.now.pass }
+        { two_at_once(rt, alloc, taxis, three, four) },
+    );
+}
+
 /// A day over an empty store: three drivers and the dispatcher at once, and then the dispatcher's last question.
 pub fn play_day<R: Threads + Wait + Sync, L: Ledger>(
     rt: &R,
@@ -79,17 +107,7 @@ pub fn play_day<R: Threads + Wait + Sync, L: Ledger>(
     let mut two = Caller::new(2, taxis.split_pass(&mut pass));
     let mut three = Caller::new(3, taxis.split_pass(&mut pass));
     let mut four = Caller::new(DISPATCHER, taxis.split_pass(&mut pass));
-    join_mut(
-        rt,
-        &mut ||
-            requires { IsSync R.row × IsFree taxis one.pass × IsFree taxis two.pass }
-            ensures { KeepsPass one.entry.pass one.exit.pass × KeepsPass two.entry.pass two.exit.pass }
-        { two_at_once(rt, alloc, &taxis, &mut one, &mut two) },
-        &mut ||
-            requires { IsSync R.row × IsFree taxis three.pass × IsFree taxis four.pass }
-            ensures { KeepsPass three.entry.pass three.exit.pass × KeepsPass four.entry.pass four.exit.pass }
-        { two_at_once(rt, alloc, &taxis, &mut three, &mut four) },
-    );
+    all_at_once(rt, alloc, &taxis, &mut one, &mut two, &mut three, &mut four);
     // From here on the dispatcher has seen what the first driver did.
     taxis.meet(&mut one.pass, &mut four.pass);
     let near = Op::Near { at, k: 3 };
