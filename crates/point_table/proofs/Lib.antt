@@ -17,3 +17,4 @@ pub mod Splitting
 pub mod Standing
 pub mod StandingLess
 pub mod TableSteps
+pub mod Uncrowded

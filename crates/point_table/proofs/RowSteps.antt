@@ -17,8 +17,12 @@ use Rattle.zorder.specs.Tile.{tiles_from}
 use Rattle.index_layer.proofs.LeafChanges.{names_of-replaced}
 use Rattle.index_layer.proofs.MovedRows.{leaf_under-replaced, with_bucket-name}
 use Rattle.index_layer.proofs.FoundLeaves.{found_named}
+use Rattle.index_layer.proofs.LeafNames.{find-among, one-leaf}
+use Rattle.zorder.proofs.Places.{key_of-lt}
+use Rattle.point_table.proofs.Uncrowded.{left_names}
 use Rattle.point_table.proofs.Standing.{found_has}
 use Rattle.std.proofs.lemmas.Bool.{eq-eqb}
+use mathlib.Core.Bool.{true≢false}
 use Rattle.plain_list.proofs.Members.{place_of-without}
 use Rattle.point_table.proofs.CrowdLemmas.{crowded_of-replaced}
 use Rattle.std.proofs.lemmas.Bool.Decides.{nat_tests}
@@ -26,7 +30,7 @@ use Rattle.std.proofs.lemmas.Grind.{common_steps}
 use Rattle.plain_list.specs.World.{IsWorld, IsRising, place_of}
 use Rattle.plain_list.specs.Answer.{with_member, with_moved, without}
 use Rattle.plain_list.proofs.MemberMaps.{with_moved-absent, IsAbove-lower}
-use Rattle.point_table.specs.Crowds.{crowded_of, mark_under}
+use Rattle.point_table.specs.Crowds.{crowded_of, mark_under, left_under, marked_two}
 use Rattle.point_table.proofs.Settled.{settled_then}
 use Rattle.point_table.proofs.TableSteps.{Steps, put_steps, gone_steps, as_leaf, with_member-without}
 
@@ -62,12 +66,14 @@ module _ (w size : ℕ) (splits : List OpenSplit) (keeps : Bool) (old new : List
       record { rows = steps.rows; crowded = marks _ (leaf_after key row old new change) ∙ steps.crowded; bases = steps.bases; settled = steps.settled }
 
   pub gone_after : (id : ℕ) (at : Point) → place_of world id ≡ Some at → (change : ChangesAt (key_of at) (after_gone (change_of id at keeps)) old new) → KeepsAt splits old (key_of at) keeps
-      → ((l : Leaf) → leaf_under (key_of at) new ≡ Some l → after ≡ mark_under w size l names) → Steps w size splits old new (without id world) after
+      → ((l : Leaf) → leaf_under (key_of at) new ≡ Some l → after ≡ left_under w size l names) → Steps w size splits old new (without id world) after
   gone_after id at there change keeps_is marks =
       let key = key_of at in
-      let row = after_gone (change_of id at keeps) in
+      let gone = change_of id at keeps in
+      let row = after_gone gone in
       let steps = gone_steps w size splits keeps old new world id at _ _ names are.tile rows there (as_leaf w size key row old new change) was (keeps_is change.leaf change.found) in
-      record { rows = steps.rows; crowded = marks _ (leaf_after key row old new change) ∙ steps.crowded; bases = steps.bases; settled = steps.settled }
+      let left = left_names w size key gone change.leaf old names was change.found in
+      record { rows = steps.rows; crowded = marks _ (leaf_after key row old new change) ∙ left ∙ steps.crowded; bases = steps.bases; settled = steps.settled }
 
 -- putting a bucket under a name twice is putting the last one
 same_bucket : (name : List Bool) (a b : Rows) (l : Leaf) → with_bucket name b (with_bucket name a l) ≡ with_bucket name b l
@@ -106,16 +112,23 @@ twice w size n a b old new names is tile has had was =
     ∙ sym (crowded_of-replaced w size 0 n b (replaced n b old) tile_after had)
     ∙ ap (crowded_of w size) (replaced-twice n b b old ∙ sym (replaced-twice n a b old) ∙ sym is)
 
-pub move_after : (w size : ℕ) (splits : List OpenSplit) (from_keeps to_keeps : Bool) (old new : List Leaf) (world : List Placed) (names mid after : List (List Bool)) → AreLeaves old → AllByRecursion (HasRowsOf world) old → names ≡ crowded_of w size old
+-- a leaf that was changed twice is marked once
+once : (w size : ℕ) (n : List Bool) (a b : Rows) (old new : List Leaf) (names : List (List Bool)) → new ≡ replaced n b (replaced n a old) → tiles_from 0 (names_of old) ≡ true → has_name n old ≡ true
+    → names ≡ crowded_of w size old → mark_under w size (record { name = n; bucket = b }) names ≡ crowded_of w size new
+once w size n a b old new names is tile has was =
+    ap (mark_under w size (record { name = n; bucket = b })) was
+    ∙ sym (crowded_of-replaced w size 0 n b old tile has)
+    ∙ ap (crowded_of w size) (sym (replaced-twice n a b old) ∙ sym is)
+
+pub move_after : (w size : ℕ) (splits : List OpenSplit) (from_keeps to_keeps : Bool) (old new : List Leaf) (world : List Placed) (names after : List (List Bool)) → AreLeaves old → AllByRecursion (HasRowsOf world) old → names ≡ crowded_of w size old
     → IsWorld world → (id : ℕ) (from at : Point) → place_of world id ≡ Some from
     → (moves : Moves (change_of id from from_keeps) (change_of id at to_keeps) old new) → KeepsAt splits old (key_of from) from_keeps → KeepsAt splits old (key_of at) to_keeps
-    → ((l : Leaf) → leaf_under (key_of from) new ≡ Some l → mid ≡ mark_under w size l names)
-    → ((l : Leaf) → leaf_under (key_of at) new ≡ Some l → after ≡ mark_under w size l mid)
+    → ((l m : Leaf) → leaf_under (key_of from) new ≡ Some l → leaf_under (key_of at) new ≡ Some m → after ≡ marked_two w size (key_of from) l m names)
     → Steps w size splits old new (with_moved id at world) after
-move_after w size splits from_keeps to_keeps old new world names mid after are rows was is_world id from at there moves from_is_open to_is_open first second =
+move_after w size splits from_keeps to_keeps old new world names after are rows was is_world id from at there moves from_is_open to_is_open marks =
     record {
       rows = subst (λ (ms : List Placed). AllByRecursion (HasRowsOf ms) new) (with_member-without id from at world is_world there) put.rows;
-      crowded = second _ (leaf_after (key_of at) put_it between new moves.puts) ∙ ap (mark_under w size to) (first _ from_is) ∙ by_name (same_name here.name to.name) refl;
+      crowded = marks _ _ from_is to_is ∙ by_under (is_under to.name (key_of from)) refl;
       bases = put.bases ∙ gone.bases;
       settled = settled_then splits old between new gone.settled put.settled;
     }
@@ -166,6 +179,9 @@ move_after w size splits from_keeps to_keeps old new world names mid after are r
         ap (leaf_under (key_of from)) moves.puts.leaves ∙ leaf_under-replaced (key_of from) to.name to.bucket between
         ∙ ap (option_map (with_bucket to.name to.bucket)) (leaf_after (key_of from) take_it old between moves.takes)
 
+    to_is : leaf_under (key_of at) new ≡ Some to
+    to_is = leaf_after (key_of at) put_it between new moves.puts
+
     has : has_name here.name old ≡ true
     has = (found_named (key_of from) old moves.takes.leaf moves.takes.found).0
 
@@ -181,6 +197,35 @@ move_after w size splits from_keeps to_keeps old new world names mid after are r
         ∙ twice w size here.name here.bucket to.bucket old new names
         (moves.puts.leaves ∙ (λ i. replaced (sym one i) to.bucket (moves.takes.leaves i))) are.tile has had was
     by_name false is = put.crowded
+
+    tile_new : tiles_from 0 (names_of new) ≡ true
+    tile_new = ap (λ (ls : List Leaf). tiles_from 0 (names_of ls)) moves.puts.leaves ∙ ap (tiles_from 0) (names_of-replaced to.name to.bucket between) ∙ tile
+
+    from_leaf : Leaf
+    from_leaf = with_bucket to.name to.bucket here
+
+    one_name : is_under to.name (key_of from) ≡ true → here.name ≡ to.name
+    one_name under =
+        let at_from = find-among (λ (l : Leaf). is_under l.name (key_of from)) new from_leaf from_is in
+        let at_to = find-among (λ (l : Leaf). is_under l.name (key_of at)) new to to_is in
+        sym (with_bucket-name to.name to.bucket here) ∙ ap (λ (l : Leaf). l.name) (one-leaf new from_leaf to (key_of from) tile_new (key_of-lt from) at_from.0 at_to.0 at_from.1 under)
+
+    by_under : (u : Bool) → is_under to.name (key_of from) ≡ u → mark_under w size to (cond u names (left_under w size from_leaf names)) ≡ crowded_of w size new
+    by_under true under =
+        let one : here.name ≡ to.name = one_name under in
+        ap (λ (n : List Bool). mark_under w size (record { name = n; bucket = to.bucket }) names) (sym one)
+        ∙ once w size here.name here.bucket to.bucket old new names
+        (moves.puts.leaves ∙ (λ i. replaced (sym one i) to.bucket (moves.takes.leaves i))) are.tile has was
+    by_under false other =
+        ap (mark_under w size to) (by_same (same_name here.name to.name) refl) ∙ by_name (same_name here.name to.name) refl
+      where
+        from_under : same_name here.name to.name ≡ true → is_under to.name (key_of from) ≡ true
+        from_under is = ap (λ n. is_under n (key_of from)) (sym ((same_name-decides here.name to.name).0 is)) ∙ (found_named (key_of from) old moves.takes.leaf moves.takes.found).1
+
+        by_same : (t : Bool) → same_name here.name to.name ≡ t
+            → left_under w size (cond t (record { name = here.name; bucket = to.bucket }) here) names ≡ mark_under w size (cond t (record { name = here.name; bucket = to.bucket }) here) names
+        by_same true is = absurd (true≢false (sym (from_under is) ∙ other))
+        by_same false is = left_names w size (key_of from) (change_of id from from_keeps) moves.takes.leaf old names was moves.takes.found
 
 -- a row of an object that is elsewhere isn't in its leaf
 pub row_elsewhere : (world : List Placed) (leaves : List Leaf) (id : ℕ) (from at : Point) → AllByRecursion (HasRowsOf world) leaves → place_of world id ≡ Some from → (key_of from == key_of at) ≡ false

@@ -1,5 +1,6 @@
 -- The leaves that have more rows than the size, and bits left to split them.
-use Rattle.std.specs.Prelude.{ℕ, ◌+◌, nat_le, nat_lt, Bool, ◌&&◌, List, [], ◌∷◌, length, if◌then◌else◌}
+use Rattle.std.specs.Prelude.{ℕ, ◌+◌, nat_le, nat_lt, Bool, ◌==◌, ◌&&◌, List, [], ◌∷◌, length, if◌then◌else◌}
+use Rattle.zorder.specs.Key.{is_under}
 use Rattle.index_layer.specs.Leaves.{Leaf}
 use Rattle.point_table.specs.Crowded.{marked, remarked}
 
@@ -20,3 +21,11 @@ marked_later w size (l ∷ leaves) names = if is_crowded w size l then marked l.
 -- the names with that of a leaf put in its place where it is to be split, or taken out
 abbrev pub mark_under : ℕ → ℕ → Leaf → List (List Bool) → List (List Bool)
 mark_under w size l names = remarked (is_crowded w size l) l.name names
+
+-- the names once a row has left a leaf: where none is to be split, that one isn't either
+abbrev pub left_under : ℕ → ℕ → Leaf → List (List Bool) → List (List Bool)
+left_under w size l names = if length names == 0 then names else mark_under w size l names
+
+-- the names once a row has left one leaf and come to another; where the key that it had is under the other, both are one
+abbrev pub marked_two : ℕ → ℕ → ℕ → Leaf → Leaf → List (List Bool) → List (List Bool)
+marked_two w size from l m names = mark_under w size m (if is_under m.name from then names else left_under w size l names)

@@ -1,5 +1,5 @@
 //! The leaves that are to be split, in the order of their keys.
-ghost use Rattle.std.specs.Prelude.{◌≡◌, ◌+◌, ◌-◌, ◌<◌, ◌≤◌, ◌^◌, [], OnOk, OnErr, length, vec_len, vec_capacity};
+ghost use Rattle.std.specs.Prelude.{◌≡◌, ◌==◌, ◌+◌, ◌-◌, ◌<◌, ◌≤◌, ◌^◌, [], OnOk, OnErr, length, vec_len, vec_capacity};
 ghost use Rattle.std.specs.List.{find, insert, list_any};
 ghost use Rattle.zorder.specs.Name.{first_key};
 ghost use Rattle.zorder.specs.SameName.{same_name};
@@ -62,6 +62,13 @@ impl Crowded {
         ensures { result ≡ record { names = names.items; room = 0 } }
     {
         Crowded { names, room: 0 }
+    }
+
+    /// Whether there are no names.
+    pub(crate) fn is_empty(&self) -> bool
+        ensures { result ≡ (length self.now.names == 0) }
+    {
+        self.names.is_empty()
     }
 
     /// The first name in the order of keys that has no open split.

@@ -12,7 +12,7 @@ ghost use Rattle.split_prepare.specs.Cut.{cut};
 ghost use Rattle.index_layer.specs.Leaves.{Leaf, AreLeaves, names_of, has_name, leaf_named, leaf_under};
 ghost use Rattle.index_layer.specs.Stands.{HasRowsOf};
 ghost use Rattle.point_table.specs.Crowded.{remarked};
-ghost use Rattle.point_table.specs.Crowds.{mark_under};
+ghost use Rattle.point_table.specs.Crowds.{mark_under, left_under, marked_two};
 ghost use Rattle.point_table.specs.Splits.{splits_of};
 ghost use Rattle.point_table.specs.Updates.{IsUpdate, Changes, Updates, TellsIf};
 
@@ -27,7 +27,7 @@ use plain_list::{Answer, MOST_MEMBERS, Op};
 use std::alloc::Global;
 use std::marker::Model;
 use std::sync::Arc;
-use zorder::{Memory, Name, Point, coordinates_fit, key};
+use zorder::{Memory, Name, Point, begins, coordinates_fit, key};
 
 /// Objects, by their ids and by their keys.
 #[derive(Drop)]
@@ -276,8 +276,7 @@ impl<I: Index> PointTable<I> {
         }
         coordinates_fit(at);
         self.members.replace(id, old, at);
-        mark(&mut self.crowded, &self.index, self.size, from.key);
-        mark(&mut self.crowded, &self.index, self.size, to.key);
+        mark_two(&mut self.crowded, &self.index, self.size, from.key, to.key);
         Ok(())
     }
 
@@ -304,7 +303,7 @@ impl<I: Index> PointTable<I> {
             return Err(undone);
         }
         self.members.remove(id);
-        mark(&mut self.crowded, &self.index, self.size, row.key);
+        mark_left(&mut self.crowded, &self.index, self.size, row.key);
         Ok(())
     }
 
@@ -371,5 +370,29 @@ fn mark<I: Index>(crowded: &mut Crowded, index: &I, size: u32, key: u64)
 {
     let (name, bucket) = index.leaf_of(key);
     let is_crowded = is_over(size, I::WIDTH, &name, bucket);
+    crowded.set(&name, is_crowded);
+}
+
+// The same for a leaf that a row has left. Where no leaf is to be split that one isn't either, and isn't looked for.
+fn mark_left<I: Index>(crowded: &mut Crowded, index: &I, size: u32, key: u64)
+    requires { 0 < crowded.old.room }
+    ensures names { (l : Leaf) → leaf_under key (I.leaves index.now) ≡ Some l → crowded.new.names ≡ left_under I.WIDTH size l crowded.old.names }
+    ensures room { crowded.old.room ≤ crowded.new.room + 1 }
+{
+    if !crowded.is_empty() {
+        mark(crowded, index, size, key);
+    }
+}
+
+// The same for the leaf that a row has left, and then for that to which it has come: once where both are one.
+fn mark_two<I: Index>(crowded: &mut Crowded, index: &I, size: u32, from: u64, to: u64)
+    requires { 2 ≤ crowded.old.room }
+    ensures { (l m : Leaf) → leaf_under from (I.leaves index.now) ≡ Some l → leaf_under to (I.leaves index.now) ≡ Some m → crowded.new.names ≡ marked_two I.WIDTH size from l m crowded.old.names }
+{
+    let (name, bucket) = index.leaf_of(to);
+    let is_crowded = is_over(size, I::WIDTH, &name, bucket);
+    if !begins(&name, from) {
+        mark_left(crowded, index, size, from);
+    }
     crowded.set(&name, is_crowded);
 }

@@ -44,11 +44,10 @@ invariant_of-self-2 g c =
     let moves = rw (c.change-gone.ensures.row, c.change-put.ensures.row, from, to) at c.in_default-move_row.ensures.ok in
     let from_keeps = rw from at c.change-gone.ensures.keeps in
     let to_keeps = rw to at c.change-put.ensures.keeps in
-    let first = rw (from, c.in-Ok.ensures.names) at c.mark.ensures.names in
-    let second = rw to at c.mark-2.ensures.names in
+    let marks = rw (from, to, c.in-Ok.ensures.names) at c.mark_two.ensures in
     let it =
-    move_after g.I.Index.WIDTH inside.size (splits_of c.args.begun.now) c.change-gone.result.keeps_base c.change-put.result.keeps_base (g.I.Index.leaves inside.index) (g.I.Index.leaves c.move_row.new.self) inside.members.world inside.crowded.names c.mark.new.crowded.names c.mark-2.new.crowded.names
-    (g.met.I.Index.are_leaves inside.index) c.self.invariant.rows c.self.invariant.crowded c.self.invariant.world id c.args.old c.args.at there moves from_keeps to_keeps first second in
+    move_after g.I.Index.WIDTH inside.size (splits_of c.args.begun.now) c.change-gone.result.keeps_base c.change-put.result.keeps_base (g.I.Index.leaves inside.index) (g.I.Index.leaves c.move_row.new.self) inside.members.world inside.crowded.names c.mark_two.new.crowded.names
+    (g.met.I.Index.are_leaves inside.index) c.self.invariant.rows c.self.invariant.crowded c.self.invariant.world id c.args.old c.args.at there moves from_keeps to_keeps marks in
     let members : c.replace.new.self.world ≡ with_moved id c.args.at inside.members.world = ap (λ (v : MembersView). v.world) c.replace.ensures in
     record {
       world = subst IsWorld (sym members) (IsWorld-with_moved id c.args.at inside.members.world c.self.invariant.world c.coordinates_fit.ensures);
@@ -66,10 +65,9 @@ returns-clause-ok g c =
     let moves = rw (c.change-gone.ensures.row, c.change-put.ensures.row, from, to) at c.in_default-move_row.ensures.ok in
     let from_keeps = rw from at c.change-gone.ensures.keeps in
     let to_keeps = rw to at c.change-put.ensures.keeps in
-    let first = rw (from, c.in-Ok.ensures.names) at c.mark.ensures.names in
-    let second = rw to at c.mark-2.ensures.names in
+    let marks = rw (from, to, c.in-Ok.ensures.names) at c.mark_two.ensures in
     let it =
-    move_after g.I.Index.WIDTH inside.size (splits_of c.args.begun.now) c.change-gone.result.keeps_base c.change-put.result.keeps_base (g.I.Index.leaves inside.index) (g.I.Index.leaves c.move_row.new.self) inside.members.world inside.crowded.names c.mark.new.crowded.names c.mark-2.new.crowded.names
-    (g.met.I.Index.are_leaves inside.index) c.self.invariant.rows c.self.invariant.crowded c.self.invariant.world id c.args.old c.args.at there moves from_keeps to_keeps first second in
+    move_after g.I.Index.WIDTH inside.size (splits_of c.args.begun.now) c.change-gone.result.keeps_base c.change-put.result.keeps_base (g.I.Index.leaves inside.index) (g.I.Index.leaves c.move_row.new.self) inside.members.world inside.crowded.names c.mark_two.new.crowded.names
+    (g.met.I.Index.are_leaves inside.index) c.self.invariant.rows c.self.invariant.crowded c.self.invariant.world id c.args.old c.args.at there moves from_keeps to_keeps marks in
     let members : c.replace.new.self.world ≡ with_moved id c.args.at inside.members.world = ap (λ (v : MembersView). v.world) c.replace.ensures in
     rw (← c.self.view_is) (record { world = members; bases = it.bases; settled = it.settled; size = refl })

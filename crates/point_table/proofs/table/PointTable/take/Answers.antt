@@ -25,9 +25,9 @@ invariant_of-self-2 g c =
     let fact : place_of inside.members.world id ≡ Some c.args.old = rw (← c.self.view_is) at c.requires.there in
     let change = rw (c.change-gone.ensures.row, key) at c.in_default-take_row.ensures.ok in
     let keeps = rw key at c.change-gone.ensures.keeps in
-    let marks = rw (key, c.in-Ok.ensures.names) at c.mark.ensures.names in
+    let marks = rw (key, c.in-Ok.ensures.names) at c.mark_left.ensures.names in
     let it =
-    gone_after w inside.size (splits_of c.args.begun.now) c.change-gone.result.keeps_base (g.I.Index.leaves inside.index) (g.I.Index.leaves c.take_row.new.self) inside.members.world inside.crowded.names c.mark.new.crowded.names
+    gone_after w inside.size (splits_of c.args.begun.now) c.change-gone.result.keeps_base (g.I.Index.leaves inside.index) (g.I.Index.leaves c.take_row.new.self) inside.members.world inside.crowded.names c.mark_left.new.crowded.names
     (g.met.I.Index.are_leaves inside.index) c.self.invariant.rows c.self.invariant.crowded id c.args.old fact change keeps marks in
     let members : c.remove.new.self.world ≡ without id inside.members.world = c.remove.ensures in
     record {
@@ -45,9 +45,9 @@ returns-clause-ok g c =
     let fact : place_of inside.members.world id ≡ Some c.args.old = rw (← c.self.view_is) at c.requires.there in
     let change = rw (c.change-gone.ensures.row, key) at c.in_default-take_row.ensures.ok in
     let keeps = rw key at c.change-gone.ensures.keeps in
-    let marks = rw (key, c.in-Ok.ensures.names) at c.mark.ensures.names in
+    let marks = rw (key, c.in-Ok.ensures.names) at c.mark_left.ensures.names in
     let it =
-    gone_after w inside.size (splits_of c.args.begun.now) c.change-gone.result.keeps_base (g.I.Index.leaves inside.index) (g.I.Index.leaves c.take_row.new.self) inside.members.world inside.crowded.names c.mark.new.crowded.names
+    gone_after w inside.size (splits_of c.args.begun.now) c.change-gone.result.keeps_base (g.I.Index.leaves inside.index) (g.I.Index.leaves c.take_row.new.self) inside.members.world inside.crowded.names c.mark_left.new.crowded.names
     (g.met.I.Index.are_leaves inside.index) c.self.invariant.rows c.self.invariant.crowded id c.args.old fact change keeps marks in
     let members : c.remove.new.self.world ≡ without id inside.members.world = c.remove.ensures in
     rw (← c.self.view_is) (record { world = members; bases = it.bases; settled = it.settled; size = refl })
