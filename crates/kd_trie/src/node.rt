@@ -58,12 +58,23 @@ pub(crate) fn own(alloc: Global, pair: &mut Arc<Pair>) -> Result<(), Memory>
     ensures zero { seen (arc_value pair.new).zero ≡ seen (arc_value pair.old).zero }
     ensures one { seen (arc_value pair.new).one ≡ seen (arc_value pair.old).one }
 {
-    if Arc::strong_count(pair) != 1 {
-        let Ok(mine) = pair.copied(alloc) else {
-            return Err(Memory);
-        };
-        *pair = mine;
+    if Arc::strong_count(pair) == 1 {
+        Ok(())
+    } else {
+        copy(alloc, pair)
     }
+}
+
+// Puts a copy in the place of a pair. It stays out of the loops down the trie, which seldom need it.
+#[inline(never)]
+fn copy(alloc: Global, pair: &mut Arc<Pair>) -> Result<(), Memory>
+    ensures zero { seen (arc_value pair.new).zero ≡ seen (arc_value pair.old).zero }
+    ensures one { seen (arc_value pair.new).one ≡ seen (arc_value pair.old).one }
+{
+    let Ok(mine) = pair.copied(alloc) else {
+        return Err(Memory);
+    };
+    *pair = mine;
     Ok(())
 }
 

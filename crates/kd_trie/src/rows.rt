@@ -16,20 +16,20 @@ use std::sync::Arc;
 pub(crate) fn put_row<C: Commit>(
     alloc: Global,
     node: &mut Node,
-    change: RowChange,
+    change: &RowChange,
     left: u8,
     commit: &mut C,
 ) -> Result<(), Undone>
     requires can { C.can commit.old }
     requires height { height (seen node.old) ≤ left }
     requires most { left ≤ 64 }
-    requires absent { has_row change.row (rows_at (low_bits left change.row.key) (seen node.old)) ≡ false }
-    ensures ok { OnOk result (seen node.new ≡ changed_at (low_bits left change.row.key) (after_put change) (seen node.old)) }
+    requires absent { has_row change.now.row (rows_at (low_bits left change.now.row.key) (seen node.old)) ≡ false }
+    ensures ok { OnOk result (seen node.new ≡ changed_at (low_bits left change.now.row.key) (after_put change.now) (seen node.old)) }
     ensures err { OnErr result (seen node.new ≡ seen node.old) }
     ensures told { Told C.done C.lost commit.old commit.new result }
 {
     match node {
-        Node::Leaf(leaf) => put(leaf, change, commit),
+        Node::Leaf(leaf) => put(leaf, *change, commit),
         Node::Inner(pair) => {
             let Ok(()) = own(alloc, pair) else {
                 return Err(Undone::Memory);
@@ -50,20 +50,20 @@ pub(crate) fn put_row<C: Commit>(
 pub(crate) fn take_row<C: Commit>(
     alloc: Global,
     node: &mut Node,
-    change: RowChange,
+    change: &RowChange,
     left: u8,
     commit: &mut C,
 ) -> Result<(), Undone>
     requires can { C.can commit.old }
     requires height { height (seen node.old) ≤ left }
     requires most { left ≤ 64 }
-    requires present { has_row change.row (rows_at (low_bits left change.row.key) (seen node.old)) ≡ true }
-    ensures ok { OnOk result (seen node.new ≡ changed_at (low_bits left change.row.key) (after_gone change) (seen node.old)) }
+    requires present { has_row change.now.row (rows_at (low_bits left change.now.row.key) (seen node.old)) ≡ true }
+    ensures ok { OnOk result (seen node.new ≡ changed_at (low_bits left change.now.row.key) (after_gone change.now) (seen node.old)) }
     ensures err { OnErr result (seen node.new ≡ seen node.old) }
     ensures told { Told C.done C.lost commit.old commit.new result }
 {
     match node {
-        Node::Leaf(leaf) => take(leaf, change, commit),
+        Node::Leaf(leaf) => take(leaf, *change, commit),
         Node::Inner(pair) => {
             let Ok(()) = own(alloc, pair) else {
                 return Err(Undone::Memory);
@@ -84,22 +84,22 @@ pub(crate) fn take_row<C: Commit>(
 pub(crate) fn shift_row<C: Commit>(
     alloc: Global,
     node: &mut Node,
-    from: RowChange,
-    to: RowChange,
+    from: &RowChange,
+    to: &RowChange,
     left: u8,
     commit: &mut C,
 ) -> Result<(), Undone>
     requires can { C.can commit.old }
     requires height { height (seen node.old) ≤ left }
     requires most { left ≤ 64 }
-    requires present { has_row from.row (rows_at (low_bits left from.row.key) (seen node.old)) ≡ true }
-    requires absent { has_row to.row (rows_at (low_bits left to.row.key) (changed_at (low_bits left from.row.key) (after_gone from) (seen node.old))) ≡ false }
-    ensures ok { OnOk result (seen node.new ≡ changed_at (low_bits left to.row.key) (after_put to) (changed_at (low_bits left from.row.key) (after_gone from) (seen node.old))) }
+    requires present { has_row from.now.row (rows_at (low_bits left from.now.row.key) (seen node.old)) ≡ true }
+    requires absent { has_row to.now.row (rows_at (low_bits left to.now.row.key) (changed_at (low_bits left from.now.row.key) (after_gone from.now) (seen node.old))) ≡ false }
+    ensures ok { OnOk result (seen node.new ≡ changed_at (low_bits left to.now.row.key) (after_put to.now) (changed_at (low_bits left from.now.row.key) (after_gone from.now) (seen node.old))) }
     ensures err { OnErr result (seen node.new ≡ seen node.old) }
     ensures told { Told C.done C.lost commit.old commit.new result }
 {
     match node {
-        Node::Leaf(leaf) => shift(leaf, from, to, commit),
+        Node::Leaf(leaf) => shift(leaf, *from, *to, commit),
         Node::Inner(pair) => {
             let Ok(()) = own(alloc, pair) else {
                 return Err(Undone::Memory);
@@ -128,10 +128,10 @@ pub(crate) fn shift_row<C: Commit>(
 fn pass_row<C: Commit>(
     alloc: Global,
     node: &mut Node,
-    from: RowChange,
+    from: &RowChange,
     left: u8,
     other: &mut Node,
-    to: RowChange,
+    to: &RowChange,
     other_left: u8,
     commit: &mut C,
 ) -> Result<(), Undone>
@@ -140,10 +140,10 @@ fn pass_row<C: Commit>(
     requires most { left ≤ 64 }
     requires other_height { height (seen other.old) ≤ other_left }
     requires other_most { other_left ≤ 64 }
-    requires present { has_row from.row (rows_at (low_bits left from.row.key) (seen node.old)) ≡ true }
-    requires absent { has_row to.row (rows_at (low_bits other_left to.row.key) (seen other.old)) ≡ false }
-    ensures ok { OnOk result (seen node.new ≡ changed_at (low_bits left from.row.key) (after_gone from) (seen node.old)) }
-    ensures other { OnOk result (seen other.new ≡ changed_at (low_bits other_left to.row.key) (after_put to) (seen other.old)) }
+    requires present { has_row from.now.row (rows_at (low_bits left from.now.row.key) (seen node.old)) ≡ true }
+    requires absent { has_row to.now.row (rows_at (low_bits other_left to.now.row.key) (seen other.old)) ≡ false }
+    ensures ok { OnOk result (seen node.new ≡ changed_at (low_bits left from.now.row.key) (after_gone from.now) (seen node.old)) }
+    ensures other { OnOk result (seen other.new ≡ changed_at (low_bits other_left to.now.row.key) (after_put to.now) (seen other.old)) }
     ensures err { OnErr result (seen node.new ≡ seen node.old) }
     ensures other_err { OnErr result (seen other.new ≡ seen other.old) }
     ensures told { Told C.done C.lost commit.old commit.new result }
@@ -188,25 +188,25 @@ fn pass_row<C: Commit>(
 fn pass_on<C: Commit>(
     alloc: Global,
     leaf: &mut Arc<Bucket>,
-    from: RowChange,
+    from: &RowChange,
     node: &mut Node,
-    to: RowChange,
+    to: &RowChange,
     left: u8,
     commit: &mut C,
 ) -> Result<(), Undone>
     requires can { C.can commit.old }
     requires height { height (seen node.old) ≤ left }
     requires most { left ≤ 64 }
-    requires present { has_row from.row (arc_value leaf.old).rows ≡ true }
-    requires absent { has_row to.row (rows_at (low_bits left to.row.key) (seen node.old)) ≡ false }
-    ensures leaf { OnOk result (arc_value leaf.new ≡ after_gone from (arc_value leaf.old)) }
-    ensures ok { OnOk result (seen node.new ≡ changed_at (low_bits left to.row.key) (after_put to) (seen node.old)) }
+    requires present { has_row from.now.row (arc_value leaf.old).rows ≡ true }
+    requires absent { has_row to.now.row (rows_at (low_bits left to.now.row.key) (seen node.old)) ≡ false }
+    ensures leaf { OnOk result (arc_value leaf.new ≡ after_gone from.now (arc_value leaf.old)) }
+    ensures ok { OnOk result (seen node.new ≡ changed_at (low_bits left to.now.row.key) (after_put to.now) (seen node.old)) }
     ensures leaf_err { OnErr result (arc_value leaf.new ≡ arc_value leaf.old) }
     ensures err { OnErr result (seen node.new ≡ seen node.old) }
     ensures told { Told C.done C.lost commit.old commit.new result }
 {
     match node {
-        Node::Leaf(other) => pass(leaf, from, other, to, commit),
+        Node::Leaf(other) => pass(leaf, *from, other, *to, commit),
         Node::Inner(pair) => {
             let Ok(()) = own(alloc, pair) else {
                 return Err(Undone::Memory);

@@ -190,12 +190,12 @@ impl Index for KdTrie {
 
     fn put_row<C: Commit>(&mut self, put: RowChange, commit: &mut C) -> Result<(), Undone> {
         in_range(put.row.key);
-        rows::put_row(self.alloc, &mut self.root, put, 64, commit)
+        rows::put_row(self.alloc, &mut self.root, &put, 64, commit)
     }
 
     fn take_row<C: Commit>(&mut self, gone: RowChange, commit: &mut C) -> Result<(), Undone> {
         in_range(gone.row.key);
-        rows::take_row(self.alloc, &mut self.root, gone, 64, commit)
+        rows::take_row(self.alloc, &mut self.root, &gone, 64, commit)
     }
 
     fn move_row<C: Commit>(
@@ -206,7 +206,7 @@ impl Index for KdTrie {
     ) -> Result<(), Undone> {
         in_range(from.row.key);
         in_range(to.row.key);
-        rows::shift_row(self.alloc, &mut self.root, from, to, 64, commit)
+        rows::shift_row(self.alloc, &mut self.root, &from, &to, 64, commit)
     }
 }
 
