@@ -42,15 +42,20 @@ impl Index for FlatIndex {
 
     fn whole(alloc: Global, bucket: Arc<Bucket>) -> Result<Self, Memory> {
         let mut leaves = Vec::new(alloc);
-        leaves.push(FlatLeaf::new(Name::whole(), bucket))?;
-        Ok(FlatIndex { alloc, leaves })
+        match leaves.push(FlatLeaf::new(Name::whole(), bucket)) {
+            Ok(()) => Ok(FlatIndex { alloc, leaves }),
+            Err(_) => Err(Memory),
+        }
     }
 
     fn share(&self) -> Result<Self, Memory> {
-        Ok(FlatIndex {
-            alloc: self.alloc,
-            leaves: front_of(self.alloc, &self.leaves, self.leaves.len(), 0)?,
-        })
+        match front_of(self.alloc, &self.leaves, self.leaves.len(), 0) {
+            Ok(leaves) => Ok(FlatIndex {
+                alloc: self.alloc,
+                leaves,
+            }),
+            Err(_) => Err(Memory),
+        }
     }
 
     fn leaf_of(&self, key: u64) -> (Name, &Arc<Bucket>) {
@@ -88,21 +93,31 @@ impl Index for FlatIndex {
         let Some(place) = place_named(&self.leaves, name) else {
             return Err(IndexFault::NoLeaf { name: *name });
         };
-        let leaf = FlatLeaf::new(*name, bucket);
-        Ok(FlatIndex {
-            alloc: self.alloc,
-            leaves: with_leaf(self.alloc, &self.leaves, place, leaf)?,
-        })
+        match with_leaf(
+            self.alloc,
+            &self.leaves,
+            place,
+            FlatLeaf::new(*name, bucket),
+        ) {
+            Ok(leaves) => Ok(FlatIndex {
+                alloc: self.alloc,
+                leaves,
+            }),
+            Err(_) => Err(IndexFault::Memory),
+        }
     }
 
     fn split(&self, name: &Name, children: &[Arc<Bucket>]) -> Result<Self, IndexFault> {
         let Some(place) = place_named(&self.leaves, name) else {
             return Err(IndexFault::NoLeaf { name: *name });
         };
-        Ok(FlatIndex {
-            alloc: self.alloc,
-            leaves: with_children(self.alloc, &self.leaves, place, name, children)?,
-        })
+        match with_children(self.alloc, &self.leaves, place, name, children) {
+            Ok(leaves) => Ok(FlatIndex {
+                alloc: self.alloc,
+                leaves,
+            }),
+            Err(_) => Err(IndexFault::Memory),
+        }
     }
 }
 

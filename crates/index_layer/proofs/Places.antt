@@ -1,6 +1,6 @@
 -- What is below a name, by a leaf whose name begins with it.
-use Rattle.std.proofs.Common.{◌≡◌, ℕ, ◌+◌, ◌<◌, ◌≤◌, Bool, true, false, not, ◌&&◌, List, [], ◌∷◌, ◌++◌, length, Some, refl, sym, ap, subst, ◌∙◌, arith, leb, length-append}
-use Rattle.std.specs.List.{list_any, starts_with}
+use Rattle.std.proofs.Common.{◌≡◌, ℕ, ◌<◌, ◌≤◌, Bool, true, false, not, List, [], ◌∷◌, ◌++◌, length, Some, refl, sym, ap, subst, ◌∙◌, arith, leb, length-append}
+use Rattle.std.specs.List.{starts_with}
 use Rattle.std.specs.Cmp.{first_so, second_so}
 use Rattle.std.specs.Cmp.Derive.{both_true}
 use Rattle.std.proofs.lemmas.List.{append-nil}
@@ -14,7 +14,7 @@ use Rattle.index_layer.specs.Leaves.{Leaf, names_of, has_name, leaf_named}
 use Rattle.index_layer.specs.Part.{goes_on, is_inner}
 use Rattle.index_layer.specs.Below.{begins_some}
 use Rattle.index_layer.proofs.LeafKeys.{false_if, first_key-fits, first_key-under, leaf_under-some}
-use Rattle.index_layer.proofs.LeafNames.{IsFront, IsAmong, front-from_test, front-test, front-trans, front-length, under-fronts, under-front, any-among, among-any, find-among, leaf_under-among, leaf_named-first, short-among, one-leaf}
+use Rattle.index_layer.proofs.LeafNames.{IsFront, IsAmong, front-from_test, front-test, front-trans, under-fronts, under-front, any-among, among-any, find-among, leaf_under-among, leaf_named-first, short-among, one-leaf}
 
 not-true : (b : Bool) → not b ≡ true → b ≡ false
 not-true true e = sym e

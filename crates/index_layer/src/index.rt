@@ -9,7 +9,7 @@ ghost use Rattle.index_layer.specs.RowChanges.{ChangesAt, Moves, Holds};
 ghost use Rattle.bucket_versions.specs.Rows.{after_put, after_gone};
 
 use bucket_versions::{Bucket, Commit, RowChange, Undone};
-use std::alloc::{AllocError, Global};
+use std::alloc::Global;
 use std::sync::Arc;
 use zorder::{Memory, Name};
 
@@ -47,16 +47,6 @@ pub enum IndexFault {
     },
     /// Memory ran out.
     Memory,
-}
-
-impl From<AllocError> for IndexFault {
-    ghost use Rattle.index_layer.specs.declared.index.IndexFault.TheVariants.{Memory};
-
-    ghost from_gives = { λ _ fault. fault ≡ Memory };
-
-    fn from(_: AllocError) -> IndexFault {
-        IndexFault::Memory
-    }
 }
 
 /// Leaves whose names tile the key space, each with a bucket of rows under its name.
