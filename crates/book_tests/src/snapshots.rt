@@ -1,0 +1,41 @@
+//! Snapshots, which a book hands out and goes on.
+use crate::calls::{look, put};
+use commit_book::{Book, BookFault};
+use disk_mem::MemDisk;
+use disk_trait::LogDisk;
+use index_layer::Index;
+use kd_trie::KdTrie;
+use std::alloc::Global;
+use std::process::Abort;
+use std::test::Fail;
+
+// How many rows the leaf of (3,5) has.
+fn rows_there<I: Index>(index: &I) -> u64 {
+    index.leaf_of(27).1.count()
+}
+
+// A snapshot before a put, and one behind it.
+fn look_twice<I: Index, D: LogDisk>(book: &mut Book<I, D>) -> Result<[(u64, u64); 2], BookFault> {
+    put(book, 1, 7, 3, 5)?;
+    let seen = look(book, 2)?;
+    put(book, 3, 8, 4, 4)?;
+    let later = look(book, 4)?;
+    Ok([
+        (seen.place, rows_there(&seen.index)),
+        (later.place, rows_there(&later.index)),
+    ])
+}
+
+fn keeps_the_rows_of_a_snapshot<I: Index, D: LogDisk>(
+    rt: &impl Abort,
+    alloc: Global,
+) -> Result<(), Fail> {
+    let mut book = Book::<I, D>::fresh(alloc, 64)?;
+    assert_eq!(rt; look_twice(&mut book)?, [(2, 1), (4, 2)]);
+    Ok(())
+}
+
+#[test]
+fn a_snapshot_keeps_its_rows_while_the_book_goes_on(rt: HostRuntime) -> Result<(), Fail> {
+    keeps_the_rows_of_a_snapshot::<KdTrie, MemDisk>(&rt, rt.alloc())
+}

@@ -1,0 +1,49 @@
+//! Splits that a book refuses, and why.
+use crate::calls::{abandon, begin, begin_and_cut, has, install};
+use commit_book::{Book, BookFault};
+use disk_mem::MemDisk;
+use disk_trait::LogDisk;
+use index_layer::Index;
+use kd_trie::KdTrie;
+use std::alloc::Global;
+use std::process::Abort;
+use std::test::Fail;
+use zorder::{Name, child};
+
+fn refuses_by_the_first_cause<I: Index, D: LogDisk>(
+    rt: &impl Abort,
+    book: &mut Book<I, D>,
+) -> Result<(), Fail> {
+    let whole = Name::whole();
+    assert!(rt; begin(book, &child(&whole, false)).err() == Some(BookFault::NoLeaf));
+    assert_eq!(rt; begin(book, &whole)?, 1);
+    assert!(rt; begin(book, &whole).err() == Some(BookFault::Splitting { number: 1 }));
+    assert!(rt; abandon(book, 2).err() == Some(BookFault::NotOpen { number: 2 }));
+    abandon(book, 1)?;
+    assert!(rt; abandon(book, 1).err() == Some(BookFault::NotOpen { number: 1 }));
+    assert!(rt; has(book, 0, 2, None));
+    Ok(())
+}
+
+fn refuses_a_second_install<I: Index, D: LogDisk>(
+    rt: &impl Abort,
+    alloc: Global,
+    book: &mut Book<I, D>,
+) -> Result<(), Fail> {
+    let prepared = begin_and_cut(alloc, book, &Name::whole())?;
+    install(book, &prepared)?;
+    assert!(rt; install(book, &prepared).err() == Some(BookFault::Stale { number: 2 }));
+    assert!(rt; has(book, 0, 4, None));
+    Ok(())
+}
+
+fn refuses_splits<I: Index, D: LogDisk>(rt: &impl Abort, alloc: Global) -> Result<(), Fail> {
+    let mut book = Book::<I, D>::fresh(alloc, 4)?;
+    refuses_by_the_first_cause(rt, &mut book)?;
+    refuses_a_second_install(rt, alloc, &mut book)
+}
+
+#[test]
+fn a_split_is_refused_by_the_cause_that_comes_first(rt: HostRuntime) -> Result<(), Fail> {
+    refuses_splits::<KdTrie, MemDisk>(&rt, rt.alloc())
+}
