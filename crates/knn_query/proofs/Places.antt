@@ -1,8 +1,10 @@
 -- What is ahead, and its places.
-use Rattle.std.proofs.Common.{◌≡◌, ◌<◌, ℕ, zero, suc, Bool, List, [], ◌∷◌, ◌++◌, length, get_or, refl, sym, ap, subst, ◌∙◌, arith}
+use Rattle.std.proofs.Common.{◌≡◌, ◌<◌, ℕ, zero, suc, Bool, List, [], ◌∷◌, ◌++◌, length, take, drop, get_or, refl, sym, ap, subst, ◌∙◌, arith}
 use Rattle.std.specs.Prelude.{remove}
+use Rattle.std.specs.List.{insert}
+use Rattle.std.proofs.lemmas.List.{take-append-drop}
 use denote.Ref.{Bor}
-use Rattle.knn_query.specs.Ahead.{IsFirst, IsTaken, AreAt}
+use Rattle.knn_query.specs.Ahead.{IsOne, IsFirst, IsTaken, AreAt}
 use Rattle.knn_query.specs.declared.ahead.Ahead.{Ahead}
 
 -- an element between those before it and those behind it
@@ -24,6 +26,13 @@ pub first-of : (old new : List Ahead) (i : ℕ) (a : Ahead) → IsTaken old new 
 first-of old new i a t =
     let s = split old i a t.less t.is in
     (s.front, s.back, s.is, t.left ∙ s.left, t.low)
+
+pub one-of : (old new : List Ahead) (a : Ahead) → IsFirst old new a → IsOne old new a
+one-of old new a (front, back, is, left, low) = (front, back, is, left)
+
+-- one that was put in
+pub one-inserted : (old new : List Ahead) (i : ℕ) (a : Ahead) → new ≡ insert old i a → IsOne new old a
+one-inserted old new i a is = (take i old, drop i old, is, sym (take-append-drop i old))
 
 module _ {P : Type 0} (is_at : P → List Bool → Type 0) where
   pub length-at : (ahead : List Ahead) (places : List (Bor P)) → AreAt is_at ahead places → length ahead ≡ length places
@@ -48,11 +57,18 @@ module _ {P : Type 0} (is_at : P → List Bool → Type 0) where
   at-removed (a ∷ ahead) (p ∷ places) (suc i) are less = (are.0, at-removed ahead places i are.1 (omega (arith, less)))
 
   -- with one more
-  pub at-push : (ahead : List Ahead) (places : List (Bor P)) (a : Ahead) (p : Bor P) → AreAt is_at ahead places → is_at p.now a.name → AreAt is_at (ahead ++ a ∷ []) (places ++ p ∷ [])
-  at-push [] [] a p are at = (at, tt)
-  at-push [] (q ∷ places) a p are at = absurd are
-  at-push (b ∷ ahead) [] a p are at = absurd are
-  at-push (b ∷ ahead) (q ∷ places) a p are at = (are.0, at-push ahead places a p are.1 at)
+  at-inserted : (ahead : List Ahead) (places : List (Bor P)) (i : ℕ) (a : Ahead) (p : Bor P) → AreAt is_at ahead places → is_at p.now a.name → AreAt is_at (insert ahead i a) (insert places i p)
+  at-inserted [] [] zero a p are at = (at, tt)
+  at-inserted [] [] (suc i) a p are at = (at, tt)
+  at-inserted [] (q ∷ places) i a p are at = absurd are
+  at-inserted (b ∷ ahead) [] i a p are at = absurd are
+  at-inserted (b ∷ ahead) (q ∷ places) zero a p are at = (at, are)
+  at-inserted (b ∷ ahead) (q ∷ places) (suc i) a p are at = (are.0, at-inserted ahead places i a p are.1 at)
+
+  -- where one was put in
+  pub put-at : (old new : List Ahead) (places more : List (Bor P)) (i : ℕ) (a : Ahead) (p : Bor P) → AreAt is_at old places → is_at p.now a.name → new ≡ insert old i a → more ≡ insert places i p → AreAt is_at new more
+  put-at old new places more i a p are at is_new is_more =
+      subst (λ (xs : List Ahead). AreAt is_at xs more) (sym is_new) (subst (λ (ps : List (Bor P)). AreAt is_at (insert old i a) ps) (sym is_more) (at-inserted old places i a p are at))
 
   -- where the nearest was taken out
   pub left-at : (old new : List Ahead) (places rest : List (Bor P)) (i : ℕ) (a : Ahead) → AreAt is_at old places → IsTaken old new i a → rest ≡ remove places i → AreAt is_at new rest

@@ -4,9 +4,9 @@ use Rattle.std.specs.Prelude.{nat_lt}
 use Rattle.std.specs.List.{All, fold}
 use Rattle.std.specs.List.Sorted.{IsPermutation}
 use Rattle.std.proofs.lemmas.Grind.{flat_map-append}
-use Rattle.std.proofs.lemmas.List.{map-append, append-nil, get_or-take}
+use Rattle.std.proofs.lemmas.List.{map-append, get_or-take}
 use Rattle.std.proofs.lemmas.List.Elements.{All-nil, All-head, All-tail, All-append, filter-append}
-use Rattle.std.proofs.lemmas.List.Sorted.{All-permutation, IsPermutation-trans, IsPermutation-append_comm, IsPermutation-append_left, IsPermutation-append_right, sum_by-IsPermutation, sorted_far, length_permutation}
+use Rattle.std.proofs.lemmas.List.Sorted.{All-permutation, IsPermutation-sym, IsPermutation-trans, IsPermutation-append_comm, IsPermutation-append_left, IsPermutation-append_right, sum_by-IsPermutation, sorted_far, length_permutation}
 use Rattle.std.proofs.lemmas.List.Sums.{sum_by-cons, sum_by-append, sum_by-take-le}
 use Rattle.std.proofs.lemmas.Bool.Decides.{nat_tests}
 use Rattle.zorder.specs.declared.points.Point.{Point}
@@ -28,7 +28,7 @@ use Rattle.table_share.specs.Objects.{placed_of, objects_of}
 use Rattle.table_share.specs.KeysUnder.{AreKeysUnder, AreAllKeysUnder}
 use Rattle.table_share.specs.Subtree.{subtree, leaves_of}
 use Rattle.table_share.proofs.Subtrees.{begins}
-use Rattle.knn_query.specs.Ahead.{least_to, reach_of, number_nearer, IsAhead, IsFirst, leaves_ahead, objects_ahead, Searches}
+use Rattle.knn_query.specs.Ahead.{least_to, reach_of, number_nearer, IsAhead, IsOne, leaves_ahead, objects_ahead, Searches}
 use Rattle.knn_query.specs.Passes.{Keeps}
 use Rattle.knn_query.specs.declared.ahead.Ahead.{Ahead}
 use Rattle.knn_query.specs.declared.kept.Kept.{Kept}
@@ -167,8 +167,8 @@ module _ (leaves : List Leaf) where
   objects-cons a ys = of-append (subtree a.name leaves) (leaves_ahead leaves ys)
 
   -- the objects below the first come first
-  pub first-permutation : (old new : List Ahead) (a : Ahead) → IsFirst old new a → IsPermutation (objects_ahead leaves old) (below a.name ++ objects_ahead leaves new)
-  first-permutation old new a (front, back, is, left, low) =
+  pub first-permutation : (old new : List Ahead) (a : Ahead) → IsOne old new a → IsPermutation (objects_ahead leaves old) (below a.name ++ objects_ahead leaves new)
+  first-permutation old new a (front, back, is, left) =
       let one = objects_ahead leaves front in
       let two = objects_ahead leaves back in
       let parts : objects_ahead leaves old ≡ one ++ (below a.name ++ two) = ap (objects_ahead leaves) is ∙ objects-append front (a ∷ back) ∙ ap (λ ms. one ++ ms) (objects-cons a back) in
@@ -184,8 +184,8 @@ module _ (leaves : List Leaf) where
     number-append : (xs ys : List Leaf) → number (xs ++ ys) ≡ number xs + number ys
     number-append xs ys = ap length (filter-append (λ (l : Leaf). passes l.name) xs ys) ∙ length-append (leaves_of passes xs) (leaves_of passes ys)
 
-    pub first-number : (old new : List Ahead) (a : Ahead) → IsFirst old new a → number (leaves_ahead leaves old) ≡ number (subtree a.name leaves) + number (leaves_ahead leaves new)
-    first-number old new a (front, back, is, left, low) =
+    pub first-number : (old new : List Ahead) (a : Ahead) → IsOne old new a → number (leaves_ahead leaves old) ≡ number (subtree a.name leaves) + number (leaves_ahead leaves new)
+    first-number old new a (front, back, is, left) =
         omega (
           arith,
           ap (λ xs. number (leaves_ahead leaves xs)) is ∙ ap number (leaves-append front (a ∷ back)),
@@ -195,28 +195,25 @@ module _ (leaves : List Leaf) where
           number-append (leaves_ahead leaves front) (leaves_ahead leaves back),
         )
 
-    -- two more at the end
-    pub two-number : (xs : List Ahead) (a b : Ahead) → number (leaves_ahead leaves ((xs ++ a ∷ []) ++ b ∷ [])) ≡ number (leaves_ahead leaves xs) + number (subtree a.name leaves ++ subtree b.name leaves)
-    two-number xs a b =
-        omega (
-          arith,
-          ap number (leaves-append (xs ++ a ∷ []) (b ∷ [])),
-          number-append (leaves_ahead leaves (xs ++ a ∷ [])) (subtree b.name leaves ++ []),
-          ap number (leaves-append xs (a ∷ [])),
-          number-append (leaves_ahead leaves xs) (subtree a.name leaves ++ []),
-          ap number (append-nil (subtree a.name leaves)),
-          ap number (append-nil (subtree b.name leaves)),
-          number-append (subtree a.name leaves) (subtree b.name leaves),
-        )
+    -- two more
+    pub two-number : (old mid new : List Ahead) (a b : Ahead) → IsOne mid old a → IsOne new mid b → number (leaves_ahead leaves new) ≡ number (leaves_ahead leaves old) + number (subtree a.name leaves ++ subtree b.name leaves)
+    two-number old mid new a b one two = omega (arith, first-number mid old a one, first-number new mid b two, number-append (subtree a.name leaves) (subtree b.name leaves))
 
-  pub two-permutation : (xs : List Ahead) (a b : Ahead) (both : List Leaf) → both ≡ subtree a.name leaves ++ subtree b.name leaves
-      → IsPermutation (objects_of (all_rows both) ++ objects_ahead leaves xs) (objects_ahead leaves ((xs ++ a ∷ []) ++ b ∷ []))
-  two-permutation xs a b both is =
-      let rest = objects_ahead leaves xs in
-      let end : objects_ahead leaves ((xs ++ a ∷ []) ++ b ∷ []) ≡ rest ++ objects_of (all_rows both) =
-      ap (objects_ahead leaves) (append_assoc xs (a ∷ []) (b ∷ [])) ∙ objects-append xs (a ∷ b ∷ [])
-      ∙ ap (λ ls. rest ++ objects_of (all_rows ls)) (ap (λ l. subtree a.name leaves ++ l) (append-nil (subtree b.name leaves)) ∙ sym is) in
-      subst (λ (ms : List Placed). IsPermutation (objects_of (all_rows both) ++ rest) ms) (sym end) (IsPermutation-append_comm (objects_of (all_rows both)) rest)
+  pub two-permutation : (old mid new : List Ahead) (a b : Ahead) (both : List Leaf) → IsOne mid old a → IsOne new mid b → both ≡ subtree a.name leaves ++ subtree b.name leaves
+      → IsPermutation (objects_of (all_rows both) ++ objects_ahead leaves old) (objects_ahead leaves new)
+  two-permutation old mid new a b both one two is =
+      let rest = objects_ahead leaves old in
+      let parts : objects_of (all_rows both) ≡ below a.name ++ below b.name = ap (λ (ls : List Leaf). objects_of (all_rows ls)) is ∙ of-append (subtree a.name leaves) (subtree b.name leaves) in
+      let first : IsPermutation ((below a.name ++ below b.name) ++ rest) (below b.name ++ (below a.name ++ rest)) =
+      subst (IsPermutation ((below a.name ++ below b.name) ++ rest)) (append_assoc (below b.name) (below a.name) rest)
+      (IsPermutation-append_left rest (below a.name ++ below b.name) (below b.name ++ below a.name) (IsPermutation-append_comm (below a.name) (below b.name))) in
+      let second : IsPermutation (below b.name ++ (below a.name ++ rest)) (below b.name ++ objects_ahead leaves mid) =
+      IsPermutation-append_right (below b.name) (below a.name ++ rest) (objects_ahead leaves mid) (IsPermutation-sym (objects_ahead leaves mid) (below a.name ++ rest) (first-permutation mid old a one)) in
+      let third : IsPermutation (below b.name ++ objects_ahead leaves mid) (objects_ahead leaves new) =
+      IsPermutation-sym (objects_ahead leaves new) (below b.name ++ objects_ahead leaves mid) (first-permutation new mid b two) in
+      subst (λ (ms : List Placed). IsPermutation (ms ++ rest) (objects_ahead leaves new)) (sym parts)
+      (IsPermutation-trans ((below a.name ++ below b.name) ++ rest) (below b.name ++ (below a.name ++ rest)) (objects_ahead leaves new) first
+      (IsPermutation-trans (below b.name ++ (below a.name ++ rest)) (below b.name ++ objects_ahead leaves mid) (objects_ahead leaves new) second third))
 
   -- the objects below a name are no nearer than its region
   module _ (p : Point) (under : AreAllKeysUnder leaves) where

@@ -8,9 +8,9 @@ use Rattle.std.proofs.lemmas.Nat.{pow_pos}
 use Rattle.std.proofs.lemmas.Bool.{le-leb}
 use Rattle.std.specs.List.Sorted.{IsPermutation}
 use Rattle.std.proofs.lemmas.List.{append-nil, get_or-take}
-use Rattle.std.proofs.lemmas.List.Elements.{All-nil, All-cons, All-head, All-tail, All-push, filter-append}
-use Rattle.std.proofs.lemmas.List.Sorted.{All-permutation, IsPermutation-middle}
-use Rattle.std.proofs.lemmas.List.Sums.{sum_by-cons, sum_by-append, sum_by_push}
+use Rattle.std.proofs.lemmas.List.Elements.{All-nil, All-cons, All-head, All-tail, filter-append}
+use Rattle.std.proofs.lemmas.List.Sorted.{All-permutation, IsPermutation-sym, IsPermutation-middle}
+use Rattle.std.proofs.lemmas.List.Sums.{sum_by-cons, sum_by-append}
 use Rattle.std.proofs.lemmas.Bool.Decides.{nat_tests}
 use Rattle.zorder.specs.declared.points.Point.{Point}
 use Rattle.zorder.specs.declared.points.Placed.{Placed}
@@ -32,10 +32,11 @@ use Rattle.table_share.proofs.TableRows.{table_of}
 use Rattle.table_share.proofs.RowObjects.{objects-permutation}
 use Rattle.table_share.proofs.LeafRows.{leaves_under}
 use Rattle.table_share.proofs.Subtrees.{subtree-whole, subtree-leaf, subtree-halves, inner-room}
-use Rattle.knn_query.specs.Ahead.{least_to, reach_of, number_nearer, IsAhead, IsFirst, leaves_ahead, objects_ahead, Searches, weight_of}
+use Rattle.knn_query.specs.Ahead.{least_to, reach_of, number_nearer, IsAhead, IsOne, IsFirst, leaves_ahead, objects_ahead, Searches, weight_of}
 use Rattle.knn_query.specs.Passes.{Keeps, Passes, IsList}
 use Rattle.knn_query.specs.declared.ahead.Ahead.{Ahead}
 use Rattle.knn_query.specs.declared.kept.Kept.{Kept}
+use Rattle.knn_query.proofs.Places.{one-of}
 use Rattle.knn_query.proofs.Passing.{passes_on, front_of, back_of, before_all, filter-all}
 use Rattle.knn_query.proofs.Searching.{first-permutation, first-number, two-number, two-permutation, far_ahead, reach-within, searches_permuted, ranked-far, number-ranked, none_nearer, fewer, one_if, nearer}
 
@@ -127,6 +128,12 @@ every name = true
 abbrev pub within : Point → ℕ → List Bool → Bool
 within p reach name = nat_le (least_to p name) reach
 
+-- what holds of some subtrees and of one more
+all-put : (P : Ahead → Type 0) (old new : List Ahead) (a : Ahead) → IsOne new old a → P a → All P old → All P new
+all-put P old new a (front, back, is, left) here all =
+    let both : All P (a ∷ (front ++ back)) = All-cons P a (front ++ back) here (subst (All P) left all) in
+    subst (All P) (sym is) (All-permutation P (a ∷ (front ++ back)) (front ++ a ∷ back) (IsPermutation-sym (front ++ a ∷ back) (a ∷ (front ++ back)) (IsPermutation-middle front a back)) both)
+
 module _ (p : Point) (k : ℕ) (leaves : List Leaf) (before : ℕ) where
   abbrev Counts : (List Bool → Bool) → ℕ → List Leaf → Type 0
   Counts passes now left = now + length (leaves_of passes left) ≡ before + length (leaves_of passes leaves)
@@ -159,7 +166,7 @@ module _ (p : Point) (k : ℕ) (leaves : List Leaf) (before : ℕ) where
   number-append : (passes : List Bool → Bool) (xs ys : List Leaf) → length (leaves_of passes (xs ++ ys)) ≡ length (leaves_of passes xs) + length (leaves_of passes ys)
   number-append passes xs ys = ap length (filter-append (λ (l : Leaf). passes l.name) xs ys) ∙ length-append (leaves_of passes xs) (leaves_of passes ys)
 
-  taken-count : (passes : List Bool → Bool) (now : ℕ) (old new : List Ahead) (a : Ahead) → IsFirst old new a → Counts passes now (leaves_ahead leaves old) → Counts passes now (subtree a.name leaves ++ leaves_ahead leaves new)
+  taken-count : (passes : List Bool → Bool) (now : ℕ) (old new : List Ahead) (a : Ahead) → IsOne old new a → Counts passes now (leaves_ahead leaves old) → Counts passes now (subtree a.name leaves ++ leaves_ahead leaves new)
   taken-count passes now old new a first counts =
       omega (arith, counts, first-number leaves passes old new a first, number-append passes (subtree a.name leaves) (leaves_ahead leaves new))
 
@@ -168,18 +175,19 @@ module _ (p : Point) (k : ℕ) (leaves : List Leaf) (before : ℕ) where
       let (front, back, is, left, low) = first in
       let moved : IsPermutation old (a ∷ new) = subst (λ (xs : List Ahead). IsPermutation xs (a ∷ new)) (sym is) (subst (λ (xs : List Ahead). IsPermutation (front ++ a ∷ back) (a ∷ xs)) (sym left) (IsPermutation-middle front a back)) in
       let all : All (IsAhead p) (a ∷ new) = All-permutation (IsAhead p) old (a ∷ new) moved s.are in
+      let one = one-of old new a first in
       record {
         from = s.from;
         k_is = s.k_is;
         is = All-head (IsAhead p) a new all;
         are = All-tail (IsAhead p) a new all;
         worlds = λ world names is_world stands.
-            searches_permuted p k world (objects_ahead leaves old) (objects_of (all_rows (subtree a.name leaves)) ++ objects_ahead leaves new) kept (first-permutation leaves old new a first) (s.worlds world names is_world stands);
+            searches_permuted p k world (objects_ahead leaves old) (objects_of (all_rows (subtree a.name leaves)) ++ objects_ahead leaves new) kept (first-permutation leaves old new a one) (s.worlds world names is_world stands);
         far = λ world names is_world stands.
-            All-permutation (λ (m : Placed). a.least ≤ distance m.at p) (objects_ahead leaves old) (objects_of (all_rows (subtree a.name leaves)) ++ objects_ahead leaves new) (first-permutation leaves old new a first)
+            All-permutation (λ (m : Placed). a.least ≤ distance m.at p) (objects_ahead leaves old) (objects_of (all_rows (subtree a.name leaves)) ++ objects_ahead leaves new) (first-permutation leaves old new a one)
             (far_ahead leaves p (leaves_under world leaves stands.rows) a.least old s.are low);
-        opened = taken-count every now old new a first s.opened;
-        near = λ world names is_world stands d many. taken-count (within p (reach_of p k world d)) now old new a first (s.near world names is_world stands d many);
+        opened = taken-count every now old new a one s.opened;
+        near = λ world names is_world stands d many. taken-count (within p (reach_of p k world d)) now old new a one (s.near world names is_world stands d many);
         some = s.some;
       }
 
@@ -240,19 +248,19 @@ module _ (p : Point) (k : ℕ) (leaves : List Leaf) (before : ℕ) where
       }
 
     -- a subtree of two halves
-    pub inner-state : (fore hind : Ahead) → is_inner a.name leaves ≡ true → has_name a.name leaves ≡ false → fore.name ≡ a.name ++ false ∷ [] → hind.name ≡ a.name ++ true ∷ [] → IsAhead p fore → IsAhead p hind
-        → State now ((left ++ fore ∷ []) ++ hind ∷ []) kept
-    inner-state fore hind inner none is_fore is_hind fore_is hind_is =
+    pub inner-state : (fore hind : Ahead) (mid new : List Ahead) → is_inner a.name leaves ≡ true → has_name a.name leaves ≡ false → fore.name ≡ a.name ++ false ∷ [] → hind.name ≡ a.name ++ true ∷ [] → IsAhead p fore → IsAhead p hind
+        → IsOne mid left fore → IsOne new mid hind → State now new kept
+    inner-state fore hind mid new inner none is_fore is_hind fore_is hind_is one two =
         let both : subtree a.name leaves ≡ subtree fore.name leaves ++ subtree hind.name leaves =
         subtree-halves a.name (omega (arith, inner-room a.name leaves tile inner)) 0 leaves tile none ∙ (λ i. subtree (sym is_fore i) leaves ++ subtree (sym is_hind i) leaves) in
-        let count : (passes : List Bool → Bool) → Counts passes now (subtree a.name leaves ++ leaves_ahead leaves left) → Counts passes now (leaves_ahead leaves ((left ++ fore ∷ []) ++ hind ∷ [])) =
-        λ passes counts. omega (arith, counts, two-number leaves passes left fore hind, number-append passes (subtree a.name leaves) (leaves_ahead leaves left), ap (λ ls. length (leaves_of passes ls)) both) in
+        let count : (passes : List Bool → Bool) → Counts passes now (subtree a.name leaves ++ leaves_ahead leaves left) → Counts passes now (leaves_ahead leaves new) =
+        λ passes counts. omega (arith, counts, two-number leaves passes left mid new fore hind one two, number-append passes (subtree a.name leaves) (leaves_ahead leaves left), ap (λ ls. length (leaves_of passes ls)) both) in
         record {
           from = t.from;
           k_is = t.k_is;
-          are = All-push (IsAhead p) (left ++ fore ∷ []) hind (All-push (IsAhead p) left fore t.are fore_is) hind_is;
+          are = all-put (IsAhead p) mid new hind two hind_is (all-put (IsAhead p) left mid fore one fore_is t.are);
           worlds = λ world names is_world stands.
-              searches_permuted p k world (below ++ objects_ahead leaves left) (objects_ahead leaves ((left ++ fore ∷ []) ++ hind ∷ [])) kept (two-permutation leaves left fore hind (subtree a.name leaves) both) (t.worlds world names is_world stands);
+              searches_permuted p k world (below ++ objects_ahead leaves left) (objects_ahead leaves new) kept (two-permutation leaves left mid new fore hind (subtree a.name leaves) one two both) (t.worlds world names is_world stands);
           opened = count every t.opened;
           near = λ world names is_world stands d many. count (within p (reach_of p k world d)) (t.near world names is_world stands d many);
           some = t.some;
@@ -298,21 +306,21 @@ weight-some a short =
     let double : 2 ^ suc (64 - length a.name) ≡ 2 * 2 ^ (64 - length a.name) = pow-succ' 2 (64 - length a.name) in
     omega (arith, ap (λ n. 2 ^ n) more, double, pow_pos (64 - length a.name))
 
-pub weight-first : (old new : List Ahead) (a : Ahead) → IsFirst old new a → sum_by weight_of old ≡ weight_of a + sum_by weight_of new
-weight-first old new a (front, back, is, left, low) =
+weight-first : (old new : List Ahead) (a : Ahead) → IsOne old new a → sum_by weight_of old ≡ weight_of a + sum_by weight_of new
+weight-first old new a (front, back, is, left) =
     omega (arith, ap (sum_by weight_of) is, sum_by-append weight_of front (a ∷ back), sum_by-cons weight_of a back, ap (sum_by weight_of) left, sum_by-append weight_of front back)
 
 pub weight-less : (old new : List Ahead) (a : Ahead) → IsFirst old new a → length a.name ≤ 64 → sum_by weight_of new < sum_by weight_of old
-weight-less old new a first short = omega (arith, weight-first old new a first, weight-some a short)
+weight-less old new a first short = omega (arith, weight-first old new a (one-of old new a first), weight-some a short)
 
-pub weight-two : (old new : List Ahead) (a fore hind : Ahead) → IsFirst old new a → length a.name < 64 → fore.name ≡ a.name ++ false ∷ [] → hind.name ≡ a.name ++ true ∷ []
-    → sum_by weight_of ((new ++ fore ∷ []) ++ hind ∷ []) < sum_by weight_of old
-weight-two old new a fore hind first room is_fore is_hind =
+pub weight-two : (old left mid new : List Ahead) (a fore hind : Ahead) → IsFirst old left a → IsOne mid left fore → IsOne new mid hind → length a.name < 64 → fore.name ≡ a.name ++ false ∷ [] → hind.name ≡ a.name ++ true ∷ []
+    → sum_by weight_of new < sum_by weight_of old
+weight-two old left mid new a fore hind first one two room is_fore is_hind =
     omega (
       arith,
-      weight-first old new a first,
-      sum_by_push weight_of (new ++ fore ∷ []) hind,
-      sum_by_push weight_of new fore,
+      weight-first old left a (one-of old left a first),
+      weight-first mid left fore one,
+      weight-first new mid hind two,
       ap (λ (n : List Bool). 2 ^ (65 - length n) - 1) is_fore,
       ap (λ (n : List Bool). 2 ^ (65 - length n) - 1) is_hind,
       weight-halves a.name false true room,

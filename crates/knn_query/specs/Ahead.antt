@@ -47,6 +47,15 @@ pub record Searches (p : Point) (k : ℕ) (world rest : List Placed) (kept : Kep
   pub are_of : AreOf world rest
   pub keeps : Keeps p k world rest kept
 
+-- each is as far as the next, or farther
+abbrev pub IsFarFirst : List Ahead → Type 0
+IsFarFirst [] = ⊤
+IsFarFirst (a ∷ ahead) = All (λ (b : Ahead). b.least ≤ a.least) ahead × IsFarFirst ahead
+
+-- one of some subtrees, and the others in their order
+abbrev pub IsOne : List Ahead → List Ahead → Ahead → Type 0
+IsOne old new a = (front : List Ahead) × (back : List Ahead) × (old ≡ front ++ a ∷ back) × (new ≡ front ++ back)
+
 -- the nearest of some subtrees, and the others in their order
 abbrev pub IsFirst : List Ahead → List Ahead → Ahead → Type 0
 IsFirst old new a =

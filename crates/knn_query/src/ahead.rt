@@ -1,11 +1,12 @@
-//! Subtrees that are still ahead of a search, and the nearest of them.
-ghost use Rattle.std.specs.Prelude.{◌≡◌, ◌≤◌, ◌<◌, [], length, slice_index_or, remove, MatchOption};
-ghost use Rattle.std.specs.List.{All};
+//! Subtrees that are still ahead of a search, the nearest of them last.
+ghost use Rattle.std.specs.Prelude.{◌≡◌, ◌≤◌, [], length, take, drop, MatchOption, IfOk, OnOk};
+ghost use Rattle.std.specs.List.{All, insert};
 ghost use Rattle.zorder.specs.declared.points.Point.{Point};
 ghost use Rattle.knn_query.specs.declared.ahead.Ahead.{Ahead};
-ghost use Rattle.knn_query.specs.Ahead.{IsAhead, IsTaken};
+ghost use Rattle.knn_query.specs.Ahead.{IsAhead, IsFarFirst, IsTaken};
 
 use prefix_names::{least, region};
+use std::alloc::AllocError;
 use zorder::{Name, Point};
 
 /// A name whose subtree wasn't opened, and the squared distance from which on there may be points in it.
@@ -29,26 +30,39 @@ impl Ahead {
 
 /// Takes the nearest out, and tells its number.
 pub(crate) fn take_nearest(ahead: &mut Vec<Ahead>) -> Option<(usize, Ahead)>
-    ensures { MatchOption result ((ahead.old.items ≡ []) × (ahead.new.items ≡ [])) (λ next. IsTaken ahead.old.items ahead.new.items next.0 next.1) }
+    requires { IsFarFirst ahead.old.items }
+    ensures taken { MatchOption result ((ahead.old.items ≡ []) × (ahead.new.items ≡ [])) (λ next. IsTaken ahead.old.items ahead.new.items next.0 next.1) }
+    ensures sorted { IsFarFirst ahead.new.items }
 {
     if ahead.is_empty() {
         return None;
     }
-    let place = nearest_place(ahead.as_slice());
+    let place = ahead.len() - 1;
     let next = ahead.remove(place);
     Some((place, next))
 }
 
-fn nearest_place(ahead: &[Ahead]) -> usize
-    requires { 0 < length ahead.now }
-    ensures within { result < length ahead.now }
-    ensures least { (d : Ahead) → All (λ (a : Ahead). (slice_index_or ahead.now result d).least ≤ a.least) ahead.now }
+/// Puts a subtree in front of those that are nearer, and tells its number.
+pub(crate) fn put_ahead(ahead: &mut Vec<Ahead>, a: Ahead) -> Result<usize, AllocError>
+    requires { IsFarFirst ahead.old.items }
+    ensures put { IfOk result (λ i. (i ≤ length ahead.old.items) × (ahead.new.items ≡ insert ahead.old.items i a)) }
+    ensures sorted { OnOk result (IsFarFirst ahead.new.items) }
 {
-    let mut place = 0;
-    for i in 0..ahead.len() {
-        if ahead[i].least < ahead[place].least {
-            place = i;
-        }
+    let place = count_farther(ahead.as_slice(), a.least);
+    ahead.insert(place, a)?;
+    Ok(place)
+}
+
+// How many are as far as this, or farther. What is put in is mostly nearer than most of the others.
+fn count_farther(ahead: &[Ahead], least: u128) -> usize
+    requires { IsFarFirst ahead.now }
+    ensures within { result ≤ length ahead.now }
+    ensures farther { All (λ (a : Ahead). least ≤ a.least) (take result ahead.now) }
+    ensures nearer { All (λ (a : Ahead). a.least ≤ least) (drop result ahead.now) }
+{
+    let mut place = ahead.len();
+    while 0 < place && ahead[place - 1].least < least {
+        place -= 1;
     }
     place
 }

@@ -6,7 +6,7 @@ ghost use Rattle.table_share.specs.Worlds.{OfEachWorld};
 ghost use Rattle.knn_query.specs.Ahead.{OpensNear};
 ghost use Rattle.knn_query.specs.Passes.{IsList, Keeps, Passes};
 
-use crate::ahead::{Ahead, take_nearest};
+use crate::ahead::{Ahead, put_ahead, take_nearest};
 use crate::kept::Kept;
 use bucket_versions::Bucket;
 use index_layer::{Below, Index};
@@ -67,10 +67,12 @@ fn keep_nearest<I: Index, L: Ledger>(
                 add_rows(&mut kept, bucket, steps)?;
             }
             Below::Halves { zero, one } => {
-                ahead.push(Ahead::new(child(&next.name, false), kept.from))?;
-                places.push(zero)?;
-                ahead.push(Ahead::new(child(&next.name, true), kept.from))?;
-                places.push(one)?;
+                let fore = Ahead::new(child(&next.name, false), kept.from);
+                let place = put_ahead(&mut ahead, fore)?;
+                places.insert(place, zero)?;
+                let hind = Ahead::new(child(&next.name, true), kept.from);
+                let place = put_ahead(&mut ahead, hind)?;
+                places.insert(place, one)?;
             }
         }
     }

@@ -16,6 +16,7 @@ use Rattle.plain_list.specs.History.{world_after, call_count}
 use Rattle.plain_list.specs.State.{state_after}
 use Rattle.plain_list.specs.Size.{full_leaf}
 use Rattle.plain_list.specs.World.{IsWorld}
+use Rattle.plain_list.proofs.Histories.{world_after-append}
 use Rattle.zorder.specs.declared.points.Placed.{Placed}
 use Rattle.index_layer.specs.Leaves.{Leaf}
 use Rattle.index_layer.specs.Stands.{Stands}
@@ -25,6 +26,7 @@ use Rattle.commit_book.specs.BookView.{BookView}
 use Rattle.commit_book.specs.IsBook.{AreBooks, most_events}
 use Rattle.commit_book.specs.Answers.{IsUpdate, IsQuery, Notes}
 use Rattle.commit_book.specs.Answers.{Replies as BookReplies}
+use Rattle.commit_book.proofs.BookSteps.{query_keeps}
 use Rattle.commit_book.specs.Refusals.{IsRefusedBy, IsMemory, IsMemoryOrDisk, IsDisk, LeavesRefused, first_of, call_refusal, update_refusal, most_cells}
 use Rattle.commit_book.specs.declared.book.Done.{Done}
 use Rattle.commit_book.specs.declared.book.Snapshot.{Snapshot}
@@ -34,6 +36,7 @@ use Rattle.book_lock.specs.Pass.{Known}
 use Rattle.book_lock.specs.declared.origin.Origin.{Origin}
 use Rattle.sessions.specs.Shared.{origin_of, start_of, HasWorld}
 use Rattle.sessions.specs.Steps.{Says, has_entry, has_given, Leaves}
+use Rattle.sessions.specs.Opens.{leaves_seen, world_seen, Opens, OpensOf}
 use Rattle.sessions.specs.Calls.{Updates, Looks, Called, CallLeaves, HasDone, Shows, LosesChange, IsAnswered, IsCallFault, MayCome, call_cause, call_fault, next_full, told_full}
 use Rattle.sessions.specs.Splits.{SamePass}
 use Rattle.sessions.specs.declared.faults.CallFault.{CallFault}
@@ -106,6 +109,15 @@ module _ {D : Type 0} (drive : D → Drive) (w : ℕ) (b mid : BookView D) (old 
       let same : origin_of drive mid ≡ back.origin = same-origin drive b mid books.origin ∙ was.origin ∙ sym origin in
       let start : start_of (origin_of drive mid) ≡ mid.opening = start-of-origin drive mid books.after.opening in
       (λ i. full_leaf w mid.bucket (state_after w (sym start i) mid.entries)) ∙ (λ i. full_leaf w (same i).bucket (state_after w (start_of (same i)) (sym seen i)))
+
+  -- the leaves of the book are those that the pass has seen
+  back-names : back ≡ has_given took true mid.entries → (state_after w mid.opening mid.entries).leaves ≡ leaves_seen w back
+  back-names given =
+      let seen : back.seen ≡ mid.entries = ap (λ (k : Known). k.seen) given in
+      let origin : back.origin ≡ old.origin = ap (λ (k : Known). k.origin) given ∙ ap (λ (k : Known). k.origin) was.took_is in
+      let same : origin_of drive mid ≡ back.origin = same-origin drive b mid books.origin ∙ was.origin ∙ sym origin in
+      let start : start_of (origin_of drive mid) ≡ mid.opening = start-of-origin drive mid books.after.opening in
+      (λ i. (state_after w (sym start i) mid.entries).leaves) ∙ (λ i. (state_after w (start_of (same i)) (sym seen i)).leaves)
 
   update-says : (r : Result Done BookFault) → IsUpdate op → IfOk r (λ d. BookReplies w b mid session row op d.place d.answer d.full) → back ≡ has_given took (has_entry r) mid.entries → Says (HasDone w old back op b.entries) r
   update-says (Ok d) update ok given = record {
@@ -229,23 +241,23 @@ module _ {I D P : Type 0} (leaves : I → List Leaf) (drive : D → Drive) (w : 
       → BookStep drive IsMemory (call_refusal b.entries) (λ (s : Snapshot I P). Call session row op) (lost.Call session row op) b mid r
   look-step r ok refused err = record { refused = refused; added = look-added r ok; left = look-left r refused err }
 
-  look-says : (names : List (List Bool)) (r : Result (Snapshot I P) BookFault) → IfOk r (λ s. Notes b mid session row op s.place) → IfOk r (λ s. Stands (leaves s.index) (world_after b.opening.world b.entries) names) → HasWorld b
-      → back ≡ has_given took (has_entry r) mid.entries → Says (λ (s : Snapshot I P). Shows (leaves s.index) old back b.entries s.place) r
-  look-says names (Ok s) ok stands has given =
+  look-says : (r : Result (Snapshot I P) BookFault) → IfOk r (λ s. Notes b mid session row op s.place) → IfOk r (λ s. Stands (leaves s.index) (world_after b.opening.world b.entries) (state_after w mid.opening mid.entries).leaves) → HasWorld b
+      → back ≡ has_given took (has_entry r) mid.entries → Says (λ (s : Snapshot I P). Shows w (leaves s.index) old back b.entries s.place) r
+  look-says (Ok s) ok stands has given =
       let world : world_after b.opening.world b.entries ≡ world_after old.origin.world b.entries = ap (λ (o : Origin). world_after o.world b.entries) was.origin in
       record {
         place_is = ok.place_is ∙ ap call_count (sym (ap (λ (k : Known). k.seen) given));
         world = subst IsWorld world has.world;
-        names = names;
-        stands = subst (λ (list : List Placed). Stands (leaves s.index) list names) world stands;
+        stands = subst (Stands (leaves s.index) (world_after old.origin.world b.entries)) (back-names drive w b mid old took back session row op was books given)
+            (subst (λ (list : List Placed). Stands (leaves s.index) list (state_after w mid.opening mid.entries).leaves) world stands);
       }
-  look-says names (Err fault) ok stands has given = tt
+  look-says (Err fault) ok stands has given = tt
 
-  pub looked : (names : List (List Bool)) (r : Result (Snapshot I P) BookFault) → IfOk r (λ s. Notes b mid session row op s.place) → IfOk r (λ s. Stands (leaves s.index) (world_after b.opening.world b.entries) names) → HasWorld b
-      → IsRefusedBy IsMemory (call_refusal b.entries) r → IfErr r (λ (f : BookFault). mid ≡ b) → back ≡ has_given took (has_entry r) mid.entries → Looks leaves session row op old back r
-  looked names r ok stands has refused err given =
-      stepped drive w IsMemory (λ (cells : ℕ). call_refusal) (λ (s : Snapshot I P). Call session row op) (λ (h : List Entry). lost.Call session row op) (λ (h : List Entry) (s : Snapshot I P). Shows (leaves s.index) old back h s.place) b mid old took back r
-      books.before was (look-step r ok refused err) (look-says names r ok stands has given) given
+  pub looked : (r : Result (Snapshot I P) BookFault) → IfOk r (λ s. Notes b mid session row op s.place) → IfOk r (λ s. Stands (leaves s.index) (world_after b.opening.world b.entries) (state_after w mid.opening mid.entries).leaves) → HasWorld b
+      → IsRefusedBy IsMemory (call_refusal b.entries) r → IfErr r (λ (f : BookFault). mid ≡ b) → back ≡ has_given took (has_entry r) mid.entries → Looks leaves w session row op old back r
+  looked r ok stands has refused err given =
+      stepped drive w IsMemory (λ (cells : ℕ). call_refusal) (λ (s : Snapshot I P). Call session row op) (λ (h : List Entry). lost.Call session row op) (λ (h : List Entry) (s : Snapshot I P). Shows w (leaves s.index) old back h s.place) b mid old took back r
+      books.before was (look-step r ok refused err) (look-says r ok stands has given) given
 
 -- a call that isn't refused is answered
 answered-ok : {A : Type 0} (IsFree : BookFault → Type 0) (op : Op) (cause : Option BookFault) (value : A) (result : Result Done CallFault) → IsRefusedBy IsFree cause (Ok value) → IsAnswered op None result → IsAnswered op cause result
@@ -342,11 +354,11 @@ module _ (op : Op) (old : Known) (query : IsQuery op) where
   cause-is result cells before answered = subst (λ (o : Option BookFault). IsAnswered op o result) (sym (query-cause old.origin op cells before query)) answered
 
 module _ {I P : Type 0} (leaves : I → List Leaf) (w session row : ℕ) (op : Op) (old new : Known) (query : IsQuery op) where
-  pub look-fault : (fault : BookFault) → Looks {P = P} leaves session row op old new (Err fault) → IsCallFault fault
+  pub look-fault : (fault : BookFault) → Looks {P = P} leaves w session row op old new (Err fault) → IsCallFault fault
   look-fault fault step =
       refused-cause (Snapshot I P) IsMemory IsCallFault (call_refusal step.before) fault (call-causes IsCallFault step.before (λ n. tt) tt) (λ memory. subst IsCallFault (sym memory) tt) step.refused
 
-  pub query-err : (fault : BookFault) → Looks {P = P} leaves session row op old new (Err fault) → Called w session row op old new (Err (call_fault fault))
+  pub query-err : (fault : BookFault) → Looks {P = P} leaves w session row op old new (Err fault) → Called w session row op old new (Err (call_fault fault))
   query-err fault step = record {
     before = step.before;
     later = step.later;
@@ -358,7 +370,7 @@ module _ {I P : Type 0} (leaves : I → List Leaf) (w session row : ℕ) (op : O
         (calm-loses (Snapshot I P) (world_after old.origin.world step.before) op fault (look-calm (Snapshot I P) step.before fault step.refused));
   }
 
-  pub query-memory : (shown : Snapshot I P) → Looks leaves session row op old new (Ok shown) → Called w session row op old new (Err (call.Memory (Some shown.place)))
+  pub query-memory : (shown : Snapshot I P) → Looks leaves w session row op old new (Ok shown) → Called w session row op old new (Err (call.Memory (Some shown.place)))
   query-memory shown step = record {
     before = step.before;
     later = step.later;
@@ -369,7 +381,7 @@ module _ {I P : Type 0} (leaves : I → List Leaf) (w session row : ℕ) (op : O
     leaves = (step.leaves, step.says.place_is);
   }
 
-  pub query-ok : (shown : Snapshot I P) (answer : Answer) (step : Looks leaves session row op old new (Ok shown)) → answer ≡ answer_of (world_after old.origin.world step.before) op
+  pub query-ok : (shown : Snapshot I P) (answer : Answer) (step : Looks leaves w session row op old new (Ok shown)) → answer ≡ answer_of (world_after old.origin.world step.before) op
       → Called w session row op old new (Ok (record { place = shown.place; answer = answer; full = None }))
   query-ok shown answer step is = record {
     before = step.before;
@@ -381,6 +393,16 @@ module _ {I P : Type 0} (leaves : I → List Leaf) (w session row : ℕ) (op : O
         (answered-ok IsMemory op (call_refusal step.before) shown (Ok (record { place = shown.place; answer = answer; full = None })) step.refused tt);
     leaves = (step.leaves, record { replies = record { place_is = step.says.place_is; answer_is = is }; full_is = sym (told-query w op new query) });
   }
+
+  -- the objects that the pass has seen are those before the query
+  query-world : (shown : Snapshot I P) (step : Looks leaves w session row op old new (Ok shown)) → world_seen new ≡ world_after old.origin.world step.before
+  query-world shown step =
+      (λ i. world_after (step.leaves i).origin.world (step.leaves i).seen) ∙ world_after-append old.origin.world step.before (Call session row op ∷ []) ∙ query_keeps op (world_after old.origin.world step.before) query
+
+  pub query-opens : (shown : Snapshot I P) (listed : Option (List Placed)) (before now : ℕ) → Looks leaves w session row op old new (Ok shown) → OpensOf (leaves shown.index) op listed before now
+      → Opens op (leaves_seen w new) (world_seen new) listed before now
+  query-opens shown listed before now step opens =
+      subst (λ (world : List Placed). Opens op (leaves_seen w new) world listed before now) (sym (query-world shown step)) (opens (world_after old.origin.world step.before) (leaves_seen w new) step.says.world step.says.stands)
 
 -- a call leaves the pass with more seen and own
 leaves-same : (w session row : ℕ) (op : Op) (old : Known) (before : List Entry) (new : Known) (result : Result Done CallFault) → IsPrefix old.seen before → CallLeaves w session row op old before new result → SamePass old new

@@ -4,6 +4,7 @@ pub mod Sent
 pub mod SameRows
 pub mod LiveSplits
 pub mod StepLemmas
+pub mod OpenLemmas
 pub mod CallLemmas
 pub mod SplitLemmas
 pub mod LaneLemmas

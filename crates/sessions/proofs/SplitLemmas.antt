@@ -12,7 +12,6 @@ use Rattle.plain_list.specs.declared.entries.Lost.{Lost}
 use Rattle.plain_list.specs.declared.entries.Lost.TheVariants as lost
 use Rattle.plain_list.specs.History.{world_after}
 use Rattle.plain_list.specs.State.{State, state_after, split_name}
-use Rattle.index_layer.specs.Leaves.{Leaf}
 use Rattle.disk_trait.specs.Drive.{Drive}
 use Rattle.kept_log.specs.Journal.{cells_in}
 use Rattle.split_prepare.specs.declared.ticket.SplitTicket.{SplitTicket}
@@ -29,7 +28,7 @@ use Rattle.book_lock.specs.Ends.{MayNote}
 use Rattle.book_lock.specs.declared.origin.Origin.{Origin}
 use Rattle.book_lock.proofs.OwnSplits.{may_install, may_abandon}
 use Rattle.sessions.specs.Shared.{origin_of, start_of}
-use Rattle.sessions.specs.Steps.{IsStep, Says, has_entry, has_given}
+use Rattle.sessions.specs.Steps.{Says, has_entry, has_given}
 use Rattle.sessions.specs.Splits.{HasBegun, BeginsSplit, InstallsSplit, AbandonsSplit, EndsOpen, GivesUp, RanOut, NotInstalled, BeginsAs, SplitEnds, IsNotSplit, IsNextSplit, SamePass, begin_cause, number_of, state_of}
 use Rattle.sessions.specs.declared.faults.Split.{Split}
 use Rattle.sessions.specs.declared.faults.Split.TheVariants.{Installed, NotSplit}

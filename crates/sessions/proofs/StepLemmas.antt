@@ -10,7 +10,6 @@ use Rattle.plain_list.specs.declared.entries.Entry.TheVariants.{Call, Begin, Ins
 use Rattle.plain_list.specs.declared.entries.Lost.{Lost}
 use Rattle.plain_list.specs.Answer.{answer_of, after_of, is_change}
 use Rattle.plain_list.specs.State.{State}
-use Rattle.index_layer.specs.Leaves.{Leaf}
 use Rattle.disk_trait.specs.Drive.{Drive}
 use Rattle.log_state.specs.Changes.{change_cells, cells_of}
 use Rattle.kept_log.specs.KeptView.{KeptView}

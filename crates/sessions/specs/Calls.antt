@@ -24,6 +24,7 @@ use Rattle.commit_book.specs.Refusals.{IsMemory, IsMemoryOrDisk, first_of, call_
 use Rattle.book_lock.specs.Pass.{Known}
 use Rattle.book_lock.specs.declared.origin.Origin.{Origin}
 use Rattle.sessions.specs.Shared.{start_of}
+use Rattle.sessions.specs.Opens.{leaves_seen}
 use Rattle.sessions.specs.Steps.{all_parts, AreCells, IsStep, has_added, has_seen}
 use Rattle.sessions.specs.declared.faults.CallFault.{CallFault}
 use Rattle.sessions.specs.declared.faults.CallFault.TheVariants.{Closed, Disk, HistoryFull, LogFull, Memory}
@@ -131,13 +132,12 @@ pub record Updates (w session row : ℕ) (op : Op) (old new : Known) (result : R
   pub loses : LosesChange (world_after old.origin.world step.before) op result
 
 -- the leaves of an index that stand for a world
-pub record Shows (leaves : List Leaf) (old new : Known) (before : List Entry) (place : ℕ) : Type 0 where
+pub record Shows (w : ℕ) (leaves : List Leaf) (old new : Known) (before : List Entry) (place : ℕ) : Type 0 where
   pub place_is : place ≡ call_count new.seen
   pub world : IsWorld (world_after old.origin.world before)
-  pub names : List (List Bool)
-  pub stands : Stands leaves (world_after old.origin.world before) names
+  pub stands : Stands leaves (world_after old.origin.world before) (leaves_seen w new)
 
 -- a query under the lock, which hands out the index as it stands there
-abbrev pub Looks : {I P : Type 0} → (I → List Leaf) → ℕ → ℕ → Op → Known → Known → Result (Snapshot I P) BookFault → Type 0
-Looks leaves session row op old new result =
-    IsStep IsMemory (λ cells. call_refusal) (λ shown. Call session row op) (λ before. lost.Call session row op) (λ before shown. Shows (leaves shown.index) old new before shown.place) old new result
+abbrev pub Looks : {I P : Type 0} → (I → List Leaf) → ℕ → ℕ → ℕ → Op → Known → Known → Result (Snapshot I P) BookFault → Type 0
+Looks leaves w session row op old new result =
+    IsStep IsMemory (λ cells. call_refusal) (λ shown. Call session row op) (λ before. lost.Call session row op) (λ before shown. Shows w (leaves shown.index) old new before shown.place) old new result

@@ -1,5 +1,5 @@
 -- A book behind a lock: what holds of it, and what it began from.
-use Rattle.std.specs.Prelude.{◌≡◌, ℕ, Bool, List, [], Option, Some, None, Result, Ok, Err, ⊤}
+use Rattle.std.specs.Prelude.{◌≡◌, ℕ, Bool, List, [], Option, Some, None, Result, Ok, Err}
 use Rattle.plain_list.specs.World.{IsWorld}
 use Rattle.plain_list.specs.State.{State, state_after}
 use Rattle.plain_list.specs.Size.{full_leaf}

@@ -3,6 +3,7 @@ ghost use Rattle.std.specs.Prelude.{◌≡◌, false};
 ghost use Rattle.plain_list.specs.Answer.{IsValid};
 ghost use Rattle.commit_book.specs.Answers.{IsUpdate, IsQuery};
 ghost use Rattle.sessions.specs.Calls.{Updates, Looks, Called};
+ghost use Rattle.sessions.specs.Opens.{leaves_seen, world_seen, listed_by, Opens};
 ghost use Rattle.sessions.specs.Splits.{SamePass};
 
 use super::Store;
@@ -55,7 +56,7 @@ impl<I: Index, D: LogDisk, O: Start> Store<I, D, O> {
         requires lock { pass.old.lock ≡ self.now }
         requires off { pass.old.holds ≡ false }
         requires query { IsQuery op.now }
-        ensures { Looks I.leaves session row op.now pass.old pass.new result }
+        ensures { Looks I.leaves I.WIDTH session row op.now pass.old pass.new result }
     {
         let mut book = self.lock.take(rt, pass);
         let answer = book.snapshot(session, row, op);
@@ -80,7 +81,8 @@ impl<I: Index, D: LogDisk, O: Start> Store<I, D, O> {
         requires off { pass.old.holds ≡ false }
         requires query { IsQuery op.now }
         requires valid { IsValid op.now }
-        ensures { Called I.WIDTH session row op.now pass.old pass.new result }
+        ensures called { Called I.WIDTH session row op.now pass.old pass.new result }
+        ensures opened { Opens op.now (leaves_seen I.WIDTH pass.new) (world_seen pass.new) (listed_by (λ done. done.answer) result) steps.old steps.new }
     {
         let shown = match self.look(rt, pass, session, row, op) {
             Ok(shown) => shown,
@@ -133,7 +135,8 @@ impl<I: Index, D: LogDisk, O: Start> Store<I, D, O> {
         requires lock { pass.old.lock ≡ self.now }
         requires off { pass.old.holds ≡ false }
         requires valid { IsValid op.now }
-        ensures { Called I.WIDTH session row op.now pass.old pass.new result }
+        ensures called { Called I.WIDTH session row op.now pass.old pass.new result }
+        ensures opened { Opens op.now (leaves_seen I.WIDTH pass.new) (world_seen pass.new) (listed_by (λ done. done.answer) result) steps.old steps.new }
     {
         match *op {
             Op::Within { .. } => self.query(rt, alloc, pass, session, row, op, gate, steps),
@@ -162,6 +165,7 @@ impl<I: Index, D: LogDisk, O: Start> Store<I, D, O> {
         requires off { pass.old.holds ≡ false }
         requires valid { IsValid op.now }
         ensures called { Called I.WIDTH session row op.now pass.old pass.new result }
+        ensures opened { Opens op.now (leaves_seen I.WIDTH pass.new) (world_seen pass.new) (listed_by (λ done. done.answer) result) steps.old steps.new }
         ensures pass { SamePass pass.old pass.new }
     {
         let answer = self.answer(rt, alloc, pass, session, row, op, gate, steps);

@@ -1,16 +1,16 @@
-use Rattle.std.proofs.Common.{◌≡◌, ◌<◌, ◌+◌, ◌∷◌, ◌++◌, ◌∙◌, [], ℕ, List, true, false, sym, ap, subst, arith}
+use Rattle.std.proofs.Common.{◌≡◌, ◌<◌, ◌≤◌, ◌+◌, ◌∷◌, ◌++◌, ◌∙◌, [], ℕ, List, true, false, sym, ap, subst, arith}
 use Rattle.std.specs.Prelude.{nat_le}
 use Rattle.std.specs.Arc.{arc_value}
-use Rattle.std.specs.List.{sum_by}
 use Rattle.std.proofs.lemmas.Bool.{leb-true, leb-false}
+use Rattle.std.proofs.lemmas.List.Elements.{All-nil}
 use Rattle.bucket_versions.specs.Rows.{Rows}
 use Rattle.index_layer.specs.Leaves.{Leaf}
 use Rattle.table_share.specs.Objects.{objects_of}
 use Rattle.table_share.proofs.Subtrees.{inner-room}
-use Rattle.knn_query.specs.Ahead.{IsAhead, AreAt, number_nearer, reach_of, leaves_ahead, objects_ahead, weight_of}
+use Rattle.knn_query.specs.Ahead.{IsAhead, IsFarFirst, AreAt, number_nearer, reach_of, leaves_ahead, objects_ahead}
 use Rattle.knn_query.specs.Passes.{Keeps, Passes}
 use Rattle.knn_query.specs.declared.ahead.Ahead.{Ahead}
-use Rattle.knn_query.proofs.Places.{first-of, length-at, at-number, left-at, at-push}
+use Rattle.knn_query.proofs.Places.{first-of, one-inserted, length-at, at-number, left-at, put-at}
 use Rattle.knn_query.proofs.Steps.{State, within, taken, begins-state, closed, opened-leaf, near-leaf, leaf-state, inner-state, ends, ends-every, weight-less, weight-two}
 use Rattle.knn_query.proofs.ranking.keep_nearest.Goals as goal
 
@@ -26,6 +26,7 @@ loop-number-init g c =
       omega arith,
       subst (λ (xs : List Ahead). AreAt is_at xs c.push-2.new.self.items) (sym (c.in_ok-push.ensures.items ∙ ap (λ (xs : List Ahead). xs ++ c.new.result ∷ []) c.new-ahead.ensures.items))
           (subst (λ ps. AreAt is_at (c.new.result ∷ []) ps) (sym (c.in_ok-push-2.ensures.items ∙ ap (λ ps. ps ++ c.top.result ∷ []) c.new-places.ensures.items)) (subst (is_at c.top.result.now) (sym named) c.top.ensures, tt)),
+      subst IsFarFirst (sym (c.in_ok-push.ensures.items ∙ ap (λ (xs : List Ahead). xs ++ c.new.result ∷ []) c.new-ahead.ensures.items)) (All-nil (λ (b : Ahead). b.least ≤ c.new.result.least), tt),
     )
 
 pub returns-then-has_nearer-clause-keeps : goal.returns-then-has_nearer-clause-keeps
@@ -37,7 +38,7 @@ returns-then-has_nearer-clause-keeps g c =
     let tile = (g.met.I.Index.are_leaves c.args.index.now).tile in
     let a : Ahead = c.in-Some.next in
     let left : List Ahead = c.take_nearest.new.ahead.items in
-    let t = taken p k leaves c.args.steps.now c.loop-number.steps c.loop-number.ahead.items left a c.loop-number.kept s (first-of c.loop-number.ahead.items c.take_nearest.new.ahead.items c.in-Some.number c.in-Some.next c.in-Some.ensures) in
+    let t = taken p k leaves c.args.steps.now c.loop-number.steps c.loop-number.ahead.items left a c.loop-number.kept s (first-of c.loop-number.ahead.items c.take_nearest.new.ahead.items c.in-Some.number c.in-Some.next c.in-Some.ensures.taken) in
     let number : ℕ = number_nearer p a.least c.loop-number.kept.list.items in
     let test : nat_le k number ≡ c.has_nearer.result = (λ i. nat_le (sym s.k_is i) (number_nearer (sym s.from i) a.least c.loop-number.kept.list.items)) ∙ sym c.has_nearer.ensures in
     closed p k leaves c.args.steps.now tile c.loop-number.steps a left c.loop-number.kept t (leb-true k number (test ∙ c.if-has_nearer.true))
@@ -56,57 +57,57 @@ returns-then-has_nearer-clause-near g c world names is_world stands d many =
     let k = c.args.kept.k in
     ends p k leaves c.args.steps.now (within p (reach_of p k world d)) c.loop-number.steps (leaves_ahead leaves c.loop-number.ahead.items) (c.loop-number.invariant.0.near world names is_world stands d many)
 
-pub returns-in_err-push-in-Halves-clause-opened : goal.returns-in_err-push-in-Halves-clause-opened
-returns-in_err-push-in-Halves-clause-opened g c =
+pub returns-in_err-place-in-Halves-clause-opened : goal.returns-in_err-place-in-Halves-clause-opened
+returns-in_err-place-in-Halves-clause-opened g c =
     let leaves : List Leaf = g.I.Index.leaves c.args.index.now in
     let p = c.args.kept.from in
     let k = c.args.kept.k in
     ends-every p k leaves c.args.steps.now c.loop-number.steps (leaves_ahead leaves c.loop-number.ahead.items) c.loop-number.invariant.0.opened
 
-pub returns-in_err-push-in-Halves-clause-near : goal.returns-in_err-push-in-Halves-clause-near
-returns-in_err-push-in-Halves-clause-near g c world names is_world stands d many =
+pub returns-in_err-place-in-Halves-clause-near : goal.returns-in_err-place-in-Halves-clause-near
+returns-in_err-place-in-Halves-clause-near g c world names is_world stands d many =
     let leaves : List Leaf = g.I.Index.leaves c.args.index.now in
     let p = c.args.kept.from in
     let k = c.args.kept.k in
     ends p k leaves c.args.steps.now (within p (reach_of p k world d)) c.loop-number.steps (leaves_ahead leaves c.loop-number.ahead.items) (c.loop-number.invariant.0.near world names is_world stands d many)
 
-pub returns-in_err-push-in-Halves-2-clause-opened : goal.returns-in_err-push-in-Halves-2-clause-opened
-returns-in_err-push-in-Halves-2-clause-opened g c =
+pub returns-in_err-insert-in-Halves-clause-opened : goal.returns-in_err-insert-in-Halves-clause-opened
+returns-in_err-insert-in-Halves-clause-opened g c =
     let leaves : List Leaf = g.I.Index.leaves c.args.index.now in
     let p = c.args.kept.from in
     let k = c.args.kept.k in
     ends-every p k leaves c.args.steps.now c.loop-number.steps (leaves_ahead leaves c.loop-number.ahead.items) c.loop-number.invariant.0.opened
 
-pub returns-in_err-push-in-Halves-3-clause-opened : goal.returns-in_err-push-in-Halves-3-clause-opened
-returns-in_err-push-in-Halves-3-clause-opened g c =
+pub returns-in_err-place-in-Halves-2-clause-opened : goal.returns-in_err-place-in-Halves-2-clause-opened
+returns-in_err-place-in-Halves-2-clause-opened g c =
     let leaves : List Leaf = g.I.Index.leaves c.args.index.now in
     let p = c.args.kept.from in
     let k = c.args.kept.k in
     ends-every p k leaves c.args.steps.now c.loop-number.steps (leaves_ahead leaves c.loop-number.ahead.items) c.loop-number.invariant.0.opened
 
-pub returns-in_err-push-in-Halves-4-clause-opened : goal.returns-in_err-push-in-Halves-4-clause-opened
-returns-in_err-push-in-Halves-4-clause-opened g c =
+pub returns-in_err-insert-in-Halves-2-clause-opened : goal.returns-in_err-insert-in-Halves-2-clause-opened
+returns-in_err-insert-in-Halves-2-clause-opened g c =
     let leaves : List Leaf = g.I.Index.leaves c.args.index.now in
     let p = c.args.kept.from in
     let k = c.args.kept.k in
     ends-every p k leaves c.args.steps.now c.loop-number.steps (leaves_ahead leaves c.loop-number.ahead.items) c.loop-number.invariant.0.opened
 
-pub returns-in_err-push-in-Halves-2-clause-near : goal.returns-in_err-push-in-Halves-2-clause-near
-returns-in_err-push-in-Halves-2-clause-near g c world names is_world stands d many =
+pub returns-in_err-insert-in-Halves-clause-near : goal.returns-in_err-insert-in-Halves-clause-near
+returns-in_err-insert-in-Halves-clause-near g c world names is_world stands d many =
     let leaves : List Leaf = g.I.Index.leaves c.args.index.now in
     let p = c.args.kept.from in
     let k = c.args.kept.k in
     ends p k leaves c.args.steps.now (within p (reach_of p k world d)) c.loop-number.steps (leaves_ahead leaves c.loop-number.ahead.items) (c.loop-number.invariant.0.near world names is_world stands d many)
 
-pub returns-in_err-push-in-Halves-3-clause-near : goal.returns-in_err-push-in-Halves-3-clause-near
-returns-in_err-push-in-Halves-3-clause-near g c world names is_world stands d many =
+pub returns-in_err-place-in-Halves-2-clause-near : goal.returns-in_err-place-in-Halves-2-clause-near
+returns-in_err-place-in-Halves-2-clause-near g c world names is_world stands d many =
     let leaves : List Leaf = g.I.Index.leaves c.args.index.now in
     let p = c.args.kept.from in
     let k = c.args.kept.k in
     ends p k leaves c.args.steps.now (within p (reach_of p k world d)) c.loop-number.steps (leaves_ahead leaves c.loop-number.ahead.items) (c.loop-number.invariant.0.near world names is_world stands d many)
 
-pub returns-in_err-push-in-Halves-4-clause-near : goal.returns-in_err-push-in-Halves-4-clause-near
-returns-in_err-push-in-Halves-4-clause-near g c world names is_world stands d many =
+pub returns-in_err-insert-in-Halves-2-clause-near : goal.returns-in_err-insert-in-Halves-2-clause-near
+returns-in_err-insert-in-Halves-2-clause-near g c world names is_world stands d many =
     let leaves : List Leaf = g.I.Index.leaves c.args.index.now in
     let p = c.args.kept.from in
     let k = c.args.kept.k in
@@ -135,8 +136,8 @@ loop-number-smaller-in-Continue-branch-3 g c =
     let tile = (g.met.I.Index.are_leaves c.args.index.now).tile in
     let a : Ahead = c.in-Some.next in
     let left : List Ahead = c.take_nearest.new.ahead.items in
-    let t = taken p k leaves c.args.steps.now c.loop-number.steps c.loop-number.ahead.items left a c.loop-number.kept s (first-of c.loop-number.ahead.items c.take_nearest.new.ahead.items c.in-Some.number c.in-Some.next c.in-Some.ensures) in
-    weight-less c.loop-number.ahead.items left a (first-of c.loop-number.ahead.items c.take_nearest.new.ahead.items c.in-Some.number c.in-Some.next c.in-Some.ensures) t.is.1
+    let t = taken p k leaves c.args.steps.now c.loop-number.steps c.loop-number.ahead.items left a c.loop-number.kept s (first-of c.loop-number.ahead.items c.take_nearest.new.ahead.items c.in-Some.number c.in-Some.next c.in-Some.ensures.taken) in
+    weight-less c.loop-number.ahead.items left a (first-of c.loop-number.ahead.items c.take_nearest.new.ahead.items c.in-Some.number c.in-Some.next c.in-Some.ensures.taken) t.is.1
 
 pub loop-number-preserved-in-Continue-branch-3 : goal.loop-number-preserved-in-Continue-branch-3
 loop-number-preserved-in-Continue-branch-3 g c =
@@ -147,7 +148,7 @@ loop-number-preserved-in-Continue-branch-3 g c =
     let tile = (g.met.I.Index.are_leaves c.args.index.now).tile in
     let a : Ahead = c.in-Some.next in
     let left : List Ahead = c.take_nearest.new.ahead.items in
-    let t = taken p k leaves c.args.steps.now c.loop-number.steps c.loop-number.ahead.items left a c.loop-number.kept s (first-of c.loop-number.ahead.items c.take_nearest.new.ahead.items c.in-Some.number c.in-Some.next c.in-Some.ensures) in
+    let t = taken p k leaves c.args.steps.now c.loop-number.steps c.loop-number.ahead.items left a c.loop-number.kept s (first-of c.loop-number.ahead.items c.take_nearest.new.ahead.items c.in-Some.number c.in-Some.next c.in-Some.ensures.taken) in
     let number : ℕ = number_nearer p a.least c.loop-number.kept.list.items in
     let test : nat_le k number ≡ c.has_nearer.result = (λ i. nat_le (sym s.k_is i) (number_nearer (sym s.from i) a.least c.loop-number.kept.list.items)) ∙ sym c.has_nearer.ensures in
     let few : number < k = leb-false k number (test ∙ c.if-has_nearer.false) in
@@ -155,7 +156,8 @@ loop-number-preserved-in-Continue-branch-3 g c =
     let passes : Passes (objects_of b.rows) c.loop-number.kept c.add_rows.new.kept = subst (λ (r : Rows). Passes (objects_of r.rows) c.loop-number.kept c.add_rows.new.kept) c.deref.ensures c.in_ok-add_rows-in-Leaf.ensures.passes in (
       leaf-state p k leaves c.args.steps.now tile c.loop-number.steps a left c.loop-number.kept t b c.in-Leaf.ensures few c.add_rows.new.kept c.add_rows.new.steps c.add_rows.ensures.opened c.loop-number.invariant.1 passes,
       omega (arith, c.loop-number.invariant.1, c.add_rows.ensures.opened),
-      left-at (g.I.Index.is_at c.args.index.now) c.loop-number.ahead.items left c.loop-number.places.items c.remove.new.self.items c.in-Some.number a c.loop-number.invariant.2 c.in-Some.ensures c.remove.ensures.items,
+      left-at (g.I.Index.is_at c.args.index.now) c.loop-number.ahead.items left c.loop-number.places.items c.remove.new.self.items c.in-Some.number a c.loop-number.invariant.2 c.in-Some.ensures.taken c.remove.ensures.items,
+      c.take_nearest.ensures.sorted,
     )
 
 pub returns-in_err-add_rows-in-Leaf-clause-opened : goal.returns-in_err-add_rows-in-Leaf-clause-opened
@@ -167,7 +169,7 @@ returns-in_err-add_rows-in-Leaf-clause-opened g c =
     let tile = (g.met.I.Index.are_leaves c.args.index.now).tile in
     let a : Ahead = c.in-Some.next in
     let left : List Ahead = c.take_nearest.new.ahead.items in
-    let t = taken p k leaves c.args.steps.now c.loop-number.steps c.loop-number.ahead.items left a c.loop-number.kept s (first-of c.loop-number.ahead.items c.take_nearest.new.ahead.items c.in-Some.number c.in-Some.next c.in-Some.ensures) in
+    let t = taken p k leaves c.args.steps.now c.loop-number.steps c.loop-number.ahead.items left a c.loop-number.kept s (first-of c.loop-number.ahead.items c.take_nearest.new.ahead.items c.in-Some.number c.in-Some.next c.in-Some.ensures.taken) in
     let number : ℕ = number_nearer p a.least c.loop-number.kept.list.items in
     let test : nat_le k number ≡ c.has_nearer.result = (λ i. nat_le (sym s.k_is i) (number_nearer (sym s.from i) a.least c.loop-number.kept.list.items)) ∙ sym c.has_nearer.ensures in
     let few : number < k = leb-false k number (test ∙ c.if-has_nearer.false) in
@@ -184,7 +186,7 @@ returns-in_err-add_rows-in-Leaf-clause-near g c world names is_world stands d ma
     let tile = (g.met.I.Index.are_leaves c.args.index.now).tile in
     let a : Ahead = c.in-Some.next in
     let left : List Ahead = c.take_nearest.new.ahead.items in
-    let t = taken p k leaves c.args.steps.now c.loop-number.steps c.loop-number.ahead.items left a c.loop-number.kept s (first-of c.loop-number.ahead.items c.take_nearest.new.ahead.items c.in-Some.number c.in-Some.next c.in-Some.ensures) in
+    let t = taken p k leaves c.args.steps.now c.loop-number.steps c.loop-number.ahead.items left a c.loop-number.kept s (first-of c.loop-number.ahead.items c.take_nearest.new.ahead.items c.in-Some.number c.in-Some.next c.in-Some.ensures.taken) in
     let number : ℕ = number_nearer p a.least c.loop-number.kept.list.items in
     let test : nat_le k number ≡ c.has_nearer.result = (λ i. nat_le (sym s.k_is i) (number_nearer (sym s.from i) a.least c.loop-number.kept.list.items)) ∙ sym c.has_nearer.ensures in
     let few : number < k = leb-false k number (test ∙ c.if-has_nearer.false) in
@@ -206,14 +208,17 @@ loop-number-smaller g c =
     let tile = (g.met.I.Index.are_leaves c.args.index.now).tile in
     let a : Ahead = c.in-Some.next in
     let left : List Ahead = c.take_nearest.new.ahead.items in
-    let t = taken p k leaves c.args.steps.now c.loop-number.steps c.loop-number.ahead.items left a c.loop-number.kept s (first-of c.loop-number.ahead.items c.take_nearest.new.ahead.items c.in-Some.number c.in-Some.next c.in-Some.ensures) in
-    let fore : Ahead = c.new-in-Halves.result in
-    let hind : Ahead = c.new-in-Halves-2.result in
-    let fore_name : fore.name ≡ a.name ++ false ∷ [] = c.new-in-Halves.ensures.name ∙ c.child.ensures in
-    let hind_name : hind.name ≡ a.name ++ true ∷ [] = c.new-in-Halves-2.ensures.name ∙ c.child-in-Halves.ensures in
-    let items : c.push-in-Halves-3.new.self.items ≡ (left ++ fore ∷ []) ++ hind ∷ [] = c.in_ok-push-in-Halves-3.ensures.items ∙ ap (λ (xs : List Ahead). xs ++ hind ∷ []) c.in_ok-push-in-Halves.ensures.items in
-    subst (λ (xs : List Ahead). sum_by weight_of xs < sum_by weight_of c.loop-number.ahead.items) (sym items)
-    (weight-two c.loop-number.ahead.items left a fore hind (first-of c.loop-number.ahead.items c.take_nearest.new.ahead.items c.in-Some.number c.in-Some.next c.in-Some.ensures) (inner-room a.name leaves tile c.in-Halves.ensures.0) fore_name hind_name)
+    let t = taken p k leaves c.args.steps.now c.loop-number.steps c.loop-number.ahead.items left a c.loop-number.kept s (first-of c.loop-number.ahead.items c.take_nearest.new.ahead.items c.in-Some.number c.in-Some.next c.in-Some.ensures.taken) in
+    let fore : Ahead = c.new-fore.result in
+    let hind : Ahead = c.new-hind.result in
+    let mid : List Ahead = c.put_ahead.new.ahead.items in
+    let new : List Ahead = c.put_ahead-in-Halves.new.ahead.items in
+    let fore_name : fore.name ≡ a.name ++ false ∷ [] = c.new-fore.ensures.name ∙ c.child.ensures in
+    let hind_name : hind.name ≡ a.name ++ true ∷ [] = c.new-hind.ensures.name ∙ c.child-in-Halves.ensures in
+    let one = one-inserted left mid c.in_ok-place-in-Halves.place fore c.in_ok-place-in-Halves.ensures.put.1 in
+    let two = one-inserted mid new c.in_ok-place-in-Halves-2.place hind c.in_ok-place-in-Halves-2.ensures.put.1 in
+    weight-two c.loop-number.ahead.items left mid new a fore hind (first-of c.loop-number.ahead.items c.take_nearest.new.ahead.items c.in-Some.number c.in-Some.next c.in-Some.ensures.taken) one two
+    (inner-room a.name leaves tile c.in-Halves.ensures.0) fore_name hind_name
 
 pub loop-number-preserved : goal.loop-number-preserved
 loop-number-preserved g c =
@@ -225,35 +230,56 @@ loop-number-preserved g c =
     let tile = (g.met.I.Index.are_leaves c.args.index.now).tile in
     let a : Ahead = c.in-Some.next in
     let left : List Ahead = c.take_nearest.new.ahead.items in
-    let t = taken p k leaves c.args.steps.now c.loop-number.steps c.loop-number.ahead.items left a c.loop-number.kept s (first-of c.loop-number.ahead.items c.take_nearest.new.ahead.items c.in-Some.number c.in-Some.next c.in-Some.ensures) in
-    let rest = left-at is_at c.loop-number.ahead.items left c.loop-number.places.items c.remove.new.self.items c.in-Some.number a c.loop-number.invariant.2 c.in-Some.ensures c.remove.ensures.items in
-    let fore : Ahead = c.new-in-Halves.result in
-    let hind : Ahead = c.new-in-Halves-2.result in
-    let fore_name : fore.name ≡ a.name ++ false ∷ [] = c.new-in-Halves.ensures.name ∙ c.child.ensures in
-    let hind_name : hind.name ≡ a.name ++ true ∷ [] = c.new-in-Halves-2.ensures.name ∙ c.child-in-Halves.ensures in
-    let items : c.push-in-Halves-3.new.self.items ≡ (left ++ fore ∷ []) ++ hind ∷ [] = c.in_ok-push-in-Halves-3.ensures.items ∙ ap (λ (xs : List Ahead). xs ++ hind ∷ []) c.in_ok-push-in-Halves.ensures.items in
-    let fore_is : IsAhead p fore = subst (λ q. IsAhead q fore) s.from c.new-in-Halves.ensures.ahead in
-    let hind_is : IsAhead p hind = subst (λ q. IsAhead q hind) s.from c.new-in-Halves-2.ensures.ahead in (
-      subst (λ (xs : List Ahead). State p k leaves c.args.steps.now c.loop-number.steps xs c.loop-number.kept) (sym items)
-          (inner-state p k leaves c.args.steps.now tile c.loop-number.steps a left c.loop-number.kept t fore hind c.in-Halves.ensures.0 c.in-Halves.ensures.1 fore_name hind_name fore_is hind_is),
+    let t = taken p k leaves c.args.steps.now c.loop-number.steps c.loop-number.ahead.items left a c.loop-number.kept s (first-of c.loop-number.ahead.items c.take_nearest.new.ahead.items c.in-Some.number c.in-Some.next c.in-Some.ensures.taken) in
+    let rest = left-at is_at c.loop-number.ahead.items left c.loop-number.places.items c.remove.new.self.items c.in-Some.number a c.loop-number.invariant.2 c.in-Some.ensures.taken c.remove.ensures.items in
+    let fore : Ahead = c.new-fore.result in
+    let hind : Ahead = c.new-hind.result in
+    let mid : List Ahead = c.put_ahead.new.ahead.items in
+    let new : List Ahead = c.put_ahead-in-Halves.new.ahead.items in
+    let fore_name : fore.name ≡ a.name ++ false ∷ [] = c.new-fore.ensures.name ∙ c.child.ensures in
+    let hind_name : hind.name ≡ a.name ++ true ∷ [] = c.new-hind.ensures.name ∙ c.child-in-Halves.ensures in
+    let one = one-inserted left mid c.in_ok-place-in-Halves.place fore c.in_ok-place-in-Halves.ensures.put.1 in
+    let two = one-inserted mid new c.in_ok-place-in-Halves-2.place hind c.in_ok-place-in-Halves-2.ensures.put.1 in
+    let fore_is : IsAhead p fore = subst (λ q. IsAhead q fore) s.from c.new-fore.ensures.ahead in
+    let hind_is : IsAhead p hind = subst (λ q. IsAhead q hind) s.from c.new-hind.ensures.ahead in
+    let at_fore = put-at is_at left mid c.remove.new.self.items c.insert.new.self.items c.in_ok-place-in-Halves.place fore c.in-Halves.zero rest (subst (is_at c.in-Halves.zero.now) (sym fore_name) c.in-Halves.ensures.2)
+    c.in_ok-place-in-Halves.ensures.put.1 c.in_ok-insert-in-Halves.ensures.items in (
+      inner-state p k leaves c.args.steps.now tile c.loop-number.steps a left c.loop-number.kept t fore hind mid new c.in-Halves.ensures.0 c.in-Halves.ensures.1 fore_name hind_name fore_is hind_is one two,
       c.loop-number.invariant.1,
-      subst (λ (xs : List Ahead). AreAt is_at xs c.push-in-Halves-4.new.self.items) (sym items)
-          (subst (λ ps. AreAt is_at ((left ++ fore ∷ []) ++ hind ∷ []) ps) (sym (c.in_ok-push-in-Halves-4.ensures.items ∙ ap (λ ps. ps ++ c.in-Halves.one ∷ []) c.in_ok-push-in-Halves-2.ensures.items))
-          (at-push is_at (left ++ fore ∷ []) (c.remove.new.self.items ++ c.in-Halves.zero ∷ []) hind c.in-Halves.one
-          (at-push is_at left c.remove.new.self.items fore c.in-Halves.zero rest (subst (is_at c.in-Halves.zero.now) (sym fore_name) c.in-Halves.ensures.2))
-          (subst (is_at c.in-Halves.one.now) (sym hind_name) c.in-Halves.ensures.3))),
+      put-at is_at mid new c.insert.new.self.items c.insert-in-Halves.new.self.items c.in_ok-place-in-Halves-2.place hind c.in-Halves.one at_fore (subst (is_at c.in-Halves.one.now) (sym hind_name) c.in-Halves.ensures.3)
+          c.in_ok-place-in-Halves-2.ensures.put.1 c.in_ok-insert-in-Halves-2.ensures.items,
+      c.in_ok-place-in-Halves-2.ensures.sorted,
     )
+
+pub insert-requires : goal.insert-requires
+insert-requires g c =
+    let is_at = g.I.Index.is_at c.args.index.now in
+    let left : List Ahead = c.take_nearest.new.ahead.items in
+    let rest = left-at is_at c.loop-number.ahead.items left c.loop-number.places.items c.remove.new.self.items c.in-Some.number c.in-Some.next c.loop-number.invariant.2 c.in-Some.ensures.taken c.remove.ensures.items in
+    omega (arith, c.in_ok-place-in-Halves.ensures.put.0, length-at is_at left c.remove.new.self.items rest, c.remove.new.self.ok.0)
+
+pub insert-requires-in-Halves : goal.insert-requires-in-Halves
+insert-requires-in-Halves g c =
+    let is_at = g.I.Index.is_at c.args.index.now in
+    let left : List Ahead = c.take_nearest.new.ahead.items in
+    let mid : List Ahead = c.put_ahead.new.ahead.items in
+    let fore : Ahead = c.new-fore.result in
+    let fore_name : fore.name ≡ c.in-Some.next.name ++ false ∷ [] = c.new-fore.ensures.name ∙ c.child.ensures in
+    let rest = left-at is_at c.loop-number.ahead.items left c.loop-number.places.items c.remove.new.self.items c.in-Some.number c.in-Some.next c.loop-number.invariant.2 c.in-Some.ensures.taken c.remove.ensures.items in
+    let at_fore = put-at is_at left mid c.remove.new.self.items c.insert.new.self.items c.in_ok-place-in-Halves.place fore c.in-Halves.zero rest (subst (is_at c.in-Halves.zero.now) (sym fore_name) c.in-Halves.ensures.2)
+    c.in_ok-place-in-Halves.ensures.put.1 c.in_ok-insert-in-Halves.ensures.items in
+    omega (arith, c.in_ok-place-in-Halves-2.ensures.put.0, length-at is_at mid c.insert.new.self.items at_fore, c.insert.new.self.ok.0)
 
 pub returns-clause-keeps : goal.returns-clause-keeps
 returns-clause-keeps g c world names is_world stands =
     let leaves : List Leaf = g.I.Index.leaves c.args.index.now in
     let p = c.args.kept.from in
     let k = c.args.kept.k in
-    subst (λ (xs : List Ahead). Keeps p k world (objects_ahead leaves xs) c.loop-number.kept) c.in_default.ensures.0 (c.loop-number.invariant.0.worlds world names is_world stands).keeps
+    subst (λ (xs : List Ahead). Keeps p k world (objects_ahead leaves xs) c.loop-number.kept) c.in_default.ensures.taken.0 (c.loop-number.invariant.0.worlds world names is_world stands).keeps
 
 pub remove-requires : goal.remove-requires
-remove-requires g c = omega (arith, c.in-Some.ensures.less, length-at (g.I.Index.is_at c.args.index.now) c.loop-number.ahead.items c.loop-number.places.items c.loop-number.invariant.2)
+remove-requires g c = omega (arith, c.in-Some.ensures.taken.less, length-at (g.I.Index.is_at c.args.index.now) c.loop-number.ahead.items c.loop-number.places.items c.loop-number.invariant.2)
 
 pub below-requires : goal.below-requires
 below-requires g c =
-    at-number (g.I.Index.is_at c.args.index.now) c.loop-number.ahead.items c.loop-number.places.items c.in-Some.number c.in-Some.next c.remove.result c.loop-number.invariant.2 c.in-Some.ensures.less c.in-Some.ensures.is c.remove.ensures.value
+    at-number (g.I.Index.is_at c.args.index.now) c.loop-number.ahead.items c.loop-number.places.items c.in-Some.number c.in-Some.next c.remove.result c.loop-number.invariant.2 c.in-Some.ensures.taken.less c.in-Some.ensures.taken.is c.remove.ensures.value

@@ -2,4 +2,4 @@ use Rattle.sessions.proofs.CallLemmas.{called-same}
 use Rattle.sessions.proofs.store.Store.call.Goals as goal
 
 pub returns-clause-pass : goal.returns-clause-pass
-returns-clause-pass g c = called-same g.I.Index.WIDTH c.args.session c.args.row c.args.op.now c.args.pass.now c.answer-answer.new.pass c.answer-answer.result c.answer-answer.ensures
+returns-clause-pass g c = called-same g.I.Index.WIDTH c.args.session c.args.row c.args.op.now c.args.pass.now c.answer-answer.new.pass c.answer-answer.result c.answer-answer.ensures.called

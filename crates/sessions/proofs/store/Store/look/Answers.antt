@@ -1,7 +1,6 @@
 use Rattle.std.proofs.Common.{Bool, ap, sym, subst, ◌∙◌}
 use Rattle.plain_list.specs.declared.entries.Entry.TheVariants.{Call}
 use Rattle.plain_list.specs.declared.entries.Lost.TheVariants as lost
-use Rattle.plain_list.specs.State.{state_after}
 use Rattle.commit_book.specs.declared.book.Snapshot.{Snapshot}
 use Rattle.commit_book.specs.Refusals.{IsMemory, call_refusal}
 use Rattle.book_lock.specs.Ends.{MayNote}
@@ -33,4 +32,4 @@ returns g c =
     let took = c.take-book.new.pass in
     let was : WasTaken g.D.LogDisk.drive c.take-book.result c.args.pass.now c.take-book.new.pass = record { entries = take.value.0; origin = take.value.1; later = take.later; took_is = take.pass; off = c.requires.off; alone = take.alone } in
     looked g.I.Index.leaves g.D.LogDisk.drive g.I.Index.WIDTH c.take-book.result mid c.args.pass.now took c.give.new.pass c.args.session c.args.row c.args.op.now was snapshot.book
-    (state_after g.I.Index.WIDTH mid.opening mid.entries).leaves c.snapshot-answer.result snapshot.ok snapshot.index snapshot.world snapshot.refused snapshot.err (c.give.ensures ∙ ap (λ (grown : Bool). has_given took grown mid.entries) c.has_entry-grown.ensures)
+    c.snapshot-answer.result snapshot.ok snapshot.index snapshot.world snapshot.refused snapshot.err (c.give.ensures ∙ ap (λ (grown : Bool). has_given took grown mid.entries) c.has_entry-grown.ensures)

@@ -1,9 +1,24 @@
+use Rattle.std.specs.Prelude.{None}
 use Rattle.plain_list.specs.History.{world_after}
-use Rattle.sessions.proofs.CallLemmas.{query-ok}
+use Rattle.sessions.specs.Opens.{leaves_seen, world_seen, listed_in}
+use Rattle.sessions.proofs.CallLemmas.{query-ok, query-opens}
+use Rattle.sessions.proofs.OpenLemmas.{opens-none}
 use Rattle.sessions.proofs.store.Store.query.Goals as goal
 
-pub returns-in-Ok-ask : goal.returns-in-Ok-ask
-returns-in-Ok-ask g c =
+pub returns-in-Ok-ask-clause-called : goal.returns-in-Ok-ask-clause-called
+returns-in-Ok-ask-clause-called g c =
     let step = c.in-Ok.ensures in
     query-ok g.I.Index.leaves g.I.Index.WIDTH c.args.session c.args.row c.args.op.now c.args.pass.now c.look.new.pass c.requires.query c.in-Ok.shown c.in-Ok-ask.answer step
-    (c.in-Ok-ask.ensures (world_after c.args.pass.now.origin.world step.before) step.says.names step.says.world step.says.stands)
+    (c.in-Ok-ask.ensures.answer (world_after c.args.pass.now.origin.world step.before) (leaves_seen g.I.Index.WIDTH c.look.new.pass) step.says.world step.says.stands)
+
+pub returns-in-Ok-ask-clause-opened : goal.returns-in-Ok-ask-clause-opened
+returns-in-Ok-ask-clause-opened g c =
+    query-opens g.I.Index.leaves g.I.Index.WIDTH c.args.session c.args.row c.args.op.now c.args.pass.now c.look.new.pass c.requires.query c.in-Ok.shown (listed_in c.in-Ok-ask.answer) c.args.steps.now c.ask.new.steps c.in-Ok.ensures
+    c.in-Ok-ask.ensures.opened
+
+pub returns-clause-opened : goal.returns-clause-opened
+returns-clause-opened g c =
+    query-opens g.I.Index.leaves g.I.Index.WIDTH c.args.session c.args.row c.args.op.now c.args.pass.now c.look.new.pass c.requires.query c.in-Ok.shown None c.args.steps.now c.ask.new.steps c.in-Ok.ensures c.in-Err-ask.ensures.opened
+
+pub returns-in-Err-clause-opened : goal.returns-in-Err-clause-opened
+returns-in-Err-clause-opened g c = opens-none c.args.op.now (leaves_seen g.I.Index.WIDTH c.look.new.pass) (world_seen c.look.new.pass) c.args.steps.now

@@ -1,0 +1,77 @@
+-- How often a call opens a bucket.
+use Rattle.std.specs.Prelude.{◌≡◌, ℕ, ◌+◌, ◌<◌, ◌≤◌, nat_le, Bool, List, length, Option, Some, None, Result, Ok, Err, IfSome}
+use Rattle.std.specs.List.{count_by}
+use Rattle.zorder.specs.declared.points.Point.{Point}
+use Rattle.zorder.specs.declared.points.Placed.{Placed}
+use Rattle.zorder.specs.declared.points.Region.{Region}
+use Rattle.plain_list.specs.declared.ops.Op.{Op}
+use Rattle.plain_list.specs.declared.ops.Op.TheVariants.{Put, Move, Remove, Find, Within, Near}
+use Rattle.plain_list.specs.declared.ops.Answer.{Answer}
+use Rattle.plain_list.specs.declared.ops.Answer.TheVariants.{Done, Present, Full, Moved, Gone, At, Absent, Found, Many}
+use Rattle.plain_list.specs.History.{world_after}
+use Rattle.plain_list.specs.State.{state_after}
+use Rattle.plain_list.specs.World.{IsWorld}
+use Rattle.index_layer.specs.Leaves.{Leaf}
+use Rattle.index_layer.specs.Stands.{Stands}
+use Rattle.range_query.specs.Cut.{is_met}
+use Rattle.knn_query.specs.Ahead.{least_to, reach_of}
+use Rattle.book_lock.specs.Pass.{Known}
+use Rattle.sessions.specs.Shared.{start_of}
+
+-- the leaves at the end of the history that a pass has seen
+abbrev pub leaves_seen : ℕ → Known → List (List Bool)
+leaves_seen w pass = (state_after w (start_of pass.origin) pass.seen).leaves
+
+-- the objects there
+abbrev pub world_seen : Known → List Placed
+world_seen pass = world_after pass.origin.world pass.seen
+
+-- how many of these leaves have a region that the box meets
+abbrev pub number_met : Region → List (List Bool) → ℕ
+number_met region names = count_by (is_met region) names
+
+-- how many of them have a region of which some point may be as near as this
+abbrev pub number_within : Point → ℕ → List (List Bool) → ℕ
+number_within p reach names = count_by (λ name. nat_le (least_to p name) reach) names
+
+-- the objects that an answer lists
+abbrev pub listed_in : Answer → Option (List Placed)
+listed_in Done = None
+listed_in (Present p) = None
+listed_in Full = None
+listed_in (Moved p) = None
+listed_in (Gone p) = None
+listed_in (At p) = None
+listed_in Absent = None
+listed_in (Found ms) = Some ms
+listed_in (Many n) = None
+
+-- those that a result lists, where there is an answer in it
+abbrev pub listed_by : {A E : Type 0} → (A → Answer) → Result A E → Option (List Placed)
+listed_by answer (Ok value) = listed_in (answer value)
+listed_by answer (Err fault) = None
+
+-- a box opens only leaves whose region it meets, each at most once, and all of them where objects are listed
+pub record OpensBox (region : Region) (names : List (List Bool)) (listed : Option (List Placed)) (before now : ℕ) : Type 0 where
+  pub most : now ≤ before + number_met region names
+  pub exact : IfSome listed (λ ms. now ≡ before + number_met region names)
+
+-- The objects nearest to a point open each leaf at most once; where there are k, only leaves of which some point may be as near as the
+-- k-th; and at least one where some object is listed.
+pub record OpensNearest (p : Point) (k : ℕ) (names : List (List Bool)) (world : List Placed) (listed : Option (List Placed)) (before now : ℕ) : Type 0 where
+  pub most : now ≤ before + length names
+  pub near : (d : Placed) → k ≤ length world → now ≤ before + number_within p (reach_of p k world d) names
+  pub some : IfSome listed (λ ms. 0 < length ms → before < now)
+
+-- how often a bucket is opened for an operation, over these leaves and objects
+abbrev pub Opens : Op → List (List Bool) → List Placed → Option (List Placed) → ℕ → ℕ → Type 0
+Opens (Put id at) names world listed before now = now ≡ before
+Opens (Move id at) names world listed before now = now ≡ before
+Opens (Remove id) names world listed before now = now ≡ before
+Opens (Find id) names world listed before now = now ≡ before
+Opens (Within region) names world listed before now = OpensBox region names listed before now
+Opens (Near at k) names world listed before now = OpensNearest at k names world listed before now
+
+-- the same, of each world that the leaves of an index stand for
+abbrev pub OpensOf : List Leaf → Op → Option (List Placed) → ℕ → ℕ → Type 0
+OpensOf leaves op listed before now = (world : List Placed) (names : List (List Bool)) → IsWorld world → Stands leaves world names → Opens op names world listed before now
