@@ -16,4 +16,4 @@ pub use inputs::{HEADER, text, words};
 pub use left::Left;
 pub use logs::{EMPTY_LOG, PUT_LOG};
 pub use noting::Attach;
-pub use runs::{run_apart, run_on, run_over};
+pub use runs::{run_apart, run_gated, run_on, run_over};

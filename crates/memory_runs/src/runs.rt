@@ -4,12 +4,20 @@ use crate::inputs::words;
 use crate::left::Left;
 use crate::noting::NotingDisk;
 use disk_mem::MemDisk;
-use io_edge::{MemSink, MemSource, OpenGate};
+use io_edge::{Gate, MemSink, MemSource, OpenGate};
 use location_run::{Outcome, run};
 use std::alloc::Global;
 use std::sync::Wait;
 use std::thread::Threads;
 use zorder::Memory;
+
+// How long a file may grow, and all that is written to it; how many calls may reach it; how much the sink takes. A few objects near each
+// other take up to 64 splits, of eight calls each.
+const ROOM: usize = 1 << 16;
+
+const CALLS: usize = 1 << 14;
+
+const OUTPUT: usize = 1 << 18;
 
 /// A run of these words and this input over a file with these bytes.
 pub fn run_on<R: Threads + Wait + Sync>(
@@ -20,9 +28,22 @@ pub fn run_on<R: Threads + Wait + Sync>(
     file: &[u8],
     faults: &Faults<'_>,
 ) -> Result<Left, Memory> {
+    run_gated(rt, alloc, all, input, file, faults, &OpenGate)
+}
+
+/// The same with this hook.
+pub fn run_gated<R: Threads + Wait + Sync, G: Gate + Sync>(
+    rt: &R,
+    alloc: Global,
+    all: &[&str],
+    input: &str,
+    file: &[u8],
+    faults: &Faults<'_>,
+    gate: &G,
+) -> Result<Left, Memory> {
     let calls = faults.calls.to_vec(alloc)?;
-    let disk = MemDisk::new(alloc, file.to_vec(alloc)?, 8_192, 1_024, calls)?;
-    run_over(rt, alloc, all, input, disk, faults)
+    let disk = MemDisk::new(alloc, file.to_vec(alloc)?, ROOM, CALLS, calls)?;
+    run_disk(rt, alloc, all, input, disk, faults, gate)
 }
 
 /// The same over drives that fail at each call.
@@ -51,17 +72,29 @@ pub fn run_over<R: Threads + Wait + Sync>(
     disk: MemDisk,
     faults: &Faults<'_>,
 ) -> Result<Left, Memory> {
+    run_disk(rt, alloc, all, input, disk, faults, &OpenGate)
+}
+
+fn run_disk<R: Threads + Wait + Sync, G: Gate + Sync>(
+    rt: &R,
+    alloc: Global,
+    all: &[&str],
+    input: &str,
+    disk: MemDisk,
+    faults: &Faults<'_>,
+    gate: &G,
+) -> Result<Left, Memory> {
     let words = words(alloc, all)?;
     let source = MemSource::new(input.as_bytes().to_vec(alloc)?, faults.reads.to_vec(alloc)?);
-    let sink = MemSink::new(alloc, 65_536, faults.puts.to_vec(alloc)?)?;
+    let sink = MemSink::new(alloc, OUTPUT, faults.puts.to_vec(alloc)?)?;
     let other = failing_disk(alloc)?;
     let disk = NotingDisk::new(alloc, disk);
     let other = NotingDisk::new(alloc, other);
-    run_all(rt, alloc, words.as_slice(), source, sink, disk, other)
+    run_all(rt, alloc, words.as_slice(), source, sink, disk, other, gate)
 }
 
 // The one call of `run`.
-fn run_all<R: Threads + Wait + Sync>(
+fn run_all<R: Threads + Wait + Sync, G: Gate + Sync>(
     rt: &R,
     alloc: Global,
     words: &[String],
@@ -69,6 +102,7 @@ fn run_all<R: Threads + Wait + Sync>(
     mut sink: MemSink,
     disk: NotingDisk,
     other: NotingDisk,
+    gate: &G,
 ) -> Result<Left, Memory> {
     let outcome = run(
         rt,
@@ -78,7 +112,7 @@ fn run_all<R: Threads + Wait + Sync>(
         &mut sink,
         disk,
         other,
-        &OpenGate,
+        gate,
     );
     let taken = sink.bytes().to_vec(alloc)?;
     Ok(left_of(outcome, taken))
