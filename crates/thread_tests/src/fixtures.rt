@@ -1,6 +1,7 @@
 //! Rows that are played with a gate, and what they leave.
 use disk_mem::MemDisk;
-use io_edge::{Gate, MemSink, MemSource};
+use disk_trait::LogDisk;
+use io_edge::{Gate, MemSink, MemSource, Sink, Source};
 use location_run::{Outcome, run};
 use plain_list::{Entries, Entry};
 use std::alloc::{AllocError, Global};
@@ -44,21 +45,29 @@ pub fn play<R: Threads + Wait + Sync, G: Gate + Sync>(
     let words = words(alloc, &["play", "-", "--bucket", bucket])?;
     let mut source = MemSource::new(input, Vec::new(alloc));
     let mut sink = MemSink::new(alloc, ROOM, Vec::new(alloc))?;
-    let Outcome { status, events, .. } = run(
-        rt,
-        alloc,
-        words.as_slice(),
-        &mut source,
-        &mut sink,
-        no_drive(alloc)?,
-        no_drive(alloc)?,
-        gate,
-    );
+    let (disk, other) = (no_drive(alloc)?, no_drive(alloc)?);
+    let words = words.as_slice();
+    let (status, events) = run_over(rt, alloc, words, &mut source, &mut sink, disk, other, gate);
     Ok(Left {
         status,
         events,
         written: sink.bytes().to_vec(alloc)?,
     })
+}
+
+// The one call of `run`, over any ends.
+fn run_over<R: Threads + Wait + Sync, S: Source, K: Sink, D: LogDisk + Send, G: Gate + Sync>(
+    rt: &R,
+    alloc: Global,
+    words: &[String],
+    source: &mut S,
+    sink: &mut K,
+    disk: D,
+    other: D,
+    gate: &G,
+) -> (u8, Entries) {
+    let Outcome { status, events, .. } = run(rt, alloc, words, source, sink, disk, other, gate);
+    (status, events)
 }
 
 /// How many calls a history has.

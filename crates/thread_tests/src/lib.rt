@@ -6,6 +6,8 @@ mod crowds;
 #[cfg(test)]
 mod fixtures;
 #[cfg(test)]
+mod legal;
+#[cfg(test)]
 mod orders;
 #[cfg(test)]
 mod passes;

@@ -2,6 +2,7 @@
 //!
 //! Who makes the first call of all isn't up to the gate. So each output has two forms, with the places 1 and 2 exchanged.
 use crate::fixtures::{HEADER, Left, play};
+use crate::legal::{Told, is_legal_with};
 use crate::turns::{Turn, Turns};
 use io_edge::GatePoint;
 use plain_list::Entry;
@@ -10,6 +11,7 @@ use std::process::Abort;
 use std::sync::Wait;
 use std::test::*;
 use std::thread::Threads;
+use zorder::Point;
 
 const fn turn(point: GatePoint, lane: u8, until: u64) -> Turn {
     Turn { point, lane, until }
@@ -129,41 +131,54 @@ fn a_put_between_begin_and_install_lands_in_the_child(rt: HostRuntime) -> Result
     a_put_comes_between(&rt, rt.alloc())
 }
 
-// Both sessions put the same taxi, and the gate says who comes first.
-fn the_first_put_stands<R: Threads + Wait + Abort + Sync>(
+const FIRST: Told = Told::Present(Point { x: 3, y: 5 });
+
+const SECOND: Told = Told::Present(Point { x: 8, y: 8 });
+
+// Both sessions put the same taxi, and session 1 comes first.
+fn the_put_of_session_1_stands<R: Threads + Wait + Abort + Sync>(
     rt: &R,
     alloc: Global,
 ) -> Result<(), Fail> {
-    let left = play_in_turns(
-        rt,
-        alloc,
-        "1,put,7,3,5,,\n2,where,9,,,,\n2,put,7,8,8,,\n",
-        &[answered(1, 0), answered(2, 0)],
-    )?;
-    let first = wrote(
+    let rows = "1,put,7,3,5,,\n2,where,9,,,,\n2,put,7,8,8,,\n";
+    let left = play_in_turns(rt, alloc, rows, &[answered(1, 0), answered(2, 0)])?;
+    let wrote = wrote(
         alloc,
         &left,
         "1,1,done,\n2,2,absent,\n3,3,present,3:5\n",
         "1,2,done,\n2,1,absent,\n3,3,present,3:5\n",
     )?;
-    assert!(rt; first);
-    let left = play_in_turns(
-        rt,
-        alloc,
-        "1,where,9,,,,\n1,put,7,3,5,,\n2,put,7,8,8,,\n",
-        &[answered(2, 0), answered(1, 0)],
-    )?;
-    let second = wrote(
+    assert!(rt; wrote);
+    let told = [Told::Done, Told::Absent, FIRST];
+    assert!(rt; is_legal_with(alloc, &left.events, &told)?);
+    let others = [SECOND, Told::Absent, Told::Done];
+    assert!(rt; !is_legal_with(alloc, &left.events, &others)?);
+    Ok(())
+}
+
+// The same, and session 2 comes first.
+fn the_put_of_session_2_stands<R: Threads + Wait + Abort + Sync>(
+    rt: &R,
+    alloc: Global,
+) -> Result<(), Fail> {
+    let rows = "1,where,9,,,,\n1,put,7,3,5,,\n2,put,7,8,8,,\n";
+    let left = play_in_turns(rt, alloc, rows, &[answered(2, 0), answered(1, 0)])?;
+    let wrote = wrote(
         alloc,
         &left,
         "1,1,absent,\n2,3,present,8:8\n3,2,done,\n",
         "1,2,absent,\n2,3,present,8:8\n3,1,done,\n",
     )?;
-    assert!(rt; second);
+    assert!(rt; wrote);
+    let told = [Told::Absent, SECOND, Told::Done];
+    assert!(rt; is_legal_with(alloc, &left.events, &told)?);
+    let others = [Told::Absent, Told::Done, FIRST];
+    assert!(rt; !is_legal_with(alloc, &left.events, &others)?);
     Ok(())
 }
 
 #[test]
 fn of_two_puts_of_one_id_the_first_stands(rt: HostRuntime) -> Result<(), Fail> {
-    the_first_put_stands(&rt, rt.alloc())
+    the_put_of_session_1_stands(&rt, rt.alloc())?;
+    the_put_of_session_2_stands(&rt, rt.alloc())
 }

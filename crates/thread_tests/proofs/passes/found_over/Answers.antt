@@ -1,5 +1,5 @@
 use Rattle.sessions.proofs.WorldSteps.{any_start}
-use Rattle.thread_tests.proofs.passes.one_pass_learns_what_another_did.Goals as goal
+use Rattle.thread_tests.proofs.passes.found_over.Goals as goal
 
 pub new-requires-clause-start : goal.new-requires-clause-start
 new-requires-clause-start g c = any_start g.D.LogDisk.drive c.args.book.log

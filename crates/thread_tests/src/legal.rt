@@ -1,0 +1,55 @@
+//! Whether a history is legal with what its rows were told.
+use plain_list::{Answer, Call, Entries, Entry, World, is_legal};
+use std::alloc::{AllocError, Global};
+use zorder::{Memory, Point};
+
+/// What a put or a find was told.
+#[derive(Clone, Copy)]
+pub enum Told {
+    Done,
+    Present(Point),
+    Absent,
+}
+
+fn answer(told: Told) -> Answer {
+    match told {
+        Told::Done => Answer::Done,
+        Told::Present(at) => Answer::Present(at),
+        Told::Absent => Answer::Absent,
+    }
+}
+
+// What a row was told, of which the list has the first row's at its head.
+fn told_of(told: &[Told], row: u32) -> Option<Told> {
+    let place = (row as usize).checked_sub(1)?;
+    told.get(place).copied()
+}
+
+// The calls of a history, in its order.
+fn calls_of(alloc: Global, events: &Entries, told: &[Told]) -> Result<Vec<Call>, AllocError> {
+    let mut calls = Vec::new(alloc);
+    for entry in events.as_slice() {
+        if let Some(call) = call_of(entry, told) {
+            calls.push(call)?;
+        }
+    }
+    Ok(calls)
+}
+
+fn call_of(entry: &Entry, told: &[Told]) -> Option<Call> {
+    match *entry {
+        Entry::Call { session, row, op } => Some(Call {
+            session,
+            row,
+            op,
+            answer: answer(told_of(told, row)?),
+        }),
+        _ => None,
+    }
+}
+
+/// Whether the calls of a history over no objects have these answers, where one plain list is asked in its order.
+pub fn is_legal_with(alloc: Global, events: &Entries, told: &[Told]) -> Result<bool, Memory> {
+    let calls = calls_of(alloc, events, told)?;
+    is_legal(alloc, &World::empty(alloc), calls.as_slice())
+}
