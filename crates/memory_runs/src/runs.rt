@@ -104,16 +104,7 @@ fn run_all<R: Threads + Wait + Sync, G: Gate + Sync>(
     other: NotingDisk,
     gate: &G,
 ) -> Result<Left, Memory> {
-    let outcome = run(
-        rt,
-        alloc,
-        words,
-        &mut source,
-        &mut sink,
-        disk,
-        other,
-        gate,
-    );
+    let outcome = run(rt, alloc, words, &mut source, &mut sink, disk, other, gate);
     let taken = sink.bytes().to_vec(alloc)?;
     Ok(left_of(outcome, taken))
 }
