@@ -1,5 +1,5 @@
 -- What a path through a trie leads to.
-use Rattle.std.proofs.Common.{◌≡◌, ℕ, ◌+◌, ◌<◌, ◌≤◌, Bool, true, false, cond, List, [], ◌∷◌, ◌++◌, length, Some, refl, sym, ◌∙◌, ap, arith, append_assoc, append-nil, length-append}
+use Rattle.std.proofs.Common.{◌≡◌, Bool, true, false, cond, List, [], ◌∷◌, ◌++◌, Some, refl, sym, ◌∙◌, ap, arith, append_assoc, append-nil, length-append}
 use Rattle.zorder.specs.Tile.{tiles_from}
 use Rattle.bucket_versions.specs.Rows.{Rows}
 use Rattle.index_layer.specs.Leaves.{Leaf, names_of, has_name, leaf_named}

@@ -1,3 +1,5 @@
 pub mod Tries
 pub mod Nodes
 pub mod Ways
+pub mod Stems
+pub mod Wholes

@@ -1,8 +1,9 @@
 //! An index as a binary trie, whose nodes and buckets its versions share.
 //!
-//! Contracts see a `KdTrie` as the list of its leaves, as the trait says. `share` copies one pointer. A change in place goes
+//! Contracts see a `KdTrie` as the list of its leaves, as the trait says. `share` copies two pointers. A change in place goes
 //! down to its leaf by the bits of a key; what another trie shares on that path is copied, and no more. Then it takes its
-//! step, and writes. `replaced` and `split` are a share and the same change on it.
+//! step, and writes. `replaced` and `split` are a share and the same change on it. The first bits, along which a trie has no
+//! branch, are kept as one list (the stem) and not as nodes, so no change below it copies them.
 //!
 //! Not here: which leaves there are to be (`index_build`, `commit_book`), the rows of a bucket (`bucket_versions`).
 #![tactic(auto)]
@@ -10,6 +11,8 @@
 mod node;
 mod rows;
 mod sending;
+mod stem;
+mod stemmed;
 mod trie;
 
 pub use trie::KdTrie;

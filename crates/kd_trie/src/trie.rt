@@ -1,14 +1,16 @@
-//! The trie: nodes under one root, with leaves that tile the key space.
-ghost use Rattle.std.specs.Prelude.{◌≡◌, ◌<◌, ◌≤◌, ◌^◌, [], Some};
+//! The trie: nodes under one stem, with leaves that tile the key space.
+ghost use Rattle.std.specs.Prelude.{◌≡◌, ◌<◌, ◌≤◌, ◌^◌, ◌⊎◌, [], Some};
 ghost use Rattle.std.specs.Arc.{arc_value};
 ghost use Rattle.bucket_versions.specs.Rows.{IsRows};
 ghost use Rattle.index_layer.specs.Leaves.{AreLeaves, has_name};
 ghost use Rattle.index_layer.specs.LeavesProp.{AreLeaves-prop};
 ghost use Rattle.kd_trie.specs.Tries.{height, leaves_under, reach};
 ghost use Rattle.kd_trie.specs.Nodes.{seen};
+ghost use Rattle.kd_trie.specs.Stems.{GoesPast};
+ghost use Rattle.kd_trie.specs.Wholes.{whole};
 
-use crate::node::{Node, Way, divide, leaf_of, put, put_two};
-use crate::rows;
+use crate::node::Node;
+use crate::stemmed::Stemmed;
 use bucket_versions::{AtOnce, Bucket, Commit, RowChange, Undone};
 use index_layer::{Below, Index, IndexFault, Part};
 use std::alloc::Global;
@@ -20,16 +22,15 @@ use zorder::{Memory, Name, begins, first_bits};
 /// A node that another trie can reach is never written: a change first makes the path to its leaf this trie's own.
 #[derive(Drop)]
 pub struct KdTrie {
-    alloc: Global,
-    root: Node,
-    ghost short: { height (seen root) ≤ 64 },
-    ghost are_leaves: { AreLeaves (leaves_under [] (seen root)) } by { AreLeaves-prop (leaves_under [] (seen root)) },
+    tree: Stemmed,
+    ghost short: { height (whole tree) ≤ 64 },
+    ghost are_leaves: { AreLeaves (leaves_under [] (whole tree)) } by { AreLeaves-prop (leaves_under [] (whole tree)) },
 }
 
 impl KdTrie {
     // Whether a leaf has this name.
     fn has_leaf(&self, name: &Name) -> bool
-        ensures { result ≡ has_name name.now (leaves_under [] (seen self.now.root)) }
+        ensures { result ≡ has_name name.now (leaves_under [] (whole self.now.tree)) }
     {
         let (found, _) = self.leaf_of(name.bits());
         found == *name
@@ -39,9 +40,9 @@ impl KdTrie {
 impl Index for KdTrie {
     type Place = Node;
 
-    ghost leaves = { λ s. leaves_under [] (seen s.root) };
+    ghost leaves = { λ s. leaves_under [] (whole s.tree) };
 
-    ghost is_at = { λ s place name. reach name (seen s.root) ≡ Some (seen place) };
+    ghost is_at = { λ s place name. GoesPast name s.tree.stem.name ⊎ (reach name (whole s.tree) ≡ Some (seen place)) };
 
     ghost WIDTH = { 1 };
 
@@ -55,22 +56,17 @@ impl Index for KdTrie {
 
     fn whole(alloc: Global, bucket: Arc<Bucket>) -> Result<Self, Memory> {
         in_order(&bucket);
-        Ok(KdTrie {
-            alloc,
-            root: Node::Leaf(bucket),
-        })
+        let tree = Stemmed::leaf(alloc, bucket)?;
+        Ok(KdTrie { tree })
     }
 
     fn share(&self) -> Result<Self, Memory> {
-        let root = self.root.share()?;
-        Ok(KdTrie {
-            alloc: self.alloc,
-            root,
-        })
+        let tree = self.tree.share()?;
+        Ok(KdTrie { tree })
     }
 
     fn leaf_of(&self, key: u64) -> (Name, &Arc<Bucket>) {
-        let (left, bucket) = leaf_of(&self.root, key, 64);
+        let (left, bucket) = self.tree.leaf_of(key);
         (first_bits(key, 64 - left), bucket)
     }
 
@@ -86,10 +82,25 @@ impl Index for KdTrie {
     }
 
     fn top(&self) -> &Node {
-        &self.root
+        &self.tree.root
     }
 
-    fn below<'a>(&'a self, _name: &Name, place: &'a Node) -> Below<'a, Node> {
+    fn below<'a>(&'a self, name: &Name, place: &'a Node) -> Below<'a, Node> {
+        let tree = &self.tree;
+        if let Some(side) = tree.stem.side_past(name) {
+            // The names alone tell where a walk along the stem stands: the root stands in for a place there.
+            return if side.bit {
+                Below::Halves {
+                    zero: &side.node,
+                    one: &tree.root,
+                }
+            } else {
+                Below::Halves {
+                    zero: &tree.root,
+                    one: &side.node,
+                }
+            };
+        }
         match place {
             Node::Leaf(bucket) => Below::Leaf(bucket),
             Node::Inner(pair) => Below::Halves {
@@ -132,12 +143,7 @@ impl Index for KdTrie {
         commit: &mut C,
     ) -> Result<(), Undone> {
         in_order(&bucket);
-        let way = Way {
-            key: name.bits(),
-            left: 64,
-            bucket,
-        };
-        put(self.alloc, &mut self.root, way, commit)
+        self.tree.put(name.bits(), bucket, commit)
     }
 
     fn replace_two<C: Commit>(
@@ -150,17 +156,8 @@ impl Index for KdTrie {
     ) -> Result<(), Undone> {
         in_order(&bucket);
         in_order(&other_bucket);
-        let first = Way {
-            key: name.bits(),
-            left: 64,
-            bucket,
-        };
-        let second = Way {
-            key: other.bits(),
-            left: 64,
-            bucket: other_bucket,
-        };
-        put_two(self.alloc, &mut self.root, first, second, commit)
+        self.tree
+            .put_two(name.bits(), bucket, other.bits(), other_bucket, commit)
     }
 
     fn divide<C: Commit>(
@@ -177,25 +174,17 @@ impl Index for KdTrie {
         };
         in_order(&zero);
         in_order(&one);
-        divide(
-            self.alloc,
-            &mut self.root,
-            name.bits(),
-            64,
-            zero,
-            one,
-            commit,
-        )
+        self.tree.divide(name.bits(), zero, one, commit)
     }
 
     fn put_row<C: Commit>(&mut self, put: RowChange, commit: &mut C) -> Result<(), Undone> {
         in_range(put.row.key);
-        rows::put_row(self.alloc, &mut self.root, &put, 64, commit)
+        self.tree.put_row(&put, commit)
     }
 
     fn take_row<C: Commit>(&mut self, gone: RowChange, commit: &mut C) -> Result<(), Undone> {
         in_range(gone.row.key);
-        rows::take_row(self.alloc, &mut self.root, &gone, 64, commit)
+        self.tree.take_row(&gone, commit)
     }
 
     fn move_row<C: Commit>(
@@ -206,7 +195,7 @@ impl Index for KdTrie {
     ) -> Result<(), Undone> {
         in_range(from.row.key);
         in_range(to.row.key);
-        rows::shift_row(self.alloc, &mut self.root, &from, &to, 64, commit)
+        self.tree.shift_row(&from, &to, commit)
     }
 }
 

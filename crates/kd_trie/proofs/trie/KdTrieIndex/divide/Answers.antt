@@ -5,13 +5,13 @@ use Rattle.bucket_versions.specs.Rows.{Rows}
 use Rattle.index_layer.specs.Leaves.{AreAllUnder, split}
 use Rattle.index_layer.proofs.Children.{two_items}
 use Rattle.kd_trie.specs.Tries.{graft, twins, leaves_under}
-use Rattle.kd_trie.specs.Nodes.{seen}
+use Rattle.kd_trie.specs.Wholes.{whole}
 use Rattle.kd_trie.proofs.TrieLeaves.{divides-graft, short-kept, are_leaves-kept, leaves-made}
 use Rattle.kd_trie.proofs.trie.KdTrieIndex.divide.Goals as goal
 
 pub invariant_of-self : goal.invariant_of-self
 invariant_of-self g c =
-    let old = seen c.args.self.now.root in
+    let old = whole c.args.self.now.tree in
     let a : Rows = arc_value c.in-Ok.zero in
     let b : Rows = arc_value c.in-Ok-try_clone.one in
     let buckets : map arc_value c.args.children.now ≡ a ∷ b ∷ [] =
@@ -20,13 +20,13 @@ invariant_of-self g c =
     let made = graft (low_bits 64 c.bits.result) (twins a b) old in
     let d = divides-graft c.args.name.now c.bits.result a b old c.bits.ensures c.args.self.now.short c.args.self.now.are_leaves c.in_order.ensures c.in_order-2.ensures c.requires.short (subst (AreAllUnder 1 c.args.name.now) buckets c.requires.children.1) c.requires.leaf in
     record {
-      short = short-kept c.divide.result old made (seen c.divide.new.node) d.short c.args.self.now.short c.divide.ensures.ok c.divide.ensures.err;
-      are_leaves = are_leaves-kept c.divide.result old made (seen c.divide.new.node) d.are_leaves c.args.self.now.are_leaves c.divide.ensures.ok c.divide.ensures.err;
+      short = short-kept c.divide.result old made (whole c.divide.new.self) d.short c.args.self.now.short c.divide.ensures.ok c.divide.ensures.err;
+      are_leaves = are_leaves-kept c.divide.result old made (whole c.divide.new.self) d.are_leaves c.args.self.now.are_leaves c.divide.ensures.ok c.divide.ensures.err;
     }
 
 pub returns-clause-ok : goal.returns-clause-ok
 returns-clause-ok g c =
-    let old = seen c.args.self.now.root in
+    let old = whole c.args.self.now.tree in
     let a : Rows = arc_value c.in-Ok.zero in
     let b : Rows = arc_value c.in-Ok-try_clone.one in
     let buckets : map arc_value c.args.children.now ≡ a ∷ b ∷ [] =
@@ -34,5 +34,5 @@ returns-clause-ok g c =
     ∙ (λ i. sym c.in-Ok.ensures i ∷ sym c.in-Ok-try_clone.ensures i ∷ []) in
     let made = graft (low_bits 64 c.bits.result) (twins a b) old in
     let d = divides-graft c.args.name.now c.bits.result a b old c.bits.ensures c.args.self.now.short c.args.self.now.are_leaves c.in_order.ensures c.in_order-2.ensures c.requires.short (subst (AreAllUnder 1 c.args.name.now) buckets c.requires.children.1) c.requires.leaf in
-    leaves-made c.divide.result made (seen c.divide.new.node) (split 1 c.args.name.now (map arc_value c.args.children.now) (leaves_under [] old))
+    leaves-made c.divide.result made (whole c.divide.new.self) (split 1 c.args.name.now (map arc_value c.args.children.now) (leaves_under [] old))
     (d.leaves ∙ ap (λ (bs : List Rows). split 1 c.args.name.now bs (leaves_under [] old)) (sym buckets)) c.divide.ensures.ok

@@ -4,7 +4,7 @@ use Rattle.zorder.specs.Bits.{low_bits}
 use Rattle.zorder.specs.Key.{key_bits}
 use Rattle.index_layer.proofs.LeafChanges.{leaf_at}
 use Rattle.kd_trie.specs.Tries.{name_at}
-use Rattle.kd_trie.specs.Nodes.{seen}
+use Rattle.kd_trie.specs.Wholes.{whole}
 use Rattle.kd_trie.proofs.TrieLeaves.{leaf-at_key, name-front}
 use Rattle.kd_trie.proofs.trie.KdTrieIndex.leaf_of.Goals as goal
 
@@ -12,7 +12,7 @@ pub returns : goal.returns
 unfolding key_bits
 returns c =
     let key = c.args.key in
-    let t = seen c.args.self.now.root in
+    let t = whole c.args.self.now.tree in
     let bucket = arc_value c.leaf_of-left.result.1.now in
     let count : length (name_at (low_bits 64 key) t) ≡ 64 - c.leaf_of-left.result.0 = omega (arith, c.leaf_of-left.ensures.left) in
     leaf-at_key key bucket t c.args.self.now.short c.args.self.now.are_leaves.tile c.ranges.key.fits c.leaf_of-left.ensures.bucket

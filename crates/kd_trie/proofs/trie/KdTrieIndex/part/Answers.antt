@@ -10,7 +10,7 @@ use Rattle.index_layer.specs.Leaves.{leaf_under}
 use Rattle.index_layer.proofs.LeafChanges.{leaf_at}
 use Rattle.index_layer.proofs.LeafNames.{has_name-first, leaf_named-first, is_inner-first, goes_on-test}
 use Rattle.kd_trie.specs.Tries.{leaves_under}
-use Rattle.kd_trie.specs.Nodes.{seen}
+use Rattle.kd_trie.specs.Wholes.{whole}
 use Rattle.kd_trie.proofs.trie.KdTrieIndex.part.Goals as goal
 use Rattle.kd_trie.proofs.trie.KdTrieIndex.part.Goals.{else-len-via-then-len+else-begins, else-len-via-else-len}
 
@@ -23,7 +23,7 @@ not_less m n le = grind (arith, nat_tests)
 
 pub returns-then-eq : goal.returns-then-eq
 returns-then-eq c =
-    let leaves = leaves_under [] (seen c.args.self.now.root) in
+    let leaves = leaves_under [] (whole c.args.self.now.tree) in
     let bucket = arc_value c.leaf_of-found.result.1.now in
     let found = ap (λ (k : ℕ). leaf_under k leaves) (sym c.bits.ensures) ∙ c.leaf_of-found.ensures in
     leaf_named-first leaves c.args.self.now.are_leaves.tile c.args.name.now (leaf_at c.leaf_of-found.result.0 bucket) found (sym c.if-eq.ensures)
@@ -31,7 +31,7 @@ returns-then-eq c =
 
 pub returns-then-begins : goal.returns-then-begins
 returns-then-begins c =
-    let leaves = leaves_under [] (seen c.args.self.now.root) in
+    let leaves = leaves_under [] (whole c.args.self.now.tree) in
     let name = c.leaf_of-found.result.0 in
     let found = ap (λ (k : ℕ). leaf_under k leaves) (sym c.bits.ensures) ∙ c.leaf_of-found.ensures in
     let leaf = leaf_at name (arc_value c.leaf_of-found.result.1.now) in
@@ -44,7 +44,7 @@ returns-then-begins c =
 
 pub returns-else-len : goal.returns-else-len
 returns-else-len c =
-    let leaves = leaves_under [] (seen c.args.self.now.root) in
+    let leaves = leaves_under [] (whole c.args.self.now.tree) in
     let name = c.leaf_of-found.result.0 in
     let found = ap (λ (k : ℕ). leaf_under k leaves) (sym c.bits.ensures) ∙ c.leaf_of-found.ensures in
     let leaf = leaf_at name (arc_value c.leaf_of-found.result.1.now) in

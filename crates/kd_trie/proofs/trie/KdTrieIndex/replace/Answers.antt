@@ -3,23 +3,23 @@ use Rattle.zorder.specs.Bits.{low_bits}
 use Rattle.std.specs.Arc.{arc_value}
 use Rattle.index_layer.specs.Leaves.{replaced}
 use Rattle.kd_trie.specs.Tries.{put_at, leaves_under}
-use Rattle.kd_trie.specs.Nodes.{seen}
+use Rattle.kd_trie.specs.Wholes.{whole}
 use Rattle.kd_trie.proofs.TrieLeaves.{differs-put, short-kept, are_leaves-kept, leaves-made}
 use Rattle.kd_trie.proofs.trie.KdTrieIndex.replace.Goals as goal
 
 pub invariant_of-self : goal.invariant_of-self
 invariant_of-self g c =
-    let old = seen c.args.self.now.root in
+    let old = whole c.args.self.now.tree in
     let made = put_at (low_bits 64 c.bits.result) (arc_value c.args.bucket) old in
     let d = differs-put c.args.name.now c.bits.result (arc_value c.args.bucket) old c.bits.ensures c.args.self.now.short c.args.self.now.are_leaves c.in_order.ensures c.requires.under c.requires.leaf in
     record {
-      short = short-kept c.put.result old made (seen c.put.new.node) d.short c.args.self.now.short c.put.ensures.ok c.put.ensures.err;
-      are_leaves = are_leaves-kept c.put.result old made (seen c.put.new.node) d.are_leaves c.args.self.now.are_leaves c.put.ensures.ok c.put.ensures.err;
+      short = short-kept c.put.result old made (whole c.put.new.self) d.short c.args.self.now.short c.put.ensures.ok c.put.ensures.err;
+      are_leaves = are_leaves-kept c.put.result old made (whole c.put.new.self) d.are_leaves c.args.self.now.are_leaves c.put.ensures.ok c.put.ensures.err;
     }
 
 pub returns-clause-ok : goal.returns-clause-ok
 returns-clause-ok g c =
-    let old = seen c.args.self.now.root in
+    let old = whole c.args.self.now.tree in
     let made = put_at (low_bits 64 c.bits.result) (arc_value c.args.bucket) old in
     let d = differs-put c.args.name.now c.bits.result (arc_value c.args.bucket) old c.bits.ensures c.args.self.now.short c.args.self.now.are_leaves c.in_order.ensures c.requires.under c.requires.leaf in
-    leaves-made c.put.result made (seen c.put.new.node) (replaced c.args.name.now (arc_value c.args.bucket) (leaves_under [] (seen c.args.self.now.root))) d.leaves c.put.ensures.ok
+    leaves-made c.put.result made (whole c.put.new.self) (replaced c.args.name.now (arc_value c.args.bucket) (leaves_under [] (whole c.args.self.now.tree))) d.leaves c.put.ensures.ok

@@ -1,0 +1,25 @@
+use Rattle.std.proofs.Common.{◌≡◌, ◌∙◌, ◌-◌, ℕ, length, sym, ap, arith}
+use Rattle.kd_trie.specs.Nodes.{seen}
+use Rattle.kd_trie.specs.Stems.{way_of}
+use Rattle.kd_trie.specs.Wholes.{sides_of}
+use Rattle.kd_trie.proofs.StemLemmas.{height-under, under-stem, bucket-under, name-length-under}
+use Rattle.kd_trie.proofs.stemmed.Stemmed.leaf_of.Goals as goal
+
+pub leaf_of-requires-clause-height : goal.leaf_of-requires-clause-height
+leaf_of-requires-clause-height c =
+    let s = c.args.self.now in
+    height-under s.stem.name (sides_of s.stem) (seen s.root) (64 - c.len.result) s.stem.named (ap (λ (n : ℕ). 64 - n) c.len.ensures.len) c.requires
+
+pub returns-then-begins-clause-bucket : goal.returns-then-begins-clause-bucket
+returns-then-begins-clause-bucket c =
+    let s = c.args.self.now in
+    let path = under-stem s.stem.name (sides_of s.stem) c.args.key (64 - c.len.result) s.stem.named (sym c.if-begins.ensures) (ap (λ (n : ℕ). 64 - n) c.len.ensures.len) in
+    bucket-under (sides_of s.stem) c.args.key (64 - c.len.result) path (seen s.root) ∙ c.leaf_of.ensures.bucket
+
+pub returns-then-begins-clause-left : goal.returns-then-begins-clause-left
+returns-then-begins-clause-left c =
+    let s = c.args.self.now in
+    let path = under-stem s.stem.name (sides_of s.stem) c.args.key (64 - c.len.result) s.stem.named (sym c.if-begins.ensures) (ap (λ (n : ℕ). 64 - n) c.len.ensures.len) in
+    let long = name-length-under (sides_of s.stem) c.args.key (64 - c.len.result) path (seen s.root) in
+    let same : length s.stem.name ≡ length (way_of (sides_of s.stem)) = ap length s.stem.named in
+    omega (arith, long, same, c.leaf_of.ensures.left, c.len.ensures.len, c.len.ensures.most)

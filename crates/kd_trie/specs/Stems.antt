@@ -1,0 +1,29 @@
+-- A way from the top of a trie, and what stands beside it.
+use Rattle.std.specs.Prelude.{◌≡◌, Bool, List, [], ◌∷◌, ◌++◌, map, if◌then◌else◌}
+use Rattle.kd_trie.specs.declared.stem.Side.{Side}
+use Rattle.kd_trie.specs.Tries.{Trie, fork}
+use Rattle.kd_trie.specs.Nodes.{seen}
+
+-- the bits of the way
+abbrev pub way_of : List Side → List Bool
+way_of sides = map (λ (s : Side). s.bit) sides
+
+-- two halves, of which the second one given is under this bit
+abbrev pub halves : Bool → Trie → Trie → Trie
+halves bit beside on = if bit then fork beside on else fork on beside
+
+-- the trie in which the way past these sides leads to this trie
+abbrev pub stem_over : List Side → Trie → Trie
+stem_over [] t = t
+stem_over (s ∷ sides) t = halves s.bit (seen s.node) (stem_over sides t)
+
+-- the second name begins with the first and goes on
+abbrev pub GoesPast : List Bool → List Bool → Type 0
+GoesPast name stem = (bit : Bool) × (rest : List Bool) × (stem ≡ name ++ bit ∷ rest)
+
+-- what stands beside the step of a way behind this name
+pub record Passing (name : List Bool) (sides : List Side) (s : Side) : Type 0 where
+  pub front : List Side
+  pub back : List Side
+  pub is : sides ≡ front ++ s ∷ back
+  pub named : name ≡ way_of front

@@ -1,0 +1,17 @@
+-- A trie with its stem.
+use Rattle.std.specs.Prelude.{List}
+use Rattle.std.specs.Arc.{arc_value}
+use Rattle.kd_trie.specs.declared.stem.Side.{Side}
+use Rattle.kd_trie.specs.declared.stem.Stem.{Stem}
+use Rattle.kd_trie.specs.declared.stemmed.Stemmed.{Stemmed}
+use Rattle.kd_trie.specs.Tries.{Trie}
+use Rattle.kd_trie.specs.Nodes.{seen}
+use Rattle.kd_trie.specs.Stems.{stem_over}
+
+-- what is beside the stem
+abbrev pub sides_of : Stem → List Side
+sides_of s = (arc_value s.aside).items
+
+-- the trie whose first pairs the stem stands for
+abbrev pub whole : Stemmed → Trie
+whole s = stem_over (sides_of s.stem) (seen s.root)

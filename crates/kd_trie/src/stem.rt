@@ -1,0 +1,166 @@
+//! The way from the top of a trie to where it branches, kept as one list in the place of its pairs.
+ghost use Rattle.std.specs.Prelude.{◌≡◌, ◌≤◌, ◌+◌, [], Some, None, length, IfOk, IfSome};
+ghost use Rattle.std.specs.Arc.{arc_value};
+ghost use Rattle.zorder.specs.Bits.{low_bits};
+ghost use Rattle.kd_trie.specs.Tries.{Trie, height, name_at, bucket_at};
+ghost use Rattle.kd_trie.specs.Nodes.{seen};
+ghost use Rattle.kd_trie.specs.Stems.{GoesPast, Passing, way_of, halves, stem_over};
+ghost use Rattle.index_layer.specs.Part.{goes_on};
+
+use crate::node::{Node, Pair, leaf_of, next_bit};
+use bucket_versions::Bucket;
+use std::alloc::{AllocError, Global};
+use std::sync::Arc;
+use zorder::{Name, begins, child};
+
+/// What stands beside one step of a way.
+#[derive(Drop)]
+pub(crate) struct Side {
+    /// The bit by which the way goes on.
+    pub(crate) bit: bool,
+    /// What is under the other one.
+    pub(crate) node: Node,
+}
+
+/// A way from the top, as a name, and what stands beside each of its steps.
+#[derive(Drop)]
+pub(crate) struct Stem {
+    pub(crate) name: Name,
+    pub(crate) aside: Arc<Vec<Side>>,
+    ghost named: { name ≡ way_of (arc_value aside).items },
+}
+
+impl Stem {
+    /// The stem of no bits.
+    pub(crate) fn none(alloc: Global) -> Result<Stem, AllocError>
+        ensures sides { IfOk result (λ s. (arc_value s.aside).items ≡ []) }
+        ensures name { IfOk result (λ s. s.name ≡ []) }
+    {
+        let aside = Arc::new(alloc, Vec::new(alloc))?;
+        Ok(Stem {
+            name: Name::whole(),
+            aside,
+        })
+    }
+
+    /// An equal stem, which shares all.
+    pub(crate) fn share(&self) -> Result<Stem, AllocError>
+        ensures { IfOk result (λ s. (arc_value s.aside).items ≡ (arc_value self.now.aside).items) }
+    {
+        let aside = Arc::try_clone(&self.aside)?;
+        Ok(Stem {
+            name: self.name,
+            aside,
+        })
+    }
+
+    /// What stands beside the step behind a name, where the way goes on from that name.
+    pub(crate) fn side_past(&self, name: &Name) -> Option<&Side>
+        ensures some { IfSome result (λ s. Passing name.now (arc_value self.now.aside).items s.now) }
+        ensures none { result ≡ None → GoesPast name.now self.now.name → ⊥ }
+    {
+        if goes_on(name, &self.name) {
+            Some(&self.aside[name.len() as usize])
+        } else {
+            None
+        }
+    }
+}
+
+// Whether a name begins another one that is longer.
+fn goes_on(name: &Name, long: &Name) -> bool
+    ensures { result ≡ goes_on name.now long.now }
+{
+    name.len() < long.len() && begins(name, long.bits())
+}
+
+/// The bucket that the last `left` bits of a key lead to where these sides begin, and how many bits are left there.
+pub(crate) fn leaf_past<'a>(
+    sides: &'a [Side],
+    root: &'a Node,
+    key: u64,
+    left: u8,
+) -> (u8, &'a Arc<Bucket>)
+    requires height { height (stem_over sides.now (seen root.now)) ≤ left }
+    requires most { left ≤ 64 }
+    ensures bucket { bucket_at (low_bits left key) (stem_over sides.now (seen root.now)) ≡ Some (arc_value result.1.now) }
+    ensures left { result.0 + length (name_at (low_bits left key) (stem_over sides.now (seen root.now))) ≡ left }
+{
+    let Some((side, later)) = sides.split_first() else {
+        return leaf_of(root, key, left);
+    };
+    if next_bit(key, left) == side.bit {
+        leaf_past(later, root, key, left - 1)
+    } else {
+        leaf_of(&side.node, key, left - 1)
+    }
+}
+
+/// The node that stands for these sides and what they lead to.
+pub(crate) fn unwound(alloc: Global, sides: &[Side], root: &Node) -> Result<Node, AllocError>
+    ensures { IfOk result (λ n. seen n ≡ stem_over sides.now (seen root.now)) }
+{
+    let Some((side, later)) = sides.split_first() else {
+        return root.share();
+    };
+    let on = unwound(alloc, later, root)?;
+    let beside = side.node.share()?;
+    let pair = if side.bit {
+        Pair {
+            zero: beside,
+            one: on,
+        }
+    } else {
+        Pair {
+            zero: on,
+            one: beside,
+        }
+    };
+    Ok(Node::Inner(Arc::new(alloc, pair)?))
+}
+
+/// Where exactly one half is a leaf: the bit that leads to the other half, the leaf, and the other half.
+pub(crate) fn step(node: &Node) -> Option<(bool, &Node, &Node)>
+    ensures { IfSome result (λ s. seen node.now ≡ halves s.0 (seen s.1.now) (seen s.2.now)) }
+{
+    let Node::Inner(pair) = node else {
+        return None;
+    };
+    if is_leaf(&pair.zero) == is_leaf(&pair.one) {
+        return None;
+    }
+    if is_leaf(&pair.zero) {
+        Some((true, &pair.zero, &pair.one))
+    } else {
+        Some((false, &pair.one, &pair.zero))
+    }
+}
+
+fn is_leaf(node: &Node) -> bool {
+    match node {
+        Node::Leaf(_) => true,
+        Node::Inner(_) => false,
+    }
+}
+
+/// Goes down while exactly one half is a leaf, and puts that half to the sides.
+pub(crate) fn stretch(
+    name: &mut Name,
+    aside: &mut Vec<Side>,
+    node: &Node,
+) -> Result<Node, AllocError>
+    requires { name.old ≡ way_of aside.old.items }
+    ensures named { IfOk result (λ _. name.new ≡ way_of aside.new.items) }
+    ensures over { IfOk result (λ n. stem_over aside.new.items (seen n) ≡ stem_over aside.old.items (seen node.now)) }
+{
+    if name.len() == 64 {
+        return node.share();
+    }
+    let Some((bit, beside, on)) = step(node) else {
+        return node.share();
+    };
+    let leaf = beside.share()?;
+    aside.push(Side { bit, node: leaf })?;
+    *name = child(name, bit);
+    stretch(name, aside, on)
+}

@@ -1,0 +1,277 @@
+//! A trie with its stem, and its changes.
+ghost use Rattle.std.specs.Prelude.{◌≡◌, ◌≤◌, ◌+◌, ℕ, [], Some, length, true, false, IfOk, OnOk, OnErr};
+ghost use Rattle.std.specs.Arc.{arc_value};
+ghost use Rattle.zorder.specs.Bits.{low_bits};
+ghost use Rattle.zorder.specs.Key.{is_under};
+ghost use Rattle.bucket_versions.specs.Rows.{has_row, after_put, after_gone};
+ghost use Rattle.bucket_versions.specs.Told.{Told};
+ghost use Rattle.kd_trie.specs.Tries.{height, name_at, bucket_at, put_at, graft, twins, changed_at, rows_at, tip};
+ghost use Rattle.kd_trie.specs.Wholes.{whole};
+
+use crate::node::{Node, Way, divide, leaf_of, put, put_two};
+use crate::rows;
+use crate::stem::{Stem, leaf_past, step, stretch, unwound};
+use bucket_versions::{Bucket, Commit, RowChange, Undone};
+use std::alloc::{AllocError, Global};
+use std::sync::Arc;
+use zorder::{Name, begins};
+
+/// A trie: a stem, and the node that it leads to.
+///
+/// Where all objects are in one small region, each trie over them begins with a long way that has nothing beside it. As pairs it would
+/// be copied with each path; as a stem it is shared whole.
+#[derive(Drop)]
+pub(crate) struct Stemmed {
+    alloc: Global,
+    pub(crate) stem: Stem,
+    pub(crate) root: Node,
+}
+
+impl Stemmed {
+    /// One leaf.
+    pub(crate) fn leaf(alloc: Global, bucket: Arc<Bucket>) -> Result<Stemmed, AllocError>
+        ensures { IfOk result (λ s. whole s ≡ tip (arc_value bucket)) }
+    {
+        let stem = Stem::none(alloc)?;
+        Ok(Stemmed {
+            alloc,
+            stem,
+            root: Node::Leaf(bucket),
+        })
+    }
+
+    /// An equal trie, which shares all.
+    pub(crate) fn share(&self) -> Result<Stemmed, AllocError>
+        ensures { IfOk result (λ s. whole s ≡ whole self.now) }
+    {
+        let stem = self.stem.share()?;
+        let root = self.root.share()?;
+        Ok(Stemmed {
+            alloc: self.alloc,
+            stem,
+            root,
+        })
+    }
+
+    /// The bucket that a key leads to, and how many of its bits are left there.
+    pub(crate) fn leaf_of(&self, key: u64) -> (u8, &Arc<Bucket>)
+        requires { height (whole self.now) ≤ 64 }
+        ensures bucket { bucket_at (low_bits 64 key) (whole self.now) ≡ Some (arc_value result.1.now) }
+        ensures left { result.0 + length (name_at (low_bits 64 key) (whole self.now)) ≡ 64 }
+    {
+        if begins(&self.stem.name, key) {
+            leaf_of(&self.root, key, 64 - self.stem.name.len())
+        } else {
+            leaf_past(&self.stem.aside, &self.root, key, 64)
+        }
+    }
+
+    // Makes a key one that is under the stem.
+    fn open_to(&mut self, key: u64) -> Result<(), AllocError>
+        ensures whole { whole self.new ≡ whole self.old }
+        ensures under { OnOk result (is_under self.new.stem.name key ≡ true) }
+        ensures keeps { OnOk result ((k : ℕ) → is_under self.old.stem.name k ≡ true → is_under self.new.stem.name k ≡ true) }
+    {
+        if begins(&self.stem.name, key) {
+            return Ok(());
+        }
+        *self = self.plain()?;
+        Ok(())
+    }
+
+    // The same trie with pairs in the place of the stem. It stays out of the changes, which seldom need it.
+    #[inline(never)]
+    fn plain(&self) -> Result<Stemmed, AllocError>
+        ensures whole { IfOk result (λ s. whole s ≡ whole self.now) }
+        ensures name { IfOk result (λ s. s.stem.name ≡ []) }
+    {
+        let root = unwound(self.alloc, &self.stem.aside, &self.root)?;
+        let stem = Stem::none(self.alloc)?;
+        Ok(Stemmed {
+            alloc: self.alloc,
+            stem,
+            root,
+        })
+    }
+
+    // Lengthens the stem to where the trie branches. For want of memory it stays as it is.
+    fn wind(&mut self)
+        ensures { whole self.new ≡ whole self.old }
+    {
+        if step(&self.root).is_none() {
+            return;
+        }
+        if let Ok(longer) = self.wound() {
+            *self = longer;
+        }
+    }
+
+    #[inline(never)]
+    fn wound(&self) -> Result<Stemmed, AllocError>
+        ensures { IfOk result (λ s. whole s ≡ whole self.now) }
+    {
+        let whole = unwound(self.alloc, &self.stem.aside, &self.root)?;
+        let mut name = Name::whole();
+        let mut aside = Vec::new(self.alloc);
+        let root = stretch(&mut name, &mut aside, &whole)?;
+        let aside = Arc::new(self.alloc, aside)?;
+        Ok(Stemmed {
+            alloc: self.alloc,
+            stem: Stem { name, aside },
+            root,
+        })
+    }
+
+    /// Puts a bucket where a key leads to, once the step has succeeded.
+    pub(crate) fn put<C: Commit>(
+        &mut self,
+        key: u64,
+        bucket: Arc<Bucket>,
+        commit: &mut C,
+    ) -> Result<(), Undone>
+        requires can { C.can commit.old }
+        requires height { height (whole self.old) ≤ 64 }
+        ensures ok { OnOk result (whole self.new ≡ put_at (low_bits 64 key) (arc_value bucket) (whole self.old)) }
+        ensures err { OnErr result (whole self.new ≡ whole self.old) }
+        ensures told { Told C.done C.lost commit.old commit.new result }
+    {
+        let Ok(()) = self.open_to(key) else {
+            return Err(Undone::Memory);
+        };
+        let way = Way {
+            key,
+            left: 64 - self.stem.name.len(),
+            bucket,
+        };
+        let done = put(self.alloc, &mut self.root, way, commit);
+        self.wind();
+        done
+    }
+
+    /// Puts two buckets where two keys lead to, once the step has succeeded. Where both lead to one leaf, it gets the second.
+    pub(crate) fn put_two<C: Commit>(
+        &mut self,
+        key: u64,
+        bucket: Arc<Bucket>,
+        other: u64,
+        other_bucket: Arc<Bucket>,
+        commit: &mut C,
+    ) -> Result<(), Undone>
+        requires can { C.can commit.old }
+        requires height { height (whole self.old) ≤ 64 }
+        ensures ok { OnOk result (whole self.new ≡ put_at (low_bits 64 other) (arc_value other_bucket) (put_at (low_bits 64 key) (arc_value bucket) (whole self.old))) }
+        ensures err { OnErr result (whole self.new ≡ whole self.old) }
+        ensures told { Told C.done C.lost commit.old commit.new result }
+    {
+        let Ok(()) = self.open_to(key) else {
+            return Err(Undone::Memory);
+        };
+        let Ok(()) = self.open_to(other) else {
+            return Err(Undone::Memory);
+        };
+        let left = 64 - self.stem.name.len();
+        let first = Way { key, left, bucket };
+        let second = Way {
+            key: other,
+            left,
+            bucket: other_bucket,
+        };
+        let done = put_two(self.alloc, &mut self.root, first, second, commit);
+        self.wind();
+        done
+    }
+
+    /// Puts two leaves in the place of the one that a key leads to, once the step has succeeded.
+    pub(crate) fn divide<C: Commit>(
+        &mut self,
+        key: u64,
+        zero: Arc<Bucket>,
+        one: Arc<Bucket>,
+        commit: &mut C,
+    ) -> Result<(), Undone>
+        requires can { C.can commit.old }
+        requires height { height (whole self.old) ≤ 64 }
+        ensures ok { OnOk result (whole self.new ≡ graft (low_bits 64 key) (twins (arc_value zero) (arc_value one)) (whole self.old)) }
+        ensures err { OnErr result (whole self.new ≡ whole self.old) }
+        ensures told { Told C.done C.lost commit.old commit.new result }
+    {
+        let Ok(()) = self.open_to(key) else {
+            return Err(Undone::Memory);
+        };
+        let left = 64 - self.stem.name.len();
+        let done = divide(self.alloc, &mut self.root, key, left, zero, one, commit);
+        self.wind();
+        done
+    }
+
+    /// Adds a row to the leaf of its key, once the step has succeeded.
+    pub(crate) fn put_row<C: Commit>(
+        &mut self,
+        change: &RowChange,
+        commit: &mut C,
+    ) -> Result<(), Undone>
+        requires can { C.can commit.old }
+        requires height { height (whole self.old) ≤ 64 }
+        requires absent { has_row change.now.row (rows_at (low_bits 64 change.now.row.key) (whole self.old)) ≡ false }
+        ensures ok { OnOk result (whole self.new ≡ changed_at (low_bits 64 change.now.row.key) (after_put change.now) (whole self.old)) }
+        ensures err { OnErr result (whole self.new ≡ whole self.old) }
+        ensures told { Told C.done C.lost commit.old commit.new result }
+    {
+        let Ok(()) = self.open_to(change.row.key) else {
+            return Err(Undone::Memory);
+        };
+        let left = 64 - self.stem.name.len();
+        let done = rows::put_row(self.alloc, &mut self.root, change, left, commit);
+        self.wind();
+        done
+    }
+
+    /// Takes a row out of the leaf of its key, once the step has succeeded.
+    pub(crate) fn take_row<C: Commit>(
+        &mut self,
+        change: &RowChange,
+        commit: &mut C,
+    ) -> Result<(), Undone>
+        requires can { C.can commit.old }
+        requires height { height (whole self.old) ≤ 64 }
+        requires present { has_row change.now.row (rows_at (low_bits 64 change.now.row.key) (whole self.old)) ≡ true }
+        ensures ok { OnOk result (whole self.new ≡ changed_at (low_bits 64 change.now.row.key) (after_gone change.now) (whole self.old)) }
+        ensures err { OnErr result (whole self.new ≡ whole self.old) }
+        ensures told { Told C.done C.lost commit.old commit.new result }
+    {
+        let Ok(()) = self.open_to(change.row.key) else {
+            return Err(Undone::Memory);
+        };
+        let left = 64 - self.stem.name.len();
+        let done = rows::take_row(self.alloc, &mut self.root, change, left, commit);
+        self.wind();
+        done
+    }
+
+    /// Takes a row out and adds another one, once the step has succeeded.
+    pub(crate) fn shift_row<C: Commit>(
+        &mut self,
+        from: &RowChange,
+        to: &RowChange,
+        commit: &mut C,
+    ) -> Result<(), Undone>
+        requires can { C.can commit.old }
+        requires height { height (whole self.old) ≤ 64 }
+        requires present { has_row from.now.row (rows_at (low_bits 64 from.now.row.key) (whole self.old)) ≡ true }
+        requires absent { has_row to.now.row (rows_at (low_bits 64 to.now.row.key) (changed_at (low_bits 64 from.now.row.key) (after_gone from.now) (whole self.old))) ≡ false }
+        ensures ok { OnOk result (whole self.new ≡ changed_at (low_bits 64 to.now.row.key) (after_put to.now) (changed_at (low_bits 64 from.now.row.key) (after_gone from.now) (whole self.old))) }
+        ensures err { OnErr result (whole self.new ≡ whole self.old) }
+        ensures told { Told C.done C.lost commit.old commit.new result }
+    {
+        let Ok(()) = self.open_to(from.row.key) else {
+            return Err(Undone::Memory);
+        };
+        let Ok(()) = self.open_to(to.row.key) else {
+            return Err(Undone::Memory);
+        };
+        let left = 64 - self.stem.name.len();
+        let done = rows::shift_row(self.alloc, &mut self.root, from, to, left, commit);
+        self.wind();
+        done
+    }
+}
