@@ -119,31 +119,32 @@ pub(crate) fn unwound(alloc: Global, sides: &[Side], root: &Node) -> Result<Node
     Ok(Node::Inner(Arc::new(alloc, pair)?))
 }
 
-/// Where exactly one half is a leaf: the bit that leads to the other half, the leaf, and the other half.
+/// Where exactly one half is a leaf without rows: the bit that leads to the other half, the leaf, and the other half. Only past
+/// such a leaf does a stem lead, so a change of a row that is there never leads off it.
 pub(crate) fn step(node: &Node) -> Option<(bool, &Node, &Node)>
     ensures { IfSome result (λ s. seen node.now ≡ halves s.0 (seen s.1.now) (seen s.2.now)) }
 {
     let Node::Inner(pair) = node else {
         return None;
     };
-    if is_leaf(&pair.zero) == is_leaf(&pair.one) {
+    if is_bare(&pair.zero) == is_bare(&pair.one) {
         return None;
     }
-    if is_leaf(&pair.zero) {
+    if is_bare(&pair.zero) {
         Some((true, &pair.zero, &pair.one))
     } else {
         Some((false, &pair.one, &pair.zero))
     }
 }
 
-fn is_leaf(node: &Node) -> bool {
+fn is_bare(node: &Node) -> bool {
     match node {
-        Node::Leaf(_) => true,
+        Node::Leaf(bucket) => bucket.count() == 0,
         Node::Inner(_) => false,
     }
 }
 
-/// Goes down while exactly one half is a leaf, and puts that half to the sides.
+/// Goes down while exactly one half is a leaf without rows, and puts that half to the sides.
 pub(crate) fn stretch(
     name: &mut Name,
     aside: &mut Vec<Side>,
