@@ -1,11 +1,11 @@
 //! Runs over ends in memory, and what they leave, as plain bytes and numbers.
 //!
-//! `run` and `inspect` are called here alone, in functions without clauses: the tests look at what they give while they run.
+//! `inspect` is called here alone, in a function without clauses: the tests look at what it gives while they run.
 use cell_format::Cause;
 use disk_mem::{Fail as Failing, MemDisk};
 use disk_trait::LogDisk;
-use io_edge::{Gate, MemSink, MemSource, OpenGate, Sink, Source};
-use location_run::{Outcome, run};
+use io_edge::{Gate, OpenGate};
+use memory_runs::{Faults, run_gated};
 use plain_list::Entry;
 use recovery::{OpenFault, Seen, inspect};
 use std::alloc::{AllocError, Global};
@@ -58,40 +58,6 @@ pub fn must<R: Abort>(rt: &R, holds: bool, what: &str, number: u64) {
     assert!(rt; holds, "{what} {number}");
 }
 
-// The top call over any ends.
-fn run_ends<R: Threads + Wait + Sync, S: Source, K: Sink, D: LogDisk + Send, G: Gate + Sync>(
-    rt: &R,
-    alloc: Global,
-    words: &[String],
-    source: &mut S,
-    sink: &mut K,
-    disk: D,
-    other: D,
-    gate: &G,
-) -> Outcome<D> {
-    run(rt, alloc, words, source, sink, disk, other, gate)
-}
-
-fn owned(alloc: Global, all: &[&str]) -> Result<Vec<String>, AllocError> {
-    let mut words = Vec::new(alloc);
-    for word in all {
-        words.push(String::from_str(alloc, word)?)?;
-    }
-    Ok(words)
-}
-
-// A drive whose file may grow by 64 KiB, in at most 16,384 calls: a few objects near each other take up to 64 splits.
-fn drive(alloc: Global, file: &[u8], calls: &[Failing]) -> Result<MemDisk, Fail> {
-    let room = file.len().saturating_add(65_536);
-    Ok(MemDisk::new(
-        alloc,
-        file.to_vec(alloc)?,
-        room,
-        16_384,
-        calls.to_vec(alloc)?,
-    )?)
-}
-
 fn add_images(
     alloc: Global,
     disk: &MemDisk,
@@ -119,40 +85,15 @@ fn images_of(alloc: Global, disk: &MemDisk) -> Result<Vec<Image>, Fail> {
     Ok(images)
 }
 
-// What an outcome and what the sink took come to.
-fn left_of(alloc: Global, outcome: &Outcome<MemDisk>, taken: &[u8]) -> Result<Left, Fail> {
+// What a run over a drive in memory left.
+fn left_of(alloc: Global, left: &memory_runs::Left) -> Result<Left, Fail> {
     Ok(Left {
-        status: outcome.status,
-        events: outcome.events.as_slice().to_vec(alloc)?,
-        taken: taken.to_vec(alloc)?,
-        file: outcome.disk.bytes().to_vec(alloc)?,
-        moments: outcome.disk.moments(),
-        images: images_of(alloc, &outcome.disk)?,
-    })
-}
-
-// The ends of a run.
-#[derive(Drop)]
-struct Ends {
-    words: Vec<String>,
-    source: MemSource,
-    sink: MemSink,
-    disk: MemDisk,
-    other: MemDisk,
-}
-
-fn source_of(alloc: Global, plan: &Plan<'_>) -> Result<MemSource, Fail> {
-    let input = plan.input.as_bytes().to_vec(alloc)?;
-    Ok(MemSource::new(input, plan.reads.to_vec(alloc)?))
-}
-
-fn ends_of(alloc: Global, plan: &Plan<'_>) -> Result<Ends, Fail> {
-    Ok(Ends {
-        words: owned(alloc, plan.words)?,
-        source: source_of(alloc, plan)?,
-        sink: MemSink::new(alloc, 1 << 18, plan.puts.to_vec(alloc)?)?,
-        disk: drive(alloc, plan.file, plan.calls)?,
-        other: drive(alloc, &[], &[])?,
+        status: left.status,
+        events: left.history().to_vec(alloc)?,
+        taken: left.taken.as_slice().to_vec(alloc)?,
+        file: left.file().to_vec(alloc)?,
+        moments: left.disk.moments(),
+        images: images_of(alloc, &left.disk)?,
     })
 }
 
@@ -163,16 +104,17 @@ pub fn run_with<R: Threads + Wait + Sync, G: Gate + Sync>(
     plan: &Plan<'_>,
     gate: &G,
 ) -> Result<Left, Fail> {
-    let Ends {
+    let Plan {
         words,
-        mut source,
-        mut sink,
-        disk,
-        other,
-    } = ends_of(alloc, plan)?;
-    let words = words.as_slice();
-    let outcome = run_ends(rt, alloc, words, &mut source, &mut sink, disk, other, gate);
-    left_of(alloc, &outcome, sink.bytes())
+        input,
+        file,
+        reads,
+        puts,
+        calls,
+    } = *plan;
+    let faults = Faults { reads, puts, calls };
+    let left = run_gated(rt, alloc, words, input, file, &faults, gate)?;
+    left_of(alloc, &left)
 }
 
 /// A run as planned.
