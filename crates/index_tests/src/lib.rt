@@ -14,4 +14,6 @@ mod never;
 #[cfg(test)]
 mod queries;
 #[cfg(test)]
+mod spread;
+#[cfg(test)]
 mod tests;
