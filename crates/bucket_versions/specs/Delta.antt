@@ -2,7 +2,8 @@
 use Rattle.std.specs.Prelude.{ℕ, ◌+◌, length, Bool, true, false, not, List, [], ◌∷◌, if◌then◌else◌}
 use Rattle.std.specs.List.{filter}
 use Rattle.bucket_versions.specs.declared.row.Row.{Row}
-use Rattle.bucket_versions.specs.Rows.{Rows, IsRows, is_below, same_row, has_row, with_row, without_row}
+use Rattle.bucket_versions.specs.declared.row.RowChange.{RowChange}
+use Rattle.bucket_versions.specs.Rows.{Rows, IsRows, is_below, same_row, has_row, with_row, without_row, rows_over}
 
 -- how many rows stand in exactly one of the base and the rows
 abbrev pub delta_len : Rows → ℕ
@@ -26,6 +27,10 @@ rows_now false base list = difference base list
 -- the rows without this one where it is among them, and with it where it isn't
 abbrev pub turn : Row → List Row → List Row
 turn r rows = if has_row r rows then without_row r rows else with_row r rows
+
+-- a bucket in which a row was turned, its base kept or not
+abbrev pub after_turn : RowChange → Rows → Rows
+after_turn c b = rows_over c.keeps_base (turn c.row b.rows) b
 
 -- whether a base and a delta begin with one row
 abbrev pub heads_meet : List Row → List Row → Bool

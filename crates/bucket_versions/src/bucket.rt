@@ -30,6 +30,16 @@ pub enum BucketFault {
     Memory,
 }
 
+impl From<Memory> for BucketFault {
+    ghost use Rattle.bucket_versions.specs.declared.bucket.BucketFault.TheVariants.{Memory};
+
+    ghost from_gives = { λ _ fault. fault ≡ Memory };
+
+    fn from(_: Memory) -> BucketFault {
+        BucketFault::Memory
+    }
+}
+
 /// Rows in order, none twice, and those that were there when it was last folded.
 ///
 /// Mostly its rows are their own base, in one list. A base that is kept while rows change stands apart, and versions share it.
@@ -49,6 +59,19 @@ impl Model for Bucket {
     ghost view = { seen };
 
     ghost invariant = { IsBucket };
+}
+
+impl Clone for Bucket {
+    ghost is_clone = { λ b copy. copy ≡ b };
+
+    // An equal bucket, with a list of its own. A base that stands apart is shared.
+    fn clone(&self) -> Result<Bucket, AllocError> {
+        let content = self.content.share(self.alloc)?;
+        Ok(Bucket {
+            alloc: self.alloc,
+            content,
+        })
+    }
 }
 
 impl Bucket {
@@ -82,7 +105,7 @@ impl Bucket {
         if self.holds(&row) {
             return Err(BucketFault::Present);
         }
-        self.turned(row).map_err(|_| BucketFault::Memory)
+        Ok(self.turned(row)?)
     }
 
     /// The bucket without one of its rows, on the same base.
@@ -94,7 +117,7 @@ impl Bucket {
         if !self.holds(&row) {
             return Err(BucketFault::Absent);
         }
-        self.turned(row).map_err(|_| BucketFault::Memory)
+        Ok(self.turned(row)?)
     }
 
     // The bucket without a row where it is there, and with it where it isn't, on the same base.
@@ -139,10 +162,7 @@ impl Bucket {
     pub fn into_shared(self) -> Result<Arc<Bucket>, Memory>
         ensures { IfOk result (λ b. arc_value b ≡ self) }
     {
-        match Arc::new(self.alloc, self) {
-            Ok(bucket) => Ok(bucket),
-            Err(refused) => Err(AllocError::from(refused).into()),
-        }
+        Ok(Arc::new(self.alloc, self)?)
     }
 
     /// The rows of the base, in order.

@@ -3,7 +3,7 @@ ghost use Rattle.std.specs.Prelude.{◌≡◌, ◌<◌, ◌^◌, false, true, le
 ghost use Rattle.std.specs.Arc.{arc_value};
 ghost use Rattle.bucket_versions.specs.declared.content.Base.{Base};
 ghost use Rattle.bucket_versions.specs.Rows.{has_row, with_rows, rows_over, after_put};
-ghost use Rattle.bucket_versions.specs.Delta.{AreParts, delta_len, difference, turn};
+ghost use Rattle.bucket_versions.specs.Delta.{AreParts, delta_len, difference, turn, after_turn};
 ghost use Rattle.bucket_versions.specs.Content.{kept, AreKept, is_own, is_listed, IsReady, settled};
 ghost use Rattle.bucket_versions.specs.Told.{Told};
 
@@ -84,7 +84,7 @@ impl Content {
     }
 
     /// The same, with a list of its own. A base that stands apart is shared.
-    pub(crate) fn share(&self, alloc: Global) -> Result<Content, Memory>
+    pub(crate) fn share(&self, alloc: Global) -> Result<Content, AllocError>
         requires { AreKept self.now }
         ensures same { IfOk result (λ c. kept c ≡ kept self.now) }
         ensures in_order { IfOk result (λ c. AreKept c) }
@@ -189,7 +189,7 @@ impl Content {
     ) -> Result<(), Undone>
         requires can { C.can commit.old }
         requires in_order { AreKept self.old }
-        ensures ok { OnOk result (kept self.new ≡ rows_over change.keeps_base (turn change.row (kept self.old).rows) (kept self.old)) }
+        ensures ok { OnOk result (kept self.new ≡ after_turn change (kept self.old)) }
         ensures in_order { AreKept self.new }
         ensures err { OnErr result (kept self.new ≡ kept self.old) }
         ensures told { Told C.done C.lost commit.old commit.new result }
@@ -235,13 +235,10 @@ impl Content {
         commit: &mut C,
     ) -> Result<(), Undone>
         requires can { C.can commit.old }
-        requires in_order { AreKept self.old }
-        requires absent { has_row to.row (arc_value other.old).rows ≡ false }
-        ensures ok { OnOk result (kept self.new ≡ rows_over from.keeps_base (turn from.row (kept self.old).rows) (kept self.old)) }
-        ensures other { OnOk result (arc_value other.new ≡ after_put to (arc_value other.old)) }
+        requires both { AreKept self.old × (has_row to.row (arc_value other.old).rows ≡ false) }
+        ensures ok { OnOk result ((kept self.new ≡ after_turn from (kept self.old)) × (arc_value other.new ≡ after_put to (arc_value other.old))) }
         ensures in_order { AreKept self.new }
-        ensures err { OnErr result (kept self.new ≡ kept self.old) }
-        ensures other_err { OnErr result (arc_value other.new ≡ arc_value other.old) }
+        ensures err { OnErr result ((kept self.new ≡ kept self.old) × (arc_value other.new ≡ arc_value other.old)) }
         ensures told { Told C.done C.lost commit.old commit.new result }
     {
         self.make_ready(alloc, from.keeps_base)?;
@@ -263,14 +260,11 @@ fn how_many(base: &[Row], delta: &[Row]) -> u64
 fn shared(alloc: Global, rows: Vec<Row>) -> Result<Arc<Vec<Row>>, Memory>
     ensures { IfOk result (λ shared. arc_value shared ≡ rows) }
 {
-    match Arc::new(alloc, rows) {
-        Ok(rows) => Ok(rows),
-        Err(refused) => Err(AllocError::from(refused).into()),
-    }
+    Ok(Arc::new(alloc, rows)?)
 }
 
-fn another(rows: &Arc<Vec<Row>>) -> Result<Arc<Vec<Row>>, Memory>
+fn another(rows: &Arc<Vec<Row>>) -> Result<Arc<Vec<Row>>, AllocError>
     ensures { IfOk result (λ copy. arc_value copy ≡ arc_value rows.now) }
 {
-    Ok(Arc::try_clone(rows)?)
+    Arc::try_clone(rows)
 }
