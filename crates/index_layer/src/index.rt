@@ -2,14 +2,14 @@
 ghost use Rattle.std.specs.Prelude.{◌≡◌, ◌⊎◌, ◌^◌, ◌+◌, ◌≤◌, ◌↔◌, ℕ, Bool, List, [], length, map, false, true, IfOk, OnOk, OnErr, IfErr, IsErrOf};
 ghost use Rattle.std.specs.Arc.{arc_value};
 ghost use Rattle.bucket_versions.specs.Told.{Told};
-ghost use Rattle.index_layer.specs.Leaves.{Leaf, AreLeaves, one_leaf, has_name, leaf_under, replaced, split, AreUnder, AreAllUnder};
+ghost use Rattle.index_layer.specs.Leaves.{Leaf, AreLeaves, one_leaf, has_name, leaf_under, replaced, both_replaced, split, AreUnder, AreAllUnder};
 ghost use Rattle.index_layer.specs.Part.{IsPart};
 ghost use Rattle.index_layer.specs.Below.{IsBelow};
 ghost use Rattle.index_layer.specs.RowChanges.{ChangesAt, Moves, Holds};
 ghost use Rattle.bucket_versions.specs.Rows.{after_put, after_gone};
 
 use bucket_versions::{Bucket, Commit, RowChange, Undone};
-use std::alloc::Global;
+use std::alloc::{AllocError, Global};
 use std::sync::Arc;
 use zorder::{Memory, Name};
 
@@ -47,6 +47,16 @@ pub enum IndexFault {
     },
     /// Memory ran out.
     Memory,
+}
+
+impl From<AllocError> for IndexFault {
+    ghost use Rattle.index_layer.specs.declared.index.IndexFault.TheVariants.{Memory};
+
+    ghost from_gives = { λ _ fault. fault ≡ Memory };
+
+    fn from(_: AllocError) -> IndexFault {
+        IndexFault::Memory
+    }
 }
 
 /// Leaves whose names tile the key space, each with a bucket of rows under its name.
@@ -179,7 +189,7 @@ pub trait Index: Sized + Drop {
         requires leaf { (has_name name.now (leaves self.old) ≡ true) × (has_name other.now (leaves self.old) ≡ true) }
         requires under { AreUnder name.now (arc_value bucket).rows }
         requires other_under { AreUnder other.now (arc_value other_bucket).rows }
-        ensures ok { OnOk result (leaves self.new ≡ replaced other.now (arc_value other_bucket) (replaced name.now (arc_value bucket) (leaves self.old))) }
+        ensures ok { OnOk result (leaves self.new ≡ both_replaced name.now (arc_value bucket) other.now (arc_value other_bucket) (leaves self.old)) }
         ensures err { OnErr result (leaves self.new ≡ leaves self.old) }
         ensures told { Told C.done C.lost commit.old commit.new result }
     {
