@@ -1,5 +1,5 @@
 -- The rows that are cut out for each child of a name.
-use Rattle.std.proofs.Common.{◌≡◌, ℕ, zero, suc, ◌+◌, ◌-◌, ◌<◌, ◌≤◌, ◌^◌, Bool, true, false, cond, List, [], ◌∷◌, ◌++◌, length, map, Some, slice_get, refl, sym, ap, subst, ◌∙◌, arith, length-append}
+use Rattle.std.proofs.Common.{◌≡◌, ℕ, zero, suc, ◌+◌, ◌-◌, ◌<◌, ◌≤◌, ◌^◌, Bool, true, false, cond, List, [], ◌∷◌, ◌++◌, length, map, refl, sym, ap, subst, ◌∙◌, arith, length-append}
 use Rattle.std.specs.Prelude.{nat_lt, nat_le, ◌&&◌}
 use Rattle.std.specs.List.{AllByRecursion}
 use Rattle.std.specs.Cmp.{first_so, second_so}
@@ -78,12 +78,3 @@ AreUnder-rows_under name (r ∷ rows) short = by_test (nat_le (first_key name) r
         let to : r.key ≤ last_key name = leb-true r.key (last_key name) (second_so (nat_le (first_key name) r.key) (nat_le r.key (last_key name)) e) in
         let below : r.key < next_key name = omega (arith, to, next_key-positive name) in
         (range-under name r.key short (omega (arith, below, next_key-end name short)) from below, rest)
-
-at_name : (rows : List Row) (names : List (List Bool)) (i : ℕ) (child : List Bool) → slice_get names i ≡ Some child → slice_get (map (cut_out rows) names) i ≡ Some (cut_out rows child)
-at_name rows [] i child at = absurd (cc at)
-at_name rows (n ∷ names) zero child at = grind (arith, at)
-at_name rows (n ∷ names) (suc i) child at = at_name rows names i child at
-
--- the bucket at a child's place is cut out for that child
-pub cut-at : (w : ℕ) (name : List Bool) (rows : List Row) (i : ℕ) (child : List Bool) → slice_get (children w name) i ≡ Some child → slice_get (cut w name rows) i ≡ Some (cut_out rows child)
-cut-at w name rows i child at = at_name rows (children w name) i child at
