@@ -1,11 +1,11 @@
 //! All leaves, in one list.
-ghost use Rattle.std.specs.Prelude.{◌≡◌, ◌≤◌, ◌<◌, ◌+◌, length, map, slice_index_or, true, IfOk};
+ghost use Rattle.std.specs.Prelude.{◌≡◌, ◌≤◌, ◌+◌, length, map, true, IfOk};
 ghost use Rattle.std.specs.Arc.{arc_value};
 ghost use Rattle.bucket_versions.specs.Rows.{IsRows};
-ghost use Rattle.index_layer.specs.Leaves.{Leaf, AreLeaves, AreUnder, AreAllUnder, replaced, split};
+ghost use Rattle.index_layer.specs.Leaves.{AreLeaves, AreUnder, AreAllUnder, replaced, split};
 ghost use Rattle.index_layer.specs.Below.{begins_some};
 ghost use Rattle.index_layer.specs.LeavesProp.{AreLeaves-prop};
-ghost use Rattle.flat_index.specs.Seen.{seen, seen_leaf};
+ghost use Rattle.flat_index.specs.Seen.{seen, seen_leaf, StandsAt};
 
 use crate::leaf::{FlatLeaf, front_of, push_shared};
 use crate::places::{place_named, place_of};
@@ -42,20 +42,16 @@ impl Index for FlatIndex {
 
     fn whole(alloc: Global, bucket: Arc<Bucket>) -> Result<Self, Memory> {
         let mut leaves = Vec::new(alloc);
-        match leaves.push(FlatLeaf::new(Name::whole(), bucket)) {
-            Ok(()) => Ok(FlatIndex { alloc, leaves }),
-            Err(_) => Err(Memory),
-        }
+        leaves.push(FlatLeaf::new(Name::whole(), bucket))?;
+        Ok(FlatIndex { alloc, leaves })
     }
 
     fn share(&self) -> Result<Self, Memory> {
-        match front_of(self.alloc, &self.leaves, self.leaves.len(), 0) {
-            Ok(leaves) => Ok(FlatIndex {
-                alloc: self.alloc,
-                leaves,
-            }),
-            Err(_) => Err(Memory),
-        }
+        let leaves = front_of(self.alloc, &self.leaves, self.leaves.len(), 0)?;
+        Ok(FlatIndex {
+            alloc: self.alloc,
+            leaves,
+        })
     }
 
     fn leaf_of(&self, key: u64) -> (Name, &Arc<Bucket>) {
@@ -129,8 +125,7 @@ fn with_leaf(
     leaf: FlatLeaf,
 ) -> Result<Vec<FlatLeaf>, AllocError>
     requires tile { AreLeaves (seen leaves.now) }
-    requires within { place < length leaves.now }
-    requires named { (d : Leaf) → (slice_index_or (seen leaves.now) place d).name ≡ leaf.name }
+    requires stands { StandsAt leaves.now place leaf.name }
     requires in_order { IsRows (seen_leaf leaf).bucket.rows }
     requires under { AreUnder leaf.name (seen_leaf leaf).bucket.rows }
     ensures leaves { IfOk result (λ v. seen v.items ≡ replaced leaf.name (seen_leaf leaf).bucket (seen leaves.now)) }
@@ -151,8 +146,7 @@ fn with_children(
     children: &[Arc<Bucket>],
 ) -> Result<Vec<FlatLeaf>, AllocError>
     requires tile { AreLeaves (seen leaves.now) }
-    requires within { place < length leaves.now }
-    requires named { (d : Leaf) → (slice_index_or (seen leaves.now) place d).name ≡ name.now }
+    requires stands { StandsAt leaves.now place name.now }
     requires short { length name.now + 1 ≤ 64 }
     requires count { length children.now ≡ 2 }
     requires under { AreAllUnder 1 name.now (map arc_value children.now) }

@@ -18,7 +18,7 @@ returns c =
     let xs = c.args.leaves.now in
     let name = c.args.name.now in
     let none : Leaf = leaf_at [] (record { base = []; rows = [] }) in
-    let lt : c.args.place < length (seen c.args.leaves.now) = omega (arith, c.requires.within, length-seen c.args.leaves.now) in
+    let lt : c.args.place < length (seen c.args.leaves.now) = omega (arith, c.requires.stands.within, length-seen c.args.leaves.now) in
     let buckets : map arc_value c.args.children.now ≡ arc_value c.index-children-0.result ∷ arc_value c.index-children-1.result ∷ [] =
     two_items arc_value c.args.children.now c.index-children-0.result c.index-children-1.result c.requires.count c.index-children-0.is c.index-children-1.is in
     let left : seen_leaf c.new.result ≡ leaf_at (name ++ false ∷ []) (arc_value c.index-children-0.result) = c.new.ensures.leaf ∙ (λ i. leaf_at (c.child.ensures i) (c.in_ok-try_clone.ensures i)) in
@@ -30,7 +30,7 @@ returns c =
     ∙ two_more c.in_ok-all.all.items c.new.result c.new-2.result xs c.args.place c.in_ok-all.ensures
     ∙ (λ i. take c.args.place (seen xs) ++ left i ∷ right i ∷ drop (c.args.place + 1) (seen xs))
     ∙ ap (λ (bs : List Rows). take c.args.place (seen xs) ++ (leaves_of (children 1 name) bs ++ drop (c.args.place + 1) (seen xs))) (sym buckets)
-    ∙ split-place (seen xs) c.args.place 1 name (map arc_value c.args.children.now) none c.requires.tile.tile lt (c.requires.named none) in
+    ∙ split-place (seen xs) c.args.place 1 name (map arc_value c.args.children.now) none c.requires.tile.tile lt (c.requires.stands.named none) in
     let InOrder : Rows → Type 0 = λ b. IsRows b.rows in
     let AllInOrder : List Rows → Type 0 = λ bs. AllByRecursion (λ (b : Rows). IsRows b.rows) bs in
     let rising = subst AllInOrder (sym buckets) (subst InOrder c.in_ok-try_clone.ensures c.new.ensures.in_order.rows, (subst InOrder c.in_ok-try_clone-2.ensures c.new-2.ensures.in_order.rows, tt)) in

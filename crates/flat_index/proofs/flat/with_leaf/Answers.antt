@@ -11,10 +11,10 @@ pub returns : goal.returns
 returns c =
     let xs = c.args.leaves.now in
     let l = seen_leaf c.args.leaf in
-    let lt : c.args.place < length (seen c.args.leaves.now) = omega (arith, c.requires.within, length-seen c.args.leaves.now) in
+    let lt : c.args.place < length (seen c.args.leaves.now) = omega (arith, c.requires.stands.within, length-seen c.args.leaves.now) in
     let leaves : seen c.push_shared.new.into.items ≡ replaced l.name l.bucket (seen xs) =
     c.in_ok-push_shared.ensures
     ∙ ap (λ (all : List FlatLeaf). seen all ++ seen (take (length c.args.leaves.now - (c.args.place + 1)) (drop (c.args.place + 1) c.args.leaves.now))) c.in_ok-push.ensures.items
     ∙ one_more c.in_ok-all.all.items c.args.leaf xs c.args.place c.in_ok-all.ensures
-    ∙ replaced-place (seen xs) c.args.place l.name l.bucket l c.requires.tile.tile lt (c.requires.named l) in
+    ∙ replaced-place (seen xs) c.args.place l.name l.bucket l c.requires.tile.tile lt (c.requires.stands.named l) in
     record { leaves = leaves; tile = subst AreLeaves (sym leaves) (AreLeaves-replaced l.name l.bucket (seen xs) c.requires.tile c.requires.in_order c.requires.under) }
