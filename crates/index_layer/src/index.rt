@@ -4,7 +4,9 @@ ghost use Rattle.std.specs.Arc.{arc_value};
 ghost use Rattle.bucket_versions.specs.Told.{Told};
 ghost use Rattle.index_layer.specs.Leaves.{Leaf, AreLeaves, one_leaf, has_name, leaf_under, replaced, both_replaced, split, AreUnder, AreAllUnder};
 ghost use Rattle.index_layer.specs.Part.{IsPart};
-ghost use Rattle.index_layer.specs.Below.{IsBelow};
+ghost use Rattle.index_layer.specs.Below.{IsBelow, begins_some};
+ghost use Rattle.index_layer.specs.Narrowed.{PassesBare};
+ghost use Rattle.zorder.specs.Key.{is_under};
 ghost use Rattle.index_layer.specs.RowChanges.{ChangesAt, Moves, Holds};
 ghost use Rattle.bucket_versions.specs.Rows.{after_put, after_gone};
 
@@ -103,6 +105,25 @@ pub trait Index: Sized + Drop {
     fn below<'a>(&'a self, name: &Name, place: &'a Self::Place) -> Below<'a, Self::Place>
         requires { is_at self.now place.now name.now }
         ensures { IsBelow (leaves self.now) (is_at self.now) name.now result };
+
+    /// A name that both keys are under and its place, the longest that a form finds soon: a walk over what lies between two
+    /// keys may begin there. A walk from the top goes through the same places, so it passes none by that lie between them.
+    fn reach<'a>(&'a self, from: u64, to: u64) -> (Name, &'a Self::Place)
+        ensures at { is_at self.now result.1.now result.0 }
+        ensures over { (is_under result.0 from ≡ true) × (is_under result.0 to ≡ true) }
+        ensures some { begins_some result.0 (leaves self.now) ≡ true }
+    {
+        (Name::whole(), self.top())
+    }
+
+    /// A place below this one, or this one, under which all rows of its leaves are: what it passes by are leaves without rows.
+    fn narrow<'a>(&'a self, name: Name, place: &'a Self::Place) -> (Name, &'a Self::Place)
+        requires { is_at self.now place.now name }
+        ensures at { is_at self.now result.1.now result.0 }
+        ensures passed { PassesBare name result.0 (leaves self.now) }
+    {
+        (name, place)
+    }
 
     /// The index with another bucket under a leaf's name.
     fn replaced(&self, name: &Name, bucket: Arc<Bucket>) -> Result<Self, IndexFault>

@@ -1,7 +1,7 @@
 -- A best-first search: what is ahead, and what was opened.
 use Rattle.std.proofs.Common.{◌≡◌, ℕ, zero, suc, ◌+◌, ◌-◌, ◌<◌, ◌≤◌, Bool, true, false, cond, List, [], ◌∷◌, ◌++◌, length, take, get_or, Some, refl, sym, ap, subst, ◌∙◌, arith, append_assoc, length-append, length-take}
 use Rattle.std.specs.Prelude.{nat_lt}
-use Rattle.std.specs.List.{All, fold}
+use Rattle.std.specs.List.{All}
 use Rattle.std.specs.List.Sorted.{IsPermutation}
 use Rattle.std.proofs.lemmas.Grind.{flat_map-append}
 use Rattle.std.proofs.lemmas.List.{map-append, get_or-take}
@@ -20,47 +20,33 @@ use Rattle.bucket_versions.specs.declared.row.Row.{Row}
 use Rattle.index_layer.specs.Leaves.{Leaf, all_rows}
 use Rattle.index_layer.proofs.LeafNames.{IsFront, front-from_test, under-front}
 use Rattle.plain_list.specs.World.{place_of}
-use Rattle.plain_list.specs.Answer.{ranked, is_before, with_ranked}
-use Rattle.plain_list.specs.Nearest.{AreOf}
-use Rattle.plain_list.proofs.Ranking.{ranked_once, IsPermutation-ranked, IsSortedBy-ranked, is_before-order}
-use Rattle.plain_list.proofs.Cuts.{with_more, take-with_more}
+use Rattle.plain_list.specs.Answer.{ranked, is_before}
+use Rattle.plain_list.specs.Nearest.{rank_of, is_below, AreOf}
+use Rattle.plain_list.proofs.Ranking.{IsPermutation-ranked, IsSortedBy-ranked, is_before-order}
 use Rattle.table_share.specs.Objects.{placed_of, objects_of}
 use Rattle.table_share.specs.KeysUnder.{AreKeysUnder, AreAllKeysUnder}
 use Rattle.table_share.specs.Subtree.{subtree, leaves_of}
 use Rattle.table_share.proofs.Subtrees.{begins}
 use Rattle.knn_query.specs.Ahead.{least_to, reach_of, number_nearer, IsAhead, IsOne, leaves_ahead, objects_ahead, Searches}
-use Rattle.knn_query.specs.Passes.{Keeps}
+use Rattle.knn_query.specs.Passes.{held, Keeps}
 use Rattle.knn_query.specs.declared.ahead.Ahead.{Ahead}
 use Rattle.knn_query.specs.declared.kept.Kept.{Kept}
+use Rattle.knn_query.proofs.Candidates.{Bounds, pass_all, ranked-shuffled}
 use Rattle.knn_query.proofs.Passing.{far_rows}
 
 abbrev IsAt : List Placed → Placed → Type 0
 IsAt world m = place_of world m.id ≡ Some m.at
 
-fold-append : {S X : Type 0} (f : S → X → S) (s : S) (xs ys : List X) → fold f s (xs ++ ys) ≡ fold f (fold f s xs) ys
-fold-append f s [] ys = refl
-fold-append f s (x ∷ xs) ys = fold-append f (f s x) xs ys
-
 module _ (p : Point) where
-  ranked-more : (list ms : List Placed) → with_more p (ranked p list) ms ≡ ranked p (list ++ ms)
-  ranked-more list ms = sym (fold-append (λ (l : List Placed) m. with_ranked p m l) [] list ms)
-
-  ranked-permuted : (world ms ns : List Placed) → AreOf world ms → IsPermutation ms ns → ranked p ns ≡ ranked p ms
-  ranked-permuted world ms ns are perm = ranked_once p world ms (ranked p ns) are (IsPermutation-trans ms ns (ranked p ns) perm (IsPermutation-ranked p ns)) (IsSortedBy-ranked p ns)
-
-  -- what a pass says of the objects that it keeps and of those to come
-  pass_all : (k : ℕ) (list rest : List Placed) → take k (with_more p (take k (ranked p list)) rest) ≡ take k (ranked p (list ++ rest))
-  pass_all k list rest = take-with_more p k rest (ranked p list) ∙ ap (take k) (ranked-more list rest)
-
   pub keeps_permuted : (k : ℕ) (world xs ys : List Placed) (kept : Kept) → AreOf world xs → IsPermutation xs ys → Keeps p k world xs kept → Keeps p k world ys kept
   keeps_permuted k world xs ys kept are perm pass = record {
     are_of = pass.are_of;
     is_last = pass.is_last;
     nearest =
-        let list : List Placed = kept.list.items in
-        pass_all k list ys
-        ∙ ap (take k) (ranked-permuted world (list ++ xs) (list ++ ys) (All-append (IsAt world) list xs pass.are_of are) (IsPermutation-append_right list xs ys perm))
-        ∙ sym (pass_all k list xs) ∙ pass.nearest;
+        let list : List Placed = held kept in
+        pass_all p k list ys
+        ∙ ap (take k) (ranked-shuffled p world (list ++ xs) (list ++ ys) (All-append (IsAt world) list xs pass.are_of are) (IsPermutation-append_right list xs ys perm))
+        ∙ sym (pass_all p k list xs) ∙ pass.nearest;
   }
 
   pub searches_permuted : (k : ℕ) (world xs ys : List Placed) (kept : Kept) → IsPermutation xs ys → Searches p k world xs kept → Searches p k world ys kept
@@ -100,6 +86,20 @@ module _ (p : Point) where
       at_most true = omega arith
       at_most false = omega arith
 
+  -- where the farthest is nearer, all are
+  not_below-near : (m n : Placed) → is_below (rank_of p m) (rank_of p n) ≡ false → distance n.at p ≤ distance m.at p
+  not_below-near m n e = grind (arith, nat_tests)
+
+  pub all_as_near : (reach : ℕ) (m : Placed) (ms : List Placed) → Bounds p m ms → distance m.at p < reach → number_nearer p reach ms ≡ length ms
+  all_as_near reach m ms bounds lt = all_nearer reach ms (λ i d less. omega (arith, lt, not_below-near m (get_or ms i d) (bounds i d less)))
+
+  -- and where the first isn't, it isn't among those that are
+  pub first_farther : (reach : ℕ) (m : Placed) (ms : List Placed) → reach ≤ distance m.at p → number_nearer p reach (m ∷ ms) < length (m ∷ ms)
+  first_farther reach m ms le = omega (arith, sum_by-cons (λ n. one_if (nearer reach n)) m ms, fewer reach ms, out)
+    where
+      out : one_if (nearer reach m) ≡ 0
+      out = grind (arith, nat_tests)
+
   -- one that isn't before another is as far
   not_before-far : (m n : Placed) → is_before p m n ≡ false → distance n.at p ≤ distance m.at p
   not_before-far m n e = grind (arith, nat_tests)
@@ -116,11 +116,11 @@ module _ (p : Point) where
 
   -- where fewer than k of those that are kept are nearer, the k-th object of the world isn't nearer
   pub reach-within : (k reach : ℕ) (world rest : List Placed) (kept : Kept) (d : Placed) → Keeps p k world rest kept → All (λ (m : Placed). reach ≤ distance m.at p) rest
-      → number_nearer p reach kept.list.items < k → k ≤ length world → reach ≤ reach_of p k world d
+      → number_nearer p reach (held kept) < k → k ≤ length world → reach ≤ reach_of p k world d
   reach-within k reach world rest kept d pass far few many = by_test (nat_lt (reach_of p k world d) reach) refl
     where
       list : List Placed
-      list = kept.list.items
+      list = held kept
 
       best : List Placed
       best = take k (ranked p world)
@@ -144,7 +144,7 @@ module _ (p : Point) where
       by_test true e =
           let lt : reach_of p k world d < reach = grind (arith, nat_tests) in
           let all : number_nearer p reach best ≡ length best = all_nearer reach best (near lt) in
-          let same : best ≡ take k (ranked p (list ++ rest)) = sym (sym (pass_all k list rest) ∙ pass.nearest) in
+          let same : best ≡ take k (ranked p (list ++ rest)) = sym (sym (pass_all p k list rest) ∙ pass.nearest) in
           let part : number_nearer p reach (take k (ranked p (list ++ rest))) ≤ number_nearer p reach (ranked p (list ++ rest)) = sum_by-take-le (λ n. one_if (nearer reach n)) (ranked p (list ++ rest)) k in
           let sum : number_nearer p reach (list ++ rest) ≡ number_nearer p reach list + number_nearer p reach rest = sum_by-append (λ n. one_if (nearer reach n)) list rest in
           absurd (omega (arith, all, long, ap (number_nearer p reach) same, part, number-ranked reach (list ++ rest), sum, none_nearer reach rest far, few))

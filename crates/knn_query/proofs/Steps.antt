@@ -2,7 +2,6 @@
 use Rattle.std.proofs.Common.{◌≡◌, ℕ, zero, suc, ◌+◌, ◌-◌, ◌*◌, ◌^◌, ◌<◌, ◌≤◌, Bool, true, false, cond, List, [], ◌∷◌, ◌++◌, length, take, get_or, Some, None, refl, sym, ap, subst, ◌∙◌, arith, length-append, length-take}
 use Rattle.std.specs.Prelude.{nat_le, nat_lt}
 use Rattle.std.specs.List.{All, filter, sum_by}
-use Rattle.std.specs.Option.{option_map}
 use Rattle.std.proofs.Math.Nat.{pow-succ'}
 use Rattle.std.proofs.lemmas.Nat.{pow_pos}
 use Rattle.std.proofs.lemmas.Bool.{le-leb}
@@ -22,7 +21,7 @@ use Rattle.index_layer.proofs.LeafChanges.{leaf_at}
 use Rattle.index_layer.specs.Part.{is_inner}
 use Rattle.plain_list.specs.Answer.{ranked, is_before, with_ranked}
 use Rattle.plain_list.specs.World.{place_of}
-use Rattle.plain_list.specs.Nearest.{AreOf, rank_of}
+use Rattle.plain_list.specs.Nearest.{AreOf}
 use Rattle.plain_list.proofs.Ranking.{found_in}
 use Rattle.plain_list.proofs.Cuts.{IsPass, with_more, take-with_more}
 use Rattle.table_share.specs.Objects.{objects_of}
@@ -33,7 +32,7 @@ use Rattle.table_share.proofs.RowObjects.{objects-permutation}
 use Rattle.table_share.proofs.LeafRows.{leaves_under}
 use Rattle.table_share.proofs.Subtrees.{subtree-whole, subtree-leaf, subtree-halves, inner-room}
 use Rattle.knn_query.specs.Ahead.{least_to, reach_of, number_nearer, IsAhead, IsOne, IsFirst, leaves_ahead, objects_ahead, Searches, weight_of}
-use Rattle.knn_query.specs.Passes.{Keeps, Passes, IsList}
+use Rattle.knn_query.specs.Passes.{held, IsEmpty, IsHeld, Keeps, Passes}
 use Rattle.knn_query.specs.declared.ahead.Ahead.{Ahead}
 use Rattle.knn_query.specs.declared.kept.Kept.{Kept}
 use Rattle.knn_query.proofs.Places.{one-of}
@@ -78,9 +77,9 @@ module _ (p : Point) (reach : ℕ) where
         let out : take k (with_ranked p m best) ≡ best = subst (λ j. take j (with_ranked p m best) ≡ best) long (left_out m best near (All-head (λ (m : Placed). reach ≤ distance m.at p) m rest far)) in
         sym (take-with_more p k rest (with_ranked p m best)) ∙ ap (λ l. take k (with_more p l rest)) out ∙ all_out rest (All-tail (λ (m : Placed). reach ≤ distance m.at p) m rest far)
 
-  pub keeps-closed : (k : ℕ) (world rest : List Placed) (kept : Kept) → Keeps p k world rest kept → All (λ (m : Placed). reach ≤ distance m.at p) rest → k ≤ number_nearer p reach kept.list.items → Keeps p k world [] kept
+  pub keeps-closed : (k : ℕ) (world rest : List Placed) (kept : Kept) → Keeps p k world rest kept → All (λ (m : Placed). reach ≤ distance m.at p) rest → k ≤ number_nearer p reach (held kept) → Keeps p k world [] kept
   keeps-closed k world rest kept pass far many =
-      let list : List Placed = kept.list.items in
+      let list : List Placed = held kept in
       let best : List Placed = take k (ranked p list) in
       let counted : k ≤ number_nearer p reach (ranked p list) = omega (arith, many, number-ranked p reach list) in
       let long : length best ≡ k = omega (arith, length-take k (ranked p list), fewer p reach (ranked p list), counted) in
@@ -92,12 +91,12 @@ module _ (p : Point) (reach : ℕ) where
         nearest = all_out k best long near [] (All-nil (λ (m : Placed). reach ≤ distance m.at p)) ∙ sym (all_out k best long near rest far) ∙ pass.nearest;
       }
     where
-      by_test : (i : ℕ) (d : Placed) → i < length (take k (ranked p kept.list.items)) → (b : Bool) → nat_lt (distance (get_or (ranked p kept.list.items) i d).at p) reach ≡ b
-          → distance (get_or (take k (ranked p kept.list.items)) i d).at p < reach
+      by_test : (i : ℕ) (d : Placed) → i < length (take k (ranked p (held kept))) → (b : Bool) → nat_lt (distance (get_or (ranked p (held kept)) i d).at p) reach ≡ b
+          → distance (get_or (take k (ranked p (held kept))) i d).at p < reach
       by_test i d lt b e = within b e
         where
           list : List Placed
-          list = ranked p kept.list.items
+          list = ranked p (held kept)
 
           less : i < k
           less = omega (arith, lt, length-take k list)
@@ -113,8 +112,8 @@ module _ (p : Point) (reach : ℕ) where
           within false e =
               let from : reach ≤ distance (get_or list i d).at p = grind (arith, nat_tests) in
               let few : number_nearer p reach list ≤ i =
-              front_count list i (λ j f le lt_j. omega (arith, from, ranked-far p kept.list.items i j d le lt_j, same_at list j d f lt_j)) in
-              absurd (omega (arith, few, less, many, number-ranked p reach kept.list.items))
+              front_count list i (λ j f le lt_j. omega (arith, from, ranked-far p (held kept) i j d le lt_j, same_at list j d f lt_j)) in
+              absurd (omega (arith, few, less, many, number-ranked p reach (held kept)))
             where
               same_at : (ms : List Placed) (i : ℕ) (e d : Placed) → i < length ms → distance (get_or ms i e).at p ≡ distance (get_or ms i d).at p
               same_at [] i e d lt = absurd (omega (arith, lt))
@@ -145,23 +144,25 @@ module _ (p : Point) (k : ℕ) (leaves : List Leaf) (before : ℕ) where
   pub record State (now : ℕ) (ahead : List Ahead) (kept : Kept) : Type 0 where
     pub from : kept.from ≡ p
     pub k_is : kept.k ≡ k
+    pub is_held : IsHeld kept
     pub are : All (IsAhead p) ahead
     pub worlds : OfEachWorld leaves (λ world. Searches p k world (objects_ahead leaves ahead) kept)
     pub opened : Counts every now (leaves_ahead leaves ahead)
     pub near : CountsNear now (leaves_ahead leaves ahead)
-    pub some : now ≡ before → kept.list.items ≡ []
+    pub some : now ≡ before → held kept ≡ []
 
   -- where one subtree was taken out
   pub record Taken (now : ℕ) (a : Ahead) (left : List Ahead) (kept : Kept) : Type 0 where
     pub from : kept.from ≡ p
     pub k_is : kept.k ≡ k
+    pub is_held : IsHeld kept
     pub is : IsAhead p a
     pub are : All (IsAhead p) left
     pub worlds : OfEachWorld leaves (λ world. Searches p k world (objects_of (all_rows (subtree a.name leaves)) ++ objects_ahead leaves left) kept)
     pub far : OfEachWorld leaves (λ world. All (λ (m : Placed). a.least ≤ distance m.at p) (objects_of (all_rows (subtree a.name leaves)) ++ objects_ahead leaves left))
     pub opened : Counts every now (subtree a.name leaves ++ leaves_ahead leaves left)
     pub near : CountsNear now (subtree a.name leaves ++ leaves_ahead leaves left)
-    pub some : now ≡ before → kept.list.items ≡ []
+    pub some : now ≡ before → held kept ≡ []
 
   number-append : (passes : List Bool → Bool) (xs ys : List Leaf) → length (leaves_of passes (xs ++ ys)) ≡ length (leaves_of passes xs) + length (leaves_of passes ys)
   number-append passes xs ys = ap length (filter-append (λ (l : Leaf). passes l.name) xs ys) ∙ length-append (leaves_of passes xs) (leaves_of passes ys)
@@ -179,6 +180,7 @@ module _ (p : Point) (k : ℕ) (leaves : List Leaf) (before : ℕ) where
       record {
         from = s.from;
         k_is = s.k_is;
+        is_held = s.is_held;
         is = All-head (IsAhead p) a new all;
         are = All-tail (IsAhead p) a new all;
         worlds = λ world names is_world stands.
@@ -203,11 +205,11 @@ module _ (p : Point) (k : ℕ) (leaves : List Leaf) (before : ℕ) where
     below = objects_of (all_rows (subtree a.name leaves))
 
     -- where k are nearer, the search ends
-    pub closed : k ≤ number_nearer p a.least kept.list.items → OfEachWorld leaves (λ world. Keeps p k world [] kept)
+    pub closed : k ≤ number_nearer p a.least (held kept) → OfEachWorld leaves (λ world. Keeps p k world [] kept)
     closed many world names is_world stands =
         keeps-closed p a.least k world (below ++ objects_ahead leaves left) kept (t.worlds world names is_world stands).keeps (t.far world names is_world stands) many
 
-    module _ (b : Rows) (found : leaf_named a.name leaves ≡ Some (record { name = a.name; bucket = b })) (few : number_nearer p a.least kept.list.items < k) where
+    module _ (b : Rows) (found : leaf_named a.name leaves ≡ Some (record { name = a.name; bucket = b })) (few : number_nearer p a.least (held kept) < k) where
       one : subtree a.name leaves ≡ leaf_at a.name b ∷ []
       one = subtree-leaf a.name 0 leaves (leaf_at a.name b) tile found
 
@@ -232,6 +234,7 @@ module _ (p : Point) (k : ℕ) (leaves : List Leaf) (before : ℕ) where
       leaf-state new then next le passes = record {
         from = passes.from ∙ t.from;
         k_is = passes.k_is ∙ t.k_is;
+        is_held = passes.is_held;
         are = t.are;
         worlds = λ world names is_world stands.
             let s = t.worlds world names is_world stands in
@@ -258,6 +261,7 @@ module _ (p : Point) (k : ℕ) (leaves : List Leaf) (before : ℕ) where
         record {
           from = t.from;
           k_is = t.k_is;
+          is_held = t.is_held;
           are = all-put (IsAhead p) mid new hind two hind_is (all-put (IsAhead p) left mid fore one fore_is t.are);
           worlds = λ world names is_world stands.
               searches_permuted p k world (below ++ objects_ahead leaves left) (objects_ahead leaves new) kept (two-permutation leaves left mid new fore hind (subtree a.name leaves) one two both) (t.worlds world names is_world stands);
@@ -267,12 +271,13 @@ module _ (p : Point) (k : ℕ) (leaves : List Leaf) (before : ℕ) where
         }
 
   -- at the empty name
-  pub begins-state : (a : Ahead) (kept : Kept) → IsList p k [] None kept → a.name ≡ [] → IsAhead p a → State before (a ∷ []) kept
-  begins-state a kept list whole is =
+  pub begins-state : (a : Ahead) (kept : Kept) → IsEmpty p k kept → a.name ≡ [] → IsAhead p a → State before (a ∷ []) kept
+  begins-state a kept empty whole is =
       let all : leaves_ahead leaves (a ∷ []) ≡ leaves = append-nil (subtree a.name leaves) ∙ ap (λ n. subtree n leaves) whole ∙ subtree-whole leaves in
       record {
-        from = list.from;
-        k_is = list.k_is;
+        from = empty.from;
+        k_is = empty.k_is;
+        is_held = empty.is_held;
         are = All-cons (IsAhead p) a [] is (All-nil (IsAhead p));
         worlds = λ world names is_world stands.
             let table = table_of leaves world names stands in
@@ -283,12 +288,11 @@ module _ (p : Point) (k : ℕ) (leaves : List Leaf) (before : ℕ) where
             let rest : IsPermutation world (objects_ahead leaves (a ∷ [])) = subst (λ (ls : List Leaf). IsPermutation world (objects_of (all_rows ls))) (sym all) objects in
             record {
               are_of = All-permutation (λ (m : Placed). place_of world m.id ≡ Some m.at) world (objects_ahead leaves (a ∷ [])) rest (found_in world is_world.rising);
-              keeps = subst (λ l. IsPass p k world (objects_ahead leaves (a ∷ [])) l (option_map (rank_of p) kept.last)) (sym list.list_is)
-                  (subst (λ o. IsPass p k world (objects_ahead leaves (a ∷ [])) [] (option_map (rank_of p) o)) (sym list.last_is) (before_all p k world (objects_ahead leaves (a ∷ [])) is_world.rising rest));
+              keeps = subst (λ l. IsPass p k world (objects_ahead leaves (a ∷ [])) l None) (sym empty.none) (before_all p k world (objects_ahead leaves (a ∷ [])) is_world.rising rest);
             };
         opened = ap (λ (ls : List Leaf). before + length (leaves_of every ls)) all;
         near = λ world names is_world stands d many. ap (λ (ls : List Leaf). before + length (leaves_of (within p (reach_of p k world d)) ls)) all;
-        some = λ same. list.list_is;
+        some = λ same. empty.none;
       }
 
 -- the work that is left: a subtree's halves have less than it

@@ -1,25 +1,38 @@
 -- What is kept of objects that come one after the other.
-use Rattle.std.specs.Prelude.{◌≡◌, ℕ, List, ◌++◌, Option}
-use Rattle.std.specs.Option.{option_map}
+use Rattle.std.specs.Prelude.{◌≡◌, ◌≤◌, ℕ, List, [], ◌++◌, None, length, map}
+use Rattle.std.specs.List.{All}
+use Rattle.std.specs.BinaryHeap.{heap_items, IsHeap}
 use Rattle.zorder.specs.declared.points.Point.{Point}
 use Rattle.zorder.specs.declared.points.Placed.{Placed}
-use Rattle.plain_list.specs.Nearest.{rank_of, AreOf}
+use Rattle.plain_list.specs.Nearest.{AreOf}
 use Rattle.plain_list.proofs.Cuts.{IsPass}
+use Rattle.knn_query.specs.Candidates.{object_of, candidate_cmp, IsMeasured}
 use Rattle.knn_query.specs.declared.kept.Kept.{Kept}
 
--- these fields
-pub record IsList (p : Point) (k : ℕ) (list : List Placed) (last : Option Placed) (kept : Kept) : Type 0 where
+-- the objects that are kept
+abbrev pub held : Kept → List Placed
+held kept = map object_of (heap_items kept.heap)
+
+-- at most k are kept, each with its distance, and a last of them is at the top
+pub record IsHeld (kept : Kept) : Type 0 where
+  pub ordered : IsHeap candidate_cmp (heap_items kept.heap)
+  pub measured : All (IsMeasured kept.from) (heap_items kept.heap)
+  pub few : length (heap_items kept.heap) ≤ kept.k
+
+-- these fields, and no object
+pub record IsEmpty (p : Point) (k : ℕ) (kept : Kept) : Type 0 where
   pub from : kept.from ≡ p
   pub k_is : kept.k ≡ k
-  pub list_is : kept.list.items ≡ list
-  pub last_is : kept.last ≡ last
+  pub none : held kept ≡ []
+  pub is_held : IsHeld kept
 
--- the nearest of all that were seen are among those that are kept, where these objects are still to come
+-- the nearest of all that were seen are those that are kept, where these objects are still to come
 abbrev pub Keeps : Point → ℕ → List Placed → List Placed → Kept → Type 0
-Keeps p k world rest kept = IsPass p k world rest kept.list.items (option_map (rank_of p) kept.last)
+Keeps p k world rest kept = IsPass p k world rest (held kept) None
 
 -- these objects came, and nothing that belongs to the nearest was lost
 pub record Passes (ms : List Placed) (old new : Kept) : Type 0 where
   pub from : new.from ≡ old.from
   pub k_is : new.k ≡ old.k
+  pub is_held : IsHeld new
   pub keeps : (world rest : List Placed) → AreOf world ms → Keeps old.from old.k world (ms ++ rest) old → Keeps old.from old.k world rest new

@@ -1,119 +1,91 @@
 //! The nearest of the objects that were seen so far.
-ghost use Rattle.std.specs.Prelude.{◌≡◌, ◌∷◌, nat_le, List, [], None, take, IfOk, OnOk};
-ghost use Rattle.std.specs.Option.{option_map};
+ghost use Rattle.std.specs.Prelude.{◌≡◌, ◌≤◌, ◌∷◌, nat_le, List, [], map, take, IfOk, OnOk};
+ghost use Rattle.std.specs.BinaryHeap.{heap_items, IsHeap};
 ghost use Rattle.zorder.specs.declared.points.Placed.{Placed};
 ghost use Rattle.plain_list.specs.Answer.{ranked};
-ghost use Rattle.plain_list.specs.Nearest.{rank_of, is_below, may_belong, AreOf, IsCut, IsKept};
+ghost use Rattle.plain_list.specs.Nearest.{AreOf};
 ghost use Rattle.knn_query.specs.Ahead.{number_nearer};
-ghost use Rattle.knn_query.specs.Passes.{Passes, IsList};
+ghost use Rattle.knn_query.specs.Candidates.{candidate_cmp, object_of, Replaces};
+ghost use Rattle.knn_query.specs.Passes.{held, IsEmpty, IsHeld, Passes};
 
+use crate::candidate::Candidate;
 use plain_list::PlacedList;
-use prefix_names::dist;
 use std::alloc::{AllocError, Global};
+use std::collections::BinaryHeap;
 use zorder::{Placed, Point};
 
-/// Objects among which are the `k` nearest of those that were added. At twice `k` they are cut to the `k` nearest.
+/// The `k` nearest of the objects that were added, or all where they are fewer, the farthest of them at the top.
 #[derive(Drop)]
 pub(crate) struct Kept {
     pub(crate) from: Point,
     pub(crate) k: usize,
-    pub(crate) list: Vec<Placed>,
-    /// The last of the nearest at the last cut: what comes behind it doesn't belong to them.
-    pub(crate) last: Option<Placed>,
+    pub(crate) heap: BinaryHeap<Candidate>,
 }
 
 impl Kept {
-    pub(crate) fn new(alloc: Global, from: Point, k: usize) -> Kept
-        ensures list { IsList from k [] None result }
+    pub(crate) fn new(alloc: Global, from: Point, k: usize) -> Result<Kept, AllocError>
+        ensures { IfOk result (IsEmpty from k) }
     {
-        Kept {
+        Ok(Kept {
             from,
             k,
-            list: Vec::new(alloc),
-            last: None,
-        }
+            heap: BinaryHeap::with_capacity(alloc, k)?,
+        })
     }
 
-    /// Adds an object, where it may belong to the nearest.
+    /// Adds an object, where it belongs to the nearest.
     pub(crate) fn add(&mut self, m: Placed) -> Result<(), AllocError>
+        requires { IsHeld self.old }
         ensures { OnOk result (Passes (m ∷ []) self.old self.new) }
     {
-        if self.may_belong(&m) {
-            self.list.push(m)?;
-            self.last = cut_full(&mut self.list, self.from, self.k, self.last)?;
+        let one = Candidate::new(m, self.from);
+        if self.heap.len() < self.k {
+            self.heap.push(one)?;
+        } else {
+            replace_farthest(&mut self.heap, one)?;
         }
         Ok(())
     }
 
-    fn may_belong(&self, m: &Placed) -> bool
-        ensures { result ≡ may_belong (rank_of self.now.from m.now) (option_map (rank_of self.now.from) self.now.last) }
-    {
-        match &self.last {
-            Some(last) => is_nearer(m, last, self.from),
-            None => true,
-        }
-    }
-
     /// Whether `k` of those that are kept are nearer than this.
     pub(crate) fn has_nearer(&self, least: u128) -> bool
-        ensures { result ≡ nat_le self.now.k (number_nearer self.now.from least self.now.list.items) }
+        requires held { IsHeld self.now }
+        requires some { 1 ≤ self.now.k }
+        ensures { result ≡ nat_le self.now.k (number_nearer self.now.from least (held self.now)) }
     {
-        self.list.len() >= self.k && count_nearer(&self.list, self.from, least) >= self.k
+        match self.heap.peek() {
+            Some(farthest) => self.heap.len() >= self.k && farthest.distance < least,
+            None => false,
+        }
     }
 
     /// The nearest, in order.
-    pub(crate) fn into_list(mut self) -> Result<PlacedList, AllocError>
-        ensures { (world : List Placed) → AreOf world self.list.items → IfOk result (λ list. list ≡ take self.k (ranked self.from self.list.items)) }
+    pub(crate) fn into_list(self, alloc: Global) -> Result<PlacedList, AllocError>
+        requires { IsHeld self }
+        ensures { (world : List Placed) → AreOf world (held self) → IfOk result (λ list. list ≡ take self.k (ranked self.from (held self))) }
     {
-        cut(&mut self.list, self.from, self.k)?;
-        Ok(PlacedList::from_vec(self.list))
+        let sorted = self.heap.into_sorted_vec();
+        Ok(PlacedList::from_vec(objects(alloc, &sorted)?))
     }
 }
 
-/// Cuts a list of twice `k` objects or more, and gives the last of the nearest then.
-fn cut_full(
-    list: &mut Vec<Placed>,
-    from: Point,
-    k: usize,
-    last: Option<Placed>,
-) -> Result<Option<Placed>, AllocError>
-    ensures { IfOk result (λ end. IsKept from k list.old.items (option_map (rank_of from) last) list.new.items (option_map (rank_of from) end)) }
+// Leaves the farthest out for a candidate that comes before it.
+fn replace_farthest(heap: &mut BinaryHeap<Candidate>, one: Candidate) -> Result<(), AllocError>
+    requires { IsHeap candidate_cmp (heap_items heap.old) }
+    ensures { OnOk result (Replaces one (heap_items heap.old) (heap_items heap.new)) }
 {
-    if list.len() / 2 < k {
-        return Ok(last);
+    let Some(farthest) = heap.peek() else {
+        return Ok(());
+    };
+    if one.cmp(farthest).is_lt() {
+        heap.pop();
+        heap.push(one)?;
     }
-    cut(list, from, k)?;
-    match list.last() {
-        Some(m) => Ok(Some(*m)),
-        None => Ok(None),
-    }
-}
-
-fn count_nearer(list: &[Placed], from: Point, least: u128) -> usize
-    ensures { result ≡ number_nearer from least list.now }
-{
-    let mut count = 0;
-    for m in list {
-        if dist(m.at, from) < least {
-            count += 1;
-        }
-    }
-    count
-}
-
-// Sorts by distances that are computed once.
-fn cut(list: &mut Vec<Placed>, from: Point, k: usize) -> Result<(), AllocError>
-    ensures { OnOk result (IsCut from k list.old.items list.new.items) }
-{
-    list.sort_by_cached_key(|m| (dist(m.at, from), m.id))?;
-    list.truncate(k);
     Ok(())
 }
 
-// Whether an object comes before another one: nearer, or as near with the lesser id.
-fn is_nearer(m: &Placed, other: &Placed, from: Point) -> bool
-    ensures { result ≡ is_below (rank_of from m.now) (rank_of from other.now) }
+fn objects(alloc: Global, candidates: &[Candidate]) -> Result<Vec<Placed>, AllocError>
+    ensures { IfOk result (λ list. list.items ≡ map object_of candidates.now) }
 {
-    let (here, there) = (dist(m.at, from), dist(other.at, from));
-    here < there || here == there && m.id < other.id
+    candidates.iter().map(|c| c.placed()).collect(alloc)
 }

@@ -1,10 +1,10 @@
 //! Objects in the order of their distance to a point.
-ghost use Rattle.std.specs.Prelude.{◌≡◌, ◌≤◌, ◌<◌, ◌+◌, [], None, take, IfOk, OnOk, length};
+ghost use Rattle.std.specs.Prelude.{◌≡◌, ◌≤◌, ◌<◌, ◌+◌, [], take, IfOk, OnOk, length};
 ghost use Rattle.plain_list.specs.Answer.{ranked};
 ghost use Rattle.table_share.specs.Objects.{objects_of};
 ghost use Rattle.table_share.specs.Worlds.{OfEachWorld};
 ghost use Rattle.knn_query.specs.Ahead.{OpensNear};
-ghost use Rattle.knn_query.specs.Passes.{IsList, Keeps, Passes};
+ghost use Rattle.knn_query.specs.Passes.{held, IsEmpty, IsHeld, Keeps, Passes};
 
 use crate::ahead::{Ahead, put_ahead, take_nearest};
 use crate::kept::Kept;
@@ -19,8 +19,8 @@ use zorder::{Memory, Name, Point, child};
 
 /// The first `k` objects, or all where there are fewer, the nearest first, and of two as near the one with the lesser id.
 /// Each bucket that it opens is a step. It is a best-first search (Hjaltason and Samet, "Distance Browsing in Spatial
-/// Databases", 1999): subtrees are taken by the least distance of their region, and it keeps less than `2 k` objects, with
-/// their distances while it sorts them.
+/// Databases", 1999): subtrees are taken by the least distance of their region, and it keeps at most `k` objects, each with its
+/// distance, in room that is taken at once.
 pub fn nearest<I: Index, L: Ledger>(
     alloc: Global,
     index: &I,
@@ -35,8 +35,9 @@ pub fn nearest<I: Index, L: Ledger>(
     ensures near { OfEachWorld (I.leaves index.now) (OpensNear from k (I.leaves index.now) steps.old steps.new) }
     ensures some { IfOk result (λ list. 0 < length list → steps.old < steps.new) }
 {
-    let kept = keep_nearest(alloc, Kept::new(alloc, from, k as usize), index, steps)?;
-    Ok(kept.into_list()?)
+    let none = Kept::new(alloc, from, k as usize)?;
+    let kept = keep_nearest(alloc, none, index, steps)?;
+    Ok(kept.into_list(alloc)?)
 }
 
 // Places from the top, the nearest first, until k of those that are kept are nearer than any that is left.
@@ -46,13 +47,13 @@ fn keep_nearest<I: Index, L: Ledger>(
     index: &I,
     steps: &mut Steps<L>,
 ) -> Result<Kept, AllocError>
-    requires list { IsList kept.from kept.k [] None kept }
+    requires empty { IsEmpty kept.from kept.k kept }
     requires least { 1 ≤ kept.k }
-    ensures kept { IfOk result (λ new. (new.from ≡ kept.from) × (new.k ≡ kept.k)) }
+    ensures kept { IfOk result (λ new. (new.from ≡ kept.from) × (new.k ≡ kept.k) × IsHeld new) }
     ensures keeps { OfEachWorld (I.leaves index.now) (λ world. IfOk result (Keeps kept.from kept.k world [])) }
     ensures opened { steps.new ≤ steps.old + length (I.leaves index.now) }
     ensures near { OfEachWorld (I.leaves index.now) (OpensNear kept.from kept.k (I.leaves index.now) steps.old steps.new) }
-    ensures some { IfOk result (λ new. (steps.old ≤ steps.new) × (steps.new ≡ steps.old → new.list.items ≡ [])) }
+    ensures some { IfOk result (λ new. (steps.old ≤ steps.new) × (steps.new ≡ steps.old → held new ≡ [])) }
 {
     let mut ahead = Vec::new(alloc);
     let mut places = Vec::new(alloc);
@@ -85,6 +86,7 @@ fn add_rows<L: Ledger>(
     bucket: &Bucket,
     steps: &mut Steps<L>,
 ) -> Result<(), AllocError>
+    requires { IsHeld kept.old }
     ensures passes { OnOk result (Passes (objects_of bucket.now.rows) kept.old kept.new) }
     ensures opened { steps.new ≡ steps.old + 1 }
 {

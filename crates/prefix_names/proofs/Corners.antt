@@ -192,13 +192,17 @@ module _ (name : List Bool) (short : length name ≤ 64) where
       let v = same-between (even_bits (first_key name)) (even_bits last) ((open_bits + 1) / 2) p.y y-zeros y-ones (y-same last (first_key name) open_bits last-same) up in
       held-so (region_of name) p (record { left = h.0; right = h.1; low = v.0; high = v.1 }))
 
+  -- how far the corners are apart on each axis
+  pub x-ends : even_bits ((next_key name - 1) / 2) ≡ even_bits (first_key name / 2) + (2 ^ ((64 - length name) / 2) - 1)
+  x-ends = ends (even_bits (first_key name / 2)) (even_bits (last / 2)) (open_bits / 2) 0 x-zeros x-ones (x-same last (first_key name) open_bits last-same)
+
+  pub y-ends : even_bits (next_key name - 1) ≡ even_bits (first_key name) + (2 ^ ((64 - length name + 1) / 2) - 1)
+  y-ends = ends (even_bits (first_key name)) (even_bits last) ((open_bits + 1) / 2) 0 y-zeros y-ones (y-same last (first_key name) open_bits last-same)
+
   -- the lower corner is no greater than the upper
   pub IsBox-region_of : IsBox (region_of name)
   IsBox-region_of =
-      record {
-        x = omega (arith, ends (even_bits (first_key name / 2)) (even_bits (last / 2)) (open_bits / 2) 0 x-zeros x-ones (x-same last (first_key name) open_bits last-same));
-        y = omega (arith, ends (even_bits (first_key name)) (even_bits last) ((open_bits + 1) / 2) 0 y-zeros y-ones (y-same last (first_key name) open_bits last-same));
-      }
+      record { x = omega (arith, x-ends); y = omega (arith, y-ends) }
 
   pub key_of-first : key_of (point_of (first_key name)) ≡ first_key name
   key_of-first = key_of-point_of (first_key name) (first_key-lt name short)

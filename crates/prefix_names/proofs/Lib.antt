@@ -1,3 +1,4 @@
 pub mod Corners
 pub mod HeldPoints
 pub mod Nearest
+pub mod Middles

@@ -5,3 +5,4 @@ pub mod TableRows
 pub mod LeafRows
 pub mod Subtrees
 pub mod SharedKeys
+pub mod Narrowings

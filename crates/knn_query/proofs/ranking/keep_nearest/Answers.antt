@@ -8,7 +8,7 @@ use Rattle.index_layer.specs.Leaves.{Leaf}
 use Rattle.table_share.specs.Objects.{objects_of}
 use Rattle.table_share.proofs.Subtrees.{inner-room}
 use Rattle.knn_query.specs.Ahead.{IsAhead, IsFarFirst, AreAt, number_nearer, reach_of, leaves_ahead, objects_ahead}
-use Rattle.knn_query.specs.Passes.{Keeps, Passes}
+use Rattle.knn_query.specs.Passes.{held, Keeps, Passes}
 use Rattle.knn_query.specs.declared.ahead.Ahead.{Ahead}
 use Rattle.knn_query.proofs.Places.{first-of, one-inserted, length-at, at-number, left-at, put-at}
 use Rattle.knn_query.proofs.Steps.{State, within, taken, begins-state, closed, opened-leaf, near-leaf, leaf-state, inner-state, ends, ends-every, weight-less, weight-two}
@@ -22,7 +22,7 @@ loop-number-init g c =
     let is_at = g.I.Index.is_at c.args.index.now in
     let named : c.new.result.name ≡ [] = c.new.ensures.name ∙ c.whole.ensures in (
       subst (λ (xs : List Ahead). State p k leaves c.args.steps.now c.args.steps.now xs c.args.kept) (sym (c.in_ok-push.ensures.items ∙ ap (λ (xs : List Ahead). xs ++ c.new.result ∷ []) c.new-ahead.ensures.items))
-          (begins-state p k leaves c.args.steps.now c.new.result c.args.kept c.requires.list (c.new.ensures.name ∙ c.whole.ensures) c.new.ensures.ahead),
+          (begins-state p k leaves c.args.steps.now c.new.result c.args.kept c.requires.empty (c.new.ensures.name ∙ c.whole.ensures) c.new.ensures.ahead),
       omega arith,
       subst (λ (xs : List Ahead). AreAt is_at xs c.push-2.new.self.items) (sym (c.in_ok-push.ensures.items ∙ ap (λ (xs : List Ahead). xs ++ c.new.result ∷ []) c.new-ahead.ensures.items))
           (subst (λ ps. AreAt is_at (c.new.result ∷ []) ps) (sym (c.in_ok-push-2.ensures.items ∙ ap (λ ps. ps ++ c.top.result ∷ []) c.new-places.ensures.items)) (subst (is_at c.top.result.now) (sym named) c.top.ensures, tt)),
@@ -39,8 +39,8 @@ returns-then-has_nearer-clause-keeps g c =
     let a : Ahead = c.in-Some.next in
     let left : List Ahead = c.take_nearest.new.ahead.items in
     let t = taken p k leaves c.args.steps.now c.loop-number.steps c.loop-number.ahead.items left a c.loop-number.kept s (first-of c.loop-number.ahead.items c.take_nearest.new.ahead.items c.in-Some.number c.in-Some.next c.in-Some.ensures.taken) in
-    let number : ℕ = number_nearer p a.least c.loop-number.kept.list.items in
-    let test : nat_le k number ≡ c.has_nearer.result = (λ i. nat_le (sym s.k_is i) (number_nearer (sym s.from i) a.least c.loop-number.kept.list.items)) ∙ sym c.has_nearer.ensures in
+    let number : ℕ = number_nearer p a.least (held c.loop-number.kept) in
+    let test : nat_le k number ≡ c.has_nearer.result = (λ i. nat_le (sym s.k_is i) (number_nearer (sym s.from i) a.least (held c.loop-number.kept))) ∙ sym c.has_nearer.ensures in
     closed p k leaves c.args.steps.now tile c.loop-number.steps a left c.loop-number.kept t (leb-true k number (test ∙ c.if-has_nearer.true))
 
 pub returns-then-has_nearer-clause-opened : goal.returns-then-has_nearer-clause-opened
@@ -149,8 +149,8 @@ loop-number-preserved-in-Continue-branch-3 g c =
     let a : Ahead = c.in-Some.next in
     let left : List Ahead = c.take_nearest.new.ahead.items in
     let t = taken p k leaves c.args.steps.now c.loop-number.steps c.loop-number.ahead.items left a c.loop-number.kept s (first-of c.loop-number.ahead.items c.take_nearest.new.ahead.items c.in-Some.number c.in-Some.next c.in-Some.ensures.taken) in
-    let number : ℕ = number_nearer p a.least c.loop-number.kept.list.items in
-    let test : nat_le k number ≡ c.has_nearer.result = (λ i. nat_le (sym s.k_is i) (number_nearer (sym s.from i) a.least c.loop-number.kept.list.items)) ∙ sym c.has_nearer.ensures in
+    let number : ℕ = number_nearer p a.least (held c.loop-number.kept) in
+    let test : nat_le k number ≡ c.has_nearer.result = (λ i. nat_le (sym s.k_is i) (number_nearer (sym s.from i) a.least (held c.loop-number.kept))) ∙ sym c.has_nearer.ensures in
     let few : number < k = leb-false k number (test ∙ c.if-has_nearer.false) in
     let b : Rows = arc_value c.in-Leaf.bucket.now in
     let passes : Passes (objects_of b.rows) c.loop-number.kept c.add_rows.new.kept = subst (λ (r : Rows). Passes (objects_of r.rows) c.loop-number.kept c.add_rows.new.kept) c.deref.ensures c.in_ok-add_rows-in-Leaf.ensures.passes in (
@@ -170,8 +170,8 @@ returns-in_err-add_rows-in-Leaf-clause-opened g c =
     let a : Ahead = c.in-Some.next in
     let left : List Ahead = c.take_nearest.new.ahead.items in
     let t = taken p k leaves c.args.steps.now c.loop-number.steps c.loop-number.ahead.items left a c.loop-number.kept s (first-of c.loop-number.ahead.items c.take_nearest.new.ahead.items c.in-Some.number c.in-Some.next c.in-Some.ensures.taken) in
-    let number : ℕ = number_nearer p a.least c.loop-number.kept.list.items in
-    let test : nat_le k number ≡ c.has_nearer.result = (λ i. nat_le (sym s.k_is i) (number_nearer (sym s.from i) a.least c.loop-number.kept.list.items)) ∙ sym c.has_nearer.ensures in
+    let number : ℕ = number_nearer p a.least (held c.loop-number.kept) in
+    let test : nat_le k number ≡ c.has_nearer.result = (λ i. nat_le (sym s.k_is i) (number_nearer (sym s.from i) a.least (held c.loop-number.kept))) ∙ sym c.has_nearer.ensures in
     let few : number < k = leb-false k number (test ∙ c.if-has_nearer.false) in
     let b : Rows = arc_value c.in-Leaf.bucket.now in
     let most = ends-every p k leaves c.args.steps.now (c.loop-number.steps + 1) (leaves_ahead leaves left) (opened-leaf p k leaves c.args.steps.now tile c.loop-number.steps a left c.loop-number.kept t b c.in-Leaf.ensures few) in
@@ -187,8 +187,8 @@ returns-in_err-add_rows-in-Leaf-clause-near g c world names is_world stands d ma
     let a : Ahead = c.in-Some.next in
     let left : List Ahead = c.take_nearest.new.ahead.items in
     let t = taken p k leaves c.args.steps.now c.loop-number.steps c.loop-number.ahead.items left a c.loop-number.kept s (first-of c.loop-number.ahead.items c.take_nearest.new.ahead.items c.in-Some.number c.in-Some.next c.in-Some.ensures.taken) in
-    let number : ℕ = number_nearer p a.least c.loop-number.kept.list.items in
-    let test : nat_le k number ≡ c.has_nearer.result = (λ i. nat_le (sym s.k_is i) (number_nearer (sym s.from i) a.least c.loop-number.kept.list.items)) ∙ sym c.has_nearer.ensures in
+    let number : ℕ = number_nearer p a.least (held c.loop-number.kept) in
+    let test : nat_le k number ≡ c.has_nearer.result = (λ i. nat_le (sym s.k_is i) (number_nearer (sym s.from i) a.least (held c.loop-number.kept))) ∙ sym c.has_nearer.ensures in
     let few : number < k = leb-false k number (test ∙ c.if-has_nearer.false) in
     let b : Rows = arc_value c.in-Leaf.bucket.now in
     let most = ends p k leaves c.args.steps.now (within p (reach_of p k world d)) (c.loop-number.steps + 1) (leaves_ahead leaves left)

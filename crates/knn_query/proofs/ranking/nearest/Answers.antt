@@ -5,6 +5,7 @@ use Rattle.index_layer.specs.Leaves.{Leaf}
 use Rattle.plain_list.specs.Answer.{ranked}
 use Rattle.plain_list.specs.Nearest.{AreOf}
 use Rattle.knn_query.specs.Ahead.{OpensNear}
+use Rattle.knn_query.specs.Passes.{held}
 use Rattle.knn_query.proofs.Passing.{take-none}
 use Rattle.knn_query.proofs.Steps.{opens-some}
 use Rattle.knn_query.proofs.ranking.nearest.Goals as goal
@@ -15,38 +16,38 @@ returns-clause-objects g c world names is_world stands =
     let k = c.args.k in
     let kept = c.in_ok-kept.kept in
     let keeps = c.in_ok-kept.ensures.keeps world names is_world stands in
-    let from_is : kept.from ≡ p = c.in_ok-kept.ensures.kept.0 ∙ c.new.ensures.list.from in
-    let k_is : kept.k ≡ k = c.in_ok-kept.ensures.kept.1 ∙ c.new.ensures.list.k_is in
-    let items = kept.list.items in
+    let from_is : kept.from ≡ p = c.in_ok-kept.ensures.kept.0 ∙ c.in_ok-none.ensures.from in
+    let k_is : kept.k ≡ k = c.in_ok-kept.ensures.kept.1 ∙ c.in_ok-none.ensures.k_is in
+    let items = held kept in
     let nearest : take k (take k (ranked p items)) ≡ take k (ranked p world) =
-    subst (λ (q : Point). take k (take k (ranked q items)) ≡ take k (ranked q world)) c.new.ensures.list.from
-    (subst (λ j. take j (take j (ranked c.new.result.from items)) ≡ take j (ranked c.new.result.from world)) c.new.ensures.list.k_is keeps.nearest) in
+    subst (λ (q : Point). take k (take k (ranked q items)) ≡ take k (ranked q world)) c.in_ok-none.ensures.from
+    (subst (λ j. take j (take j (ranked c.in_ok-none.none.from items)) ≡ take j (ranked c.in_ok-none.none.from world)) c.in_ok-none.ensures.k_is keeps.nearest) in
     c.in_ok-into_list.ensures world keeps.are_of ∙ (λ i. take (k_is i) (ranked (from_is i) items)) ∙ sym (take-take k k (ranked p items) (omega arith)) ∙ nearest
 
 pub returns-in_err-kept-clause-near : goal.returns-in_err-kept-clause-near
 returns-in_err-kept-clause-near g c world names is_world stands =
     let leaves : List Leaf = g.I.Index.leaves c.args.index.now in
-    subst (λ q. OpensNear q c.args.k leaves c.args.steps.now c.keep_nearest.new.steps world) c.new.ensures.list.from
-    (subst (λ j. OpensNear c.new.result.from j leaves c.args.steps.now c.keep_nearest.new.steps world) c.new.ensures.list.k_is (c.keep_nearest.ensures.near world names is_world stands))
+    subst (λ q. OpensNear q c.args.k leaves c.args.steps.now c.keep_nearest.new.steps world) c.in_ok-none.ensures.from
+    (subst (λ j. OpensNear c.in_ok-none.none.from j leaves c.args.steps.now c.keep_nearest.new.steps world) c.in_ok-none.ensures.k_is (c.keep_nearest.ensures.near world names is_world stands))
 
 pub returns-clause-near : goal.returns-clause-near
 returns-clause-near g c world names is_world stands =
     let leaves : List Leaf = g.I.Index.leaves c.args.index.now in
-    subst (λ q. OpensNear q c.args.k leaves c.args.steps.now c.keep_nearest.new.steps world) c.new.ensures.list.from
-    (subst (λ j. OpensNear c.new.result.from j leaves c.args.steps.now c.keep_nearest.new.steps world) c.new.ensures.list.k_is (c.keep_nearest.ensures.near world names is_world stands))
+    subst (λ q. OpensNear q c.args.k leaves c.args.steps.now c.keep_nearest.new.steps world) c.in_ok-none.ensures.from
+    (subst (λ j. OpensNear c.in_ok-none.none.from j leaves c.args.steps.now c.keep_nearest.new.steps world) c.in_ok-none.ensures.k_is (c.keep_nearest.ensures.near world names is_world stands))
 
 pub returns-in_err-into_list-clause-near : goal.returns-in_err-into_list-clause-near
 returns-in_err-into_list-clause-near g c world names is_world stands =
     let leaves : List Leaf = g.I.Index.leaves c.args.index.now in
-    subst (λ q. OpensNear q c.args.k leaves c.args.steps.now c.keep_nearest.new.steps world) c.new.ensures.list.from
-    (subst (λ j. OpensNear c.new.result.from j leaves c.args.steps.now c.keep_nearest.new.steps world) c.new.ensures.list.k_is (c.keep_nearest.ensures.near world names is_world stands))
+    subst (λ q. OpensNear q c.args.k leaves c.args.steps.now c.keep_nearest.new.steps world) c.in_ok-none.ensures.from
+    (subst (λ j. OpensNear c.in_ok-none.none.from j leaves c.args.steps.now c.keep_nearest.new.steps world) c.in_ok-none.ensures.k_is (c.keep_nearest.ensures.near world names is_world stands))
 
 pub returns-clause-some : goal.returns-clause-some
 returns-clause-some g c some =
     let kept = c.in_ok-kept.kept in
     let none : c.keep_nearest.new.steps ≡ c.args.steps.now → length c.in_ok-into_list.field-0 ≡ 0 = λ same.
-    let empty : kept.list.items ≡ [] = c.in_ok-kept.ensures.some.1 same in
-    let are : AreOf [] kept.list.items = subst (AreOf []) (sym empty) (λ i d lt. absurd (omega (arith, lt))) in
+    let empty : held kept ≡ [] = c.in_ok-kept.ensures.some.1 same in
+    let are : AreOf [] (held kept) = subst (AreOf []) (sym empty) (λ i d lt. absurd (omega (arith, lt))) in
     let list : c.in_ok-into_list.field-0 ≡ take kept.k (ranked kept.from []) = c.in_ok-into_list.ensures [] are ∙ ap (λ ms. take kept.k (ranked kept.from ms)) empty in
     ap length (list ∙ take-none kept.k) in
     opens-some c.args.steps.now c.keep_nearest.new.steps (length c.in_ok-into_list.field-0) c.in_ok-kept.ensures.some.0 none some

@@ -1,27 +1,36 @@
-use Rattle.std.proofs.Common.{sym, ◌∙◌, subst, refl, lit<}
-use Rattle.std.specs.Option.{option_map}
-use Rattle.plain_list.specs.Nearest.{rank_of}
-use Rattle.plain_list.proofs.Cuts.{IsPass, pass_skips, pass_adds, pass_cuts}
+use Rattle.std.proofs.Common.{◌∷◌, map, refl, subst, arith, lit<}
+use Rattle.std.specs.List.Sorted.{IsPermutation}
+use Rattle.std.specs.BinaryHeap.{heap_items}
+use Rattle.std.proofs.lemmas.List.Elements.{All-cons}
+use Rattle.std.proofs.lemmas.List.Sorted.{All-permutation, IsPermutation-map, length_permutation}
+use Rattle.zorder.specs.declared.points.Placed.{Placed}
+use Rattle.knn_query.specs.Candidates.{object_of, IsMeasured}
+use Rattle.knn_query.proofs.Candidates.{pass_adds_one}
+use Rattle.knn_query.proofs.Keeping.{replaced-passes}
 use Rattle.knn_query.proofs.kept.Kept.add.Goals as goal
 
-pub returns-in_ok-self : goal.returns-in_ok-self
-returns-in_ok-self c = record {
-  from = refl;
-  k_is = refl;
-  keeps = λ world rest are_of pass.
-      let p = c.args.self.now.from in
-      let k = c.args.self.now.k in
-      let last = option_map (rank_of p) c.args.self.now.last in
-      let more = pass_adds p k world c.args.m rest c.args.self.now.list.items last pass (are_of 0 c.args.m (lit< tt)) (sym c.may_belong.ensures ∙ c.if-may_belong.true) in
-      let pushed : IsPass p k world rest c.push.new.self.items last = subst (λ l. IsPass p k world rest l last) (sym c.in_ok-push.ensures.items) more in
-      pass_cuts p k world rest c.push.new.self.items c.cut_full.new.list.items last (option_map (rank_of p) c.in_ok-self.field-0) pushed (c.in_ok-self.ensures world pushed.are_of pushed.is_last);
-}
+pub returns-in_ok-push : goal.returns-in_ok-push
+returns-in_ok-push c =
+    let p = c.args.self.now.from in
+    let k = c.args.self.now.k in
+    let one = c.new-one.result in
+    let cs = heap_items c.args.self.now.heap in
+    let ds = heap_items c.push.new.self in
+    let perm = c.in_ok-push.ensures.permutation in
+    let made : IsPermutation (c.args.m ∷ map object_of cs) (map object_of ds) =
+    subst (λ (n : Placed). IsPermutation (n ∷ map object_of cs) (map object_of ds)) c.new-one.ensures.object (IsPermutation-map object_of (one ∷ cs) ds perm) in
+    record {
+      from = refl;
+      k_is = refl;
+      is_held = record {
+        ordered = c.in_ok-push.ensures.heap_order c.requires.ordered;
+        measured = All-permutation (IsMeasured p) (one ∷ cs) ds perm (All-cons (IsMeasured p) one cs c.new-one.ensures.measured c.requires.measured);
+        few = omega (arith, length_permutation (one ∷ cs) ds perm, c.if-len-self.true, c.len.ensures, c.args.self.now.heap.data.ok.0);
+      };
+      keeps = λ world rest are pass. pass_adds_one p k world rest c.args.m (map object_of cs) (map object_of ds) (are 0 c.args.m (lit< tt)) made pass;
+    }
 
-pub returns-else-may_belong : goal.returns-else-may_belong
-returns-else-may_belong c = record {
-  from = refl;
-  k_is = refl;
-  keeps = λ world rest are_of pass.
-      pass_skips c.args.self.now.from c.args.self.now.k world c.args.m rest c.args.self.now.list.items (option_map (rank_of c.args.self.now.from) c.args.self.now.last) pass
-      (sym c.may_belong.ensures ∙ c.if-may_belong.false);
-}
+pub returns-in_ok-replace_farthest : goal.returns-in_ok-replace_farthest
+returns-in_ok-replace_farthest c =
+    replaced-passes c.args.m c.new-one.result c.args.self.now (record { from = c.args.self.now.from; k = c.args.self.now.k; heap = c.replace_farthest.new.heap }) c.new-one.ensures.object c.new-one.ensures.measured c.requires
+    (omega (arith, c.if-len-self.false, c.len.ensures, c.args.self.now.heap.data.ok.0)) refl refl c.in_ok-replace_farthest.ensures

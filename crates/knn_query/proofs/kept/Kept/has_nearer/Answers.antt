@@ -1,12 +1,10 @@
-use Rattle.std.proofs.Common.{◌≤◌, length, arith}
-use Rattle.std.proofs.lemmas.Bool.Decides.{nat_tests}
-use Rattle.knn_query.specs.Ahead.{number_nearer}
-use Rattle.knn_query.proofs.Searching.{fewer}
+use Rattle.std.proofs.Common.{arith}
+use Rattle.std.specs.BinaryHeap.{heap_items}
+use Rattle.knn_query.proofs.Keeping.{farthest-tells}
 use Rattle.knn_query.proofs.kept.Kept.has_nearer.Goals as goal
 
-pub returns-else-len-self : goal.returns-else-len-self
-returns-else-len-self c =
-    let p = c.args.self.now.from in
-    let items = c.args.self.now.list.items in
-    let few : number_nearer p c.args.least items ≤ length items = fewer p c.args.least items in
-    grind (arith, nat_tests)
+pub returns-then-len-self : goal.returns-then-len-self
+returns-then-len-self c =
+    let kept = c.args.self.now in
+    farthest-tells kept.from kept.k c.args.least c.in-Some.farthest.now (heap_items kept.heap) c.requires.held.measured (c.in-Some.ensures.greatest c.requires.held.ordered) c.in-Some.ensures.lookup c.requires.held.few
+    (omega (arith, c.if-len-self.true, c.len.ensures, kept.heap.data.ok.0)) c.requires.some

@@ -1,0 +1,90 @@
+-- What a candidate more makes of what is kept.
+use Rattle.std.proofs.Common.{◌≡◌, ℕ, ◌<◌, ◌≤◌, Bool, true, false, List, [], ◌∷◌, length, map, get_or, None, inl, inr, refl, sym, ap, subst, ◌∙◌, arith, lit<}
+use Rattle.std.specs.Prelude.{nat_le, nat_lt}
+use Rattle.std.specs.List.{All}
+use Rattle.std.specs.BinaryHeap.{heap_items, IsHeap, IsUpperBound}
+use Rattle.std.proofs.lemmas.Bool.Decides.{nat_tests}
+use Rattle.std.proofs.lemmas.List.{length-map}
+use Rattle.std.proofs.lemmas.List.Elements.{All-cons, All-head, All-tail}
+use Rattle.std.proofs.lemmas.List.Sorted.{All-permutation, length_permutation}
+use Rattle.zorder.specs.declared.points.Point.{Point}
+use Rattle.zorder.specs.declared.points.Placed.{Placed}
+use Rattle.zorder.specs.Distance.{distance}
+use Rattle.plain_list.proofs.Cuts.{IsPass}
+use Rattle.knn_query.specs.Ahead.{number_nearer}
+use Rattle.knn_query.specs.Candidates.{object_of, candidate_cmp, IsMeasured, Replaces}
+use Rattle.knn_query.specs.Passes.{IsHeld, Passes}
+use Rattle.knn_query.specs.declared.candidate.Candidate.{Candidate}
+use Rattle.knn_query.specs.declared.kept.Kept.{Kept}
+use Rattle.knn_query.proofs.Candidates.{Bounds, bounds-map, pass_over, pass_replaces}
+use Rattle.knn_query.proofs.Searching.{all_as_near, first_farther}
+
+-- k candidates are nearer exactly where the farthest is
+pub farthest-tells : (p : Point) (k least : ℕ) (c : Candidate) (cs : List Candidate) → All (IsMeasured p) cs → IsUpperBound candidate_cmp c cs → c ≡ get_or cs 0 c → length cs ≤ k → k ≤ length cs → 1 ≤ k
+    → nat_lt c.distance least ≡ nat_le k (number_nearer p least (map object_of cs))
+farthest-tells p k least c [] at bound is few many some = absurd (omega (arith, many, some))
+farthest-tells p k least c (t ∷ cs) at bound is few many some = by_test (nat_lt c.distance least) refl
+  where
+    at_t : IsMeasured p t
+    at_t = All-head (IsMeasured p) t cs at
+
+    at_c : IsMeasured p c
+    at_c = subst (IsMeasured p) (sym is) at_t
+
+    number : ℕ
+    number = number_nearer p least (map object_of (t ∷ cs))
+
+    long : length (map object_of (t ∷ cs)) ≡ length (t ∷ cs)
+    long = length-map (t ∷ cs) object_of
+
+    all : k ≤ number → true ≡ nat_le k number
+    all le = grind (arith, nat_tests)
+
+    few_of : number < k → false ≡ nat_le k number
+    few_of lt = grind (arith, nat_tests)
+
+    by_test : (b : Bool) → nat_lt c.distance least ≡ b → nat_lt c.distance least ≡ nat_le k number
+    by_test true e =
+        let less : c.distance < least = grind (arith, nat_tests) in
+        let near : distance c.at p < least = omega (arith, less, at_c) in
+        let same : number ≡ length (map object_of (t ∷ cs)) = all_as_near p least (object_of c) (map object_of (t ∷ cs)) (bounds-map p c (t ∷ cs) at_c at bound) near in
+        e ∙ all (omega (arith, same, long, many))
+    by_test false e =
+        let from : least ≤ c.distance = grind (arith, nat_tests) in
+        let far : least ≤ distance t.at p = omega (arith, from, at_t, ap (λ (d : Candidate). d.distance) is) in
+        let less : number < length (map object_of (t ∷ cs)) = first_farther p least (object_of t) (map object_of cs) far in
+        e ∙ few_of (omega (arith, less, long, few))
+
+-- where k are kept, one more is passed over, or takes the place of the farthest
+pub replaced-passes : (m : Placed) (one : Candidate) (old new : Kept) → object_of one ≡ m → IsMeasured old.from one → IsHeld old → old.k ≤ length (heap_items old.heap) → new.from ≡ old.from → new.k ≡ old.k
+    → Replaces one (heap_items old.heap) (heap_items new.heap) → Passes (m ∷ []) old new
+replaced-passes m one old new is_m at_one h many from_is k_is (inl r) =
+    let p = old.from in
+    let cs : List Candidate = heap_items old.heap in
+    record {
+      from = from_is;
+      k_is = k_is;
+      is_held = record {
+        ordered = subst (IsHeap candidate_cmp) (sym r.same) h.ordered;
+        measured = subst (λ q. All (IsMeasured q) (heap_items new.heap)) (sym from_is) (subst (All (IsMeasured p)) (sym r.same) h.measured);
+        few = omega (arith, h.few, ap length r.same, k_is);
+      };
+      keeps = λ world rest are pass.
+          subst (λ ds. IsPass p old.k world rest (map object_of ds) None) (sym r.same)
+          (pass_over p old.k world rest m (map object_of cs) (omega (arith, many, length-map cs object_of)) (subst (λ (n : Placed). Bounds p n (map object_of cs)) is_m (bounds-map p one cs at_one h.measured r.bound)) pass);
+    }
+replaced-passes m one old new is_m at_one h many from_is k_is (inr r) =
+    let p = old.from in
+    let cs : List Candidate = heap_items old.heap in
+    let ds : List Candidate = heap_items new.heap in
+    let left : All (IsMeasured p) r.left = All-tail (IsMeasured p) r.gone r.left (All-permutation (IsMeasured p) cs (r.gone ∷ r.left) r.was h.measured) in
+    record {
+      from = from_is;
+      k_is = k_is;
+      is_held = record {
+        ordered = r.ordered;
+        measured = subst (λ q. All (IsMeasured q) ds) (sym from_is) (All-permutation (IsMeasured p) (one ∷ r.left) ds r.is (All-cons (IsMeasured p) one r.left at_one left));
+        few = omega (arith, h.few, length_permutation cs (r.gone ∷ r.left) r.was, length_permutation (one ∷ r.left) ds r.is, k_is);
+      };
+      keeps = λ world rest are pass. pass_replaces p old.k world rest m (are 0 m (lit< tt)) one cs ds is_m at_one h.measured many r pass;
+    }

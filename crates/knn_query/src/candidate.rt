@@ -1,0 +1,38 @@
+//! Objects with their distance to a point.
+ghost use Rattle.std.specs.Prelude.{◌≡◌};
+ghost use Rattle.knn_query.specs.Candidates.{object_of, IsMeasured};
+
+use prefix_names::dist;
+use zorder::{Placed, Point};
+
+/// An object and its squared distance, in the order of the answer: the nearer first, and of two as near the one with the lesser id.
+#[derive(Clone, Copy, Drop)]
+#[derive_where(PartialEq, Eq, PartialOrd, Ord)]
+pub(crate) struct Candidate {
+    pub(crate) distance: u128,
+    pub(crate) id: u64,
+    #[derive_where(skip)]
+    pub(crate) at: Point,
+}
+
+impl Candidate {
+    pub(crate) fn new(m: Placed, from: Point) -> Candidate
+        ensures object { object_of result ≡ m }
+        ensures measured { IsMeasured from result }
+    {
+        Candidate {
+            distance: dist(m.at, from),
+            id: m.id,
+            at: m.at,
+        }
+    }
+
+    pub(crate) fn placed(&self) -> Placed
+        ensures { result ≡ object_of self.now }
+    {
+        Placed {
+            id: self.id,
+            at: self.at,
+        }
+    }
+}
