@@ -45,7 +45,7 @@ fn key_in(draw: u64, depth: u8) -> u64 {
     city | draw >> shared
 }
 
-fn leaves<I: Index>(alloc: Global, depth: u8) -> Result<I, Memory>
+fn leaves<I: Index>(alloc: Global, depth: u8) -> Result<I, Undone>
     requires width { I.WIDTH ≡ 1 }
     requires most { depth ≤ 64 }
 {
@@ -62,8 +62,8 @@ fn fill<I: Index>(index: &mut I, at: &mut Vec<u64>, plan: &Plan) -> Result<u64, 
     for id in 0..plan.points {
         seed = drawn(seed);
         let key = key_in(seed, plan.depth);
-        if at.push(key).is_err() {
-            return Err(Undone::Memory);
+        if let Err(want) = at.push(key) {
+            return Err(Memory::from(want).into());
         }
         if add(index, Row { key, id })? {
             added = added.saturating_add(1);
@@ -154,22 +154,16 @@ pub(crate) fn play<I: Index>(alloc: Global, plan: &Plan) -> Result<Done, Undone>
     requires width { I.WIDTH ≡ 1 }
     requires most { plan.now.depth ≤ 64 }
 {
-    let Ok(mut index) = leaves::<I>(alloc, plan.depth) else {
-        return Err(Undone::Memory);
-    };
+    let mut index: I = leaves(alloc, plan.depth)?;
     let mut at = Vec::new(alloc);
     let points = fill(&mut index, &mut at, plan)?;
-    let Ok(first) = Vec::from_slice(alloc, &at) else {
-        return Err(Undone::Memory);
-    };
+    let first = Vec::from_slice(alloc, &at)?;
     let mut kept = index.share().ok();
     if !plan.keeps {
         kept = None;
     }
     let moved = move_all(&mut index, &mut at, plan.moves)?;
-    let Ok(shared) = share_all(&index, plan.shares) else {
-        return Err(Undone::Memory);
-    };
+    let shared = share_all(&index, plan.shares)?;
     Ok(Done {
         points,
         moved,

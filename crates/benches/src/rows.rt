@@ -63,7 +63,7 @@ pub(crate) fn one_leaf<I: Index>(alloc: Global) -> Result<I, Memory> {
 }
 
 // Splits the leaf of a key where it has fewer bits than are wanted. Its rows are left out.
-fn split_once<I: Index>(alloc: Global, index: &mut I, key: u64, depth: u8) -> Result<(), Memory>
+fn split_once<I: Index>(alloc: Global, index: &mut I, key: u64, depth: u8) -> Result<(), Undone>
     requires width { I.WIDTH ≡ 1 }
     requires most { depth ≤ 64 }
 {
@@ -72,10 +72,7 @@ fn split_once<I: Index>(alloc: Global, index: &mut I, key: u64, depth: u8) -> Re
         return Ok(());
     }
     let children = [empty(alloc)?, empty(alloc)?];
-    match index.divide(&name, &children, &mut AtOnce) {
-        Ok(()) => Ok(()),
-        Err(_) => Err(Memory),
-    }
+    index.divide(&name, &children, &mut AtOnce)
 }
 
 /// Splits the leaf of a key until it has as many bits as are wanted. Its rows are left out.
@@ -84,7 +81,7 @@ pub(crate) fn deepen<I: Index>(
     index: &mut I,
     key: u64,
     depth: u8,
-) -> Result<(), Memory>
+) -> Result<(), Undone>
     requires width { I.WIDTH ≡ 1 }
     requires most { depth ≤ 64 }
 {

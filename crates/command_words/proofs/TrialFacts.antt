@@ -6,7 +6,8 @@ use Rattle.csv_rows.proofs.NumbersFacts.{number_in-some}
 use Rattle.command_words.specs.declared.trials.Made.{Made}
 use Rattle.command_words.specs.Words.{AsksFor, SpellsMade, SpellsTrial, IsTrial, is_file_name, Trial}
 
-word-at : (n : ℕ) (words one other : List (List ℕ)) → words ≡ one → words ≡ other → get_or one n [] ≡ get_or other n []
+-- the word at a place, of words that are two lists
+pub word-at : (n : ℕ) (words one other : List (List ℕ)) → words ≡ one → words ≡ other → get_or one n [] ≡ get_or other n []
 word-at n words one other first second = ap (λ (ws : List (List ℕ)). get_or ws n []) (sym first ∙ second)
 
 transport-made : {rows seed rows' seed' : List ℕ} (made : Made) → rows ≡ rows' → seed ≡ seed' → SpellsMade rows seed made → SpellsMade rows' seed' made

@@ -5,7 +5,7 @@ use Rattle.std.proofs.lemmas.Bool.{true≢false}
 use Rattle.zorder.specs.declared.points.Region.{Region}
 use Rattle.csv_rows.specs.Numbers.{number_in}
 use Rattle.command_words.specs.Words.{Command, AsksFor, NamesFile, SpellsBox, SpellsPlay, SpellsShow, IsInit, IsCheck, IsPlay, IsShow, IsTrial, IsUnlogged, IsLogged, is_file_name, Init, Check, Play, Show, Trial}
-use Rattle.command_words.proofs.TrialFacts.{trial-word, one-trial}
+use Rattle.command_words.proofs.TrialFacts.{trial-word, one-trial, word-at}
 
 init-word : (words : List (List ℕ)) → IsInit words → get_or words 0 [] ≡ codes "init"
 init-word words asks = ap (λ (ws : List (List ℕ)). get_or ws 0 []) asks.1.0
@@ -124,9 +124,6 @@ same-box x y a b q r first second =
     let hi_x : q.hi.x ≡ r.hi.x = some-number q.hi.x r.hi.x (sym first.hi_x ∙ ap (λ n. number_in n 4294967295 a) lo_x ∙ second.hi_x) in
     let hi_y : q.hi.y ≡ r.hi.y = some-number q.hi.y r.hi.y (sym first.hi_y ∙ ap (λ n. number_in n 4294967295 b) lo_y ∙ second.hi_y) in
     λ i. record { lo = record { x = lo_x i; y = lo_y i }; hi = record { x = hi_x i; y = hi_y i } }
-
-word-at : (n : ℕ) (words one other : List (List ℕ)) → words ≡ one → words ≡ other → get_or one n [] ≡ get_or other n []
-word-at n words one other first second = ap (λ (ws : List (List ℕ)). get_or ws n []) (sym first ∙ second)
 
 transport-box : {x y a b x' y' a' b' : List ℕ} (r : Region) → x ≡ x' → y ≡ y' → a ≡ a' → b ≡ b' → SpellsBox x y a b r → SpellsBox x' y' a' b' r
 transport-box {x = x} {y = y} {a = a} {b = b} {x' = x'} {y' = y'} {a' = a'} {b' = b'} r e f g h s =

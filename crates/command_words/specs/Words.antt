@@ -1,5 +1,5 @@
 -- The words of the command line.
-use Rattle.std.specs.Prelude.{◌≡◌, ◌⊎◌, ℕ, ◌==◌, Bool, false, not, List, [], ◌∷◌, Option, Some, None, codes, IsTrue}
+use Rattle.std.specs.Prelude.{◌≡◌, ◌⊎◌, ℕ, ◌==◌, Bool, false, not, List, [], ◌∷◌, Option, Some, None, MatchOption, codes, IsTrue}
 use Rattle.zorder.specs.declared.points.Region.{Region}
 use Rattle.csv_rows.specs.Numbers.{number_in}
 use Rattle.command_words.specs.declared.trials.Made.{Made}
@@ -22,12 +22,32 @@ is_file_name (c ∷ cs) = not (c == 45)
 abbrev pub NamesFile : List ℕ → List (List ℕ) → List ℕ → Type 0
 NamesFile command words file = (words ≡ command ∷ file ∷ []) × IsTrue (is_file_name file)
 
+-- the words aren't that
+abbrev pub NamesNoFile : List ℕ → List (List ℕ) → Type 0
+NamesNoFile command words = (file : List ℕ) → NamesFile command words file → ⊥
+
 -- the words that ask for rows to be played, with this word in the place of a file; the size is 64, or the number from 4 to 4,096 behind
 -- `--bucket`
 abbrev pub SpellsPlay : List (List ℕ) → List ℕ → ℕ → Type 0
 SpellsPlay words word size =
     ((words ≡ codes "play" ∷ word ∷ []) × (size ≡ 64))
     ⊎ ((number : List ℕ) × (words ≡ codes "play" ∷ word ∷ codes "--bucket" ∷ number ∷ []) × (number_in 4 4096 number ≡ Some size))
+
+-- the words don't ask for that
+abbrev pub SpellsNoPlay : List (List ℕ) → Type 0
+SpellsNoPlay words = (word : List ℕ) (size : ℕ) → SpellsPlay words word size → ⊥
+
+-- two words are `--bucket` and a size from 4 to 4,096
+abbrev pub SpellsSize : List ℕ → List ℕ → ℕ → Type 0
+SpellsSize option number size = (option ≡ codes "--bucket") × (number_in 4 4096 number ≡ Some size)
+
+-- they aren't that
+abbrev pub SpellsNoSize : List ℕ → List ℕ → Type 0
+SpellsNoSize option number = option ≡ codes "--bucket" → (size : ℕ) → number_in 4 4096 number ≡ Some size → ⊥
+
+-- what some words spell, or nothing where they spell nothing
+abbrev pub Reads : {T : Type 0} → (T → Type 0) → Option T → Type 0
+Reads {T = T} Spells result = MatchOption result ((value : T) → Spells value → ⊥) Spells
 
 -- four words are the corners of a box, the lower one first: each number has at most 32 bits, and the upper corner's are at least the lower one's
 pub record SpellsBox (x y a b : List ℕ) (region : Region) : Type 0 where
@@ -40,6 +60,10 @@ pub record SpellsBox (x y a b : List ℕ) (region : Region) : Type 0 where
 abbrev pub SpellsShow : List (List ℕ) → List ℕ → Region → Type 0
 SpellsShow words word region = (x y a b : List ℕ) × (words ≡ codes "show" ∷ word ∷ x ∷ y ∷ a ∷ b ∷ []) × SpellsBox x y a b region
 
+-- the words don't ask for that
+abbrev pub SpellsNoShow : List (List ℕ) → Type 0
+SpellsNoShow words = (word : List ℕ) (region : Region) → SpellsShow words word region → ⊥
+
 -- two words are how many rows are made, 1 to 65,536, and of which seed, a number of 64 bits
 pub record SpellsMade (rows seed : List ℕ) (made : Made) : Type 0 where
   pub rows_are : number_in 1 65536 rows ≡ Some made.rows
@@ -48,6 +72,10 @@ pub record SpellsMade (rows seed : List ℕ) (made : Made) : Type 0 where
 -- the words that ask for these rows to be made and played, with this word in the place of a file
 abbrev pub SpellsTrial : List (List ℕ) → List ℕ → Made → Type 0
 SpellsTrial words word made = (rows seed : List ℕ) × (words ≡ codes "trial" ∷ word ∷ rows ∷ seed ∷ []) × SpellsMade rows seed made
+
+-- the words don't ask for that
+abbrev pub SpellsNoTrial : List (List ℕ) → Type 0
+SpellsNoTrial words = (word : List ℕ) (made : Made) → SpellsTrial words word made → ⊥
 
 -- the words that ask for a command; a dash stands for no log
 abbrev pub AsksFor : List (List ℕ) → Command → Type 0

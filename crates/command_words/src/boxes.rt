@@ -1,9 +1,8 @@
 //! The words that ask for the objects in a box.
-ghost use Rattle.std.specs.Prelude.{◌≡◌, ◌≤◌, ℕ, List, map, MatchOption};
+ghost use Rattle.std.specs.Prelude.{◌≡◌, map, MatchOption};
 ghost use Rattle.std.specs.String.{string_bytes};
 ghost use Rattle.csv_rows.specs.Numbers.{number_in};
-ghost use Rattle.zorder.specs.declared.points.Region.{Region};
-ghost use Rattle.command_words.specs.Words.{SpellsBox, SpellsShow};
+ghost use Rattle.command_words.specs.Words.{Reads, SpellsBox, SpellsNoShow, SpellsShow};
 
 use crate::files::is_word;
 use csv_rows::number_in;
@@ -17,7 +16,8 @@ pub(crate) struct ShowWords<'a> {
 }
 
 pub(crate) fn show_words(words: &[String]) -> Option<ShowWords<'_>>
-    ensures { MatchOption result ((log : List ℕ) (region : Region) → SpellsShow (map string_bytes words.now) log region → ⊥) (λ show. SpellsShow (map string_bytes words.now) show.log.now show.region) }
+    ensures { MatchOption result (SpellsNoShow (map string_bytes words.now))
+        (λ show. SpellsShow (map string_bytes words.now) show.log.now show.region) }
 {
     match words {
         [command, log, x, y, a, b] => {
@@ -36,7 +36,7 @@ pub(crate) fn show_words(words: &[String]) -> Option<ShowWords<'_>>
 }
 
 fn box_in(x: &str, y: &str, a: &str, b: &str) -> Option<Region>
-    ensures { MatchOption result ((region : Region) → SpellsBox x.now y.now a.now b.now region → ⊥) (λ region. SpellsBox x.now y.now a.now b.now region) }
+    ensures { Reads (SpellsBox x.now y.now a.now b.now) result }
 {
     let x = coordinate_in(x, 0)?;
     let y = coordinate_in(y, 0)?;

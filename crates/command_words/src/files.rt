@@ -1,11 +1,12 @@
 //! Words that name files, and words that are known.
-ghost use Rattle.std.specs.Prelude.{◌≡◌, ◌↔◌, ℕ, List, IsTrue, MatchOption, map};
+ghost use Rattle.std.specs.Prelude.{◌≡◌, ◌↔◌, IsTrue, MatchOption, map};
 ghost use Rattle.std.specs.String.{string_bytes};
-ghost use Rattle.command_words.specs.Words.{NamesFile, is_file_name};
+ghost use Rattle.command_words.specs.Words.{NamesFile, NamesNoFile, is_file_name};
 
 // The file that the words name behind a command.
 pub(crate) fn file_after<'a>(command: &str, words: &'a [String]) -> Option<&'a str>
-    ensures { MatchOption result ((file : List ℕ) → NamesFile command.now (map string_bytes words.now) file → ⊥) (λ file. NamesFile command.now (map string_bytes words.now) file.now) }
+    ensures { MatchOption result (NamesNoFile command.now (map string_bytes words.now))
+        (λ file. NamesFile command.now (map string_bytes words.now) file.now) }
 {
     let [first, file] = words else {
         return None;

@@ -1,8 +1,7 @@
 //! The words that ask for rows to be played.
-ghost use Rattle.std.specs.Prelude.{◌≡◌, ℕ, List, Some, map, MatchOption, codes};
+ghost use Rattle.std.specs.Prelude.{◌≡◌, map, MatchOption};
 ghost use Rattle.std.specs.String.{string_bytes};
-ghost use Rattle.csv_rows.specs.Numbers.{number_in};
-ghost use Rattle.command_words.specs.Words.{SpellsPlay};
+ghost use Rattle.command_words.specs.Words.{SpellsNoPlay, SpellsNoSize, SpellsPlay, SpellsSize};
 
 use crate::files::is_word;
 use csv_rows::number_in;
@@ -19,7 +18,8 @@ pub(crate) struct PlayWords<'a> {
 
 // The word for a log, and the bucket size: behind the word `--bucket` and a number, or nothing.
 pub(crate) fn play_words(words: &[String]) -> Option<PlayWords<'_>>
-    ensures { MatchOption result ((log : List ℕ) (size : ℕ) → SpellsPlay (map string_bytes words.now) log size → ⊥) (λ play. SpellsPlay (map string_bytes words.now) play.log.now play.size) }
+    ensures { MatchOption result (SpellsNoPlay (map string_bytes words.now))
+        (λ play. SpellsPlay (map string_bytes words.now) play.log.now play.size) }
 {
     match words {
         [command, log] => {
@@ -48,7 +48,7 @@ pub(crate) fn play_words(words: &[String]) -> Option<PlayWords<'_>>
 }
 
 fn size_in(option: &str, number: &str) -> Option<u32>
-    ensures { MatchOption result (option.now ≡ codes "--bucket" → (size : ℕ) → number_in 4 4096 number.now ≡ Some size → ⊥) (λ size. (option.now ≡ codes "--bucket") × (number_in 4 4096 number.now ≡ Some size)) }
+    ensures { MatchOption result (SpellsNoSize option.now number.now) (SpellsSize option.now number.now) }
 {
     if option != "--bucket" {
         return None;

@@ -1,8 +1,7 @@
 //! The words that ask for made rows to be played.
-ghost use Rattle.std.specs.Prelude.{◌≡◌, ℕ, List, Some, map, MatchOption};
+ghost use Rattle.std.specs.Prelude.{◌≡◌, map, MatchOption};
 ghost use Rattle.std.specs.String.{string_bytes};
-ghost use Rattle.csv_rows.specs.Numbers.{number_in};
-ghost use Rattle.command_words.specs.Words.{SpellsMade, SpellsTrial};
+ghost use Rattle.command_words.specs.Words.{Reads, SpellsMade, SpellsNoTrial, SpellsTrial};
 
 use crate::files::is_word;
 use csv_rows::number_in;
@@ -22,7 +21,8 @@ pub(crate) struct TrialWords<'a> {
 }
 
 pub(crate) fn trial_words(words: &[String]) -> Option<TrialWords<'_>>
-    ensures { MatchOption result ((log : List ℕ) (made : Made) → SpellsTrial (map string_bytes words.now) log made → ⊥) (λ trial. SpellsTrial (map string_bytes words.now) trial.log.now trial.made) }
+    ensures { MatchOption result (SpellsNoTrial (map string_bytes words.now))
+        (λ trial. SpellsTrial (map string_bytes words.now) trial.log.now trial.made) }
 {
     match words {
         [command, log, rows, seed] => {
@@ -41,7 +41,7 @@ pub(crate) fn trial_words(words: &[String]) -> Option<TrialWords<'_>>
 }
 
 fn made_in(rows: &str, seed: &str) -> Option<Made>
-    ensures { MatchOption result ((made : Made) → SpellsMade rows.now seed.now made → ⊥) (λ made. SpellsMade rows.now seed.now made) }
+    ensures { Reads (SpellsMade rows.now seed.now) result }
 {
     let rows = number_in(rows.as_bytes(), 1, 65_536)?;
     let seed = number_in(seed.as_bytes(), 0, u64::MAX)?;

@@ -2,7 +2,7 @@
 use Rattle.std.proofs.Common.{◌≡◌, ◌<◌, ◌≤◌, ℕ, Bool, true, false, List, length, [], ◌∷◌, Some, None, ◌^◌, refl, sym, ap, ◌∙◌, arith, cond, ◌&&◌, ◌+◌, ◌*◌, get_or, take, rules}
 use Rattle.std.proofs.lemmas.Bool.{and_from, le-leb, leb-true}
 use Rattle.std.specs.Prelude.{nat_le}
-use Rattle.std.specs.Char.{is_ascii_digit}
+use Rattle.std.specs.Char.{is_ascii_digit, digit_value}
 use Rattle.std.specs.List.{list_all}
 use Rattle.std.specs.Cmp.{first_so, second_so}
 use Rattle.std.specs.Cmp.Derive.{both_true}
@@ -12,7 +12,6 @@ use Rattle.std.proofs.lemmas.List.{length-take}
 use Rattle.std.proofs.lemmas.Int.Digits.{digits_value_more}
 use Rattle.std.proofs.lemmas.List.Folds.{list_all_more}
 use Rattle.std.proofs.lemmas.Str.{digit_value_digit}
-use Rattle.std.specs.Char.{digit_value}
 use Rattle.std.specs.Str.Parse.{digits_value}
 use Rattle.csv_rows.specs.Numbers.{is_between, is_number, number, number_in}
 

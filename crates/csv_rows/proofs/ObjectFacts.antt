@@ -1,15 +1,10 @@
 -- Lines of the objects in a box.
 use Rattle.std.proofs.Common.{◌≡◌, ◌∙◌, ℕ, Bool, true, false, cond, List, [], ◌∷◌, ◌++◌, refl, ap}
-use Rattle.std.specs.Prelude.{if◌then◌else◌}
 use Rattle.std.specs.List.{filter, flat_map}
 use Rattle.zorder.specs.Region.{has_point}
 use Rattle.zorder.specs.declared.points.Placed.{Placed}
 use Rattle.zorder.specs.declared.points.Region.{Region}
-use Rattle.csv_rows.specs.ObjectLines.{object_line, object_title, objects_text}
-
--- the line of an object, where it is in the box
-abbrev pub line_in : Region → Placed → List ℕ
-line_in region m = if has_point region m.at then object_line m else []
+use Rattle.csv_rows.specs.ObjectLines.{line_in, object_line, object_title, objects_text}
 
 lines-tested : (b : Bool) (region : Region) (m : Placed) (ms rest : List Placed) → flat_map (line_in region) ms ≡ flat_map object_line rest
     → cond b (object_line m) [] ++ flat_map (line_in region) ms ≡ flat_map object_line (cond b (m ∷ rest) rest)

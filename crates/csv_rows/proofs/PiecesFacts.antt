@@ -92,11 +92,6 @@ pub puts-fault : {T E : Type 0} (a b : Option (List ℕ)) (text lost more : List
 puts-fault a b text lost more result err h =
     MatchResult-from_err result (λ _. Appends a b (text ++ more)) (λ _. (n : ℕ) × (n ≤ length (text ++ more)) × Appends a b (take n (text ++ more))) err (λ _. puts-lost a b text lost more h)
 
--- the last piece, with the end of the text
-pub puts-line : {T E : Type 0} (a b c : Option (List ℕ)) (front held end bytes text : List ℕ) (result : Result T E) → Moves a b front held → bytes ≡ held ++ end → front ++ end ≡ text → Puts b c bytes result → Puts a c text result
-puts-line a b c front held end bytes text result h is whole g =
-    puts-is a c (front ++ end) text result whole (puts-last a b c (front ++ end) (held ++ end) result (moves-more a b front held end h) (puts-is b c bytes (held ++ end) result is g))
-
 -- lines of these items up to an index were added behind a front
 pub record HasAdded {X : Type 0} (line : X → List ℕ) (old now : Option (List ℕ)) (faults later : ℕ) (front : List ℕ) (items : List X) (index : ℕ) (held : List ℕ) : Type 0 where
   pub moved : Moves old now (front ++ flat_map line (take index items)) held

@@ -1,5 +1,5 @@
 -- The fields of a row of input, column by column.
-use Rattle.std.specs.Prelude.{ℕ, ◌+◌, Bool, true, false, List, [], ◌∷◌, if◌then◌else◌, Option, Some, None, Result, Ok, Err, codes, nat_eq}
+use Rattle.std.specs.Prelude.{◌≡◌, ℕ, ◌+◌, ◌≤◌, Bool, true, false, List, [], ◌∷◌, if◌then◌else◌, Option, Some, None, Result, Ok, Err, MatchResult, codes, nat_eq}
 use Rattle.std.specs.Cmp.Lexicographic.{pointwise}
 use Rattle.zorder.specs.declared.points.Point.{Point}
 use Rattle.plain_list.specs.declared.ops.Op.{Op}
@@ -80,10 +80,39 @@ op_of Where id x y a b = op.Find (number id)
 op_of Box id x y a b = op.Within (record { lo = point_of x y; hi = point_of a b })
 op_of Near id x y a b = op.Near (point_of x y) (number a)
 
+-- what the fields of columns 3 to 7 say as an id and a point, or the leftmost of them at fault
+abbrev pub placed_by : List ℕ → List ℕ → List ℕ → List ℕ → List ℕ → Result (ℕ × Point) Wrong
+placed_by id x y a b = unless (first_fault 3 (rules_of Put x y) (id ∷ x ∷ y ∷ a ∷ b ∷ [])) (number id, point_of x y)
+
+-- the same of an id alone
+abbrev pub id_by : List ℕ → List ℕ → List ℕ → List ℕ → List ℕ → Result ℕ Wrong
+id_by id x y a b = unless (first_fault 3 (rules_of Drop x y) (id ∷ x ∷ y ∷ a ∷ b ∷ [])) (number id)
+
+-- the point that the fields of columns 4 and 5 say, or the leftmost of them at fault
+abbrev pub point_by : List ℕ → List ℕ → Result Point Wrong
+point_by x y = unless (first_fault 4 (coordinate_rule ∷ coordinate_rule ∷ []) (x ∷ y ∷ [])) (point_of x y)
+
+-- the number of a field that lies between these two, or its column at fault
+abbrev pub ReadsNumber : ℕ → List ℕ → ℕ → ℕ → Result ℕ Wrong → Type 0
+ReadsNumber column field low high result = MatchResult result
+    (λ n. (keeps (Between low high) field ≡ true) × (n ≡ number field) × (low ≤ n) × (n ≤ high))
+    (λ e. (keeps (Between low high) field ≡ false) × (e ≡ Column column))
+
 -- the operation of columns 3 to 7, where column 2 is this word, or the leftmost of them at fault
 abbrev pub op_by_word : Option Word → List ℕ → List ℕ → List ℕ → List ℕ → List ℕ → Result Op Wrong
 op_by_word None id x y a b = Err (Column 2)
 op_by_word (Some word) id x y a b = unless (first_fault 3 (rules_of word x y) (id ∷ x ∷ y ∷ a ∷ b ∷ [])) (op_of word id x y a b)
+
+-- the same, where this is the field of column 2
+abbrev pub op_by : List ℕ → List ℕ → List ℕ → List ℕ → List ℕ → List ℕ → Result Op Wrong
+op_by word id x y a b = op_by_word (word_of word) id x y a b
+
+-- the same, where column 2 is `box`, or `near`
+abbrev pub box_by : List ℕ → List ℕ → List ℕ → List ℕ → List ℕ → Result Op Wrong
+box_by id x y a b = op_by_word (Some Box) id x y a b
+
+abbrev pub near_by : List ℕ → List ℕ → List ℕ → List ℕ → List ℕ → Result Op Wrong
+near_by id x y a b = op_by_word (Some Near) id x y a b
 
 abbrev pub with_session : ℕ → Result Op Wrong → Result InRow Wrong
 with_session session (Ok op) = Ok (record { session = session; op = op })

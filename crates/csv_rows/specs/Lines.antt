@@ -19,6 +19,10 @@ point_text p = decimal p.x ++ codes ":" ++ decimal p.y
 abbrev pub placed_text : Placed → List ℕ
 placed_text m = decimal m.id ++ codes ":" ++ point_text m.at
 
+-- points with semicolons between them
+abbrev pub listed_text : List Placed → List ℕ
+listed_text list = join_by placed_text (codes ";") list
+
 -- the word of an answer
 abbrev pub word_text : Answer → List ℕ
 word_text ans.Done = codes "done"
@@ -40,7 +44,7 @@ detail_text (ans.Moved p) = point_text p
 detail_text (ans.Gone p) = point_text p
 detail_text (ans.At p) = point_text p
 detail_text ans.Absent = []
-detail_text (ans.Found ms) = join_by placed_text (codes ";") ms
+detail_text (ans.Found ms) = listed_text ms
 detail_text (ans.Many n) = decimal n
 
 -- a row, its place and the word of its answer, with a comma behind each

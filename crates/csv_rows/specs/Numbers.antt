@@ -1,5 +1,5 @@
 -- Numbers of the input.
-use Rattle.std.specs.Prelude.{ℕ, nat_le, Bool, ◌&&◌, List, length, if◌then◌else◌, Option, Some, None}
+use Rattle.std.specs.Prelude.{◌≡◌, ℕ, ◌<◌, ◌^◌, nat_le, Bool, true, ◌&&◌, List, length, if◌then◌else◌, Option, Some, None}
 use Rattle.std.specs.Char.{is_ascii_digit}
 use Rattle.std.specs.List.{list_all}
 use Rattle.std.specs.Str.Parse.{digits_value}
@@ -11,6 +11,10 @@ is_number field = nat_le 1 (length field) && nat_le (length field) 20 && list_al
 -- what digits say
 abbrev pub number : List ℕ → ℕ
 number field = digits_value 10 field
+
+-- some digits, and what they say is a number of 64 bits
+abbrev pub FitsWord : List ℕ → Type 0
+FitsWord bytes = (list_all is_ascii_digit bytes ≡ true) × (number bytes < 2 ^ 64)
 
 -- a number that lies between these two
 unfoldable pub is_between : ℕ → ℕ → List ℕ → Bool

@@ -1,5 +1,5 @@
 -- The text of the objects in a box.
-use Rattle.std.specs.Prelude.{ℕ, List, ◌++◌, codes}
+use Rattle.std.specs.Prelude.{ℕ, List, [], ◌++◌, codes, if◌then◌else◌}
 use Rattle.std.specs.List.{filter, flat_map}
 use Rattle.std.specs.Fmt.{decimal}
 use Rattle.zorder.specs.Region.{has_point}
@@ -13,6 +13,10 @@ object_title = codes "id,x,y\n"
 -- an object and where it is
 abbrev pub object_line : Placed → List ℕ
 object_line m = decimal m.id ++ codes "," ++ decimal m.at.x ++ codes "," ++ decimal m.at.y ++ codes "\n"
+
+-- the line of an object in the box, and nothing of one outside it
+abbrev pub line_in : Region → Placed → List ℕ
+line_in region m = if has_point region m.at then object_line m else []
 
 -- the first line, and a line for each of these objects that is in the box, in their order
 unfoldable pub objects_text : Region → List Placed → List ℕ

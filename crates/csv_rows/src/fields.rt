@@ -1,9 +1,8 @@
 //! The fields of a record, column by column.
-ghost use Rattle.std.specs.Prelude.{◌≡◌, ◌≢◌, ◌≤◌, ◌<◌, ◌^◌, ◌∷◌, [], true, false, length, IfOk, MatchOption, MatchResult};
+ghost use Rattle.std.specs.Prelude.{◌≡◌, ◌≢◌, ◌<◌, ◌^◌, ◌∷◌, [], true, false, length, IfOk, MatchOption, MatchResult};
 ghost use Rattle.csv.specs.Records.{fields_of};
 ghost use Rattle.plain_list.specs.Answer.{IsValid, FitsOp};
-ghost use Rattle.csv_rows.specs.Numbers.{number};
-ghost use Rattle.csv_rows.specs.Fields.{Empty, Between, keeps, word_of, rules_of, first_fault, unless, point_of, coordinate_rule, op_by_word, row_of};
+ghost use Rattle.csv_rows.specs.Fields.{Empty, keeps, word_of, placed_by, id_by, point_by, box_by, near_by, op_by, row_of, ReadsNumber};
 ghost use Rattle.zorder.specs.Key.{IsPoint};
 ghost use Rattle.csv_rows.specs.Rows.{is_header};
 ghost use Rattle.csv_rows.specs.InRows.{IsInRow};
@@ -72,7 +71,8 @@ pub(crate) fn is_header(record: &ByteRecord) -> bool
 }
 
 fn fields_in(record: &ByteRecord) -> Option<Fields<'_>>
-    ensures { MatchOption result (length (fields_of record.now) ≢ 7) (λ f. fields_of record.now ≡ f.session.now ∷ f.op.now ∷ f.id.now ∷ f.x.now ∷ f.y.now ∷ f.a.now ∷ f.b.now ∷ []) }
+    ensures { MatchOption result (length (fields_of record.now) ≢ 7)
+        (λ f. fields_of record.now ≡ f.session.now ∷ f.op.now ∷ f.id.now ∷ f.x.now ∷ f.y.now ∷ f.a.now ∷ f.b.now ∷ []) }
 {
     if record.len() != 7 {
         return None;
@@ -116,7 +116,7 @@ fn word_of(field: &[u8]) -> Option<Word>
 }
 
 fn number_at(column: u8, field: &[u8], low: u64, high: u64) -> Result<u64, Wrong>
-    ensures { MatchResult result (λ n. (keeps (Between low high) field.now ≡ true) × (n ≡ number field.now) × (low ≤ n) × (n ≤ high)) (λ e. (keeps (Between low high) field.now ≡ false) × (e ≡ Wrong.Column column)) }
+    ensures { ReadsNumber column field.now low high result }
 {
     match number_in(field, low, high) {
         Some(number) => Ok(number),
@@ -135,7 +135,7 @@ fn empty_at(column: u8, field: &[u8]) -> Result<(), Wrong>
 }
 
 fn read_op(fields: &Fields) -> Result<Op, Wrong>
-    ensures op { result ≡ op_by_word (word_of fields.now.op.now) fields.now.id.now fields.now.x.now fields.now.y.now fields.now.a.now fields.now.b.now }
+    ensures op { result ≡ op_by fields.now.op.now fields.now.id.now fields.now.x.now fields.now.y.now fields.now.a.now fields.now.b.now }
     ensures rules { IfOk result (λ op. IsValid op × FitsOp op) }
 {
     match word_of(fields.op) {
@@ -151,7 +151,7 @@ fn read_op(fields: &Fields) -> Result<Op, Wrong>
 
 // An id and a point, and nothing else: what put and move say.
 fn read_placed(fields: &Fields) -> Result<(u64, Point), Wrong>
-    ensures placed { result ≡ unless (first_fault 3 (rules_of Word.Put fields.now.x.now fields.now.y.now) (fields.now.id.now ∷ fields.now.x.now ∷ fields.now.y.now ∷ fields.now.a.now ∷ fields.now.b.now ∷ [])) (number fields.now.id.now, point_of fields.now.x.now fields.now.y.now) }
+    ensures placed { result ≡ placed_by fields.now.id.now fields.now.x.now fields.now.y.now fields.now.a.now fields.now.b.now }
     ensures fits { IfOk result (λ p. (p.0 < 2 ^ 64) × IsPoint p.1) }
 {
     let id = number_at(3, fields.id, 0, u64::MAX)?;
@@ -163,7 +163,7 @@ fn read_placed(fields: &Fields) -> Result<(u64, Point), Wrong>
 
 // An id alone: what drop and where say.
 fn read_id(fields: &Fields) -> Result<u64, Wrong>
-    ensures id { result ≡ unless (first_fault 3 (rules_of Word.Drop fields.now.x.now fields.now.y.now) (fields.now.id.now ∷ fields.now.x.now ∷ fields.now.y.now ∷ fields.now.a.now ∷ fields.now.b.now ∷ [])) (number fields.now.id.now) }
+    ensures id { result ≡ id_by fields.now.id.now fields.now.x.now fields.now.y.now fields.now.a.now fields.now.b.now }
     ensures fits { IfOk result (λ id. id < 2 ^ 64) }
 {
     let id = number_at(3, fields.id, 0, u64::MAX)?;
@@ -175,7 +175,7 @@ fn read_id(fields: &Fields) -> Result<u64, Wrong>
 }
 
 fn read_box(fields: &Fields) -> Result<Op, Wrong>
-    ensures op { result ≡ op_by_word (Some Word.Box) fields.now.id.now fields.now.x.now fields.now.y.now fields.now.a.now fields.now.b.now }
+    ensures op { result ≡ box_by fields.now.id.now fields.now.x.now fields.now.y.now fields.now.a.now fields.now.b.now }
     ensures rules { IfOk result (λ op. IsValid op × FitsOp op) }
 {
     empty_at(3, fields.id)?;
@@ -192,7 +192,7 @@ fn read_box(fields: &Fields) -> Result<Op, Wrong>
 }
 
 fn read_near(fields: &Fields) -> Result<Op, Wrong>
-    ensures op { result ≡ op_by_word (Some Word.Near) fields.now.id.now fields.now.x.now fields.now.y.now fields.now.a.now fields.now.b.now }
+    ensures op { result ≡ near_by fields.now.id.now fields.now.x.now fields.now.y.now fields.now.a.now fields.now.b.now }
     ensures rules { IfOk result (λ op. IsValid op × FitsOp op) }
 {
     empty_at(3, fields.id)?;
@@ -204,7 +204,7 @@ fn read_near(fields: &Fields) -> Result<Op, Wrong>
 
 // The point of columns 4 and 5.
 fn read_point(fields: &Fields) -> Result<Point, Wrong>
-    ensures point { result ≡ unless (first_fault 4 (coordinate_rule ∷ coordinate_rule ∷ []) (fields.now.x.now ∷ fields.now.y.now ∷ [])) (point_of fields.now.x.now fields.now.y.now) }
+    ensures point { result ≡ point_by fields.now.x.now fields.now.y.now }
     ensures fits { IfOk result IsPoint }
 {
     let x = number_at(4, fields.x, 0, COORDINATE_MAX)?;

@@ -52,7 +52,8 @@ impl Gathered {
         place: u64,
         answer: &Answer,
     ) -> Result<(), SinkFault>
-        ensures bytes { HoldsBack (K.output sink.old).taken (K.output sink.new).taken (self.old ++ line_text row place answer.now) self.new result }
+        ensures bytes { HoldsBack (K.output sink.old).taken (K.output sink.new).taken
+            (self.old ++ line_text row place answer.now) self.new result }
         ensures cause { Counts (K.output sink.old).faults (K.output sink.new).faults result }
     {
         add_line(sink, &mut self.piece, row, place, answer)

@@ -1,12 +1,11 @@
 //! The lines of output: answers, and refusals.
-ghost use Rattle.std.specs.Prelude.{◌≡◌, ◌≤◌, ◌+◌, ◌++◌, codes, length, OnOk};
+ghost use Rattle.std.specs.Prelude.{◌≡◌, ◌≤◌, ◌+◌, ◌++◌, length, OnOk};
 ghost use Rattle.std.specs.Fmt.{decimal};
-ghost use Rattle.std.specs.List.{join_by};
 ghost use Rattle.arrayvec.specs.ArrayVec.{array_vec_len};
 ghost use Rattle.causes.specs.Causes.{Counts};
 ghost use Rattle.io_edge.specs.Puts.{Puts};
-ghost use Rattle.csv_rows.specs.Lines.{placed_text, word_text, detail_text, front_text, line_text, title_line, cause_text, reason_text, refusal_text};
-ghost use Rattle.csv_rows.specs.Pieces.{HoldsBack};
+ghost use Rattle.csv_rows.specs.Lines.{placed_text, listed_text, word_text, detail_text, front_text, line_text, title_line, cause_text, reason_text, refusal_text};
+ghost use Rattle.csv_rows.specs.Pieces.{Adds};
 
 use crate::pieces::{Piece, add_listed, add_number, add_point, make_room, push_str};
 use crate::rows::Refusal;
@@ -47,7 +46,7 @@ pub(crate) fn add_line<K: Sink>(
     place: u64,
     answer: &Answer,
 ) -> Result<(), SinkFault>
-    ensures bytes { HoldsBack (K.output sink.old).taken (K.output sink.new).taken (piece.old.items ++ line_text row place answer.now) piece.new.items result }
+    ensures bytes { Adds (K.output sink.old) (K.output sink.new) piece.old.items (line_text row place answer.now) piece.new.items result }
     ensures cause { Counts (K.output sink.old).faults (K.output sink.new).faults result }
 {
     make_room(sink, piece)?;
@@ -90,7 +89,7 @@ fn word_of(answer: &Answer) -> &'static str
 
 fn add_detail<K: Sink>(sink: &mut K, piece: &mut Piece, answer: &Answer) -> Result<(), SinkFault>
     requires { array_vec_len piece.old ≤ 65472 }
-    ensures bytes { HoldsBack (K.output sink.old).taken (K.output sink.new).taken (piece.old.items ++ detail_text answer.now) piece.new.items result }
+    ensures bytes { Adds (K.output sink.old) (K.output sink.new) piece.old.items (detail_text answer.now) piece.new.items result }
     ensures cause { Counts (K.output sink.old).faults (K.output sink.new).faults result }
     ensures room { OnOk result (array_vec_len piece.new ≤ 65535) }
 {
@@ -110,7 +109,7 @@ fn add_detail<K: Sink>(sink: &mut K, piece: &mut Piece, answer: &Answer) -> Resu
 
 fn add_list<K: Sink>(sink: &mut K, piece: &mut Piece, list: &[Placed]) -> Result<(), SinkFault>
     requires { array_vec_len piece.old ≤ 65472 }
-    ensures bytes { HoldsBack (K.output sink.old).taken (K.output sink.new).taken (piece.old.items ++ join_by placed_text (codes ";") list.now) piece.new.items result }
+    ensures bytes { Adds (K.output sink.old) (K.output sink.new) piece.old.items (listed_text list.now) piece.new.items result }
     ensures cause { Counts (K.output sink.old).faults (K.output sink.new).faults result }
     ensures room { OnOk result (array_vec_len piece.new ≤ 65535) }
 {

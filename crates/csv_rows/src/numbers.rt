@@ -3,7 +3,7 @@ ghost use Rattle.std.specs.Prelude.{◌≡◌, ◌≤◌, ◌<◌, ◌^◌, true
 ghost use Rattle.std.specs.Char.{is_ascii_digit};
 ghost use Rattle.std.specs.List.{list_all};
 ghost use Rattle.std.specs.Str.Parse.{digits_value};
-ghost use Rattle.csv_rows.specs.Numbers.{number_in};
+ghost use Rattle.csv_rows.specs.Numbers.{FitsWord, number_in};
 
 /// The number that a field of one to twenty digits says, where it lies between these two. Leading zeros are read.
 pub fn number_in(field: &[u8], low: u64, high: u64) -> Option<u64>
@@ -29,7 +29,7 @@ pub fn number_in(field: &[u8], low: u64, high: u64) -> Option<u64>
 fn value_of(bytes: &[u8]) -> Option<u64>
     requires some { 1 ≤ length bytes.now }
     requires few { length bytes.now ≤ 20 }
-    ensures { SomeIff result ((list_all is_ascii_digit bytes.now ≡ true) × (digits_value 10 bytes.now < 2 ^ 64)) (digits_value 10 bytes.now) }
+    ensures { SomeIff result (FitsWord bytes.now) (digits_value 10 bytes.now) }
 {
     let end = bytes.len() - 1;
     let last = bytes[end];

@@ -1,11 +1,10 @@
 //! The text of the objects in a box.
-ghost use Rattle.std.specs.Prelude.{◌≡◌, ◌≤◌, ◌+◌, ◌++◌, [], if◌then◌else◌};
+ghost use Rattle.std.specs.Prelude.{◌≡◌, ◌≤◌, ◌+◌, ◌++◌};
 ghost use Rattle.arrayvec.specs.ArrayVec.{array_vec_len};
-ghost use Rattle.zorder.specs.Region.{has_point};
 ghost use Rattle.causes.specs.Causes.{Counts};
 ghost use Rattle.io_edge.specs.Puts.{Puts};
-ghost use Rattle.csv_rows.specs.ObjectLines.{object_line, objects_text};
-ghost use Rattle.csv_rows.specs.Pieces.{HoldsBack};
+ghost use Rattle.csv_rows.specs.ObjectLines.{object_line, line_in, objects_text};
+ghost use Rattle.csv_rows.specs.Pieces.{Adds};
 
 use crate::pieces::{Piece, add_number, add_point, make_room, push_str};
 use io_edge::{Sink, SinkFault};
@@ -36,7 +35,7 @@ fn add_within<K: Sink>(
     object: &Placed,
     region: &Region,
 ) -> Result<(), SinkFault>
-    ensures bytes { HoldsBack (K.output sink.old).taken (K.output sink.new).taken (piece.old.items ++ (if has_point region.now object.now.at then object_line object.now else [])) piece.new.items result }
+    ensures bytes { Adds (K.output sink.old) (K.output sink.new) piece.old.items (line_in region.now object.now) piece.new.items result }
     ensures cause { Counts (K.output sink.old).faults (K.output sink.new).faults result }
 {
     if !region.has(object.at) {

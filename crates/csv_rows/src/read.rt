@@ -61,9 +61,7 @@ fn read_records(alloc: Global, text: &[u8]) -> Result<Rows, RowsFault>
             Ok(row) => row,
             Err(wrong) => return Err(fault_at(number, wrong)),
         };
-        if rows.push(row).is_err() {
-            return Err(RowsFault::Memory);
-        }
+        rows.push(row)?;
     }
     let over = next_record(&mut reader, &mut record)?;
     if over {

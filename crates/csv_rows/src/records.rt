@@ -32,6 +32,7 @@ pub(crate) fn next_record(
         Ok(found) => Ok(found),
         Err(error) => match error.kind() {
             ErrorKind::UnequalLengths { .. } => unreachable!(),
+            // Of the other kinds only want of memory comes, and that one has no allocator's error to pass on.
             _ => Err(RowsFault::Memory),
         },
     }

@@ -47,7 +47,8 @@ fn add_row(piece: &mut Piece, row: &InRow)
 fn add_placed_op(piece: &mut Piece, word: &str, id: u64, at: Point)
     requires room { array_vec_len piece.old ≤ 65428 }
     requires word { length word.now ≤ 7 }
-    ensures bytes { piece.new.items ≡ piece.old.items ++ word.now ++ decimal id ++ codes "," ++ decimal at.x ++ codes "," ++ decimal at.y ++ codes ",,\n" }
+    ensures bytes { piece.new.items
+        ≡ piece.old.items ++ word.now ++ decimal id ++ codes "," ++ decimal at.x ++ codes "," ++ decimal at.y ++ codes ",,\n" }
     ensures len { array_vec_len piece.new ≤ array_vec_len piece.old + 100 }
 {
     push_str(piece, word);
@@ -70,7 +71,8 @@ fn add_id_op(piece: &mut Piece, word: &str, id: u64)
 
 fn add_box(piece: &mut Piece, region: Region)
     requires { array_vec_len piece.old ≤ 65428 }
-    ensures bytes { piece.new.items ≡ piece.old.items ++ codes ",box,," ++ decimal region.lo.x ++ codes "," ++ decimal region.lo.y ++ codes "," ++ decimal region.hi.x ++ codes "," ++ decimal region.hi.y ++ codes "\n" }
+    ensures bytes { piece.new.items ≡ piece.old.items ++ codes ",box,," ++ decimal region.lo.x ++ codes "," ++ decimal region.lo.y ++ codes ","
+        ++ decimal region.hi.x ++ codes "," ++ decimal region.hi.y ++ codes "\n" }
     ensures len { array_vec_len piece.new ≤ array_vec_len piece.old + 100 }
 {
     push_str(piece, ",box,,");
@@ -82,7 +84,8 @@ fn add_box(piece: &mut Piece, region: Region)
 
 fn add_near(piece: &mut Piece, at: Point, k: u32)
     requires { array_vec_len piece.old ≤ 65428 }
-    ensures bytes { piece.new.items ≡ piece.old.items ++ codes ",near,," ++ decimal at.x ++ codes "," ++ decimal at.y ++ codes "," ++ decimal k ++ codes ",\n" }
+    ensures bytes { piece.new.items
+        ≡ piece.old.items ++ codes ",near,," ++ decimal at.x ++ codes "," ++ decimal at.y ++ codes "," ++ decimal k ++ codes ",\n" }
     ensures len { array_vec_len piece.new ≤ array_vec_len piece.old + 100 }
 {
     push_str(piece, ",near,,");

@@ -3,6 +3,7 @@ ghost use Rattle.std.specs.Prelude.{◌≡◌};
 
 use cell_format::Cause;
 use plain_list::Op;
+use std::alloc::AllocFailed;
 use std::marker::Model;
 use thiserror::Error;
 
@@ -66,6 +67,16 @@ pub enum RowsFault {
     TooMany,
     #[error("out of memory")]
     Memory,
+}
+
+impl<T: Drop> From<AllocFailed<T>> for RowsFault {
+    ghost use Rattle.csv_rows.specs.declared.rows.RowsFault.TheVariants.{Memory};
+
+    ghost from_gives = { λ _ fault. fault ≡ Memory };
+
+    fn from(_: AllocFailed<T>) -> RowsFault {
+        RowsFault::Memory
+    }
 }
 
 /// Why a run of the program gives no answers.

@@ -95,11 +95,12 @@ impl<R: Files + Drop> LogDisk for FileDisk<R> {
                 self.file = Some(file);
                 Ok(())
             }
-            Err(AttachFault::Disk) => {
-                self.faults = self.faults.saturating_add(1);
-                Err(AttachFault::Disk)
+            Err(cause) => {
+                if cause == AttachFault::Disk {
+                    self.faults = self.faults.saturating_add(1);
+                }
+                Err(cause)
             }
-            Err(AttachFault::Memory) => Err(AttachFault::Memory),
         }
     }
 

@@ -29,6 +29,11 @@ pub record IsImage (p : Pending) (image : List ℕ) : Type 0 where
   pub no_longer : length image ≤ p.greatest
   pub kept : (i : ℕ) → i < length image → is_free p i ≡ false → get_or image i 0 ≡ get_or p.stable i 0
 
+-- up to a length the bytes of an image at these places are those of a pattern, which begins at place 0 and is repeated, and the others are as
+-- they were
+abbrev pub Paints : (ℕ → Bool) → List ℕ → ℕ → List ℕ → List ℕ → Type 0
+Paints is_painted fill len old new = (i : ℕ) → i < len → get_or new i 0 ≡ (if is_painted i then get_or fill (i % length fill) 0 else get_or old i 0)
+
 -- after a write of n bytes at a place, or one that failed
 abbrev pub after_write : ℕ → ℕ → Pending → Pending
 after_write at n p = record { stable = p.stable; touched = (at, n) ∷ p.touched; cut = p.cut; least = p.least; greatest = max p.greatest (at + n) }

@@ -47,6 +47,10 @@ pub record FileView : Type 0 where
 abbrev pub file_of : FileView → File
 file_of v = changed_by (started v.first) v.changes
 
+-- the file after so many of the calls
+abbrev pub file_after : ℕ → FileView → File
+file_after n v = changed_by (started v.first) (take n v.changes)
+
 -- with one call more
 abbrev pub noted : Change → FileView → FileView
 noted c v = record { first = v.first; changes = v.changes ++ c ∷ []; room = v.room; spare = v.spare - 1 }

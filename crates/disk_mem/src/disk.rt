@@ -6,7 +6,7 @@ use crate::plans::{DiskCall, Fail, Plan, Verdict};
 use crate::recorded::RecordedFile;
 use crate::touches::Touch;
 use disk_trait::{AttachFault, DiskFault, LogDisk};
-use std::alloc::Global;
+use std::alloc::{AllocError, Global};
 use std::marker::Model;
 use zorder::Memory;
 
@@ -17,6 +17,16 @@ pub enum PickFault {
     NoMoment { moments: u64 },
     /// Memory ran out.
     Memory,
+}
+
+impl From<AllocError> for PickFault {
+    ghost use Rattle.disk_mem.specs.declared.disk.PickFault.TheVariants.{Memory};
+
+    ghost from_gives = { λ _ fault. fault ≡ Memory };
+
+    fn from(_: AllocError) -> PickFault {
+        PickFault::Memory
+    }
 }
 
 /// A drive in memory that holds one file, which is there from the start. It takes all its memory when it is made.
@@ -73,7 +83,13 @@ impl MemDisk {
         calls: usize,
         failing: Vec<Fail>,
     ) -> Result<MemDisk, Memory>
-        ensures { IfOk result (λ d. d ≡ record { plan = record { failing = failing.items; numbers = no_calls; left = calls }; first = bytes.items; changes = []; room = room; faults = 0 }) }
+        ensures { IfOk result (λ d. d ≡ record {
+          plan = record { failing = failing.items; numbers = no_calls; left = calls };
+          first = bytes.items;
+          changes = [];
+          room = room;
+          faults = 0;
+        }) }
     {
         Ok(MemDisk {
             plan: Plan::new(failing, calls),
@@ -109,10 +125,8 @@ impl MemDisk {
         if moments < moment {
             return Err(PickFault::NoMoment { moments });
         }
-        match self.file.image(moment as usize, len as usize, fill) {
-            Ok(image) => Ok(image),
-            Err(_) => Err(PickFault::Memory),
-        }
+        let image = self.file.image(moment as usize, len as usize, fill)?;
+        Ok(image)
     }
 
     /// Makes a call that changes nothing.

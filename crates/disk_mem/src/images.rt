@@ -1,7 +1,7 @@
 //! One image of a file, made of its record.
-ghost use Rattle.std.specs.Prelude.{◌≡◌, ℕ, ◌%◌, ◌<◌, ◌≤◌, nat_le, length, slice_index, if◌then◌else◌, IfOk};
+ghost use Rattle.std.specs.Prelude.{◌≡◌, ◌<◌, ◌≤◌, nat_le, length, IfOk};
 ghost use Rattle.std.specs.List.{All};
-ghost use Rattle.disk_mem.specs.Pending.{Picks};
+ghost use Rattle.disk_mem.specs.Pending.{Paints, Picks};
 ghost use Rattle.disk_mem.specs.Recorded.{IsStored};
 ghost use Rattle.disk_mem.specs.Scans.{file_by};
 
@@ -20,7 +20,7 @@ fn unpainted(
     requires filled { 0 < length fill.now }
     requires within { cut ≤ length stable.now }
     ensures long { IfOk result (λ v. length v.items ≡ len) }
-    ensures bytes { IfOk result (λ v. (i : ℕ) → i < len → slice_index v.items i ≡ (if nat_le cut i then slice_index fill.now (i % length fill.now) else slice_index stable.now i)) }
+    ensures bytes { IfOk result (λ v. Paints (nat_le cut) fill.now len stable.now v.items) }
 {
     let mut image = Vec::with_capacity(alloc, len)?;
     for i in 0..len {

@@ -1,5 +1,5 @@
 //! A file in memory, with the record of all calls that changed or synced it.
-ghost use Rattle.std.specs.Prelude.{◌≡◌, ℕ, ◌+◌, ◌^◌, ◌<◌, ◌≤◌, nat_le, ◌&&◌, [], length, take, IfOk};
+ghost use Rattle.std.specs.Prelude.{◌≡◌, ℕ, ◌+◌, ◌^◌, ◌<◌, ◌≤◌, nat_le, ◌&&◌, [], length, IfOk};
 
 use crate::images::image_of;
 use crate::touches::{Touch, put};
@@ -30,8 +30,8 @@ impl Model for RecordedFile {
 
 impl RecordedFile {
     ghost use Rattle.disk_mem.specs.Pending.{Picks};
-    ghost use Rattle.disk_mem.specs.Changes.{wrote, did_cut, written, started, changed_by};
-    ghost use Rattle.disk_mem.specs.Recorded.{change_of, noted, file_of, IsIdle};
+    ghost use Rattle.disk_mem.specs.Changes.{wrote, did_cut, written};
+    ghost use Rattle.disk_mem.specs.Recorded.{change_of, noted, file_of, file_after, IsIdle};
 
     pub fn new(
         alloc: Global,
@@ -115,7 +115,7 @@ impl RecordedFile {
     pub fn image(&self, moment: usize, len: usize, fill: &[u8]) -> Result<Vec<u8>, AllocError>
         requires moment { moment ≤ length self.now.changes }
         requires filled { 0 < length fill.now }
-        ensures { IfOk result (λ v. Picks (changed_by (started self.now.first) (take moment self.now.changes)).pending len fill.now v.items) }
+        ensures { IfOk result (λ v. Picks (file_after moment self.now).pending len fill.now v.items) }
     {
         let alloc = *self.first.allocator();
         image_of(

@@ -1,7 +1,7 @@
 //! The record of the calls on a file: how an entry is replayed, and what it leaves free.
-ghost use Rattle.std.specs.Prelude.{◌≡◌, ℕ, ◌+◌, ◌%◌, ◌^◌, ◌<◌, ◌≤◌, length, slice_index, if◌then◌else◌, IfOk, OnOk, OnErr, [], vec_capacity};
+ghost use Rattle.std.specs.Prelude.{◌≡◌, ◌+◌, ◌^◌, ◌<◌, ◌≤◌, length, IfOk, OnOk, OnErr, [], vec_capacity};
 ghost use Rattle.std.specs.List.{All, list_any};
-ghost use Rattle.disk_mem.specs.Pending.{is_in};
+ghost use Rattle.disk_mem.specs.Pending.{is_in, Paints};
 ghost use Rattle.disk_mem.specs.Changes.{over, held_after, started, changed_by};
 ghost use Rattle.disk_mem.specs.Recorded.{change_of, changes_of, IsStored, range_of, ranges_of};
 
@@ -82,7 +82,7 @@ pub fn replayed(
 /// Puts a repeated pattern into the bytes of a range.
 fn paint(image: &mut [u8], at: usize, len: usize, fill: &[u8])
     requires { 0 < length fill.now }
-    ensures { (i : ℕ) → i < length image.old → slice_index image.new i ≡ (if is_in i (at, len) then slice_index fill.now (i % length fill.now) else slice_index image.old i) }
+    ensures { Paints (λ i. is_in i (at, len)) fill.now (length image.old) image.old image.new }
 {
     let end = at.saturating_add(len).min(image.len());
     for i in at..end {
@@ -93,7 +93,7 @@ fn paint(image: &mut [u8], at: usize, len: usize, fill: &[u8])
 /// Puts a repeated pattern into each range that these entries touch.
 pub fn paint_touched(image: &mut [u8], touches: &[Touch], fill: &[u8])
     requires { 0 < length fill.now }
-    ensures { (i : ℕ) → i < length image.old → slice_index image.new i ≡ (if list_any (is_in i) (ranges_of [] touches.now) then slice_index fill.now (i % length fill.now) else slice_index image.old i) }
+    ensures { Paints (λ i. list_any (is_in i) (ranges_of [] touches.now)) fill.now (length image.old) image.old image.new }
 {
     for touch in touches {
         if let Some((at, len)) = touch.range() {

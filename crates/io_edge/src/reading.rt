@@ -12,7 +12,8 @@ const PIECE: usize = 65_536;
 /// All that `source` has left, where that is at most `most` bytes. It takes at most one byte more, to see the end.
 pub fn read_all<S: Source>(alloc: Global, source: &mut S, most: usize) -> Result<Vec<u8>, ReadFault>
     // Ok has all that was left, and leaves nothing.
-    ensures all { IfOk result (λ v. (xs : List ℕ) → (S.input source.old).left ≡ Some xs → (v.items ≡ xs) × ((S.input source.new).left ≡ Some [])) }
+    ensures all { IfOk result (λ v. (xs : List ℕ) → (S.input source.old).left ≡ Some xs
+        → (v.items ≡ xs) × ((S.input source.new).left ≡ Some [])) }
 
     // More than `most` bytes are never Ok, and TooLong comes for nothing else.
     ensures few { IfOk result (λ v. length v.items ≤ most) }

@@ -62,7 +62,8 @@ impl<D: LogDisk> Journal<D> {
 
     /// A journal over a log as it was opened on this drive.
     pub fn opened(log: SplitLog<D>, start: Snapshot<D>) -> Journal<D>
-        ensures value { result ≡ Some (record { disk = log.disk; cells = log.cells; failed = log.failed; start = start.value; first = log.cells }) }
+        ensures value { result
+            ≡ Some (record { disk = log.disk; cells = log.cells; failed = log.failed; start = start.value; first = log.cells }) }
         ensures keeps { (w : ℕ) (s : State) → IsOpened w s (D.drive start.value) (D.drive log.disk) → log.failed ≡ None
             → KeepsIn D.drive w s [] result }
     {

@@ -37,8 +37,10 @@ pub(crate) fn find<D: LogDisk>(alloc: Global, file: &str, disk: &mut D) -> Resul
     ensures found { IfOk result (IsFound width most_cells (D.drive disk.old)) }
     ensures cause { IfErr result (IsCheckingCause (D.drive disk.old) (D.drive disk.new)) }
     ensures decided { IsDecidedBy most_cells (D.drive disk.old) (D.drive disk.new) result }
-    ensures attached { MatchResult result (λ _. (D.drive disk.new).attached file.now false) (λ why. status_of why ≢ 7 → status_of why ≢ 9 → (D.drive disk.new).attached file.now false) }
-    ensures calm { MatchResult result (λ _. (D.drive disk.new).faults ≡ (D.drive disk.old).faults) (λ why. status_of why ≢ 7 → (D.drive disk.new).faults ≡ (D.drive disk.old).faults) }
+    ensures attached { MatchResult result (λ _. (D.drive disk.new).attached file.now false)
+        (λ why. status_of why ≢ 7 → status_of why ≢ 9 → (D.drive disk.new).attached file.now false) }
+    ensures calm { MatchResult result (λ _. (D.drive disk.new).faults ≡ (D.drive disk.old).faults)
+        (λ why. status_of why ≢ 7 → (D.drive disk.new).faults ≡ (D.drive disk.old).faults) }
     ensures stays { Stays (D.drive disk.old) (D.drive disk.new) }
     ensures later { (D.drive disk.old).faults ≤ (D.drive disk.new).faults }
 {

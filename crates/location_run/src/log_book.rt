@@ -50,7 +50,13 @@ fn book_of<D: LogDisk>(
     requires found { IsFound width most_played (D.drive opened.start.value) opened.seen }
     requires ready { IsOpened width (found_state opened.seen) (D.drive opened.start.value) (D.drive opened.log.disk) }
     ensures opening { IfOk result (λ b. (b.opening ≡ found_state opened.seen) × (b.bucket ≡ size)) }
-    ensures log { IfOk result (λ b. b.log ≡ Some (record { disk = opened.log.disk; cells = opened.log.cells; failed = None; start = opened.start.value; first = opened.log.cells })) }
+    ensures log { IfOk result (λ b. b.log ≡ Some (record {
+      disk = opened.log.disk;
+      cells = opened.log.cells;
+      failed = None;
+      start = opened.start.value;
+      first = opened.log.cells;
+    })) }
     ensures new { IfOk result (λ b. IsNewBook b) }
     ensures back { IfErr result (λ e. (e.disk ≡ opened.log.disk) × (e.why ≡ Refusal.Memory)) }
 {

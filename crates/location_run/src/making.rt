@@ -37,7 +37,8 @@ pub(crate) fn make_log<K: Sink, D: LogDisk>(
     sink: &mut K,
     disk: D,
 ) -> Drove<D>
-    ensures ends { EndsMaking file.now (targets K.output D.drive sink.old disk) (targets K.output D.drive sink.new result.disk) result.status }
+    ensures ends { EndsMaking file.now (targets K.output D.drive sink.old disk)
+        (targets K.output D.drive sink.new result.disk) result.status }
 {
     match make_in(alloc, file, disk) {
         Ok(disk) => {
@@ -54,7 +55,8 @@ pub(crate) fn make_log<K: Sink, D: LogDisk>(
 fn make_in<D: LogDisk>(alloc: Global, file: &str, mut disk: D) -> Result<D, Unmade<D>>
     ensures made { IfOk result (λ new. Makes width (D.drive disk) (D.drive new)) }
     ensures cause { IfErr result (λ e. IsMakingCause (D.drive disk) (D.drive e.disk) e.why) }
-    ensures attached { MatchResult result (λ new. (D.drive new).attached file.now true) (λ e. status_of e.why ≢ 7 → status_of e.why ≢ 9 → (D.drive e.disk).attached file.now true) }
+    ensures attached { MatchResult result (λ new. (D.drive new).attached file.now true)
+        (λ e. status_of e.why ≢ 7 → status_of e.why ≢ 9 → (D.drive e.disk).attached file.now true) }
     ensures calm { IfErr result (λ e. status_of e.why ≢ 7 → (D.drive e.disk).faults ≡ (D.drive disk).faults) }
     ensures leaves { MatchResult result (λ new. LeavesFile (D.drive disk) (D.drive new)) (λ e. LeavesFile (D.drive disk) (D.drive e.disk)) }
 {

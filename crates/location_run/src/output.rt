@@ -35,7 +35,8 @@ pub(crate) fn write_report<K: Sink, I: Index>(
 ) -> Result<(), SinkFault>
     requires rows { AreInRows rows.now }
     requires numbers { HasNumbers rows.now ends.now }
-    ensures bytes { (world : List Placed) (h : List Entry) → HasAnswers world h rows.now ends.now → HasObjects (I.leaves index.now) (world_after world h)
+    ensures bytes { (world : List Placed) (h : List Entry) → HasAnswers world h rows.now ends.now
+        → HasObjects (I.leaves index.now) (world_after world h)
         → Puts (K.output sink.old).taken (K.output sink.new).taken (text_of report rows.now world h) result }
     ensures cause { Counts (K.output sink.old).faults (K.output sink.new).faults result }
 {
@@ -72,7 +73,8 @@ fn count_objects<I: Index, L: Ledger>(index: &I, blank: Blank) -> Sums
 fn write_lines<K: Sink>(sink: &mut K, rows: &[InRow], ends: &[LaneEnd]) -> Result<(), SinkFault>
     requires rows { AreInRows rows.now }
     requires numbers { HasNumbers rows.now ends.now }
-    ensures bytes { (world : List Placed) (h : List Entry) → HasAnswers world h rows.now ends.now → Puts (K.output sink.old).taken (K.output sink.new).taken (lines_of world (length rows.now) h) result }
+    ensures bytes { (world : List Placed) (h : List Entry) → HasAnswers world h rows.now ends.now
+        → Puts (K.output sink.old).taken (K.output sink.new).taken (lines_of world (length rows.now) h) result }
     ensures cause { Counts (K.output sink.old).faults (K.output sink.new).faults result }
 {
     let mut lines = Gathered::new();

@@ -96,7 +96,8 @@ fn write_end<I: Index, K: Sink, D: LogDisk>(
 ) -> u8
     requires rows { AreInRows rows.now }
     requires numbers { IfSome closed.now.ends (λ ends. HasNumbers rows.now ends.items) }
-    ensures { EndsPlay report rows.now closed.now.failed (I.leaves closed.now.index) (option_map (λ ends. ends.items) closed.now.ends) result (K.output sink.old) (K.output sink.new) }
+    ensures { EndsPlay report rows.now closed.now.failed (I.leaves closed.now.index) (option_map (λ ends. ends.items) closed.now.ends)
+        result (K.output sink.old) (K.output sink.new) }
 {
     if let Some(cell) = closed.failed {
         return put_refusal(&Refusal::Disk { cell: Some(cell) }, sink);

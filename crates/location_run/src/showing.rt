@@ -19,7 +19,8 @@ pub(crate) fn show_log<K: Sink, D: LogDisk>(
     sink: &mut K,
     disk: &mut D,
 ) -> u8
-    ensures ends { EndsShowing file.now region.now (targets K.output D.drive sink.old disk.old) (targets K.output D.drive sink.new disk.new) result }
+    ensures ends { EndsShowing file.now region.now (targets K.output D.drive sink.old disk.old)
+        (targets K.output D.drive sink.new disk.new) result }
 {
     match find(alloc, file, disk) {
         Ok(seen) => written(write_objects(sink, seen.world.as_slice(), region)),

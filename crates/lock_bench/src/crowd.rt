@@ -65,8 +65,10 @@ pub fn run_all<R: Threads + Wait + Clock + Sync>(
     join_mut(
         rt,
         &mut ||
-            requires { IsSync R.row × (1 < threads) × (pass.now.lock ≡ lock.now) × (pass.now.holds ≡ false) × (threads ≤ pass.now.parts + 1) }
-            ensures { (pass.exit.now.lock ≡ pass.entry.now.lock) × (pass.exit.now.holds ≡ false) × (pass.exit.now.parts ≡ pass.entry.now.parts) }
+            requires { IsSync R.row × (1 < threads) × (pass.now.lock ≡ lock.now) × (pass.now.holds ≡ false)
+                × (threads ≤ pass.now.parts + 1) }
+            ensures { (pass.exit.now.lock ≡ pass.entry.now.lock) × (pass.exit.now.holds ≡ false)
+                × (pass.exit.now.parts ≡ pass.entry.now.parts) }
         { run_all(rt, lock, pass, threads - 1, rounds, asleep) },
         &mut ||
             requires { IsSync R.row × (mine.lock ≡ lock.now) × (mine.holds ≡ false) }

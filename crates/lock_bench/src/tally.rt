@@ -36,7 +36,8 @@ impl Tally {
 
     // Counts one more, unless the number is full.
     pub(crate) fn add(&mut self) -> bool
-        ensures { MatchBool result (replicate self.new.finds one_find ≡ replicate self.old.finds one_find ++ one_find ∷ []) (self.new ≡ self.old) }
+        ensures { MatchBool result (replicate self.new.finds one_find ≡ replicate self.old.finds one_find ++ one_find ∷ [])
+            (self.new ≡ self.old) }
     {
         match self.finds.checked_add(1) {
             Some(finds) => {

@@ -35,10 +35,10 @@ pub fn inspect<D: LogDisk>(
 
     ensures found { IfOk result (IsFound width most (D.drive disk.old)) }
     ensures fault { IfErr result (λ e. (bytes : List ℕ) → (D.drive disk.old).bytes ≡ Some bytes → IsFault width most bytes e) }
-    ensures exact { (bytes : List ℕ) (fault : OpenFault) → (D.drive disk.old).bytes ≡ Some bytes → IsInBytes fault → IsFault width most bytes fault
-        → IsErrAnd result (λ e. (e ≡ fault) ⊎ IsFree (D.drive disk.old) (D.drive disk.new) e) }
-    ensures whole { (bytes : List ℕ) (cells : List Cell) → (D.drive disk.old).bytes ≡ Some bytes → Recovers width cells bytes → length cells ≤ most
-        → IfErr result (IsFree (D.drive disk.old) (D.drive disk.new)) }
+    ensures exact { (bytes : List ℕ) (fault : OpenFault) → (D.drive disk.old).bytes ≡ Some bytes → IsInBytes fault
+        → IsFault width most bytes fault → IsErrAnd result (λ e. (e ≡ fault) ⊎ IsFree (D.drive disk.old) (D.drive disk.new) e) }
+    ensures whole { (bytes : List ℕ) (cells : List Cell) → (D.drive disk.old).bytes ≡ Some bytes → Recovers width cells bytes
+        → length cells ≤ most → IfErr result (IsFree (D.drive disk.old) (D.drive disk.new)) }
     ensures reads { OnlyReads (D.drive disk.old) (D.drive disk.new) result }
 {
     let found = read_log(alloc, disk, width, most)?;

@@ -34,14 +34,16 @@ pub fn open<D: LogDisk>(
     ensures log { IfOk result (λ o. (o.log.cells ≡ o.seen.cells) × (o.log.failed ≡ None)) }
     ensures start { IfOk result (λ o. o.start.value ≡ disk) }
     ensures fault { IfErr result (λ e. (bytes : List ℕ) → (D.drive disk).bytes ≡ Some bytes → IsFault width most bytes e.cause) }
-    ensures exact { (bytes : List ℕ) (fault : OpenFault) → (D.drive disk).bytes ≡ Some bytes → IsInBytes fault → IsFault width most bytes fault
-        → IsErrAnd result (λ e. (e.cause ≡ fault) ⊎ IsFree (D.drive disk) (D.drive e.disk) e.cause) }
-    ensures whole { (bytes : List ℕ) (cells : List Cell) → (D.drive disk).bytes ≡ Some bytes → Recovers width cells bytes → length cells ≤ most
-        → IfErr result (λ e. IsFree (D.drive disk) (D.drive e.disk) e.cause) }
+    ensures exact { (bytes : List ℕ) (fault : OpenFault) → (D.drive disk).bytes ≡ Some bytes → IsInBytes fault
+        → IsFault width most bytes fault → IsErrAnd result (λ e. (e.cause ≡ fault) ⊎ IsFree (D.drive disk) (D.drive e.disk) e.cause) }
+    ensures whole { (bytes : List ℕ) (cells : List Cell) → (D.drive disk).bytes ≡ Some bytes → Recovers width cells bytes
+        → length cells ≤ most → IfErr result (λ e. IsFree (D.drive disk) (D.drive e.disk) e.cause) }
     ensures untouched { IfErr result (λ e. LeavesUnopened width most (D.drive disk) (D.drive e.disk) e.cause) }
-    ensures any_moment { MatchResult result (λ o. KeepsCells width (D.drive disk) (D.drive o.log.disk)) (λ e. KeepsCells width (D.drive disk) (D.drive e.disk)) }
+    ensures any_moment { MatchResult result (λ o. KeepsCells width (D.drive disk) (D.drive o.log.disk))
+        (λ e. KeepsCells width (D.drive disk) (D.drive e.disk)) }
     ensures rose { IfErr result (λ e. e.cause ≡ OpenFault.Disk → Rose (D.drive disk).faults (D.drive e.disk).faults) }
-    ensures later { MatchResult result (λ o. (D.drive disk).faults ≤ (D.drive o.log.disk).faults) (λ e. (D.drive disk).faults ≤ (D.drive e.disk).faults) }
+    ensures later { MatchResult result (λ o. (D.drive disk).faults ≤ (D.drive o.log.disk).faults)
+        (λ e. (D.drive disk).faults ≤ (D.drive e.disk).faults) }
 {
     let start = Snapshot::of(&disk);
     match settle(alloc, &mut disk, width, most) {

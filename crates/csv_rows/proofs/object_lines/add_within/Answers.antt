@@ -1,4 +1,4 @@
-use Rattle.csv_rows.proofs.ObjectFacts.{line_in}
+use Rattle.csv_rows.specs.ObjectLines.{line_in}
 use Rattle.csv_rows.proofs.PiecesFacts.{holds-lost, moves-more}
 use Rattle.csv_rows.proofs.object_lines.add_within.Goals as goal
 

@@ -1,8 +1,8 @@
-use Rattle.std.proofs.Common.{[], arith}
+use Rattle.std.proofs.Common.{[], arith, ◌∙◌}
 use Rattle.std.proofs.lemmas.List.{append-nil}
-use Rattle.std.proofs.Common.{◌∙◌}
 use Rattle.zorder.specs.declared.points.Placed.{Placed}
-use Rattle.csv_rows.proofs.ObjectFacts.{line_in, objects-text}
+use Rattle.csv_rows.specs.ObjectLines.{line_in}
+use Rattle.csv_rows.proofs.ObjectFacts.{objects-text}
 use Rattle.csv_rows.proofs.PiecesFacts.{added-all, added-behind, added-moved, added-none, counts-lost, puts-fault, puts-is, puts-last}
 use Rattle.csv_rows.proofs.object_lines.write_objects.Goals as goal
 

@@ -1,4 +1,4 @@
-use Rattle.csv_rows.proofs.ObjectFacts.{line_in}
+use Rattle.csv_rows.specs.ObjectLines.{line_in}
 use Rattle.csv_rows.proofs.PiecesFacts.{HasAdded}
 use Rattle.csv_rows.proofs.object_lines.write_objects.Given as goal
 

@@ -1,5 +1,4 @@
-use Rattle.std.proofs.Common.{◌≡◌, ◌∙◌, sym, ap, arith, Ok, Err, true, rules}
-use Rattle.std.specs.Result.{is_ok}
+use Rattle.std.proofs.Common.{◌≡◌, ◌∙◌, sym, ap, arith, Ok, Err}
 use Rattle.csv_rows.proofs.RowsFacts.{begins, has_all, has_more, has_over, has_wrong, no_header, no_record}
 use Rattle.csv_rows.proofs.read.read_records.Goals as goal
 
@@ -22,9 +21,7 @@ returns-in-Err-clause-fault c other =
 
 pub loop-number-preserved : goal.loop-number-preserved
 loop-number-preserved c =
-    let good : is_ok c.push.result ≡ true = search rules in
-    let items = rw good at c.push.ensures.items in
-    rw items (has_more c.args.text.now _ _ _ _ _ _ c.in-Ok.row c.loop-number.invariant c.in_ok-more.ensures.found c.if-not-more.false (omega arith) (sym c.in-Ok.ensures.row) c.in-Ok.ensures.rules)
+    rw c.in_ok-push.ensures.items (has_more c.args.text.now _ _ _ _ _ _ c.in-Ok.row c.loop-number.invariant c.in_ok-more.ensures.found c.if-not-more.false (omega arith) (sym c.in-Ok.ensures.row) c.in-Ok.ensures.rules)
 
 pub returns-then-over-clause-fault : goal.returns-then-over-clause-fault
 returns-then-over-clause-fault c other = has_over c.args.text.now _ _ _ _ _ _ c.loop-number.invariant c.in_ok-over.ensures.found c.if-over.true (omega arith)
