@@ -14,4 +14,10 @@ pub trait Held {
     /// How many entries it has.
     fn events(&self) -> u64
         ensures { result ≡ length (entries self.now) };
+
+    /// Whether its steps may take long, as over the sync of a file. It is asked once, when the lock is made: who waits for a slow
+    /// value sleeps until it is woken, and who waits for a quick one naps.
+    fn is_slow(&self) -> bool {
+        true
+    }
 }

@@ -21,8 +21,10 @@ mod shares;
 /// and the one slot has the value.
 pub struct BookLock<V: Held> {
     table: Table<Option<V>, View, Snapshot<V>, Law, Global>,
-    /// How many callers sleep, or are about to.
+    /// How many callers sleep until they are woken, or are about to.
     sleepers: AtomicU64,
+    /// Whether a step may take long.
+    is_slow: bool,
 }
 
 impl<V: Held> Model for BookLock<V> {
@@ -76,6 +78,7 @@ impl<V: Held> BookLock<V> {
         ensures lock { IfOk result (λ r. r.1 ≡ record { lock = r.0; seen = []; own = []; origin = V.origin value; parts = 65536; holds = false }) }
         ensures back { IfErr result (λ v. v ≡ value) }
     {
+        let is_slow = value.is_slow();
         let about = Snapshot::of(&value);
         let slots = shelf(alloc, value)?;
         match Table::new(alloc, &[0, 0, 0], slots, &about) {
@@ -83,6 +86,7 @@ impl<V: Held> BookLock<V> {
                 BookLock {
                     table,
                     sleepers: AtomicU64::new(0),
+                    is_slow,
                 },
                 Pass { seat },
             )),
@@ -98,7 +102,11 @@ impl<V: Held> BookLock<V> {
         ensures value { (V.entries result ≡ pass.seen) × (V.origin result ≡ pass.origin) }
         ensures own { (p : ℕ) → times p pass.own ≡ once_below p (length pass.seen) }
     {
-        let BookLock { table, sleepers: _ } = self;
+        let BookLock {
+            table,
+            sleepers: _,
+            is_slow: _,
+        } = self;
         let Pass { seat } = pass;
         let mut closed = table.close_with(seat);
         let slot = closed.take(0);

@@ -1,5 +1,5 @@
 //! The book: an index, a map by id, the history of a run and its log, kept in step.
-ghost use Rattle.std.specs.Prelude.{◌≡◌, ◌^◌, ◌<◌, ◌-◌, ◌++◌, ◌∷◌, true, false, [], Some, None, length, IfOk, IfErr};
+ghost use Rattle.std.specs.Prelude.{◌≡◌, ◌^◌, ◌<◌, ◌-◌, ◌++◌, ◌∷◌, true, false, [], Some, None, is_some, length, IfOk, IfErr};
 ghost use Rattle.plain_list.specs.Size.{full_leaf};
 ghost use Rattle.plain_list.specs.State.{empty_state, state_after};
 ghost use Rattle.plain_list.specs.Answer.{is_change};
@@ -135,6 +135,13 @@ impl<I: Index, D: LogDisk> Book<I, D> {
     {
         self.keep();
         self.history.len() as u64
+    }
+
+    /// Whether there is a log, whose device each change waits for.
+    pub fn has_log(&self) -> bool
+        ensures { result ≡ is_some self.now.log }
+    {
+        self.journal.has_log()
     }
 
     /// How many cells the log has: 0 without a log.

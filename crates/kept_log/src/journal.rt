@@ -1,5 +1,5 @@
 //! The log of a store that may have none, and what it has kept since it was opened.
-ghost use Rattle.std.specs.Prelude.{◌≡◌, ◌≤◌, ◌<◌, ◌^◌, ◌==◌, ℕ, [], Some, None, OnOk, IfErr};
+ghost use Rattle.std.specs.Prelude.{◌≡◌, ◌≤◌, ◌<◌, ◌^◌, ◌==◌, ℕ, [], Some, None, is_some, OnOk, IfErr};
 ghost use Rattle.plain_list.specs.State.{State};
 ghost use Rattle.kept_log.specs.Kept.{IsOpened};
 ghost use Rattle.kept_log.specs.Steps.{IsSince};
@@ -71,6 +71,13 @@ impl<D: LogDisk> Journal<D> {
         Journal {
             log: Some(Kept { log, start, first }),
         }
+    }
+
+    /// Whether there is a log.
+    pub fn has_log(&self) -> bool
+        ensures { result ≡ is_some self.now }
+    {
+        self.log.is_some()
     }
 
     /// How many cells there are: none without a log.

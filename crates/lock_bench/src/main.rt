@@ -1,7 +1,7 @@
 //! Measures the lock: so many short rounds in all, taken by so many threads at once.
 //!
 //! `lock_bench THREADS ROUNDS MICROSECONDS` prints what it did and what the value behind the lock counted. Each round
-//! sleeps so long with the lock held. The time is read from outside, as by `perf stat` or `time`.
+//! sleeps so long with the lock held; where it doesn't, it is a quick one. The time is read from outside, as by `perf stat` or `time`.
 #![tactic(auto)]
 
 mod crowd;
@@ -27,7 +27,7 @@ fn main(rt: HostRuntime) -> io::Result<()> {
     let threads = number(words.next(), 4).clamp(1, 64) as u8;
     let rounds = number(words.next(), 4000);
     let asleep = Duration::from_micros(number(words.next(), 0));
-    let Ok((lock, mut pass)) = BookLock::new(rt.alloc(), Tally::new()) else {
+    let Ok((lock, mut pass)) = BookLock::new(rt.alloc(), Tally::new(!asleep.is_zero())) else {
         println!(rt; "no memory")?;
         return Ok(());
     };

@@ -7,6 +7,7 @@ use book_lock::Held;
 #[derive(Drop)]
 pub struct Tally {
     finds: u64,
+    is_slow: bool,
 }
 
 impl Held for Tally {
@@ -19,13 +20,18 @@ impl Held for Tally {
     fn events(&self) -> u64 {
         self.finds
     }
+
+    fn is_slow(&self) -> bool {
+        self.is_slow
+    }
 }
 
 impl Tally {
-    pub fn new() -> Tally
+    /// One of no entries, whose rounds are slow or quick.
+    pub fn new(is_slow: bool) -> Tally
         ensures { result.finds ≡ 0 }
     {
-        Tally { finds: 0 }
+        Tally { finds: 0, is_slow }
     }
 
     pub fn count(&self) -> u64

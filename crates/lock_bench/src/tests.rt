@@ -22,7 +22,7 @@ fn each_round_comes<R: Threads + Wait + Clock + Abort + Sync>(
     requires least { 1 ≤ threads }
     requires most { threads ≤ 64 }
 {
-    let Ok((lock, mut pass)) = BookLock::new(alloc, Tally::new()) else {
+    let Ok((lock, mut pass)) = BookLock::new(alloc, Tally::new(true)) else {
         return Err(AllocError.into());
     };
     run_all(

@@ -20,13 +20,15 @@ use disk_trait::LogDisk;
 use index_layer::Index;
 use plain_list::Op;
 use split_prepare::{Prepared, SplitTicket};
+use std::alloc::{AllocFailed, Global};
 use std::marker::{Model, PhantomData};
 use zorder::{Name, Point, Region, coordinates_fit};
 
 /// A book whose objects are a world, and whose log was opened over a drive of which this is known.
 #[derive(Drop)]
 pub struct SharedBook<I: Index, D: LogDisk, O: Start> {
-    book: Book<I, D>,
+    /// In a place of its own: what comes out of the lock and goes back is a pointer.
+    book: Box<Book<I, D>>,
     start: PhantomData<O>,
 }
 
@@ -37,9 +39,9 @@ impl<I: Index, D: LogDisk, O: Start> Model for SharedBook<I, D, O> {
 
     ghost use Rattle.sessions.specs.Shared.{IsShared};
 
-    ghost view = { λ s. s.book };
+    ghost view = { λ s. s.book.value };
 
-    ghost invariant = { λ s. IsShared D.drive O.unlogged O.is s.book };
+    ghost invariant = { λ s. IsShared D.drive O.unlogged O.is s.book.value };
 }
 
 impl<I: Index, D: LogDisk, O: Start> Held for SharedBook<I, D, O> {
@@ -52,17 +54,26 @@ impl<I: Index, D: LogDisk, O: Start> Held for SharedBook<I, D, O> {
     fn events(&self) -> u64 {
         self.book.events()
     }
+
+    fn is_slow(&self) -> bool {
+        self.book.has_log()
+    }
 }
 
 impl<I: Index, D: LogDisk, O: Start> SharedBook<I, D, O> {
-    pub(crate) fn of(book: Book<I, D>) -> SharedBook<I, D, O>
+    /// For want of memory the book comes back.
+    pub(crate) fn of(alloc: Global, book: Book<I, D>) -> Result<SharedBook<I, D, O>, Book<I, D>>
         requires world { IsWorld (world_after book.opening.world book.entries) }
         requires start { StartsAs D.drive O.unlogged O.is book.log }
-        ensures { result ≡ book }
+        ensures ok { IfOk result (λ s. s ≡ book) }
+        ensures back { IfErr result (λ b. b ≡ book) }
     {
-        SharedBook {
-            book,
-            start: PhantomData,
+        match Box::new(alloc, book) {
+            Ok(book) => Ok(SharedBook {
+                book,
+                start: PhantomData,
+            }),
+            Err(AllocFailed { value }) => Err(value),
         }
     }
 
@@ -70,7 +81,7 @@ impl<I: Index, D: LogDisk, O: Start> SharedBook<I, D, O> {
         ensures book { result ≡ self }
         ensures start { StartsAs D.drive O.unlogged O.is result.log }
     {
-        self.book
+        Box::into_inner(self.book)
     }
 
     /// The leaf that is to be split next, or that the book is closed.

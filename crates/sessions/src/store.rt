@@ -45,7 +45,8 @@ impl<I: Index, D: LogDisk, O: Start> Store<I, D, O> {
         ensures store { IfOk result (λ r. r.1 ≡ record { lock = r.0; seen = []; own = []; origin = origin_of D.drive book; parts = 65536; holds = false }) }
         ensures back { IfErr result (λ b. b ≡ book) }
     {
-        match BookLock::new(alloc, SharedBook::of(book)) {
+        let shared = SharedBook::of(alloc, book)?;
+        match BookLock::new(alloc, shared) {
             Ok((lock, pass)) => Ok((Store { lock }, pass)),
             Err(shared) => Err(shared.into_book()),
         }

@@ -13,9 +13,14 @@ use std::marker::Brand;
 use std::sync::Wait;
 use std::sync::atomic::Ordering;
 use std::thread;
+use std::time::Duration;
 
 /// How often a caller that finds the lock taken lets others run before it sleeps.
-const YIELDS: u32 = 20;
+const YIELDS: u32 = 8;
+
+/// How many milliseconds it naps, where steps are quick. Meanwhile some thousand steps are taken by whoever has the value in its
+/// processor's cache.
+const NAP: u64 = 4;
 
 impl<V: Held> BookLock<V> {
     // Lets others run, and sleeps where that has not helped so many times. Gives the new number of times.
@@ -29,17 +34,26 @@ impl<V: Held> BookLock<V> {
         }
     }
 
+    fn sleep<R: Wait>(&self, rt: &R) {
+        if self.is_slow {
+            self.sleep_until_woken(rt);
+        } else {
+            let nap = Duration::from_millis(NAP);
+            self.table.shared.park_timeout(rt, 1, 1, nap);
+        }
+    }
+
     // Counted before it sleeps: a holder that frees the lock either sees the count and wakes one, or freed it before
     // the count rose, and then the word isn't 1 any more and the sleep ends at once.
-    fn sleep<R: Wait>(&self, rt: &R) {
+    fn sleep_until_woken<R: Wait>(&self, rt: &R) {
         self.sleepers.fetch_add(1, Ordering::SeqCst);
         self.table.shared.park(rt, 1, 1);
         self.sleepers.fetch_sub(1, Ordering::SeqCst);
     }
 
-    // Wakes one sleeper, if there is one. Without one it makes no system call.
+    // Wakes one who sleeps until it is woken, if there is one. Without one it makes no system call.
     fn wake(&self) {
-        if self.sleepers.load(Ordering::SeqCst) > 0 {
+        if self.is_slow && self.sleepers.load(Ordering::SeqCst) > 0 {
             self.table.shared.wake_one(1);
         }
     }
