@@ -56,15 +56,18 @@ fn leaves<I: Index>(alloc: Global, depth: u8) -> Result<I, Undone>
     Ok(index)
 }
 
+fn keep(at: &mut Vec<u64>, key: u64) -> Result<(), Memory> {
+    at.push(key)?;
+    Ok(())
+}
+
 fn fill<I: Index>(index: &mut I, at: &mut Vec<u64>, plan: &Plan) -> Result<u64, Undone> {
     let mut seed = 42;
     let mut added = 0_u64;
     for id in 0..plan.points {
         seed = drawn(seed);
         let key = key_in(seed, plan.depth);
-        if let Err(want) = at.push(key) {
-            return Err(Memory::from(want).into());
-        }
+        keep(at, key)?;
         if add(index, Row { key, id })? {
             added = added.saturating_add(1);
         }

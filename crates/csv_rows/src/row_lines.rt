@@ -71,8 +71,8 @@ fn add_id_op(piece: &mut Piece, word: &str, id: u64)
 
 fn add_box(piece: &mut Piece, region: Region)
     requires { array_vec_len piece.old ≤ 65428 }
-    ensures bytes { piece.new.items ≡ piece.old.items ++ codes ",box,," ++ decimal region.lo.x ++ codes "," ++ decimal region.lo.y ++ codes ","
-        ++ decimal region.hi.x ++ codes "," ++ decimal region.hi.y ++ codes "\n" }
+    ensures bytes { piece.new.items ≡ piece.old.items ++ codes ",box,," ++ decimal region.lo.x ++ codes "," ++ decimal region.lo.y
+        ++ codes "," ++ decimal region.hi.x ++ codes "," ++ decimal region.hi.y ++ codes "\n" }
     ensures len { array_vec_len piece.new ≤ array_vec_len piece.old + 100 }
 {
     push_str(piece, ",box,,");

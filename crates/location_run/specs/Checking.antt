@@ -17,6 +17,7 @@ use Rattle.csv_rows.specs.declared.rows.Refusal.{Refusal}
 use Rattle.csv_rows.specs.declared.rows.Refusal.TheVariants as refusal
 use Rattle.csv_rows.specs.LogLines.{counts_text}
 use Rattle.location_run.specs.Limits.{width, most_cells}
+use Rattle.location_run.specs.Status.{status_of}
 use Rattle.io_edge.specs.Streams.{Output}
 use Rattle.location_run.specs.Ends.{Ends, Targets}
 use Rattle.location_run.specs.Taking.{Refuses}
@@ -68,6 +69,16 @@ counts_of seen = record { cells = seen.cells; points = length seen.world; leaves
 -- the four lines of cells
 abbrev pub checked_text : List Cell → List ℕ
 checked_text cells = counts_text (counts_after cells)
+
+-- a log was read: this file is attached, and no call of its drive has failed
+pub record HasRead (file : List ℕ) (old new : Drive) : Type 0 where
+  pub attached : new.attached file false
+  pub calm : new.faults ≡ old.faults
+
+-- the same where a log isn't told, unless the drive is told to have failed, or of the file, that memory ran out
+pub record HasReadUnless (file : List ℕ) (old new : Drive) (why : Refusal) : Type 0 where
+  pub attached : status_of why ≢ 7 → status_of why ≢ 9 → new.attached file false
+  pub calm : status_of why ≢ 7 → new.faults ≡ old.faults
 
 -- the text of the cells that were found
 abbrev pub TellsCells : (List Cell → List ℕ) → Drive → ℕ → Output → Output → Type 0

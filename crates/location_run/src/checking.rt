@@ -1,11 +1,10 @@
 //! The command `check`: tells what the log in a file says, and reads alone.
-ghost use Rattle.std.specs.Prelude.{◌≡◌, ◌≢◌, ◌≤◌, false, IfOk, IfErr, MatchResult, length};
+ghost use Rattle.std.specs.Prelude.{◌≡◌, ◌≤◌, IfOk, IfErr, MatchResult, length};
 ghost use Rattle.disk_trait.specs.Drive.{Stays};
 ghost use Rattle.recovery.specs.Found.{IsFound};
 ghost use Rattle.location_run.specs.Limits.{width, most_cells};
 ghost use Rattle.location_run.specs.Ends.{targets};
-ghost use Rattle.location_run.specs.Status.{status_of};
-ghost use Rattle.location_run.specs.Checking.{IsCheckingCause, IsDecidedBy, EndsChecking, counts_of};
+ghost use Rattle.location_run.specs.Checking.{HasRead, HasReadUnless, IsCheckingCause, IsDecidedBy, EndsChecking, counts_of};
 
 use crate::limits::{MOST_CELLS, WIDTH};
 use crate::log_faults::{attach_refusal, log_refusal};
@@ -37,10 +36,8 @@ pub(crate) fn find<D: LogDisk>(alloc: Global, file: &str, disk: &mut D) -> Resul
     ensures found { IfOk result (IsFound width most_cells (D.drive disk.old)) }
     ensures cause { IfErr result (IsCheckingCause (D.drive disk.old) (D.drive disk.new)) }
     ensures decided { IsDecidedBy most_cells (D.drive disk.old) (D.drive disk.new) result }
-    ensures attached { MatchResult result (λ _. (D.drive disk.new).attached file.now false)
-        (λ why. status_of why ≢ 7 → status_of why ≢ 9 → (D.drive disk.new).attached file.now false) }
-    ensures calm { MatchResult result (λ _. (D.drive disk.new).faults ≡ (D.drive disk.old).faults)
-        (λ why. status_of why ≢ 7 → (D.drive disk.new).faults ≡ (D.drive disk.old).faults) }
+    ensures read { MatchResult result (λ _. HasRead file.now (D.drive disk.old) (D.drive disk.new))
+        (HasReadUnless file.now (D.drive disk.old) (D.drive disk.new)) }
     ensures stays { Stays (D.drive disk.old) (D.drive disk.new) }
     ensures later { (D.drive disk.old).faults ≤ (D.drive disk.new).faults }
 {

@@ -13,6 +13,11 @@ use Rattle.recovery.specs.Faults.{BeginsWith}
 use Rattle.recovery.specs.Found.{IsFound}
 use Rattle.recovery.specs.Walk.{WalkView}
 
+-- the walk has this width, and the buffer the room for one piece
+pub record HasRoom (width : ℕ) (walk : WalkView) (buffer : List ℕ) : Type 0 where
+  pub width_is : walk.width ≡ width
+  pub long : length buffer ≡ 65537
+
 -- so many cells of a file of this length were walked: they are legal, and where the bytes are known, they stand at their front
 pub record Reaches (most len number : ℕ) (drive : Drive) (walk : WalkView) : Type 0 where
   pub cells : List Cell

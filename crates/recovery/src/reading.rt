@@ -2,7 +2,7 @@
 ghost use Rattle.std.specs.Prelude.{◌≡◌, ◌≤◌, ◌+◌, ◌-◌, ◌*◌, ◌<◌, ℕ, List, Some, take, drop, min, length, IfOk, IfErr};
 ghost use Rattle.disk_trait.specs.Drive.{Stays, CountsFaults};
 ghost use Rattle.recovery.specs.Faults.{IsFault};
-ghost use Rattle.recovery.specs.Reading.{Reaches, Ends, GoesOn, OnlyReads, ReadsPiece};
+ghost use Rattle.recovery.specs.Reading.{HasRoom, Reaches, Ends, GoesOn, OnlyReads, ReadsPiece};
 
 use crate::pieces::{Stop, damaged, walk_piece};
 use crate::seen::OpenFault;
@@ -72,8 +72,7 @@ fn walk_next<D: LogDisk>(
     ensures ok { IfOk result (GoesOn most len cells (D.drive disk.old) walk.new) }
     ensures err { IfErr result (λ e. (xs : List ℕ) → (D.drive disk.old).bytes ≡ Some xs → IsFault walk.old.width most xs e) }
     ensures reads { OnlyReads (D.drive disk.old) (D.drive disk.new) result }
-    ensures width { walk.new.width ≡ walk.old.width }
-    ensures long { length buffer.new ≡ 65537 }
+    ensures room { HasRoom walk.old.width walk.new buffer.new }
 {
     let got = read_piece(disk, buffer, 16 + 32 * cells, len)?;
     if got == 0 {

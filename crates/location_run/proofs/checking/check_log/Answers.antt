@@ -10,7 +10,7 @@ returns-in-Err g c =
         ends = inr (c.in-Err.why, c.in-Err.ensures.cause, told.refused);
         decided = decided-refused _ _ c.in-Err.why _ _ _ c.in-Err.ensures.decided told.refused;
         stays = c.in-Err.ensures.stays;
-        calm = λ seven. c.in-Err.ensures.calm (λ e. seven (told.refused.status_is ∙ e));
-        attached = λ seven nine. c.in-Err.ensures.attached (λ e. seven (told.refused.status_is ∙ e)) (λ e. nine (told.refused.status_is ∙ e));
+        calm = λ seven. c.in-Err.ensures.read.calm (λ e. seven (told.refused.status_is ∙ e));
+        attached = λ seven nine. c.in-Err.ensures.read.attached (λ e. seven (told.refused.status_is ∙ e)) (λ e. nine (told.refused.status_is ∙ e));
       };
     }
