@@ -228,7 +228,7 @@ module _ (p : Point) (k : ℕ) (leaves : List Leaf) (before : ℕ) where
       pub near-leaf : CountsNear (now + 1) (leaves_ahead leaves left)
       near-leaf world names is_world stands d many =
           let reach = reach-within p k a.least world (below ++ objects_ahead leaves left) kept d (t.worlds world names is_world stands).keeps (t.far world names is_world stands) few many in
-          leaf-count (within p (reach_of p k world d)) (le-leb (least_to p a.name) (reach_of p k world d) (omega (arith, reach, t.is.0))) (t.near world names is_world stands d many)
+          leaf-count (within p (reach_of p k world d)) (le-leb (least_to p a.name) (reach_of p k world d) (omega (arith, reach, t.is.least_is))) (t.near world names is_world stands d many)
 
       pub leaf-state : (new : Kept) (then : ℕ) → then ≡ now + 1 → before ≤ now → Passes (objects_of b.rows) kept new → State then left new
       leaf-state new then next le passes = record {
