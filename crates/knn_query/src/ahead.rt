@@ -18,12 +18,10 @@ pub(crate) struct Ahead {
 }
 
 impl Ahead {
-    /// The whole key space.
-    pub(crate) fn whole(from: Point) -> Ahead
-        ensures name { result.name ≡ [] }
+    pub(crate) fn at(name: Name, from: Point) -> Ahead
+        ensures name { result.name ≡ name }
         ensures ahead { IsAhead from result }
     {
-        let name = Name::whole();
         Ahead::new(name, region(&name), from)
     }
 

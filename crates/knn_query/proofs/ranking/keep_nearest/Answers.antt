@@ -5,6 +5,7 @@ use Rattle.std.proofs.lemmas.Bool.{leb-true, leb-false}
 use Rattle.std.proofs.lemmas.List.Elements.{All-nil}
 use Rattle.bucket_versions.specs.Rows.{Rows}
 use Rattle.index_layer.specs.Leaves.{Leaf}
+use Rattle.index_layer.specs.Narrowed.{PassesBare}
 use Rattle.table_share.specs.Objects.{objects_of}
 use Rattle.table_share.proofs.Subtrees.{inner-room}
 use Rattle.knn_query.specs.Ahead.{IsAhead, IsFarFirst, AreAt, number_nearer, reach_of, leaves_ahead, objects_ahead}
@@ -20,13 +21,15 @@ loop-number-init g c =
     let p = c.args.kept.from in
     let k = c.args.kept.k in
     let is_at = g.I.Index.is_at c.args.index.now in
-    let named : c.whole.result.name ≡ [] = c.whole.ensures.name in (
-      subst (λ (xs : List Ahead). State p k leaves c.args.steps.now c.args.steps.now xs c.args.kept) (sym (c.in_ok-push.ensures.items ∙ ap (λ (xs : List Ahead). xs ++ c.whole.result ∷ []) c.new-ahead.ensures.items))
-          (begins-state p k leaves c.args.steps.now c.whole.result c.args.kept c.requires.empty (c.whole.ensures.name) c.whole.ensures.ahead),
+    let name = c.narrow-name.result.0 in
+    let named : c.at.result.name ≡ name = c.at.ensures.name in
+    let passed : PassesBare [] c.at.result.name leaves = subst (λ n. PassesBare [] n leaves) (sym named) (subst (λ n. PassesBare n name leaves) c.whole.ensures c.narrow-name.ensures.passed) in (
+      subst (λ (xs : List Ahead). State p k leaves c.args.steps.now c.args.steps.now xs c.args.kept) (sym (c.in_ok-push.ensures.items ∙ ap (λ (xs : List Ahead). xs ++ c.at.result ∷ []) c.new-ahead.ensures.items))
+          (begins-state p k leaves c.args.steps.now c.at.result c.args.kept c.requires.empty passed c.at.ensures.ahead),
       omega arith,
-      subst (λ (xs : List Ahead). AreAt is_at xs c.push-2.new.self.items) (sym (c.in_ok-push.ensures.items ∙ ap (λ (xs : List Ahead). xs ++ c.whole.result ∷ []) c.new-ahead.ensures.items))
-          (subst (λ ps. AreAt is_at (c.whole.result ∷ []) ps) (sym (c.in_ok-push-2.ensures.items ∙ ap (λ ps. ps ++ c.top.result ∷ []) c.new-places.ensures.items)) (subst (is_at c.top.result.now) (sym named) c.top.ensures, tt)),
-      subst IsFarFirst (sym (c.in_ok-push.ensures.items ∙ ap (λ (xs : List Ahead). xs ++ c.whole.result ∷ []) c.new-ahead.ensures.items)) (All-nil (λ (b : Ahead). b.least ≤ c.whole.result.least), tt),
+      subst (λ (xs : List Ahead). AreAt is_at xs c.push-2.new.self.items) (sym (c.in_ok-push.ensures.items ∙ ap (λ (xs : List Ahead). xs ++ c.at.result ∷ []) c.new-ahead.ensures.items))
+          (subst (λ ps. AreAt is_at (c.at.result ∷ []) ps) (sym (c.in_ok-push-2.ensures.items ∙ ap (λ ps. ps ++ c.narrow-name.result.1 ∷ []) c.new-places.ensures.items)) (subst (is_at c.narrow-name.result.1.now) (sym named) c.narrow-name.ensures.at, tt)),
+      subst IsFarFirst (sym (c.in_ok-push.ensures.items ∙ ap (λ (xs : List Ahead). xs ++ c.at.result ∷ []) c.new-ahead.ensures.items)) (All-nil (λ (b : Ahead). b.least ≤ c.at.result.least), tt),
     )
 
 pub returns-then-has_nearer-clause-keeps : goal.returns-then-has_nearer-clause-keeps
