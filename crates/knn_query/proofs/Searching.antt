@@ -244,5 +244,5 @@ module _ (leaves : List Leaf) where
         let le : reach ≤ a.least = All-head (λ (a : Ahead). reach ≤ a.least) a ahead low in
         subst (All P) (sym (objects-cons a ahead))
         (All-append P (below a.name) (objects_ahead leaves ahead)
-        (far_below a.name reach (λ q is_point inside. let near : least_to p a.name ≤ distance q p = least_distance-le (region_of a.name) p q (has_point-region_of a.name is.1 q is_point ∙ inside) in omega (arith, le, is.0, near)) leaves under)
+        (far_below a.name reach (λ q is_point inside. let near : least_to p a.name ≤ distance q p = least_distance-le (region_of a.name) p q (has_point-region_of a.name is.short q is_point ∙ inside) in omega (arith, le, is.least_is, near)) leaves under)
         (far_ahead reach ahead (All-tail (IsAhead p) a ahead are) (All-tail (λ (a : Ahead). reach ≤ a.least) a ahead low)))

@@ -14,10 +14,12 @@ use Rattle.std.proofs.lemmas.Bool.Decides.{nat_tests}
 use Rattle.zorder.specs.declared.points.Point.{Point}
 use Rattle.zorder.specs.declared.points.Placed.{Placed}
 use Rattle.zorder.specs.Distance.{distance}
+use Rattle.bucket_versions.specs.declared.row.Row.{Row}
 use Rattle.bucket_versions.specs.Rows.{Rows}
 use Rattle.index_layer.specs.Leaves.{Leaf, names_of, all_rows, has_name, leaf_named}
 use Rattle.zorder.specs.Tile.{tiles_from}
 use Rattle.index_layer.proofs.LeafChanges.{leaf_at}
+use Rattle.index_layer.specs.Narrowed.{PassesBare}
 use Rattle.index_layer.specs.Part.{is_inner}
 use Rattle.plain_list.specs.Answer.{ranked, is_before, with_ranked}
 use Rattle.plain_list.specs.World.{place_of}
@@ -30,6 +32,7 @@ use Rattle.table_share.specs.Worlds.{OfEachWorld}
 use Rattle.table_share.proofs.TableRows.{table_of}
 use Rattle.table_share.proofs.RowObjects.{objects-permutation}
 use Rattle.table_share.proofs.LeafRows.{leaves_under}
+use Rattle.table_share.proofs.Narrowings.{narrowed-rows, narrowed-fewer}
 use Rattle.table_share.proofs.Subtrees.{subtree-whole, subtree-leaf, subtree-halves, inner-room}
 use Rattle.knn_query.specs.Ahead.{least_to, reach_of, number_nearer, IsAhead, IsOne, IsFirst, leaves_ahead, objects_ahead, Searches, weight_of}
 use Rattle.knn_query.specs.Passes.{held, IsEmpty, IsHeld, Keeps, Passes}
@@ -135,7 +138,7 @@ all-put P old new a (front, back, is, left) here all =
 
 module _ (p : Point) (k : ℕ) (leaves : List Leaf) (before : ℕ) where
   abbrev Counts : (List Bool → Bool) → ℕ → List Leaf → Type 0
-  Counts passes now left = now + length (leaves_of passes left) ≡ before + length (leaves_of passes leaves)
+  Counts passes now left = now + length (leaves_of passes left) ≤ before + length (leaves_of passes leaves)
 
   -- of each world with k objects, by the distance of the k-th
   abbrev CountsNear : ℕ → List Leaf → Type 0
@@ -228,7 +231,7 @@ module _ (p : Point) (k : ℕ) (leaves : List Leaf) (before : ℕ) where
       pub near-leaf : CountsNear (now + 1) (leaves_ahead leaves left)
       near-leaf world names is_world stands d many =
           let reach = reach-within p k a.least world (below ++ objects_ahead leaves left) kept d (t.worlds world names is_world stands).keeps (t.far world names is_world stands) few many in
-          leaf-count (within p (reach_of p k world d)) (le-leb (least_to p a.name) (reach_of p k world d) (omega (arith, reach, t.is.0))) (t.near world names is_world stands d many)
+          leaf-count (within p (reach_of p k world d)) (le-leb (least_to p a.name) (reach_of p k world d) (omega (arith, reach, t.is.least_is))) (t.near world names is_world stands d many)
 
       pub leaf-state : (new : Kept) (then : ℕ) → then ≡ now + 1 → before ≤ now → Passes (objects_of b.rows) kept new → State then left new
       leaf-state new then next le passes = record {
@@ -270,10 +273,19 @@ module _ (p : Point) (k : ℕ) (leaves : List Leaf) (before : ℕ) where
           some = t.some;
         }
 
-  -- at the empty name
-  pub begins-state : (a : Ahead) (kept : Kept) → IsEmpty p k kept → a.name ≡ [] → IsAhead p a → State before (a ∷ []) kept
-  begins-state a kept empty whole is =
-      let all : leaves_ahead leaves (a ∷ []) ≡ leaves = append-nil (subtree a.name leaves) ∙ ap (λ n. subtree n leaves) whole ∙ subtree-whole leaves in
+  -- at a name below which are all rows
+  pub begins-state : (a : Ahead) (kept : Kept) → IsEmpty p k kept → PassesBare [] a.name leaves → IsAhead p a → State before (a ∷ []) kept
+  begins-state a kept empty passed is =
+      let all : leaves_ahead leaves (a ∷ []) ≡ subtree a.name leaves = append-nil (subtree a.name leaves) in
+      let rows : all_rows (leaves_ahead leaves (a ∷ [])) ≡ all_rows leaves = ap all_rows all ∙ narrowed-rows [] a.name leaves passed ∙ ap all_rows (subtree-whole leaves) in
+      let fewer : (passes : List Bool → Bool) → length (leaves_of passes (leaves_ahead leaves (a ∷ []))) ≤ length (leaves_of passes leaves) =
+      λ passes.
+      omega (
+        arith,
+        ap (λ (ls : List Leaf). length (leaves_of passes ls)) all,
+        narrowed-fewer passes [] a.name leaves passed,
+        ap (λ (ls : List Leaf). length (leaves_of passes ls)) (subtree-whole leaves),
+      ) in
       record {
         from = empty.from;
         k_is = empty.k_is;
@@ -285,13 +297,13 @@ module _ (p : Point) (k : ℕ) (leaves : List Leaf) (before : ℕ) where
             subst (λ (l : List Placed). IsPermutation l (objects_of (all_rows leaves))) (filter-all world)
             (subst (λ (l : List Placed). IsPermutation (filter (λ (m : Placed). true) world) l) (filter-all (objects_of (all_rows leaves)))
             (objects-permutation (λ (m : Placed). true) world (all_rows leaves) is_world.rising is_world.points table.ordered table.has)) in
-            let rest : IsPermutation world (objects_ahead leaves (a ∷ [])) = subst (λ (ls : List Leaf). IsPermutation world (objects_of (all_rows ls))) (sym all) objects in
+            let rest : IsPermutation world (objects_ahead leaves (a ∷ [])) = subst (λ (rs : List Row). IsPermutation world (objects_of rs)) (sym rows) objects in
             record {
               are_of = All-permutation (λ (m : Placed). place_of world m.id ≡ Some m.at) world (objects_ahead leaves (a ∷ [])) rest (found_in world is_world.rising);
               keeps = subst (λ l. IsPass p k world (objects_ahead leaves (a ∷ [])) l None) (sym empty.none) (before_all p k world (objects_ahead leaves (a ∷ [])) is_world.rising rest);
             };
-        opened = ap (λ (ls : List Leaf). before + length (leaves_of every ls)) all;
-        near = λ world names is_world stands d many. ap (λ (ls : List Leaf). before + length (leaves_of (within p (reach_of p k world d)) ls)) all;
+        opened = omega (arith, fewer every);
+        near = λ world names is_world stands d many. omega (arith, fewer (within p (reach_of p k world d)));
         some = λ same. empty.none;
       }
 

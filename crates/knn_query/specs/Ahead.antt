@@ -31,9 +31,11 @@ reach_of p k world d = distance (slice_index_or (ranked p world) (k - 1) d).at p
 abbrev pub number_nearer : Point → ℕ → List Placed → ℕ
 number_nearer p reach list = count_by (λ (m : Placed). nat_lt (distance m.at p) reach) list
 
--- the distance is that to the name's region
-abbrev pub IsAhead : Point → Ahead → Type 0
-IsAhead p a = (a.least ≡ least_to p a.name) × (length a.name ≤ 64)
+-- the region is that of the name, and the distance that to it
+pub record IsAhead (p : Point) (a : Ahead) : Type 0 where
+  pub region_is : a.region ≡ region_of a.name
+  pub least_is : a.least ≡ least_to p a.name
+  pub short : length a.name ≤ 64
 
 -- the leaves that are still ahead, and their objects
 abbrev pub leaves_ahead : List Leaf → List Ahead → List Leaf

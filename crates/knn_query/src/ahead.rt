@@ -1,29 +1,52 @@
 //! Subtrees that are still ahead of a search, the nearest of them last.
-ghost use Rattle.std.specs.Prelude.{◌≡◌, ◌≤◌, [], length, take, drop, MatchOption, IfOk, OnOk};
+ghost use Rattle.std.specs.Prelude.{◌≡◌, ◌≤◌, ◌<◌, ◌∷◌, ◌++◌, [], false, true, length, take, drop, MatchOption, IfOk, OnOk};
 ghost use Rattle.std.specs.List.{All, insert};
-ghost use Rattle.zorder.specs.declared.points.Point.{Point};
+ghost use Rattle.prefix_names.specs.Regions.{region_of};
 ghost use Rattle.knn_query.specs.declared.ahead.Ahead.{Ahead};
 ghost use Rattle.knn_query.specs.Ahead.{IsAhead, IsFarFirst, IsTaken};
 
-use prefix_names::{least, region};
+use prefix_names::{halves, least, region};
 use std::alloc::AllocError;
-use zorder::{Name, Point};
+use zorder::{Name, Point, Region, child};
 
-/// A name whose subtree wasn't opened, and the squared distance from which on there may be points in it.
+/// A name whose subtree wasn't opened, its region, and the squared distance from which on there may be points in it.
 #[derive(Clone, Copy, Drop)]
 pub(crate) struct Ahead {
     pub(crate) name: Name,
+    pub(crate) region: Region,
     pub(crate) least: u128,
 }
 
 impl Ahead {
-    pub(crate) fn new(name: Name, from: Point) -> Ahead
+    pub(crate) fn at(name: Name, from: Point) -> Ahead
+        ensures name { result.name ≡ name }
+        ensures ahead { IsAhead from result }
+    {
+        Ahead::new(name, region(&name), from)
+    }
+
+    /// The half of the lesser keys, and the other one.
+    pub(crate) fn halves(&self, from: Point) -> (Ahead, Ahead)
+        requires room { length self.now.name < 64 }
+        requires ahead { IsAhead from self.now }
+        ensures names { (result.0.name ≡ self.now.name ++ false ∷ []) × (result.1.name ≡ self.now.name ++ true ∷ []) }
+        ensures ahead { IsAhead from result.0 × IsAhead from result.1 }
+    {
+        let (zero, one) = halves(&self.name, &self.region);
+        let fore = Ahead::new(child(&self.name, false), zero, from);
+        let hind = Ahead::new(child(&self.name, true), one, from);
+        (fore, hind)
+    }
+
+    fn new(name: Name, region: Region, from: Point) -> Ahead
+        requires { region ≡ region_of name }
         ensures name { result.name ≡ name }
         ensures ahead { IsAhead from result }
     {
         Ahead {
             name,
-            least: least(&region(&name), from),
+            region,
+            least: least(&region, from),
         }
     }
 }

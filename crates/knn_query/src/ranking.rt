@@ -15,7 +15,7 @@ use std::alloc::{AllocError, Global};
 use std::sync::ledger::Ledger;
 use step_count::Steps;
 use table_share::placed;
-use zorder::{Memory, Name, Point, child};
+use zorder::{Memory, Name, Point};
 
 /// The first `k` objects, or all where there are fewer, the nearest first, and of two as near the one with the lesser id.
 /// Each bucket that it opens is a step. It is a best-first search (Hjaltason and Samet, "Distance Browsing in Spatial
@@ -57,8 +57,9 @@ fn keep_nearest<I: Index, L: Ledger>(
 {
     let mut ahead = Vec::new(alloc);
     let mut places = Vec::new(alloc);
-    ahead.push(Ahead::new(Name::whole(), kept.from))?;
-    places.push(index.top())?;
+    let (name, place) = index.narrow(Name::whole(), index.top());
+    ahead.push(Ahead::at(name, kept.from))?;
+    places.push(place)?;
     while let Some((number, next)) = take_nearest(&mut ahead) {
         match index.below(&next.name, places.remove(number)) {
             Below::Leaf(bucket) => {
@@ -68,10 +69,9 @@ fn keep_nearest<I: Index, L: Ledger>(
                 add_rows(&mut kept, bucket, steps)?;
             }
             Below::Halves { zero, one } => {
-                let fore = Ahead::new(child(&next.name, false), kept.from);
+                let (fore, hind) = next.halves(kept.from);
                 let place = put_ahead(&mut ahead, fore)?;
                 places.insert(place, zero)?;
-                let hind = Ahead::new(child(&next.name, true), kept.from);
                 let place = put_ahead(&mut ahead, hind)?;
                 places.insert(place, one)?;
             }

@@ -5,6 +5,7 @@ use Rattle.std.proofs.lemmas.Bool.{leb-true, leb-false}
 use Rattle.std.proofs.lemmas.List.Elements.{All-nil}
 use Rattle.bucket_versions.specs.Rows.{Rows}
 use Rattle.index_layer.specs.Leaves.{Leaf}
+use Rattle.index_layer.specs.Narrowed.{PassesBare}
 use Rattle.table_share.specs.Objects.{objects_of}
 use Rattle.table_share.proofs.Subtrees.{inner-room}
 use Rattle.knn_query.specs.Ahead.{IsAhead, IsFarFirst, AreAt, number_nearer, reach_of, leaves_ahead, objects_ahead}
@@ -20,13 +21,15 @@ loop-number-init g c =
     let p = c.args.kept.from in
     let k = c.args.kept.k in
     let is_at = g.I.Index.is_at c.args.index.now in
-    let named : c.new.result.name ≡ [] = c.new.ensures.name ∙ c.whole.ensures in (
-      subst (λ (xs : List Ahead). State p k leaves c.args.steps.now c.args.steps.now xs c.args.kept) (sym (c.in_ok-push.ensures.items ∙ ap (λ (xs : List Ahead). xs ++ c.new.result ∷ []) c.new-ahead.ensures.items))
-          (begins-state p k leaves c.args.steps.now c.new.result c.args.kept c.requires.empty (c.new.ensures.name ∙ c.whole.ensures) c.new.ensures.ahead),
+    let name = c.narrow-name.result.0 in
+    let named : c.at.result.name ≡ name = c.at.ensures.name in
+    let passed : PassesBare [] c.at.result.name leaves = subst (λ n. PassesBare [] n leaves) (sym named) (subst (λ n. PassesBare n name leaves) c.whole.ensures c.narrow-name.ensures.passed) in (
+      subst (λ (xs : List Ahead). State p k leaves c.args.steps.now c.args.steps.now xs c.args.kept) (sym (c.in_ok-push.ensures.items ∙ ap (λ (xs : List Ahead). xs ++ c.at.result ∷ []) c.new-ahead.ensures.items))
+          (begins-state p k leaves c.args.steps.now c.at.result c.args.kept c.requires.empty passed c.at.ensures.ahead),
       omega arith,
-      subst (λ (xs : List Ahead). AreAt is_at xs c.push-2.new.self.items) (sym (c.in_ok-push.ensures.items ∙ ap (λ (xs : List Ahead). xs ++ c.new.result ∷ []) c.new-ahead.ensures.items))
-          (subst (λ ps. AreAt is_at (c.new.result ∷ []) ps) (sym (c.in_ok-push-2.ensures.items ∙ ap (λ ps. ps ++ c.top.result ∷ []) c.new-places.ensures.items)) (subst (is_at c.top.result.now) (sym named) c.top.ensures, tt)),
-      subst IsFarFirst (sym (c.in_ok-push.ensures.items ∙ ap (λ (xs : List Ahead). xs ++ c.new.result ∷ []) c.new-ahead.ensures.items)) (All-nil (λ (b : Ahead). b.least ≤ c.new.result.least), tt),
+      subst (λ (xs : List Ahead). AreAt is_at xs c.push-2.new.self.items) (sym (c.in_ok-push.ensures.items ∙ ap (λ (xs : List Ahead). xs ++ c.at.result ∷ []) c.new-ahead.ensures.items))
+          (subst (λ ps. AreAt is_at (c.at.result ∷ []) ps) (sym (c.in_ok-push-2.ensures.items ∙ ap (λ ps. ps ++ c.narrow-name.result.1 ∷ []) c.new-places.ensures.items)) (subst (is_at c.narrow-name.result.1.now) (sym named) c.narrow-name.ensures.at, tt)),
+      subst IsFarFirst (sym (c.in_ok-push.ensures.items ∙ ap (λ (xs : List Ahead). xs ++ c.at.result ∷ []) c.new-ahead.ensures.items)) (All-nil (λ (b : Ahead). b.least ≤ c.at.result.least), tt),
     )
 
 pub returns-then-has_nearer-clause-keeps : goal.returns-then-has_nearer-clause-keeps
@@ -137,7 +140,7 @@ loop-number-smaller-in-Continue-branch-3 g c =
     let a : Ahead = c.in-Some.next in
     let left : List Ahead = c.take_nearest.new.ahead.items in
     let t = taken p k leaves c.args.steps.now c.loop-number.steps c.loop-number.ahead.items left a c.loop-number.kept s (first-of c.loop-number.ahead.items c.take_nearest.new.ahead.items c.in-Some.number c.in-Some.next c.in-Some.ensures.taken) in
-    weight-less c.loop-number.ahead.items left a (first-of c.loop-number.ahead.items c.take_nearest.new.ahead.items c.in-Some.number c.in-Some.next c.in-Some.ensures.taken) t.is.1
+    weight-less c.loop-number.ahead.items left a (first-of c.loop-number.ahead.items c.take_nearest.new.ahead.items c.in-Some.number c.in-Some.next c.in-Some.ensures.taken) t.is.short
 
 pub loop-number-preserved-in-Continue-branch-3 : goal.loop-number-preserved-in-Continue-branch-3
 loop-number-preserved-in-Continue-branch-3 g c =
@@ -195,9 +198,20 @@ returns-in_err-add_rows-in-Leaf-clause-near g c world names is_world stands d ma
     (near-leaf p k leaves c.args.steps.now tile c.loop-number.steps a left c.loop-number.kept t b c.in-Leaf.ensures few world names is_world stands d many) in
     omega (arith, most, c.add_rows.ensures.opened)
 
-pub child-requires : goal.child-requires
-child-requires g c =
+pub halves-fore-requires-clause-room : goal.halves-fore-requires-clause-room
+halves-fore-requires-clause-room g c =
     inner-room c.in-Some.next.name (g.I.Index.leaves c.args.index.now) (g.met.I.Index.are_leaves c.args.index.now).tile c.in-Halves.ensures.0
+
+pub halves-fore-requires-clause-ahead : goal.halves-fore-requires-clause-ahead
+halves-fore-requires-clause-ahead g c =
+    let leaves : List Leaf = g.I.Index.leaves c.args.index.now in
+    let p = c.args.kept.from in
+    let k = c.args.kept.k in
+    let s = c.loop-number.invariant.0 in
+    let a : Ahead = c.in-Some.next in
+    let left : List Ahead = c.take_nearest.new.ahead.items in
+    let t = taken p k leaves c.args.steps.now c.loop-number.steps c.loop-number.ahead.items left a c.loop-number.kept s (first-of c.loop-number.ahead.items c.take_nearest.new.ahead.items c.in-Some.number c.in-Some.next c.in-Some.ensures.taken) in
+    subst (λ q. IsAhead q a) (sym s.from) t.is
 
 pub loop-number-smaller : goal.loop-number-smaller
 loop-number-smaller g c =
@@ -209,12 +223,12 @@ loop-number-smaller g c =
     let a : Ahead = c.in-Some.next in
     let left : List Ahead = c.take_nearest.new.ahead.items in
     let t = taken p k leaves c.args.steps.now c.loop-number.steps c.loop-number.ahead.items left a c.loop-number.kept s (first-of c.loop-number.ahead.items c.take_nearest.new.ahead.items c.in-Some.number c.in-Some.next c.in-Some.ensures.taken) in
-    let fore : Ahead = c.new-fore.result in
-    let hind : Ahead = c.new-hind.result in
+    let fore : Ahead = c.halves-fore.result.0 in
+    let hind : Ahead = c.halves-fore.result.1 in
     let mid : List Ahead = c.put_ahead.new.ahead.items in
     let new : List Ahead = c.put_ahead-in-Halves.new.ahead.items in
-    let fore_name : fore.name ≡ a.name ++ false ∷ [] = c.new-fore.ensures.name ∙ c.child.ensures in
-    let hind_name : hind.name ≡ a.name ++ true ∷ [] = c.new-hind.ensures.name ∙ c.child-in-Halves.ensures in
+    let fore_name : fore.name ≡ a.name ++ false ∷ [] = c.halves-fore.ensures.names.0 in
+    let hind_name : hind.name ≡ a.name ++ true ∷ [] = c.halves-fore.ensures.names.1 in
     let one = one-inserted left mid c.in_ok-place-in-Halves.place fore c.in_ok-place-in-Halves.ensures.put.1 in
     let two = one-inserted mid new c.in_ok-place-in-Halves-2.place hind c.in_ok-place-in-Halves-2.ensures.put.1 in
     weight-two c.loop-number.ahead.items left mid new a fore hind (first-of c.loop-number.ahead.items c.take_nearest.new.ahead.items c.in-Some.number c.in-Some.next c.in-Some.ensures.taken) one two
@@ -232,16 +246,16 @@ loop-number-preserved g c =
     let left : List Ahead = c.take_nearest.new.ahead.items in
     let t = taken p k leaves c.args.steps.now c.loop-number.steps c.loop-number.ahead.items left a c.loop-number.kept s (first-of c.loop-number.ahead.items c.take_nearest.new.ahead.items c.in-Some.number c.in-Some.next c.in-Some.ensures.taken) in
     let rest = left-at is_at c.loop-number.ahead.items left c.loop-number.places.items c.remove.new.self.items c.in-Some.number a c.loop-number.invariant.2 c.in-Some.ensures.taken c.remove.ensures.items in
-    let fore : Ahead = c.new-fore.result in
-    let hind : Ahead = c.new-hind.result in
+    let fore : Ahead = c.halves-fore.result.0 in
+    let hind : Ahead = c.halves-fore.result.1 in
     let mid : List Ahead = c.put_ahead.new.ahead.items in
     let new : List Ahead = c.put_ahead-in-Halves.new.ahead.items in
-    let fore_name : fore.name ≡ a.name ++ false ∷ [] = c.new-fore.ensures.name ∙ c.child.ensures in
-    let hind_name : hind.name ≡ a.name ++ true ∷ [] = c.new-hind.ensures.name ∙ c.child-in-Halves.ensures in
+    let fore_name : fore.name ≡ a.name ++ false ∷ [] = c.halves-fore.ensures.names.0 in
+    let hind_name : hind.name ≡ a.name ++ true ∷ [] = c.halves-fore.ensures.names.1 in
     let one = one-inserted left mid c.in_ok-place-in-Halves.place fore c.in_ok-place-in-Halves.ensures.put.1 in
     let two = one-inserted mid new c.in_ok-place-in-Halves-2.place hind c.in_ok-place-in-Halves-2.ensures.put.1 in
-    let fore_is : IsAhead p fore = subst (λ q. IsAhead q fore) s.from c.new-fore.ensures.ahead in
-    let hind_is : IsAhead p hind = subst (λ q. IsAhead q hind) s.from c.new-hind.ensures.ahead in
+    let fore_is : IsAhead p fore = subst (λ q. IsAhead q fore) s.from c.halves-fore.ensures.ahead.0 in
+    let hind_is : IsAhead p hind = subst (λ q. IsAhead q hind) s.from c.halves-fore.ensures.ahead.1 in
     let at_fore = put-at is_at left mid c.remove.new.self.items c.insert.new.self.items c.in_ok-place-in-Halves.place fore c.in-Halves.zero rest (subst (is_at c.in-Halves.zero.now) (sym fore_name) c.in-Halves.ensures.2)
     c.in_ok-place-in-Halves.ensures.put.1 c.in_ok-insert-in-Halves.ensures.items in (
       inner-state p k leaves c.args.steps.now tile c.loop-number.steps a left c.loop-number.kept t fore hind mid new c.in-Halves.ensures.0 c.in-Halves.ensures.1 fore_name hind_name fore_is hind_is one two,
@@ -263,8 +277,8 @@ insert-requires-in-Halves g c =
     let is_at = g.I.Index.is_at c.args.index.now in
     let left : List Ahead = c.take_nearest.new.ahead.items in
     let mid : List Ahead = c.put_ahead.new.ahead.items in
-    let fore : Ahead = c.new-fore.result in
-    let fore_name : fore.name ≡ c.in-Some.next.name ++ false ∷ [] = c.new-fore.ensures.name ∙ c.child.ensures in
+    let fore : Ahead = c.halves-fore.result.0 in
+    let fore_name : fore.name ≡ c.in-Some.next.name ++ false ∷ [] = c.halves-fore.ensures.names.0 in
     let rest = left-at is_at c.loop-number.ahead.items left c.loop-number.places.items c.remove.new.self.items c.in-Some.number c.in-Some.next c.loop-number.invariant.2 c.in-Some.ensures.taken c.remove.ensures.items in
     let at_fore = put-at is_at left mid c.remove.new.self.items c.insert.new.self.items c.in_ok-place-in-Halves.place fore c.in-Halves.zero rest (subst (is_at c.in-Halves.zero.now) (sym fore_name) c.in-Halves.ensures.2)
     c.in_ok-place-in-Halves.ensures.put.1 c.in_ok-insert-in-Halves.ensures.items in
