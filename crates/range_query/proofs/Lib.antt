@@ -2,3 +2,4 @@ pub mod BoxCounts
 pub mod BoxLeaves
 pub mod InOrder
 pub mod Listings
+pub mod Reaches

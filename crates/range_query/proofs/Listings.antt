@@ -1,5 +1,5 @@
 -- What is found in a box so far, as leaves and rows are passed.
-use Rattle.std.proofs.Common.{◌≡◌, ℕ, ◌+◌, ◌<◌, ◌≤◌, ◌^◌, Bool, true, false, cond, List, [], ◌∷◌, ◌++◌, length, map, refl, sym, ap, subst, ◌∙◌, arith, length-append, append_assoc, Result, Ok, Err, OnOk}
+use Rattle.std.proofs.Common.{◌≡◌, ℕ, ◌+◌, ◌<◌, ◌≤◌, ◌^◌, true, false, cond, List, [], ◌∷◌, ◌++◌, length, refl, sym, ap, subst, ◌∙◌, arith, length-append, append_assoc, Result, Ok, Err, OnOk}
 use Rattle.std.specs.Prelude.{nat_le}
 use Rattle.std.specs.List.Sorted.{IsPermutation}
 use Rattle.std.proofs.lemmas.List.{append-nil}
@@ -9,11 +9,10 @@ use Rattle.zorder.specs.declared.points.Placed.{Placed}
 use Rattle.zorder.specs.declared.points.Region.{Region}
 use Rattle.zorder.specs.Region.{has_point}
 use Rattle.bucket_versions.specs.declared.row.Row.{Row}
-use Rattle.index_layer.specs.Leaves.{Leaf, all_rows}
 use Rattle.plain_list.specs.declared.ops.Answer.TheVariants.{Found, Many}
 use Rattle.plain_list.specs.Answer.{members_in, listed}
 use Rattle.table_share.specs.Objects.{placed_of, objects_of}
-use Rattle.range_query.specs.Cut.{objects_held, number_in}
+use Rattle.range_query.specs.Cut.{number_in}
 use Rattle.range_query.specs.Listing.{IsListing}
 use Rattle.range_query.specs.declared.found.Listing.{Listing}
 

@@ -1,5 +1,5 @@
 -- How leaves and their rows lie to a box.
-use Rattle.std.specs.Prelude.{ℕ, Bool, not, ◌&&◌, List, length}
+use Rattle.std.specs.Prelude.{◌≡◌, ◌≤◌, ℕ, Bool, not, ◌&&◌, List, length}
 use Rattle.zorder.specs.declared.points.Placed.{Placed}
 use Rattle.zorder.specs.declared.points.Region.{Region}
 use Rattle.prefix_names.specs.Regions.{region_of, meet, lies_in}
@@ -8,6 +8,11 @@ use Rattle.index_layer.specs.Leaves.{Leaf, all_rows}
 use Rattle.plain_list.specs.Answer.{members_in}
 use Rattle.table_share.specs.Objects.{objects_of}
 use Rattle.table_share.specs.Subtree.{subtree, leaves_of}
+
+-- the region is the name's
+pub record IsAreaOf (name : List Bool) (area : Region) : Type 0 where
+  pub is : area ≡ region_of name
+  pub short : length name ≤ 64
 
 -- whether the box has some points of a name's region
 abbrev pub is_met : Region → List Bool → Bool

@@ -1,6 +1,5 @@
 -- What is found in a box so far.
-use Rattle.std.specs.Prelude.{◌≡◌, ◌≤◌, ⊤, ℕ, List, length}
-use Rattle.zorder.specs.declared.points.Point.{Point}
+use Rattle.std.specs.Prelude.{◌≡◌, ◌≤◌, ⊤, List, length}
 use Rattle.zorder.specs.declared.points.Placed.{Placed}
 use Rattle.plain_list.specs.declared.ops.Answer.{Answer}
 use Rattle.plain_list.specs.declared.ops.Answer.TheVariants.{Done, Present, Full, Moved, Gone, At, Absent, Found, Many}

@@ -5,15 +5,15 @@ ghost use Rattle.index_layer.specs.Leaves.{all_rows};
 ghost use Rattle.plain_list.specs.Answer.{members_in};
 ghost use Rattle.table_share.specs.Subtree.{subtree};
 ghost use Rattle.table_share.specs.Worlds.{OfEachWorld};
-ghost use Rattle.range_query.specs.Cut.{is_met, is_cut, leaves_cut, below_met, number_in};
+ghost use Rattle.range_query.specs.Cut.{IsAreaOf, is_met, is_cut, leaves_cut, below_met, number_in};
 ghost use Rattle.table_share.specs.KeysUnder.{AreKeysUnder, AreAllKeysUnder};
 
 use bucket_versions::Bucket;
 use index_layer::{Below, Index};
-use prefix_names::{inside, meets};
+use prefix_names::{halves, inside, meets};
 use std::sync::ledger::Ledger;
 use step_count::Steps;
-use zorder::{Name, Region, child, point};
+use zorder::{Name, Region, child, key, point};
 
 /// How many objects are in the box. A leaf's bucket is opened, which is a step, only where the box has some points of
 /// its region and not all. It takes no memory.
@@ -22,41 +22,54 @@ pub fn count_in<I: Index, L: Ledger>(index: &I, region: &Region, steps: &mut Ste
     ensures number { OfEachWorld (I.leaves index.now) (λ world. result ≡ length (members_in region.now world)) }
     ensures opened { steps.new ≡ steps.old + length (leaves_cut region.now (I.leaves index.now)) }
 {
-    count_below(index, &Name::whole(), index.top(), region, steps)
+    let (name, place) = index.reach(key(region.lo), key(region.hi));
+    let area = prefix_names::region(&name);
+    count_below(index, &name, place, &area, region, steps)
 }
 
-// How many there are below a name.
+// How many there are below a name, whose region is `area`.
 fn count_below<I: Index, L: Ledger>(
     index: &I,
     name: &Name,
     place: &I::Place,
+    area: &Region,
     region: &Region,
     steps: &mut Steps<L>,
 ) -> u64
     requires is_box { IsBox region.now }
     requires at { I.is_at index.now place.now name.now }
+    requires area { IsAreaOf name.now area.now }
     ensures number { AreAllKeysUnder (I.leaves index.now) → number_in region.now (all_rows (below_met region.now name.now (I.leaves index.now))) < 2 ^ 64 → result ≡ number_in region.now (all_rows (below_met region.now name.now (I.leaves index.now))) }
     ensures opened { steps.new ≡ steps.old + length (leaves_cut region.now (subtree name.now (I.leaves index.now))) }
 {
-    if !meets(&prefix_names::region(name), region) {
+    if !meets(area, region) {
         return 0;
     }
     match index.below(name, place) {
-        Below::Leaf(bucket) => count_leaf(name, bucket, region, steps),
+        Below::Leaf(bucket) => count_leaf(name, bucket, area, region, steps),
         Below::Halves { zero, one } => {
-            let first = count_below(index, &child(name, false), zero, region, steps);
-            first.saturating_add(count_below(index, &child(name, true), one, region, steps))
+            let (low, high) = halves(name, area);
+            let first = count_below(index, &child(name, false), zero, &low, region, steps);
+            let second = count_below(index, &child(name, true), one, &high, region, steps);
+            first.saturating_add(second)
         }
     }
 }
 
-fn count_leaf<L: Ledger>(name: &Name, bucket: &Bucket, region: &Region, steps: &mut Steps<L>) -> u64
+fn count_leaf<L: Ledger>(
+    name: &Name,
+    bucket: &Bucket,
+    area: &Region,
+    region: &Region,
+    steps: &mut Steps<L>,
+) -> u64
     requires is_box { IsBox region.now }
+    requires area { IsAreaOf name.now area.now }
     requires met { is_met region.now name.now ≡ true }
     ensures number { AreKeysUnder name.now bucket.now.rows → number_in region.now bucket.now.rows < 2 ^ 64 → result ≡ number_in region.now bucket.now.rows }
     ensures opened { steps.new ≡ steps.old + (if is_cut region.now name.now then 1 else 0) }
 {
-    if inside(&prefix_names::region(name), region) {
+    if inside(area, region) {
         bucket.count()
     } else {
         count_rows(bucket, region, steps)

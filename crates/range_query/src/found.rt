@@ -6,19 +6,19 @@ ghost use Rattle.plain_list.specs.Answer.{members_in, listed};
 ghost use Rattle.table_share.specs.KeysUnder.{AreKeysUnder, AreAllKeysUnder};
 ghost use Rattle.table_share.specs.Objects.{objects_of};
 ghost use Rattle.table_share.specs.Worlds.{OfEachWorld};
-ghost use Rattle.range_query.specs.Cut.{is_met, leaves_met, below_met, number_in, objects_held};
+ghost use Rattle.range_query.specs.Cut.{IsAreaOf, is_met, leaves_met, below_met, number_in, objects_held};
 ghost use Rattle.range_query.specs.Listing.{IsListing, OnFound};
 
 use crate::ranges::push_all;
 use bucket_versions::Bucket;
 use index_layer::{Below, Index};
 use plain_list::{Answer, PlacedList};
-use prefix_names::{inside, meets};
+use prefix_names::{halves, inside, meets};
 use std::alloc::Global;
 use std::sync::ledger::Ledger;
 use step_count::Steps;
 use table_share::placed;
-use zorder::{Memory, Name, Placed, Region, child};
+use zorder::{Memory, Name, Placed, Region, child, key};
 
 // How many objects the answer to a box may list.
 const MOST_LISTED: u64 = 2_048;
@@ -68,14 +68,9 @@ pub fn found_in<I: Index, L: Ledger>(
     ensures exact { IfOk result (λ answer. OnFound answer (steps.new ≡ steps.old + length (leaves_met region.now (I.leaves index.now)))) }
 {
     let mut found = Listing::new(alloc);
-    list_below(
-        &mut found,
-        index,
-        &Name::whole(),
-        index.top(),
-        region,
-        steps,
-    )?;
+    let (name, place) = index.reach(key(region.lo), key(region.hi));
+    let area = prefix_names::region(&name);
+    list_below(&mut found, index, &name, place, &area, region, steps)?;
     if found.count > MOST_LISTED {
         return Ok(Answer::Many(found.count));
     }
@@ -83,30 +78,33 @@ pub fn found_in<I: Index, L: Ledger>(
     Ok(Answer::Found(PlacedList::from_vec(found.list)))
 }
 
-// The objects below a name, in the order of their keys.
+// The objects below a name, whose region is `area`, in the order of their keys.
 fn list_below<I: Index, L: Ledger>(
     found: &mut Listing,
     index: &I,
     name: &Name,
     place: &I::Place,
+    area: &Region,
     region: &Region,
     steps: &mut Steps<L>,
 ) -> Result<(), Memory>
     requires is_box { IsBox region.now }
     requires at { I.is_at index.now place.now name.now }
+    requires area { IsAreaOf name.now area.now }
     ensures lists { AreAllKeysUnder (I.leaves index.now) → (ms : List Placed) → length ms + length (objects_held region.now (below_met region.now name.now (I.leaves index.now))) < 2 ^ 64 → IsListing ms found.old → OnOk result (IsListing (ms ++ objects_held region.now (below_met region.now name.now (I.leaves index.now))) found.new) }
     ensures grows { found.old.count ≤ found.new.count }
     ensures opened { steps.new ≤ steps.old + length (below_met region.now name.now (I.leaves index.now)) }
     ensures exact { OnOk result (found.new.count ≤ 2048 → steps.new ≡ steps.old + length (below_met region.now name.now (I.leaves index.now))) }
 {
-    if !meets(&prefix_names::region(name), region) {
+    if !meets(area, region) {
         return Ok(());
     }
     match index.below(name, place) {
-        Below::Leaf(bucket) => list_leaf(found, name, bucket, region, steps),
+        Below::Leaf(bucket) => list_leaf(found, name, bucket, area, region, steps),
         Below::Halves { zero, one } => {
-            list_below(found, index, &child(name, false), zero, region, steps)?;
-            list_below(found, index, &child(name, true), one, region, steps)
+            let (low, high) = halves(name, area);
+            list_below(found, index, &child(name, false), zero, &low, region, steps)?;
+            list_below(found, index, &child(name, true), one, &high, region, steps)
         }
     }
 }
@@ -116,16 +114,18 @@ fn list_leaf<L: Ledger>(
     found: &mut Listing,
     name: &Name,
     bucket: &Bucket,
+    area: &Region,
     region: &Region,
     steps: &mut Steps<L>,
 ) -> Result<(), Memory>
-    requires { IsBox region.now }
+    requires is_box { IsBox region.now }
+    requires area { IsAreaOf name.now area.now }
     ensures lists { AreKeysUnder name.now bucket.now.rows → (ms : List Placed) → length ms + number_in region.now bucket.now.rows < 2 ^ 64 → IsListing ms found.old → OnOk result (IsListing (ms ++ members_in region.now (objects_of bucket.now.rows)) found.new) }
     ensures grows { found.old.count ≤ found.new.count }
     ensures opened { steps.new ≤ steps.old + 1 }
     ensures exact { OnOk result (found.new.count ≤ 2048 → steps.new ≡ steps.old + 1) }
 {
-    if inside(&prefix_names::region(name), region) {
+    if inside(area, region) {
         list_all(found, bucket, steps)
     } else {
         list_rows(found, bucket, region, steps)

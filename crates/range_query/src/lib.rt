@@ -2,9 +2,9 @@
 //!
 //! Contracts see an index as its leaves. For each world that they stand for, `range` gives the objects of the world that
 //! are in the box, in the order of their ids, and `count_in` gives their number; `found_in` gives either, as the answer to
-//! a box is to be. All walk down from the top of the index, and pass over a subtree whose region misses the box. `range` and
-//! `found_in` open only the leaves whose region the box meets (`leaves_met`), each once. `count_in` opens only those that it
-//! cuts (`leaves_cut`): one inside the box is counted whole.
+//! a box is to be. All walk down the index, and pass over a subtree whose region misses the box; `found_in` and `count_in`
+//! begin where both corners are below (`met-below`). `range` and `found_in` open only the leaves whose region the box meets
+//! (`leaves_met`), each once. `count_in` opens only those that it cuts (`leaves_cut`): one inside the box is counted whole.
 //!
 //! Not here: what the answer to a box is (`plain_list`).
 #![tactic(auto)]

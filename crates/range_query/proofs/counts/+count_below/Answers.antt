@@ -9,22 +9,30 @@ use Rattle.table_share.proofs.Subtrees.{inner-room, passing-both, passing-leaf, 
 use Rattle.range_query.specs.Cut.{is_met, is_cut, leaves_met, leaves_cut, number_in}
 use Rattle.range_query.proofs.BoxCounts.{count_one, count_two, cut_one}
 use Rattle.range_query.proofs.BoxLeaves.{is_met-narrows, is_cut-narrows, keys_of_leaf}
+use Rattle.range_query.proofs.Reaches.{area-box}
 use Rattle.range_query.proofs.counts.+count_below.Goals as goal
 
 pub returns-then-not-meets-clause-number : goal.returns-then-not-meets-clause-number
 returns-then-not-meets-clause-number g t c under fits =
     let leaves : List Leaf = g.I.Index.leaves c.args.index.now in
     let region = c.args.region.now in
-    let fails : is_met region c.args.name.now ≡ false = sym (c.meets.ensures.test ∙ ap (λ r. meet r region) c.region.ensures.value) ∙ c.if-not-meets.true in
+    let fails : is_met region c.args.name.now ≡ false = sym (c.meets.ensures.test ∙ ap (λ r. meet r region) c.requires.area.is) ∙ c.if-not-meets.true in
     sym (ap (λ (ls : List Leaf). number_in region (all_rows ls)) (subtree-failing (is_met region) (is_met-narrows region c.requires.is_box) c.args.name.now 0 leaves (g.met.I.Index.are_leaves c.args.index.now).tile fails))
 
 pub returns-then-not-meets-clause-opened : goal.returns-then-not-meets-clause-opened
 returns-then-not-meets-clause-opened g t c =
     let leaves : List Leaf = g.I.Index.leaves c.args.index.now in
     let region = c.args.region.now in
-    let fails : is_met region c.args.name.now ≡ false = sym (c.meets.ensures.test ∙ ap (λ r. meet r region) c.region.ensures.value) ∙ c.if-not-meets.true in
+    let fails : is_met region c.args.name.now ≡ false = sym (c.meets.ensures.test ∙ ap (λ r. meet r region) c.requires.area.is) ∙ c.if-not-meets.true in
     let uncut : is_cut region c.args.name.now ≡ false = ap (λ b. b && not (lies_in (region_of c.args.name.now) region)) fails in
     omega (arith, ap length (subtree-failing (is_cut region) (is_cut-narrows region c.requires.is_box) c.args.name.now 0 leaves (g.met.I.Index.are_leaves c.args.index.now).tile uncut))
+
+pub meets-requires-clause-a_box : goal.meets-requires-clause-a_box
+meets-requires-clause-a_box g t c = area-box c.args.name.now c.args.area.now c.requires.area
+
+pub halves-requires-clause-room : goal.halves-requires-clause-room
+halves-requires-clause-room g t c =
+    inner-room c.args.name.now (g.I.Index.leaves c.args.index.now) (g.met.I.Index.are_leaves c.args.index.now).tile c.in-Halves.ensures.0
 
 pub child-requires : goal.child-requires
 child-requires g t c =
@@ -36,7 +44,7 @@ returns-in-Leaf-clause-number g t c under fits =
     let name = c.args.name.now in
     let region = c.args.region.now in
     let b = arc_value c.in-Leaf.bucket.now in
-    let met : is_met region name ≡ true = sym (c.meets.ensures.test ∙ ap (λ r. meet r region) c.region.ensures.value) ∙ c.if-not-meets.false in
+    let met : is_met region name ≡ true = sym (c.meets.ensures.test ∙ ap (λ r. meet r region) c.requires.area.is) ∙ c.if-not-meets.false in
     let one = passing-leaf (is_met region) leaves (g.met.I.Index.are_leaves c.args.index.now).tile name b c.in-Leaf.ensures met in
     let same = count_one region c.deref.result.now.rows (leaves_met region (subtree name leaves)) name b (ap (λ b. b.rows) c.deref.ensures) one in
     c.count_leaf.ensures.number (subst (λ b. AreKeysUnder name b.rows) (sym c.deref.ensures) (keys_of_leaf name b leaves c.in-Leaf.ensures under)) (subst (λ n. n < 2 ^ 64) same fits) ∙ sym same
@@ -58,7 +66,7 @@ returns-in-Halves-clause-number g t c under fits =
     let both = passing-both (is_met region) leaves (g.met.I.Index.are_leaves c.args.index.now).tile name c.child.result c.child-in-Halves.result c.child.ensures c.child-in-Halves.ensures c.in-Halves.ensures.0 c.in-Halves.ensures.1 in
     let sum = count_two region (leaves_met region (subtree name leaves)) (leaves_met region (subtree c.child.result leaves)) (leaves_met region (subtree c.child-in-Halves.result leaves)) both in
     let first = c.count_below-first.ensures.number under (omega (arith, sum, fits)) in
-    let second = c.count_below.ensures.number under (omega (arith, sum, fits)) in
+    let second = c.count_below-second.ensures.number under (omega (arith, sum, fits)) in
     omega (arith, c.saturating_add.ensures, first, second, sum, fits)
 
 pub returns-in-Halves-clause-opened : goal.returns-in-Halves-clause-opened
@@ -66,4 +74,4 @@ returns-in-Halves-clause-opened g t c =
     let leaves : List Leaf = g.I.Index.leaves c.args.index.now in
     let region = c.args.region.now in
     let both = passing-both (is_cut region) leaves (g.met.I.Index.are_leaves c.args.index.now).tile c.args.name.now c.child.result c.child-in-Halves.result c.child.ensures c.child-in-Halves.ensures c.in-Halves.ensures.0 c.in-Halves.ensures.1 in
-    omega (arith, c.count_below-first.ensures.opened, c.count_below.ensures.opened, ap length both, length-append (leaves_cut region (subtree c.child.result leaves)) (leaves_cut region (subtree c.child-in-Halves.result leaves)))
+    omega (arith, c.count_below-first.ensures.opened, c.count_below-second.ensures.opened, ap length both, length-append (leaves_cut region (subtree c.child.result leaves)) (leaves_cut region (subtree c.child-in-Halves.result leaves)))

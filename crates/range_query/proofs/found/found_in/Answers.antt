@@ -1,4 +1,4 @@
-use Rattle.std.proofs.Common.{◌≡◌, ◌∙◌, ◌++◌, ◌+◌, ◌<◌, ◌^◌, [], ap, sym, length, arith, subst, Bool, true, List, rules}
+use Rattle.std.proofs.Common.{◌≡◌, ◌∙◌, [], ap, length, arith, subst, Bool, true, List, rules}
 use Rattle.std.specs.List.Sorted.{IsPermutation}
 use Rattle.std.proofs.lemmas.Fn.{always_returns_same}
 use Rattle.std.proofs.lemmas.List.Sorted.{IsPermutation-trans}
@@ -15,22 +15,19 @@ use Rattle.table_share.specs.Objects.{objects_of}
 use Rattle.table_share.specs.Subtree.{subtree}
 use Rattle.table_share.proofs.LeafRows.{leaves_under}
 use Rattle.table_share.proofs.RowObjects.{objects-permutation}
-use Rattle.table_share.proofs.Subtrees.{subtree-whole}
 use Rattle.table_share.proofs.TableRows.{table_of}
-use Rattle.range_query.specs.Cut.{leaves_met, below_met, objects_held}
-use Rattle.range_query.specs.Listing.{IsListing}
-use Rattle.range_query.specs.declared.found.Listing.{Listing}
+use Rattle.range_query.specs.Cut.{leaves_met, objects_held}
 use Rattle.range_query.proofs.BoxCounts.{number-fits}
 use Rattle.range_query.proofs.BoxLeaves.{held-met}
 use Rattle.range_query.proofs.InOrder.{same_as_rising, IsRising-members_in}
 use Rattle.range_query.proofs.Listings.{listed-many, listed-found}
+use Rattle.range_query.proofs.Reaches.{short-some, met-below}
 use Rattle.range_query.proofs.found.found_in.Goals as goal
 
--- all objects in the box were found below the empty name
-held-whole : (region : Region) → IsBox region → (name : List Bool) → name ≡ [] → (leaves : List Leaf) → tiles_from 0 (names_of leaves) ≡ true → AreAllKeysUnder leaves
-    → objects_held region (below_met region name leaves) ≡ members_in region (objects_of (all_rows leaves))
-held-whole region is_box name whole leaves tile under =
-    ap (λ ls. objects_held region (leaves_met region ls)) (ap (λ n. subtree n leaves) whole ∙ subtree-whole leaves) ∙ held-met region is_box 0 leaves tile under
+-- all objects in the box are found in the leaves that it meets
+held-of : (region : Region) → IsBox region → (below leaves : List Leaf) → leaves_met region below ≡ leaves_met region leaves → tiles_from 0 (names_of leaves) ≡ true → AreAllKeysUnder leaves
+    → objects_held region (leaves_met region below) ≡ members_in region (objects_of (all_rows leaves))
+held-of region is_box below leaves met tile under = ap (objects_held region) met ∙ held-met region is_box 0 leaves tile under
 
 module _ (region : Region) (leaves : List Leaf) (world : List Placed) (names : List (List Bool)) (is_world : IsWorld world) (stands : Stands leaves world names) where
   shuffled : IsPermutation (members_in region world) (members_in region (objects_of (all_rows leaves)))
@@ -38,32 +35,36 @@ module _ (region : Region) (leaves : List Leaf) (world : List Placed) (names : L
       let table = table_of leaves world names stands in
       objects-permutation (λ (m : Placed). has_point region m.at) world (all_rows leaves) is_world.rising is_world.points table.ordered table.has
 
+pub list_below-requires-clause-area : goal.list_below-requires-clause-area
+list_below-requires-clause-area g c = record {
+  is = c.region-area.ensures.value;
+  short = short-some c.reach-name.result.0 (g.I.Index.leaves c.args.index.now) (g.met.I.Index.are_leaves c.args.index.now).tile c.reach-name.ensures.some;
+}
+
 pub returns-in_err-list_below-clause-opened : goal.returns-in_err-list_below-clause-opened
 returns-in_err-list_below-clause-opened g c =
-    let leaves : List Leaf = g.I.Index.leaves c.args.index.now in
-    omega (arith, c.list_below.ensures.opened, ap (λ ls. length (leaves_met c.args.region.now ls)) (ap (λ n. subtree n leaves) c.whole.ensures ∙ subtree-whole leaves))
+    omega (arith, c.list_below.ensures.opened, ap length (met-below c.args.region.now c.requires c.key.result c.key-2.result c.key.ensures.sum c.key.ensures.back c.key-2.ensures.sum c.key-2.ensures.back (g.I.Index.leaves c.args.index.now) (g.met.I.Index.are_leaves c.args.index.now).tile c.reach-name.result.0 c.reach-name.ensures.some c.reach-name.ensures.over))
 
 pub returns-then-found-gt-MOST_LISTED-clause-answer : goal.returns-then-found-gt-MOST_LISTED-clause-answer
 returns-then-found-gt-MOST_LISTED-clause-answer g c world names is_world stands =
     let leaves : List Leaf = g.I.Index.leaves c.args.index.now in
     let region = c.args.region.now in
     let under = leaves_under world leaves stands.rows in
-    let held = held-whole region c.requires c.whole.result c.whole.ensures leaves (g.met.I.Index.are_leaves c.args.index.now).tile under in
+    let held = held-of region c.requires (subtree c.reach-name.result.0 leaves) leaves (met-below c.args.region.now c.requires c.key.result c.key-2.result c.key.ensures.sum c.key.ensures.back c.key-2.ensures.sum c.key-2.ensures.back (g.I.Index.leaves c.args.index.now) (g.met.I.Index.are_leaves c.args.index.now).tile c.reach-name.result.0 c.reach-name.ensures.some c.reach-name.ensures.over) (g.met.I.Index.are_leaves c.args.index.now).tile under in
     let fits = number-fits region leaves world names is_world stands in
     let is = c.in_ok-list_below.ensures.lists under [] (omega (arith, fits, ap length held)) c.new-found.ensures in
     listed-many (members_in region world) (members_in region (objects_of (all_rows leaves))) c.list_below.new.found.count (shuffled region leaves world names is_world stands) (is.0 ∙ ap length held) (omega (arith, c.if-found-gt-MOST_LISTED.true))
 
 pub returns-then-found-gt-MOST_LISTED-clause-opened : goal.returns-then-found-gt-MOST_LISTED-clause-opened
 returns-then-found-gt-MOST_LISTED-clause-opened g c =
-    let leaves : List Leaf = g.I.Index.leaves c.args.index.now in
-    omega (arith, c.list_below.ensures.opened, ap (λ ls. length (leaves_met c.args.region.now ls)) (ap (λ n. subtree n leaves) c.whole.ensures ∙ subtree-whole leaves))
+    omega (arith, c.list_below.ensures.opened, ap length (met-below c.args.region.now c.requires c.key.result c.key-2.result c.key.ensures.sum c.key.ensures.back c.key-2.ensures.sum c.key-2.ensures.back (g.I.Index.leaves c.args.index.now) (g.met.I.Index.are_leaves c.args.index.now).tile c.reach-name.result.0 c.reach-name.ensures.some c.reach-name.ensures.over))
 
 pub returns-clause-answer : goal.returns-clause-answer
 returns-clause-answer g c world names is_world stands =
     let leaves : List Leaf = g.I.Index.leaves c.args.index.now in
     let region = c.args.region.now in
     let under = leaves_under world leaves stands.rows in
-    let held = held-whole region c.requires c.whole.result c.whole.ensures leaves (g.met.I.Index.are_leaves c.args.index.now).tile under in
+    let held = held-of region c.requires (subtree c.reach-name.result.0 leaves) leaves (met-below c.args.region.now c.requires c.key.result c.key-2.result c.key.ensures.sum c.key.ensures.back c.key-2.ensures.sum c.key-2.ensures.back (g.I.Index.leaves c.args.index.now) (g.met.I.Index.are_leaves c.args.index.now).tile c.reach-name.result.0 c.reach-name.ensures.some c.reach-name.ensures.over) (g.met.I.Index.are_leaves c.args.index.now).tile under in
     let fits = number-fits region leaves world names is_world stands in
     let is = c.in_ok-list_below.ensures.lists under [] (omega (arith, fits, ap length held)) c.new-found.ensures in
     let found : c.list_below.new.found.list.items ≡ members_in region (objects_of (all_rows leaves)) = is.1 (omega (arith, is.0, c.if-found-gt-MOST_LISTED.false)) ∙ held in
@@ -77,11 +78,9 @@ returns-clause-answer g c world names is_world stands =
 
 pub returns-clause-opened : goal.returns-clause-opened
 returns-clause-opened g c =
-    let leaves : List Leaf = g.I.Index.leaves c.args.index.now in
-    omega (arith, c.list_below.ensures.opened, ap (λ ls. length (leaves_met c.args.region.now ls)) (ap (λ n. subtree n leaves) c.whole.ensures ∙ subtree-whole leaves))
+    omega (arith, c.list_below.ensures.opened, ap length (met-below c.args.region.now c.requires c.key.result c.key-2.result c.key.ensures.sum c.key.ensures.back c.key-2.ensures.sum c.key-2.ensures.back (g.I.Index.leaves c.args.index.now) (g.met.I.Index.are_leaves c.args.index.now).tile c.reach-name.result.0 c.reach-name.ensures.some c.reach-name.ensures.over))
 
 pub returns-clause-exact : goal.returns-clause-exact
 returns-clause-exact g c =
-    let leaves : List Leaf = g.I.Index.leaves c.args.index.now in
     let exact = c.in_ok-list_below.ensures.exact (omega (arith, c.if-found-gt-MOST_LISTED.false)) in
-    omega (arith, exact, ap (λ ls. length (leaves_met c.args.region.now ls)) (ap (λ n. subtree n leaves) c.whole.ensures ∙ subtree-whole leaves))
+    omega (arith, exact, ap length (met-below c.args.region.now c.requires c.key.result c.key-2.result c.key.ensures.sum c.key.ensures.back c.key-2.ensures.sum c.key-2.ensures.back (g.I.Index.leaves c.args.index.now) (g.met.I.Index.are_leaves c.args.index.now).tile c.reach-name.result.0 c.reach-name.ensures.some c.reach-name.ensures.over))
