@@ -40,7 +40,7 @@ passing-at (b ∷ name) rest (r ∷ sides) s e lt at =
     tail_same : (a b : Bool) (xs ys : List Bool) → a ∷ xs ≡ b ∷ ys → xs ≡ ys
     tail_same a b xs ys e = cc e
 
-reach-halves : (b : Bool) (path : List Bool) (a t : Trie) → reach (b ∷ path) (halves b a t) ≡ reach path t
+pub reach-halves : (b : Bool) (path : List Bool) (a t : Trie) → reach (b ∷ path) (halves b a t) ≡ reach path t
 reach-halves true path a t = refl
 reach-halves false path a t = refl
 

@@ -64,7 +64,7 @@ pub record First (name : List Bool) (t : Trie) : Type 0 where
   pub is : leaves_under name t ≡ leaf ∷ rest
   pub front : IsFront name leaf.name
 
-first : (name : List Bool) (t : Trie) → First name t
+pub first : (name : List Bool) (t : Trie) → First name t
 first name (tip b) = record {
   leaf = leaf_at name b;
   rest = [];

@@ -3,3 +3,4 @@ pub mod Nodes
 pub mod Ways
 pub mod Stems
 pub mod Wholes
+pub mod Walks

@@ -1,7 +1,8 @@
 -- A way from the top of a trie, and what stands beside it.
 use Rattle.std.specs.Prelude.{◌≡◌, Bool, List, [], ◌∷◌, ◌++◌, map, if◌then◌else◌}
 use Rattle.kd_trie.specs.declared.stem.Side.{Side}
-use Rattle.kd_trie.specs.Tries.{Trie, fork}
+use Rattle.std.specs.List.{list_all}
+use Rattle.kd_trie.specs.Tries.{Trie, fork, is_bare}
 use Rattle.kd_trie.specs.Nodes.{seen}
 
 -- the bits of the way
@@ -27,3 +28,7 @@ pub record Passing (name : List Bool) (sides : List Side) (s : Side) : Type 0 wh
   pub back : List Side
   pub is : sides ≡ front ++ s ∷ back
   pub named : name ≡ way_of front
+
+-- whether beside each step there is one leaf, without rows
+abbrev pub all_bare : List Side → Bool
+all_bare sides = list_all (λ (s : Side). is_bare (seen s.node)) sides

@@ -6,6 +6,7 @@ ghost use Rattle.zorder.specs.Bits.{low_bits};
 ghost use Rattle.kd_trie.specs.Tries.{height, name_at, bucket_at, graft, twins};
 ghost use Rattle.kd_trie.specs.Nodes.{seen};
 ghost use Rattle.kd_trie.specs.Ways.{put_way};
+ghost use Rattle.kd_trie.specs.Walks.{Agrees};
 ghost use Rattle.bucket_versions.specs.Told.{Told};
 
 use bucket_versions::{Bucket, Commit, Undone};
@@ -340,5 +341,28 @@ pub(crate) fn leaf_of(node: &Node, key: u64, left: u8) -> (u8, &Arc<Bucket>)
                 leaf_of(&pair.zero, key, left - 1)
             }
         }
+    }
+}
+
+/// Goes down while two keys go on with the same bit: how many of their bits are left there, and the node.
+pub(crate) fn agreed(node: &Node, from: u64, to: u64, left: u8) -> (u8, &Node)
+    requires height { height (seen node.now) ≤ left }
+    requires most { left ≤ 64 }
+    ensures agrees { Agrees from to left result.0 (seen node.now) (seen result.1.now) }
+    ensures rest { result.0 ≤ left }
+{
+    let Node::Inner(pair) = node else {
+        return (left, node);
+    };
+    if next_bit(from, left) {
+        if next_bit(to, left) {
+            agreed(&pair.one, from, to, left - 1)
+        } else {
+            (left, node)
+        }
+    } else if next_bit(to, left) {
+        (left, node)
+    } else {
+        agreed(&pair.zero, from, to, left - 1)
     }
 }

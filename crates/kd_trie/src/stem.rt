@@ -1,10 +1,11 @@
 //! The way from the top of a trie to where it branches, kept as one list in the place of its pairs.
-ghost use Rattle.std.specs.Prelude.{◌≡◌, ◌≤◌, ◌+◌, [], Some, None, length, IfOk, IfSome};
+ghost use Rattle.std.specs.Prelude.{◌≡◌, ◌≤◌, ◌+◌, [], Some, None, true, length, IfOk, IfSome};
 ghost use Rattle.std.specs.Arc.{arc_value};
 ghost use Rattle.zorder.specs.Bits.{low_bits};
-ghost use Rattle.kd_trie.specs.Tries.{Trie, height, name_at, bucket_at};
+ghost use Rattle.kd_trie.specs.Tries.{Trie, height, name_at, bucket_at, is_bare};
 ghost use Rattle.kd_trie.specs.Nodes.{seen};
-ghost use Rattle.kd_trie.specs.Stems.{GoesPast, Passing, way_of, halves, stem_over};
+ghost use Rattle.kd_trie.specs.Stems.{GoesPast, Passing, way_of, halves, stem_over, all_bare};
+ghost use Rattle.kd_trie.specs.Walks.{Narrows};
 ghost use Rattle.index_layer.specs.Part.{goes_on};
 
 use crate::node::{Node, Pair, leaf_of, next_bit};
@@ -22,12 +23,13 @@ pub(crate) struct Side {
     pub(crate) node: Node,
 }
 
-/// A way from the top, as a name, and what stands beside each of its steps.
+/// A way from the top, as a name, and what stands beside each of its steps: leaves without rows.
 #[derive(Drop)]
 pub(crate) struct Stem {
     pub(crate) name: Name,
     pub(crate) aside: Arc<Vec<Side>>,
     ghost named: { name ≡ way_of (arc_value aside).items },
+    ghost bare: { all_bare (arc_value aside).items ≡ true },
 }
 
 impl Stem {
@@ -67,8 +69,8 @@ impl Stem {
     }
 }
 
-// Whether a name begins another one that is longer.
-fn goes_on(name: &Name, long: &Name) -> bool
+/// Whether a name begins another one that is longer.
+pub(crate) fn goes_on(name: &Name, long: &Name) -> bool
     ensures { result ≡ goes_on name.now long.now }
 {
     name.len() < long.len() && begins(name, long.bits())
@@ -122,7 +124,8 @@ pub(crate) fn unwound(alloc: Global, sides: &[Side], root: &Node) -> Result<Node
 /// Where exactly one half is a leaf without rows: the bit that leads to the other half, the leaf, and the other half. Only past
 /// such a leaf does a stem lead, so a change of a row that is there never leads off it.
 pub(crate) fn step(node: &Node) -> Option<(bool, &Node, &Node)>
-    ensures { IfSome result (λ s. seen node.now ≡ halves s.0 (seen s.1.now) (seen s.2.now)) }
+    ensures halves { IfSome result (λ s. seen node.now ≡ halves s.0 (seen s.1.now) (seen s.2.now)) }
+    ensures bare { IfSome result (λ s. is_bare (seen s.1.now) ≡ true) }
 {
     let Node::Inner(pair) = node else {
         return None;
@@ -137,7 +140,9 @@ pub(crate) fn step(node: &Node) -> Option<(bool, &Node, &Node)>
     }
 }
 
-fn is_bare(node: &Node) -> bool {
+fn is_bare(node: &Node) -> bool
+    ensures { result ≡ is_bare (seen node.now) }
+{
     match node {
         Node::Leaf(bucket) => bucket.count() == 0,
         Node::Inner(_) => false,
@@ -152,6 +157,7 @@ pub(crate) fn stretch(
 ) -> Result<Node, AllocError>
     requires { name.old ≡ way_of aside.old.items }
     ensures named { IfOk result (λ _. name.new ≡ way_of aside.new.items) }
+    ensures bare { IfOk result (λ _. all_bare aside.old.items ≡ true → all_bare aside.new.items ≡ true) }
     ensures over { IfOk result (λ n. stem_over aside.new.items (seen n) ≡ stem_over aside.old.items (seen node.now)) }
 {
     if name.len() == 64 {
@@ -164,4 +170,17 @@ pub(crate) fn stretch(
     aside.push(Side { bit, node: leaf })?;
     *name = child(name, bit);
     stretch(name, aside, on)
+}
+
+/// Goes down while exactly one half is a leaf without rows.
+pub(crate) fn narrowed(name: Name, node: &Node) -> (Name, &Node)
+    ensures { Narrows name result.0 (seen node.now) (seen result.1.now) }
+{
+    if name.len() == 64 {
+        return (name, node);
+    }
+    let Some((bit, _leaf, on)) = step(node) else {
+        return (name, node);
+    };
+    narrowed(child(&name, bit), on)
 }

@@ -1,5 +1,5 @@
 //! A trie with its stem, and its changes.
-ghost use Rattle.std.specs.Prelude.{◌≡◌, ◌≤◌, ◌+◌, ℕ, [], Some, length, true, false, IfOk, OnOk, OnErr};
+ghost use Rattle.std.specs.Prelude.{◌≡◌, ◌≤◌, ◌+◌, ℕ, [], Some, length, true, false, IfOk, IfSome, OnOk, OnErr};
 ghost use Rattle.std.specs.Arc.{arc_value};
 ghost use Rattle.zorder.specs.Bits.{low_bits};
 ghost use Rattle.zorder.specs.Key.{is_under};
@@ -7,8 +7,10 @@ ghost use Rattle.bucket_versions.specs.Rows.{has_row, after_put, after_gone};
 ghost use Rattle.bucket_versions.specs.Told.{Told};
 ghost use Rattle.kd_trie.specs.Tries.{height, name_at, bucket_at, put_at, graft, twins, changed_at, rows_at, tip};
 ghost use Rattle.kd_trie.specs.Wholes.{whole};
+ghost use Rattle.kd_trie.specs.Nodes.{seen};
+ghost use Rattle.kd_trie.specs.Walks.{Agrees};
 
-use crate::node::{Node, Way, divide, leaf_of, put, put_two};
+use crate::node::{Node, Way, agreed, divide, leaf_of, put, put_two};
 use crate::rows;
 use crate::stem::{Stem, leaf_past, step, stretch, unwound};
 use bucket_versions::{Bucket, Commit, RowChange, Undone};
@@ -63,6 +65,19 @@ impl Stemmed {
             leaf_of(&self.root, key, 64 - self.stem.name.len())
         } else {
             leaf_past(&self.stem.aside, &self.root, key, 64)
+        }
+    }
+
+    /// Where the ways of two keys under the stem part: how many of their bits are left there, and the node.
+    pub(crate) fn parting(&self, from: u64, to: u64) -> Option<(u8, &Node)>
+        requires { height (whole self.now) ≤ 64 }
+        ensures agrees { IfSome result (λ p. Agrees from to 64 p.0 (whole self.now) (seen p.1.now)) }
+        ensures rest { IfSome result (λ p. p.0 ≤ 64) }
+    {
+        if begins(&self.stem.name, from) && begins(&self.stem.name, to) {
+            Some(agreed(&self.root, from, to, 64 - self.stem.name.len()))
+        } else {
+            None
         }
     }
 

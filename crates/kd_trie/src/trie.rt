@@ -10,6 +10,7 @@ ghost use Rattle.kd_trie.specs.Stems.{GoesPast};
 ghost use Rattle.kd_trie.specs.Wholes.{whole};
 
 use crate::node::Node;
+use crate::stem::{goes_on, narrowed};
 use crate::stemmed::Stemmed;
 use bucket_versions::{AtOnce, Bucket, Commit, RowChange, Undone};
 use index_layer::{Below, Index, IndexFault, Part};
@@ -107,6 +108,23 @@ impl Index for KdTrie {
                 zero: &pair.zero,
                 one: &pair.one,
             },
+        }
+    }
+
+    fn reach<'a>(&'a self, from: u64, to: u64) -> (Name, &'a Node) {
+        let Some((left, node)) = self.tree.parting(from, to) else {
+            return (Name::whole(), &self.tree.root);
+        };
+        (first_bits(from, 64 - left), node)
+    }
+
+    fn narrow<'a>(&'a self, name: Name, place: &'a Node) -> (Name, &'a Node) {
+        let tree = &self.tree;
+        // Beside a stem there are no rows, so a walk may begin where it ends.
+        if goes_on(&name, &tree.stem.name) {
+            narrowed(tree.stem.name, &tree.root)
+        } else {
+            narrowed(name, place)
         }
     }
 

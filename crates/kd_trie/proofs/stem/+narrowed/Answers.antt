@@ -1,0 +1,16 @@
+use Rattle.std.proofs.Common.{List, Bool, subst}
+use Rattle.kd_trie.specs.Nodes.{seen}
+use Rattle.kd_trie.specs.Walks.{Narrows}
+use Rattle.kd_trie.proofs.Walking.{narrows-here, narrows-half}
+use Rattle.kd_trie.proofs.stem.+narrowed.Goals as goal
+
+pub returns-then-len-eq64 : goal.returns-then-len-eq64
+returns-then-len-eq64 t c = narrows-here c.args.name (seen c.args.node.now)
+
+pub returns-in_default : goal.returns-in_default
+returns-in_default t c = narrows-here c.args.name (seen c.args.node.now)
+
+pub returns : goal.returns
+returns t c =
+    narrows-half c.args.name c.narrowed.result.0 c.in-Some.bit (seen c.in-Some._leaf.now) (seen c.in-Some.on.now) (seen c.args.node.now) (seen c.narrowed.result.1.now) c.in-Some.ensures.halves c.in-Some.ensures.bare
+    (subst (λ (n : List Bool). Narrows n c.narrowed.result.0 (seen c.in-Some.on.now) (seen c.narrowed.result.1.now)) c.child.ensures c.narrowed.ensures)
