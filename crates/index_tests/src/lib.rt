@@ -17,3 +17,5 @@ mod queries;
 mod spread;
 #[cfg(test)]
 mod tests;
+#[cfg(test)]
+mod walks;

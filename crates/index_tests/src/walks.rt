@@ -1,0 +1,104 @@
+//! Where walks over an index may begin.
+ghost use Rattle.std.specs.Prelude.{◌≡◌};
+
+use flat_index::FlatIndex;
+use index_build::build;
+use index_layer::{Below, Index};
+use kd_trie::KdTrie;
+use plain_list::{Op, World, after};
+use std::alloc::Global;
+use std::process::Abort;
+use std::test::*;
+use zorder::{Memory, Name, Point, child};
+
+// The keys of the objects: their first bits are 000 and 001.
+const FIRST: u64 = 0;
+
+const SECOND: u64 = 2_305_843_009_213_693_952;
+
+// The first key under 01, where no object is.
+const BESIDE: u64 = 4_611_686_018_427_387_904;
+
+// One at each of the two keys.
+fn two_objects(alloc: Global) -> Result<World, Memory> {
+    let first = Op::Put {
+        id: 4,
+        at: Point { x: 0, y: 0 },
+    };
+    let second = Op::Put {
+        id: 9,
+        at: Point {
+            x: 1_073_741_824,
+            y: 0,
+        },
+    };
+    let world = after(World::empty(alloc), &first).map_err(|_| Memory)?;
+    after(world, &second).map_err(|_| Memory)
+}
+
+fn name_of(bits: &[bool]) -> Name {
+    let mut name = Name::whole();
+    for bit in bits {
+        if name.len() < 64 {
+            name = child(&name, *bit);
+        }
+    }
+    name
+}
+
+// Leaves 000 and 001 with an object each, and 01 and 1 with none.
+fn sparse<I: Index>(alloc: Global) -> Result<I, Memory>
+    requires { I.WIDTH ≡ 1 }
+{
+    let names = [
+        name_of(&[false, false, false]),
+        name_of(&[false, false, true]),
+        name_of(&[false, true]),
+        name_of(&[true]),
+    ];
+    build::<I>(alloc, &two_objects(alloc)?, &names)
+}
+
+fn has_halves<P>(below: Below<'_, P>) -> bool {
+    match below {
+        Below::Leaf(_) => false,
+        Below::Halves { zero: _, one: _ } => true,
+    }
+}
+
+// Where walks between the two objects, at the first one and over all objects begin.
+fn begins_at<I: Index>(
+    rt: &impl Abort,
+    alloc: Global,
+    both: Name,
+    first: Name,
+    all: Name,
+) -> Result<(), Fail>
+    requires { I.WIDTH ≡ 1 }
+{
+    let index = sparse::<I>(alloc)?;
+    let (name, place) = index.reach(FIRST, SECOND);
+    assert!(rt; name == both);
+    assert!(rt; has_halves(index.below(&name, place)));
+    let (name, _) = index.reach(FIRST, FIRST);
+    assert!(rt; name == first);
+    let (name, _) = index.reach(SECOND, BESIDE);
+    assert!(rt; name == Name::whole());
+    let (name, place) = index.narrow(Name::whole(), index.top());
+    assert!(rt; name == all);
+    assert!(rt; has_halves(index.below(&name, place)));
+    Ok(())
+}
+
+#[test]
+fn walks_over_a_flat_index_begin_at_the_top(rt: HostRuntime) -> Result<(), Fail> {
+    let top = Name::whole();
+    begins_at::<FlatIndex>(&rt, rt.alloc(), top, top, top)
+}
+
+#[test]
+fn walks_over_a_trie_begin_where_there_is_something_to_see(rt: HostRuntime) -> Result<(), Fail> {
+    let pair = name_of(&[false, false]);
+    let leaf = name_of(&[false, false, false]);
+    begins_at::<KdTrie>(&rt, rt.alloc(), pair, leaf, pair)
+}
