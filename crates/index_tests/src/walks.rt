@@ -1,5 +1,5 @@
 //! Where walks over an index may begin.
-ghost use Rattle.std.specs.Prelude.{◌≡◌};
+ghost use Rattle.std.specs.Prelude.{◌≡◌, ◌∷◌, [], false, true};
 
 use flat_index::FlatIndex;
 use index_build::build;
@@ -36,26 +36,39 @@ fn two_objects(alloc: Global) -> Result<World, Memory> {
     after(world, &second).map_err(|_| Memory)
 }
 
-fn name_of(bits: &[bool]) -> Name {
-    let mut name = Name::whole();
-    for bit in bits {
-        if name.len() < 64 {
-            name = child(&name, *bit);
-        }
-    }
-    name
+// The names 0, 00, 000 and 001.
+fn half() -> Name
+    ensures { result ≡ false ∷ [] }
+{
+    child(&Name::whole(), false)
+}
+
+fn quarter() -> Name
+    ensures { result ≡ false ∷ false ∷ [] }
+{
+    child(&half(), false)
+}
+
+fn first_eighth() -> Name
+    ensures { result ≡ false ∷ false ∷ false ∷ [] }
+{
+    child(&quarter(), false)
+}
+
+fn second_eighth() -> Name
+    ensures { result ≡ false ∷ false ∷ true ∷ [] }
+{
+    child(&quarter(), true)
 }
 
 // Leaves 000 and 001 with an object each, and 01 and 1 with none.
 fn sparse<I: Index>(alloc: Global) -> Result<I, Memory>
     requires { I.WIDTH ≡ 1 }
 {
-    let names = [
-        name_of(&[false, false, false]),
-        name_of(&[false, false, true]),
-        name_of(&[false, true]),
-        name_of(&[true]),
-    ];
+    let (first, second) = (first_eighth(), second_eighth());
+    let beside = child(&half(), true);
+    let behind = child(&Name::whole(), true);
+    let names = [first, second, beside, behind];
     build::<I>(alloc, &two_objects(alloc)?, &names)
 }
 
@@ -98,7 +111,5 @@ fn walks_over_a_flat_index_begin_at_the_top(rt: HostRuntime) -> Result<(), Fail>
 
 #[test]
 fn walks_over_a_trie_begin_where_there_is_something_to_see(rt: HostRuntime) -> Result<(), Fail> {
-    let pair = name_of(&[false, false]);
-    let leaf = name_of(&[false, false, false]);
-    begins_at::<KdTrie>(&rt, rt.alloc(), pair, leaf, pair)
+    begins_at::<KdTrie>(&rt, rt.alloc(), quarter(), first_eighth(), quarter())
 }
