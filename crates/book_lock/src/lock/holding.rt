@@ -58,6 +58,11 @@ impl<V: Held> BookLock<V> {
         }
     }
 
+    /// Wakes one who sleeps or naps, if there is one: for a caller that won't come back soon.
+    pub fn rouse(&self) {
+        self.table.shared.wake_one(1);
+    }
+
     /// Waits until the lock is free, and takes it with the value. Nobody else can add to the history until the lock is
     /// given back.
     pub fn take<R: Wait>(&self, rt: &R, pass: &mut Pass<V>) -> V

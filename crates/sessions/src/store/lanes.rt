@@ -135,12 +135,13 @@ impl<I: Index, D: LogDisk, O: Start> Store<I, D, O> {
         }
     }
 
-    // Plays one lane.
+    // Plays one lane, and lets another one go on.
     fn play_lane<R: Wait, G: Gate>(&self, rt: &R, alloc: Global, lane: &mut Lane<I, D, O>, gate: &G)
         requires ready { IsReady self.now lane.old }
         ensures { Plays I.WIDTH lane.old lane.new }
     {
         self.play_rows::<R, G, Brand>(rt, alloc, lane, gate, Blank::new(1));
+        self.lock.rouse();
     }
 }
 
