@@ -18,7 +18,7 @@
 --sessions N     rows of so many sessions, 1 to 16 (default 16); mdloc over a log only beside peers of log
 
 Answers are compared byte by byte with the plain list's at full size; those of sessions are played
-again in the order of their places.
+again in the order of their places. Redis is approximate: its answers are told by how far they overlap.
 """
 import argparse
 import collections
@@ -31,6 +31,7 @@ import pathlib
 import shlex
 import shutil
 import signal
+import socket
 import subprocess
 import sys
 import tempfile
@@ -40,15 +41,20 @@ import gen
 import oracle
 
 HERE = pathlib.Path(__file__).resolve().parent
-Peer = collections.namedtuple('Peer', 'group words exact what')
-# words: {bin} programs, {store} a fresh path in {disk}, {changes} of the input. exact: 'yes', or 'floor' (no peer, only device calls).
+Peer = collections.namedtuple('Peer', 'group words exact what server', defaults=[None])
+# words: {bin} programs, {store} a fresh path in {disk}, {changes} of the input, {port} of the server. exact: 'yes', 'approx' (told by
+# overlap), or 'floor' (no peer, only device calls). server: the words of one that is up for this peer's run alone.
+REDIS = 'redis-server --port {port} --bind 127.0.0.1 --dir {store} --loglevel warning --save'.split() + ['']  # no snapshots
+AOF = REDIS + '--appendonly yes --appendfsync always --auto-aof-rewrite-percentage 0'.split()
 PEERS = {
     'list': Peer('oracle', '{bin}/list', 'yes', 'plain list, linear scans'),
     'grid': Peer('mem', '{bin}/grid', 'yes', 'uniform grid + hash map'),
     'trie': Peer('mem', '{bin}/trie', 'yes', "mdloc's own design in plain C++ + hash map"),
     'rstar': Peer('mem', '{bin}/rstar', 'yes', 'Boost R*-tree + hash map'),
     'nanoflann': Peer('mem', '{bin}/nanoflann', 'yes', 'nanoflann dynamic forest'),
+    'spatialindex': Peer('mem', '{bin}/spatialindex', 'yes', 'libspatialindex R-tree'),
     'sqlite-mem': Peer('mem', '{bin}/sqlite', 'yes', 'SQLite R*Tree, :memory:'),
+    'redis-pipe': Peer('mem', '{bin}/redis {port} 256', 'approx', 'Redis GEO, 256 rows ahead', REDIS),
     'trie-16': Peer('mem16', '{bin}/trie-16', 'yes', 'trie, reader-writer lock, 16 threads'),
     'rstar-16': Peer('mem16', '{bin}/rstar-16', 'yes', 'Boost R*-tree, reader-writer lock, 16 threads'),
     'log-2-syncs': Peer('log', '{bin}/devcalls {disk} {changes} 0', 'floor', "the log's four device calls alone"),
@@ -56,9 +62,81 @@ PEERS = {
     'rocksdb': Peer('log', '{bin}/rocksdb {store}', 'yes', 'RocksDB Z-order, sync'),
     'lmdb': Peer('log', '{bin}/lmdb {store}', 'yes', 'LMDB Z-order, sync'),
     'sqlite-wal': Peer('log', '{bin}/sqlite {store}', 'yes', 'SQLite R*Tree, WAL, FULL'),
+    'redis-aof': Peer('log', '{bin}/redis {port} 1', 'approx', 'Redis GEO, appendfsync always', AOF),
 }
 GROUPS = ('mem', 'mem16', 'log')
 LIMIT = 60  # seconds for one run
+
+
+def free_port():
+    with socket.socket() as s:
+        s.bind(('127.0.0.1', 0))
+        return s.getsockname()[1]
+
+
+def listens(port):
+    """Whether a Redis server there answers, so that it has read its log."""
+    try:
+        with socket.create_connection(('127.0.0.1', port), 1) as s:
+            s.sendall(b'PING\r\n')
+            return s.recv(16).startswith(b'+PONG')
+    except OSError:
+        return False
+
+
+@contextlib.contextmanager
+def serving(words, port, messages):
+    """Starts a server and gives its process once it answers, or None where it doesn't; ends it, and no other, in the end."""
+    with open(messages, 'w') as to:
+        process = subprocess.Popen([str(w) for w in words], stdin=subprocess.DEVNULL, stdout=to, stderr=to)
+    try:
+        end = time.monotonic() + 15
+        up = False
+        while not up and process.poll() is None and time.monotonic() < end:
+            up = listens(port)
+            time.sleep(.01)
+        yield process if up and process.poll() is None else None
+    finally:
+        process.terminate()
+        try:
+            process.wait(20)
+        except subprocess.TimeoutExpired:
+            process.kill()
+            process.wait()
+
+
+def processor_time(process):
+    """Seconds of all its threads, by the clock that clock_getcpuclockid(3) names."""
+    return time.clock_gettime(~process.pid << 3 | 2)
+
+
+def most_memory(process):
+    """The most memory that it held, in MB."""
+    lines = pathlib.Path(f'/proc/{process.pid}/status').read_text().splitlines()
+    return next(int(l.split()[1]) for l in lines if l.startswith('VmHWM:')) // 1024
+
+
+def by_id(row):
+    return row.split(',', 2)[1] not in ('box', 'near')
+
+
+def overlap(csv, expected, out):
+    """How far approximate answers are from the expected ones. Rows by id must agree on whether the object is there."""
+    want, have = ([l.split(',')[2:] for l in pathlib.Path(f).read_text().splitlines()[1:]] for f in (expected, out))
+    if len(want) != len(have):
+        return 'WRONG: lines'
+    shares, off = {'box': [], 'near': []}, 0
+    for row, a, b in zip(csv.read_text().splitlines()[1:], want, have):
+        if not by_id(row):
+            p, q = ({e.split(':')[0] for e in t[1].split(';') if e} for t in (a, b))
+            if a[0] == b[0] == 'found':
+                shares[row.split(',')[1]].append(len(p & q) / len(p | q) if p or q else 1)
+        elif a[0] != b[0]:
+            return 'WRONG: ' + row
+        elif a[1]:
+            off = max(off, *(abs(int(s) - int(t)) for s, t in zip(a[1].split(':'), b[1].split(':'))))
+    means = [f'{k} {sum(v) / len(v):.3f}' for k, v in shares.items() if v]
+    return ' '.join(['approximate:'] + means + [f'off {off}'])
 
 
 class Bench:
@@ -128,11 +206,26 @@ class Bench:
                 time.sleep(3)
         return False
 
-    def words(self, peer, fresh=True):
-        store = self.disk / f'store-{peer}-{os.getpid()}'
+    def play(self, peer, csv, out, fresh=True):
+        """One run of a peer, on a new store or on the one that it left. A server's processor time and memory count with its client's."""
         if fresh:
             self.clean(peer)
-        return [w.format(bin=self.bin, store=store, disk=self.disk, changes=self.changes) for w in PEERS[peer].words.split()]
+        store = self.disk / f'store-{peer}-{os.getpid()}'
+        fill = lambda words, port=0: [w.format(bin=self.bin, store=store, disk=self.disk, changes=self.changes, port=port) for w in words]
+        words, server = PEERS[peer].words.split(), PEERS[peer].server
+        if not server:
+            return self.run(fill(words), csv, out)
+        store.mkdir(exist_ok=True)
+        port = free_port()
+        with serving(fill(server, port), port, store / 'messages') as process:
+            if not process:
+                return dict(fault='no server: ' + (store / 'messages').read_text().strip()[-200:])
+            before = processor_time(process)
+            r = self.run(fill(words, port), csv, out)
+            if 'fault' not in r:
+                r['cpu'] += processor_time(process) - before
+                r['rss'] += most_memory(process)
+            return r
 
     def clean(self, peer):
         for f in self.disk.glob(f'store-{peer}-{os.getpid()}*'):
@@ -161,6 +254,8 @@ class Bench:
     def compare(self, exact, csv, out):
         if exact == 'floor':
             return 'no answers'
+        if exact == 'approx':
+            return overlap(csv, self.expected(csv), out)
         if filecmp.cmp(self.expected(csv), out, shallow=False):
             return 'exact'
         return self.replayed(csv, out)
@@ -226,7 +321,8 @@ class Bench:
             if n not in PEERS and n not in GROUPS:
                 sys.exit(f'no peer {n}: {" ".join(PEERS)}')
         some = [n for n, p in PEERS.items() if n in names or p.group in names]
-        there = [n for n in some if (self.bin / PEERS[n].words.split()[0][6:]).exists()]
+        there = [n for n in some if (self.bin / PEERS[n].words.split()[0][6:]).exists()
+                 and (not PEERS[n].server or shutil.which(PEERS[n].server[0]))]
         if there != some:
             print('not installed:', *(n for n in some if n not in there))
         return there
@@ -256,7 +352,7 @@ class Bench:
                     r['load'] = l.get('wall', math.nan)
                     r['rest'] = r['wall'] - r['load']
             else:
-                r = self.run(self.words(job), csv, out)
+                r = self.play(job, csv, out)
             if 'fault' in r:
                 notes[job] = r['fault']
                 return None
@@ -343,7 +439,7 @@ class Bench:
                 if name in ('ties', 'ends', 'far', 'empty') and not ours and 'sessions' in PEERS[job].words:
                     continue  # sessions share ids there, and these peers tell no places
                 out = self.out / 'out'
-                r = self.mdloc(job == 'mdloc-log', f, out) if ours else self.run(self.words(job), f, out)
+                r = self.mdloc(job == 'mdloc-log', f, out) if ours else self.play(job, f, out)
                 note = r.get('fault') or self.compare('yes' if ours else PEERS[job].exact, f, out)
                 if job == 'list' and note != 'exact':
                     note = 'WRONG: ' + note
@@ -360,7 +456,7 @@ class Bench:
                             r = self.mdloc(True, f, self.out / 'out') if first else self.run(
                                 self.mdloc_words + ['play', self.disk / f'store-mdloc-{os.getpid()}'], f, self.out / 'out')
                         else:
-                            r = self.run(self.words(job, first), f, self.out / 'out')
+                            r = self.play(job, f, self.out / 'out', first)
                         if 'fault' in r:
                             told['reopened ' + name] = r['fault']
                         lines = [l.split(',', 2) for l in (self.out / 'out').read_text().splitlines()[1:]]
@@ -369,9 +465,12 @@ class Bench:
                         else:
                             got += [(r, l[2]) for r, l in zip(part, lines)]
                     want = [l.split(',', 2)[2] for l in oracle.answers([r for r, _ in got])]
-                    told['reopened ' + name] = 'exact' if want == [a for _, a in got] else 'WRONG: after reopening'
+                    have = [a for _, a in got]
+                    if not ours and PEERS[job].exact == 'approx':  # whether the object is there, of rows by id
+                        want, have = ([a.split(',')[0] for (r, _), a in zip(got, v) if by_id(r)] for v in (want, have))
+                    told['reopened ' + name] = 'exact' if want == have else 'WRONG: after reopening'
             self.clean('mdloc' if ours else job)
-            bad = {n: t for n, t in told.items() if not t.startswith('exact')}
+            bad = {n: t for n, t in told.items() if not t.startswith(('exact', 'approximate'))}
             good = good and not bad
             kinds = sorted({t for t in told.values()}) if not bad else []
             note = '; '.join(f'{n}: {t}' for n, t in bad.items()) or f'{len(told)} inputs: ' + ', '.join(kinds)
@@ -389,7 +488,7 @@ class Bench:
             for n in sizes:
                 csv = self.input(f'growth-{n}-{self.args.seed}', lambda: gen.growth(n, kinds, ops, self.args.seed))
                 for rep in range(self.args.reps or (1 if PEERS[job].group == 'log' else 3)):
-                    r = self.run(self.words(job), csv, self.out / 'out')
+                    r = self.play(job, csv, self.out / 'out')
                     if 'fault' in r:
                         break
                     for k, v in r['kinds'].items():

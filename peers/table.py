@@ -1,17 +1,20 @@
 #!/usr/bin/env python3
 """Tables in Markdown from the lines that run.py --json wrote: python3 table.py ONE SIXTEEN [DURABLE]
 
-ONE has runs of --sessions 1, SIXTEEN those of 16 sessions; the peers are taken from ONE. Of several runs of a program, profile
-and size the best counts. In memory it is processor time in milliseconds, which a busy machine changes less than the time on the
-clock; over a log, where most of it is waiting, milliseconds on the clock, without a program's start and end."""
+ONE has runs of --sessions 1, SIXTEEN those of 16 sessions beside the peers with threads. Of several runs of a program, profile
+and size the best counts. One session in memory is processor time in milliseconds, a server's with its client's, which a busy
+machine changes less than the time on the clock; 16 sessions, and a log, where most of it is waiting, are milliseconds on the
+clock, without a program's start and end."""
 import json
 import sys
 
 import gen
 
-MEMORY = [('grid', 'grid'), ('trie', 'C++ trie'), ('rstar', 'R*-tree'), ('nanoflann', 'nanoflann'), ('sqlite-mem', 'SQLite')]
+MEMORY = [('trie', 'C++ trie'), ('grid', 'grid'), ('rstar', 'R*-tree'), ('nanoflann', 'nanoflann'),
+          ('spatialindex', 'libspatialindex'), ('sqlite-mem', 'SQLite'), ('redis-pipe', 'Redis')]
+THREADS = [('trie-16', 'C++ trie'), ('rstar-16', 'R*-tree')]
 DURABLE = [('log-2-syncs', 'four device calls alone'), ('trie-wal', 'C++ trie + log'), ('rocksdb', 'RocksDB'), ('lmdb', 'LMDB'),
-           ('sqlite-wal', 'SQLite')]
+           ('sqlite-wal', 'SQLite'), ('redis-aof', 'Redis')]
 
 
 def best(name):
@@ -42,10 +45,12 @@ def table(head, rows):
 
 def in_memory(one, sixteen):
     sizes = sorted({key[1] for key in one})
-    table(['Profile', 'Rows', 'this, one session', 'this, 16 sessions'] + [name for _, name in MEMORY],
-          [[profile, f'{rows:,}', number(one.get((profile, rows, 'mdloc'))), number(sixteen.get((profile, rows, 'mdloc')))]
-           + [number(one.get((profile, rows, peer))) for peer, _ in MEMORY]
+    table(['Profile', 'Rows', 'this, one session'] + [name for _, name in MEMORY],
+          [[profile, f'{rows:,}'] + [number(one.get((profile, rows, peer))) for peer, _ in [('mdloc', '')] + MEMORY]
            for profile in gen.PROFILES for rows in sizes if (profile, rows, 'mdloc') in one])
+    table(['Profile, 16 sessions', 'Rows', 'this'] + [name for _, name in THREADS],
+          [[profile, f'{rows:,}'] + [number(sixteen.get((profile, rows, peer)), 'net') for peer, _ in [('mdloc', '')] + THREADS]
+           for profile in gen.PROFILES for rows in sizes if (profile, rows, 'mdloc') in sixteen])
     most = sizes[-1]
     table(['Profile, memory in MB', 'this, one session', 'this, 16 sessions'] + [name for _, name in MEMORY],
           [[profile] + [number(runs.get((profile, most, peer)), 'rss', 1) if runs.get((profile, most, peer)) else ''
