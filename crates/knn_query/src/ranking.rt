@@ -1,5 +1,5 @@
 //! Objects in the order of their distance to a point.
-ghost use Rattle.std.specs.Prelude.{◌≡◌, ◌≤◌, ◌<◌, ◌+◌, [], take, IfOk, OnOk, length};
+ghost use Rattle.std.specs.Prelude.{◌≡◌, ◌≤◌, ◌<◌, ◌+◌, ◌∷◌, [], take, IfOk, OnOk, length};
 ghost use Rattle.plain_list.specs.Answer.{ranked};
 ghost use Rattle.table_share.specs.Objects.{objects_of};
 ghost use Rattle.table_share.specs.Worlds.{OfEachWorld};
@@ -16,6 +16,9 @@ use std::sync::ledger::Ledger;
 use step_count::Steps;
 use table_share::placed;
 use zorder::{Memory, Name, Point};
+
+// As many subtrees as are mostly ahead at once.
+const MANY_AHEAD: usize = 32;
 
 /// The first `k` objects, or all where there are fewer, the nearest first, and of two as near the one with the lesser id.
 /// Each bucket that it opens is a step. It is a best-first search (Hjaltason and Samet, "Distance Browsing in Spatial
@@ -55,11 +58,9 @@ fn keep_nearest<I: Index, L: Ledger>(
     ensures near { OfEachWorld (I.leaves index.now) (OpensNear kept.from kept.k (I.leaves index.now) steps.old steps.new) }
     ensures some { IfOk result (λ new. (steps.old ≤ steps.new) × (steps.new ≡ steps.old → held new ≡ [])) }
 {
-    let mut ahead = Vec::new(alloc);
-    let mut places = Vec::new(alloc);
     let (name, place) = index.narrow(Name::whole(), index.top());
-    ahead.push(Ahead::at(name, kept.from))?;
-    places.push(place)?;
+    let mut ahead = first_of_many(alloc, Ahead::at(name, kept.from))?;
+    let mut places = first_of_many(alloc, place)?;
     while let Some((number, next)) = take_nearest(&mut ahead) {
         match index.below(&next.name, places.remove(number)) {
             Below::Leaf(bucket) => {
@@ -78,6 +79,15 @@ fn keep_nearest<I: Index, L: Ledger>(
         }
     }
     Ok(kept)
+}
+
+// A list of one, with room for as many as are mostly ahead at once.
+fn first_of_many<T: Drop>(alloc: Global, first: T) -> Result<Vec<T>, AllocError>
+    ensures { IfOk result (λ all. all.items ≡ first ∷ []) }
+{
+    let mut all = Vec::with_capacity(alloc, MANY_AHEAD)?;
+    all.push(first)?;
+    Ok(all)
 }
 
 // Adds the objects of a bucket.

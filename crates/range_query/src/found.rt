@@ -23,6 +23,9 @@ use zorder::{Memory, Name, Placed, Region, child, key};
 // How many objects the answer to a box may list.
 const MOST_LISTED: u64 = 2_048;
 
+// Room for so many is taken before the first.
+const FEW_FOUND: usize = 32;
+
 // What was found so far. Once there are too many to be listed, only their number goes on.
 #[derive(Drop)]
 struct Listing {
@@ -31,13 +34,13 @@ struct Listing {
 }
 
 impl Listing {
-    fn new(alloc: Global) -> Listing
-        ensures { IsListing [] result }
+    fn new(alloc: Global) -> Result<Listing, Memory>
+        ensures { IfOk result (IsListing []) }
     {
-        Listing {
-            list: Vec::new(alloc),
+        Ok(Listing {
+            list: Vec::with_capacity(alloc, FEW_FOUND)?,
             count: 0,
-        }
+        })
     }
 
     fn add(&mut self, m: Placed) -> Result<(), Memory>
@@ -67,7 +70,7 @@ pub fn found_in<I: Index, L: Ledger>(
     ensures opened { steps.new ≤ steps.old + length (leaves_met region.now (I.leaves index.now)) }
     ensures exact { IfOk result (λ answer. OnFound answer (steps.new ≡ steps.old + length (leaves_met region.now (I.leaves index.now)))) }
 {
-    let mut found = Listing::new(alloc);
+    let mut found = Listing::new(alloc)?;
     let (name, place) = index.reach(key(region.lo), key(region.hi));
     let area = prefix_names::region(&name);
     list_below(&mut found, index, &name, place, &area, region, steps)?;

@@ -1,4 +1,4 @@
-use Rattle.std.proofs.Common.{◌≡◌, ◌<◌, ◌≤◌, ◌+◌, ◌∷◌, ◌++◌, ◌∙◌, [], ℕ, List, true, false, sym, ap, subst, arith}
+use Rattle.std.proofs.Common.{◌≡◌, ◌<◌, ◌≤◌, ◌+◌, ◌∷◌, ◌++◌, ◌∙◌, [], ℕ, List, true, false, sym, subst, arith}
 use Rattle.std.specs.Prelude.{nat_le}
 use Rattle.std.specs.Arc.{arc_value}
 use Rattle.std.proofs.lemmas.Bool.{leb-true, leb-false}
@@ -24,12 +24,12 @@ loop-number-init g c =
     let name = c.narrow-name.result.0 in
     let named : c.at.result.name ≡ name = c.at.ensures.name in
     let passed : PassesBare [] c.at.result.name leaves = subst (λ n. PassesBare [] n leaves) (sym named) (subst (λ n. PassesBare n name leaves) c.whole.ensures c.narrow-name.ensures.passed) in (
-      subst (λ (xs : List Ahead). State p k leaves c.args.steps.now c.args.steps.now xs c.args.kept) (sym (c.in_ok-push.ensures.items ∙ ap (λ (xs : List Ahead). xs ++ c.at.result ∷ []) c.new-ahead.ensures.items))
+      subst (λ (xs : List Ahead). State p k leaves c.args.steps.now c.args.steps.now xs c.args.kept) (sym c.in_ok-ahead.ensures)
           (begins-state p k leaves c.args.steps.now c.at.result c.args.kept c.requires.empty passed c.at.ensures.ahead),
       omega arith,
-      subst (λ (xs : List Ahead). AreAt is_at xs c.push-2.new.self.items) (sym (c.in_ok-push.ensures.items ∙ ap (λ (xs : List Ahead). xs ++ c.at.result ∷ []) c.new-ahead.ensures.items))
-          (subst (λ ps. AreAt is_at (c.at.result ∷ []) ps) (sym (c.in_ok-push-2.ensures.items ∙ ap (λ ps. ps ++ c.narrow-name.result.1 ∷ []) c.new-places.ensures.items)) (subst (is_at c.narrow-name.result.1.now) (sym named) c.narrow-name.ensures.at, tt)),
-      subst IsFarFirst (sym (c.in_ok-push.ensures.items ∙ ap (λ (xs : List Ahead). xs ++ c.at.result ∷ []) c.new-ahead.ensures.items)) (All-nil (λ (b : Ahead). b.least ≤ c.at.result.least), tt),
+      subst (λ (xs : List Ahead). AreAt is_at xs c.in_ok-places.places.items) (sym c.in_ok-ahead.ensures)
+          (subst (λ ps. AreAt is_at (c.at.result ∷ []) ps) (sym c.in_ok-places.ensures) (subst (is_at c.narrow-name.result.1.now) (sym named) c.narrow-name.ensures.at, tt)),
+      subst IsFarFirst (sym c.in_ok-ahead.ensures) (All-nil (λ (b : Ahead). b.least ≤ c.at.result.least), tt),
     )
 
 pub returns-then-has_nearer-clause-keeps : goal.returns-then-has_nearer-clause-keeps

@@ -52,7 +52,7 @@ returns-then-found-gt-MOST_LISTED-clause-answer g c world names is_world stands 
     let under = leaves_under world leaves stands.rows in
     let held = held-of region c.requires (subtree c.reach-name.result.0 leaves) leaves (met-below c.args.region.now c.requires c.key.result c.key-2.result c.key.ensures.sum c.key.ensures.back c.key-2.ensures.sum c.key-2.ensures.back (g.I.Index.leaves c.args.index.now) (g.met.I.Index.are_leaves c.args.index.now).tile c.reach-name.result.0 c.reach-name.ensures.some c.reach-name.ensures.over) (g.met.I.Index.are_leaves c.args.index.now).tile under in
     let fits = number-fits region leaves world names is_world stands in
-    let is = c.in_ok-list_below.ensures.lists under [] (omega (arith, fits, ap length held)) c.new-found.ensures in
+    let is = c.in_ok-list_below.ensures.lists under [] (omega (arith, fits, ap length held)) c.in_ok-found.ensures in
     listed-many (members_in region world) (members_in region (objects_of (all_rows leaves))) c.list_below.new.found.count (shuffled region leaves world names is_world stands) (is.0 ∙ ap length held) (omega (arith, c.if-found-gt-MOST_LISTED.true))
 
 pub returns-then-found-gt-MOST_LISTED-clause-opened : goal.returns-then-found-gt-MOST_LISTED-clause-opened
@@ -66,7 +66,7 @@ returns-clause-answer g c world names is_world stands =
     let under = leaves_under world leaves stands.rows in
     let held = held-of region c.requires (subtree c.reach-name.result.0 leaves) leaves (met-below c.args.region.now c.requires c.key.result c.key-2.result c.key.ensures.sum c.key.ensures.back c.key-2.ensures.sum c.key-2.ensures.back (g.I.Index.leaves c.args.index.now) (g.met.I.Index.are_leaves c.args.index.now).tile c.reach-name.result.0 c.reach-name.ensures.some c.reach-name.ensures.over) (g.met.I.Index.are_leaves c.args.index.now).tile under in
     let fits = number-fits region leaves world names is_world stands in
-    let is = c.in_ok-list_below.ensures.lists under [] (omega (arith, fits, ap length held)) c.new-found.ensures in
+    let is = c.in_ok-list_below.ensures.lists under [] (omega (arith, fits, ap length held)) c.in_ok-found.ensures in
     let found : c.list_below.new.found.list.items ≡ members_in region (objects_of (all_rows leaves)) = is.1 (omega (arith, is.0, c.if-found-gt-MOST_LISTED.false)) ∙ held in
     let ys : List Placed = c.sort_unstable_by_key.new.self.items in
     let moved = shuffled region leaves world names is_world stands in
