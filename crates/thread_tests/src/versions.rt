@@ -1,5 +1,5 @@
 //! A box beside another session's puts, over an index whose versions have numbers.
-ghost use Rattle.std.specs.Prelude.{◌≡◌, ◌≤◌, [], false};
+ghost use Rattle.std.specs.Prelude.{◌≡◌, ◌≤◌, []};
 ghost use Rattle.plain_list.specs.Answer.{IsValid};
 ghost use Rattle.plain_list.specs.World.{IsWorld};
 ghost use Rattle.thread_tests.specs.Passes.{IsFree, KeepsPass};
@@ -47,6 +47,10 @@ const BOX: Region = Region {
     hi: Point { x: 9, y: 9 },
 };
 
+type NumberedStore = Store<Numbered<FlatIndex>, MemDisk, Brand>;
+
+type NumberedPass = Pass<SharedBook<Numbered<FlatIndex>, MemDisk, Brand>>;
+
 fn call<I: Index, D: LogDisk, L: Ledger, R: Wait, G: Gate>(
     rt: &R,
     alloc: Global,
@@ -72,10 +76,10 @@ fn put<I: Index, D: LogDisk, R: Wait, G: Gate>(
     rt: &R,
     alloc: Global,
     store: &Store<I, D, Brand>,
-    pass: &mut Pass<SharedBook<I, D, Brand>>,
+    gate: &G,
     session: u8,
     object: Placed,
-    gate: &G,
+    pass: &mut Pass<SharedBook<I, D, Brand>>,
 )
     requires { IsFree store.now pass.old }
     ensures { KeepsPass pass.old pass.new }
@@ -89,22 +93,22 @@ fn puts<I: Index, D: LogDisk, R: Wait, G: Gate>(
     rt: &R,
     alloc: Global,
     store: &Store<I, D, Brand>,
-    pass: &mut Pass<SharedBook<I, D, Brand>>,
     gate: &G,
+    pass: &mut Pass<SharedBook<I, D, Brand>>,
 )
     requires { IsFree store.now pass.old }
     ensures { KeepsPass pass.old pass.new }
 {
-    put(rt, alloc, store, pass, 2, OUTSIDE, gate);
-    put(rt, alloc, store, pass, 2, INSIDE, gate);
+    put(rt, alloc, store, gate, 2, OUTSIDE, pass);
+    put(rt, alloc, store, gate, 2, INSIDE, pass);
 }
 
 fn ask<I: Index, D: LogDisk, R: Wait, G: Gate>(
     rt: &R,
     alloc: Global,
     store: &Store<I, D, Brand>,
-    pass: &mut Pass<SharedBook<I, D, Brand>>,
     gate: &G,
+    pass: &mut Pass<SharedBook<I, D, Brand>>,
 ) -> Result<Done, CallFault>
     requires { IsFree store.now pass.old }
     ensures { KeepsPass pass.old pass.new }
@@ -114,13 +118,13 @@ fn ask<I: Index, D: LogDisk, R: Wait, G: Gate>(
 }
 
 // The answer to the box of session 1, with the puts of session 2 in a thread of their own.
-fn ask_beside<I: Index + Send, D: LogDisk + Send, R: Threads + Wait + Sync, G: Gate + Sync>(
+fn ask_beside<R: Threads + Wait + Sync, G: Gate + Sync>(
     rt: &R,
     alloc: Global,
-    store: &Store<I, D, Brand>,
-    one: &mut Pass<SharedBook<I, D, Brand>>,
-    two: &mut Pass<SharedBook<I, D, Brand>>,
+    store: &NumberedStore,
     gate: &G,
+    one: &mut NumberedPass,
+    two: &mut NumberedPass,
 ) -> Result<Done, CallFault>
     requires { IsFree store.now one.old × IsFree store.now two.old }
     ensures { KeepsPass one.old one.new × KeepsPass two.old two.new }
@@ -130,11 +134,11 @@ fn ask_beside<I: Index + Send, D: LogDisk + Send, R: Threads + Wait + Sync, G: G
         &mut ||
             requires { IsFree store.now two.now }
             ensures { KeepsPass two.entry.now two.exit.now }
-        { puts(rt, alloc, store, two, gate) },
+        { puts(rt, alloc, store, gate, two) },
         &mut || -> Result<Done, CallFault>
             requires { IsFree store.now one.now }
             ensures { KeepsPass one.entry.now one.exit.now }
-        { ask(rt, alloc, store, one, gate) },
+        { ask(rt, alloc, store, gate, one) },
     );
     answer
 }
@@ -144,25 +148,25 @@ fn ask_before<I: Index, D: LogDisk, R: Wait, G: Gate>(
     rt: &R,
     alloc: Global,
     store: &Store<I, D, Brand>,
+    gate: &G,
     one: &mut Pass<SharedBook<I, D, Brand>>,
     two: &mut Pass<SharedBook<I, D, Brand>>,
-    gate: &G,
 ) -> Result<Done, CallFault>
     requires { IsFree store.now one.old × IsFree store.now two.old }
     ensures { KeepsPass one.old one.new × KeepsPass two.old two.new }
 {
-    let answer = ask(rt, alloc, store, one, gate);
-    puts(rt, alloc, store, two, gate);
+    let answer = ask(rt, alloc, store, gate, one);
+    puts(rt, alloc, store, gate, two);
     answer
 }
 
-fn ask_in<I: Index + Send, D: LogDisk + Send, R: Threads + Wait + Sync, G: Gate + Sync>(
+fn ask_in<R: Threads + Wait + Sync, G: Gate + Sync>(
     rt: &R,
     alloc: Global,
-    store: &Store<I, D, Brand>,
-    one: &mut Pass<SharedBook<I, D, Brand>>,
-    beside: bool,
+    store: &NumberedStore,
     gate: &G,
+    beside: bool,
+    one: &mut NumberedPass,
 ) -> Result<Done, CallFault>
     requires free { IsFree store.now one.old }
     requires parts { 2 ≤ one.old.parts }
@@ -170,34 +174,41 @@ fn ask_in<I: Index + Send, D: LogDisk + Send, R: Threads + Wait + Sync, G: Gate 
 {
     let mut two = store.split_pass(one);
     let answer = if beside {
-        ask_beside(rt, alloc, store, one, &mut two, gate)
+        ask_beside(rt, alloc, store, gate, one, &mut two)
     } else {
-        ask_before(rt, alloc, store, one, &mut two, gate)
+        ask_before(rt, alloc, store, gate, one, &mut two)
     };
     store.join_pass(one, two);
     answer
 }
 
 // The answer to the box, and the index in the end.
-fn asked<I: Index + Send, D: LogDisk + Send, R: Threads + Wait + Sync, G: Gate + Sync>(
+fn asked<R: Threads + Wait + Sync, G: Gate + Sync>(
     rt: &R,
     alloc: Global,
-    book: Book<I, D>,
+    book: Book<Numbered<FlatIndex>, MemDisk>,
     beside: bool,
     gate: &G,
-) -> Option<(Answer, I)>
+) -> Option<(Answer, Numbered<FlatIndex>)>
     requires entries { book.entries ≡ [] }
     requires world { IsWorld book.opening.world }
 {
-    let Ok((store, mut pass)) = Store::<I, D, Brand>::new(alloc, book) else {
+    let Ok((store, mut pass)) = NumberedStore::new(alloc, book) else {
         return None;
     };
-    put(rt, alloc, &store, &mut pass, 1, FIRST, gate);
-    let answer = ask_in(rt, alloc, &store, &mut pass, beside, gate);
+    put(rt, alloc, &store, gate, 1, FIRST, &mut pass);
+    let answer = ask_in(rt, alloc, &store, gate, beside, &mut pass);
     let index = store.close(pass).into_parts().index;
     match answer {
         Ok(done) => Some((done.answer, index)),
         Err(_) => None,
+    }
+}
+
+fn lists_the_first(answer: &Answer) -> bool {
+    match answer {
+        Answer::Found(found) => found.as_slice() == [FIRST].as_slice(),
+        _ => false,
     }
 }
 
@@ -214,7 +225,7 @@ fn late_reads<R: Threads + Wait + Abort + Sync, G: Gate + Sync>(
     let Some((answer, index)) = asked(rt, alloc, book, beside, gate) else {
         return Err(AllocError.into());
     };
-    assert!(rt; matches!(answer, Answer::Found(found) if found.as_slice() == [FIRST].as_slice()));
+    assert!(rt; lists_the_first(&answer));
     Ok(index.late_reads())
 }
 
