@@ -8,8 +8,12 @@ mod fixtures;
 #[cfg(test)]
 mod legal;
 #[cfg(test)]
+mod numbered;
+#[cfg(test)]
 mod orders;
 #[cfg(test)]
 mod passes;
 #[cfg(test)]
 mod turns;
+#[cfg(test)]
+mod versions;

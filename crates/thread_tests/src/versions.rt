@@ -1,0 +1,266 @@
+//! A box beside another session's puts, over an index whose versions have numbers.
+ghost use Rattle.std.specs.Prelude.{◌≡◌, ◌≤◌, []};
+ghost use Rattle.plain_list.specs.Answer.{IsValid};
+ghost use Rattle.plain_list.specs.World.{IsWorld};
+ghost use Rattle.thread_tests.specs.Passes.{IsFree, KeepsPass};
+
+use crate::numbered::Numbered;
+use crate::turns::{Turn, Turns};
+use book_lock::Pass;
+use commit_book::{Book, Done};
+use disk_mem::MemDisk;
+use disk_trait::LogDisk;
+use flat_index::FlatIndex;
+use index_layer::Index;
+use io_edge::{Gate, GatePoint, OpenGate};
+use plain_list::{Answer, Op};
+use sessions::{CallFault, SharedBook, Store};
+use std::alloc::{AllocError, Global};
+use std::marker::Brand;
+use std::process::Abort;
+use std::sync::Wait;
+use std::sync::ledger::{Blank, Ledger};
+use std::test::*;
+use std::thread::{Threads, join_mut};
+use step_count::Steps;
+use zorder::{Placed, Point, Region};
+
+// What session 1 puts before all else.
+const FIRST: Placed = Placed {
+    id: 1,
+    at: Point { x: 0, y: 0 },
+};
+
+// What session 2 puts, one outside the box and then one in it.
+const OUTSIDE: Placed = Placed {
+    id: 2,
+    at: Point { x: 10, y: 10 },
+};
+
+const INSIDE: Placed = Placed {
+    id: 3,
+    at: Point { x: 5, y: 5 },
+};
+
+const BOX: Region = Region {
+    lo: Point { x: 0, y: 0 },
+    hi: Point { x: 9, y: 9 },
+};
+
+type NumberedStore = Store<Numbered<FlatIndex>, MemDisk, Brand>;
+
+type NumberedPass = Pass<SharedBook<Numbered<FlatIndex>, MemDisk, Brand>>;
+
+fn call<I: Index, D: LogDisk, L: Ledger, R: Wait, G: Gate>(
+    rt: &R,
+    alloc: Global,
+    store: &Store<I, D, Brand>,
+    pass: &mut Pass<SharedBook<I, D, Brand>>,
+    session: u8,
+    op: &Op,
+    gate: &G,
+    blank: Blank,
+) -> Result<Done, CallFault>
+    requires free { IsFree store.now pass.old }
+    requires valid { IsValid op.now }
+    requires name { blank.name ≡ L.name }
+    requires parts { blank.parts ≡ L.parts }
+    requires one_part { blank.parts ≡ 1 }
+    ensures { KeepsPass pass.old pass.new }
+{
+    let mut steps = Steps::<L>::new(blank);
+    store.call(rt, alloc, pass, session, 1, op, gate, &mut steps)
+}
+
+fn put<I: Index, D: LogDisk, R: Wait, G: Gate>(
+    rt: &R,
+    alloc: Global,
+    store: &Store<I, D, Brand>,
+    gate: &G,
+    session: u8,
+    object: Placed,
+    pass: &mut Pass<SharedBook<I, D, Brand>>,
+)
+    requires { IsFree store.now pass.old }
+    ensures { KeepsPass pass.old pass.new }
+{
+    let Placed { id, at } = object;
+    let op = Op::Put { id, at };
+    let _ = call::<I, D, Brand, R, G>(rt, alloc, store, pass, session, &op, gate, Blank::new(1));
+}
+
+fn puts<I: Index, D: LogDisk, R: Wait, G: Gate>(
+    rt: &R,
+    alloc: Global,
+    store: &Store<I, D, Brand>,
+    gate: &G,
+    pass: &mut Pass<SharedBook<I, D, Brand>>,
+)
+    requires { IsFree store.now pass.old }
+    ensures { KeepsPass pass.old pass.new }
+{
+    put(rt, alloc, store, gate, 2, OUTSIDE, pass);
+    put(rt, alloc, store, gate, 2, INSIDE, pass);
+}
+
+fn ask<I: Index, D: LogDisk, R: Wait, G: Gate>(
+    rt: &R,
+    alloc: Global,
+    store: &Store<I, D, Brand>,
+    gate: &G,
+    pass: &mut Pass<SharedBook<I, D, Brand>>,
+) -> Result<Done, CallFault>
+    requires { IsFree store.now pass.old }
+    ensures { KeepsPass pass.old pass.new }
+{
+    let op = Op::Within { region: BOX };
+    call::<I, D, Brand, R, G>(rt, alloc, store, pass, 1, &op, gate, Blank::new(1))
+}
+
+// The answer to the box of session 1, with the puts of session 2 in a thread of their own.
+fn ask_beside<R: Threads + Wait + Sync, G: Gate + Sync>(
+    rt: &R,
+    alloc: Global,
+    store: &NumberedStore,
+    gate: &G,
+    one: &mut NumberedPass,
+    two: &mut NumberedPass,
+) -> Result<Done, CallFault>
+    requires { IsFree store.now one.old × IsFree store.now two.old }
+    ensures { KeepsPass one.old one.new × KeepsPass two.old two.new }
+{
+    let (_, answer) = join_mut(
+        rt,
+        &mut ||
+            requires { IsFree store.now two.now }
+            ensures { KeepsPass two.entry.now two.exit.now }
+        { puts(rt, alloc, store, gate, two) },
+        &mut || -> Result<Done, CallFault>
+            requires { IsFree store.now one.now }
+            ensures { KeepsPass one.entry.now one.exit.now }
+        { ask(rt, alloc, store, gate, one) },
+    );
+    answer
+}
+
+// The same, with the puts after the answer.
+fn ask_before<I: Index, D: LogDisk, R: Wait, G: Gate>(
+    rt: &R,
+    alloc: Global,
+    store: &Store<I, D, Brand>,
+    gate: &G,
+    one: &mut Pass<SharedBook<I, D, Brand>>,
+    two: &mut Pass<SharedBook<I, D, Brand>>,
+) -> Result<Done, CallFault>
+    requires { IsFree store.now one.old × IsFree store.now two.old }
+    ensures { KeepsPass one.old one.new × KeepsPass two.old two.new }
+{
+    let answer = ask(rt, alloc, store, gate, one);
+    puts(rt, alloc, store, gate, two);
+    answer
+}
+
+fn ask_in<R: Threads + Wait + Sync, G: Gate + Sync>(
+    rt: &R,
+    alloc: Global,
+    store: &NumberedStore,
+    gate: &G,
+    beside: bool,
+    one: &mut NumberedPass,
+) -> Result<Done, CallFault>
+    requires free { IsFree store.now one.old }
+    requires parts { 2 ≤ one.old.parts }
+    ensures { KeepsPass one.old one.new }
+{
+    let mut two = store.split_pass(one);
+    let answer = if beside {
+        ask_beside(rt, alloc, store, gate, one, &mut two)
+    } else {
+        ask_before(rt, alloc, store, gate, one, &mut two)
+    };
+    store.join_pass(one, two);
+    answer
+}
+
+// The answer to the box, and the index in the end.
+fn asked<R: Threads + Wait + Sync, G: Gate + Sync>(
+    rt: &R,
+    alloc: Global,
+    book: Book<Numbered<FlatIndex>, MemDisk>,
+    beside: bool,
+    gate: &G,
+) -> Option<(Answer, Numbered<FlatIndex>)>
+    requires entries { book.entries ≡ [] }
+    requires world { IsWorld book.opening.world }
+{
+    let Ok((store, mut pass)) = NumberedStore::new(alloc, book) else {
+        return None;
+    };
+    put(rt, alloc, &store, gate, 1, FIRST, &mut pass);
+    let answer = ask_in(rt, alloc, &store, gate, beside, &mut pass);
+    let index = store.close(pass).into_parts().index;
+    match answer {
+        Ok(done) => Some((done.answer, index)),
+        Err(_) => None,
+    }
+}
+
+fn lists_the_first(answer: &Answer) -> bool {
+    match answer {
+        Answer::Found(found) => found.as_slice() == [FIRST].as_slice(),
+        _ => false,
+    }
+}
+
+// How many reads of older versions there were, where the box lists what stood at its place.
+fn late_reads<R: Threads + Wait + Abort + Sync, G: Gate + Sync>(
+    rt: &R,
+    alloc: Global,
+    beside: bool,
+    gate: &G,
+) -> Result<u64, Fail> {
+    let Ok(book) = Book::<Numbered<FlatIndex>, MemDisk>::fresh(alloc, 4) else {
+        return Err(AllocError.into());
+    };
+    let Some((answer, index)) = asked(rt, alloc, book, beside, gate) else {
+        return Err(AllocError.into());
+    };
+    assert!(rt; lists_the_first(&answer));
+    Ok(index.late_reads())
+}
+
+// Lane 1 has taken the index for its box, and stays until both puts of lane 2 were answered.
+fn puts_overtake_a_box<R: Threads + Wait + Abort + Sync>(
+    rt: &R,
+    alloc: Global,
+) -> Result<(), Fail> {
+    let first = Turn {
+        point: GatePoint::Answered,
+        lane: 2,
+        until: 2,
+    };
+    let taken = Turn {
+        point: GatePoint::Taken,
+        lane: 1,
+        until: 3,
+    };
+    let second = Turn { until: 0, ..first };
+    let list = [first, taken, second];
+    let turns = Turns::new(&list);
+    let late_reads = late_reads(rt, alloc, true, &turns)?;
+    assert!(rt; turns.are_over(), "a lane waited for what didn't come");
+    assert!(rt; late_reads > 0);
+    Ok(())
+}
+
+#[test]
+fn a_query_that_is_held_reads_an_older_version(rt: HostRuntime) -> Result<(), Fail> {
+    puts_overtake_a_box(&rt, rt.alloc())
+}
+
+#[test]
+fn a_query_by_itself_reads_the_newest_version(rt: HostRuntime) -> Result<(), Fail> {
+    let late_reads = late_reads(&rt, rt.alloc(), false, &OpenGate)?;
+    assert_eq!(rt; late_reads, 0);
+    Ok(())
+}
