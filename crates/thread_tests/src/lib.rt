@@ -1,4 +1,4 @@
-//! Tests of sessions that run at once: passes by hand, lanes in an order that a gate makes, and sixteen lanes together; and no other code.
+//! Tests of sessions that run at once: passes by hand, lanes in an order that a gate makes, and sixteen lanes together; and the index that one of them watches.
 #![tactic(auto)]
 
 #[cfg(test)]
@@ -7,7 +7,6 @@ mod crowds;
 mod fixtures;
 #[cfg(test)]
 mod legal;
-#[cfg(test)]
 mod numbered;
 #[cfg(test)]
 mod orders;
