@@ -88,7 +88,10 @@ impl<V: Held> BookLock<V> {
                     sleepers: AtomicU64::new(0),
                     is_slow,
                 },
-                Pass { seat },
+                Pass {
+                    seat,
+                    is_reader: false,
+                },
             )),
             Err(Refused { slots }) => Err(unshelf(slots)),
         }
@@ -107,7 +110,7 @@ impl<V: Held> BookLock<V> {
             sleepers: _,
             is_slow: _,
         } = self;
-        let Pass { seat } = pass;
+        let Pass { seat, is_reader: _ } = pass;
         let mut closed = table.close_with(seat);
         let slot = closed.take(0);
         closed.free();

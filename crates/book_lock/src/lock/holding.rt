@@ -18,29 +18,43 @@ use std::time::Duration;
 /// How often a caller that finds the lock taken lets others run before it sleeps.
 const YIELDS: u32 = 8;
 
-/// How many milliseconds it naps, where steps are quick. Meanwhile some thousand steps are taken by whoever has the value in its
-/// processor's cache.
+/// How many milliseconds it naps, where steps are quick: a caller that is to change the value so many for each that naps. So mostly one
+/// of these wakes in that time, and meanwhile some thousand steps are taken by whoever has the value in its processor's cache.
 const NAP: u64 = 4;
+
+/// Callers that nap, beyond which a nap isn't longer.
+const MOST_NAPPERS: u64 = 16;
 
 impl<V: Held> BookLock<V> {
     // Lets others run, and sleeps where that has not helped so many times. Gives the new number of times.
-    fn pause<R: Wait>(&self, rt: &R, misses: u32) -> u32 {
+    fn pause<R: Wait>(&self, rt: &R, misses: u32, is_reader: bool) -> u32 {
         if misses < YIELDS {
             thread::yield_now();
             misses + 1
         } else {
-            self.sleep(rt);
+            self.sleep(rt, is_reader);
             0
         }
     }
 
-    fn sleep<R: Wait>(&self, rt: &R) {
+    fn sleep<R: Wait>(&self, rt: &R, is_reader: bool) {
         if self.is_slow {
             self.sleep_until_woken(rt);
         } else {
-            let nap = Duration::from_millis(NAP);
-            self.table.shared.park_timeout(rt, 1, 1, nap);
+            self.nap(rt, is_reader);
         }
+    }
+
+    fn nap<R: Wait>(&self, rt: &R, is_reader: bool) {
+        let others = self.sleepers.fetch_add(1, Ordering::SeqCst);
+        let turns = if is_reader {
+            1
+        } else {
+            others.min(MOST_NAPPERS - 1) + 1
+        };
+        let nap = Duration::from_millis(NAP * turns);
+        self.table.shared.park_timeout(rt, 1, 1, nap);
+        self.sleepers.fetch_sub(1, Ordering::SeqCst);
     }
 
     // Counted before it sleeps: a holder that frees the lock either sees the count and wakes one, or freed it before
@@ -75,6 +89,7 @@ impl<V: Held> BookLock<V> {
         ensures rises { Rises pass.new.own × IsBelow (length pass.new.seen) pass.new.own }
         ensures alone { pass.old.parts ≡ 65536 → pass.new.seen ≡ pass.old.seen }
     {
+        let is_reader = pass.is_reader;
         let seat = &mut pass.seat;
         let shared = &self.table.shared;
         let mut misses = 0;
@@ -87,7 +102,7 @@ impl<V: Held> BookLock<V> {
                     None => unreachable!(),
                 }
             }
-            misses = self.pause(rt, misses);
+            misses = self.pause(rt, misses, is_reader);
         }
         unreachable!()
     }

@@ -35,6 +35,7 @@ impl<V: Held> BookLock<V> {
     {
         Pass {
             seat: self.table.shared.split_seat::<Cut>(&mut pass.seat),
+            is_reader: false,
         }
     }
 
@@ -47,7 +48,7 @@ impl<V: Held> BookLock<V> {
         ensures begins { IsPrefix into.old.seen into.new.seen × IsPrefix other.seen into.new.seen }
         ensures counts { (p : ℕ) → times p into.new.own ≡ times p into.old.own + times p other.own }
     {
-        let Pass { seat } = other;
+        let Pass { seat, is_reader: _ } = other;
         self.absorb(&mut into.seat, seat);
     }
 

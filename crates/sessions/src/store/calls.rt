@@ -168,8 +168,14 @@ impl<I: Index, D: LogDisk, O: Start> Store<I, D, O> {
         ensures opened { Opens op.now (leaves_seen I.WIDTH pass.new) (world_seen pass.new) (listed_by (λ done. done.answer) result) steps.old steps.new }
         ensures pass { SamePass pass.old pass.new }
     {
+        pass.will_read(is_read(op));
         let answer = self.answer(rt, alloc, pass, session, row, op, gate, steps);
         gate.reach(GatePoint::Answered, session);
         answer
     }
+}
+
+// Whether an operation changes nothing in any world.
+fn is_read(op: &Op) -> bool {
+    matches!(op, Op::Find { .. } | Op::Within { .. } | Op::Near { .. })
 }
