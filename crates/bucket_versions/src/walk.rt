@@ -1,6 +1,7 @@
 //! The rows of a bucket, one after the other.
 ghost use Rattle.std.specs.Prelude.{◌≡◌, false};
 ghost use Rattle.bucket_versions.specs.Delta.{difference, heads_meet, delta_leads};
+ghost use Rattle.std.specs.Iterator.{YieldsFirstRef};
 
 use crate::row::Row;
 use std::marker::Model;
@@ -76,7 +77,23 @@ impl<'a> Iterator for BucketRows<'a> {
 
     ghost remaining = { item_count (λ left. left) };
 
+    // Mostly no row differs from the base, and the rows are those of one list.
     fn next(&mut self) -> Option<&'a Row> {
+        if self.delta.is_empty() {
+            let (first, others) = self.base.split_first()?;
+            self.base = others;
+            return Some(first);
+        }
+        self.merge_next()
+    }
+}
+
+impl<'a> BucketRows<'a> {
+    // The first of the rows that are left, where two lists are merged.
+    #[inline(never)]
+    fn merge_next(&mut self) -> Option<&'a Row>
+        ensures { YieldsFirstRef (λ left. left) self.old result self.new }
+    {
         let (base, delta) = apart(self.base, self.delta);
         if leads(base, delta) {
             let (first, others) = delta.split_first()?;
