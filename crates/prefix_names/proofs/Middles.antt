@@ -4,8 +4,6 @@ use Rattle.std.proofs.lemmas.Nat.{pow_pos}
 use Rattle.std.proofs.Math.Nat.{pow-succ'}
 use Rattle.zorder.specs.declared.points.Point.{Point}
 use Rattle.zorder.specs.Key.{point_of}
-use Rattle.zorder.specs.Name.{first_key}
-use Rattle.zorder.specs.Tile.{next_key}
 use Rattle.zorder.proofs.Tiles.{first_left, first_right}
 use Rattle.prefix_names.specs.Regions.{region_of}
 use Rattle.prefix_names.proofs.Corners.{x-ends, y-ends}

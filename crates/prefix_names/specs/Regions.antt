@@ -6,10 +6,15 @@ use Rattle.zorder.specs.Key.{point_of}
 use Rattle.zorder.specs.Region.{has_point}
 use Rattle.zorder.specs.Name.{first_key}
 use Rattle.zorder.specs.Tile.{next_key}
+use Rattle.prefix_names.specs.declared.key_boxes.KeyBox.{KeyBox}
 
 -- the corners of a name's region are the points of its first and of its last key
 abbrev pub region_of : List Bool → Region
 region_of name = record { lo = point_of (first_key name); hi = point_of (next_key name - 1) }
+
+-- the box between the points of two keys
+abbrev pub box_of : KeyBox → Region
+box_of b = record { lo = point_of b.lo; hi = point_of b.hi }
 
 -- some point is in both
 abbrev pub SharePoint : Region → Region → Type 0

@@ -11,9 +11,11 @@
 mod boxes;
 mod distances;
 mod halving;
+mod key_boxes;
 mod regions;
 
 pub use boxes::{inside, meets};
 pub use distances::{dist, least};
 pub use halving::halves;
+pub use key_boxes::KeyBox;
 pub use regions::{key_range, region};
