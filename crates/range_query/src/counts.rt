@@ -10,10 +10,10 @@ ghost use Rattle.table_share.specs.KeysUnder.{AreKeysUnder, AreAllKeysUnder};
 
 use bucket_versions::Bucket;
 use index_layer::{Below, Index};
-use prefix_names::{halves, inside, meets};
+use prefix_names::{KeyBox, halves, inside, meets};
 use std::sync::ledger::Ledger;
 use step_count::Steps;
-use zorder::{Name, Region, child, key, point};
+use zorder::{Name, Region, child, key};
 
 /// How many objects are in the box. A leaf's bucket is opened, which is a step, only where the box has some points of
 /// its region and not all. It takes no memory.
@@ -80,9 +80,10 @@ fn count_rows<L: Ledger>(bucket: &Bucket, region: &Region, steps: &mut Steps<L>)
     ensures number { number_in region.now bucket.now.rows < 2 ^ 64 → result ≡ number_in region.now bucket.now.rows }
     ensures opened { steps.new ≡ steps.old + 1 }
 {
+    let corners = KeyBox::of(region);
     let mut count = 0u64;
     for row in bucket.rows(steps) {
-        if region.has(point(row.key)) {
+        if corners.has(row.key) {
             count = count.saturating_add(1);
         }
     }

@@ -13,7 +13,7 @@ use crate::ranges::push_all;
 use bucket_versions::Bucket;
 use index_layer::{Below, Index};
 use plain_list::{Answer, PlacedList};
-use prefix_names::{halves, inside, meets};
+use prefix_names::{KeyBox, halves, inside, meets};
 use std::alloc::Global;
 use std::sync::ledger::Ledger;
 use step_count::Steps;
@@ -164,10 +164,10 @@ fn list_rows<L: Ledger>(
     ensures grows { found.old.count ≤ found.new.count }
     ensures opened { steps.new ≡ steps.old + 1 }
 {
+    let corners = KeyBox::of(region);
     for row in bucket.rows(steps) {
-        let object = placed(row);
-        if region.has(object.at) {
-            found.add(object)?;
+        if corners.has(row.key) {
+            found.add(placed(row))?;
         }
     }
     Ok(())

@@ -10,7 +10,7 @@ ghost use Rattle.range_query.specs.Cut.{leaves_met, below_met, objects_held};
 use bucket_versions::Bucket;
 use index_layer::{Below, Index};
 use plain_list::PlacedList;
-use prefix_names::{inside, meets};
+use prefix_names::{KeyBox, inside, meets};
 use std::alloc::Global;
 use std::sync::ledger::Ledger;
 use step_count::Steps;
@@ -112,10 +112,10 @@ fn push_rows<L: Ledger>(
     ensures objects { OnOk result (found.new.items ≡ found.old.items ++ members_in region.now (objects_of bucket.now.rows)) }
     ensures opened { steps.new ≡ steps.old + 1 }
 {
+    let corners = KeyBox::of(region);
     for row in bucket.rows(steps) {
-        let object = placed(row);
-        if region.has(object.at) {
-            found.push(object)?;
+        if corners.has(row.key) {
+            found.push(placed(row))?;
         }
     }
     Ok(())

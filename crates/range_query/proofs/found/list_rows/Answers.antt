@@ -14,8 +14,8 @@ loop-row-preserved-in-Continue-1 g c = (
       let all = c.args.bucket.now.rows in
       let r = c.in-Some.row.now in
       let p = c.loop-row.invariant.1 ms fits is in
-      let there : has_point region (placed_of r).at ≡ true = ap (λ (m : Placed). has_point region m.at) (sym c.placed-object.ensures) ∙ sym c.has.ensures ∙ c.if-has.true in
+      let there : has_point region (placed_of r).at ≡ true = ap (λ box. has_point box (placed_of r).at) (sym c.of-corners.ensures) ∙ sym c.has.ensures ∙ c.if-has.true in
       passed-in region ms all c.loop-row.row-iterator c.next.new.self r c.loop-row.found c.in-Some.ensures.steps there p c.add.new.self
-      (λ done. subst (λ (m : Placed). IsListing (p.done ++ m ∷ []) c.add.new.self) c.placed-object.ensures
+      (λ done. subst (λ (m : Placed). IsListing (p.done ++ m ∷ []) c.add.new.self) c.placed.ensures
       (c.in_ok-add.ensures.lists p.done (passed-fits region ms all c.loop-row.row-iterator c.next.new.self r c.loop-row.found c.in-Some.ensures.steps there p fits) done)),
 )
