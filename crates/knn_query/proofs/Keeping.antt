@@ -1,19 +1,22 @@
 -- What a candidate more makes of what is kept.
-use Rattle.std.proofs.Common.{◌≡◌, ℕ, ◌<◌, ◌≤◌, Bool, true, false, List, [], ◌∷◌, length, map, get_or, None, inl, inr, refl, sym, ap, subst, ◌∙◌, arith, lit<}
+use Rattle.std.proofs.Common.{◌≡◌, ◌==◌, ◌&&◌, ◌||◌, ℕ, ◌<◌, ◌≤◌, Bool, true, false, List, [], ◌∷◌, length, map, get_or, None, inl, inr, refl, sym, ap, subst, ◌∙◌, arith, lit<}
 use Rattle.std.specs.Prelude.{nat_le, nat_lt}
 use Rattle.std.specs.List.{All}
+use Rattle.std.specs.Ordering.{is_lt}
 use Rattle.std.specs.BinaryHeap.{heap_items, IsHeap, IsUpperBound}
 use Rattle.std.proofs.lemmas.Bool.Decides.{nat_tests}
 use Rattle.std.proofs.lemmas.List.{length-map}
-use Rattle.std.proofs.lemmas.List.Elements.{All-cons, All-head, All-tail}
+use Rattle.std.proofs.lemmas.List.Elements.{All-nil, All-cons, All-head, All-tail}
 use Rattle.std.proofs.lemmas.List.Sorted.{All-permutation, length_permutation}
 use Rattle.zorder.specs.declared.points.Point.{Point}
 use Rattle.zorder.specs.declared.points.Placed.{Placed}
 use Rattle.zorder.specs.Distance.{distance}
+use Rattle.prefix_names.specs.declared.key_boxes.KeyBox.{KeyBox}
 use Rattle.plain_list.proofs.Cuts.{IsPass}
+use Rattle.plain_list.proofs.Ranking.{is_before-cmp}
 use Rattle.knn_query.specs.Ahead.{number_nearer}
-use Rattle.knn_query.specs.Candidates.{object_of, candidate_cmp, IsMeasured, Replaces}
-use Rattle.knn_query.specs.Passes.{IsHeld, Passes}
+use Rattle.knn_query.specs.Candidates.{object_of, candidate_cmp, IsInPlace, IsMeasured, Replaces}
+use Rattle.knn_query.specs.Passes.{IsHeld, IsOut, HasReach, Passes}
 use Rattle.knn_query.specs.declared.candidate.Candidate.{Candidate}
 use Rattle.knn_query.specs.declared.kept.Kept.{Kept}
 use Rattle.knn_query.proofs.Candidates.{Bounds, bounds-map, pass_over, pass_replaces}
@@ -55,6 +58,48 @@ farthest-tells p k least c (t ∷ cs) at bound is few many some = by_test (nat_l
         let less : number < length (map object_of (t ∷ cs)) = first_farther p least (object_of t) (map object_of cs) far in
         e ∙ few_of (omega (arith, less, long, few))
 
+-- of two candidates in order the first is as near as the second, or nearer
+first_near : (a b : Candidate) → is_lt (candidate_cmp a b) ≡ true → a.distance ≤ b.distance
+first_near a b e = in_order a.distance a.id b.distance b.id (sym (is_before-cmp a.distance a.id b.distance b.id) ∙ e)
+  where
+    in_order : (d i e j : ℕ) → (nat_lt d e || ((d == e) && nat_lt i j)) ≡ true → d ≤ e
+    in_order d i e j h = grind (arith, nat_tests)
+
+bound_near : (a b : Candidate) → is_lt (candidate_cmp a b) ≡ false → b.distance ≤ a.distance
+bound_near a b e = in_order a.distance a.id b.distance b.id (sym (is_before-cmp a.distance a.id b.distance b.id) ∙ e)
+  where
+    in_order : (d i e j : ℕ) → (nat_lt d e || ((d == e) && nat_lt i j)) ≡ false → e ≤ d
+    in_order d i e j h = grind (arith, nat_tests)
+
+far_behind : (a b : Candidate) → b.distance < a.distance → is_lt (candidate_cmp a b) ≡ false
+far_behind a b far = is_before-cmp a.distance a.id b.distance b.id ∙ in_order a.distance a.id b.distance b.id far
+  where
+    in_order : (d i e j : ℕ) → e < d → (nat_lt d e || ((d == e) && nat_lt i j)) ≡ false
+    in_order d i e j h = grind (arith, nat_tests)
+
+-- candidates that are nearer than a distance
+abbrev pub AreNearer : ℕ → List Candidate → Type 0
+AreNearer reach cs = All (λ (c : Candidate). c.distance < reach) cs
+
+-- a bound that is nearer has all the others nearer
+pub bound-nearer : (reach : ℕ) (a : Candidate) (cs : List Candidate) → IsUpperBound candidate_cmp a cs → a.distance < reach → AreNearer reach cs
+bound-nearer reach a [] bound near = All-nil (λ (c : Candidate). c.distance < reach)
+bound-nearer reach a (c ∷ cs) bound near =
+    All-cons (λ (c : Candidate). c.distance < reach) c cs (omega (arith, bound_near a c bound.0, near)) (bound-nearer reach a cs bound.1 near)
+
+nearer-bound : (one : Candidate) (cs : List Candidate) → AreNearer one.distance cs → IsUpperBound candidate_cmp one cs
+nearer-bound one [] near = tt
+nearer-bound one (c ∷ cs) near =
+    (far_behind one c (All-head (λ (c : Candidate). c.distance < one.distance) c cs near), nearer-bound one cs (All-tail (λ (c : Candidate). c.distance < one.distance) c cs near))
+
+-- one that takes another's place is as near
+nearer-replaced : (reach : ℕ) (one : Candidate) (old new : List Candidate) → IsInPlace one old new → AreNearer reach old → AreNearer reach new
+nearer-replaced reach one old new r near =
+    let P : Candidate → Type 0 = λ c. c.distance < reach in
+    let both : All P (r.gone ∷ r.left) = All-permutation P old (r.gone ∷ r.left) r.was near in
+    let gone : r.gone.distance < reach = All-head P r.gone r.left both in
+    All-permutation P (one ∷ r.left) new r.is (All-cons P one r.left (omega (arith, first_near one r.gone r.before, gone)) (All-tail P r.gone r.left both))
+
 -- where k are kept, one more is passed over, or takes the place of the farthest
 pub replaced-passes : (m : Placed) (one : Candidate) (old new : Kept) → object_of one ≡ m → IsMeasured old.from one → IsHeld old → old.k ≤ length (heap_items old.heap) → new.from ≡ old.from → new.k ≡ old.k
     → Replaces one (heap_items old.heap) (heap_items new.heap) → Passes (m ∷ []) old new
@@ -68,6 +113,10 @@ replaced-passes m one old new is_m at_one h many from_is k_is (inl r) =
         ordered = subst (IsHeap candidate_cmp) (sym r.same) h.ordered;
         measured = subst (λ q. All (IsMeasured q) (heap_items new.heap)) (sym from_is) (subst (All (IsMeasured p)) (sym r.same) h.measured);
         few = omega (arith, h.few, ap length r.same, k_is);
+      };
+      out = λ n out. record {
+        full = omega (arith, out.full, ap length r.same, k_is);
+        near = subst (λ q. All (λ (c : Candidate). c.distance < distance n.at q) (heap_items new.heap)) (sym from_is) (subst (AreNearer (distance n.at p)) (sym r.same) out.near);
       };
       keeps = λ world rest are pass.
           subst (λ ds. IsPass p old.k world rest (map object_of ds) None) (sym r.same)
@@ -86,5 +135,19 @@ replaced-passes m one old new is_m at_one h many from_is k_is (inr r) =
         measured = subst (λ q. All (IsMeasured q) ds) (sym from_is) (All-permutation (IsMeasured p) (one ∷ r.left) ds r.is (All-cons (IsMeasured p) one r.left at_one left));
         few = omega (arith, h.few, length_permutation cs (r.gone ∷ r.left) r.was, length_permutation (one ∷ r.left) ds r.is, k_is);
       };
+      out = λ n out. record {
+        full = omega (arith, out.full, length_permutation cs (r.gone ∷ r.left) r.was, length_permutation (one ∷ r.left) ds r.is, k_is);
+        near = subst (λ q. All (λ (c : Candidate). c.distance < distance n.at q) ds) (sym from_is) (nearer-replaced (distance n.at p) one cs ds r out.near);
+      };
       keeps = λ world rest are pass. pass_replaces p old.k world rest m (are 0 m (lit< tt)) one cs ds is_m at_one h.measured many r pass;
     }
+
+-- one that is too far is passed over
+pub out-passes : (m : Placed) (kept : Kept) → IsHeld kept → IsOut kept m → Passes (m ∷ []) kept kept
+out-passes m kept h out =
+    let one : Candidate = record { distance = distance m.at kept.from; id = m.id; at = m.at } in
+    replaced-passes m one kept kept refl refl h out.full refl refl (inl (record { same = refl; bound = nearer-bound one (heap_items kept.heap) out.near }))
+
+-- the reach of what is kept has what passes keep in it
+pub reach-kept : (box : KeyBox) (ms : List Placed) (old new : Kept) → Passes ms old new → HasReach box old → HasReach box new
+reach-kept box ms old new passes reach m at outside = passes.out m (reach m at outside)

@@ -5,3 +5,4 @@ pub mod Keeping
 pub mod Steps
 pub mod Places
 pub mod FarFirst
+pub mod Reaches

@@ -1,12 +1,18 @@
 -- What is kept of objects that come one after the other.
-use Rattle.std.specs.Prelude.{◌≡◌, ◌≤◌, ℕ, List, [], ◌++◌, None, length, map}
+use Rattle.std.specs.Prelude.{◌≡◌, ◌≤◌, ◌<◌, false, ℕ, List, [], ◌++◌, None, length, map}
 use Rattle.std.specs.List.{All}
 use Rattle.std.specs.BinaryHeap.{heap_items, IsHeap}
 use Rattle.zorder.specs.declared.points.Point.{Point}
 use Rattle.zorder.specs.declared.points.Placed.{Placed}
+use Rattle.zorder.specs.Distance.{distance}
+use Rattle.zorder.specs.Key.{IsPoint}
+use Rattle.zorder.specs.Region.{has_point}
+use Rattle.prefix_names.specs.Regions.{box_of}
+use Rattle.prefix_names.specs.declared.key_boxes.KeyBox.{KeyBox}
 use Rattle.plain_list.specs.Nearest.{AreOf}
 use Rattle.plain_list.proofs.Cuts.{IsPass}
 use Rattle.knn_query.specs.Candidates.{object_of, candidate_cmp, IsMeasured}
+use Rattle.knn_query.specs.declared.candidate.Candidate.{Candidate}
 use Rattle.knn_query.specs.declared.kept.Kept.{Kept}
 
 -- the objects that are kept
@@ -30,9 +36,19 @@ pub record IsEmpty (p : Point) (k : ℕ) (kept : Kept) : Type 0 where
 abbrev pub Keeps : Point → ℕ → List Placed → List Placed → Kept → Type 0
 Keeps p k world rest kept = IsPass p k world rest (held kept) None
 
+-- k are kept, each of them nearer than this object
+pub record IsOut (kept : Kept) (m : Placed) : Type 0 where
+  pub full : kept.k ≤ length (heap_items kept.heap)
+  pub near : All (λ (c : Candidate). c.distance < distance m.at kept.from) (heap_items kept.heap)
+
+-- each object outside of the box is so
+abbrev pub HasReach : KeyBox → Kept → Type 0
+HasReach box kept = (m : Placed) → IsPoint m.at → has_point (box_of box) m.at ≡ false → IsOut kept m
+
 -- these objects came, and nothing that belongs to the nearest was lost
 pub record Passes (ms : List Placed) (old new : Kept) : Type 0 where
   pub from : new.from ≡ old.from
   pub k_is : new.k ≡ old.k
   pub is_held : IsHeld new
+  pub out : (m : Placed) → IsOut old m → IsOut new m
   pub keeps : (world rest : List Placed) → AreOf world ms → Keeps old.from old.k world (ms ++ rest) old → Keeps old.from old.k world rest new

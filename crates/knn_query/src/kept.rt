@@ -6,10 +6,12 @@ ghost use Rattle.plain_list.specs.Answer.{ranked};
 ghost use Rattle.plain_list.specs.Nearest.{AreOf};
 ghost use Rattle.knn_query.specs.Ahead.{number_nearer};
 ghost use Rattle.knn_query.specs.Candidates.{candidate_cmp, object_of, Replaces};
-ghost use Rattle.knn_query.specs.Passes.{held, IsEmpty, IsHeld, Passes};
+ghost use Rattle.knn_query.specs.Passes.{held, HasReach, IsEmpty, IsHeld, Passes};
 
 use crate::candidate::Candidate;
+use crate::reach::{box_within, whole_box};
 use plain_list::PlacedList;
+use prefix_names::KeyBox;
 use std::alloc::{AllocError, Global};
 use std::collections::BinaryHeap;
 use zorder::{Placed, Point};
@@ -45,6 +47,20 @@ impl Kept {
             replace_farthest(&mut self.heap, one)?;
         }
         Ok(())
+    }
+
+    /// A box that has each object which may still belong to the nearest.
+    pub(crate) fn reach(&self) -> KeyBox
+        requires { IsHeld self.now }
+        ensures { HasReach result self.now }
+    {
+        if self.heap.len() < self.k {
+            return whole_box();
+        }
+        match self.heap.peek() {
+            Some(farthest) => box_within(self.from, farthest.distance),
+            None => whole_box(),
+        }
     }
 
     /// Whether `k` of those that are kept are nearer than this.

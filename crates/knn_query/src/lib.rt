@@ -12,5 +12,6 @@ mod ahead;
 mod candidate;
 mod kept;
 mod ranking;
+mod reach;
 
 pub use ranking::nearest;

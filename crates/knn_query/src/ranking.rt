@@ -90,7 +90,7 @@ fn first_of_many<T: Drop>(alloc: Global, first: T) -> Result<Vec<T>, AllocError>
     Ok(all)
 }
 
-// Adds the objects of a bucket.
+// Adds the objects of a bucket, but those that are too far by now: their keys tell.
 fn add_rows<L: Ledger>(
     kept: &mut Kept,
     bucket: &Bucket,
@@ -100,8 +100,11 @@ fn add_rows<L: Ledger>(
     ensures passes { OnOk result (Passes (objects_of bucket.now.rows) kept.old kept.new) }
     ensures opened { steps.new ≡ steps.old + 1 }
 {
+    let within = kept.reach();
     for row in bucket.rows(steps) {
-        kept.add(placed(row))?;
+        if within.has(row.key) {
+            kept.add(placed(row))?;
+        }
     }
     Ok(())
 }

@@ -2,12 +2,12 @@ use Rattle.std.proofs.Common.{◌≡◌, ◌++◌, List}
 use Rattle.zorder.specs.declared.points.Placed.{Placed}
 use Rattle.plain_list.specs.Nearest.{AreOf}
 use Rattle.table_share.specs.Objects.{objects_of}
-use Rattle.knn_query.specs.Passes.{IsHeld, Keeps}
+use Rattle.knn_query.specs.Passes.{HasReach, IsHeld, IsOut, Keeps}
 use Rattle.knn_query.proofs.ranking.add_rows.Given as goal
 
 -- the objects of the rows that are gone were added
 abbrev pub invariant-loop-row : goal.invariant-loop-row
 invariant-loop-row g l =
-    (l.kept.from ≡ l.fn.kept.from) × (l.kept.k ≡ l.fn.kept.k) × IsHeld l.kept
+    (l.kept.from ≡ l.fn.kept.from) × (l.kept.k ≡ l.fn.kept.k) × IsHeld l.kept × HasReach l.within l.kept × ((m : Placed) → IsOut l.fn.kept m → IsOut l.kept m)
     × ((world rest : List Placed) → AreOf world (objects_of l.bucket.rows) → Keeps l.fn.kept.from l.fn.kept.k world (objects_of l.bucket.rows ++ rest) l.fn.kept
     → AreOf world (objects_of l.row-iterator) × Keeps l.fn.kept.from l.fn.kept.k world (objects_of l.row-iterator ++ rest) l.kept)

@@ -27,6 +27,7 @@ returns-in_ok-push c =
         measured = All-permutation (IsMeasured p) (one ∷ cs) ds perm (All-cons (IsMeasured p) one cs c.new-one.ensures.measured c.requires.measured);
         few = omega (arith, length_permutation (one ∷ cs) ds perm, c.if-len-self.true, c.len.ensures, c.args.self.now.heap.data.ok.0);
       };
+      out = λ m out. absurd (omega (arith, out.full, c.if-len-self.true, c.len.ensures, c.args.self.now.heap.data.ok.0));
       keeps = λ world rest are pass. pass_adds_one p k world rest c.args.m (map object_of cs) (map object_of ds) (are 0 c.args.m (lit< tt)) made pass;
     }
 
