@@ -1,5 +1,6 @@
 -- The points outside of a box around a point.
-use Rattle.std.proofs.Common.{◌≡◌, ℕ, ◌+◌, ◌-◌, ◌*◌, ◌^◌, ◌<◌, false, min, inl, inr, sym, ◌∙◌, arith}
+use Rattle.std.proofs.Common.{◌≡◌, ℕ, ◌+◌, ◌-◌, ◌*◌, ◌^◌, ◌<◌, ◌≤◌, false, min, inl, inr, sym, ◌∙◌, ap, arith}
+use Rattle.std.proofs.Math.Nat.{mul-le-mul_left, mul_comm}
 use Rattle.std.proofs.lemmas.Bool.{cases_lt, true≢false}
 use Rattle.zorder.specs.declared.points.Point.{Point}
 use Rattle.zorder.specs.declared.points.Region.{Region}
@@ -10,6 +11,15 @@ use Rattle.prefix_names.proofs.HeldPoints.{held-so}
 
 square-less : (a b : ℕ) → a < b → a * a < b * b
 square-less a b h = grind arith
+
+-- the square of one number and half of another that isn't greater
+pub square-sum : (a b half c : ℕ) → b ≤ a → b ≤ 2 * half → c ≡ a + half → a * a + b * b ≤ c * c
+square-sum a b half c less twice is =
+    let parts : (a + half) * (a + half) ≡ a * a + a * (2 * half) + half * half = grind arith in
+    let one : a * b ≤ a * (2 * half) = mul-le-mul_left a twice in
+    let two : b * b ≤ b * a = mul-le-mul_left b less in
+    let swap : b * a ≡ a * b = mul_comm b a in
+    omega (arith, ap (λ n. n * n) is)
 
 -- the sides of the box are as far from its middle, where there are such numbers
 pub record IsAround (m : Point) (side : ℕ) (b : Region) : Type 0 where

@@ -35,18 +35,19 @@ impl Kept {
         })
     }
 
-    /// Adds an object, where it belongs to the nearest.
-    pub(crate) fn add(&mut self, m: Placed) -> Result<(), AllocError>
+    /// Adds an object, where it belongs to the nearest, and tells whether that makes one more.
+    pub(crate) fn add(&mut self, m: Placed) -> Result<bool, AllocError>
         requires { IsHeld self.old }
         ensures { OnOk result (Passes (m ∷ []) self.old self.new) }
     {
         let one = Candidate::new(m, self.from);
         if self.heap.len() < self.k {
             self.heap.push(one)?;
+            Ok(true)
         } else {
             replace_farthest(&mut self.heap, one)?;
+            Ok(false)
         }
-        Ok(())
     }
 
     /// A box that has each object which may still belong to the nearest.
@@ -54,12 +55,9 @@ impl Kept {
         requires { IsHeld self.now }
         ensures { HasReach result self.now }
     {
-        if self.heap.len() < self.k {
-            return whole_box();
-        }
         match self.heap.peek() {
-            Some(farthest) => box_within(self.from, farthest.distance),
-            None => whole_box(),
+            Some(farthest) if self.k <= self.heap.len() => box_within(self.from, farthest.at),
+            _ => whole_box(),
         }
     }
 

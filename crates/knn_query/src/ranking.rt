@@ -1,16 +1,17 @@
 //! Objects in the order of their distance to a point.
 ghost use Rattle.std.specs.Prelude.{◌≡◌, ◌≤◌, ◌<◌, ◌+◌, ◌∷◌, [], take, IfOk, OnOk, length};
 ghost use Rattle.plain_list.specs.Answer.{ranked};
-ghost use Rattle.table_share.specs.Objects.{objects_of};
+ghost use Rattle.table_share.specs.Objects.{objects_of, placed_of};
 ghost use Rattle.table_share.specs.Worlds.{OfEachWorld};
 ghost use Rattle.knn_query.specs.Ahead.{OpensNear};
-ghost use Rattle.knn_query.specs.Passes.{held, IsEmpty, IsHeld, Keeps, Passes};
+ghost use Rattle.knn_query.specs.Passes.{held, HasReach, IsEmpty, IsHeld, Keeps, Passes};
 
 use crate::ahead::{Ahead, put_ahead, take_nearest};
 use crate::kept::Kept;
-use bucket_versions::Bucket;
+use bucket_versions::{Bucket, Row};
 use index_layer::{Below, Index};
 use plain_list::PlacedList;
+use prefix_names::KeyBox;
 use std::alloc::{AllocError, Global};
 use std::sync::ledger::Ledger;
 use step_count::Steps;
@@ -90,7 +91,7 @@ fn first_of_many<T: Drop>(alloc: Global, first: T) -> Result<Vec<T>, AllocError>
     Ok(all)
 }
 
-// Adds the objects of a bucket, but those that are too far by now: their keys tell.
+// Adds the objects of a bucket.
 fn add_rows<L: Ledger>(
     kept: &mut Kept,
     bucket: &Bucket,
@@ -100,11 +101,26 @@ fn add_rows<L: Ledger>(
     ensures passes { OnOk result (Passes (objects_of bucket.now.rows) kept.old kept.new) }
     ensures opened { steps.new ≡ steps.old + 1 }
 {
-    let within = kept.reach();
+    let mut within = kept.reach();
     for row in bucket.rows(steps) {
-        if within.has(row.key) {
-            kept.add(placed(row))?;
-        }
+        add_row(kept, &mut within, row)?;
     }
+    Ok(())
+}
+
+// Adds the object of a row, unless its key tells that it is too far. Once there are enough the others need be near.
+fn add_row(kept: &mut Kept, within: &mut KeyBox, row: &Row) -> Result<(), AllocError>
+    requires held { IsHeld kept.old }
+    requires reach { HasReach within.old kept.old }
+    ensures passes { OnOk result (Passes (placed_of row.now ∷ []) kept.old kept.new) }
+    ensures reach { OnOk result (HasReach within.new kept.new) }
+{
+    if !within.has(row.key) {
+        return Ok(());
+    }
+    if !kept.add(placed(row))? {
+        return Ok(());
+    }
+    *within = kept.reach();
     Ok(())
 }

@@ -1,5 +1,5 @@
 //! Boxes that the nearest objects are in.
-ghost use Rattle.std.specs.Prelude.{◌≡◌, ◌≤◌, ◌<◌, ◌-◌, ◌*◌, ◌^◌, false};
+ghost use Rattle.std.specs.Prelude.{◌≡◌, ◌≤◌, ◌<◌, ◌+◌, ◌-◌, ◌*◌, ◌^◌, false};
 ghost use Rattle.zorder.specs.declared.points.Point.{Point};
 ghost use Rattle.zorder.specs.Distance.{distance};
 ghost use Rattle.zorder.specs.Key.{IsPoint};
@@ -9,11 +9,12 @@ ghost use Rattle.prefix_names.specs.Regions.{box_of};
 use prefix_names::KeyBox;
 use zorder::{Point, Region, coordinates_fit};
 
-/// A box around a point that has each point within a squared distance. It is mostly not much greater than it need be.
-pub(crate) fn box_within(from: Point, square: u128) -> KeyBox
-    ensures { (p : Point) → IsPoint p → has_point (box_of result) p ≡ false → square < distance p from }
+/// A box around a point that has each point no farther from it than another one. It is mostly not much greater than it need be.
+pub(crate) fn box_within(from: Point, farthest: Point) -> KeyBox
+    ensures { (p : Point) → IsPoint p → has_point (box_of result) p ≡ false → distance farthest from < distance p from }
 {
-    box_around(from, root_above(square))
+    let side = longer(farthest.x.abs_diff(from.x), farthest.y.abs_diff(from.y));
+    box_around(from, side)
 }
 
 /// The box that has each point.
@@ -41,22 +42,14 @@ fn box_around(middle: Point, side: u32) -> KeyBox
     })
 }
 
-// A number whose square is no less, mostly nearly the root; the greatest of all where there is none.
-fn root_above(square: u128) -> u32
-    ensures { result < 2 ^ 32 - 1 → square ≤ result * result }
+// A number whose square is no less than the two squares together, by an eighth too great at most; the greatest of all where
+// there is none.
+fn longer(a: u32, b: u32) -> u32
+    ensures { result < 2 ^ 32 - 1 → a * a + b * b ≤ result * result }
 {
-    let Ok(square) = u64::try_from(square) else {
-        return u32::MAX;
-    };
-    match u32::try_from(nearly_root(square)) {
-        Ok(root) if square <= u64::from(root) * u64::from(root) => root,
-        _ => u32::MAX,
+    if a < b {
+        b.saturating_add(a - a / 2)
+    } else {
+        a.saturating_add(b - b / 2)
     }
-}
-
-// Two steps of Newton's method from the power of two above the root. Each of them ends above the root.
-fn nearly_root(square: u64) -> u64 {
-    let first = 1u64 << ((65 - square.leading_zeros()) / 2);
-    let second = first.saturating_add(square / first) / 2 + 1;
-    second.saturating_add(square / second) / 2 + 1
 }

@@ -38,6 +38,6 @@ fn square(gap: u32) -> u128
     ensures square { result ≡ gap * gap }
     ensures most { result ≤ 18446744065119617025 }
 {
-    let wide = u128::from(gap);
-    wide * wide
+    let wide = u64::from(gap);
+    u128::from(wide * wide)
 }
