@@ -45,7 +45,7 @@ impl Kept {
             self.heap.push(one)?;
             Ok(true)
         } else {
-            replace_farthest(&mut self.heap, one)?;
+            replace_farthest(&mut self.heap, one);
             Ok(false)
         }
     }
@@ -84,18 +84,20 @@ impl Kept {
 }
 
 // Leaves the farthest out for a candidate that comes before it.
-fn replace_farthest(heap: &mut BinaryHeap<Candidate>, one: Candidate) -> Result<(), AllocError>
+fn replace_farthest(heap: &mut BinaryHeap<Candidate>, one: Candidate)
     requires { IsHeap candidate_cmp (heap_items heap.old) }
-    ensures { OnOk result (Replaces one (heap_items heap.old) (heap_items heap.new)) }
+    ensures { Replaces one (heap_items heap.old) (heap_items heap.new) }
 {
     let Some(farthest) = heap.peek() else {
-        return Ok(());
+        return;
     };
-    if one.cmp(farthest).is_lt() {
-        heap.pop();
-        heap.push(one)?;
+    if !one.cmp(farthest).is_lt() {
+        return;
     }
-    Ok(())
+    let Some(mut farthest) = heap.peek_mut() else {
+        return;
+    };
+    *farthest = one;
 }
 
 fn objects(alloc: Global, candidates: &[Candidate]) -> Result<Vec<Placed>, AllocError>

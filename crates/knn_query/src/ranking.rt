@@ -19,7 +19,7 @@ use table_share::placed;
 use zorder::{Memory, Name, Point};
 
 // As many subtrees as are mostly ahead at once.
-const MANY_AHEAD: usize = 32;
+const MANY_AHEAD: usize = 20;
 
 /// The first `k` objects, or all where there are fewer, the nearest first, and of two as near the one with the lesser id.
 /// Each bucket that it opens is a step. It is a best-first search (Hjaltason and Samet, "Distance Browsing in Spatial

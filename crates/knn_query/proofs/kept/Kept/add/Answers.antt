@@ -31,7 +31,7 @@ returns-in_ok-push c =
       keeps = λ world rest are pass. pass_adds_one p k world rest c.args.m (map object_of cs) (map object_of ds) (are 0 c.args.m (lit< tt)) made pass;
     }
 
-pub returns-in_ok-replace_farthest : goal.returns-in_ok-replace_farthest
-returns-in_ok-replace_farthest c =
+pub returns-else-len-self : goal.returns-else-len-self
+returns-else-len-self c =
     replaced-passes c.args.m c.new-one.result c.args.self.now (record { from = c.args.self.now.from; k = c.args.self.now.k; heap = c.replace_farthest.new.heap }) c.new-one.ensures.object c.new-one.ensures.measured c.requires
-    (omega (arith, c.if-len-self.false, c.len.ensures, c.args.self.now.heap.data.ok.0)) refl refl c.in_ok-replace_farthest.ensures
+    (omega (arith, c.if-len-self.false, c.len.ensures, c.args.self.now.heap.data.ok.0)) refl refl c.replace_farthest.ensures
