@@ -29,16 +29,17 @@ impl KeyBox {
     pub fn has(&self, key: u64) -> bool
         ensures { result ≡ has_point (box_of self.now) (point_of key) }
     {
-        between(self.lo >> 1, key >> 1, self.hi >> 1) && between(self.lo, key, self.hi)
+        between(self.lo >> 1, key >> 1, self.hi >> 1) & between(self.lo, key, self.hi)
     }
 }
 
+// All tests are made, since which of them fails can't be foretold: a branch for each would cost more than they do.
 // Whether the number that the even places of a key make is one from the first to the last.
 fn between(first: u64, key: u64, last: u64) -> bool
     ensures { result ≡ (nat_le (even_bits first) (even_bits key) && nat_le (even_bits key) (even_bits last)) }
 {
     let bits = evens(key);
-    evens(first) <= bits && bits <= evens(last)
+    (evens(first) <= bits) & (bits <= evens(last))
 }
 
 // The bits at even places, where they are: such numbers have the order of those that the bits make.
