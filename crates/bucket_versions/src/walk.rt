@@ -1,7 +1,6 @@
 //! The rows of a bucket, one after the other.
-ghost use Rattle.std.specs.Prelude.{◌≡◌, false};
+ghost use Rattle.std.specs.Prelude.{◌≡◌, ◌∷◌, [], false, MatchOption};
 ghost use Rattle.bucket_versions.specs.Delta.{difference, heads_meet, delta_leads};
-ghost use Rattle.std.specs.Iterator.{YieldsFirstRef};
 
 use crate::row::Row;
 use std::marker::Model;
@@ -84,27 +83,25 @@ impl<'a> Iterator for BucketRows<'a> {
             self.base = others;
             return Some(first);
         }
-        self.merge_next()
+        let (first, base, delta) = merged_next(self.base, self.delta)?;
+        self.base = base;
+        self.delta = delta;
+        Some(first)
     }
 }
 
-impl<'a> BucketRows<'a> {
-    // The first of the rows that are left, where two lists are merged.
-    #[inline(never)]
-    fn merge_next(&mut self) -> Option<&'a Row>
-        ensures { YieldsFirstRef (λ left. left) self.old result self.new }
-    {
-        let (base, delta) = apart(self.base, self.delta);
-        if leads(base, delta) {
-            let (first, others) = delta.split_first()?;
-            self.base = base;
-            self.delta = others;
-            Some(first)
-        } else {
-            let (first, others) = base.split_first()?;
-            self.base = others;
-            self.delta = delta;
-            Some(first)
-        }
+// The first row of the difference of two lists, and two whose difference the others are. It takes the lists and not the
+// iterator, so that a loop over the rows of one list keeps the iterator in registers.
+#[inline(never)]
+fn merged_next<'a>(base: &'a [Row], delta: &'a [Row]) -> Option<(&'a Row, &'a [Row], &'a [Row])>
+    ensures { MatchOption result (difference base.now delta.now ≡ []) (λ next. difference base.now delta.now ≡ next.0.now ∷ difference next.1.now next.2.now) }
+{
+    let (base, delta) = apart(base, delta);
+    if leads(base, delta) {
+        let (first, others) = delta.split_first()?;
+        Some((first, base, others))
+    } else {
+        let (first, others) = base.split_first()?;
+        Some((first, others, delta))
     }
 }
