@@ -1,8 +1,7 @@
 -- What is found in a box so far, as leaves and rows are passed.
-use Rattle.std.proofs.Common.{◌≡◌, ℕ, ◌+◌, ◌<◌, ◌≤◌, ◌^◌, true, false, cond, List, [], ◌∷◌, ◌++◌, length, refl, sym, ap, subst, ◌∙◌, arith, length-append, append_assoc, Result, Ok, Err, OnOk}
+use Rattle.std.proofs.Common.{◌≡◌, ℕ, ◌+◌, ◌<◌, ◌≤◌, ◌^◌, true, false, cond, List, [], ◌∷◌, ◌++◌, length, sym, ap, ◌∙◌, arith, length-append, append_assoc, Result, Ok, Err, OnOk}
 use Rattle.std.specs.Prelude.{nat_le}
 use Rattle.std.specs.List.Sorted.{IsPermutation}
-use Rattle.std.proofs.lemmas.List.{append-nil}
 use Rattle.std.proofs.lemmas.List.Sorted.{length_permutation}
 use Rattle.std.proofs.lemmas.Bool.Decides.{nat_tests}
 use Rattle.zorder.specs.declared.points.Placed.{Placed}
@@ -21,32 +20,11 @@ pub on_ok : {T E A B : Type 0} (r : Result T E) → (A → B) → OnOk r A → O
 on_ok (Ok x) f a = f a
 on_ok (Err e) f a = tt
 
--- one object more
-pub listing-add : (ms : List Placed) (m : Placed) (old new : Listing) → new.count ≡ old.count + 1 → (old.count < 2048 → new.list.items ≡ old.list.items ++ m ∷ []) → IsListing ms old → IsListing (ms ++ m ∷ []) new
-listing-add ms m old new counted pushed is =
-    (omega (arith, counted, is.0, length-append ms (m ∷ [])), λ few. pushed (omega (arith, few, is.0, length-append ms (m ∷ []))) ∙ ap (λ (xs : List Placed). xs ++ m ∷ []) (is.1 (omega (arith, few, length-append ms (m ∷ [])))))
-
--- many more
-pub listing-all : (ms more : List Placed) (old new : Listing) → new.count ≡ old.count + length more → (new.count ≤ 2048 → new.list.items ≡ old.list.items ++ more) → IsListing ms old → IsListing (ms ++ more) new
-listing-all ms more old new counted pushed is =
-    (omega (arith, counted, is.0, length-append ms more), λ few. pushed (omega (arith, few, counted, is.0, length-append ms more)) ∙ ap (λ (xs : List Placed). xs ++ more) (is.1 (omega (arith, few, length-append ms more))))
-
 -- the objects that rows that are gone stand for, where these are left
 pub record Passed (region : Region) (ms : List Placed) (all left : List Row) (listing : Listing) : Type 0 where
   pub done : List Placed
   pub is : IsListing done listing
   pub rest : done ++ members_in region (objects_of left) ≡ ms ++ members_in region (objects_of all)
-
-pub passed-begin : (region : Region) (ms : List Placed) (all : List Row) (listing : Listing) → IsListing ms listing → Passed region ms all all listing
-passed-begin region ms all listing is = record { done = ms; is = is; rest = refl }
-
-pub passed-out : (region : Region) (ms : List Placed) (all rows left : List Row) (r : Row) (listing : Listing) → rows ≡ r ∷ left → has_point region (placed_of r).at ≡ false → Passed region ms all rows listing → Passed region ms all left listing
-passed-out region ms all rows left r listing first out p = record {
-  done = p.done;
-  is = p.is;
-  rest = ap (λ b. p.done ++ cond b (placed_of r ∷ members_in region (objects_of left)) (members_in region (objects_of left))) (sym out)
-      ∙ ap (λ (rs : List Row). p.done ++ members_in region (objects_of rs)) (sym first) ∙ p.rest;
-}
 
 module _ (region : Region) (ms : List Placed) (all rows left : List Row) (r : Row) (listing : Listing) (first : rows ≡ r ∷ left) (there : has_point region (placed_of r).at ≡ true) (p : Passed region ms all rows listing) where
   next : (p.done ++ placed_of r ∷ []) ++ members_in region (objects_of left) ≡ ms ++ members_in region (objects_of all)
@@ -72,9 +50,6 @@ module _ (region : Region) (ms : List Placed) (all rows left : List Row) (r : Ro
 
   pub passed-in : (new : Listing) → (IsListing p.done listing → IsListing (p.done ++ placed_of r ∷ []) new) → Passed region ms all left new
   passed-in new add = record { done = p.done ++ placed_of r ∷ []; is = add p.is; rest = next }
-
-pub passed-end : (region : Region) (ms : List Placed) (all : List Row) (listing : Listing) → Passed region ms all [] listing → IsListing (ms ++ members_in region (objects_of all)) listing
-passed-end region ms all listing p = subst (λ (xs : List Placed). IsListing xs listing) (sym (append-nil p.done) ∙ p.rest) p.is
 
 -- the answer that a list of the objects is
 pub listed-many : (ms found : List Placed) (n : ℕ) → IsPermutation ms found → n ≡ length found → 2048 < n → Many n ≡ listed ms

@@ -1,5 +1,5 @@
 -- How leaves and their rows lie to a box.
-use Rattle.std.specs.Prelude.{◌≡◌, ◌≤◌, ℕ, Bool, not, ◌&&◌, List, length}
+use Rattle.std.specs.Prelude.{◌≡◌, ◌≤◌, ◌<◌, ◌^◌, ℕ, Bool, not, ◌&&◌, List, length}
 use Rattle.zorder.specs.declared.points.Placed.{Placed}
 use Rattle.zorder.specs.declared.points.Region.{Region}
 use Rattle.prefix_names.specs.Regions.{region_of, meet, lies_in}
@@ -34,6 +34,10 @@ leaves_cut region leaves = leaves_of (is_cut region) leaves
 abbrev pub number_in : Region → List Row → ℕ
 number_in region rows = length (members_in region (objects_of rows))
 
+-- the number of rows that stand for an object in the box, where there are not too many to be counted
+abbrev pub IsNumberIn : Region → List Row → ℕ → Type 0
+IsNumberIn region rows n = number_in region rows < 2 ^ 64 → n ≡ number_in region rows
+
 -- the leaves in the subtree of a name whose region the box meets
 abbrev pub below_met : Region → List Bool → List Leaf → List Leaf
 below_met region name leaves = leaves_met region (subtree name leaves)
@@ -41,3 +45,11 @@ below_met region name leaves = leaves_met region (subtree name leaves)
 -- the objects in the box that rows of these leaves stand for, one leaf after the other
 abbrev pub objects_held : Region → List Leaf → List Placed
 objects_held region leaves = members_in region (objects_of (all_rows leaves))
+
+-- the objects in the box below a name
+abbrev pub held_below : Region → List Bool → List Leaf → List Placed
+held_below region name leaves = objects_held region (below_met region name leaves)
+
+-- the number of those, where there are not too many to be counted
+abbrev pub IsNumberBelow : Region → List Bool → List Leaf → ℕ → Type 0
+IsNumberBelow region name leaves n = IsNumberIn region (all_rows (below_met region name leaves)) n

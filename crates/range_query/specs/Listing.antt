@@ -1,5 +1,5 @@
 -- What is found in a box so far.
-use Rattle.std.specs.Prelude.{◌≡◌, ◌≤◌, ⊤, List, length}
+use Rattle.std.specs.Prelude.{◌≡◌, ◌≤◌, ◌<◌, ◌+◌, ◌^◌, ◌++◌, ⊤, List, length, Result, OnOk}
 use Rattle.zorder.specs.declared.points.Placed.{Placed}
 use Rattle.plain_list.specs.declared.ops.Answer.{Answer}
 use Rattle.plain_list.specs.declared.ops.Answer.TheVariants.{Done, Present, Full, Moved, Gone, At, Absent, Found, Many}
@@ -8,6 +8,10 @@ use Rattle.range_query.specs.declared.found.Listing.{Listing}
 -- so many objects, and these, where they are not too many to be listed
 abbrev pub IsListing : List Placed → Listing → Type 0
 IsListing ms listing = (listing.count ≡ length ms) × (length ms ≤ 2048 → listing.list.items ≡ ms)
+
+-- objects come to those that are listed, in their order, where there are not too many to be counted
+abbrev pub Adds : {T E : Type 0} → Result T E → List Placed → Listing → Listing → Type 0
+Adds result more old new = (ms : List Placed) → length ms + length more < 2 ^ 64 → IsListing ms old → OnOk result (IsListing (ms ++ more) new)
 
 -- it holds where objects are listed
 abbrev pub OnFound : Answer → Type 0 → Type 0

@@ -1,11 +1,10 @@
 //! How many objects are in a box.
 ghost use Rattle.std.specs.Prelude.{◌≡◌, ◌+◌, ◌<◌, ◌^◌, if◌then◌else◌, true, length};
 ghost use Rattle.zorder.specs.Region.{IsBox};
-ghost use Rattle.index_layer.specs.Leaves.{all_rows};
 ghost use Rattle.plain_list.specs.Answer.{members_in};
 ghost use Rattle.table_share.specs.Subtree.{subtree};
 ghost use Rattle.table_share.specs.Worlds.{OfEachWorld};
-ghost use Rattle.range_query.specs.Cut.{IsAreaOf, is_met, is_cut, leaves_cut, below_met, number_in};
+ghost use Rattle.range_query.specs.Cut.{IsAreaOf, is_met, is_cut, leaves_cut, IsNumberIn, IsNumberBelow};
 ghost use Rattle.table_share.specs.KeysUnder.{AreKeysUnder, AreAllKeysUnder};
 
 use bucket_versions::Bucket;
@@ -39,7 +38,7 @@ fn count_below<I: Index, L: Ledger>(
     requires is_box { IsBox region.now }
     requires at { I.is_at index.now place.now name.now }
     requires area { IsAreaOf name.now area.now }
-    ensures number { AreAllKeysUnder (I.leaves index.now) → number_in region.now (all_rows (below_met region.now name.now (I.leaves index.now))) < 2 ^ 64 → result ≡ number_in region.now (all_rows (below_met region.now name.now (I.leaves index.now))) }
+    ensures number { AreAllKeysUnder (I.leaves index.now) → IsNumberBelow region.now name.now (I.leaves index.now) result }
     ensures opened { steps.new ≡ steps.old + length (leaves_cut region.now (subtree name.now (I.leaves index.now))) }
 {
     if !meets(area, region) {
@@ -66,7 +65,7 @@ fn count_leaf<L: Ledger>(
     requires is_box { IsBox region.now }
     requires area { IsAreaOf name.now area.now }
     requires met { is_met region.now name.now ≡ true }
-    ensures number { AreKeysUnder name.now bucket.now.rows → number_in region.now bucket.now.rows < 2 ^ 64 → result ≡ number_in region.now bucket.now.rows }
+    ensures number { AreKeysUnder name.now bucket.now.rows → IsNumberIn region.now bucket.now.rows result }
     ensures opened { steps.new ≡ steps.old + (if is_cut region.now name.now then 1 else 0) }
 {
     if inside(area, region) {
@@ -77,7 +76,7 @@ fn count_leaf<L: Ledger>(
 }
 
 fn count_rows<L: Ledger>(bucket: &Bucket, region: &Region, steps: &mut Steps<L>) -> u64
-    ensures number { number_in region.now bucket.now.rows < 2 ^ 64 → result ≡ number_in region.now bucket.now.rows }
+    ensures number { IsNumberIn region.now bucket.now.rows result }
     ensures opened { steps.new ≡ steps.old + 1 }
 {
     let corners = KeyBox::of(region);

@@ -6,8 +6,8 @@ ghost use Rattle.plain_list.specs.Answer.{members_in, listed};
 ghost use Rattle.table_share.specs.KeysUnder.{AreKeysUnder, AreAllKeysUnder};
 ghost use Rattle.table_share.specs.Objects.{objects_of};
 ghost use Rattle.table_share.specs.Worlds.{OfEachWorld};
-ghost use Rattle.range_query.specs.Cut.{IsAreaOf, is_met, leaves_met, below_met, number_in, objects_held};
-ghost use Rattle.range_query.specs.Listing.{IsListing, OnFound};
+ghost use Rattle.range_query.specs.Cut.{IsAreaOf, is_met, leaves_met, below_met, held_below};
+ghost use Rattle.range_query.specs.Listing.{Adds, IsListing, OnFound};
 
 use crate::ranges::push_all;
 use bucket_versions::Bucket;
@@ -44,7 +44,7 @@ impl Listing {
     }
 
     fn add(&mut self, m: Placed) -> Result<(), Memory>
-        ensures lists { (ms : List Placed) → length ms + 1 < 2 ^ 64 → IsListing ms self.old → OnOk result (IsListing (ms ++ m ∷ []) self.new) }
+        ensures lists { Adds result (m ∷ []) self.old self.new }
         ensures grows { self.old.count ≤ self.new.count }
     {
         if self.count < MOST_LISTED {
@@ -94,7 +94,7 @@ fn list_below<I: Index, L: Ledger>(
     requires is_box { IsBox region.now }
     requires at { I.is_at index.now place.now name.now }
     requires area { IsAreaOf name.now area.now }
-    ensures lists { AreAllKeysUnder (I.leaves index.now) → (ms : List Placed) → length ms + length (objects_held region.now (below_met region.now name.now (I.leaves index.now))) < 2 ^ 64 → IsListing ms found.old → OnOk result (IsListing (ms ++ objects_held region.now (below_met region.now name.now (I.leaves index.now))) found.new) }
+    ensures lists { AreAllKeysUnder (I.leaves index.now) → Adds result (held_below region.now name.now (I.leaves index.now)) found.old found.new }
     ensures grows { found.old.count ≤ found.new.count }
     ensures opened { steps.new ≤ steps.old + length (below_met region.now name.now (I.leaves index.now)) }
     ensures exact { OnOk result (found.new.count ≤ 2048 → steps.new ≡ steps.old + length (below_met region.now name.now (I.leaves index.now))) }
@@ -123,7 +123,7 @@ fn list_leaf<L: Ledger>(
 ) -> Result<(), Memory>
     requires is_box { IsBox region.now }
     requires area { IsAreaOf name.now area.now }
-    ensures lists { AreKeysUnder name.now bucket.now.rows → (ms : List Placed) → length ms + number_in region.now bucket.now.rows < 2 ^ 64 → IsListing ms found.old → OnOk result (IsListing (ms ++ members_in region.now (objects_of bucket.now.rows)) found.new) }
+    ensures lists { AreKeysUnder name.now bucket.now.rows → Adds result (members_in region.now (objects_of bucket.now.rows)) found.old found.new }
     ensures grows { found.old.count ≤ found.new.count }
     ensures opened { steps.new ≤ steps.old + 1 }
     ensures exact { OnOk result (found.new.count ≤ 2048 → steps.new ≡ steps.old + 1) }
@@ -160,7 +160,7 @@ fn list_rows<L: Ledger>(
     region: &Region,
     steps: &mut Steps<L>,
 ) -> Result<(), Memory>
-    ensures lists { (ms : List Placed) → length ms + number_in region.now bucket.now.rows < 2 ^ 64 → IsListing ms found.old → OnOk result (IsListing (ms ++ members_in region.now (objects_of bucket.now.rows)) found.new) }
+    ensures lists { Adds result (members_in region.now (objects_of bucket.now.rows)) found.old found.new }
     ensures grows { found.old.count ≤ found.new.count }
     ensures opened { steps.new ≡ steps.old + 1 }
 {

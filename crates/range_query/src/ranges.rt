@@ -5,7 +5,7 @@ ghost use Rattle.plain_list.specs.Answer.{members_in};
 ghost use Rattle.table_share.specs.KeysUnder.{AreKeysUnder, AreAllKeysUnder};
 ghost use Rattle.table_share.specs.Objects.{objects_of};
 ghost use Rattle.table_share.specs.Worlds.{OfEachWorld};
-ghost use Rattle.range_query.specs.Cut.{leaves_met, below_met, objects_held};
+ghost use Rattle.range_query.specs.Cut.{leaves_met, below_met, held_below};
 
 use bucket_versions::Bucket;
 use index_layer::{Below, Index};
@@ -54,7 +54,7 @@ fn push_below<I: Index, L: Ledger>(
 ) -> Result<(), Memory>
     requires is_box { IsBox region.now }
     requires at { I.is_at index.now place.now name.now }
-    ensures objects { AreAllKeysUnder (I.leaves index.now) → OnOk result (found.new.items ≡ found.old.items ++ objects_held region.now (below_met region.now name.now (I.leaves index.now))) }
+    ensures objects { AreAllKeysUnder (I.leaves index.now) → OnOk result (found.new.items ≡ found.old.items ++ held_below region.now name.now (I.leaves index.now)) }
     ensures opened { steps.new ≤ steps.old + length (below_met region.now name.now (I.leaves index.now)) }
     ensures exact { OnOk result (steps.new ≡ steps.old + length (below_met region.now name.now (I.leaves index.now))) }
 {
