@@ -6,6 +6,7 @@ use plain_list::Op;
 use std::alloc::AllocFailed;
 use std::marker::Model;
 use thiserror::Error;
+use zorder::Memory;
 
 /// An operation, and the session that asks for it.
 #[derive(Clone, Copy, Debug, PartialEq, Eq)]
@@ -97,6 +98,16 @@ pub enum Refusal {
     LongLog,
     Memory,
     InUse { len: u64 },
+}
+
+impl From<Memory> for Refusal {
+    ghost use Rattle.csv_rows.specs.declared.rows.Refusal.TheVariants as refusal;
+
+    ghost from_gives = { λ _ r. r ≡ refusal.Memory };
+
+    fn from(_: Memory) -> Refusal {
+        Refusal::Memory
+    }
 }
 
 /// How many of each a log was found to have: cells, points after them, leaves, and splits that haven't ended.
