@@ -6,3 +6,4 @@ pub mod PiecesFacts
 pub mod LinesFacts
 pub mod ObjectFacts
 pub mod RoundTrip
+pub mod WrittenFacts

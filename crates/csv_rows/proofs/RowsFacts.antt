@@ -112,7 +112,7 @@ begins text old new found f h t e good = record {
   fewer = refl;
 }
 
-all_by_recursion-push : (rows : List InRow) (row : InRow) → AllByRecursion IsInRow rows → IsInRow row → AllByRecursion IsInRow (rows ++ row ∷ [])
+pub all_by_recursion-push : (rows : List InRow) (row : InRow) → AllByRecursion IsInRow rows → IsInRow row → AllByRecursion IsInRow (rows ++ row ∷ [])
 all_by_recursion-push [] row h good = (good, tt)
 all_by_recursion-push (r ∷ rows) row h good = (h.0, all_by_recursion-push rows row h.1 good)
 

@@ -23,6 +23,10 @@ row_fields row = decimal row.session ∷ op_fields row.op
 abbrev pub fields_line : List (List ℕ) → List ℕ
 fields_line fields = join_by (λ field. field) (codes ",") fields ++ codes "\n"
 
+-- what stands behind the session in the line of a row
+abbrev pub op_tail : Op → List ℕ
+op_tail op = flat_map (λ (field : List ℕ). codes "," ++ field) (op_fields op) ++ codes "\n"
+
 abbrev pub row_line : InRow → List ℕ
 row_line row = fields_line (row_fields row)
 

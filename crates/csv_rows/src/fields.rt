@@ -13,7 +13,7 @@ use csv::ByteRecord;
 use plain_list::Op;
 use zorder::{Point, Region};
 
-const COORDINATE_MAX: u64 = 4_294_967_295;
+pub(crate) const COORDINATE_MAX: u64 = 4_294_967_295;
 
 /// The operation that column 2 names.
 #[derive(Clone, Copy, Debug, PartialEq, Eq)]

@@ -21,6 +21,7 @@ mod read;
 mod records;
 mod row_lines;
 mod rows;
+mod written;
 
 pub use gathering::Gathered;
 pub use lines::{refusal_line, write_line, write_title};

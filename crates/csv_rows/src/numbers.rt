@@ -1,9 +1,12 @@
 //! Decimal numbers, read by hand from bytes.
-ghost use Rattle.std.specs.Prelude.{◌≡◌, ◌≤◌, ◌<◌, ◌^◌, true, length, SomeIff};
+ghost use Rattle.std.specs.Prelude.{◌≡◌, ◌≤◌, ◌<◌, ◌^◌, true, false, get_or, length, take, SomeIff};
 ghost use Rattle.std.specs.Char.{is_ascii_digit};
 ghost use Rattle.std.specs.List.{list_all};
 ghost use Rattle.std.specs.Str.Parse.{digits_value};
 ghost use Rattle.csv_rows.specs.Numbers.{FitsWord, number_in};
+
+// Any number of so many digits fits 64 bits.
+const MOST_DIGITS: usize = 19;
 
 /// The number that a field of one to twenty digits says, where it lies between these two. Leading zeros are read.
 pub fn number_in(field: &[u8], low: u64, high: u64) -> Option<u64>
@@ -47,12 +50,28 @@ fn front_value(bytes: &[u8]) -> Option<u64>
     requires { length bytes.now ≤ 19 }
     ensures { SomeIff result (list_all is_ascii_digit bytes.now ≡ true) (digits_value 10 bytes.now) }
 {
-    let mut value: u64 = 0;
-    for byte in bytes {
-        if !byte.is_ascii_digit() {
-            return None;
-        }
-        value = value * 10 + u64::from(*byte - b'0');
+    let (value, len) = front_number(bytes);
+    if len < bytes.len() {
+        return None;
     }
     Some(value)
+}
+
+/// What the digits at the front of a text say, and how many they are. It takes nineteen at most, which always fit.
+pub(crate) fn front_number(text: &[u8]) -> (u64, usize)
+    ensures value { result.0 ≡ digits_value 10 (take result.1 text.now) }
+    ensures digits { list_all is_ascii_digit (take result.1 text.now) ≡ true }
+    ensures few { (result.1 ≤ length text.now) × (result.1 ≤ 19) }
+    ensures all { result.1 < length text.now → result.1 < 19 → is_ascii_digit (get_or text.now result.1 0) ≡ false }
+{
+    let most = text.len().min(MOST_DIGITS);
+    let mut value: u64 = 0;
+    for len in 0..most {
+        let byte = text[len];
+        if !byte.is_ascii_digit() {
+            return (value, len);
+        }
+        value = value * 10 + u64::from(byte - b'0');
+    }
+    (value, most)
 }

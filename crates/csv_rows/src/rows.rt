@@ -3,7 +3,7 @@ ghost use Rattle.std.specs.Prelude.{◌≡◌};
 
 use cell_format::Cause;
 use plain_list::Op;
-use std::alloc::AllocFailed;
+use std::alloc::{AllocError, AllocFailed};
 use std::marker::Model;
 use thiserror::Error;
 use zorder::Memory;
@@ -68,6 +68,16 @@ pub enum RowsFault {
     TooMany,
     #[error("out of memory")]
     Memory,
+}
+
+impl From<AllocError> for RowsFault {
+    ghost use Rattle.csv_rows.specs.declared.rows.RowsFault.TheVariants.{Memory};
+
+    ghost from_gives = { λ _ fault. fault ≡ Memory };
+
+    fn from(_: AllocError) -> RowsFault {
+        RowsFault::Memory
+    }
 }
 
 impl<T: Drop> From<AllocFailed<T>> for RowsFault {

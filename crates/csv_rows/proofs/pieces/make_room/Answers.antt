@@ -1,4 +1,3 @@
-use Rattle.std.proofs.Common.{◌∙◌}
 use Rattle.csv_rows.proofs.PiecesFacts.{holds-put}
 use Rattle.csv_rows.proofs.pieces.make_room.Goals as goal
 

@@ -1,4 +1,4 @@
-use Rattle.std.proofs.Common.{◌≡◌, ◌∙◌, sym, ap, arith, Ok, Err}
+use Rattle.std.proofs.Common.{◌∙◌, sym, ap, arith, Ok, Err}
 use Rattle.csv_rows.proofs.RowsFacts.{begins, has_all, has_more, has_over, has_wrong, no_header, no_record}
 use Rattle.csv_rows.proofs.read.read_records.Goals as goal
 

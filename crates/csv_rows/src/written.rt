@@ -1,0 +1,192 @@
+//! Rows in the very form that `write_rows` gives them, read in one pass over their bytes.
+//!
+//! Most inputs have that form: no quotes, lines that end with a line feed, numbers without leading zeros. Of any other
+//! text, and of one with a fault, nothing is said here: `read` has `csv` decide.
+ghost use Rattle.std.specs.Prelude.{◌≡◌, ◌≤◌, ◌<◌, ◌^◌, ◌++◌, codes, IfOk, IfErr, IfSome};
+ghost use Rattle.std.specs.Fmt.{decimal};
+ghost use Rattle.plain_list.specs.Answer.{IsValid, FitsOp};
+ghost use Rattle.zorder.specs.Key.{IsPoint};
+ghost use Rattle.csv_rows.specs.InRows.{AreInRows, IsInRow};
+ghost use Rattle.csv_rows.specs.RowLines.{header_line, op_tail, row_line, rows_text};
+
+use crate::fields::COORDINATE_MAX;
+use crate::numbers::front_number;
+use crate::read::MOST_ROWS;
+use crate::rows::{InRow, Rows, RowsFault};
+use plain_list::Op;
+use std::alloc::Global;
+use zorder::{Point, Region};
+
+// Room is taken at once for the rows that a text of this many bytes a row has.
+const BYTES_A_ROW: usize = 32;
+
+const ORIGIN: Point = Point { x: 0, y: 0 };
+
+/// The rows of a text that `write_rows` writes of them; none where it is another text.
+pub(crate) fn written_rows(alloc: Global, text: &[u8]) -> Result<Option<Rows>, RowsFault>
+    ensures rows { IfOk result (λ o. IfSome o (λ rows. (text.now ≡ rows_text rows) × AreInRows rows)) }
+    ensures fault { IfErr result (λ e. e ≡ RowsFault.Memory) }
+{
+    let Some(lines) = behind_header(text) else {
+        return Ok(None);
+    };
+    let room = (lines.len() / BYTES_A_ROW).min(MOST_ROWS as usize);
+    let mut rows = Vec::with_capacity(alloc, room)?;
+    let mut rest = lines;
+    for _ in 0..MOST_ROWS {
+        if rest.is_empty() {
+            break;
+        }
+        let Some((row, behind)) = take_row(rest) else {
+            return Ok(None);
+        };
+        rows.push(row)?;
+        rest = behind;
+    }
+    if !rest.is_empty() {
+        return Ok(None);
+    }
+    Ok(Some(Rows::from_vec(rows)))
+}
+
+fn behind_header(text: &[u8]) -> Option<&[u8]>
+    ensures { IfSome result (λ lines. text.now ≡ header_line ++ lines.now) }
+{
+    text.strip_prefix(b"session,op,id,x,y,a,b\n".as_slice())
+}
+
+// A row, and what stands behind its line.
+fn take_row(text: &[u8]) -> Option<(InRow, &[u8])>
+    ensures line { IfSome result (λ p. text.now ≡ row_line p.0 ++ p.1.now) }
+    ensures rules { IfSome result (λ p. IsInRow p.0) }
+{
+    let (session, rest) = take_number(text, 1, 16)?;
+    let (op, rest) = take_op(rest)?;
+    let row = InRow {
+        session: session as u8,
+        op,
+    };
+    Some((row, rest))
+}
+
+fn take_op(text: &[u8]) -> Option<(Op, &[u8])>
+    ensures tail { IfSome result (λ p. text.now ≡ op_tail p.0 ++ p.1.now) }
+    ensures rules { IfSome result (λ p. IsValid p.0 × FitsOp p.0) }
+{
+    match text {
+        [b',', b'p', b'u', b't', b',', rest @ ..] => {
+            let (id, at, rest) = take_placed(rest)?;
+            Some((Op::Put { id, at }, rest))
+        }
+        [b',', b'm', b'o', b'v', b'e', b',', rest @ ..] => {
+            let (id, at, rest) = take_placed(rest)?;
+            Some((Op::Move { id, at }, rest))
+        }
+        [b',', b'd', b'r', b'o', b'p', b',', rest @ ..] => {
+            let (id, rest) = take_id(rest)?;
+            Some((Op::Remove { id }, rest))
+        }
+        [b',', b'w', b'h', b'e', b'r', b'e', b',', rest @ ..] => {
+            let (id, rest) = take_id(rest)?;
+            Some((Op::Find { id }, rest))
+        }
+        [b',', b'b', b'o', b'x', b',', b',', rest @ ..] => take_box(rest),
+        [b',', b'n', b'e', b'a', b'r', b',', b',', rest @ ..] => take_near(rest),
+        _ => None,
+    }
+}
+
+// An id and a point: what put and move say.
+fn take_placed(text: &[u8]) -> Option<(u64, Point, &[u8])>
+    ensures text { IfSome result (λ p. text.now ≡ decimal p.0 ++ (codes "," ++ (decimal p.1.x ++ (codes "," ++ (decimal p.1.y ++ (codes ",,\n" ++ p.2.now)))))) }
+    ensures fits { IfSome result (λ p. (p.0 < 2 ^ 64) × IsPoint p.1) }
+{
+    let (id, rest) = take_number(text, 0, u64::MAX)?;
+    let [b',', rest @ ..] = rest else {
+        return None;
+    };
+    let (at, rest) = take_point(rest, ORIGIN)?;
+    let [b',', b',', b'\n', rest @ ..] = rest else {
+        return None;
+    };
+    Some((id, at, rest))
+}
+
+// An id alone: what drop and where say.
+fn take_id(text: &[u8]) -> Option<(u64, &[u8])>
+    ensures text { IfSome result (λ p. text.now ≡ decimal p.0 ++ (codes ",,,,\n" ++ p.1.now)) }
+    ensures fits { IfSome result (λ p. p.0 < 2 ^ 64) }
+{
+    let (id, rest) = take_number(text, 0, u64::MAX)?;
+    let [b',', b',', b',', b',', b'\n', rest @ ..] = rest else {
+        return None;
+    };
+    Some((id, rest))
+}
+
+fn take_box(text: &[u8]) -> Option<(Op, &[u8])>
+    ensures tail { IfSome result (λ p. codes ",box,," ++ text.now ≡ op_tail p.0 ++ p.1.now) }
+    ensures rules { IfSome result (λ p. IsValid p.0 × FitsOp p.0) }
+{
+    let (lo, rest) = take_point(text, ORIGIN)?;
+    let [b',', rest @ ..] = rest else {
+        return None;
+    };
+    let (hi, rest) = take_point(rest, lo)?;
+    let [b'\n', rest @ ..] = rest else {
+        return None;
+    };
+    let region = Region { lo, hi };
+    Some((Op::Within { region }, rest))
+}
+
+fn take_near(text: &[u8]) -> Option<(Op, &[u8])>
+    ensures tail { IfSome result (λ p. codes ",near,," ++ text.now ≡ op_tail p.0 ++ p.1.now) }
+    ensures rules { IfSome result (λ p. IsValid p.0 × FitsOp p.0) }
+{
+    let (at, rest) = take_point(text, ORIGIN)?;
+    let [b',', rest @ ..] = rest else {
+        return None;
+    };
+    let (k, rest) = take_number(rest, 1, 2048)?;
+    let [b',', b'\n', rest @ ..] = rest else {
+        return None;
+    };
+    Some((Op::Near { at, k: k as u32 }, rest))
+}
+
+// A point that isn't below another, and what stands behind it.
+fn take_point(text: &[u8], low: Point) -> Option<(Point, &[u8])>
+    ensures text { IfSome result (λ p. text.now ≡ decimal p.0.x ++ (codes "," ++ (decimal p.0.y ++ p.1.now))) }
+    ensures fits { IfSome result (λ p. IsPoint p.0) }
+    ensures above { IfSome result (λ p. (low.x ≤ p.0.x) × (low.y ≤ p.0.y)) }
+{
+    let (x, rest) = take_number(text, u64::from(low.x), COORDINATE_MAX)?;
+    let [b',', rest @ ..] = rest else {
+        return None;
+    };
+    let (y, rest) = take_number(rest, u64::from(low.y), COORDINATE_MAX)?;
+    let at = Point {
+        x: x as u32,
+        y: y as u32,
+    };
+    Some((at, rest))
+}
+
+// A number between these two, and what stands behind it. It has no leading zero, and at most nineteen digits.
+fn take_number(text: &[u8], low: u64, high: u64) -> Option<(u64, &[u8])>
+    ensures text { IfSome result (λ p. text.now ≡ decimal p.0 ++ p.1.now) }
+    ensures between { IfSome result (λ p. (low ≤ p.0) × (p.0 ≤ high)) }
+{
+    let (number, len) = front_number(text);
+    if len == 0 {
+        return None;
+    }
+    if text[0] == b'0' && len > 1 {
+        return None;
+    }
+    if number < low || high < number {
+        return None;
+    }
+    Some((number, &text[len..]))
+}
