@@ -1,8 +1,8 @@
 -- Pieces of a text, one after the other.
-use Rattle.std.proofs.Common.{◌≡◌, ◌∙◌, ℕ, ◌+◌, ◌≤◌, List, [], ◌∷◌, ◌++◌, length, take, drop, Option, Some, None, Result, Ok, Err, refl, sym, ap, subst, arith, append_assoc, length-append, take-append-drop, get_or, ◌<◌}
+use Rattle.std.proofs.Common.{codes, ◌-◌, ◌≡◌, ◌∙◌, ℕ, ◌+◌, ◌≤◌, List, [], ◌∷◌, ◌++◌, length, take, drop, Option, Some, None, Result, Ok, Err, refl, sym, ap, subst, arith, append_assoc, length-append, take-append-drop, get_or, ◌<◌}
 use Rattle.std.proofs.Math.Seq.{take-length}
 use Rattle.std.proofs.lemmas.Grind.{flat_map-append}
-use Rattle.std.proofs.lemmas.List.{append-nil, flat_map_more, take_more}
+use Rattle.std.proofs.lemmas.List.{append-nil, drop-drop, flat_map_more, length-drop, take_more}
 use Rattle.std.specs.List.{flat_map}
 use Rattle.std.proofs.lemmas.Bool.{true≢false}
 use Rattle.std.specs.Result.{IsErr}
@@ -150,3 +150,12 @@ moves-line a b c old kept front detail end held h g =
     let second = moves-is b c ((kept ++ front) ++ detail) (kept ++ (front ++ detail)) held (append_assoc kept front detail) g in
     let both = moves-trans a b c (old ++ (front ++ detail)) (kept ++ (front ++ detail)) held first second in
     moves-is a c ((old ++ (front ++ detail)) ++ end) (old ++ (front ++ detail ++ end)) (held ++ end) (append_assoc old (front ++ detail) end) (moves-more a c (old ++ (front ++ detail)) held end both)
+
+-- a listed point, written from its end to its start
+pub listed-written : (id x y : List ℕ) → 59 ∷ (id ++ (58 ∷ (x ++ (58 ∷ (y ++ []))))) ≡ 59 ∷ (id ++ codes ":" ++ (x ++ codes ":" ++ y))
+listed-written id x y = simp (append_assoc, append-nil)
+
+-- what stands behind a mark in a text of this length
+pub behind-mark : (text rest : List ℕ) (len at mark : ℕ) → length text ≡ len → drop at text ≡ mark ∷ rest → take (len - (at + 1)) (drop (at + 1) text) ≡ rest
+behind-mark text rest len at mark long e =
+    ap (λ n. take n (drop (at + 1) text)) (ap (λ n. n - (at + 1)) (sym long) ∙ sym (length-drop (at + 1) text)) ∙ take-length (drop (at + 1) text) ∙ sym (drop-drop 1 at text) ∙ ap (λ l. drop 1 l) e

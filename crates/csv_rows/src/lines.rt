@@ -1,13 +1,15 @@
 //! The lines of output: answers, and refusals.
-ghost use Rattle.std.specs.Prelude.{◌≡◌, ◌≤◌, ◌+◌, ◌++◌, length, OnOk};
+ghost use Rattle.std.specs.Prelude.{◌≡◌, ◌≤◌, ◌+◌, ◌++◌, codes, length, OnOk};
 ghost use Rattle.std.specs.Fmt.{decimal};
 ghost use Rattle.arrayvec.specs.ArrayVec.{array_vec_len};
 ghost use Rattle.causes.specs.Causes.{Counts};
 ghost use Rattle.io_edge.specs.Puts.{Puts};
-ghost use Rattle.csv_rows.specs.Lines.{placed_text, listed_text, word_text, detail_text, front_text, line_text, title_line, cause_text, reason_text, refusal_text};
+ghost use Rattle.csv_rows.specs.Lines.{listed_text, word_text, detail_text, front_text, line_text, title_line, cause_text, reason_text, refusal_text};
 ghost use Rattle.csv_rows.specs.Pieces.{Adds};
 
-use crate::pieces::{Piece, add_listed, add_number, add_point, make_room, push_str};
+use crate::pieces::{
+    Piece, add_listed, add_number, add_pair, add_placed, add_point, make_room, push_str,
+};
 use crate::rows::Refusal;
 use cell_format::Cause;
 use io_edge::{Sink, SinkFault};
@@ -62,28 +64,25 @@ fn add_front(piece: &mut Piece, row: u32, place: u64, answer: &Answer)
     ensures bytes { piece.new.items ≡ piece.old.items ++ front_text row place answer.now }
     ensures len { array_vec_len piece.new ≤ array_vec_len piece.old + 50 }
 {
-    add_number(piece, u64::from(row));
-    push_str(piece, ",");
-    add_number(piece, place);
-    push_str(piece, ",");
+    add_pair(piece, u64::from(row), b',', place);
     push_str(piece, word_of(answer));
-    push_str(piece, ",");
 }
 
+// The word of an answer, between its commas.
 fn word_of(answer: &Answer) -> &'static str
-    ensures word { result.now ≡ word_text answer.now }
-    ensures short { length result.now ≤ 7 }
+    ensures word { result.now ≡ codes "," ++ word_text answer.now ++ codes "," }
+    ensures short { length result.now ≤ 9 }
 {
     match answer {
-        Answer::Done => "done",
-        Answer::Present(_) => "present",
-        Answer::Full => "full",
-        Answer::Moved(_) => "moved",
-        Answer::Gone(_) => "gone",
-        Answer::At(_) => "at",
-        Answer::Absent => "absent",
-        Answer::Found(_) => "found",
-        Answer::Many(_) => "many",
+        Answer::Done => ",done,",
+        Answer::Present(_) => ",present,",
+        Answer::Full => ",full,",
+        Answer::Moved(_) => ",moved,",
+        Answer::Gone(_) => ",gone,",
+        Answer::At(_) => ",at,",
+        Answer::Absent => ",absent,",
+        Answer::Found(_) => ",found,",
+        Answer::Many(_) => ",many,",
     }
 }
 
@@ -96,7 +95,7 @@ fn add_detail<K: Sink>(sink: &mut K, piece: &mut Piece, answer: &Answer) -> Resu
     match answer {
         Answer::Done | Answer::Full | Answer::Absent => Ok(()),
         Answer::Present(at) | Answer::Moved(at) | Answer::Gone(at) | Answer::At(at) => {
-            add_point(piece, *at, ":");
+            add_point(piece, *at, b':');
             Ok(())
         }
         Answer::Found(list) => add_list(sink, piece, list.as_slice()),
@@ -122,16 +121,6 @@ fn add_list<K: Sink>(sink: &mut K, piece: &mut Piece, list: &[Placed]) -> Result
         add_listed(piece, placed);
     }
     Ok(())
-}
-
-fn add_placed(piece: &mut Piece, placed: &Placed)
-    requires { array_vec_len piece.old ≤ 65473 }
-    ensures bytes { piece.new.items ≡ piece.old.items ++ placed_text placed.now }
-    ensures len { array_vec_len piece.new ≤ array_vec_len piece.old + 62 }
-{
-    add_number(piece, placed.id);
-    push_str(piece, ":");
-    add_point(piece, placed.at, ":");
 }
 
 /// Writes the line of a refusal, as one piece.

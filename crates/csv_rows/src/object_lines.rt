@@ -52,6 +52,6 @@ fn add_object(piece: &mut Piece, object: &Placed)
 {
     add_number(piece, object.id);
     push_str(piece, ",");
-    add_point(piece, object.at, ",");
+    add_point(piece, object.at, b',');
     push_str(piece, "\n");
 }

@@ -1,5 +1,5 @@
 //! Texts that go to a sink in pieces of up to 64 KiB, built in a buffer that takes no memory.
-ghost use Rattle.std.specs.Prelude.{◌≡◌, ◌≤◌, ◌+◌, ◌∷◌, ◌++◌, codes, drop, length, OnOk};
+ghost use Rattle.std.specs.Prelude.{◌≡◌, ◌≤◌, ◌+◌, ◌∷◌, ◌++◌, ◌<◌, [], codes, drop, length, OnOk};
 ghost use Rattle.std.specs.Fmt.{decimal};
 ghost use Rattle.arrayvec.specs.ArrayVec.{array_vec_len};
 ghost use Rattle.causes.specs.Causes.{Counts};
@@ -59,16 +59,36 @@ pub(crate) fn add_number(piece: &mut Piece, number: u64)
     push_str(piece, buffer.format(number));
 }
 
-/// Adds both coordinates, with a mark between them.
-pub(crate) fn add_point(piece: &mut Piece, at: Point, mark: &str)
-    requires room { array_vec_len piece.old ≤ 65495 }
-    requires mark { length mark.now ≤ 1 }
-    ensures bytes { piece.new.items ≡ piece.old.items ++ decimal at.x ++ mark.now ++ decimal at.y }
+/// Adds two numbers with a mark between them, all at once.
+pub(crate) fn add_pair(piece: &mut Piece, first: u64, mark: u8, second: u64)
+    requires { array_vec_len piece.old ≤ 65495 }
+    ensures bytes { piece.new.items ≡ piece.old.items ++ decimal first ++ (mark ∷ []) ++ decimal second }
     ensures len { array_vec_len piece.new ≤ array_vec_len piece.old + 41 }
 {
-    add_number(piece, u64::from(at.x));
-    push_str(piece, mark);
-    add_number(piece, u64::from(at.y));
+    let mut text = [0; 41];
+    let behind = write_marked(&mut text, mark, second, 41);
+    let start = write_digits(first, &mut text, behind);
+    push_bytes(piece, &text[start..]);
+}
+
+/// Adds both coordinates, with a mark between them.
+pub(crate) fn add_point(piece: &mut Piece, at: Point, mark: u8)
+    requires { array_vec_len piece.old ≤ 65495 }
+    ensures bytes { piece.new.items ≡ piece.old.items ++ decimal at.x ++ (mark ∷ []) ++ decimal at.y }
+    ensures len { array_vec_len piece.new ≤ array_vec_len piece.old + 41 }
+{
+    add_pair(piece, u64::from(at.x), mark, u64::from(at.y));
+}
+
+/// Adds a point with its id.
+pub(crate) fn add_placed(piece: &mut Piece, placed: &Placed)
+    requires { array_vec_len piece.old ≤ 65473 }
+    ensures bytes { piece.new.items ≡ piece.old.items ++ placed_text placed.now }
+    ensures len { array_vec_len piece.new ≤ array_vec_len piece.old + 62 }
+{
+    let mut text = [0; 63];
+    let mark = write_listed(&mut text, placed);
+    push_bytes(piece, &text[mark + 1..]);
 }
 
 /// Adds a listed point behind another, with its id: all at once, since a list may have thousands.
@@ -78,10 +98,18 @@ pub(crate) fn add_listed(piece: &mut Piece, placed: &Placed)
     ensures len { array_vec_len piece.new ≤ array_vec_len piece.old + 63 }
 {
     let mut text = [0; 63];
-    let y = write_marked(&mut text, b':', u64::from(placed.at.y), 63);
-    let x = write_marked(&mut text, b':', u64::from(placed.at.x), y);
-    let id = write_marked(&mut text, b';', placed.id, x);
-    push_bytes(piece, &text[id..]);
+    let mark = write_listed(&mut text, placed);
+    push_bytes(piece, &text[mark..]);
+}
+
+// Writes a point with its id behind a semicolon so that they end with the text, and returns where they start.
+fn write_listed(text: &mut [u8; 63], placed: &Placed) -> usize
+    ensures text { drop result text.new ≡ codes ";" ++ placed_text placed.now }
+    ensures start { result < 63 }
+{
+    let y = write_marked(text, b':', u64::from(placed.at.y), 63);
+    let x = write_marked(text, b':', u64::from(placed.at.x), y);
+    write_marked(text, b';', placed.id, x)
 }
 
 // Writes a mark and a number so that they end there, and returns where they start.

@@ -54,7 +54,7 @@ fn add_placed_op(piece: &mut Piece, word: &str, id: u64, at: Point)
     push_str(piece, word);
     add_number(piece, id);
     push_str(piece, ",");
-    add_point(piece, at, ",");
+    add_point(piece, at, b',');
     push_str(piece, ",,\n");
 }
 
@@ -76,9 +76,9 @@ fn add_box(piece: &mut Piece, region: Region)
     ensures len { array_vec_len piece.new ≤ array_vec_len piece.old + 100 }
 {
     push_str(piece, ",box,,");
-    add_point(piece, region.lo, ",");
+    add_point(piece, region.lo, b',');
     push_str(piece, ",");
-    add_point(piece, region.hi, ",");
+    add_point(piece, region.hi, b',');
     push_str(piece, "\n");
 }
 
@@ -89,7 +89,7 @@ fn add_near(piece: &mut Piece, at: Point, k: u32)
     ensures len { array_vec_len piece.new ≤ array_vec_len piece.old + 100 }
 {
     push_str(piece, ",near,,");
-    add_point(piece, at, ",");
+    add_point(piece, at, b',');
     push_str(piece, ",");
     add_number(piece, u64::from(k));
     push_str(piece, ",\n");
