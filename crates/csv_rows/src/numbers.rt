@@ -64,7 +64,24 @@ pub(crate) fn front_number(text: &[u8]) -> (u64, usize)
     ensures few { (result.1 ≤ length text.now) × (result.1 ≤ 19) }
     ensures all { result.1 < length text.now → result.1 < 19 → is_ascii_digit (get_or text.now result.1 0) ≡ false }
 {
-    let most = text.len().min(MOST_DIGITS);
+    // Nearly all numbers stand far from the end: there the number of turns is constant.
+    if text.len() < MOST_DIGITS {
+        front_digits(text, text.len())
+    } else {
+        front_digits(text, MOST_DIGITS)
+    }
+}
+
+// The same of so many bytes.
+#[inline(always)]
+fn front_digits(text: &[u8], most: usize) -> (u64, usize)
+    requires within { most ≤ length text.now }
+    requires few { most ≤ 19 }
+    ensures value { result.0 ≡ digits_value 10 (take result.1 text.now) }
+    ensures digits { list_all is_ascii_digit (take result.1 text.now) ≡ true }
+    ensures few { result.1 ≤ most }
+    ensures all { result.1 < most → is_ascii_digit (get_or text.now result.1 0) ≡ false }
+{
     let mut value: u64 = 0;
     for len in 0..most {
         let byte = text[len];

@@ -2,7 +2,7 @@ use Rattle.std.proofs.Common.{◌≡◌, true, take}
 use Rattle.std.specs.Char.{is_ascii_digit}
 use Rattle.std.specs.List.{list_all}
 use Rattle.std.specs.Str.Parse.{digits_value}
-use Rattle.csv_rows.proofs.numbers.front_number.Given as goal
+use Rattle.csv_rows.proofs.numbers.front_digits.Given as goal
 
 abbrev pub invariant-loop-len : goal.invariant-loop-len
 invariant-loop-len l = (l.value ≡ digits_value 10 (take l.len l.text)) × (list_all is_ascii_digit (take l.len l.text) ≡ true)
