@@ -1,5 +1,5 @@
 //! What each index is: leaves in the order of their keys, a bucket for each.
-ghost use Rattle.std.specs.Prelude.{◌≡◌, ◌⊎◌, ◌^◌, ◌+◌, ◌≤◌, ◌↔◌, ℕ, Bool, List, [], length, map, false, true, IfOk, OnOk, OnErr, IfErr, IsErrOf};
+ghost use Rattle.std.specs.Prelude.{◌≡◌, ◌⊎◌, ◌^◌, ◌+◌, ◌≤◌, ◌↔◌, ℕ, Bool, List, [], length, map, false, true, Ok, IfOk, OnOk, OnErr, IfErr, IsErrOf};
 ghost use Rattle.std.specs.Arc.{arc_value};
 ghost use Rattle.bucket_versions.specs.Told.{Told};
 ghost use Rattle.index_layer.specs.Leaves.{Leaf, AreLeaves, one_leaf, has_name, leaf_under, replaced, both_replaced, split, AreUnder, AreAllUnder};
@@ -51,6 +51,16 @@ pub enum IndexFault {
     Memory,
 }
 
+impl From<Memory> for IndexFault {
+    ghost use Rattle.index_layer.specs.declared.index.IndexFault.TheVariants.{Memory};
+
+    ghost from_gives = { λ _ fault. fault ≡ Memory };
+
+    fn from(_: Memory) -> IndexFault {
+        IndexFault::Memory
+    }
+}
+
 impl From<AllocError> for IndexFault {
     ghost use Rattle.index_layer.specs.declared.index.IndexFault.TheVariants.{Memory};
 
@@ -59,6 +69,13 @@ impl From<AllocError> for IndexFault {
     fn from(_: AllocError) -> IndexFault {
         IndexFault::Memory
     }
+}
+
+// What fails for want of memory alone, since what it asks for is known to be there.
+fn or_memory<T, E: Drop>(made: Result<T, E>) -> Result<T, Memory>
+    ensures { IfOk result (λ x. made ≡ Ok x) }
+{
+    made.map_err(|_| Memory)
 }
 
 /// Leaves whose names tile the key space, each with a bucket of rows under its name.
@@ -147,14 +164,9 @@ pub trait Index: Sized + Drop {
         ensures { IfOk result (λ index. ChangesAt put.row.key (after_put put) (leaves self.now) (leaves index)) }
     {
         let (name, bucket) = self.leaf_of(put.row.key);
-        let Ok(bucket) = bucket.with_put(put.row) else {
-            return Err(Memory);
-        };
-        let bucket = bucket.settled(put.keeps_base)?.into_shared()?;
-        let Ok(index) = self.replaced(&name, bucket) else {
-            return Err(Memory);
-        };
-        Ok(index)
+        let changed = or_memory(bucket.with_put(put.row))?;
+        let bucket = changed.settled(put.keeps_base)?.into_shared()?;
+        or_memory(self.replaced(&name, bucket))
     }
 
     /// The index with a row less in the leaf of its key.
@@ -163,14 +175,9 @@ pub trait Index: Sized + Drop {
         ensures { IfOk result (λ index. ChangesAt gone.row.key (after_gone gone) (leaves self.now) (leaves index)) }
     {
         let (name, bucket) = self.leaf_of(gone.row.key);
-        let Ok(bucket) = bucket.with_gone(gone.row) else {
-            return Err(Memory);
-        };
-        let bucket = bucket.settled(gone.keeps_base)?.into_shared()?;
-        let Ok(index) = self.replaced(&name, bucket) else {
-            return Err(Memory);
-        };
-        Ok(index)
+        let changed = or_memory(bucket.with_gone(gone.row))?;
+        let bucket = changed.settled(gone.keeps_base)?.into_shared()?;
+        or_memory(self.replaced(&name, bucket))
     }
 
     /// Puts another bucket under a leaf's name, once the step has succeeded.
@@ -187,9 +194,7 @@ pub trait Index: Sized + Drop {
         ensures err { OnErr result (leaves self.new ≡ leaves self.old) }
         ensures told { Told C.done C.lost commit.old commit.new result }
     {
-        let Ok(index) = self.replaced(name, bucket) else {
-            return Err(Undone::Memory);
-        };
+        let index = or_memory(self.replaced(name, bucket))?;
         if !commit.commit() {
             return Err(Undone::Lost);
         }
@@ -214,12 +219,8 @@ pub trait Index: Sized + Drop {
         ensures err { OnErr result (leaves self.new ≡ leaves self.old) }
         ensures told { Told C.done C.lost commit.old commit.new result }
     {
-        let Ok(index) = self.replaced(name, bucket) else {
-            return Err(Undone::Memory);
-        };
-        let Ok(index) = index.replaced(other, other_bucket) else {
-            return Err(Undone::Memory);
-        };
+        let index = or_memory(self.replaced(name, bucket))?;
+        let index = or_memory(index.replaced(other, other_bucket))?;
         if !commit.commit() {
             return Err(Undone::Lost);
         }
@@ -242,9 +243,7 @@ pub trait Index: Sized + Drop {
         ensures err { OnErr result (leaves self.new ≡ leaves self.old) }
         ensures told { Told C.done C.lost commit.old commit.new result }
     {
-        let Ok(index) = self.split(name, children) else {
-            return Err(Undone::Memory);
-        };
+        let index = or_memory(self.split(name, children))?;
         if !commit.commit() {
             return Err(Undone::Lost);
         }
