@@ -89,31 +89,23 @@ impl Index for FlatIndex {
         let Some(place) = place_named(&self.leaves, name) else {
             return Err(IndexFault::NoLeaf { name: *name });
         };
-        match with_leaf(
-            self.alloc,
-            &self.leaves,
-            place,
-            FlatLeaf::new(*name, bucket),
-        ) {
-            Ok(leaves) => Ok(FlatIndex {
-                alloc: self.alloc,
-                leaves,
-            }),
-            Err(_) => Err(IndexFault::Memory),
-        }
+        let leaf = FlatLeaf::new(*name, bucket);
+        let leaves = with_leaf(self.alloc, &self.leaves, place, leaf)?;
+        Ok(FlatIndex {
+            alloc: self.alloc,
+            leaves,
+        })
     }
 
     fn split(&self, name: &Name, children: &[Arc<Bucket>]) -> Result<Self, IndexFault> {
         let Some(place) = place_named(&self.leaves, name) else {
             return Err(IndexFault::NoLeaf { name: *name });
         };
-        match with_children(self.alloc, &self.leaves, place, name, children) {
-            Ok(leaves) => Ok(FlatIndex {
-                alloc: self.alloc,
-                leaves,
-            }),
-            Err(_) => Err(IndexFault::Memory),
-        }
+        let leaves = with_children(self.alloc, &self.leaves, place, name, children)?;
+        Ok(FlatIndex {
+            alloc: self.alloc,
+            leaves,
+        })
     }
 }
 
