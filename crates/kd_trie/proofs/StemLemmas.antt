@@ -1,5 +1,5 @@
 -- A trie under a stem: what is done on a path that begins with the stem is done below it.
-use Rattle.std.proofs.Common.{◌≡◌, ◌≤◌, ◌+◌, ◌-◌, ℕ, zero, suc, Bool, true, false, List, [], ◌∷◌, ◌++◌, length, take, drop, refl, sym, ◌∙◌, ap, arith, zero-add, Result, Ok, Err, IfOk, OnOk, OnErr}
+use Rattle.std.proofs.Common.{◌≡◌, ◌≤◌, ◌+◌, ◌-◌, ℕ, zero, suc, Bool, true, false, List, [], ◌∷◌, ◌++◌, length, take, drop, refl, sym, ◌∙◌, ap, arith, zero-add, Result, Ok, Err, IfOk, OnOk}
 use Rattle.std.specs.Cmp.{booleans_Decides}
 use Rattle.std.specs.Cmp.Lexicographic.{pointwise_decides}
 use Rattle.std.proofs.lemmas.List.{take-append-drop}
@@ -10,6 +10,7 @@ use Rattle.bucket_versions.specs.Rows.{Rows}
 use Rattle.kd_trie.specs.declared.stem.Side.{Side}
 use Rattle.kd_trie.specs.Tries.{Trie, height, put_at, name_at, bucket_at, graft, changed_at, rows_at}
 use Rattle.kd_trie.specs.Nodes.{seen}
+use Rattle.kd_trie.specs.Ways.{Fits}
 use Rattle.kd_trie.specs.Stems.{way_of, halves, stem_over}
 
 drop-low : (n w k : ℕ) → drop n (low_bits w k) ≡ low_bits (w - n) k
@@ -101,10 +102,6 @@ pub stem-over-append : (sides : List Side) (s : Side) (t : Trie) → stem_over (
 stem-over-append [] s t = refl
 stem-over-append (r ∷ sides) s t = ap (halves r.bit (seen r.node)) (stem-over-append sides s t)
 
-pub way-append : (sides : List Side) (s : Side) → way_of (sides ++ s ∷ []) ≡ way_of sides ++ s.bit ∷ []
-way-append [] s = refl
-way-append (r ∷ sides) s = ap (λ (w : List Bool). r.bit ∷ w) (way-append sides s)
-
 -- a stem that grows by one side and then further
 pub stretched : {E : Type 0} (r : Result Node E) (old between new : List Side) (s : Side) (on t : Trie) → between ≡ old ++ s ∷ [] → t ≡ halves s.bit (seen s.node) on
     → IfOk r (λ n. stem_over new (seen n) ≡ stem_over between on) → IfOk r (λ n. stem_over new (seen n) ≡ stem_over old t)
@@ -116,8 +113,8 @@ pub under-stem : (name : List Bool) (sides : List Side) (key left : ℕ) → nam
 under-stem name sides key left named under rest =
     path-under name key under ∙ (λ i. named i ++ low_bits (sym rest i) key)
 
-pub height-under : (name : List Bool) (sides : List Side) (t : Trie) (left : ℕ) → name ≡ way_of sides → left ≡ 64 - length name → height (stem_over sides t) ≤ 64 → height t ≤ left
-height-under name sides t left named rest h = omega (arith, height-stem sides t 64 h, rest, ap length named)
+pub fits-under : (name : List Bool) (sides : List Side) (t : Trie) (left : ℕ) → name ≡ way_of sides → left ≡ 64 - length name → height (stem_over sides t) ≤ 64 → Fits left t
+fits-under name sides t left named rest h = record { height = omega (arith, height-stem sides t 64 h, rest, ap length named); most = omega (arith, rest) }
 
 module _ (sides : List Side) (key left : ℕ) (path : low_bits 64 key ≡ way_of sides ++ low_bits left key) where
   pub changed-under : (change : Rows → Rows) (t : Trie) → changed_at (low_bits 64 key) change (stem_over sides t) ≡ stem_over sides (changed_at (low_bits left key) change t)
@@ -143,7 +140,3 @@ pub made-under : {A E : Type 0} (r : Result A E) (sides : List Side) (change und
     → change (stem_over sides old) ≡ stem_over sides (under old) → OnOk r (new ≡ under old) → OnOk r (last ≡ change first)
 made-under (Ok x) sides change under old new first last begun ended over made = ended ∙ ap (stem_over sides) made ∙ sym over ∙ ap change begun
 made-under (Err e) sides change under old new first last begun ended over made = tt
-
-pub kept-under : {A E : Type 0} (r : Result A E) (sides : List Side) (old new : Trie) (first last : Trie) → stem_over sides old ≡ first → last ≡ stem_over sides new → OnErr r (new ≡ old) → OnErr r (last ≡ first)
-kept-under (Ok x) sides old new first last begun ended kept = tt
-kept-under (Err e) sides old new first last begun ended kept = ended ∙ ap (stem_over sides) kept ∙ begun

@@ -3,16 +3,15 @@ ghost use Rattle.std.specs.Prelude.{◌≡◌, ◌≤◌, ◌<◌, ◌+◌, ◌-
 ghost use Rattle.std.specs.Arc.{arc_value};
 ghost use Rattle.std.specs.Int.{bit_at};
 ghost use Rattle.zorder.specs.Bits.{low_bits};
-ghost use Rattle.kd_trie.specs.Tries.{height, name_at, bucket_at, graft, twins};
+ghost use Rattle.kd_trie.specs.Tries.{name_at, bucket_at, graft, twins};
 ghost use Rattle.kd_trie.specs.Nodes.{seen};
-ghost use Rattle.kd_trie.specs.Ways.{put_way};
+ghost use Rattle.kd_trie.specs.Ways.{Fits, put_way};
 ghost use Rattle.kd_trie.specs.Walks.{Agrees};
 ghost use Rattle.bucket_versions.specs.Told.{Told};
 
 use bucket_versions::{Bucket, Commit, Undone};
 use std::alloc::{AllocError, Global};
 use std::sync::Arc;
-use zorder::Memory;
 
 /// A leaf's bucket, or what is under the next bit.
 #[derive(Drop)]
@@ -42,41 +41,16 @@ impl Node {
     }
 }
 
-impl Pair {
-    // An equal pair, for who changes it.
-    fn copied(&self, alloc: Global) -> Result<Arc<Pair>, AllocError>
-        ensures zero { IfOk result (λ p. seen (arc_value p).zero ≡ seen self.now.zero) }
-        ensures one { IfOk result (λ p. seen (arc_value p).one ≡ seen self.now.one) }
-    {
+impl Clone for Pair {
+    ghost is_clone = { λ pair copy. (seen copy.zero ≡ seen pair.zero) × (seen copy.one ≡ seen pair.one) };
+
+    // An equal pair, for who changes it. It stays out of the loops down the trie, which seldom need it.
+    #[inline(never)]
+    fn clone(&self) -> Result<Pair, AllocError> {
         let zero = self.zero.share()?;
         let one = self.one.share()?;
-        Ok(Arc::new(alloc, Pair { zero, one })?)
+        Ok(Pair { zero, one })
     }
-}
-
-// Makes a pair this owner's alone: copied, if it is shared.
-pub(crate) fn own(alloc: Global, pair: &mut Arc<Pair>) -> Result<(), Memory>
-    ensures zero { seen (arc_value pair.new).zero ≡ seen (arc_value pair.old).zero }
-    ensures one { seen (arc_value pair.new).one ≡ seen (arc_value pair.old).one }
-{
-    if Arc::strong_count(pair) == 1 {
-        Ok(())
-    } else {
-        copy(alloc, pair)
-    }
-}
-
-// Puts a copy in the place of a pair. It stays out of the loops down the trie, which seldom need it.
-#[inline(never)]
-fn copy(alloc: Global, pair: &mut Arc<Pair>) -> Result<(), Memory>
-    ensures zero { seen (arc_value pair.new).zero ≡ seen (arc_value pair.old).zero }
-    ensures one { seen (arc_value pair.new).one ≡ seen (arc_value pair.old).one }
-{
-    let Ok(mine) = pair.copied(alloc) else {
-        return Err(Memory);
-    };
-    *pair = mine;
-    Ok(())
 }
 
 // Whether the first of the last `left` bits of a key is 1.
@@ -88,39 +62,23 @@ pub(crate) fn next_bit(key: u64, left: u8) -> bool
     (key >> (left - 1)) % 2 == 1
 }
 
-/// The last `left` bits of a key, which lead to a leaf, and the bucket that is to be put there.
+/// A key, and the bucket that is to be put where its last bits lead to.
 #[derive(Drop)]
 pub(crate) struct Way {
     pub(crate) key: u64,
-    pub(crate) left: u8,
     pub(crate) bucket: Arc<Bucket>,
 }
 
-impl Way {
-    // The same without the first bit.
-    fn down(self) -> Way
-        requires { 0 < self.left }
-        ensures { result ≡ record self { left = self.left - 1 } }
-    {
-        Way {
-            key: self.key,
-            left: self.left - 1,
-            bucket: self.bucket,
-        }
-    }
-}
-
-/// Puts a bucket where a way leads to, once the step has succeeded.
+/// Puts a bucket where the last `left` bits of a key lead to, once the step has succeeded.
 pub(crate) fn put<C: Commit>(
-    alloc: Global,
     node: &mut Node,
     way: Way,
+    left: u8,
     commit: &mut C,
 ) -> Result<(), Undone>
     requires can { C.can commit.old }
-    requires height { height (seen node.old) ≤ way.left }
-    requires most { way.left ≤ 64 }
-    ensures ok { OnOk result (seen node.new ≡ put_way way (seen node.old)) }
+    requires fits { Fits left (seen node.old) }
+    ensures ok { OnOk result (seen node.new ≡ put_way left way (seen node.old)) }
     ensures err { OnErr result (seen node.new ≡ seen node.old) }
     ensures told { Told C.done C.lost commit.old commit.new result }
 {
@@ -133,34 +91,29 @@ pub(crate) fn put<C: Commit>(
             Ok(())
         }
         Node::Inner(pair) => {
-            let Ok(()) = own(alloc, pair) else {
-                return Err(Undone::Memory);
-            };
-            let Some(pair) = Arc::get_mut(pair) else {
-                return Err(Undone::Memory);
-            };
-            if next_bit(way.key, way.left) {
-                put(alloc, &mut pair.one, way.down(), commit)
+            let pair = Arc::make_mut(pair)?;
+            if next_bit(way.key, left) {
+                put(&mut pair.one, way, left - 1, commit)
             } else {
-                put(alloc, &mut pair.zero, way.down(), commit)
+                put(&mut pair.zero, way, left - 1, commit)
             }
         }
     }
 }
 
-/// Puts two buckets where two ways lead to, once the step has succeeded. Where both lead to one leaf, it gets the second.
+/// Puts two buckets where the last `left` bits of two keys lead to, once the step has succeeded. Where both lead to one leaf, it gets
+/// the second.
+#[tactic(auto, using(crate::proofs::Halves::put_one, crate::proofs::Halves::put_zero))]
 pub(crate) fn put_two<C: Commit>(
-    alloc: Global,
     node: &mut Node,
     first: Way,
     second: Way,
+    left: u8,
     commit: &mut C,
 ) -> Result<(), Undone>
     requires can { C.can commit.old }
-    requires height { height (seen node.old) ≤ first.left }
-    requires most { first.left ≤ 64 }
-    requires equal { second.left ≡ first.left }
-    ensures ok { OnOk result (seen node.new ≡ put_way second (put_way first (seen node.old))) }
+    requires fits { Fits left (seen node.old) }
+    ensures ok { OnOk result (seen node.new ≡ put_way left second (put_way left first (seen node.old))) }
     ensures err { OnErr result (seen node.new ≡ seen node.old) }
     ensures told { Told C.done C.lost commit.old commit.new result }
 {
@@ -173,83 +126,84 @@ pub(crate) fn put_two<C: Commit>(
             Ok(())
         }
         Node::Inner(pair) => {
-            let Ok(()) = own(alloc, pair) else {
-                return Err(Undone::Memory);
-            };
-            let Some(pair) = Arc::get_mut(pair) else {
-                return Err(Undone::Memory);
-            };
-            if next_bit(first.key, first.left) {
-                if next_bit(second.key, second.left) {
-                    put_two(alloc, &mut pair.one, first.down(), second.down(), commit)
+            let pair = Arc::make_mut(pair)?;
+            if next_bit(first.key, left) {
+                if next_bit(second.key, left) {
+                    put_two(&mut pair.one, first, second, left - 1, commit)
                 } else {
                     let Pair { zero, one } = pair;
-                    put_apart(alloc, one, first.down(), zero, second.down(), commit)
+                    put_apart(one, first, left - 1, zero, second, left - 1, commit)
                 }
-            } else if next_bit(second.key, second.left) {
+            } else if next_bit(second.key, left) {
                 let Pair { zero, one } = pair;
-                put_apart(alloc, zero, first.down(), one, second.down(), commit)
+                put_apart(zero, first, left - 1, one, second, left - 1, commit)
             } else {
-                put_two(alloc, &mut pair.zero, first.down(), second.down(), commit)
+                put_two(&mut pair.zero, first, second, left - 1, commit)
             }
         }
     }
 }
 
 // The same in two nodes.
+#[tactic(auto, using(crate::proofs::Halves::put_one, crate::proofs::Halves::put_zero))]
 fn put_apart<C: Commit>(
-    alloc: Global,
     node: &mut Node,
     first: Way,
+    left: u8,
     other: &mut Node,
     second: Way,
+    other_left: u8,
     commit: &mut C,
 ) -> Result<(), Undone>
     requires can { C.can commit.old }
-    requires height { height (seen node.old) ≤ first.left }
-    requires most { first.left ≤ 64 }
-    requires other_height { height (seen other.old) ≤ second.left }
-    requires other_most { second.left ≤ 64 }
-    ensures ok { OnOk result (seen node.new ≡ put_way first (seen node.old)) }
-    ensures other { OnOk result (seen other.new ≡ put_way second (seen other.old)) }
-    ensures err { OnErr result (seen node.new ≡ seen node.old) }
-    ensures other_err { OnErr result (seen other.new ≡ seen other.old) }
+    requires fits { Fits left (seen node.old) × Fits other_left (seen other.old) }
+    ensures ok { OnOk result ((seen node.new ≡ put_way left first (seen node.old)) × (seen other.new ≡ put_way other_left second (seen other.old))) }
+    ensures err { OnErr result ((seen node.new ≡ seen node.old) × (seen other.new ≡ seen other.old)) }
     ensures told { Told C.done C.lost commit.old commit.new result }
 {
     match node {
-        Node::Leaf(leaf) => put_beside(alloc, leaf, first.bucket, other, second, commit),
+        Node::Leaf(leaf) => put_beside(leaf, first.bucket, other, second, other_left, commit),
         Node::Inner(pair) => {
-            let Ok(()) = own(alloc, pair) else {
-                return Err(Undone::Memory);
-            };
-            let Some(pair) = Arc::get_mut(pair) else {
-                return Err(Undone::Memory);
-            };
-            if next_bit(first.key, first.left) {
-                put_apart(alloc, &mut pair.one, first.down(), other, second, commit)
+            let pair = Arc::make_mut(pair)?;
+            if next_bit(first.key, left) {
+                put_apart(
+                    &mut pair.one,
+                    first,
+                    left - 1,
+                    other,
+                    second,
+                    other_left,
+                    commit,
+                )
             } else {
-                put_apart(alloc, &mut pair.zero, first.down(), other, second, commit)
+                put_apart(
+                    &mut pair.zero,
+                    first,
+                    left - 1,
+                    other,
+                    second,
+                    other_left,
+                    commit,
+                )
             }
         }
     }
 }
 
 // The same in a leaf and in a node.
+#[tactic(auto, using(crate::proofs::Halves::put_one, crate::proofs::Halves::put_zero))]
 fn put_beside<C: Commit>(
-    alloc: Global,
     leaf: &mut Arc<Bucket>,
     bucket: Arc<Bucket>,
     node: &mut Node,
     way: Way,
+    left: u8,
     commit: &mut C,
 ) -> Result<(), Undone>
     requires can { C.can commit.old }
-    requires height { height (seen node.old) ≤ way.left }
-    requires most { way.left ≤ 64 }
-    ensures leaf { OnOk result (arc_value leaf.new ≡ arc_value bucket) }
-    ensures ok { OnOk result (seen node.new ≡ put_way way (seen node.old)) }
-    ensures leaf_err { OnErr result (arc_value leaf.new ≡ arc_value leaf.old) }
-    ensures err { OnErr result (seen node.new ≡ seen node.old) }
+    requires fits { Fits left (seen node.old) }
+    ensures ok { OnOk result ((arc_value leaf.new ≡ arc_value bucket) × (seen node.new ≡ put_way left way (seen node.old))) }
+    ensures err { OnErr result ((arc_value leaf.new ≡ arc_value leaf.old) × (seen node.new ≡ seen node.old)) }
     ensures told { Told C.done C.lost commit.old commit.new result }
 {
     match node {
@@ -262,16 +216,11 @@ fn put_beside<C: Commit>(
             Ok(())
         }
         Node::Inner(pair) => {
-            let Ok(()) = own(alloc, pair) else {
-                return Err(Undone::Memory);
-            };
-            let Some(pair) = Arc::get_mut(pair) else {
-                return Err(Undone::Memory);
-            };
-            if next_bit(way.key, way.left) {
-                put_beside(alloc, leaf, bucket, &mut pair.one, way.down(), commit)
+            let pair = Arc::make_mut(pair)?;
+            if next_bit(way.key, left) {
+                put_beside(leaf, bucket, &mut pair.one, way, left - 1, commit)
             } else {
-                put_beside(alloc, leaf, bucket, &mut pair.zero, way.down(), commit)
+                put_beside(leaf, bucket, &mut pair.zero, way, left - 1, commit)
             }
         }
     }
@@ -288,34 +237,22 @@ pub(crate) fn divide<C: Commit>(
     commit: &mut C,
 ) -> Result<(), Undone>
     requires can { C.can commit.old }
-    requires height { height (seen node.old) ≤ left }
-    requires most { left ≤ 64 }
+    requires fits { Fits left (seen node.old) }
     ensures ok { OnOk result (seen node.new ≡ graft (low_bits left key) (twins (arc_value zero) (arc_value one)) (seen node.old)) }
     ensures err { OnErr result (seen node.new ≡ seen node.old) }
     ensures told { Told C.done C.lost commit.old commit.new result }
 {
     match node {
         Node::Leaf(_) => {
-            let pair = Pair {
-                zero: Node::Leaf(zero),
-                one: Node::Leaf(one),
-            };
-            let Ok(pair) = Arc::new(alloc, pair) else {
-                return Err(Undone::Memory);
-            };
+            let children = twins(alloc, zero, one)?;
             if !commit.commit() {
                 return Err(Undone::Lost);
             }
-            *node = Node::Inner(pair);
+            *node = children;
             Ok(())
         }
         Node::Inner(pair) => {
-            let Ok(()) = own(alloc, pair) else {
-                return Err(Undone::Memory);
-            };
-            let Some(pair) = Arc::get_mut(pair) else {
-                return Err(Undone::Memory);
-            };
+            let pair = Arc::make_mut(pair)?;
             if next_bit(key, left) {
                 divide(alloc, &mut pair.one, key, left - 1, zero, one, commit)
             } else {
@@ -325,10 +262,20 @@ pub(crate) fn divide<C: Commit>(
     }
 }
 
+// Two leaves of these buckets.
+fn twins(alloc: Global, zero: Arc<Bucket>, one: Arc<Bucket>) -> Result<Node, AllocError>
+    ensures { IfOk result (λ node. seen node ≡ twins (arc_value zero) (arc_value one)) }
+{
+    let pair = Pair {
+        zero: Node::Leaf(zero),
+        one: Node::Leaf(one),
+    };
+    Ok(Node::Inner(Arc::new(alloc, pair)?))
+}
+
 /// The bucket that the last `left` bits of a key lead to, and how many bits are left there.
 pub(crate) fn leaf_of(node: &Node, key: u64, left: u8) -> (u8, &Arc<Bucket>)
-    requires height { height (seen node.now) ≤ left }
-    requires most { left ≤ 64 }
+    requires fits { Fits left (seen node.now) }
     ensures bucket { bucket_at (low_bits left key) (seen node.now) ≡ Some (arc_value result.1.now) }
     ensures left { result.0 + length (name_at (low_bits left key) (seen node.now)) ≡ left }
 {
@@ -346,8 +293,7 @@ pub(crate) fn leaf_of(node: &Node, key: u64, left: u8) -> (u8, &Arc<Bucket>)
 
 /// Goes down while two keys go on with the same bit: how many of their bits are left there, and the node.
 pub(crate) fn agreed(node: &Node, from: u64, to: u64, left: u8) -> (u8, &Node)
-    requires height { height (seen node.now) ≤ left }
-    requires most { left ≤ 64 }
+    requires fits { Fits left (seen node.now) }
     ensures agrees { Agrees from to left result.0 (seen node.now) (seen result.1.now) }
     ensures rest { result.0 ≤ left }
 {

@@ -3,9 +3,9 @@ ghost use Rattle.std.specs.Prelude.{◌≡◌, ◌≤◌, ◌+◌, ℕ, [], Some
 ghost use Rattle.std.specs.Arc.{arc_value};
 ghost use Rattle.zorder.specs.Bits.{low_bits};
 ghost use Rattle.zorder.specs.Key.{is_under};
-ghost use Rattle.bucket_versions.specs.Rows.{has_row, after_put, after_gone};
 ghost use Rattle.bucket_versions.specs.Told.{Told};
-ghost use Rattle.kd_trie.specs.Tries.{height, name_at, bucket_at, put_at, graft, twins, changed_at, rows_at, tip};
+ghost use Rattle.kd_trie.specs.Tries.{height, name_at, bucket_at, put_at, graft, twins, tip};
+ghost use Rattle.kd_trie.specs.Ways.{both_put, has_under, put_under, gone_under, MayMove};
 ghost use Rattle.kd_trie.specs.Wholes.{whole};
 ghost use Rattle.kd_trie.specs.Nodes.{seen};
 ghost use Rattle.kd_trie.specs.Walks.{Agrees};
@@ -150,15 +150,9 @@ impl Stemmed {
         ensures err { OnErr result (whole self.new ≡ whole self.old) }
         ensures told { Told C.done C.lost commit.old commit.new result }
     {
-        let Ok(()) = self.open_to(key) else {
-            return Err(Undone::Memory);
-        };
-        let way = Way {
-            key,
-            left: 64 - self.stem.name.len(),
-            bucket,
-        };
-        let done = put(self.alloc, &mut self.root, way, commit);
+        self.open_to(key)?;
+        let left = 64 - self.stem.name.len();
+        let done = put(&mut self.root, Way { key, bucket }, left, commit);
         self.wind();
         done
     }
@@ -174,24 +168,19 @@ impl Stemmed {
     ) -> Result<(), Undone>
         requires can { C.can commit.old }
         requires height { height (whole self.old) ≤ 64 }
-        ensures ok { OnOk result (whole self.new ≡ put_at (low_bits 64 other) (arc_value other_bucket) (put_at (low_bits 64 key) (arc_value bucket) (whole self.old))) }
+        ensures ok { OnOk result (whole self.new ≡ both_put key (arc_value bucket) other (arc_value other_bucket) (whole self.old)) }
         ensures err { OnErr result (whole self.new ≡ whole self.old) }
         ensures told { Told C.done C.lost commit.old commit.new result }
     {
-        let Ok(()) = self.open_to(key) else {
-            return Err(Undone::Memory);
-        };
-        let Ok(()) = self.open_to(other) else {
-            return Err(Undone::Memory);
-        };
+        self.open_to(key)?;
+        self.open_to(other)?;
         let left = 64 - self.stem.name.len();
-        let first = Way { key, left, bucket };
+        let first = Way { key, bucket };
         let second = Way {
             key: other,
-            left,
             bucket: other_bucket,
         };
-        let done = put_two(self.alloc, &mut self.root, first, second, commit);
+        let done = put_two(&mut self.root, first, second, left, commit);
         self.wind();
         done
     }
@@ -210,9 +199,7 @@ impl Stemmed {
         ensures err { OnErr result (whole self.new ≡ whole self.old) }
         ensures told { Told C.done C.lost commit.old commit.new result }
     {
-        let Ok(()) = self.open_to(key) else {
-            return Err(Undone::Memory);
-        };
+        self.open_to(key)?;
         let left = 64 - self.stem.name.len();
         let done = divide(self.alloc, &mut self.root, key, left, zero, one, commit);
         self.wind();
@@ -227,16 +214,14 @@ impl Stemmed {
     ) -> Result<(), Undone>
         requires can { C.can commit.old }
         requires height { height (whole self.old) ≤ 64 }
-        requires absent { has_row change.now.row (rows_at (low_bits 64 change.now.row.key) (whole self.old)) ≡ false }
-        ensures ok { OnOk result (whole self.new ≡ changed_at (low_bits 64 change.now.row.key) (after_put change.now) (whole self.old)) }
+        requires absent { has_under 64 change.now.row (whole self.old) ≡ false }
+        ensures ok { OnOk result (whole self.new ≡ put_under 64 change.now (whole self.old)) }
         ensures err { OnErr result (whole self.new ≡ whole self.old) }
         ensures told { Told C.done C.lost commit.old commit.new result }
     {
-        let Ok(()) = self.open_to(change.row.key) else {
-            return Err(Undone::Memory);
-        };
+        self.open_to(change.row.key)?;
         let left = 64 - self.stem.name.len();
-        let done = rows::put_row(self.alloc, &mut self.root, change, left, commit);
+        let done = rows::put_row(&mut self.root, change, left, commit);
         self.wind();
         done
     }
@@ -249,16 +234,14 @@ impl Stemmed {
     ) -> Result<(), Undone>
         requires can { C.can commit.old }
         requires height { height (whole self.old) ≤ 64 }
-        requires present { has_row change.now.row (rows_at (low_bits 64 change.now.row.key) (whole self.old)) ≡ true }
-        ensures ok { OnOk result (whole self.new ≡ changed_at (low_bits 64 change.now.row.key) (after_gone change.now) (whole self.old)) }
+        requires present { has_under 64 change.now.row (whole self.old) ≡ true }
+        ensures ok { OnOk result (whole self.new ≡ gone_under 64 change.now (whole self.old)) }
         ensures err { OnErr result (whole self.new ≡ whole self.old) }
         ensures told { Told C.done C.lost commit.old commit.new result }
     {
-        let Ok(()) = self.open_to(change.row.key) else {
-            return Err(Undone::Memory);
-        };
+        self.open_to(change.row.key)?;
         let left = 64 - self.stem.name.len();
-        let done = rows::take_row(self.alloc, &mut self.root, change, left, commit);
+        let done = rows::take_row(&mut self.root, change, left, commit);
         self.wind();
         done
     }
@@ -272,20 +255,15 @@ impl Stemmed {
     ) -> Result<(), Undone>
         requires can { C.can commit.old }
         requires height { height (whole self.old) ≤ 64 }
-        requires present { has_row from.now.row (rows_at (low_bits 64 from.now.row.key) (whole self.old)) ≡ true }
-        requires absent { has_row to.now.row (rows_at (low_bits 64 to.now.row.key) (changed_at (low_bits 64 from.now.row.key) (after_gone from.now) (whole self.old))) ≡ false }
-        ensures ok { OnOk result (whole self.new ≡ changed_at (low_bits 64 to.now.row.key) (after_put to.now) (changed_at (low_bits 64 from.now.row.key) (after_gone from.now) (whole self.old))) }
+        requires rows { MayMove 64 from.now 64 to.now (whole self.old) (gone_under 64 from.now (whole self.old)) }
+        ensures ok { OnOk result (whole self.new ≡ put_under 64 to.now (gone_under 64 from.now (whole self.old))) }
         ensures err { OnErr result (whole self.new ≡ whole self.old) }
         ensures told { Told C.done C.lost commit.old commit.new result }
     {
-        let Ok(()) = self.open_to(from.row.key) else {
-            return Err(Undone::Memory);
-        };
-        let Ok(()) = self.open_to(to.row.key) else {
-            return Err(Undone::Memory);
-        };
+        self.open_to(from.row.key)?;
+        self.open_to(to.row.key)?;
         let left = 64 - self.stem.name.len();
-        let done = rows::shift_row(self.alloc, &mut self.root, from, to, left, commit);
+        let done = rows::shift_row(&mut self.root, from, to, left, commit);
         self.wind();
         done
     }

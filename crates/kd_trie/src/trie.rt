@@ -1,5 +1,5 @@
 //! The trie: nodes under one stem, with leaves that tile the key space.
-ghost use Rattle.std.specs.Prelude.{◌≡◌, ◌<◌, ◌≤◌, ◌^◌, ◌⊎◌, [], Some};
+ghost use Rattle.std.specs.Prelude.{◌≡◌, ◌<◌, ◌≤◌, ◌^◌, ◌⊎◌, [], Some, OnOk, IsOk};
 ghost use Rattle.std.specs.Arc.{arc_value};
 ghost use Rattle.bucket_versions.specs.Rows.{IsRows};
 ghost use Rattle.index_layer.specs.Leaves.{AreLeaves, has_name};
@@ -132,26 +132,18 @@ impl Index for KdTrie {
         if !self.has_leaf(name) {
             return Err(IndexFault::NoLeaf { name: *name });
         }
-        let Ok(mut index) = self.share() else {
-            return Err(IndexFault::Memory);
-        };
-        match index.replace(name, bucket, &mut AtOnce) {
-            Ok(()) => Ok(index),
-            Err(_) => Err(IndexFault::Memory),
-        }
+        let mut index = self.share()?;
+        at_once(index.replace(name, bucket, &mut AtOnce))?;
+        Ok(index)
     }
 
     fn split(&self, name: &Name, children: &[Arc<Bucket>]) -> Result<Self, IndexFault> {
         if !self.has_leaf(name) {
             return Err(IndexFault::NoLeaf { name: *name });
         }
-        let Ok(mut index) = self.share() else {
-            return Err(IndexFault::Memory);
-        };
-        match index.divide(name, children, &mut AtOnce) {
-            Ok(()) => Ok(index),
-            Err(_) => Err(IndexFault::Memory),
-        }
+        let mut index = self.share()?;
+        at_once(index.divide(name, children, &mut AtOnce))?;
+        Ok(index)
     }
 
     fn replace<C: Commit>(
@@ -184,12 +176,8 @@ impl Index for KdTrie {
         children: &[Arc<Bucket>],
         commit: &mut C,
     ) -> Result<(), Undone> {
-        let Ok(zero) = Arc::try_clone(&children[0]) else {
-            return Err(Undone::Memory);
-        };
-        let Ok(one) = Arc::try_clone(&children[1]) else {
-            return Err(Undone::Memory);
-        };
+        let zero = Arc::try_clone(&children[0])?;
+        let one = Arc::try_clone(&children[1])?;
         in_order(&zero);
         in_order(&one);
         self.tree.divide(name.bits(), zero, one, commit)
@@ -215,6 +203,13 @@ impl Index for KdTrie {
         in_range(to.row.key);
         self.tree.shift_row(&from, &to, commit)
     }
+}
+
+// What a change comes to that waits for nothing: it fails for want of memory alone.
+fn at_once(done: Result<(), Undone>) -> Result<(), Memory>
+    ensures { OnOk result (IsOk done) }
+{
+    done.map_err(|_| Memory)
 }
 
 // Tells that the rows of a bucket are in order.

@@ -6,18 +6,18 @@ use Rattle.kd_trie.specs.Tries.{Trie, height, graft, twins}
 use Rattle.kd_trie.specs.Nodes.{seen}
 use Rattle.kd_trie.specs.Stems.{way_of}
 use Rattle.kd_trie.specs.Wholes.{sides_of, whole}
-use Rattle.kd_trie.proofs.StemLemmas.{height-under, under-stem, made-under, graft-under}
+use Rattle.kd_trie.proofs.StemLemmas.{fits-under, under-stem, made-under, graft-under}
 use Rattle.kd_trie.proofs.stemmed.Stemmed.divide.Goals as goal
 
-pub divide-done-requires-clause-height : goal.divide-done-requires-clause-height
-divide-done-requires-clause-height g c =
+pub divide-done-requires-clause-fits : goal.divide-done-requires-clause-fits
+divide-done-requires-clause-fits g c =
     let s = c.open_to.new.self in
     let sides : List Side = sides_of s.stem in
     let left : ℕ = 64 - c.len-left.result in
     let fits : left ≡ 64 - length s.stem.name = ap (λ (n : ℕ). 64 - n) c.len-left.ensures.len in
-    let begun : whole s ≡ whole c.args.self.now = c.in-Ok.ensures.whole in
-    let path : low_bits 64 c.args.key ≡ way_of sides ++ low_bits left c.args.key = under-stem s.stem.name sides c.args.key left s.stem.named c.in-Ok.ensures.under fits in
-    height-under s.stem.name sides (seen s.root) left s.stem.named fits (subst (λ (t : Trie). height t ≤ 64) (sym begun) c.requires.height)
+    let begun : whole s ≡ whole c.args.self.now = c.in_ok-open_to.ensures.whole in
+    let path : low_bits 64 c.args.key ≡ way_of sides ++ low_bits left c.args.key = under-stem s.stem.name sides c.args.key left s.stem.named c.in_ok-open_to.ensures.under fits in
+    fits-under s.stem.name sides (seen s.root) left s.stem.named fits (subst (λ (t : Trie). height t ≤ 64) (sym begun) c.requires.height)
 
 pub returns-clause-ok : goal.returns-clause-ok
 returns-clause-ok g c =
@@ -25,8 +25,8 @@ returns-clause-ok g c =
     let sides : List Side = sides_of s.stem in
     let left : ℕ = 64 - c.len-left.result in
     let fits : left ≡ 64 - length s.stem.name = ap (λ (n : ℕ). 64 - n) c.len-left.ensures.len in
-    let begun : whole s ≡ whole c.args.self.now = c.in-Ok.ensures.whole in
-    let path : low_bits 64 c.args.key ≡ way_of sides ++ low_bits left c.args.key = under-stem s.stem.name sides c.args.key left s.stem.named c.in-Ok.ensures.under fits in
+    let begun : whole s ≡ whole c.args.self.now = c.in_ok-open_to.ensures.whole in
+    let path : low_bits 64 c.args.key ≡ way_of sides ++ low_bits left c.args.key = under-stem s.stem.name sides c.args.key left s.stem.named c.in_ok-open_to.ensures.under fits in
     made-under c.divide-done.result sides (λ t. graft (low_bits 64 c.args.key) (twins (arc_value c.args.zero) (arc_value c.args.one)) t) (λ t. graft (low_bits left c.args.key) (twins (arc_value c.args.zero) (arc_value c.args.one)) t) (seen s.root) (seen c.divide-done.new.node) (whole c.args.self.now) (whole c.wind.new.self) begun c.wind.ensures
     (graft-under sides c.args.key left path (twins (arc_value c.args.zero) (arc_value c.args.one)) (seen s.root))
     c.divide-done.ensures.ok

@@ -2,13 +2,13 @@ use Rattle.std.proofs.Common.{◌≡◌, ◌∙◌, ◌-◌, ℕ, length, sym, a
 use Rattle.kd_trie.specs.Nodes.{seen}
 use Rattle.kd_trie.specs.Stems.{way_of}
 use Rattle.kd_trie.specs.Wholes.{sides_of}
-use Rattle.kd_trie.proofs.StemLemmas.{height-under, under-stem, bucket-under, name-length-under}
+use Rattle.kd_trie.proofs.StemLemmas.{fits-under, under-stem, bucket-under, name-length-under}
 use Rattle.kd_trie.proofs.stemmed.Stemmed.leaf_of.Goals as goal
 
-pub leaf_of-requires-clause-height : goal.leaf_of-requires-clause-height
-leaf_of-requires-clause-height c =
+pub leaf_of-requires : goal.leaf_of-requires
+leaf_of-requires c =
     let s = c.args.self.now in
-    height-under s.stem.name (sides_of s.stem) (seen s.root) (64 - c.len.result) s.stem.named (ap (λ (n : ℕ). 64 - n) c.len.ensures.len) c.requires
+    record { fits = fits-under s.stem.name (sides_of s.stem) (seen s.root) (64 - c.len.result) s.stem.named (ap (λ (n : ℕ). 64 - n) c.len.ensures.len) c.requires }
 
 pub returns-then-begins-clause-bucket : goal.returns-then-begins-clause-bucket
 returns-then-begins-clause-bucket c =

@@ -1,14 +1,14 @@
 use Rattle.std.proofs.Common.{◌-◌, ℕ, sym, ap, ◌∙◌}
 use Rattle.kd_trie.specs.Nodes.{seen}
 use Rattle.kd_trie.specs.Wholes.{sides_of}
-use Rattle.kd_trie.proofs.StemLemmas.{height-under}
+use Rattle.kd_trie.proofs.StemLemmas.{fits-under}
 use Rattle.kd_trie.proofs.Walking.{agrees-stem}
 use Rattle.kd_trie.proofs.stemmed.Stemmed.parting.Goals as goal
 
-pub agreed-requires-clause-height : goal.agreed-requires-clause-height
-agreed-requires-clause-height c =
+pub agreed-requires : goal.agreed-requires
+agreed-requires c =
     let s = c.args.self.now in
-    height-under s.stem.name (sides_of s.stem) (seen s.root) (64 - c.len.result) s.stem.named (ap (λ (n : ℕ). 64 - n) c.len.ensures.len) c.requires
+    record { fits = fits-under s.stem.name (sides_of s.stem) (seen s.root) (64 - c.len.result) s.stem.named (ap (λ (n : ℕ). 64 - n) c.len.ensures.len) c.requires }
 
 pub returns-then-begins-2-clause-agrees : goal.returns-then-begins-2-clause-agrees
 returns-then-begins-2-clause-agrees c =

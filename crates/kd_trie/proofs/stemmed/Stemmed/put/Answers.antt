@@ -6,27 +6,27 @@ use Rattle.kd_trie.specs.Tries.{Trie, height, put_at}
 use Rattle.kd_trie.specs.Nodes.{seen}
 use Rattle.kd_trie.specs.Stems.{way_of}
 use Rattle.kd_trie.specs.Wholes.{sides_of, whole}
-use Rattle.kd_trie.proofs.StemLemmas.{height-under, under-stem, made-under, put-under}
+use Rattle.kd_trie.proofs.StemLemmas.{fits-under, under-stem, made-under, put-under}
 use Rattle.kd_trie.proofs.stemmed.Stemmed.put.Goals as goal
 
-pub put-done-requires-clause-height : goal.put-done-requires-clause-height
-put-done-requires-clause-height g c =
+pub put-done-requires-clause-fits : goal.put-done-requires-clause-fits
+put-done-requires-clause-fits g c =
     let s = c.open_to.new.self in
     let sides : List Side = sides_of s.stem in
-    let left : ℕ = 64 - c.len.result in
-    let fits : left ≡ 64 - length s.stem.name = ap (λ (n : ℕ). 64 - n) c.len.ensures.len in
-    let begun : whole s ≡ whole c.args.self.now = c.in-Ok.ensures.whole in
-    let path : low_bits 64 c.args.key ≡ way_of sides ++ low_bits left c.args.key = under-stem s.stem.name sides c.args.key left s.stem.named c.in-Ok.ensures.under fits in
-    height-under s.stem.name sides (seen s.root) left s.stem.named fits (subst (λ (t : Trie). height t ≤ 64) (sym begun) c.requires.height)
+    let left : ℕ = 64 - c.len-left.result in
+    let fits : left ≡ 64 - length s.stem.name = ap (λ (n : ℕ). 64 - n) c.len-left.ensures.len in
+    let begun : whole s ≡ whole c.args.self.now = c.in_ok-open_to.ensures.whole in
+    let path : low_bits 64 c.args.key ≡ way_of sides ++ low_bits left c.args.key = under-stem s.stem.name sides c.args.key left s.stem.named c.in_ok-open_to.ensures.under fits in
+    fits-under s.stem.name sides (seen s.root) left s.stem.named fits (subst (λ (t : Trie). height t ≤ 64) (sym begun) c.requires.height)
 
 pub returns-clause-ok : goal.returns-clause-ok
 returns-clause-ok g c =
     let s = c.open_to.new.self in
     let sides : List Side = sides_of s.stem in
-    let left : ℕ = 64 - c.len.result in
-    let fits : left ≡ 64 - length s.stem.name = ap (λ (n : ℕ). 64 - n) c.len.ensures.len in
-    let begun : whole s ≡ whole c.args.self.now = c.in-Ok.ensures.whole in
-    let path : low_bits 64 c.args.key ≡ way_of sides ++ low_bits left c.args.key = under-stem s.stem.name sides c.args.key left s.stem.named c.in-Ok.ensures.under fits in
+    let left : ℕ = 64 - c.len-left.result in
+    let fits : left ≡ 64 - length s.stem.name = ap (λ (n : ℕ). 64 - n) c.len-left.ensures.len in
+    let begun : whole s ≡ whole c.args.self.now = c.in_ok-open_to.ensures.whole in
+    let path : low_bits 64 c.args.key ≡ way_of sides ++ low_bits left c.args.key = under-stem s.stem.name sides c.args.key left s.stem.named c.in_ok-open_to.ensures.under fits in
     made-under c.put-done.result sides (λ t. put_at (low_bits 64 c.args.key) (arc_value c.args.bucket) t) (λ t. put_at (low_bits left c.args.key) (arc_value c.args.bucket) t) (seen s.root) (seen c.put-done.new.node) (whole c.args.self.now) (whole c.wind.new.self) begun c.wind.ensures
     (put-under sides c.args.key left path (arc_value c.args.bucket) (seen s.root))
     c.put-done.ensures.ok

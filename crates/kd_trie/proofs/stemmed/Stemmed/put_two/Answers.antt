@@ -6,19 +6,19 @@ use Rattle.kd_trie.specs.Tries.{Trie, height, put_at}
 use Rattle.kd_trie.specs.Nodes.{seen}
 use Rattle.kd_trie.specs.Stems.{way_of}
 use Rattle.kd_trie.specs.Wholes.{sides_of, whole}
-use Rattle.kd_trie.proofs.StemLemmas.{height-under, under-stem, made-under, put-under}
+use Rattle.kd_trie.proofs.StemLemmas.{fits-under, under-stem, made-under, put-under}
 use Rattle.kd_trie.proofs.stemmed.Stemmed.put_two.Goals as goal
 
-pub put_two-done-requires-clause-height : goal.put_two-done-requires-clause-height
-put_two-done-requires-clause-height g c =
+pub put_two-done-requires-clause-fits : goal.put_two-done-requires-clause-fits
+put_two-done-requires-clause-fits g c =
     let s = c.open_to-2.new.self in
     let sides : List Side = sides_of s.stem in
     let left : ℕ = 64 - c.len-left.result in
     let fits : left ≡ 64 - length s.stem.name = ap (λ (n : ℕ). 64 - n) c.len-left.ensures.len in
-    let begun : whole s ≡ whole c.args.self.now = c.in-Ok-open_to.ensures.whole ∙ c.in-Ok.ensures.whole in
-    let path : low_bits 64 c.args.key ≡ way_of sides ++ low_bits left c.args.key = under-stem s.stem.name sides c.args.key left s.stem.named (c.in-Ok-open_to.ensures.keeps c.args.key c.in-Ok.ensures.under) fits in
-    let other : low_bits 64 c.args.other ≡ way_of sides ++ low_bits left c.args.other = under-stem s.stem.name sides c.args.other left s.stem.named c.in-Ok-open_to.ensures.under fits in
-    height-under s.stem.name sides (seen s.root) left s.stem.named fits (subst (λ (t : Trie). height t ≤ 64) (sym begun) c.requires.height)
+    let begun : whole s ≡ whole c.args.self.now = c.in_ok-open_to-2.ensures.whole ∙ c.in_ok-open_to.ensures.whole in
+    let path : low_bits 64 c.args.key ≡ way_of sides ++ low_bits left c.args.key = under-stem s.stem.name sides c.args.key left s.stem.named (c.in_ok-open_to-2.ensures.keeps c.args.key c.in_ok-open_to.ensures.under) fits in
+    let other : low_bits 64 c.args.other ≡ way_of sides ++ low_bits left c.args.other = under-stem s.stem.name sides c.args.other left s.stem.named c.in_ok-open_to-2.ensures.under fits in
+    fits-under s.stem.name sides (seen s.root) left s.stem.named fits (subst (λ (t : Trie). height t ≤ 64) (sym begun) c.requires.height)
 
 pub returns-clause-ok : goal.returns-clause-ok
 returns-clause-ok g c =
@@ -26,9 +26,9 @@ returns-clause-ok g c =
     let sides : List Side = sides_of s.stem in
     let left : ℕ = 64 - c.len-left.result in
     let fits : left ≡ 64 - length s.stem.name = ap (λ (n : ℕ). 64 - n) c.len-left.ensures.len in
-    let begun : whole s ≡ whole c.args.self.now = c.in-Ok-open_to.ensures.whole ∙ c.in-Ok.ensures.whole in
-    let path : low_bits 64 c.args.key ≡ way_of sides ++ low_bits left c.args.key = under-stem s.stem.name sides c.args.key left s.stem.named (c.in-Ok-open_to.ensures.keeps c.args.key c.in-Ok.ensures.under) fits in
-    let other : low_bits 64 c.args.other ≡ way_of sides ++ low_bits left c.args.other = under-stem s.stem.name sides c.args.other left s.stem.named c.in-Ok-open_to.ensures.under fits in
+    let begun : whole s ≡ whole c.args.self.now = c.in_ok-open_to-2.ensures.whole ∙ c.in_ok-open_to.ensures.whole in
+    let path : low_bits 64 c.args.key ≡ way_of sides ++ low_bits left c.args.key = under-stem s.stem.name sides c.args.key left s.stem.named (c.in_ok-open_to-2.ensures.keeps c.args.key c.in_ok-open_to.ensures.under) fits in
+    let other : low_bits 64 c.args.other ≡ way_of sides ++ low_bits left c.args.other = under-stem s.stem.name sides c.args.other left s.stem.named c.in_ok-open_to-2.ensures.under fits in
     made-under c.put_two-done.result sides (λ t. put_at (low_bits 64 c.args.other) (arc_value c.args.other_bucket) (put_at (low_bits 64 c.args.key) (arc_value c.args.bucket) t)) (λ t. put_at (low_bits left c.args.other) (arc_value c.args.other_bucket) (put_at (low_bits left c.args.key) (arc_value c.args.bucket) t)) (seen s.root) (seen c.put_two-done.new.node) (whole c.args.self.now) (whole c.wind.new.self) begun c.wind.ensures
     (ap (put_at (low_bits 64 c.args.other) (arc_value c.args.other_bucket)) (put-under sides c.args.key left path (arc_value c.args.bucket) (seen s.root)) ∙ put-under sides c.args.other left other (arc_value c.args.other_bucket) (put_at (low_bits left c.args.key) (arc_value c.args.bucket) (seen s.root)))
     c.put_two-done.ensures.ok

@@ -6,46 +6,40 @@ use Rattle.kd_trie.specs.Tries.{Trie, height, changed_at, rows_at}
 use Rattle.kd_trie.specs.Nodes.{seen}
 use Rattle.kd_trie.specs.Stems.{way_of}
 use Rattle.kd_trie.specs.Wholes.{sides_of, whole}
-use Rattle.kd_trie.proofs.StemLemmas.{height-under, under-stem, made-under, changed-under, rows-under}
+use Rattle.kd_trie.proofs.StemLemmas.{fits-under, under-stem, made-under, changed-under, rows-under}
 use Rattle.kd_trie.proofs.stemmed.Stemmed.shift_row.Goals as goal
 
-pub shift_row-done-requires-clause-height : goal.shift_row-done-requires-clause-height
-shift_row-done-requires-clause-height g c =
+pub shift_row-done-requires-clause-fits : goal.shift_row-done-requires-clause-fits
+shift_row-done-requires-clause-fits g c =
     let s = c.open_to-2.new.self in
     let sides : List Side = sides_of s.stem in
     let left : ℕ = 64 - c.len-left.result in
     let fits : left ≡ 64 - length s.stem.name = ap (λ (n : ℕ). 64 - n) c.len-left.ensures.len in
-    let begun : whole s ≡ whole c.args.self.now = c.in-Ok-open_to.ensures.whole ∙ c.in-Ok.ensures.whole in
-    let path : low_bits 64 c.args.from.now.row.key ≡ way_of sides ++ low_bits left c.args.from.now.row.key = under-stem s.stem.name sides c.args.from.now.row.key left s.stem.named (c.in-Ok-open_to.ensures.keeps c.args.from.now.row.key c.in-Ok.ensures.under) fits in
-    let other : low_bits 64 c.args.to.now.row.key ≡ way_of sides ++ low_bits left c.args.to.now.row.key = under-stem s.stem.name sides c.args.to.now.row.key left s.stem.named c.in-Ok-open_to.ensures.under fits in
-    height-under s.stem.name sides (seen s.root) left s.stem.named fits (subst (λ (t : Trie). height t ≤ 64) (sym begun) c.requires.height)
+    let begun : whole s ≡ whole c.args.self.now = c.in_ok-open_to-2.ensures.whole ∙ c.in_ok-open_to.ensures.whole in
+    let path : low_bits 64 c.args.from.now.row.key ≡ way_of sides ++ low_bits left c.args.from.now.row.key = under-stem s.stem.name sides c.args.from.now.row.key left s.stem.named (c.in_ok-open_to-2.ensures.keeps c.args.from.now.row.key c.in_ok-open_to.ensures.under) fits in
+    let other : low_bits 64 c.args.to.now.row.key ≡ way_of sides ++ low_bits left c.args.to.now.row.key = under-stem s.stem.name sides c.args.to.now.row.key left s.stem.named c.in_ok-open_to-2.ensures.under fits in
+    fits-under s.stem.name sides (seen s.root) left s.stem.named fits (subst (λ (t : Trie). height t ≤ 64) (sym begun) c.requires.height)
 
-pub shift_row-done-requires-clause-present : goal.shift_row-done-requires-clause-present
-shift_row-done-requires-clause-present g c =
+pub shift_row-done-requires-clause-rows : goal.shift_row-done-requires-clause-rows
+shift_row-done-requires-clause-rows g c =
     let s = c.open_to-2.new.self in
     let sides : List Side = sides_of s.stem in
     let left : ℕ = 64 - c.len-left.result in
     let fits : left ≡ 64 - length s.stem.name = ap (λ (n : ℕ). 64 - n) c.len-left.ensures.len in
-    let begun : whole s ≡ whole c.args.self.now = c.in-Ok-open_to.ensures.whole ∙ c.in-Ok.ensures.whole in
-    let path : low_bits 64 c.args.from.now.row.key ≡ way_of sides ++ low_bits left c.args.from.now.row.key = under-stem s.stem.name sides c.args.from.now.row.key left s.stem.named (c.in-Ok-open_to.ensures.keeps c.args.from.now.row.key c.in-Ok.ensures.under) fits in
-    let other : low_bits 64 c.args.to.now.row.key ≡ way_of sides ++ low_bits left c.args.to.now.row.key = under-stem s.stem.name sides c.args.to.now.row.key left s.stem.named c.in-Ok-open_to.ensures.under fits in
-    ap (has_row c.args.from.now.row) (sym (rows-under sides c.args.from.now.row.key left path (seen s.root)))
-    ∙ ap (λ (t : Trie). has_row c.args.from.now.row (rows_at (low_bits 64 c.args.from.now.row.key) t)) begun
-    ∙ c.requires.present
-
-pub shift_row-done-requires-clause-absent : goal.shift_row-done-requires-clause-absent
-shift_row-done-requires-clause-absent g c =
-    let s = c.open_to-2.new.self in
-    let sides : List Side = sides_of s.stem in
-    let left : ℕ = 64 - c.len-left.result in
-    let fits : left ≡ 64 - length s.stem.name = ap (λ (n : ℕ). 64 - n) c.len-left.ensures.len in
-    let begun : whole s ≡ whole c.args.self.now = c.in-Ok-open_to.ensures.whole ∙ c.in-Ok.ensures.whole in
-    let path : low_bits 64 c.args.from.now.row.key ≡ way_of sides ++ low_bits left c.args.from.now.row.key = under-stem s.stem.name sides c.args.from.now.row.key left s.stem.named (c.in-Ok-open_to.ensures.keeps c.args.from.now.row.key c.in-Ok.ensures.under) fits in
-    let other : low_bits 64 c.args.to.now.row.key ≡ way_of sides ++ low_bits left c.args.to.now.row.key = under-stem s.stem.name sides c.args.to.now.row.key left s.stem.named c.in-Ok-open_to.ensures.under fits in
-    ap (has_row c.args.to.now.row) (sym (rows-under sides c.args.to.now.row.key left other (changed_at (low_bits left c.args.from.now.row.key) (after_gone c.args.from.now) (seen s.root))))
-    ∙ ap (λ (t : Trie). has_row c.args.to.now.row (rows_at (low_bits 64 c.args.to.now.row.key) t)) (sym (changed-under sides c.args.from.now.row.key left path (after_gone c.args.from.now) (seen s.root)))
-    ∙ ap (λ (t : Trie). has_row c.args.to.now.row (rows_at (low_bits 64 c.args.to.now.row.key) (changed_at (low_bits 64 c.args.from.now.row.key) (after_gone c.args.from.now) t))) begun
-    ∙ c.requires.absent
+    let begun : whole s ≡ whole c.args.self.now = c.in_ok-open_to-2.ensures.whole ∙ c.in_ok-open_to.ensures.whole in
+    let path : low_bits 64 c.args.from.now.row.key ≡ way_of sides ++ low_bits left c.args.from.now.row.key = under-stem s.stem.name sides c.args.from.now.row.key left s.stem.named (c.in_ok-open_to-2.ensures.keeps c.args.from.now.row.key c.in_ok-open_to.ensures.under) fits in
+    let other : low_bits 64 c.args.to.now.row.key ≡ way_of sides ++ low_bits left c.args.to.now.row.key = under-stem s.stem.name sides c.args.to.now.row.key left s.stem.named c.in_ok-open_to-2.ensures.under fits in
+    record {
+      present =
+          ap (has_row c.args.from.now.row) (sym (rows-under sides c.args.from.now.row.key left path (seen s.root)))
+          ∙ ap (λ (t : Trie). has_row c.args.from.now.row (rows_at (low_bits 64 c.args.from.now.row.key) t)) begun
+          ∙ c.requires.rows.present;
+      absent =
+          ap (has_row c.args.to.now.row) (sym (rows-under sides c.args.to.now.row.key left other (changed_at (low_bits left c.args.from.now.row.key) (after_gone c.args.from.now) (seen s.root))))
+          ∙ ap (λ (t : Trie). has_row c.args.to.now.row (rows_at (low_bits 64 c.args.to.now.row.key) t)) (sym (changed-under sides c.args.from.now.row.key left path (after_gone c.args.from.now) (seen s.root)))
+          ∙ ap (λ (t : Trie). has_row c.args.to.now.row (rows_at (low_bits 64 c.args.to.now.row.key) (changed_at (low_bits 64 c.args.from.now.row.key) (after_gone c.args.from.now) t))) begun
+          ∙ c.requires.rows.absent;
+    }
 
 pub returns-clause-ok : goal.returns-clause-ok
 returns-clause-ok g c =
@@ -53,9 +47,9 @@ returns-clause-ok g c =
     let sides : List Side = sides_of s.stem in
     let left : ℕ = 64 - c.len-left.result in
     let fits : left ≡ 64 - length s.stem.name = ap (λ (n : ℕ). 64 - n) c.len-left.ensures.len in
-    let begun : whole s ≡ whole c.args.self.now = c.in-Ok-open_to.ensures.whole ∙ c.in-Ok.ensures.whole in
-    let path : low_bits 64 c.args.from.now.row.key ≡ way_of sides ++ low_bits left c.args.from.now.row.key = under-stem s.stem.name sides c.args.from.now.row.key left s.stem.named (c.in-Ok-open_to.ensures.keeps c.args.from.now.row.key c.in-Ok.ensures.under) fits in
-    let other : low_bits 64 c.args.to.now.row.key ≡ way_of sides ++ low_bits left c.args.to.now.row.key = under-stem s.stem.name sides c.args.to.now.row.key left s.stem.named c.in-Ok-open_to.ensures.under fits in
+    let begun : whole s ≡ whole c.args.self.now = c.in_ok-open_to-2.ensures.whole ∙ c.in_ok-open_to.ensures.whole in
+    let path : low_bits 64 c.args.from.now.row.key ≡ way_of sides ++ low_bits left c.args.from.now.row.key = under-stem s.stem.name sides c.args.from.now.row.key left s.stem.named (c.in_ok-open_to-2.ensures.keeps c.args.from.now.row.key c.in_ok-open_to.ensures.under) fits in
+    let other : low_bits 64 c.args.to.now.row.key ≡ way_of sides ++ low_bits left c.args.to.now.row.key = under-stem s.stem.name sides c.args.to.now.row.key left s.stem.named c.in_ok-open_to-2.ensures.under fits in
     made-under c.shift_row-done.result sides (λ t. changed_at (low_bits 64 c.args.to.now.row.key) (after_put c.args.to.now) (changed_at (low_bits 64 c.args.from.now.row.key) (after_gone c.args.from.now) t)) (λ t. changed_at (low_bits left c.args.to.now.row.key) (after_put c.args.to.now) (changed_at (low_bits left c.args.from.now.row.key) (after_gone c.args.from.now) t)) (seen s.root) (seen c.shift_row-done.new.node) (whole c.args.self.now) (whole c.wind.new.self) begun c.wind.ensures
     (ap (changed_at (low_bits 64 c.args.to.now.row.key) (after_put c.args.to.now)) (changed-under sides c.args.from.now.row.key left path (after_gone c.args.from.now) (seen s.root)) ∙ changed-under sides c.args.to.now.row.key left other (after_put c.args.to.now) (changed_at (low_bits left c.args.from.now.row.key) (after_gone c.args.from.now) (seen s.root)))
     c.shift_row-done.ensures.ok

@@ -12,11 +12,11 @@ use Rattle.kd_trie.proofs.trie.KdTrieIndex.divide.Goals as goal
 pub invariant_of-self : goal.invariant_of-self
 invariant_of-self g c =
     let old = whole c.args.self.now.tree in
-    let a : Rows = arc_value c.in-Ok.zero in
-    let b : Rows = arc_value c.in-Ok-try_clone.one in
+    let a : Rows = arc_value c.in_ok-zero.zero in
+    let b : Rows = arc_value c.in_ok-one.one in
     let buckets : map arc_value c.args.children.now ≡ a ∷ b ∷ [] =
     two_items arc_value c.args.children.now c.index-children-0.result c.index-children-1.result c.requires.children.0 c.index-children-0.is c.index-children-1.is
-    ∙ (λ i. sym c.in-Ok.ensures i ∷ sym c.in-Ok-try_clone.ensures i ∷ []) in
+    ∙ (λ i. sym c.in_ok-zero.ensures i ∷ sym c.in_ok-one.ensures i ∷ []) in
     let made = graft (low_bits 64 c.bits.result) (twins a b) old in
     let d = divides-graft c.args.name.now c.bits.result a b old c.bits.ensures c.args.self.now.short c.args.self.now.are_leaves c.in_order.ensures c.in_order-2.ensures c.requires.short (subst (AreAllUnder 1 c.args.name.now) buckets c.requires.children.1) c.requires.leaf in
     record {
@@ -27,11 +27,11 @@ invariant_of-self g c =
 pub returns-clause-ok : goal.returns-clause-ok
 returns-clause-ok g c =
     let old = whole c.args.self.now.tree in
-    let a : Rows = arc_value c.in-Ok.zero in
-    let b : Rows = arc_value c.in-Ok-try_clone.one in
+    let a : Rows = arc_value c.in_ok-zero.zero in
+    let b : Rows = arc_value c.in_ok-one.one in
     let buckets : map arc_value c.args.children.now ≡ a ∷ b ∷ [] =
     two_items arc_value c.args.children.now c.index-children-0.result c.index-children-1.result c.requires.children.0 c.index-children-0.is c.index-children-1.is
-    ∙ (λ i. sym c.in-Ok.ensures i ∷ sym c.in-Ok-try_clone.ensures i ∷ []) in
+    ∙ (λ i. sym c.in_ok-zero.ensures i ∷ sym c.in_ok-one.ensures i ∷ []) in
     let made = graft (low_bits 64 c.bits.result) (twins a b) old in
     let d = divides-graft c.args.name.now c.bits.result a b old c.bits.ensures c.args.self.now.short c.args.self.now.are_leaves c.in_order.ensures c.in_order-2.ensures c.requires.short (subst (AreAllUnder 1 c.args.name.now) buckets c.requires.children.1) c.requires.leaf in
     leaves-made c.divide.result made (whole c.divide.new.self) (split 1 c.args.name.now (map arc_value c.args.children.now) (leaves_under [] old))

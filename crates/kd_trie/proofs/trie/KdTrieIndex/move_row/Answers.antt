@@ -8,15 +8,15 @@ use Rattle.kd_trie.proofs.TrieRows.{absent-after}
 use Rattle.kd_trie.proofs.RowLeaves.{puts, takes, rows-found, moves-made}
 use Rattle.kd_trie.proofs.trie.KdTrieIndex.move_row.Goals as goal
 
-pub shift_row-requires-clause-present : goal.shift_row-requires-clause-present
-shift_row-requires-clause-present g c =
+pub shift_row-requires-clause-rows : goal.shift_row-requires-clause-rows
+shift_row-requires-clause-rows g c =
     let old = whole c.args.self.now.tree in
-    rows-found c.args.from.row.key old c.args.from.row true c.in_range.ensures c.args.self.now.short c.args.self.now.are_leaves c.requires.present
-
-pub shift_row-requires-clause-absent : goal.shift_row-requires-clause-absent
-shift_row-requires-clause-absent g c =
-    let old = whole c.args.self.now.tree in
-    absent-after (low_bits 64 c.args.to.row.key) (low_bits 64 c.args.from.row.key) c.args.to.row c.args.from old (rows-found c.args.to.row.key old c.args.to.row false c.in_range-2.ensures c.args.self.now.short c.args.self.now.are_leaves c.requires.absent)
+    record {
+      present = rows-found c.args.from.row.key old c.args.from.row true c.in_range.ensures c.args.self.now.short c.args.self.now.are_leaves c.requires.present;
+      absent =
+          absent-after (low_bits 64 c.args.to.row.key) (low_bits 64 c.args.from.row.key) c.args.to.row c.args.from old
+          (rows-found c.args.to.row.key old c.args.to.row false c.in_range-2.ensures c.args.self.now.short c.args.self.now.are_leaves c.requires.absent);
+    }
 
 pub invariant_of-self : goal.invariant_of-self
 invariant_of-self g c =

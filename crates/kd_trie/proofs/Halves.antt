@@ -1,0 +1,40 @@
+-- Ways down a fork, by the bit that they go on with.
+use Rattle.std.proofs.Common.{◌≡◌, ◌-◌, ◌==◌, ◌<◌, ◌∙◌, ℕ, suc, true, false, cond, ap, arith}
+use Rattle.std.specs.Int.{bit_at}
+use Rattle.zorder.specs.Bits.{low_bits}
+use Rattle.bucket_versions.specs.declared.row.Row.{Row}
+use Rattle.bucket_versions.specs.Rows.{Rows}
+use Rattle.kd_trie.specs.Tries.{Trie, fork, put_at, changed_at, rows_at}
+
+again : (left : ℕ) → 0 < left → left ≡ suc (left - 1)
+again left some = omega (arith, some)
+
+pub put_one : (left key : ℕ) (b : Rows) (z o : Trie) → 0 < left → (bit_at key (left - 1) == 1) ≡ true → put_at (low_bits left key) b (fork z o) ≡ fork z (put_at (low_bits (left - 1) key) b o)
+put_one left key b z o some e =
+    let rest = low_bits (left - 1) key in
+    ap (λ (n : ℕ). put_at (low_bits n key) b (fork z o)) (again left some) ∙ (λ i. cond (e i) (fork z (put_at rest b o)) (fork (put_at rest b z) o))
+
+pub put_zero : (left key : ℕ) (b : Rows) (z o : Trie) → 0 < left → (bit_at key (left - 1) == 1) ≡ false → put_at (low_bits left key) b (fork z o) ≡ fork (put_at (low_bits (left - 1) key) b z) o
+put_zero left key b z o some e =
+    let rest = low_bits (left - 1) key in
+    ap (λ (n : ℕ). put_at (low_bits n key) b (fork z o)) (again left some) ∙ (λ i. cond (e i) (fork z (put_at rest b o)) (fork (put_at rest b z) o))
+
+pub changed_one : (left key : ℕ) (f : Rows → Rows) (z o : Trie) → 0 < left → (bit_at key (left - 1) == 1) ≡ true → changed_at (low_bits left key) f (fork z o) ≡ fork z (changed_at (low_bits (left - 1) key) f o)
+changed_one left key f z o some e =
+    let rest = low_bits (left - 1) key in
+    ap (λ (n : ℕ). changed_at (low_bits n key) f (fork z o)) (again left some) ∙ (λ i. cond (e i) (fork z (changed_at rest f o)) (fork (changed_at rest f z) o))
+
+pub changed_zero : (left key : ℕ) (f : Rows → Rows) (z o : Trie) → 0 < left → (bit_at key (left - 1) == 1) ≡ false → changed_at (low_bits left key) f (fork z o) ≡ fork (changed_at (low_bits (left - 1) key) f z) o
+changed_zero left key f z o some e =
+    let rest = low_bits (left - 1) key in
+    ap (λ (n : ℕ). changed_at (low_bits n key) f (fork z o)) (again left some) ∙ (λ i. cond (e i) (fork z (changed_at rest f o)) (fork (changed_at rest f z) o))
+
+pub rows_one : (left key : ℕ) (z o : Trie) → 0 < left → (bit_at key (left - 1) == 1) ≡ true → rows_at (low_bits left key) (fork z o) ≡ rows_at (low_bits (left - 1) key) o
+rows_one left key z o some e =
+    let rest = low_bits (left - 1) key in
+    ap (λ (n : ℕ). rows_at (low_bits n key) (fork z o)) (again left some) ∙ (λ i. cond (e i) (rows_at rest o) (rows_at rest z))
+
+pub rows_zero : (left key : ℕ) (z o : Trie) → 0 < left → (bit_at key (left - 1) == 1) ≡ false → rows_at (low_bits left key) (fork z o) ≡ rows_at (low_bits (left - 1) key) z
+rows_zero left key z o some e =
+    let rest = low_bits (left - 1) key in
+    ap (λ (n : ℕ). rows_at (low_bits n key) (fork z o)) (again left some) ∙ (λ i. cond (e i) (rows_at rest o) (rows_at rest z))
