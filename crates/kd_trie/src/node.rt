@@ -1,6 +1,7 @@
 //! Nodes: a leaf's bucket, or two halves.
-ghost use Rattle.std.specs.Prelude.{◌≡◌, ◌≤◌, ◌<◌, ◌+◌, ◌-◌, ◌==◌, Some, length, IfOk, OnOk, OnErr};
-ghost use Rattle.std.specs.Arc.{arc_value};
+ghost use Rattle.std.specs.Prelude.{◌≡◌, ◌≤◌, ◌<◌, ◌+◌, ◌-◌, ◌==◌, ◌⊎◌, Some, length, IfOk, OnOk, OnErr};
+ghost use Rattle.std.specs.Arc.{arc_value, arc_follows_make_mut};
+ghost use Rattle.std.specs.Borrow.{sem};
 ghost use Rattle.std.specs.Int.{bit_at};
 ghost use Rattle.zorder.specs.Bits.{low_bits};
 ghost use Rattle.kd_trie.specs.Tries.{name_at, bucket_at, graft, twins};
@@ -10,7 +11,7 @@ ghost use Rattle.kd_trie.specs.Walks.{Agrees};
 ghost use Rattle.bucket_versions.specs.Told.{Told};
 
 use bucket_versions::{Bucket, Commit, Undone};
-use std::alloc::{AllocError, Global};
+use std::alloc::{AllocError, Allocator, Global};
 use std::sync::Arc;
 
 /// A leaf's bucket, or what is under the next bit.
@@ -41,11 +42,37 @@ impl Node {
     }
 }
 
+// What is behind a pointer, to write to: a clone of it, if it has other owners. `Arc::make_mut` does the same, and is called
+// only then, so that no call stands in the loops down the trie.
+#[inline(always)]
+pub(crate) fn own<T: Clone + Drop, A: Allocator + Clone>(
+    shared: &mut Arc<T, A>,
+) -> Result<&mut T, AllocError>
+    ensures* writes_back { sem 𝓛 (arc_follows_make_mut T.row A.row A.Allocator T.is_clone shared.entry result) }
+    ensures value { IfOk result (λ x. (x.now ≡ arc_value shared.old) ⊎ T.is_clone (arc_value shared.old) x.now) }
+{
+    if Arc::strong_count(shared) != 1 {
+        part(shared)?;
+    }
+    match Arc::get_mut(shared) {
+        Some(value) => Ok(value),
+        None => Err(AllocError),
+    }
+}
+
+// Parts a pointer from its other owners.
+#[inline(never)]
+fn part<T: Clone + Drop, A: Allocator + Clone>(shared: &mut Arc<T, A>) -> Result<(), AllocError>
+    ensures { (arc_value shared.new ≡ arc_value shared.old) ⊎ T.is_clone (arc_value shared.old) (arc_value shared.new) }
+{
+    Arc::make_mut(shared)?;
+    Ok(())
+}
+
 impl Clone for Pair {
     ghost is_clone = { λ pair copy. (seen copy.zero ≡ seen pair.zero) × (seen copy.one ≡ seen pair.one) };
 
-    // An equal pair, for who changes it. It stays out of the loops down the trie, which seldom need it.
-    #[inline(never)]
+    // An equal pair, for who changes it.
     fn clone(&self) -> Result<Pair, AllocError> {
         let zero = self.zero.share()?;
         let one = self.one.share()?;
@@ -91,7 +118,7 @@ pub(crate) fn put<C: Commit>(
             Ok(())
         }
         Node::Inner(pair) => {
-            let pair = Arc::make_mut(pair)?;
+            let pair = own(pair)?;
             if next_bit(way.key, left) {
                 put(&mut pair.one, way, left - 1, commit)
             } else {
@@ -126,7 +153,7 @@ pub(crate) fn put_two<C: Commit>(
             Ok(())
         }
         Node::Inner(pair) => {
-            let pair = Arc::make_mut(pair)?;
+            let pair = own(pair)?;
             if next_bit(first.key, left) {
                 if next_bit(second.key, left) {
                     put_two(&mut pair.one, first, second, left - 1, commit)
@@ -164,7 +191,7 @@ fn put_apart<C: Commit>(
     match node {
         Node::Leaf(leaf) => put_beside(leaf, first.bucket, other, second, other_left, commit),
         Node::Inner(pair) => {
-            let pair = Arc::make_mut(pair)?;
+            let pair = own(pair)?;
             if next_bit(first.key, left) {
                 put_apart(
                     &mut pair.one,
@@ -216,7 +243,7 @@ fn put_beside<C: Commit>(
             Ok(())
         }
         Node::Inner(pair) => {
-            let pair = Arc::make_mut(pair)?;
+            let pair = own(pair)?;
             if next_bit(way.key, left) {
                 put_beside(leaf, bucket, &mut pair.one, way, left - 1, commit)
             } else {
@@ -252,7 +279,7 @@ pub(crate) fn divide<C: Commit>(
             Ok(())
         }
         Node::Inner(pair) => {
-            let pair = Arc::make_mut(pair)?;
+            let pair = own(pair)?;
             if next_bit(key, left) {
                 divide(alloc, &mut pair.one, key, left - 1, zero, one, commit)
             } else {

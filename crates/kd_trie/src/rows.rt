@@ -1,12 +1,12 @@
 //! Rows that are put, taken and moved in a trie that is changed in place.
 ghost use Rattle.std.specs.Prelude.{◌≡◌, true, false, OnOk, OnErr};
 ghost use Rattle.std.specs.Arc.{arc_value};
-ghost use Rattle.bucket_versions.specs.Rows.{has_row, after_gone};
+ghost use Rattle.bucket_versions.specs.Rows.{has_row, without_row, after_put, after_gone};
 ghost use Rattle.bucket_versions.specs.Told.{Told};
 ghost use Rattle.kd_trie.specs.Nodes.{seen};
 ghost use Rattle.kd_trie.specs.Ways.{Fits, has_under, put_under, gone_under, MayMove};
 
-use crate::node::{Node, Pair, next_bit};
+use crate::node::{Node, Pair, next_bit, own};
 use bucket_versions::{Bucket, Commit, RowChange, Undone, pass, put, shift, take};
 use std::sync::Arc;
 
@@ -25,9 +25,9 @@ pub(crate) fn put_row<C: Commit>(
     ensures told { Told C.done C.lost commit.old commit.new result }
 {
     match node {
-        Node::Leaf(leaf) => put(leaf, *change, commit),
+        Node::Leaf(leaf) => put_there(leaf, change, commit),
         Node::Inner(pair) => {
-            let pair = Arc::make_mut(pair)?;
+            let pair = own(pair)?;
             if next_bit(change.row.key, left) {
                 put_row(&mut pair.one, change, left - 1, commit)
             } else {
@@ -52,9 +52,9 @@ pub(crate) fn take_row<C: Commit>(
     ensures told { Told C.done C.lost commit.old commit.new result }
 {
     match node {
-        Node::Leaf(leaf) => take(leaf, *change, commit),
+        Node::Leaf(leaf) => take_there(leaf, change, commit),
         Node::Inner(pair) => {
-            let pair = Arc::make_mut(pair)?;
+            let pair = own(pair)?;
             if next_bit(change.row.key, left) {
                 take_row(&mut pair.one, change, left - 1, commit)
             } else {
@@ -81,9 +81,9 @@ pub(crate) fn shift_row<C: Commit>(
     ensures told { Told C.done C.lost commit.old commit.new result }
 {
     match node {
-        Node::Leaf(leaf) => shift(leaf, *from, *to, commit),
+        Node::Leaf(leaf) => shift_there(leaf, from, to, commit),
         Node::Inner(pair) => {
-            let pair = Arc::make_mut(pair)?;
+            let pair = own(pair)?;
             if next_bit(from.row.key, left) {
                 if next_bit(to.row.key, left) {
                     shift_row(&mut pair.one, from, to, left - 1, commit)
@@ -121,7 +121,7 @@ fn pass_row<C: Commit>(
     match node {
         Node::Leaf(leaf) => pass_on(leaf, from, other, to, other_left, commit),
         Node::Inner(pair) => {
-            let pair = Arc::make_mut(pair)?;
+            let pair = own(pair)?;
             if next_bit(from.row.key, left) {
                 pass_row(&mut pair.one, from, left - 1, other, to, other_left, commit)
             } else {
@@ -156,9 +156,9 @@ fn pass_on<C: Commit>(
     ensures told { Told C.done C.lost commit.old commit.new result }
 {
     match node {
-        Node::Leaf(other) => pass(leaf, *from, other, *to, commit),
+        Node::Leaf(other) => pass_there(leaf, from, other, to, commit),
         Node::Inner(pair) => {
-            let pair = Arc::make_mut(pair)?;
+            let pair = own(pair)?;
             if next_bit(to.row.key, left) {
                 pass_on(leaf, from, &mut pair.one, to, left - 1, commit)
             } else {
@@ -166,4 +166,70 @@ fn pass_on<C: Commit>(
             }
         }
     }
+}
+
+// The changes of a leaf's bucket. They stay out of the ways down to it, which are loops without them.
+
+#[inline(never)]
+fn put_there<C: Commit>(
+    leaf: &mut Arc<Bucket>,
+    change: &RowChange,
+    commit: &mut C,
+) -> Result<(), Undone>
+    requires can { C.can commit.old }
+    requires absent { has_row change.now.row (arc_value leaf.old).rows ≡ false }
+    ensures ok { OnOk result (arc_value leaf.new ≡ after_put change.now (arc_value leaf.old)) }
+    ensures err { OnErr result (arc_value leaf.new ≡ arc_value leaf.old) }
+    ensures told { Told C.done C.lost commit.old commit.new result }
+{
+    put(leaf, *change, commit)
+}
+
+#[inline(never)]
+fn take_there<C: Commit>(
+    leaf: &mut Arc<Bucket>,
+    change: &RowChange,
+    commit: &mut C,
+) -> Result<(), Undone>
+    requires can { C.can commit.old }
+    requires present { has_row change.now.row (arc_value leaf.old).rows ≡ true }
+    ensures ok { OnOk result (arc_value leaf.new ≡ after_gone change.now (arc_value leaf.old)) }
+    ensures err { OnErr result (arc_value leaf.new ≡ arc_value leaf.old) }
+    ensures told { Told C.done C.lost commit.old commit.new result }
+{
+    take(leaf, *change, commit)
+}
+
+#[inline(never)]
+fn shift_there<C: Commit>(
+    leaf: &mut Arc<Bucket>,
+    from: &RowChange,
+    to: &RowChange,
+    commit: &mut C,
+) -> Result<(), Undone>
+    requires can { C.can commit.old }
+    requires present { has_row from.now.row (arc_value leaf.old).rows ≡ true }
+    requires absent { has_row to.now.row (without_row from.now.row (arc_value leaf.old).rows) ≡ false }
+    ensures ok { OnOk result (arc_value leaf.new ≡ after_put to.now (after_gone from.now (arc_value leaf.old))) }
+    ensures err { OnErr result (arc_value leaf.new ≡ arc_value leaf.old) }
+    ensures told { Told C.done C.lost commit.old commit.new result }
+{
+    shift(leaf, *from, *to, commit)
+}
+
+#[inline(never)]
+fn pass_there<C: Commit>(
+    leaf: &mut Arc<Bucket>,
+    from: &RowChange,
+    other: &mut Arc<Bucket>,
+    to: &RowChange,
+    commit: &mut C,
+) -> Result<(), Undone>
+    requires can { C.can commit.old }
+    requires rows { (has_row from.now.row (arc_value leaf.old).rows ≡ true) × (has_row to.now.row (arc_value other.old).rows ≡ false) }
+    ensures ok { OnOk result ((arc_value leaf.new ≡ after_gone from.now (arc_value leaf.old)) × (arc_value other.new ≡ after_put to.now (arc_value other.old))) }
+    ensures err { OnErr result ((arc_value leaf.new ≡ arc_value leaf.old) × (arc_value other.new ≡ arc_value other.old)) }
+    ensures told { Told C.done C.lost commit.old commit.new result }
+{
+    pass(leaf, *from, other, *to, commit)
 }

@@ -82,6 +82,7 @@ impl Stemmed {
     }
 
     // Makes a key one that is under the stem.
+    #[inline(always)]
     fn open_to(&mut self, key: u64) -> Result<(), AllocError>
         ensures whole { whole self.new ≡ whole self.old }
         ensures under { OnOk result (is_under self.new.stem.name key ≡ true) }
@@ -90,12 +91,20 @@ impl Stemmed {
         if begins(&self.stem.name, key) {
             return Ok(());
         }
+        self.unwind()
+    }
+
+    // Puts pairs in the place of the stem. It stays out of the changes, which seldom need it.
+    #[inline(never)]
+    fn unwind(&mut self) -> Result<(), AllocError>
+        ensures whole { whole self.new ≡ whole self.old }
+        ensures name { OnOk result (self.new.stem.name ≡ []) }
+    {
         *self = self.plain()?;
         Ok(())
     }
 
-    // The same trie with pairs in the place of the stem. It stays out of the changes, which seldom need it.
-    #[inline(never)]
+    // The same trie with pairs in the place of the stem.
     fn plain(&self) -> Result<Stemmed, AllocError>
         ensures whole { IfOk result (λ s. whole s ≡ whole self.now) }
         ensures name { IfOk result (λ s. s.stem.name ≡ []) }
@@ -110,18 +119,24 @@ impl Stemmed {
     }
 
     // Lengthens the stem to where the trie branches. For want of memory it stays as it is.
+    #[inline(always)]
     fn wind(&mut self)
         ensures { whole self.new ≡ whole self.old }
     {
-        if step(&self.root).is_none() {
-            return;
+        if step(&self.root).is_some() {
+            self.rewind();
         }
+    }
+
+    #[inline(never)]
+    fn rewind(&mut self)
+        ensures { whole self.new ≡ whole self.old }
+    {
         if let Ok(longer) = self.wound() {
             *self = longer;
         }
     }
 
-    #[inline(never)]
     fn wound(&self) -> Result<Stemmed, AllocError>
         ensures { IfOk result (λ s. whole s ≡ whole self.now) }
     {
