@@ -1,15 +1,18 @@
 -- A map from ids to points, and the world that it stands for.
-use Rattle.std.proofs.Common.{◌≡◌, ℕ, ◌<◌, ◌≤◌, List, [], ◌∷◌, Option, Some, None, Result, Ok, Err, OnOk, OnErr, refl, sym, ◌∙◌, arith}
+use Rattle.std.proofs.Common.{◌≡◌, ℕ, ◌<◌, ◌≤◌, List, [], ◌∷◌, Option, Some, None, Result, Ok, Err, OnOk, OnErr, length, refl, sym, ◌∙◌, arith}
+use Rattle.std.specs.Option.{MatchOption}
 use Rattle.std.specs.Ordering.{nat_cmp}
 use Rattle.std.specs.BTreeMap.{insert_entry, is_at}
-use Rattle.std.specs.Map.{lookup, remove_entry}
+use Rattle.std.specs.Map.{lookup, remove_entry, set_value}
 use Rattle.std.proofs.lemmas.Bool.Decides.{nat_tests}
 use Rattle.std.proofs.lemmas.Grind.{common_steps}
 use Rattle.zorder.specs.declared.points.Point.{Point}
 use Rattle.zorder.specs.declared.points.Placed.{Placed}
-use Rattle.plain_list.specs.World.{IsRising, IsAbove, place_of}
+use Rattle.zorder.specs.Key.{IsPoint}
+use Rattle.plain_list.specs.World.{most_members, IsWorld, IsRising, IsAbove, place_of}
 use Rattle.plain_list.specs.Answer.{with_member, with_moved, without}
 use Rattle.plain_list.specs.MemberMap.{world_of}
+use Rattle.plain_list.proofs.Worlds.{IsWorld-with_member, IsWorld-with_moved}
 
 pub place_of-world_of : (es : List (ℕ × Point)) (id : ℕ) → place_of (world_of es) id ≡ lookup (is_at (nat_cmp id)) es
 place_of-world_of [] id = refl
@@ -64,7 +67,45 @@ world_of-insert_entry-there id old at (e ∷ es) rising found =
     let none : id < e.0 → place_of (world_of es) id ≡ None = λ lt. place_of-above id (world_of es) (IsAbove-lower id e.0 (world_of es) (omega arith) rising.0) in
     grind (arith, nat_tests, common_steps)
 
+-- an object is found, and moves where it stands
+pub world_of-set_value : (id : ℕ) (at : Point) (es : List (ℕ × Point)) → IsRising (world_of es) → world_of (set_value (is_at (nat_cmp id)) es at) ≡ with_moved id at (world_of es)
+world_of-set_value id at [] rising = refl
+world_of-set_value id at (e ∷ es) rising =
+    let rest : world_of (set_value (is_at (nat_cmp id)) es at) ≡ with_moved id at (world_of es) = world_of-set_value id at es rising.1 in
+    let same : e.0 ≤ id → id ≤ e.0 → with_moved id at (world_of es) ≡ world_of es = λ le ge. with_moved-absent id at (world_of es) (IsAbove-lower id e.0 (world_of es) ge rising.0) in
+    grind (arith, nat_tests, common_steps)
+
+-- an object that isn't there doesn't move
+pub with_moved-none : (id : ℕ) (at : Point) (ms : List Placed) → place_of ms id ≡ None → with_moved id at ms ≡ ms
+with_moved-none id at [] none = refl
+with_moved-none id at (n ∷ ns) none =
+    let rest : place_of ns id ≡ None → with_moved id at ns ≡ ns = with_moved-none id at ns in
+    grind (arith, nat_tests, common_steps)
+
+-- an insert puts an object there, or moves it
+pub record Inserts (id : ℕ) (at : Point) (there : Option Point) (old new : List Placed) : Type 0 where
+  pub world : IsWorld new
+  pub is : MatchOption there (new ≡ with_member (record { id = id; at = at }) old) (λ _. new ≡ with_moved id at old)
+
+pub inserts : (id : ℕ) (at : Point) (there : Option Point) (es : List (ℕ × Point)) → IsWorld (world_of es) → length (world_of es) < most_members → IsPoint at → place_of (world_of es) id ≡ there
+    → Inserts id at there (world_of es) (world_of (insert_entry nat_cmp es id at))
+inserts id at None es w few fits none =
+    let is = world_of-insert_entry id at es none in
+    record { world = rw is (IsWorld-with_member (record { id = id; at = at }) (world_of es) w none few fits); is = is }
+inserts id at (Some old) es w few fits there =
+    let is = world_of-insert_entry-there id old at es w.rising there in
+    record { world = rw is (IsWorld-with_moved id at (world_of es) w fits); is = is }
+
+-- an insert of an object that wasn't there
+pub inserted_new : {A : Type 0} (there : Option A) (P : Type 0) (Q : A → Type 0) → MatchOption there P Q → there ≡ None → P
+inserted_new None P Q is none = is
+inserted_new (Some a) P Q is none = cc none
+
 -- an insert at a key that is there can't fail
 pub inserted_there : {R E V : Type 0} (r : Result R E) (P : Type 0) (found : Option V) (old : V) → OnOk r P → OnErr r (found ≡ None) → found ≡ Some old → P
 inserted_there (Ok x) P found old ok err there = ok
 inserted_there (Err e) P found old ok err there = let none : Some old ≡ None = sym there ∙ err in cc none
+
+pub on_err_anyway : {A E : Type 0} (r : Result A E) (P : Type 0) → P → OnErr r P
+on_err_anyway (Ok x) P p = tt
+on_err_anyway (Err e) P p = p

@@ -1,5 +1,5 @@
 //! A world as a map, for whoever changes it often.
-ghost use Rattle.std.specs.Prelude.{◌≡◌, ◌≤◌, ◌<◌, ◌+◌, [], length, Some, None, OnOk, OnErr, IfOk, Option};
+ghost use Rattle.std.specs.Prelude.{◌≡◌, ◌≤◌, ◌<◌, ◌+◌, [], length, None, OnErr, IfOk, MatchOption, Option};
 ghost use Rattle.zorder.specs.declared.points.Point.{Point};
 ghost use Rattle.plain_list.specs.World.{most_members, IsWorld, place_of};
 ghost use Rattle.plain_list.specs.Answer.{with_member, with_moved, without};
@@ -8,6 +8,7 @@ use crate::world::World;
 use std::alloc::{AllocError, Global};
 use std::collections::BTreeMap;
 use std::marker::Model;
+use std::mem::replace;
 use zorder::{Placed, Point, coordinates_fit};
 
 /// Where each object is, by its id: a world that takes each change in logarithmic time.
@@ -39,6 +40,13 @@ impl MemberMap {
         }
     }
 
+    /// The objects of a world.
+    pub fn from_world(alloc: Global, world: &World) -> Result<MemberMap, AllocError>
+        ensures { IfOk result (λ map. map ≡ world.now) }
+    {
+        points_of(alloc, world.as_slice())
+    }
+
     pub fn len(&self) -> usize
         ensures len { result ≡ length self.now }
         ensures world { IsWorld self.now }
@@ -52,32 +60,36 @@ impl MemberMap {
         self.points.get(&id).copied()
     }
 
-    /// Adds an object, which isn't there.
-    pub fn insert(&mut self, id: u64, at: Point) -> Result<(), AllocError>
-        requires absent { place_of self.old id ≡ None }
+    /// Puts an object at a point, in place of the one of its id, and says where that was.
+    pub fn insert(&mut self, id: u64, at: Point) -> Result<Option<Point>, AllocError>
         requires room { length self.old < most_members }
-        ensures ok { OnOk result (self.new ≡ with_member (record { id = id; at = at }) self.old) }
+        ensures found { IfOk result (λ there. there ≡ place_of self.old id) }
+        ensures ok { IfOk result (λ there. MatchOption there (self.new ≡ with_member (record { id = id; at = at }) self.old) (λ _. self.new ≡ with_moved id at self.old)) }
         ensures err { OnErr result (self.new ≡ self.old) }
+        ensures absent { OnErr result (place_of self.old id ≡ None) }
+        ensures world { IsWorld self.new }
     {
         coordinates_fit(at);
-        self.points.insert(id, at)?;
-        Ok(())
+        Ok(self.points.insert(id, at)?)
     }
 
-    /// Moves an object, which is there, and takes no memory.
-    pub fn replace(&mut self, id: u64, old: Point, at: Point)
-        requires { place_of self.old id ≡ Some old }
-        ensures { self.new ≡ with_moved id at self.old }
+    /// Moves an object, if it is there, and says where it was. It takes no memory.
+    pub fn replace(&mut self, id: u64, at: Point) -> Option<Point>
+        ensures found { result ≡ place_of self.old id }
+        ensures moved { self.new ≡ with_moved id at self.old }
+        ensures world { IsWorld self.new }
     {
         coordinates_fit(at);
-        let _ = self.points.insert(id, at);
+        let place = self.points.get_mut(&id)?;
+        Some(replace(place, at))
     }
 
-    /// Takes an object out, if it is there.
-    pub fn remove(&mut self, id: u64)
-        ensures { self.new ≡ without id self.old }
+    /// Takes an object out, if it is there, and says where it was.
+    pub fn remove(&mut self, id: u64) -> Option<Point>
+        ensures found { result ≡ place_of self.old id }
+        ensures gone { self.new ≡ without id self.old }
     {
-        self.points.remove(&id);
+        self.points.remove(&id)
     }
 
     /// The same objects as one list.
@@ -90,4 +102,16 @@ impl MemberMap {
         }
         Ok(World::from_vec(members))
     }
+}
+
+// A map of the objects of a world, one after the other.
+fn points_of(alloc: Global, world: &[Placed]) -> Result<MemberMap, AllocError>
+    requires { IsWorld world.now }
+    ensures { IfOk result (λ points. points ≡ world.now) }
+{
+    let mut points = MemberMap::new(alloc);
+    for member in world {
+        points.insert(member.id, member.at)?;
+    }
+    Ok(points)
 }

@@ -18,12 +18,11 @@ use Rattle.bucket_versions.specs.Rows.{Rows, has_row}
 use Rattle.index_layer.specs.Leaves.{Leaf, names_of, has_name, leaves_of, split, EachUnder, AreAllUnder}
 use Rattle.index_layer.specs.Stands.{HasRowsOf, world_has}
 use Rattle.index_layer.proofs.LeafKeys.{first_key-under, first_key-fits}
-use Rattle.index_layer.proofs.LeafChanges.{length-children, names_of-leaves_of}
+use Rattle.index_layer.proofs.LeafChanges.{length-children}
 use Rattle.point_table.specs.Crowded.{AreFrom, AreRising, remarked, remarked_each, marked, unmarked}
 use Rattle.point_table.specs.Crowds.{is_crowded, crowded_of, marked_later}
 use Rattle.split_prepare.specs.Cut.{cut_out, cut}
 use Rattle.split_prepare.proofs.CutLemmas.{AreUnder-rows_under}
-use Rattle.point_table.specs.declared.crowded.Mark.{Mark}
 use Rattle.point_table.specs.Divisions.{mark_of, marks_of}
 use Rattle.point_table.proofs.Covered.{Tiles, tiles}
 use Rattle.point_table.proofs.CrowdLemmas.{has_name-from, tiles-AreFrom, next-above, spliced, split-spliced, crowded_of-spliced}

@@ -9,7 +9,6 @@ pub mod FullLemmas
 pub mod KeyPlaces
 pub mod MemberSteps
 pub mod Rising
-pub mod RisingMembers
 pub mod RowSteps
 pub mod Settled
 pub mod SplitLemmas
@@ -18,3 +17,4 @@ pub mod Standing
 pub mod StandingLess
 pub mod TableSteps
 pub mod Uncrowded
+pub mod Updating

@@ -14,7 +14,6 @@ use Rattle.zorder.specs.Tile.{tiles_from, next_key}
 use Rattle.zorder.proofs.Places.{key_of-lt}
 use Rattle.zorder.specs.SameName.{same_name, same_name-decides}
 use Rattle.bucket_versions.specs.declared.row.Row.{Row}
-use Rattle.bucket_versions.specs.declared.row.RowChange.{RowChange}
 use Rattle.bucket_versions.specs.Rows.{Rows, has_row, with_row, without_row, after_put, after_gone}
 use Rattle.index_layer.specs.Leaves.{Leaf, names_of, leaf_under, replaced}
 use Rattle.index_layer.specs.RowChanges.{ChangesAt}

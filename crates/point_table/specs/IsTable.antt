@@ -10,9 +10,9 @@ use Rattle.point_table.specs.declared.table.PointTable.TheInside.{Inside}
 
 -- the objects of the map are the rows of the leaves, and the leaves to be split are known
 pub record IsTable {I P : Type 0} (leaves : I → List Leaf) (w : ℕ) (t : Inside I P) : Type 0 where
-  pub world : IsWorld t.members.world
-  pub rows : AllByRecursion (HasRowsOf t.members.world) (leaves t.index)
+  pub world : IsWorld t.members
+  pub rows : AllByRecursion (HasRowsOf t.members) (leaves t.index)
   pub crowded : t.crowded.names ≡ crowded_of w t.size (leaves t.index)
 
 abbrev pub table_of : {I P : Type 0} → (I → List Leaf) → Inside I P → TableView
-table_of leaves t = record { leaves = leaves t.index; world = t.members.world; size = t.size }
+table_of leaves t = record { leaves = leaves t.index; world = t.members; size = t.size }

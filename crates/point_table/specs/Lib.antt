@@ -1,12 +1,9 @@
-pub mod Beside
 pub mod Changes
 pub mod Crowded
 pub mod CrowdedInside
 pub mod Crowds
 pub mod Divisions
 pub mod IsTable
-pub mod Members
-pub mod MembersInside
 pub mod Splits
 pub mod TableView
 pub mod Updates

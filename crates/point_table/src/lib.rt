@@ -9,7 +9,6 @@
 #![tactic(auto)]
 
 mod crowded;
-mod members;
 mod table;
 
 pub use crowded::{Begun, is_among};

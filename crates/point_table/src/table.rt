@@ -3,13 +3,15 @@ ghost use Rattle.std.specs.Prelude.{◌≡◌, ◌+◌, ◌-◌, ◌<◌, ◌≤
 ghost use Rattle.std.specs.Arc.{arc_value};
 ghost use Rattle.std.specs.List.{AllByRecursion, find};
 ghost use Rattle.bucket_versions.specs.Told.{Told};
-ghost use Rattle.bucket_versions.specs.Rows.{has_row};
-ghost use Rattle.plain_list.specs.World.{most_members, IsWorld, place_of};
+ghost use Rattle.bucket_versions.specs.Rows.{has_row, after_put};
+ghost use Rattle.zorder.specs.declared.points.Point.{Point};
+ghost use Rattle.plain_list.specs.World.{IsWorld, place_of, is_full};
 ghost use Rattle.plain_list.specs.Answer.{with_member, with_moved, without, answer_of, is_change};
 ghost use Rattle.plain_list.specs.Size.{is_over};
 ghost use Rattle.plain_list.specs.State.{is_splitting, split_leaf};
 ghost use Rattle.split_prepare.specs.Cut.{cut};
 ghost use Rattle.index_layer.specs.Leaves.{Leaf, AreLeaves, names_of, has_name, leaf_named, leaf_under};
+ghost use Rattle.index_layer.specs.RowChanges.{Holds, ChangesAt, Moves};
 ghost use Rattle.index_layer.specs.Stands.{HasRowsOf};
 ghost use Rattle.point_table.specs.Crowded.{remarked};
 ghost use Rattle.point_table.specs.Crowds.{mark_under, left_under, marked_two};
@@ -20,10 +22,9 @@ mod built;
 mod splits;
 
 use crate::crowded::{Begun, Crowded, is_among, is_over};
-use crate::members::Members;
 use bucket_versions::{Bucket, Commit, Row, RowChange, Undone};
 use index_layer::{Index, Part};
-use plain_list::{Answer, MOST_MEMBERS, Op};
+use plain_list::{Answer, MOST_MEMBERS, MemberMap, Op};
 use std::alloc::Global;
 use std::marker::Model;
 use std::sync::Arc;
@@ -34,7 +35,7 @@ use zorder::{Memory, Name, Point, begins, coordinates_fit, key};
 pub struct PointTable<I: Index> {
     alloc: Global,
     index: I,
-    members: Members,
+    members: MemberMap,
     crowded: Crowded,
     size: u32,
 }
@@ -63,7 +64,7 @@ impl<I: Index> PointTable<I> {
         Ok(PointTable {
             alloc,
             index,
-            members: Members::new(alloc),
+            members: MemberMap::new(alloc),
             crowded: Crowded::new(alloc),
             size,
         })
@@ -144,15 +145,32 @@ impl<I: Index> PointTable<I> {
         ensures err { OnErr result (self.new ≡ self.old) }
         ensures told { TellsIf C.done C.lost (is_change (answer_of self.old.world (Op.Put id at))) commit.old commit.new result }
     {
-        if let Some(place) = self.place(id) {
+        if self.len() >= MOST_MEMBERS {
+            return Ok(self.full(id));
+        }
+        // The map goes first, and back where the index can't follow: so the object is looked for once.
+        if let Some(place) = self.members.insert(id, at)? {
+            self.members.replace(id, place);
             return Ok(Answer::Present(place));
         }
-        if self.len() >= MOST_MEMBERS {
-            return Ok(Answer::Full);
+        let row = Row { key: key(at), id };
+        let put = change(&self.index, begun, row);
+        if let Err(undone) = put_row(&mut self.index, &mut self.crowded, put, commit) {
+            self.members.remove(id);
+            return Err(undone);
         }
-        match self.add(id, at, begun, commit) {
-            Ok(()) => Ok(Answer::Done),
-            Err(undone) => Err(undone),
+        mark(&mut self.crowded, &self.index, self.size, row.key);
+        Ok(Answer::Done)
+    }
+
+    // What a put is answered in a full world.
+    fn full(&self, id: u64) -> Answer
+        requires { is_full self.now.world ≡ true }
+        ensures { (at : Point) → result ≡ answer_of self.now.world (Op.Put id at) }
+    {
+        match self.place(id) {
+            Some(place) => Answer::Present(place),
+            None => Answer::Full,
         }
     }
 
@@ -169,13 +187,28 @@ impl<I: Index> PointTable<I> {
         ensures err { OnErr result (self.new ≡ self.old) }
         ensures told { TellsIf C.done C.lost (is_change (answer_of self.old.world (Op.Move id at))) commit.old commit.new result }
     {
-        let Some(old) = self.place(id) else {
+        // The map goes first, and back where the index can't follow: so the object is looked for once.
+        let Some(old) = self.members.replace(id, at) else {
             return Ok(Answer::Absent);
         };
-        match self.shift(id, old, at, begun, commit) {
-            Ok(()) => Ok(Answer::Moved(old)),
-            Err(undone) => Err(undone),
+        if old == at {
+            // The step is taken, and nothing changes.
+            return if commit.commit() {
+                Ok(Answer::Moved(old))
+            } else {
+                Err(Undone::Lost)
+            };
         }
+        let from = Row { key: key(old), id };
+        let to = Row { key: key(at), id };
+        let gone = change(&self.index, begun, from);
+        let put = change(&self.index, begun, to);
+        if let Err(undone) = move_row(&mut self.index, &mut self.crowded, gone, put, commit) {
+            self.members.replace(id, old);
+            return Err(undone);
+        }
+        mark_two(&mut self.crowded, &self.index, self.size, from.key, to.key);
+        Ok(Answer::Moved(old))
     }
 
     #[tactic(auto, using(crate::proofs::Settled::settled_same))]
@@ -193,10 +226,13 @@ impl<I: Index> PointTable<I> {
         let Some(old) = self.place(id) else {
             return Ok(Answer::Absent);
         };
-        match self.take(id, old, begun, commit) {
-            Ok(()) => Ok(Answer::Gone(old)),
-            Err(undone) => Err(undone),
-        }
+        self.crowded.reserve(1)?;
+        let row = Row { key: key(old), id };
+        let gone = change(&self.index, begun, row);
+        self.index.take_row(gone, commit)?;
+        self.members.remove(id);
+        mark_left(&mut self.crowded, &self.index, self.size, row.key);
+        Ok(Answer::Gone(old))
     }
 
     fn find(&self, id: u64) -> Answer
@@ -206,105 +242,6 @@ impl<I: Index> PointTable<I> {
             Some(at) => Answer::At(at),
             None => Answer::Absent,
         }
-    }
-
-    // Adds an object, which isn't there.
-    fn add<C: Commit>(
-        &mut self,
-        id: u64,
-        at: Point,
-        begun: &[Begun],
-        commit: &mut C,
-    ) -> Result<(), Undone>
-        requires can { C.can commit.old }
-        requires absent { place_of self.old.world id ≡ None }
-        requires few { length self.old.world < most_members }
-        ensures ok { OnOk result (Changes (splits_of begun.now) self.old self.new (with_member (record { id = id; at = at }) self.old.world)) }
-        ensures err { OnErr result (self.new ≡ self.old) }
-        ensures told { Told C.done C.lost commit.old commit.new result }
-    {
-        let row = Row { key: key(at), id };
-        let Ok(()) = self.crowded.reserve(1) else {
-            return Err(Undone::Memory);
-        };
-        let Ok(()) = self.members.reserve() else {
-            return Err(Undone::Memory);
-        };
-        // All memory but the index's own is taken: the step is the last thing that can fail.
-        let put = change(&self.index, begun, row);
-        if let Err(undone) = self.index.put_row(put, commit) {
-            return Err(undone);
-        }
-        coordinates_fit(at);
-        self.members.insert(id, at);
-        mark(&mut self.crowded, &self.index, self.size, row.key);
-        Ok(())
-    }
-
-    // Moves an object, which is there.
-    fn shift<C: Commit>(
-        &mut self,
-        id: u64,
-        old: Point,
-        at: Point,
-        begun: &[Begun],
-        commit: &mut C,
-    ) -> Result<(), Undone>
-        requires can { C.can commit.old }
-        requires there { place_of self.old.world id ≡ Some old }
-        ensures ok { OnOk result (Changes (splits_of begun.now) self.old self.new (with_moved id at self.old.world)) }
-        ensures err { OnErr result (self.new ≡ self.old) }
-        ensures told { Told C.done C.lost commit.old commit.new result }
-    {
-        let Ok(()) = self.crowded.reserve(2) else {
-            return Err(Undone::Memory);
-        };
-        let from = Row { key: key(old), id };
-        let to = Row { key: key(at), id };
-        if from.key == to.key {
-            // One row: the step is taken, and nothing changes.
-            return if commit.commit() {
-                Ok(())
-            } else {
-                Err(Undone::Lost)
-            };
-        }
-        let gone = change(&self.index, begun, from);
-        let put = change(&self.index, begun, to);
-        if let Err(undone) = self.index.move_row(gone, put, commit) {
-            return Err(undone);
-        }
-        coordinates_fit(at);
-        self.members.replace(id, old, at);
-        mark_two(&mut self.crowded, &self.index, self.size, from.key, to.key);
-        Ok(())
-    }
-
-    // Takes an object out, which is there.
-    fn take<C: Commit>(
-        &mut self,
-        id: u64,
-        old: Point,
-        begun: &[Begun],
-        commit: &mut C,
-    ) -> Result<(), Undone>
-        requires can { C.can commit.old }
-        requires there { place_of self.old.world id ≡ Some old }
-        ensures ok { OnOk result (Changes (splits_of begun.now) self.old self.new (without id self.old.world)) }
-        ensures err { OnErr result (self.new ≡ self.old) }
-        ensures told { Told C.done C.lost commit.old commit.new result }
-    {
-        let Ok(()) = self.crowded.reserve(1) else {
-            return Err(Undone::Memory);
-        };
-        let row = Row { key: key(old), id };
-        let gone = change(&self.index, begun, row);
-        if let Err(undone) = self.index.take_row(gone, commit) {
-            return Err(undone);
-        }
-        self.members.remove(id);
-        mark_left(&mut self.crowded, &self.index, self.size, row.key);
-        Ok(())
     }
 
     /// An equal index.
@@ -360,6 +297,46 @@ fn change<I: Index>(index: &I, begun: &[Begun], row: Row) -> RowChange
         row,
         keeps_base: is_among(begun, &name),
     }
+}
+
+// Puts a row, once there is room to mark its leaf and the step has succeeded.
+fn put_row<I: Index, C: Commit>(
+    index: &mut I,
+    crowded: &mut Crowded,
+    put: RowChange,
+    commit: &mut C,
+) -> Result<(), Undone>
+    requires can { C.can commit.old }
+    requires absent { Holds put.row (I.leaves index.old) false }
+    ensures ok { OnOk result (ChangesAt put.row.key (after_put put) (I.leaves index.old) (I.leaves index.new)) }
+    ensures err { OnErr result (I.leaves index.new ≡ I.leaves index.old) }
+    ensures told { Told C.done C.lost commit.old commit.new result }
+    ensures names { crowded.new.names ≡ crowded.old.names }
+    ensures room { OnOk result (crowded.new.room ≡ 1) }
+{
+    crowded.reserve(1)?;
+    index.put_row(put, commit)
+}
+
+// Takes a row out and puts another one, once there is room to mark both leaves and the step has succeeded.
+fn move_row<I: Index, C: Commit>(
+    index: &mut I,
+    crowded: &mut Crowded,
+    gone: RowChange,
+    put: RowChange,
+    commit: &mut C,
+) -> Result<(), Undone>
+    requires can { C.can commit.old }
+    requires present { Holds gone.row (I.leaves index.old) true }
+    requires absent { Holds put.row (I.leaves index.old) false }
+    ensures ok { OnOk result (Moves gone put (I.leaves index.old) (I.leaves index.new)) }
+    ensures err { OnErr result (I.leaves index.new ≡ I.leaves index.old) }
+    ensures told { Told C.done C.lost commit.old commit.new result }
+    ensures names { crowded.new.names ≡ crowded.old.names }
+    ensures room { OnOk result (crowded.new.room ≡ 2) }
+{
+    crowded.reserve(2)?;
+    index.move_row(gone, put, commit)
 }
 
 // Puts the leaf that a key is under among those that are to be split, or takes it out of them.

@@ -86,33 +86,33 @@ impl Walk {
         ensures steps { Steps self.old.width self.old.state self.new.state (Cell.Put id at) result }
         ensures width { self.new.width ≡ self.old.width }
     {
-        if self.members.place(id).is_some() || self.members.len() >= MOST_MEMBERS {
+        if self.members.len() >= MOST_MEMBERS {
             return Err(StepFault::Impossible);
         }
-        self.members.insert(id, at)?;
-        Ok(())
+        match self.members.insert(id, at)? {
+            Some(_) => Err(StepFault::Impossible),
+            None => Ok(()),
+        }
     }
 
     fn relocate(&mut self, id: u64, at: Point) -> Result<(), StepFault>
         ensures steps { Steps self.old.width self.old.state self.new.state (Cell.Move id at) result }
         ensures width { self.new.width ≡ self.old.width }
     {
-        let Some(old) = self.members.place(id) else {
-            return Err(StepFault::Impossible);
-        };
-        self.members.replace(id, old, at);
-        Ok(())
+        match self.members.replace(id, at) {
+            Some(_) => Ok(()),
+            None => Err(StepFault::Impossible),
+        }
     }
 
     fn remove(&mut self, id: u64) -> Result<(), StepFault>
         ensures steps { Steps self.old.width self.old.state self.new.state (Cell.Remove id) result }
         ensures width { self.new.width ≡ self.old.width }
     {
-        if self.members.place(id).is_none() {
-            return Err(StepFault::Impossible);
+        match self.members.remove(id) {
+            Some(_) => Ok(()),
+            None => Err(StepFault::Impossible),
         }
-        self.members.remove(id);
-        Ok(())
     }
 
     fn begin(&mut self, number: u64, name: Name) -> Result<(), StepFault>

@@ -5,11 +5,10 @@ ghost use Rattle.index_build.specs.Grown.{IsGrown};
 ghost use Rattle.point_table.specs.Crowds.{crowded_of};
 
 use crate::crowded::{Crowded, is_over};
-use crate::members::Members;
 use crate::table::PointTable;
 use index_build::build;
 use index_layer::Index;
-use plain_list::World;
+use plain_list::{MemberMap, World};
 use std::alloc::{AllocError, Global};
 use table_share::LeafWalk;
 use zorder::{Memory, Name};
@@ -28,16 +27,11 @@ impl<I: Index> PointTable<I> {
         ensures size { IfOk result (λ t. t.size ≡ size) }
     {
         let index: I = build(alloc, world, leaves)?;
-        let Ok(members) = Members::from_world(alloc, world) else {
-            return Err(Memory);
-        };
-        let Ok(names) = crowded_names(alloc, &index, size) else {
-            return Err(Memory);
-        };
+        let names = crowded_names(alloc, &index, size)?;
         Ok(PointTable {
             alloc,
             index,
-            members,
+            members: MemberMap::from_world(alloc, world)?,
             crowded: Crowded::from_names(names),
             size,
         })

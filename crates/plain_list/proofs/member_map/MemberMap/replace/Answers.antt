@@ -1,22 +1,37 @@
-use Rattle.std.proofs.Common.{◌≡◌, sym, ap, ◌∙◌, Some}
-use Rattle.plain_list.specs.MemberMap.{world_of}
-use Rattle.plain_list.proofs.member_map.MemberMap.replace.Goals as goal
-use Rattle.std.specs.BTreeMap.{insert_entry}
-use Rattle.std.specs.Ordering.{nat_cmp}
+use Rattle.std.proofs.Common.{◌≡◌, sym, ap, ◌∙◌, Some, None}
 use Rattle.plain_list.specs.World.{place_of}
-use Rattle.plain_list.proofs.MemberMaps.{place_of-world_of, world_of-insert_entry-there, inserted_there}
+use Rattle.plain_list.specs.Answer.{with_moved}
+use Rattle.plain_list.specs.MemberMap.{world_of}
+use Rattle.std.specs.BTreeMap.{BTreeMap}
+use Rattle.plain_list.proofs.member_map.MemberMap.replace.Goals as goal
+use Rattle.plain_list.proofs.MemberMaps.{place_of-world_of, world_of-set_value, with_moved-none}
 use Rattle.plain_list.proofs.Worlds.{IsWorld-with_moved}
 
-pub invariant_of-self : goal.invariant_of-self
-invariant_of-self c =
-    let es = c.self.inside.points.entries in
-    let there : place_of (world_of es) c.args.id ≡ Some c.args.old = rw (← c.self.view_is) at c.requires in
-    let new : c.insert.new.self.entries ≡ insert_entry nat_cmp es c.args.id c.args.at = inserted_there c.insert.result _ _ _ c.insert.ensures.entries c.insert.ensures.absent (sym (place_of-world_of es c.args.id) ∙ there) in
-    rw (new, world_of-insert_entry-there c.args.id c.args.old c.args.at es c.self.invariant.rising there) (IsWorld-with_moved c.args.id c.args.at (world_of es) c.self.invariant c.coordinates_fit.ensures)
+pub returns-in_err-place-clause-found : goal.returns-in_err-place-clause-found
+returns-in_err-place-clause-found c =
+    c.from_residual.ensures ∙ c.in_err-place.ensures.value ∙ sym (rw (← c.self.view_is) (place_of-world_of c.self.inside.points.entries c.args.id))
 
-pub returns : goal.returns
-returns c =
+pub returns-in_err-place-clause-moved : goal.returns-in_err-place-clause-moved
+returns-in_err-place-clause-moved c =
     let es = c.self.inside.points.entries in
-    let there : place_of (world_of es) c.args.id ≡ Some c.args.old = rw (← c.self.view_is) at c.requires in
-    let new : c.insert.new.self.entries ≡ insert_entry nat_cmp es c.args.id c.args.at = inserted_there c.insert.result _ _ _ c.insert.ensures.entries c.insert.ensures.absent (sym (place_of-world_of es c.args.id) ∙ there) in
-    rw (← c.self.view_is) (ap world_of new ∙ world_of-insert_entry-there c.args.id c.args.old c.args.at es c.self.invariant.rising there)
+    let none : place_of (world_of es) c.args.id ≡ None = place_of-world_of es c.args.id ∙ sym c.in_err-place.ensures.value in
+    rw (← c.self.view_is) (ap (λ (m : BTreeMap _ _). world_of m.entries) c.get_mut.follows.holds-at-none ∙ sym (with_moved-none c.args.id c.args.at (world_of es) none))
+
+pub invariant_of-self-2 : goal.invariant_of-self-2
+invariant_of-self-2 c =
+    let es = c.self.inside.points.entries in
+    let moves = ap world_of (c.get_mut.follows.holds c.replace.new.dest).0 ∙ world_of-set_value c.args.id c.replace.new.dest es c.self.invariant.rising ∙ ap (λ at. with_moved c.args.id at (world_of es)) c.replace.ensures.after in
+    rw moves (IsWorld-with_moved c.args.id c.args.at (world_of es) c.self.invariant c.coordinates_fit.ensures)
+
+pub returns-clause-found : goal.returns-clause-found
+returns-clause-found c =
+    ap Some c.replace.ensures.value ∙ c.in_ok-place.ensures.value ∙ sym (rw (← c.self.view_is) (place_of-world_of c.self.inside.points.entries c.args.id))
+
+pub returns-clause-moved : goal.returns-clause-moved
+returns-clause-moved c =
+    let es = c.self.inside.points.entries in
+    let moves = ap world_of (c.get_mut.follows.holds c.replace.new.dest).0 ∙ world_of-set_value c.args.id c.replace.new.dest es c.self.invariant.rising ∙ ap (λ at. with_moved c.args.id at (world_of es)) c.replace.ensures.after in
+    rw (← c.self.view_is) moves
+
+pub returns-clause-world : goal.returns-clause-world
+returns-clause-world c = invariant_of-self-2 c

@@ -1,4 +1,4 @@
-use Rattle.std.proofs.Common.{◌≡◌, ◌∙◌, ◌+◌, ◌≤◌, ◌^◌, ℕ, List, Some, length, map, sym, ap, subst, arith}
+use Rattle.std.proofs.Common.{◌≡◌, ◌∙◌, ◌+◌, ◌≤◌, List, Some, length, map, sym, ap, subst}
 use Rattle.std.specs.Arc.{arc_value}
 use Rattle.std.specs.List.{AllByRecursion}
 use Rattle.std.proofs.lemmas.List.{length-map}
@@ -42,7 +42,7 @@ invariant_of-self-2 g c =
     let inside = c.self.inside in
     let leaves = g.I.Index.leaves inside.index in
     let new = g.I.Index.leaves c.divide.new.self in
-    let world = inside.members.world in
+    let world = inside.members in
     let size = inside.size in
     let name = c.args.name.now in
     let leaf : Leaf = record { name = name; bucket = arc_value c.in-Some.bucket.now } in

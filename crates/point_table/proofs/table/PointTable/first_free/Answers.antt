@@ -9,4 +9,4 @@ returns g c =
     let leaves = g.I.Index.leaves c.self.inside.index in
     rw (← c.self.view_is)
     (c.first_free.ensures ∙ ap (first_free (splits_of c.args.begun.now)) c.self.invariant.crowded
-    ∙ first_free-crowded_of g.I.Index.WIDTH c.self.inside.size c.self.inside.members.world (splits_of c.args.begun.now) leaves c.self.invariant.world.rising (g.met.I.Index.are_leaves c.self.inside.index).rows c.self.invariant.rows)
+    ∙ first_free-crowded_of g.I.Index.WIDTH c.self.inside.size c.self.inside.members (splits_of c.args.begun.now) leaves c.self.invariant.world.rising (g.met.I.Index.are_leaves c.self.inside.index).rows c.self.invariant.rows)

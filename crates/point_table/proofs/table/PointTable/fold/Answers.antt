@@ -32,7 +32,7 @@ invariant_of-self-2 g c =
     let same : arc_value c.in-Ok-try_clone.shared ≡ as_base leaf.bucket.rows = c.in-Ok-try_clone.ensures ∙ c.in-Ok.ensures ∙ ap (λ (b : Rows). as_base b.rows) c.deref.ensures in
     let after : new ≡ replaced name (as_base leaf.bucket.rows) leaves = c.in_default-replace.ensures.ok ∙ ap (λ (b : Rows). replaced name b leaves) same in
     let only = only_named 0 name leaves leaf (g.met.I.Index.are_leaves inside.index).tile named in
-    let world = inside.members.world in
+    let world = inside.members in
     record {
       world = c.self.invariant.world;
       rows = subst (AllByRecursion (HasRowsOf world)) (sym after) (rows_folded name leaf world leaves only c.self.invariant.rows);

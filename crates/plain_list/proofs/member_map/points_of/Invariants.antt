@@ -1,5 +1,5 @@
 use Rattle.std.proofs.Common.{◌≡◌, take}
-use Rattle.point_table.proofs.members.points_of.Given as goal
+use Rattle.plain_list.proofs.member_map.points_of.Given as goal
 
 -- so far, the first objects
 abbrev pub invariant-loop-member : goal.invariant-loop-member

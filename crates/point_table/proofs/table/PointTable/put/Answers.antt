@@ -1,0 +1,110 @@
+use Rattle.std.proofs.lemmas.Bool.Decides.{nat_tests}
+use Rattle.std.proofs.Common.{arith, ◌≡◌, true, false, List, Some, None, refl, sym, ap, ◌∙◌, subst, if◌then◌else◌}
+use Rattle.std.specs.Option.{option_map_or}
+use Rattle.std.specs.List.{AllByRecursion}
+use Rattle.zorder.specs.Key.{key_of}
+use Rattle.zorder.specs.declared.points.Placed.{Placed}
+use Rattle.index_layer.specs.Stands.{HasRowsOf}
+use Rattle.plain_list.specs.declared.ops.Op.TheVariants.{Put}
+use Rattle.plain_list.specs.declared.ops.Answer.TheVariants.{Done, Present, Full}
+use Rattle.plain_list.specs.World.{place_of, is_full}
+use Rattle.plain_list.specs.Answer.{with_member, with_moved, without, is_change}
+use Rattle.point_table.specs.Splits.{splits_of}
+use Rattle.point_table.proofs.TableSteps.{row_absent}
+use Rattle.point_table.proofs.RowSteps.{if_some, put_after}
+use Rattle.point_table.proofs.MemberSteps.{without-with_member, with_moved-back}
+use Rattle.point_table.proofs.Updating.{updates_none, updates_some, put-full, put-done, same_table, same_view, match_none, match_some}
+use Rattle.point_table.proofs.table.PointTable.put.Goals as goal
+
+pub returns-then-len-ge-MOST_MEMBERS-clause-ok : goal.returns-then-len-ge-MOST_MEMBERS-clause-ok
+returns-then-len-ge-MOST_MEMBERS-clause-ok g c =
+    let world = c.args.self.now.world in
+    let full : is_full world ≡ true = grind (arith, nat_tests, c.if-len-ge-MOST_MEMBERS.true, c.len.ensures.len) in
+    let is = c.full.ensures c.args.at in
+    updates_none (splits_of c.args.begun.now) c.args.self.now c.args.self.now (Put c.args.id c.args.at) c.full.result is (ap is_change is ∙ put-full world c.args.id c.args.at full) refl
+
+pub invariant_of-self-in-Some : goal.invariant_of-self-in-Some
+invariant_of-self-in-Some g c =
+    let inside = c.self.inside in
+    let id = c.args.id in
+    let there : place_of inside.members id ≡ Some c.in-Some.place = sym c.in_ok-place.ensures.found ∙ c.in-Some.is in
+    let moved : c.insert.new.self ≡ with_moved id c.args.at inside.members = match_some c.in_ok-place.field-0 c.in-Some.place _ _ c.in_ok-place.ensures.ok c.in-Some.is in
+    let back : c.replace.new.self ≡ inside.members =
+    c.replace.ensures.moved ∙ ap (with_moved id c.in-Some.place) moved ∙ with_moved-back id c.in-Some.place c.args.at inside.members c.self.invariant.world.rising there in
+    same_table g.I.Index.leaves g.I.Index.WIDTH inside (record inside { members = c.replace.new.self }) c.self.invariant back refl refl refl
+
+pub returns-in-Some-clause-ok : goal.returns-in-Some-clause-ok
+returns-in-Some-clause-ok g c =
+    let inside = c.self.inside in
+    let id = c.args.id in
+    let there : place_of inside.members id ≡ Some c.in-Some.place = sym c.in_ok-place.ensures.found ∙ c.in-Some.is in
+    let moved : c.insert.new.self ≡ with_moved id c.args.at inside.members = match_some c.in_ok-place.field-0 c.in-Some.place _ _ c.in_ok-place.ensures.ok c.in-Some.is in
+    let back : c.replace.new.self ≡ inside.members =
+    c.replace.ensures.moved ∙ ap (with_moved id c.in-Some.place) moved ∙ with_moved-back id c.in-Some.place c.args.at inside.members c.self.invariant.world.rising there in
+    let is = sym (ap (λ o. option_map_or Present o (if is_full inside.members then Full else Done)) there) in
+    rw (← c.self.view_is)
+    (updates_none (splits_of c.args.begun.now) _ _ (Put id c.args.at) (Present c.in-Some.place) is refl (same_view g.I.Index.leaves inside (record inside { members = c.replace.new.self }) back refl refl))
+
+pub put_row-requires-clause-absent : goal.put_row-requires-clause-absent
+put_row-requires-clause-absent g c =
+    let none : place_of c.self.inside.members c.args.id ≡ None = sym c.in_ok-place.ensures.found ∙ c.in_default.is in
+    rw (c.change-put.ensures.row, c.key.ensures.sum) (if_some _ _ (row_absent c.self.inside.members (g.I.Index.leaves c.self.inside.index) c.args.id c.args.at c.self.invariant.rows none))
+
+pub invariant_of-self-in-Err : goal.invariant_of-self-in-Err
+invariant_of-self-in-Err g c =
+    let inside = c.self.inside in
+    let m : Placed = record { id = c.args.id; at = c.args.at } in
+    let none : place_of inside.members c.args.id ≡ None = sym c.in_ok-place.ensures.found ∙ c.in_default.is in
+    let added : c.insert.new.self ≡ with_member m inside.members = match_none c.in_ok-place.field-0 _ _ c.in_ok-place.ensures.ok c.in_default.is in
+    let back : c.remove.new.self ≡ inside.members = c.remove.ensures.gone ∙ ap (without c.args.id) added ∙ without-with_member m inside.members none in
+    same_table g.I.Index.leaves g.I.Index.WIDTH inside (record inside { index = c.put_row.new.index; members = c.remove.new.self; crowded = c.put_row.new.crowded }) c.self.invariant back c.in-Err.ensures.err c.put_row.ensures.names refl
+
+pub returns-in-Err-clause-err : goal.returns-in-Err-clause-err
+returns-in-Err-clause-err g c =
+    let inside = c.self.inside in
+    let m : Placed = record { id = c.args.id; at = c.args.at } in
+    let none : place_of inside.members c.args.id ≡ None = sym c.in_ok-place.ensures.found ∙ c.in_default.is in
+    let added : c.insert.new.self ≡ with_member m inside.members = match_none c.in_ok-place.field-0 _ _ c.in_ok-place.ensures.ok c.in_default.is in
+    let back : c.remove.new.self ≡ inside.members = c.remove.ensures.gone ∙ ap (without c.args.id) added ∙ without-with_member m inside.members none in
+    same_view g.I.Index.leaves inside (record inside { index = c.put_row.new.index; members = c.remove.new.self; crowded = c.put_row.new.crowded }) back c.in-Err.ensures.err refl ∙ c.self.view_is
+
+pub invariant_of-self-2 : goal.invariant_of-self-2
+invariant_of-self-2 g c =
+    let w = g.I.Index.WIDTH in
+    let inside = c.self.inside in
+    let id = c.args.id in
+    let m : Placed = record { id = id; at = c.args.at } in
+    let key : c.key.result ≡ key_of c.args.at = c.key.ensures.sum in
+    let none : place_of inside.members id ≡ None = sym c.in_ok-place.ensures.found ∙ c.in_default.is in
+    let added : c.insert.new.self ≡ with_member m inside.members = match_none c.in_ok-place.field-0 _ _ c.in_ok-place.ensures.ok c.in_default.is in
+    let change = rw (c.change-put.ensures.row, key) at c.in_default-put_row.ensures.ok in
+    let keeps = rw key at c.change-put.ensures.keeps in
+    let marks = rw (key, c.put_row.ensures.names) at c.mark.ensures.names in
+    let it =
+    put_after w inside.size (splits_of c.args.begun.now) c.change-put.result.keeps_base (g.I.Index.leaves inside.index) (g.I.Index.leaves c.put_row.new.index) inside.members inside.crowded.names c.mark.new.crowded.names
+    (g.met.I.Index.are_leaves inside.index) c.self.invariant.rows c.self.invariant.crowded id c.args.at none change keeps marks in
+    record {
+      world = c.insert.ensures.world;
+      rows = subst (λ (ms : List Placed). AllByRecursion (HasRowsOf ms) (g.I.Index.leaves c.put_row.new.index)) (sym added) it.rows;
+      crowded = it.crowded;
+    }
+
+pub returns-clause-ok : goal.returns-clause-ok
+returns-clause-ok g c =
+    let w = g.I.Index.WIDTH in
+    let inside = c.self.inside in
+    let id = c.args.id in
+    let m : Placed = record { id = id; at = c.args.at } in
+    let key : c.key.result ≡ key_of c.args.at = c.key.ensures.sum in
+    let none : place_of inside.members id ≡ None = sym c.in_ok-place.ensures.found ∙ c.in_default.is in
+    let added : c.insert.new.self ≡ with_member m inside.members = match_none c.in_ok-place.field-0 _ _ c.in_ok-place.ensures.ok c.in_default.is in
+    let change = rw (c.change-put.ensures.row, key) at c.in_default-put_row.ensures.ok in
+    let keeps = rw key at c.change-put.ensures.keeps in
+    let marks = rw (key, c.put_row.ensures.names) at c.mark.ensures.names in
+    let it =
+    put_after w inside.size (splits_of c.args.begun.now) c.change-put.result.keeps_base (g.I.Index.leaves inside.index) (g.I.Index.leaves c.put_row.new.index) inside.members inside.crowded.names c.mark.new.crowded.names
+    (g.met.I.Index.are_leaves inside.index) c.self.invariant.rows c.self.invariant.crowded id c.args.at none change keeps marks in
+    let room : is_full c.args.self.now.world ≡ false = grind (arith, nat_tests, c.if-len-ge-MOST_MEMBERS.false, c.len.ensures.len) in
+    rw (← c.self.view_is)
+    (updates_some (splits_of c.args.begun.now) _ _ (Put id c.args.at) Done (put-done inside.members id c.args.at none (rw (← c.self.view_is) at room)) refl
+    (record { world = added; bases = it.bases; settled = it.settled; size = refl }))
