@@ -14,7 +14,7 @@ use Rattle.zorder.specs.Tile.{tiles_from, next_key, bit_lists, children}
 use Rattle.zorder.proofs.Ranges.{under-range}
 use Rattle.zorder.proofs.Tiles.{tiles_from-children}
 use Rattle.bucket_versions.specs.declared.row.Row.{Row}
-use Rattle.bucket_versions.specs.Rows.{Rows, has_row}
+use Rattle.bucket_versions.specs.Rows.{has_row}
 use Rattle.index_layer.specs.Leaves.{Leaf, names_of, has_name, leaves_of, split, EachUnder, AreAllUnder}
 use Rattle.index_layer.specs.Stands.{HasRowsOf, world_has}
 use Rattle.index_layer.proofs.LeafKeys.{first_key-under, first_key-fits}
@@ -63,18 +63,6 @@ under_children w name rows room = each_under rows (children w name) (short_child
 -- as many buckets as children
 pub length-cut : (w : ℕ) (name : List Bool) (rows : List Row) → length (cut w name rows) ≡ 2 ^ w
 length-cut w name rows = length-map (children w name) (cut_out rows) ∙ length-children w name
-
-length-leaves_of : (names : List (List Bool)) (buckets : List Rows) → length names ≡ length buckets → length (leaves_of names buckets) ≡ length names
-length-leaves_of [] buckets e = refl
-length-leaves_of (name ∷ names) [] e = absurd (omega (arith, e))
-length-leaves_of (name ∷ names) (bucket ∷ buckets) e = ap suc (length-leaves_of names buckets (omega (arith, e)))
-
--- and a mark for each
-pub marks_count : (w size : ℕ) (name : List Bool) (rows : List Row) → length (marks_of w size name (cut w name rows)) ≡ 2 ^ w
-marks_count w size name rows =
-    let buckets = cut w name rows in
-    length-map (leaves_of (children w name) buckets) (mark_of w size)
-    ∙ length-leaves_of (children w name) buckets (length-children w name ∙ sym (length-cut w name rows)) ∙ length-children w name
 
 -- the rows of the leaves after a split
 rows_parts : (world : List Placed) (name : List Bool) (rows : List Row) (lists : List (List Bool)) → AllByRecursion (λ (n : List Bool). length n ≤ 64) (map (λ bits. name ++ bits) lists)

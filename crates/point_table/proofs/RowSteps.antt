@@ -1,6 +1,6 @@
 -- What a table keeps once a row was put into its index, or taken out.
 use Rattle.std.proofs.Common.{◌≡◌, ℕ, Bool, true, false, cond, ◌≤◌, List, [], ◌∷◌, Option, Some, None, arith, refl, sym, ap, subst, ◌∙◌}
-use Rattle.std.specs.Prelude.{IfSome, OnOk, Result, Ok, Err, ◌==◌, ◌&&◌}
+use Rattle.std.specs.Prelude.{IfSome, ◌==◌, ◌&&◌}
 use Rattle.std.specs.List.{AllByRecursion}
 use Rattle.std.specs.Option.{option_map}
 use Rattle.zorder.specs.declared.points.Point.{Point}
@@ -30,6 +30,7 @@ use Rattle.std.proofs.lemmas.Grind.{common_steps}
 use Rattle.plain_list.specs.World.{IsWorld, IsRising, place_of}
 use Rattle.plain_list.specs.Answer.{with_member, with_moved, without}
 use Rattle.plain_list.proofs.MemberMaps.{with_moved-absent, IsAbove-lower}
+use Rattle.point_table.specs.Changes.{KeepsAt}
 use Rattle.point_table.specs.Crowds.{crowded_of, mark_under, left_under, marked_two}
 use Rattle.point_table.proofs.Settled.{settled_then}
 use Rattle.point_table.proofs.TableSteps.{Steps, put_steps, gone_steps, as_leaf, with_member-without}
@@ -50,10 +51,6 @@ leaf_after key change old new at =
 -- a row of an object comes or goes, and keeps the base or doesn't
 abbrev pub change_of : ℕ → Point → Bool → RowChange
 change_of id at keeps = record { row = record { key = key_of at; id = id }; keeps_base = keeps }
-
--- the base is kept where the split of the key's leaf is open
-abbrev pub KeepsAt : List OpenSplit → List Leaf → ℕ → Bool → Type 0
-KeepsAt splits leaves key keeps = (l : Leaf) → leaf_under key leaves ≡ Some l → keeps ≡ is_splitting splits l.name
 
 module _ (w size : ℕ) (splits : List OpenSplit) (keeps : Bool) (old new : List Leaf) (world : List Placed) (names after : List (List Bool)) (are : AreLeaves old)
     (rows : AllByRecursion (HasRowsOf world) old) (was : names ≡ crowded_of w size old) where
@@ -233,8 +230,3 @@ pub row_elsewhere : (world : List Placed) (leaves : List Leaf) (id : ℕ) (from 
 row_elsewhere world leaves id from at rows there other l found =
     found_has (HasRowsOf world) (key_of at) leaves l found rows (record { key = key_of at; id = id })
     ∙ ap (λ o. is_at_key (key_of at) o && is_under l.name (key_of at)) there ∙ ap (λ b. b && is_under l.name (key_of at)) other
-
--- what holds anyway holds at a success
-pub on_ok_anyway : {T E : Type 0} (r : Result T E) (P : Type 0) → P → OnOk r P
-on_ok_anyway (Ok value) P is = is
-on_ok_anyway (Err fault) P is = tt

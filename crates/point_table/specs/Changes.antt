@@ -3,6 +3,7 @@ use Rattle.std.specs.Prelude.{◌≡◌, ◌⊎◌, ℕ, Bool, true, false, List
 use Rattle.bucket_versions.specs.declared.row.Row.{Row}
 use Rattle.bucket_versions.specs.Rows.{Rows}
 use Rattle.index_layer.specs.Leaves.{Leaf, leaf_under, replaced}
+use Rattle.index_layer.specs.RowChanges.{Holds}
 use Rattle.plain_list.specs.State.{OpenSplit, is_splitting}
 use Rattle.point_table.specs.Crowds.{is_crowded}
 
@@ -39,3 +40,11 @@ AreSettled splits [] [] = ⊤
 AreSettled splits [] (n ∷ new) = ⊥
 AreSettled splits (o ∷ old) [] = ⊥
 AreSettled splits (o ∷ old) (n ∷ new) = IsSettled splits o n × AreSettled splits old new
+
+-- a base is kept where the split of the key's leaf is open
+abbrev pub KeepsAt : List OpenSplit → List Leaf → ℕ → Bool → Type 0
+KeepsAt splits leaves key keeps = (l : Leaf) → leaf_under key leaves ≡ Some l → keeps ≡ is_splitting splits l.name
+
+-- the first row is in the leaf of its key, and the other one isn't in that of its own
+abbrev pub CanMove : Row → Row → List Leaf → Type 0
+CanMove gone put leaves = Holds gone leaves true × Holds put leaves false

@@ -1,5 +1,5 @@
 -- Names in the order of their first keys.
-use Rattle.std.specs.Prelude.{ℕ, suc, ◌≤◌, nat_lt, ◌==◌, not, Bool, List, [], ◌∷◌, if◌then◌else◌, Option, slice_get, false, ⊤}
+use Rattle.std.specs.Prelude.{ℕ, suc, ◌≤◌, nat_lt, ◌==◌, not, Bool, List, [], ◌∷◌, if◌then◌else◌, Option, slice_get, false, ⊤, Result, OnOk, ◌≡◌}
 use Rattle.std.specs.Option.{option_map_or}
 use Rattle.std.specs.List.{find, AllByRecursion}
 use Rattle.zorder.specs.Name.{first_key}
@@ -56,3 +56,7 @@ key_place name (n ∷ names) = if nat_lt (first_key n) (first_key name) then suc
 -- whether a name has a place and this first key there
 abbrev pub has_key : ℕ → ℕ → List (List Bool) → Bool
 has_key place key names = option_map_or (λ (n : List Bool). first_key n == key) (slice_get names place) false
+
+-- the names stay, and so many more find room where that succeeded
+abbrev pub Reserves : {T E : Type 0} → ℕ → Crowd → Crowd → Result T E → Type 0
+Reserves count old new result = (new.names ≡ old.names) × OnOk result (new.room ≡ count)

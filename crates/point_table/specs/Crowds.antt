@@ -1,7 +1,7 @@
 -- The leaves that have more rows than the size, and bits left to split them.
-use Rattle.std.specs.Prelude.{ℕ, ◌+◌, nat_le, nat_lt, Bool, ◌==◌, ◌&&◌, List, [], ◌∷◌, length, if◌then◌else◌}
+use Rattle.std.specs.Prelude.{◌≡◌, Some, ℕ, ◌+◌, nat_le, nat_lt, Bool, ◌==◌, ◌&&◌, List, [], ◌∷◌, length, if◌then◌else◌}
 use Rattle.zorder.specs.Key.{is_under}
-use Rattle.index_layer.specs.Leaves.{Leaf}
+use Rattle.index_layer.specs.Leaves.{Leaf, leaf_under}
 use Rattle.point_table.specs.Crowded.{marked, remarked}
 
 -- whether a leaf is to be split
@@ -29,3 +29,11 @@ left_under w size l names = if length names == 0 then names else mark_under w si
 -- the names once a row has left one leaf and come to another; where the key that it had is under the other, both are one
 abbrev pub marked_two : ℕ → ℕ → ℕ → Leaf → Leaf → List (List Bool) → List (List Bool)
 marked_two w size from l m names = mark_under w size m (if is_under m.name from then names else left_under w size l names)
+
+-- names are as a mark of the leaf of a key makes them
+abbrev pub MarksAt : ℕ → List Leaf → (Leaf → List (List Bool)) → List (List Bool) → Type 0
+MarksAt key leaves mark new = (l : Leaf) → leaf_under key leaves ≡ Some l → new ≡ mark l
+
+-- the same of the leaves of two keys, once a row has left the one and come to the other
+abbrev pub MarksTwo : ℕ → ℕ → ℕ → ℕ → List Leaf → List (List Bool) → List (List Bool) → Type 0
+MarksTwo w size from to leaves old new = (l m : Leaf) → leaf_under from leaves ≡ Some l → leaf_under to leaves ≡ Some m → new ≡ marked_two w size from l m old

@@ -1,22 +1,21 @@
 //! An index and a map by id that stand for one world.
-ghost use Rattle.std.specs.Prelude.{◌≡◌, ◌+◌, ◌-◌, ◌<◌, ◌≤◌, ◌&&◌, not, ◌∷◌, [], Some, None, true, false, IfOk, OnOk, OnErr, MatchOption, length};
+ghost use Rattle.std.specs.Prelude.{◌≡◌, ◌+◌, ◌-◌, ◌<◌, ◌≤◌, ◌∷◌, [], true, false, IfOk, OnOk, OnErr, MatchOption, length};
 ghost use Rattle.std.specs.Arc.{arc_value};
-ghost use Rattle.std.specs.List.{AllByRecursion, find};
+ghost use Rattle.std.specs.List.{AllByRecursion};
 ghost use Rattle.bucket_versions.specs.Told.{Told};
-ghost use Rattle.bucket_versions.specs.Rows.{has_row, after_put};
+ghost use Rattle.bucket_versions.specs.Rows.{after_put};
 ghost use Rattle.zorder.specs.declared.points.Point.{Point};
 ghost use Rattle.plain_list.specs.World.{IsWorld, place_of, is_full};
-ghost use Rattle.plain_list.specs.Answer.{with_member, with_moved, without, answer_of, is_change};
-ghost use Rattle.plain_list.specs.Size.{is_over};
-ghost use Rattle.plain_list.specs.State.{is_splitting, split_leaf};
-ghost use Rattle.split_prepare.specs.Cut.{cut};
-ghost use Rattle.index_layer.specs.Leaves.{Leaf, AreLeaves, names_of, has_name, leaf_named, leaf_under};
+ghost use Rattle.plain_list.specs.Answer.{answer_of, is_change};
+ghost use Rattle.index_layer.specs.Leaves.{AreLeaves, names_of, has_name};
 ghost use Rattle.index_layer.specs.RowChanges.{Holds, ChangesAt, Moves};
 ghost use Rattle.index_layer.specs.Stands.{HasRowsOf};
-ghost use Rattle.point_table.specs.Crowded.{remarked};
-ghost use Rattle.point_table.specs.Crowds.{mark_under, left_under, marked_two};
+ghost use Rattle.point_table.specs.Changes.{KeepsAt, CanMove};
+ghost use Rattle.point_table.specs.Crowded.{Reserves};
+ghost use Rattle.point_table.specs.Crowds.{mark_under, left_under, MarksAt, MarksTwo};
 ghost use Rattle.point_table.specs.Splits.{splits_of};
-ghost use Rattle.point_table.specs.Updates.{IsUpdate, Changes, Updates, TellsIf};
+ghost use Rattle.point_table.specs.TableView.{first_over, HasBucket};
+ghost use Rattle.point_table.specs.Updates.{IsUpdate, Updates, TellsIf};
 
 mod built;
 mod splits;
@@ -28,7 +27,7 @@ use plain_list::{Answer, MOST_MEMBERS, MemberMap, Op};
 use std::alloc::Global;
 use std::marker::Model;
 use std::sync::Arc;
-use zorder::{Memory, Name, Point, begins, coordinates_fit, key};
+use zorder::{Memory, Name, Point, begins, key};
 
 /// Objects, by their ids and by their keys.
 #[derive(Drop)]
@@ -72,7 +71,7 @@ impl<I: Index> PointTable<I> {
 
     /// The first leaf in key order that is over the size, has bits left and none of these open splits.
     pub fn first_free(&self, begun: &[Begun]) -> Option<Name>
-        ensures { result ≡ find (λ name. is_over I.WIDTH self.now.size self.now.world name && not (is_splitting (splits_of begun.now) name)) (names_of self.now.leaves) }
+        ensures { result ≡ first_over I.WIDTH (splits_of begun.now) self.now }
     {
         self.crowded.first_free(begun)
     }
@@ -263,7 +262,7 @@ impl<I: Index> PointTable<I> {
 
     /// The bucket of the leaf of this name.
     pub fn bucket(&self, name: &Name) -> Option<&Arc<Bucket>>
-        ensures { MatchOption result (has_name name.now self.now.leaves ≡ false) (λ b. leaf_named name.now self.now.leaves ≡ Some (record { name = name.now; bucket = arc_value b.now })) }
+        ensures { MatchOption result (has_name name.now self.now.leaves ≡ false) (λ b. HasBucket name.now self.now (arc_value b.now)) }
     {
         match self.index.part(name) {
             Part::Leaf(bucket) => Some(bucket),
@@ -283,7 +282,7 @@ impl<I: Index> PointTable<I> {
 // A change of a row, which keeps the base of its leaf where that one's split is open.
 fn change<I: Index>(index: &I, begun: &[Begun], row: Row) -> RowChange
     ensures row { result.row ≡ row }
-    ensures keeps { (l : Leaf) → leaf_under row.key (I.leaves index.now) ≡ Some l → result.keeps_base ≡ is_splitting (splits_of begun.now) l.name }
+    ensures keeps { KeepsAt (splits_of begun.now) (I.leaves index.now) row.key result.keeps_base }
 {
     // Mostly no split is open, and no leaf is looked for.
     if begun.is_empty() {
@@ -311,8 +310,7 @@ fn put_row<I: Index, C: Commit>(
     ensures ok { OnOk result (ChangesAt put.row.key (after_put put) (I.leaves index.old) (I.leaves index.new)) }
     ensures err { OnErr result (I.leaves index.new ≡ I.leaves index.old) }
     ensures told { Told C.done C.lost commit.old commit.new result }
-    ensures names { crowded.new.names ≡ crowded.old.names }
-    ensures room { OnOk result (crowded.new.room ≡ 1) }
+    ensures crowded { Reserves 1 crowded.old crowded.new result }
 {
     crowded.reserve(1)?;
     index.put_row(put, commit)
@@ -327,13 +325,11 @@ fn move_row<I: Index, C: Commit>(
     commit: &mut C,
 ) -> Result<(), Undone>
     requires can { C.can commit.old }
-    requires present { Holds gone.row (I.leaves index.old) true }
-    requires absent { Holds put.row (I.leaves index.old) false }
+    requires rows { CanMove gone.row put.row (I.leaves index.old) }
     ensures ok { OnOk result (Moves gone put (I.leaves index.old) (I.leaves index.new)) }
     ensures err { OnErr result (I.leaves index.new ≡ I.leaves index.old) }
     ensures told { Told C.done C.lost commit.old commit.new result }
-    ensures names { crowded.new.names ≡ crowded.old.names }
-    ensures room { OnOk result (crowded.new.room ≡ 2) }
+    ensures crowded { Reserves 2 crowded.old crowded.new result }
 {
     crowded.reserve(2)?;
     index.move_row(gone, put, commit)
@@ -342,7 +338,7 @@ fn move_row<I: Index, C: Commit>(
 // Puts the leaf that a key is under among those that are to be split, or takes it out of them.
 fn mark<I: Index>(crowded: &mut Crowded, index: &I, size: u32, key: u64)
     requires { 0 < crowded.old.room }
-    ensures names { (l : Leaf) → leaf_under key (I.leaves index.now) ≡ Some l → crowded.new.names ≡ mark_under I.WIDTH size l crowded.old.names }
+    ensures names { MarksAt key (I.leaves index.now) (λ l. mark_under I.WIDTH size l crowded.old.names) crowded.new.names }
     ensures room { crowded.new.room ≡ crowded.old.room - 1 }
 {
     let (name, bucket) = index.leaf_of(key);
@@ -353,7 +349,7 @@ fn mark<I: Index>(crowded: &mut Crowded, index: &I, size: u32, key: u64)
 // The same for a leaf that a row has left. Where no leaf is to be split that one isn't either, and isn't looked for.
 fn mark_left<I: Index>(crowded: &mut Crowded, index: &I, size: u32, key: u64)
     requires { 0 < crowded.old.room }
-    ensures names { (l : Leaf) → leaf_under key (I.leaves index.now) ≡ Some l → crowded.new.names ≡ left_under I.WIDTH size l crowded.old.names }
+    ensures names { MarksAt key (I.leaves index.now) (λ l. left_under I.WIDTH size l crowded.old.names) crowded.new.names }
     ensures room { crowded.old.room ≤ crowded.new.room + 1 }
 {
     if !crowded.is_empty() {
@@ -364,7 +360,7 @@ fn mark_left<I: Index>(crowded: &mut Crowded, index: &I, size: u32, key: u64)
 // The same for the leaf that a row has left, and then for that to which it has come: once where both are one.
 fn mark_two<I: Index>(crowded: &mut Crowded, index: &I, size: u32, from: u64, to: u64)
     requires { 2 ≤ crowded.old.room }
-    ensures { (l m : Leaf) → leaf_under from (I.leaves index.now) ≡ Some l → leaf_under to (I.leaves index.now) ≡ Some m → crowded.new.names ≡ marked_two I.WIDTH size from l m crowded.old.names }
+    ensures { MarksTwo I.WIDTH size from to (I.leaves index.now) crowded.old.names crowded.new.names }
 {
     let (name, bucket) = index.leaf_of(to);
     let is_crowded = is_over(size, I::WIDTH, &name, bucket);

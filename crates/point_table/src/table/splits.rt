@@ -30,16 +30,10 @@ impl<I: Index> PointTable<I> {
         let Some(bucket) = self.bucket(name) else {
             unreachable!();
         };
-        let Ok(folded) = folded(bucket) else {
-            return Err(Undone::Memory);
-        };
-        let Ok(shared) = Arc::try_clone(&folded) else {
-            return Err(Undone::Memory);
-        };
+        let folded = folded(bucket)?;
+        let shared = Arc::try_clone(&folded)?;
         // All memory but the index's own is taken: the step is the last thing that can fail.
-        if let Err(undone) = self.index.replace(name, shared, commit) {
-            return Err(undone);
-        }
+        self.index.replace(name, shared, commit)?;
         Ok(folded)
     }
 
@@ -60,19 +54,11 @@ impl<I: Index> PointTable<I> {
         let Some(bucket) = self.bucket(name) else {
             unreachable!();
         };
-        let Ok(children) = caught_up(self.alloc, name, I::WIDTH, bucket, parts) else {
-            return Err(Undone::Memory);
-        };
-        let Ok(marks) = marks_of(self.alloc, self.size, name, I::WIDTH, &children) else {
-            return Err(Undone::Memory);
-        };
-        let Ok(()) = self.crowded.reserve(marks.len()) else {
-            return Err(Undone::Memory);
-        };
+        let children = caught_up(self.alloc, name, I::WIDTH, bucket, parts)?;
+        let marks = marks_of(self.alloc, self.size, name, I::WIDTH, &children)?;
+        self.crowded.reserve(marks.len())?;
         // All memory but the index's own is taken: the step is the last thing that can fail.
-        if let Err(undone) = self.index.divide(name, &children, commit) {
-            return Err(undone);
-        }
+        self.index.divide(name, &children, commit)?;
         self.crowded.set_each(marks);
         Ok(())
     }

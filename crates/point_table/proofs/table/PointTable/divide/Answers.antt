@@ -32,7 +32,7 @@ divide-requires-clause-children g c =
     let name = c.args.name.now in
     let rows = (arc_value c.in-Some.bucket.now).rows in
     let short : length name + w ≤ 64 = c.requires.leaf.short in
-    let are_cut = ap (map arc_value) c.deref-3.ensures.value ∙ c.in-Ok.ensures ∙ (λ i. cut (c.WIDTH.ensures i) name (c.deref.ensures i).rows) in
+    let are_cut = ap (map arc_value) c.deref-3.ensures.value ∙ c.in_ok-children.ensures ∙ (λ i. cut (c.WIDTH.ensures i) name (c.deref.ensures i).rows) in
     let P : List Rows → Type 0 = AreAllUnder w name in
     (sym (length-map c.deref-3.result.now arc_value) ∙ ap length are_cut ∙ length-cut w name rows, subst P (sym are_cut) (under_children w name rows short))
 
@@ -49,9 +49,9 @@ invariant_of-self-2 g c =
     let named : leaf_named name leaves ≡ Some leaf = rw (← c.self.view_is) at c.in-Some.ensures in
     let rows = leaf.bucket.rows in
     let short : length name + w ≤ 64 = c.requires.leaf.short in
-    let are_cut = c.in-Ok.ensures ∙ (λ i. cut (c.WIDTH.ensures i) name (c.deref.ensures i).rows) in
-    let after : new ≡ split w name (cut w name rows) leaves = c.in_default-divide.ensures.ok ∙ ap (λ (b : List Rows). split w name b leaves) (ap (map arc_value) c.deref-3.ensures.value ∙ are_cut) in
-    let marks = c.in-Ok-marks_of.ensures ∙ (λ i. marks_of (c.WIDTH-2.ensures i) size name ((ap (map arc_value) c.deref-2.ensures.value ∙ are_cut) i)) in
+    let are_cut = c.in_ok-children.ensures ∙ (λ i. cut (c.WIDTH.ensures i) name (c.deref.ensures i).rows) in
+    let after : new ≡ split w name (cut w name rows) leaves = c.in_ok-divide.ensures.ok ∙ ap (λ (b : List Rows). split w name b leaves) (ap (map arc_value) c.deref-3.ensures.value ∙ are_cut) in
+    let marks = c.in_ok-marks.ensures ∙ (λ i. marks_of (c.WIDTH-2.ensures i) size name ((ap (map arc_value) c.deref-2.ensures.value ∙ are_cut) i)) in
     let at = named_is name leaves leaf named in
     let had = among-all (HasRowsOf world) leaves leaf c.self.invariant.rows at.0 in
     let tiled = ap (λ (ls : List Leaf). tiles_from 0 (names_of ls)) (sym after) ∙ (g.met.I.Index.are_leaves c.divide.new.self).tile in
@@ -60,7 +60,7 @@ invariant_of-self-2 g c =
       rows = subst (AllByRecursion (HasRowsOf world)) (sym after) (rows_of-divided w world name leaf leaves at.1 short had c.self.invariant.rows);
       crowded =
           ap (λ (v : Crowd). v.names) c.set_each.ensures
-          ∙ (λ i. remarked_each (marks i) ((c.in-Ok-reserve.ensures.names ∙ c.self.invariant.crowded) i))
+          ∙ (λ i. remarked_each (marks i) ((c.in_ok-reserve.ensures.names ∙ c.self.invariant.crowded) i))
           ∙ crowded_of-divided w size name rows leaves short (g.met.I.Index.are_leaves inside.index).tile tiled (named_has name leaves leaf named)
           ∙ ap (crowded_of w size) (sym after);
     }

@@ -57,7 +57,7 @@ invariant_of-self-in-Err g c =
     let none : place_of inside.members c.args.id ≡ None = sym c.in_ok-place.ensures.found ∙ c.in_default.is in
     let added : c.insert.new.self ≡ with_member m inside.members = match_none c.in_ok-place.field-0 _ _ c.in_ok-place.ensures.ok c.in_default.is in
     let back : c.remove.new.self ≡ inside.members = c.remove.ensures.gone ∙ ap (without c.args.id) added ∙ without-with_member m inside.members none in
-    same_table g.I.Index.leaves g.I.Index.WIDTH inside (record inside { index = c.put_row.new.index; members = c.remove.new.self; crowded = c.put_row.new.crowded }) c.self.invariant back c.in-Err.ensures.err c.put_row.ensures.names refl
+    same_table g.I.Index.leaves g.I.Index.WIDTH inside (record inside { index = c.put_row.new.index; members = c.remove.new.self; crowded = c.put_row.new.crowded }) c.self.invariant back c.in-Err.ensures.err c.put_row.ensures.crowded.0 refl
 
 pub returns-in-Err-clause-err : goal.returns-in-Err-clause-err
 returns-in-Err-clause-err g c =
@@ -79,7 +79,7 @@ invariant_of-self-2 g c =
     let added : c.insert.new.self ≡ with_member m inside.members = match_none c.in_ok-place.field-0 _ _ c.in_ok-place.ensures.ok c.in_default.is in
     let change = rw (c.change-put.ensures.row, key) at c.in_default-put_row.ensures.ok in
     let keeps = rw key at c.change-put.ensures.keeps in
-    let marks = rw (key, c.put_row.ensures.names) at c.mark.ensures.names in
+    let marks = rw (key, c.put_row.ensures.crowded.0) at c.mark.ensures.names in
     let it =
     put_after w inside.size (splits_of c.args.begun.now) c.change-put.result.keeps_base (g.I.Index.leaves inside.index) (g.I.Index.leaves c.put_row.new.index) inside.members inside.crowded.names c.mark.new.crowded.names
     (g.met.I.Index.are_leaves inside.index) c.self.invariant.rows c.self.invariant.crowded id c.args.at none change keeps marks in
@@ -100,7 +100,7 @@ returns-clause-ok g c =
     let added : c.insert.new.self ≡ with_member m inside.members = match_none c.in_ok-place.field-0 _ _ c.in_ok-place.ensures.ok c.in_default.is in
     let change = rw (c.change-put.ensures.row, key) at c.in_default-put_row.ensures.ok in
     let keeps = rw key at c.change-put.ensures.keeps in
-    let marks = rw (key, c.put_row.ensures.names) at c.mark.ensures.names in
+    let marks = rw (key, c.put_row.ensures.crowded.0) at c.mark.ensures.names in
     let it =
     put_after w inside.size (splits_of c.args.begun.now) c.change-put.result.keeps_base (g.I.Index.leaves inside.index) (g.I.Index.leaves c.put_row.new.index) inside.members inside.crowded.names c.mark.new.crowded.names
     (g.met.I.Index.are_leaves inside.index) c.self.invariant.rows c.self.invariant.crowded id c.args.at none change keeps marks in

@@ -48,16 +48,16 @@ returns-then-eq-clause-err g c =
     let same : c.replace.new.self ≡ inside.members = c.replace.ensures.moved ∙ with_moved-same c.args.id c.args.at inside.members c.self.invariant.world.rising there in
     on_err_anyway c.if-commit.result _ (same_view g.I.Index.leaves inside (record inside { members = c.replace.new.self }) same refl refl ∙ c.self.view_is)
 
-pub move_row-requires-clause-present : goal.move_row-requires-clause-present
-move_row-requires-clause-present g c =
-    let there : place_of c.self.inside.members c.args.id ≡ Some c.in-Some.old = sym c.in-Some.ensures.found in
-    rw (c.change-gone.ensures.row, c.key.ensures.sum) (if_some _ _ (row_there c.self.inside.members (g.I.Index.leaves c.self.inside.index) c.args.id c.in-Some.old c.self.invariant.rows there))
-
-pub move_row-requires-clause-absent : goal.move_row-requires-clause-absent
-move_row-requires-clause-absent g c =
-    let there : place_of c.self.inside.members c.args.id ≡ Some c.in-Some.old = sym c.in-Some.ensures.found in
-    let no = other_key c.in-Some.old c.args.at (sym c.if-eq.ensures) (ap point_of (sym c.key.ensures.sum) ∙ c.key.ensures.back) (ap point_of (sym c.key-2.ensures.sum) ∙ c.key-2.ensures.back) in
-    rw (c.change-put.ensures.row, c.key-2.ensures.sum) (if_some _ _ (row_elsewhere c.self.inside.members (g.I.Index.leaves c.self.inside.index) c.args.id c.in-Some.old c.args.at c.self.invariant.rows there no))
+pub move_row-requires-clause-rows : goal.move_row-requires-clause-rows
+move_row-requires-clause-rows g c =
+    let members = c.self.inside.members in
+    let leaves = g.I.Index.leaves c.self.inside.index in
+    let old = c.in-Some.old in
+    let at = c.args.at in
+    let there : place_of members c.args.id ≡ Some old = sym c.in-Some.ensures.found in
+    let no = other_key old at (sym c.if-eq.ensures) (ap point_of (sym c.key.ensures.sum) ∙ c.key.ensures.back) (ap point_of (sym c.key-2.ensures.sum) ∙ c.key-2.ensures.back) in
+    rw (c.change-gone.ensures.row, c.change-put.ensures.row, c.key.ensures.sum, c.key-2.ensures.sum)
+    (if_some _ _ (row_there members leaves c.args.id old c.self.invariant.rows there), if_some _ _ (row_elsewhere members leaves c.args.id old at c.self.invariant.rows there no))
 
 pub invariant_of-self-in-Err : goal.invariant_of-self-in-Err
 invariant_of-self-in-Err g c =
@@ -67,7 +67,7 @@ invariant_of-self-in-Err g c =
     let back : c.replace-in-Err.new.self ≡ inside.members =
     c.replace-in-Err.ensures.moved ∙ ap (with_moved id c.in-Some.old) c.replace.ensures.moved ∙ with_moved-back id c.in-Some.old c.args.at inside.members c.self.invariant.world.rising there in
     same_table g.I.Index.leaves g.I.Index.WIDTH inside (record inside { index = c.move_row.new.index; members = c.replace-in-Err.new.self; crowded = c.move_row.new.crowded }) c.self.invariant back c.in-Err.ensures.err
-    c.move_row.ensures.names refl
+    c.move_row.ensures.crowded.0 refl
 
 pub returns-in-Err-clause-err : goal.returns-in-Err-clause-err
 returns-in-Err-clause-err g c =
@@ -89,7 +89,7 @@ invariant_of-self-2 g c =
     let moves = rw (c.change-gone.ensures.row, c.change-put.ensures.row, from, to) at c.in_default-move_row.ensures.ok in
     let from_keeps = rw from at c.change-gone.ensures.keeps in
     let to_keeps = rw to at c.change-put.ensures.keeps in
-    let marks = rw (from, to, c.move_row.ensures.names) at c.mark_two.ensures in
+    let marks = rw (from, to, c.move_row.ensures.crowded.0) at c.mark_two.ensures in
     let it =
     move_after g.I.Index.WIDTH inside.size (splits_of c.args.begun.now) c.change-gone.result.keeps_base c.change-put.result.keeps_base (g.I.Index.leaves inside.index) (g.I.Index.leaves c.move_row.new.index) inside.members
     inside.crowded.names c.mark_two.new.crowded.names (g.met.I.Index.are_leaves inside.index) c.self.invariant.rows c.self.invariant.crowded c.self.invariant.world id old c.args.at there moves from_keeps to_keeps marks in
@@ -110,7 +110,7 @@ returns-clause-ok g c =
     let moves = rw (c.change-gone.ensures.row, c.change-put.ensures.row, from, to) at c.in_default-move_row.ensures.ok in
     let from_keeps = rw from at c.change-gone.ensures.keeps in
     let to_keeps = rw to at c.change-put.ensures.keeps in
-    let marks = rw (from, to, c.move_row.ensures.names) at c.mark_two.ensures in
+    let marks = rw (from, to, c.move_row.ensures.crowded.0) at c.mark_two.ensures in
     let it =
     move_after g.I.Index.WIDTH inside.size (splits_of c.args.begun.now) c.change-gone.result.keeps_base c.change-put.result.keeps_base (g.I.Index.leaves inside.index) (g.I.Index.leaves c.move_row.new.index) inside.members
     inside.crowded.names c.mark_two.new.crowded.names (g.met.I.Index.are_leaves inside.index) c.self.invariant.rows c.self.invariant.crowded c.self.invariant.world id old c.args.at there moves from_keeps to_keeps marks in
