@@ -15,6 +15,7 @@ use Rattle.plain_list.specs.Answer.{answer_of, is_change}
 use Rattle.plain_list.specs.History.{world_after, failed_cell}
 use Rattle.plain_list.specs.State.{State, OpenSplit, split_name, is_leaf, state_after}
 use Rattle.disk_trait.specs.Drive.{Drive}
+use Rattle.split_prepare.specs.Prepared.{PreparedView}
 use Rattle.kept_log.specs.Journal.{cells_in, RoseIn}
 use Rattle.commit_book.specs.BookView.{BookView}
 use Rattle.commit_book.specs.IsBook.{most_events}
@@ -141,6 +142,9 @@ abbrev pub install_refusal : {D : Type 0} → ℕ → BookView D → ℕ → Lis
 install_refusal w b number name base =
     first_of (end_refusal (cells_in b.log) b.entries)
     (if is_open (state_after w b.opening b.entries).splits number name && has_base b.leaves name base then None else Some (Stale number))
+
+abbrev pub prepared_refusal : {D : Type 0} → ℕ → BookView D → PreparedView → Option BookFault
+prepared_refusal w b p = install_refusal w b p.number p.name p.base
 
 -- the abandonment of a split
 abbrev pub abandon_refusal : {D : Type 0} → ℕ → BookView D → ℕ → Option BookFault

@@ -1,19 +1,19 @@
 //! The book: an index, a map by id, the history of a run and its log, kept in step.
-ghost use Rattle.std.specs.Prelude.{◌≡◌, ◌^◌, ◌<◌, ◌-◌, ◌++◌, ◌∷◌, true, false, [], Some, None, is_some, length, IfOk, IfErr};
+ghost use Rattle.std.specs.Prelude.{◌≡◌, ◌^◌, ◌<◌, true, false, [], Some, None, is_some, length, IfOk, IfErr};
 ghost use Rattle.plain_list.specs.Size.{full_leaf};
 ghost use Rattle.plain_list.specs.State.{empty_state, state_after};
 ghost use Rattle.plain_list.specs.Answer.{is_change};
-ghost use Rattle.plain_list.specs.History.{world_after};
-ghost use Rattle.index_layer.specs.Stands.{Stands};
 ghost use Rattle.recovery.specs.Found.{IsFound};
 ghost use Rattle.kept_log.specs.Kept.{IsOpened, found_state};
 ghost use Rattle.kept_log.specs.Journal.{failed_cell, cells_in, disk_in};
 ghost use Rattle.plain_list.specs.declared.entries.Lost.{Lost};
 ghost use Rattle.plain_list.specs.declared.entries.Entry.{Entry};
+ghost use Rattle.commit_book.specs.Answers.{IsUpdate, IsQuery, Notes, Replies};
+ghost use Rattle.commit_book.specs.BookView.{first_log, StandsAfter};
 ghost use Rattle.commit_book.specs.Crash.{LeavesCells};
+ghost use Rattle.commit_book.specs.Events.{with_entry};
 ghost use Rattle.commit_book.specs.IsBook.{IsBook, AreBooks};
 ghost use Rattle.commit_book.specs.Refusals.{IsRefusedBy, IsMemory, IsMemoryOrDisk, IsNoFault, LeavesRefused, call_refusal, update_refusal};
-ghost use Rattle.commit_book.specs.Answers.{IsUpdate, IsQuery, Notes, Replies};
 
 mod splits;
 
@@ -111,7 +111,7 @@ impl<I: Index, D: LogDisk> Book<I, D> {
         requires found { IsFound I.WIDTH (2 ^ 24) (D.drive opened.start.value) opened.seen }
         requires ready { IsOpened I.WIDTH (found_state opened.seen) (D.drive opened.start.value) (D.drive opened.log.disk) }
         ensures opening { IfOk result (λ b. (b.opening ≡ found_state opened.seen) × (b.entries ≡ []) × (b.bucket ≡ bucket)) }
-        ensures log { IfOk result (λ b. b.log ≡ Some (record { disk = opened.log.disk; cells = opened.log.cells; failed = None; start = opened.start.value; first = opened.log.cells })) }
+        ensures log { IfOk result (λ b. b.log ≡ Some (first_log opened.log opened.start.value)) }
         ensures back { IfErr result (λ back. back ≡ opened) }
     {
         let begun = opened.seen.begun;
@@ -190,9 +190,7 @@ impl<I: Index, D: LogDisk> Book<I, D> {
     {
         self.keep();
         self.check_update(op)?;
-        let Ok(()) = self.history.reserve(self.splits.len() + 1) else {
-            return Err(BookFault::Memory);
-        };
+        self.history.reserve(self.splits.len() + 1)?;
         let op = *op;
         let mut step = Step {
             history: &mut self.history,
@@ -241,7 +239,7 @@ impl<I: Index, D: LogDisk> Book<I, D> {
     pub fn snapshot(&mut self, session: u8, row: u32, op: &Op) -> Result<Snapshot<I>, BookFault>
         requires { IsQuery op.now }
         ensures ok { IfOk result (λ s. Notes self.old self.new session row op.now s.place) }
-        ensures index { IfOk result (λ s. Stands (I.leaves s.index) (world_after self.new.opening.world self.new.entries) (state_after I.WIDTH self.new.opening self.new.entries).leaves) }
+        ensures index { IfOk result (λ s. StandsAfter I.WIDTH self.new (I.leaves s.index)) }
         ensures leaves { IfOk result (λ s. (I.leaves s.index ≡ self.old.leaves) × (self.new.leaves ≡ self.old.leaves)) }
         ensures refused { IsRefusedBy IsMemory (call_refusal self.old.entries) result }
         ensures err { IfErr result (λ _. self.new ≡ self.old) }
@@ -249,12 +247,8 @@ impl<I: Index, D: LogDisk> Book<I, D> {
     {
         self.keep();
         self.check_call()?;
-        let Ok(()) = self.history.reserve(self.splits.len() + 1) else {
-            return Err(BookFault::Memory);
-        };
-        let Ok(index) = self.table.share() else {
-            return Err(BookFault::Memory);
-        };
+        self.history.reserve(self.splits.len() + 1)?;
+        let index = self.table.share()?;
         let op = *op;
         self.history.push(Entry::Call { session, row, op });
         let place = self.history.calls();
@@ -280,7 +274,7 @@ impl<I: Index, D: LogDisk> Book<I, D> {
 fn note_quiet(history: &mut History, answer: &Answer, call: Entry)
     requires { is_change answer.now ≡ false → (0 < history.old.room) × (length history.old.entries < 2 ^ 63) }
     ensures noted { is_change answer.now ≡ true → history.new ≡ history.old }
-    ensures quiet { is_change answer.now ≡ false → history.new ≡ record { entries = history.old.entries ++ call ∷ []; room = history.old.room - 1 } }
+    ensures quiet { is_change answer.now ≡ false → history.new ≡ with_entry call history.old }
 {
     if !is_change(answer) {
         history.push(call);

@@ -1,4 +1,8 @@
 //! Why a book did nothing, or closed.
+ghost use Rattle.std.specs.Prelude.{◌≡◌};
+
+use std::alloc::AllocError;
+use zorder::Memory;
 
 /// Why a book did nothing. After each but `Disk` the book is as it was. A book without a log never answers `Closed`, `Disk` or `LogFull`.
 #[derive(Clone, Copy, Debug, PartialEq, Eq)]
@@ -45,4 +49,24 @@ pub enum BookFault {
         /// The number that was given.
         number: u64,
     },
+}
+
+impl From<AllocError> for BookFault {
+    ghost use Rattle.commit_book.specs.declared.faults.BookFault.TheVariants.{Memory};
+
+    ghost from_gives = { λ _ fault. fault ≡ Memory };
+
+    fn from(_: AllocError) -> BookFault {
+        BookFault::Memory
+    }
+}
+
+impl From<Memory> for BookFault {
+    ghost use Rattle.commit_book.specs.declared.faults.BookFault.TheVariants.{Memory};
+
+    ghost from_gives = { λ _ fault. fault ≡ Memory };
+
+    fn from(_: Memory) -> BookFault {
+        BookFault::Memory
+    }
 }

@@ -1,6 +1,7 @@
 //! The entries of a run, with room for those that are promised.
 ghost use Rattle.std.specs.Prelude.{◌≡◌, ◌+◌, ◌-◌, ◌<◌, ◌≤◌, ◌∷◌, ◌++◌, ◌^◌, [], OnOk, OnErr, length, vec_len, vec_capacity};
 ghost use Rattle.plain_list.specs.History.{call_count};
+ghost use Rattle.commit_book.specs.Events.{with_entry};
 
 use plain_list::{Entry, Lost};
 use std::alloc::{AllocError, Global};
@@ -65,7 +66,7 @@ impl History {
     pub(crate) fn push(&mut self, entry: Entry)
         requires room { 0 < self.old.room }
         requires few { length self.old.entries < 2 ^ 63 }
-        ensures { self.new ≡ record { entries = self.old.entries ++ entry ∷ []; room = self.old.room - 1 } }
+        ensures { self.new ≡ with_entry entry self.old }
     {
         self.room -= 1;
         self.calls += calls_in(&entry);

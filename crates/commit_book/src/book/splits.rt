@@ -3,9 +3,10 @@ ghost use Rattle.std.specs.Prelude.{◌≡◌, ◌+◌, length, IfOk, IfErr, OnO
 ghost use Rattle.plain_list.specs.State.{state_after};
 ghost use Rattle.plain_list.specs.declared.entries.Lost.{Lost};
 ghost use Rattle.plain_list.specs.declared.entries.Entry.{Entry};
+ghost use Rattle.commit_book.specs.BookView.{next_number};
 ghost use Rattle.commit_book.specs.Crash.{LeavesCells};
 ghost use Rattle.commit_book.specs.IsBook.{AreBooks};
-ghost use Rattle.commit_book.specs.Refusals.{IsRefusedBy, IsDisk, IsMemoryOrDisk, IsNoFault, LeavesRefused, begin_refusal, room_refusal, leaf_refusal, end_refusal, has_base, install_refusal, abandon_refusal};
+ghost use Rattle.commit_book.specs.Refusals.{IsRefusedBy, IsDisk, IsMemoryOrDisk, IsNoFault, LeavesRefused, begin_refusal, room_refusal, leaf_refusal, end_refusal, has_base, prepared_refusal, abandon_refusal};
 ghost use Rattle.kept_log.specs.Journal.{cells_in};
 ghost use Rattle.commit_book.specs.SplitSteps.{Begins, CanPrepare, Installs, Abandons};
 
@@ -31,19 +32,15 @@ impl<I: Index, D: LogDisk> Book<I, D> {
         ensures ok { IfOk result (λ t. Begins I.WIDTH self.old self.new name.now t) }
         ensures ticket { IfOk result (λ t. CanPrepare I.WIDTH t) }
         ensures refused { IsRefusedBy IsMemoryOrDisk (begin_refusal I.WIDTH self.old name.now) result }
-        ensures err { IfErr result (LeavesRefused D.drive (Lost.Begin ((state_after I.WIDTH self.old.opening self.old.entries).begun + 1) name.now) self.old self.new) }
-        ensures any_moment { LeavesCells D.drive I.WIDTH (Entry.Begin ((state_after I.WIDTH self.old.opening self.old.entries).begun + 1) name.now) self.old self.new }
+        ensures err { IfErr result (LeavesRefused D.drive (Lost.Begin (next_number I.WIDTH self.old) name.now) self.old self.new) }
+        ensures any_moment { LeavesCells D.drive I.WIDTH (Entry.Begin (next_number I.WIDTH self.old) name.now) self.old self.new }
         ensures book { AreBooks D.drive I.WIDTH self.old self.new }
     {
         self.keep();
         self.check_begin(name)?;
-        let Ok(()) = self.splits.reserve() else {
-            return Err(BookFault::Memory);
-        };
+        self.splits.reserve()?;
         // One entry more than this one: that which ends the split.
-        let Ok(()) = self.history.reserve(self.splits.len() + 2) else {
-            return Err(BookFault::Memory);
-        };
+        self.history.reserve(self.splits.len() + 2)?;
         let number = self.splits.next_number();
         let name = *name;
         let mut step = Step {
@@ -108,7 +105,7 @@ impl<I: Index, D: LogDisk> Book<I, D> {
     pub fn install(&mut self, prepared: &Prepared) -> Result<(), BookFault>
         requires { prepared.now.width ≡ I.WIDTH }
         ensures ok { OnOk result (Installs I.WIDTH self.old self.new prepared.now.number prepared.now.name) }
-        ensures refused { IsRefusedBy IsMemoryOrDisk (install_refusal I.WIDTH self.old prepared.now.number prepared.now.name prepared.now.base) result }
+        ensures refused { IsRefusedBy IsMemoryOrDisk (prepared_refusal I.WIDTH self.old prepared.now) result }
         ensures err { IfErr result (LeavesRefused D.drive (Lost.Install prepared.now.number) self.old self.new) }
         ensures any_moment { LeavesCells D.drive I.WIDTH (Entry.Install prepared.now.number) self.old self.new }
         ensures book { AreBooks D.drive I.WIDTH self.old self.new }
@@ -135,7 +132,7 @@ impl<I: Index, D: LogDisk> Book<I, D> {
     }
 
     fn check_install(&self, prepared: &Prepared) -> Result<(), BookFault>
-        ensures { IsRefusedBy IsNoFault (install_refusal I.WIDTH self.now prepared.now.number prepared.now.name prepared.now.base) result }
+        ensures { IsRefusedBy IsNoFault (prepared_refusal I.WIDTH self.now prepared.now) result }
     {
         self.check_end()?;
         let number = prepared.number();

@@ -26,29 +26,29 @@ returns-in_err-check_begin-clause-any_moment g c =
     rw (← c.self.view_is)
     (leaves-quiet g.D.LogDisk.drive g.I.Index.WIDTH c.self.inside.opening c.self.inside.history.entries _ c.self.inside.journal g.met.D.LogDisk.keeps_laws c.self.invariant.on_log)
 
-pub returns-in_default-clause-any_moment : goal.returns-in_default-clause-any_moment
-returns-in_default-clause-any_moment g c =
+pub returns-in_err-reserve-clause-any_moment : goal.returns-in_err-reserve-clause-any_moment
+returns-in_err-reserve-clause-any_moment g c =
     rw (← c.self.view_is)
     (leaves-quiet g.D.LogDisk.drive g.I.Index.WIDTH c.self.inside.opening c.self.inside.history.entries _ c.self.inside.journal g.met.D.LogDisk.keeps_laws c.self.invariant.on_log)
 
 pub overflow_add-len : goal.overflow_add-len
 overflow_add-len g c =
     let h = c.self.inside.history.entries in
-    omega (arith, c.len.ensures, ap length c.in-Ok.ensures.splits, ap length c.self.invariant.splits, open-le g.I.Index.WIDTH c.self.inside.opening h, ap length c.self.invariant.opening.rests, c.self.invariant.few)
+    omega (arith, c.len.ensures, ap length c.in_ok-reserve.ensures.splits, ap length c.self.invariant.splits, open-le g.I.Index.WIDTH c.self.inside.opening h, ap length c.self.invariant.opening.rests, c.self.invariant.few)
 
 pub reserve-requires-2 : goal.reserve-requires-2
 reserve-requires-2 g c =
     let h = c.self.inside.history.entries in
-    omega (arith, c.len.ensures, ap length c.in-Ok.ensures.splits, ap length c.self.invariant.splits, open-le g.I.Index.WIDTH c.self.inside.opening h, ap length c.self.invariant.opening.rests, c.self.invariant.few)
+    omega (arith, c.len.ensures, ap length c.in_ok-reserve.ensures.splits, ap length c.self.invariant.splits, open-le g.I.Index.WIDTH c.self.inside.opening h, ap length c.self.invariant.opening.rests, c.self.invariant.few)
 
-pub returns-in_default-reserve-clause-any_moment : goal.returns-in_default-reserve-clause-any_moment
-returns-in_default-reserve-clause-any_moment g c =
+pub returns-in_err-reserve-2-clause-any_moment : goal.returns-in_err-reserve-2-clause-any_moment
+returns-in_err-reserve-2-clause-any_moment g c =
     rw (← c.self.view_is)
     (leaves-quiet g.D.LogDisk.drive g.I.Index.WIDTH c.self.inside.opening c.self.inside.history.entries _ c.self.inside.journal g.met.D.LogDisk.keeps_laws c.self.invariant.on_log)
 
 pub next_number-number-requires : goal.next_number-number-requires
 next_number-number-requires g c =
-    omega (arith, c.in-Ok.ensures.begun, c.self.invariant.begun, begun-le g.I.Index.WIDTH c.self.inside.opening c.self.inside.history.entries, c.self.invariant.opening.begun, c.self.invariant.few)
+    omega (arith, c.in_ok-reserve.ensures.begun, c.self.invariant.begun, begun-le g.I.Index.WIDTH c.self.inside.opening c.self.inside.history.entries, c.self.invariant.opening.begun, c.self.invariant.few)
 
 pub fold-requires-clause-can : goal.fold-requires-clause-can
 fold-requires-clause-can g c =
@@ -60,7 +60,7 @@ fold-requires-clause-can g c =
     let may : MayBegin w (state_after w o h) h (cells_in b.journal) name = may_begin w (book_of b) name (passed _ _ (rw (← c.self.view_is) at c.in_ok-check_begin.ensures)) in
     let number = c.next_number-number.result in
     can_step g.D.LogDisk.drive w o b c.reserve-2.new.self (lost.Begin number name) (cell.Begin number name) refl c.self.invariant may.going (few_cells (cells_in b.journal) may.room)
-    (ap (λ (v : Events). v.entries) c.in-Ok-reserve.ensures.ok) (omega (arith, ap (λ (v : Events). v.room) c.in-Ok-reserve.ensures.ok))
+    (ap (λ (v : Events). v.entries) c.in_ok-reserve-2.ensures.ok) (omega (arith, ap (λ (v : Events). v.room) c.in_ok-reserve-2.ensures.ok))
 
 pub fold-requires-clause-leaf : goal.fold-requires-clause-leaf
 fold-requires-clause-leaf g c =
@@ -82,10 +82,10 @@ invariant_of-self-in-Err g c =
     let may : MayBegin w (state_after w o h) h (cells_in b.journal) name = may_begin w (book_of b) name (passed _ _ (rw (← c.self.view_is) at c.in_ok-check_begin.ensures)) in
     let few : length h < most_events = omega (arith, may.few) in
     let number = c.next_number-number.result in
-    let next : number ≡ (state_after w o h).begun + 1 = c.next_number-number.ensures ∙ ap (λ n. n + 1) (c.in-Ok.ensures.begun ∙ c.self.invariant.begun) in
+    let next : number ≡ (state_after w o h).begun + 1 = c.next_number-number.ensures ∙ ap (λ n. n + 1) (c.in_ok-reserve.ensures.begun ∙ c.self.invariant.begun) in
     let step = begin_step w o h c.self.invariant.legal may.going (cells_in b.journal) number name may next in
     inside-undone g.D.LogDisk.drive w o b c.self.invariant may.going (Arc Bucket Global) c.fold.new.self c.reserve.new.self o (c.len.result + 2) c.in-Err.undone _ c.fold.new.commit few step
-    c.in-Ok-reserve.ensures.ok refl (omega (arith, c.len.ensures, ap length c.in-Ok.ensures.splits)) c.in-Err.ensures.err c.in-Ok.ensures.splits c.in-Ok.ensures.begun c.in-Err.ensures.told
+    c.in_ok-reserve-2.ensures.ok refl (omega (arith, c.len.ensures, ap length c.in_ok-reserve.ensures.splits)) c.in-Err.ensures.err c.in_ok-reserve.ensures.splits c.in_ok-reserve.ensures.begun c.in-Err.ensures.told
 
 pub returns-in-Err-clause-any_moment : goal.returns-in-Err-clause-any_moment
 returns-in-Err-clause-any_moment g c =
@@ -97,16 +97,16 @@ returns-in-Err-clause-any_moment g c =
     let may : MayBegin w (state_after w o h) h (cells_in b.journal) name = may_begin w (book_of b) name (passed _ _ (rw (← c.self.view_is) at c.in_ok-check_begin.ensures)) in
     let few : length h < most_events = omega (arith, may.few) in
     let number = c.next_number-number.result in
-    let next : number ≡ (state_after w o h).begun + 1 = c.next_number-number.ensures ∙ ap (λ n. n + 1) (c.in-Ok.ensures.begun ∙ c.self.invariant.begun) in
+    let next : number ≡ (state_after w o h).begun + 1 = c.next_number-number.ensures ∙ ap (λ n. n + 1) (c.in_ok-reserve.ensures.begun ∙ c.self.invariant.begun) in
     let step = begin_step w o h c.self.invariant.legal may.going (cells_in b.journal) number name may next in
     rw (← c.self.view_is) (λ none.
     subst (λ n. LeavesEither g.D.LogDisk.drive w o h (Begin n name) b.journal c.fold.new.commit.journal.now) next
     (moments-undone g.D.LogDisk.drive w o b c.self.invariant may.going (Arc Bucket Global) g.met.D.LogDisk.keeps_laws (c.len.result + 2) c.in-Err.undone _ c.fold.new.commit step
-    c.in-Ok-reserve.ensures.ok refl c.in-Err.ensures.told))
+    c.in_ok-reserve-2.ensures.ok refl c.in-Err.ensures.told))
 
 pub push-requires-clause-few : goal.push-requires-clause-few
 push-requires-clause-few g c =
-    omega (arith, c.in-Ok.ensures.begun, c.self.invariant.begun, begun-le g.I.Index.WIDTH c.self.inside.opening c.self.inside.history.entries, c.self.invariant.opening.begun, c.self.invariant.few)
+    omega (arith, c.in_ok-reserve.ensures.begun, c.self.invariant.begun, begun-le g.I.Index.WIDTH c.self.inside.opening c.self.inside.history.entries, c.self.invariant.opening.begun, c.self.invariant.few)
 
 pub invariant_of-self-2 : goal.invariant_of-self-2
 invariant_of-self-2 g c =
@@ -118,16 +118,16 @@ invariant_of-self-2 g c =
     let may : MayBegin w (state_after w o h) h (cells_in b.journal) name = may_begin w (book_of b) name (passed _ _ (rw (← c.self.view_is) at c.in_ok-check_begin.ensures)) in
     let few : length h < most_events = omega (arith, may.few) in
     let number = c.next_number-number.result in
-    let next : number ≡ (state_after w o h).begun + 1 = c.next_number-number.ensures ∙ ap (λ n. n + 1) (c.in-Ok.ensures.begun ∙ c.self.invariant.begun) in
+    let next : number ≡ (state_after w o h).begun + 1 = c.next_number-number.ensures ∙ ap (λ n. n + 1) (c.in_ok-reserve.ensures.begun ∙ c.self.invariant.begun) in
     let step = begin_step w o h c.self.invariant.legal may.going (cells_in b.journal) number name may next in
     let book : IsBook g.D.LogDisk.drive w (book_of b) = rw (← c.self.view_is) at c.keep.ensures in
-    let it = taken g.D.LogDisk.drive w o b c.self.invariant may.going (c.len.result + 2) _ c.fold.new.commit step c.in-Ok-reserve.ensures.ok refl c.in-Ok-fold.ensures.told in
-    let begun : c.reserve.new.self.begun ≡ b.splits.begun = c.in-Ok.ensures.begun in
+    let it = taken g.D.LogDisk.drive w o b c.self.invariant may.going (c.len.result + 2) _ c.fold.new.commit step c.in_ok-reserve-2.ensures.ok refl c.in-Ok.ensures.told in
+    let begun : c.reserve.new.self.begun ≡ b.splits.begun = c.in_ok-reserve.ensures.begun in
     let same : number ≡ b.splits.begun + 1 = c.next_number-number.ensures ∙ ap (λ n. n + 1) begun in
-    inside-begin g.D.LogDisk.drive w o b _ c.self.invariant may.going it.keeps name _ few book.stands.are_leaves book.stands.rows c.in-Ok-fold.ensures.folds
-    (both_true may.leaf (le-leb (length name + w) 64 may.short)) may.free (it.entries ∙ ap (λ n. h ++ Begin n name ∷ []) same) (omega (arith, it.room, c.len.ensures, ap length c.in-Ok.ensures.splits))
-    (ap (λ (t : TableView). t.world) c.in-Ok-fold.ensures.rest)
-    (c.push.ensures.splits ∙ (λ i. c.in-Ok.ensures.splits i ++ record { number = begun i + 1; name = name } ∷ []))
+    inside-begin g.D.LogDisk.drive w o b _ c.self.invariant may.going it.keeps name _ few book.stands.are_leaves book.stands.rows c.in-Ok.ensures.folds
+    (both_true may.leaf (le-leb (length name + w) 64 may.short)) may.free (it.entries ∙ ap (λ n. h ++ Begin n name ∷ []) same) (omega (arith, it.room, c.len.ensures, ap length c.in_ok-reserve.ensures.splits))
+    (ap (λ (t : TableView). t.world) c.in-Ok.ensures.rest)
+    (c.push.ensures.splits ∙ (λ i. c.in_ok-reserve.ensures.splits i ++ record { number = begun i + 1; name = name } ∷ []))
     (c.push.ensures.begun ∙ ap (λ n. n + 1) begun)
 
 pub returns-clause-ticket : goal.returns-clause-ticket
@@ -139,4 +139,4 @@ returns-clause-ticket g c =
     let name = c.args.name.now in
     let may : MayBegin w (state_after w o h) h (cells_in b.journal) name = may_begin w (book_of b) name (passed _ _ (rw (← c.self.view_is) at c.in_ok-check_begin.ensures)) in
     let book : IsBook g.D.LogDisk.drive w (book_of b) = rw (← c.self.view_is) at c.keep.ensures in
-    record { short = may.short; under = folded-under name b.table.leaves _ _ book.stands.are_leaves c.in-Ok-fold.ensures.folds }
+    record { short = may.short; under = folded-under name b.table.leaves _ _ book.stands.are_leaves c.in-Ok.ensures.folds }

@@ -32,8 +32,8 @@ invariant_of-self-2 g c =
     let e : Entry = Call c.args.session c.args.row op in
     let may : MayCall h = may_call h c.self.invariant.few (passed _ _ (rw (← c.self.view_is) at c.in_ok-check_call.ensures)) in
     let steps = steps_on w o h e c.self.invariant.legal (has_failed-none h may.going) refl in
-    let entries : c.push.new.self.entries ≡ h ++ e ∷ [] = ap (λ (v : Events). v.entries) c.push.ensures ∙ ap (λ (v : Events). v.entries ++ e ∷ []) c.in-Ok.ensures.ok in
-    let room : length c.self.inside.splits.splits ≤ c.push.new.self.room = omega (arith, ap (λ (v : Events). v.room) c.push.ensures, ap (λ (v : Events). v.room) c.in-Ok.ensures.ok, c.len.ensures) in
+    let entries : c.push.new.self.entries ≡ h ++ e ∷ [] = ap (λ (v : Events). v.entries) c.push.ensures ∙ ap (λ (v : Events). v.entries ++ e ∷ []) c.in_ok-reserve.ensures.ok in
+    let room : length c.self.inside.splits.splits ≤ c.push.new.self.room = omega (arith, ap (λ (v : Events). v.room) c.push.ensures, ap (λ (v : Events). v.room) c.in_ok-reserve.ensures.ok, c.len.ensures) in
     let kept = keeps-query drive w o h c.args.session c.args.row op c.self.inside.journal c.requires steps.legal c.self.invariant.on_log in
     inside-call drive w o c.self.inside _ c.self.invariant may.going (subst (λ (g : List Entry). KeepsIn drive w o g c.self.inside.journal) (sym entries) kept) c.args.session c.args.row op may.few entries room
     (sym (query_keeps op c.self.inside.table.world c.requires)) refl refl
@@ -46,6 +46,6 @@ returns-clause-index g c =
     let e : Entry = Call c.args.session c.args.row c.args.op.now in
     let may : MayCall h = may_call h c.self.invariant.few (passed _ _ (rw (← c.self.view_is) at c.in_ok-check_call.ensures)) in
     let steps = steps_on w o h e c.self.invariant.legal (has_failed-none h may.going) refl in
-    let entries : c.push.new.self.entries ≡ h ++ e ∷ [] = ap (λ (v : Events). v.entries) c.push.ensures ∙ ap (λ (v : Events). v.entries ++ e ∷ []) c.in-Ok.ensures.ok in
+    let entries : c.push.new.self.entries ≡ h ++ e ∷ [] = ap (λ (v : Events). v.entries) c.push.ensures ∙ ap (λ (v : Events). v.entries ++ e ∷ []) c.in_ok-reserve.ensures.ok in
     let world = c.self.invariant.world ∙ sym (ap (λ (t : State). t.world) steps.after ∙ query_keeps c.args.op.now _ c.requires) ∙ state_after-world w o (h ++ e ∷ []) in
-    rw entries (stands_again _ _ _ _ _ c.in-Ok-share.ensures.index (g.met.I.Index.are_leaves c.in-Ok-share.index) world c.in-Ok-share.ensures.rows (c.self.invariant.names ∙ sym (ap (λ (t : State). t.leaves) steps.after)))
+    rw entries (stands_again _ _ _ _ _ c.in_ok-index.ensures.index (g.met.I.Index.are_leaves c.in_ok-index.index) world c.in_ok-index.ensures.rows (c.self.invariant.names ∙ sym (ap (λ (t : State). t.leaves) steps.after)))

@@ -36,8 +36,8 @@ reserve-requires g c =
     let h = c.self.inside.history.entries in
     omega (arith, c.len.ensures, ap length c.self.invariant.splits, open-le g.I.Index.WIDTH c.self.inside.opening h, ap length c.self.invariant.opening.rests, c.self.invariant.few)
 
-pub returns-in_default-clause-any_moment : goal.returns-in_default-clause-any_moment
-returns-in_default-clause-any_moment g c =
+pub returns-in_err-reserve-clause-any_moment : goal.returns-in_err-reserve-clause-any_moment
+returns-in_err-reserve-clause-any_moment g c =
     rw (← c.self.view_is)
     (leaves-quiet g.D.LogDisk.drive g.I.Index.WIDTH c.self.inside.opening c.self.inside.history.entries _ c.self.inside.journal g.met.D.LogDisk.keeps_laws c.self.invariant.on_log)
 
@@ -49,9 +49,9 @@ update-requires-clause-can g c = λ change.
     let may = may_update (book_of b) op c.self.invariant.few (passed _ _ (rw (← c.self.view_is) at c.in_ok-check_update.ensures)) in
     let world = c.self.invariant.world ∙ state_after-world w b.opening b.history.entries in
     let cell = cell_there op b.table.world c.requires change in
-    let room = ap (λ (v : Events). v.room) c.in-Ok.ensures.ok in
+    let room = ap (λ (v : Events). v.room) c.in_ok-reserve.ensures.ok in
     can_step g.D.LogDisk.drive w b.opening b c.reserve.new.self (lost.Call c.args.session c.args.row op) cell.0 cell.1 c.self.invariant may.call.going
-    (may.room (ap (λ (ms : List Placed). is_change (answer_of ms op)) (sym world) ∙ change)) (ap (λ (v : Events). v.entries) c.in-Ok.ensures.ok) (omega (arith, room))
+    (may.room (ap (λ (ms : List Placed). is_change (answer_of ms op)) (sym world) ∙ change)) (ap (λ (v : Events). v.entries) c.in_ok-reserve.ensures.ok) (omega (arith, room))
 
 pub invariant_of-self-in-Err : goal.invariant_of-self-in-Err
 invariant_of-self-in-Err g c =
@@ -64,7 +64,7 @@ invariant_of-self-in-Err g c =
     let told = would_change Answer (Takes g.D.LogDisk.drive) (Loses g.D.LogDisk.drive) _ _ c.update.new.commit c.in-Err.undone c.in-Err.ensures.told in
     let change : is_change (answer_of (world_after b.opening.world h) op) ≡ true = ap (λ (ms : List Placed). is_change (answer_of ms op)) (sym world) ∙ told.0 in
     inside-undone g.D.LogDisk.drive w b.opening b c.self.invariant may.call.going Answer c.update.new.self b.splits b.opening (c.len.result + 1) c.in-Err.undone _ c.update.new.commit may.call.few
-    (call_step w b.opening h c.self.invariant.legal may.call.going c.args.session c.args.row op change) c.in-Ok.ensures.ok refl (omega (arith, c.len.ensures)) c.in-Err.ensures.err refl refl told.1
+    (call_step w b.opening h c.self.invariant.legal may.call.going c.args.session c.args.row op change) c.in_ok-reserve.ensures.ok refl (omega (arith, c.len.ensures)) c.in-Err.ensures.err refl refl told.1
 
 pub returns-in-Err-clause-any_moment : goal.returns-in-Err-clause-any_moment
 returns-in-Err-clause-any_moment g c =
@@ -78,14 +78,14 @@ returns-in-Err-clause-any_moment g c =
     let change : is_change (answer_of (world_after b.opening.world h) op) ≡ true = ap (λ (ms : List Placed). is_change (answer_of ms op)) (sym world) ∙ told.0 in
     rw (← c.self.view_is) (λ none.
     moments-undone g.D.LogDisk.drive w b.opening b c.self.invariant may.call.going Answer g.met.D.LogDisk.keeps_laws (c.len.result + 1) c.in-Err.undone _ c.update.new.commit
-    (call_step w b.opening h c.self.invariant.legal may.call.going c.args.session c.args.row op change) c.in-Ok.ensures.ok refl told.1)
+    (call_step w b.opening h c.self.invariant.legal may.call.going c.args.session c.args.row op change) c.in_ok-reserve.ensures.ok refl told.1)
 
 pub note_quiet-requires : goal.note_quiet-requires
 note_quiet-requires g c = λ none.
     let b = c.self.inside in
-    let told = quiet_told (Takes g.D.LogDisk.drive) (Loses g.D.LogDisk.drive) (is_change (answer_of b.table.world c.args.op.now)) _ c.update.new.commit c.in-Ok-update.answer
-    (sym (ap is_change c.in-Ok-update.ensures.ok.answer_is) ∙ none) c.in-Ok-update.ensures.told in
-    let same : c.update.new.commit.history.now ≡ record b.history { room = c.len.result + 1 } = ap (λ (s : Step _). s.history.now) told ∙ c.in-Ok.ensures.ok in
+    let told = quiet_told (Takes g.D.LogDisk.drive) (Loses g.D.LogDisk.drive) (is_change (answer_of b.table.world c.args.op.now)) _ c.update.new.commit c.in-Ok.answer
+    (sym (ap is_change c.in-Ok.ensures.ok.answer_is) ∙ none) c.in-Ok.ensures.told in
+    let same : c.update.new.commit.history.now ≡ record b.history { room = c.len.result + 1 } = ap (λ (s : Step _). s.history.now) told ∙ c.in_ok-reserve.ensures.ok in
     (omega (arith, ap (λ (v : Events). v.room) same), omega (arith, ap (λ (v : Events). length v.entries) same, c.self.invariant.few))
 
 pub invariant_of-self-2 : goal.invariant_of-self-2
@@ -100,11 +100,11 @@ invariant_of-self-2 g c =
     let now : is_change (answer_of (world_after b.opening.world h) op) ≡ is_change (answer_of b.table.world op) = ap (λ (ms : List Placed). is_change (answer_of ms op)) (sym world) in
     let it =
     noted g.D.LogDisk.drive w b.opening b c.self.invariant may.call.going g.met.D.LogDisk.keeps_laws c.args.session c.args.row op (c.len.result + 1) (is_change (answer_of b.table.world op))
-    c.in-Ok-update.answer _ c.update.new.commit c.note_quiet.new.history
-    (call_step w b.opening h c.self.invariant.legal may.call.going c.args.session c.args.row op) steps.legal refl c.in-Ok.ensures.ok refl now
-    (ap is_change c.in-Ok-update.ensures.ok.answer_is) c.in-Ok-update.ensures.told c.note_quiet.ensures.noted c.note_quiet.ensures.quiet in
+    c.in-Ok.answer _ c.update.new.commit c.note_quiet.new.history
+    (call_step w b.opening h c.self.invariant.legal may.call.going c.args.session c.args.row op) steps.legal refl c.in_ok-reserve.ensures.ok refl now
+    (ap is_change c.in-Ok.ensures.ok.answer_is) c.in-Ok.ensures.told c.note_quiet.ensures.noted c.note_quiet.ensures.quiet in
     inside-call g.D.LogDisk.drive w b.opening b _ c.self.invariant may.call.going it.keeps c.args.session c.args.row op may.call.few it.entries (omega (arith, it.room, c.len.ensures))
-    c.in-Ok-update.ensures.ok.changes.world (rw c.as_slice.ensures at c.in-Ok-update.ensures.ok.changes.bases) refl
+    c.in-Ok.ensures.ok.changes.world (rw c.as_slice.ensures at c.in-Ok.ensures.ok.changes.bases) refl
 
 pub returns-clause-ok : goal.returns-clause-ok
 returns-clause-ok g c =
@@ -118,14 +118,14 @@ returns-clause-ok g c =
     let now : is_change (answer_of (world_after b.opening.world h) op) ≡ is_change (answer_of b.table.world op) = ap (λ (ms : List Placed). is_change (answer_of ms op)) (sym world) in
     let it =
     noted g.D.LogDisk.drive w b.opening b c.self.invariant may.call.going g.met.D.LogDisk.keeps_laws c.args.session c.args.row op (c.len.result + 1) (is_change (answer_of b.table.world op))
-    c.in-Ok-update.answer _ c.update.new.commit c.note_quiet.new.history
-    (call_step w b.opening h c.self.invariant.legal may.call.going c.args.session c.args.row op) steps.legal refl c.in-Ok.ensures.ok refl now
-    (ap is_change c.in-Ok-update.ensures.ok.answer_is) c.in-Ok-update.ensures.told c.note_quiet.ensures.noted c.note_quiet.ensures.quiet in
+    c.in-Ok.answer _ c.update.new.commit c.note_quiet.new.history
+    (call_step w b.opening h c.self.invariant.legal may.call.going c.args.session c.args.row op) steps.legal refl c.in_ok-reserve.ensures.ok refl now
+    (ap is_change c.in-Ok.ensures.ok.answer_is) c.in-Ok.ensures.told c.note_quiet.ensures.noted c.note_quiet.ensures.quiet in
     rw (← c.self.view_is) (record {
       notes = record { entries = it.entries; place_is = c.calls.ensures };
-      answer_is = c.in-Ok-update.ensures.ok.answer_is ∙ ap (λ (ms : List Placed). answer_of ms op) world;
+      answer_is = c.in-Ok.ensures.ok.answer_is ∙ ap (λ (ms : List Placed). answer_of ms op) world;
       full_is = c.full.ensures.full;
-      settled = subst (λ (os : List OpenSplit). AreSettled os b.table.leaves c.update.new.self.leaves) (c.as_slice.ensures ∙ c.self.invariant.splits) c.in-Ok-update.ensures.ok.changes.settled;
+      settled = subst (λ (os : List OpenSplit). AreSettled os b.table.leaves c.update.new.self.leaves) (c.as_slice.ensures ∙ c.self.invariant.splits) c.in-Ok.ensures.ok.changes.settled;
     })
 
 pub returns-clause-any_moment : goal.returns-clause-any_moment
@@ -140,9 +140,9 @@ returns-clause-any_moment g c =
     let now : is_change (answer_of (world_after b.opening.world h) op) ≡ is_change (answer_of b.table.world op) = ap (λ (ms : List Placed). is_change (answer_of ms op)) (sym world) in
     let it =
     noted g.D.LogDisk.drive w b.opening b c.self.invariant may.call.going g.met.D.LogDisk.keeps_laws c.args.session c.args.row op (c.len.result + 1) (is_change (answer_of b.table.world op))
-    c.in-Ok-update.answer _ c.update.new.commit c.note_quiet.new.history
-    (call_step w b.opening h c.self.invariant.legal may.call.going c.args.session c.args.row op) steps.legal refl c.in-Ok.ensures.ok refl now
-    (ap is_change c.in-Ok-update.ensures.ok.answer_is) c.in-Ok-update.ensures.told c.note_quiet.ensures.noted c.note_quiet.ensures.quiet in
+    c.in-Ok.answer _ c.update.new.commit c.note_quiet.new.history
+    (call_step w b.opening h c.self.invariant.legal may.call.going c.args.session c.args.row op) steps.legal refl c.in_ok-reserve.ensures.ok refl now
+    (ap is_change c.in-Ok.ensures.ok.answer_is) c.in-Ok.ensures.told c.note_quiet.ensures.noted c.note_quiet.ensures.quiet in
     rw (← c.self.view_is) (λ none. it.moments)
 
 pub returns-in-Err-clause-err : goal.returns-in-Err-clause-err
@@ -155,5 +155,5 @@ returns-in-Err-clause-err g c =
     let change : is_change (answer_of (world_after b.opening.world b.history.entries) op) ≡ true = ap (λ (ms : List Placed). is_change (answer_of ms op)) (sym world) ∙ told.0 in
     let it =
     refused-undone g.D.LogDisk.drive w b.opening b c.self.invariant (may_update (book_of b) op c.self.invariant.few (passed _ _ (rw (← c.self.view_is) at c.in_ok-check_update.ensures))).call.going Answer
-    c.update.new.self (c.len.result + 1) c.cells-cell.result c.in-Err.undone _ c.update.new.commit c.in-Ok.ensures.ok refl c.in-Err.ensures.err change c.cells-cell.ensures.cells told.1 in
+    c.update.new.self (c.len.result + 1) c.cells-cell.result c.in-Err.undone _ c.update.new.commit c.in_ok-reserve.ensures.ok refl c.in-Err.ensures.err change c.cells-cell.ensures.cells told.1 in
     rw (← c.self.view_is) (rw c.fault_of.ensures it)
