@@ -98,7 +98,7 @@ impl<I: Index> PointTable<I> {
         ensures { result ≡ is_change (answer_of self.now.world op.now) }
     {
         match *op {
-            Op::Put { id, .. } => self.place(id).is_none() && self.len() < MOST_MEMBERS,
+            Op::Put { id, .. } => self.place(id).is_none() && !self.is_full(),
             Op::Move { id, .. } => self.place(id).is_some(),
             Op::Remove { id } => self.place(id).is_some(),
             Op::Find { .. } => false,
@@ -144,7 +144,7 @@ impl<I: Index> PointTable<I> {
         ensures err { OnErr result (self.new ≡ self.old) }
         ensures told { TellsIf C.done C.lost (is_change (answer_of self.old.world (Op.Put id at))) commit.old commit.new result }
     {
-        if self.len() >= MOST_MEMBERS {
+        if self.is_full() {
             return Ok(self.full(id));
         }
         // The map goes first, and back where the index can't follow: so the object is looked for once.
@@ -160,6 +160,12 @@ impl<I: Index> PointTable<I> {
         }
         mark(&mut self.crowded, &self.index, self.size, row.key);
         Ok(Answer::Done)
+    }
+
+    fn is_full(&self) -> bool
+        ensures { result ≡ is_full self.now.world }
+    {
+        self.len() >= MOST_MEMBERS
     }
 
     // What a put is answered in a full world.

@@ -1,5 +1,4 @@
-use Rattle.std.proofs.lemmas.Bool.Decides.{nat_tests}
-use Rattle.std.proofs.Common.{arith, ◌≡◌, true, false, List, Some, None, refl, sym, ap, ◌∙◌, subst, if◌then◌else◌}
+use Rattle.std.proofs.Common.{◌≡◌, true, false, List, Some, None, refl, sym, ap, ◌∙◌, subst, if◌then◌else◌}
 use Rattle.std.specs.Option.{option_map_or}
 use Rattle.std.specs.List.{AllByRecursion}
 use Rattle.zorder.specs.Key.{key_of}
@@ -16,10 +15,10 @@ use Rattle.point_table.proofs.MemberSteps.{without-with_member, with_moved-back}
 use Rattle.point_table.proofs.Updating.{updates_none, updates_some, put-full, put-done, same_table, same_view, match_none, match_some}
 use Rattle.point_table.proofs.table.PointTable.put.Goals as goal
 
-pub returns-then-len-ge-MOST_MEMBERS-clause-ok : goal.returns-then-len-ge-MOST_MEMBERS-clause-ok
-returns-then-len-ge-MOST_MEMBERS-clause-ok g c =
+pub returns-then-is_full-clause-ok : goal.returns-then-is_full-clause-ok
+returns-then-is_full-clause-ok g c =
     let world = c.args.self.now.world in
-    let full : is_full world ≡ true = grind (arith, nat_tests, c.if-len-ge-MOST_MEMBERS.true, c.len.ensures.len) in
+    let full : is_full world ≡ true = sym c.is_full.ensures ∙ c.if-is_full.true in
     let is = c.full.ensures c.args.at in
     updates_none (splits_of c.args.begun.now) c.args.self.now c.args.self.now (Put c.args.id c.args.at) c.full.result is (ap is_change is ∙ put-full world c.args.id c.args.at full) refl
 
@@ -104,7 +103,7 @@ returns-clause-ok g c =
     let it =
     put_after w inside.size (splits_of c.args.begun.now) c.change-put.result.keeps_base (g.I.Index.leaves inside.index) (g.I.Index.leaves c.put_row.new.index) inside.members inside.crowded.names c.mark.new.crowded.names
     (g.met.I.Index.are_leaves inside.index) c.self.invariant.rows c.self.invariant.crowded id c.args.at none change keeps marks in
-    let room : is_full c.args.self.now.world ≡ false = grind (arith, nat_tests, c.if-len-ge-MOST_MEMBERS.false, c.len.ensures.len) in
+    let room : is_full c.args.self.now.world ≡ false = sym c.is_full.ensures ∙ c.if-is_full.false in
     rw (← c.self.view_is)
     (updates_some (splits_of c.args.begun.now) _ _ (Put id c.args.at) Done (put-done inside.members id c.args.at none (rw (← c.self.view_is) at room)) refl
     (record { world = added; bases = it.bases; settled = it.settled; size = refl }))
