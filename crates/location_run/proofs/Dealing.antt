@@ -190,6 +190,12 @@ module _ {I D O P : Type 0} (lock : TableId) (rows : List InRow) where
       one : IsDealt lock old.origin (suc n) (session_rows rows (suc n)) adds.lane
       one = subst (λ (o : List (ℕ × Op)). IsDealt lock old.origin (suc n) o adds.lane) is (subst (λ (l : TableId). IsDealt l old.origin (suc n) (r ∷ own) adds.lane) lock_is adds.dealt)
 
+-- the same lanes, pass and number
+pub dealt-same : {I D O P : Type 0} (lock : TableId) (rows : List InRow) (n m : ℕ) (lanes other : List (Lane I D O P)) (pass later : Known) → n ≡ m → other ≡ lanes → later ≡ pass → HasDealt lock rows m lanes pass
+    → HasDealt lock rows n other later
+dealt-same lock rows n m lanes other pass later number same is has =
+    subst (λ (k : ℕ). HasDealt lock rows k other later) (sym number) (subst (λ l. HasDealt lock rows m l later) (sym same) (subst (λ (k : Known). HasDealt lock rows m lanes k) (sym is) has))
+
 -- numbers up to this one
 abbrev UpTo : ℕ → List ℕ → Type 0
 UpTo n [] = ⊤

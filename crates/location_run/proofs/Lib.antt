@@ -10,6 +10,7 @@ pub mod PlayFacts
 pub mod TrialEnds
 pub mod StatusFacts
 pub mod Dealing
+pub mod Parting
 pub mod Joining
 pub mod Answering
 pub mod Objects

@@ -231,11 +231,15 @@ lines-put world h rows old mid now faults later i held result has end puts =
 pub told-is : (rows : List InRow) (i : ℕ) (row : InRow) (told : List ℕ) → HasTold rows i told → (get_or rows i row).session ≤ 16 → get_or told (get_or rows i row).session 0 ≡ before rows i (get_or rows i row).session
 told-is rows i row told has few = has.each (get_or rows i row).session few
 
+-- each row keeps the rules of its columns
+pub row-in : (rows : List InRow) → AllByRecursion IsInRow rows → (i : ℕ) (d : InRow) → i < length rows → IsInRow (get_or rows i d)
+row-in [] all i d lt = absurd (omega (arith, lt))
+row-in (r ∷ rows) (first, all) zero d lt = first
+row-in (r ∷ rows) (first, all) (suc i) d lt = row-in rows all i d (omega (arith, lt))
+
 -- a row's session is one of 1 to 16
 pub row-few : (rows : List InRow) → AllByRecursion IsInRow rows → (i : ℕ) (d : InRow) → i < length rows → (get_or rows i d).session ≤ 16
-row-few [] all i d lt = absurd (omega (arith, lt))
-row-few (r ∷ rows) (first, all) zero d lt = first.last
-row-few (r ∷ rows) (first, all) (suc i) d lt = row-few rows all i d (omega (arith, lt))
+row-few rows all i d lt = (row-in rows all i d lt).last
 
 abbrev pub no_kept : KeptRow
 no_kept = record { row = 0; place = 0; answer = Done; split = None }

@@ -1,8 +1,9 @@
 //! A lane for each session that has a row, and what lanes leave once their passes are joined.
-ghost use Rattle.std.specs.Prelude.{◌≡◌, ℕ, ◌+◌, ◌<◌, ◌≤◌, ◌++◌, [], length, vec_len, vec_capacity, false, IsTrue, IfOk, OnOk, OnErr};
+ghost use Rattle.std.specs.Prelude.{◌≡◌, ℕ, List, ◌+◌, ◌<◌, ◌≤◌, ◌++◌, [], length, vec_len, vec_capacity, false, IsTrue, IfOk, OnOk, OnErr};
 ghost use Rattle.lane_history.specs.Lanes.{AreCalm};
-ghost use Rattle.lane_history.specs.SessionRows.{session_rows};
-ghost use Rattle.location_run.specs.inside.Dealt.{HasDealt, AddsLane};
+ghost use Rattle.location_run.specs.inside.Dealt.{HasDealt, AddsLane, AreParted};
+ghost use Rattle.csv_rows.specs.InRows.{AreInRows};
+ghost use Rattle.csv_rows.specs.declared.rows.InRow.{InRow};
 ghost use Rattle.location_run.specs.inside.Joined.{AreIdle, Takes, ends_of};
 
 use book_lock::Pass;
@@ -12,6 +13,7 @@ use index_layer::Index;
 use plain_list::Op;
 use sessions::{KeptRow, Lane, SharedBook, Start, Store};
 use std::alloc::{AllocError, AllocFailed, Global};
+use std::mem;
 
 /// How many sessions there are: their numbers are 1 to 16.
 pub(crate) const SESSIONS: u8 = 16;
@@ -32,53 +34,45 @@ pub(crate) fn deal<I: Index, D: LogDisk, O: Start>(
     rows: &[InRow],
     lanes: &mut Vec<Lane<I, D, O>>,
 ) -> Result<(), AllocError>
-    requires rows { length rows.now ≤ 65536 }
+    requires rows { AreInRows rows.now }
     requires none { HasDealt store.now rows.now 0 lanes.old.items pass.old }
     ensures all { OnOk result (HasDealt store.now rows.now 16 lanes.new.items pass.new) }
     ensures some { (n : ℕ) × (n ≤ 16) × HasDealt store.now rows.now n lanes.new.items pass.new }
     ensures origin { pass.new.origin ≡ pass.old.origin }
 {
+    let mut own = part_rows(alloc, rows)?;
     for i in 0..SESSIONS {
-        deal_next(alloc, store, pass, rows, i, lanes)?;
+        let rows = mem::replace(&mut own[i as usize], Vec::new(alloc));
+        if !rows.is_empty() {
+            add_lane(alloc, store, pass, i + 1, rows, lanes)?;
+        }
     }
     Ok(())
 }
 
-// Makes the lane of the session behind the first n, where it has a row.
-fn deal_next<I: Index, D: LogDisk, O: Start>(
-    alloc: Global,
-    store: &Store<I, D, O>,
-    pass: &mut Pass<SharedBook<I, D, O>>,
-    rows: &[InRow],
-    n: u8,
-    lanes: &mut Vec<Lane<I, D, O>>,
-) -> Result<(), AllocError>
-    requires rows { length rows.now ≤ 65536 }
-    requires few { n < 16 }
-    requires dealt { HasDealt store.now rows.now n lanes.old.items pass.old }
-    ensures ok { OnOk result (HasDealt store.now rows.now (n + 1) lanes.new.items pass.new) }
-    ensures err { OnErr result (HasDealt store.now rows.now n lanes.new.items pass.new) }
-    ensures origin { pass.new.origin ≡ pass.old.origin }
+// The rows of each session, with their numbers, in the order of the sessions.
+fn part_rows(alloc: Global, rows: &[InRow]) -> Result<Vec<Vec<(u32, Op)>>, AllocError>
+    requires { AreInRows rows.now }
+    ensures { IfOk result (λ own. AreParted (λ v. v.items) rows.now (length rows.now) own.items) }
 {
-    let own = rows_of(alloc, rows, n + 1)?;
-    if own.is_empty() {
-        return Ok(());
+    let mut own = no_rows(alloc)?;
+    for (i, row) in rows.iter().enumerate() {
+        let Ok(()) = own[row.session as usize - 1].push((i as u32 + 1, row.op)) else {
+            return Err(AllocError);
+        };
     }
-    add_lane(alloc, store, pass, n + 1, own, lanes)
+    Ok(own)
 }
 
-// The rows of a session, with their numbers.
-fn rows_of(alloc: Global, rows: &[InRow], session: u8) -> Result<Vec<(u32, Op)>, AllocError>
-    requires { length rows.now ≤ 65536 }
-    ensures { IfOk result (λ own. own.items ≡ session_rows rows.now session) }
+// No rows for each session.
+fn no_rows(alloc: Global) -> Result<Vec<Vec<(u32, Op)>>, AllocError>
+    ensures { (rows : List InRow) → IfOk result (λ own. AreParted (λ v. v.items) rows 0 own.items) }
 {
-    let mut own = Vec::new(alloc);
-    for (i, row) in rows.iter().enumerate() {
-        if row.session == session {
-            let Ok(()) = own.push((i as u32 + 1, row.op)) else {
-                return Err(AllocError);
-            };
-        }
+    let mut own = Vec::with_capacity(alloc, SESSIONS as usize)?;
+    for _ in 0..SESSIONS {
+        let Ok(()) = own.push(Vec::new(alloc)) else {
+            return Err(AllocError);
+        };
     }
     Ok(own)
 }

@@ -1,5 +1,5 @@
 -- Lanes of sessions as they are dealt, before and after they run.
-use Rattle.std.specs.Prelude.{◌≡◌, ℕ, zero, suc, ◌+◌, ◌≤◌, List, [], ◌∷◌, ◌++◌, length, vec_len, vec_capacity, None, false, ⊤}
+use Rattle.std.specs.Prelude.{◌≡◌, ℕ, zero, suc, ◌+◌, ◌≤◌, List, [], ◌∷◌, ◌++◌, length, vec_len, vec_capacity, get_or, take, ◌<◌, None, false, ⊤}
 use Rattle.plain_list.specs.declared.ops.Op.{Op}
 use Rattle.csv_rows.specs.declared.rows.InRow.{InRow}
 use Rattle.atomic_table.specs.Seated.{TableId}
@@ -7,6 +7,16 @@ use Rattle.book_lock.specs.Pass.{Known}
 use Rattle.book_lock.specs.declared.origin.Origin.{Origin}
 use Rattle.sessions.specs.declared.store.lanes.Lane.{Lane}
 use Rattle.lane_history.specs.SessionRows.{session_rows}
+
+-- of each session its rows among the first n, at the place of its number less one
+pub record AreParted {V : Type 0} (items : V → List (ℕ × Op)) (rows : List InRow) (n : ℕ) (own : List V) : Type 0 where
+  pub size : length own ≡ 16
+  pub each : (s : ℕ) (d : V) → s < 16 → items (get_or own s d) ≡ session_rows (take n rows) (suc s)
+
+-- the rows of the sessions behind the first n are there, each by its number less one
+pub record AreLeft {V : Type 0} (items : V → List (ℕ × Op)) (rows : List InRow) (n : ℕ) (own : List V) : Type 0 where
+  pub size : length own ≡ 16
+  pub each : (s : ℕ) (d : V) → n ≤ s → s < 16 → items (get_or own s d) ≡ session_rows rows (suc s)
 
 -- the number, where there are rows
 abbrev pub one_if : ℕ → List (ℕ × Op) → List ℕ
