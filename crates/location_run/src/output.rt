@@ -9,7 +9,7 @@ ghost use Rattle.plain_list.specs.History.{world_after};
 ghost use Rattle.world_sums.specs.Sums.{sums_of};
 ghost use Rattle.location_run.specs.Lines.{lines_of, text_of, summary_of};
 ghost use Rattle.location_run.specs.Status.{written_status};
-ghost use Rattle.location_run.specs.inside.Answered.{kept_of, HasNumbers, HasAnswers, HasObjects};
+ghost use Rattle.location_run.specs.inside.Answered.{kept_of, HasLanes, HasNumbers, HasAnswers, HasObjects};
 
 use crate::lanes::LaneEnd;
 use crate::reports::Report;
@@ -79,14 +79,28 @@ fn write_lines<K: Sink>(sink: &mut K, rows: &[InRow], ends: &[LaneEnd]) -> Resul
 {
     let mut lines = Gathered::new();
     lines.add_title(sink)?;
+    let by_session = by_session(ends);
+    let lanes = &by_session[..];
     let mut told = [0usize; SLOTS];
     for row in rows.iter() {
         let session = row.session as usize;
-        let kept = &kept_of(ends, row.session)[told[session]];
+        let lane = lanes[session];
+        let kept = &lane[told[session]];
         lines.add_line(sink, kept.row, kept.place, &kept.answer)?;
         told[session] += 1;
     }
     lines.finish(sink)
+}
+
+// What the lane of each session kept, at the place of its number.
+fn by_session(ends: &[LaneEnd]) -> [&[KeptRow]; SLOTS]
+    ensures { HasLanes (λ kept. kept.now) ends.now 17 result }
+{
+    let mut lanes: [&[KeptRow]; SLOTS] = [&[]; SLOTS];
+    for i in 0..SLOTS {
+        lanes[i] = kept_of(ends, i as u8);
+    }
+    lanes
 }
 
 // What the lane of a session kept.

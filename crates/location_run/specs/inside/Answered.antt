@@ -1,5 +1,5 @@
 -- What lanes kept for the rows of their sessions, and books whose rows were played.
-use Rattle.std.specs.Prelude.{◌≡◌, ◌⊎◌, ℕ, ◌==◌, Bool, List, [], ◌∷◌, map, if◌then◌else◌, Option, Some, None}
+use Rattle.std.specs.Prelude.{◌≡◌, ◌⊎◌, ℕ, ◌<◌, length, get_or, ◌==◌, Bool, List, [], ◌∷◌, map, if◌then◌else◌, Option, Some, None}
 use Rattle.zorder.specs.declared.points.Placed.{Placed}
 use Rattle.plain_list.specs.declared.ops.Op.{Op}
 use Rattle.plain_list.specs.declared.entries.Entry.{Entry}
@@ -30,6 +30,11 @@ use Rattle.location_run.specs.inside.Books.{count_in}
 abbrev pub kept_of : ℕ → List LaneEnd → List KeptRow
 kept_of s [] = []
 kept_of s (end ∷ ends) = if end.session == s then end.kept.items else kept_of s ends
+
+-- what the lanes of the sessions below this number kept stands at the places of their numbers
+pub record HasLanes {V : Type 0} (kept : V → List KeptRow) (ends : List LaneEnd) (n : ℕ) (lanes : List V) : Type 0 where
+  pub size : length lanes ≡ 17
+  pub each : (s : ℕ) (d : V) → s < n → kept (get_or lanes s d) ≡ kept_of s ends
 
 -- rows that were kept have the numbers of a session's rows, and their places and answers are those of the history
 pub record AreAnswers (world : List Placed) (h : List Entry) (rows : List (ℕ × Op)) (kept : List KeptRow) : Type 0 where

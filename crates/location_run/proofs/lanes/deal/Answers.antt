@@ -26,7 +26,7 @@ loop-i-preserved g c =
     let taken : own.items ≡ session_rows rows (suc i) = ap (λ (v : Vec (ℕ × Op) Global). v.items) (c.replace-rows.ensures.value ∙ c.index_mut.ensures.value) ∙ c.loop-i.invariant.2.each i _ (omega arith) c.loop-i-test.true in
     let less = left-less (λ v. v.items) rows i c.loop-i.own.items c.replace-rows.new.dest c.loop-i.invariant.2 in
     elim c.if-not-is_empty.branch [
-      then-not-is_empty+in_ok-add_lane w ↦ (
+      | then-not-is_empty+in_ok-add_lane w ↦ (
         dealt-same store rows (i + 1) (suc i) w.add_lane.new.lanes.items _ w.add_lane.new.pass _ (add-one i) (ap (λ v. v.items) w.lanes-is) w.pass-is
             (deal-more store rows i c.loop-i.lanes.items w.add_lane.new.lanes.items c.loop-i.pass w.add_lane.new.pass own.items own.len taken own.ok.0 (sym c.is_empty.ensures ∙ w.if-not-is_empty.true) c.loop-i.invariant.0
             (subst (λ (k : ℕ). AddsLane k own.items c.loop-i.pass w.add_lane.new.pass c.loop-i.lanes.items w.add_lane.new.lanes.items) (add-one i) w.in_ok-add_lane.ensures.ok)),

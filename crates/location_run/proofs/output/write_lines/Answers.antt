@@ -13,15 +13,18 @@ returns-in_err-add_title-clause-bytes g c = λ world h answers.
     let lost = c.in_err-add_title.ensures.bytes in
     title-lost world h c.args.rows.now _ _ c.new-lines.result lost.0 c.from_residual.result c.new-lines.ensures lost.1 c.from_residual.ensures.0
 
-pub offset_bounds-kept_of-told : goal.offset_bounds-kept_of-told
-offset_bounds-kept_of-told g c =
+pub offset_bounds-lane-told : goal.offset_bounds-lane-told
+offset_bounds-lane-told g c =
     let few = told-few c.args.rows.now c.args.ends.now c.loop-row.row-index blank c.loop-row.told c.requires.rows c.requires.numbers c.loop-row.invariant.0 c.loop-row-test.true in
     omega (arith, few.1)
 
-pub bounds-kept_of-told : goal.bounds-kept_of-told
-bounds-kept_of-told g c =
-    let few = told-few c.args.rows.now c.args.ends.now c.loop-row.row-index blank c.loop-row.told c.requires.rows c.requires.numbers c.loop-row.invariant.0 c.loop-row-test.true in
-    omega (arith, few.0, ap length c.kept_of.ensures)
+pub bounds-lane-told : goal.bounds-lane-told
+bounds-lane-told g c =
+    let rows = c.args.rows.now in
+    let i = c.loop-row.row-index in
+    let few = told-few rows c.args.ends.now i blank c.loop-row.told c.requires.rows c.requires.numbers c.loop-row.invariant.0 c.loop-row-test.true in
+    let lane : c.index-lanes-session.result.now ≡ kept_of (get_or rows i blank).session c.args.ends.now = ap (λ v. v.now) c.index-lanes-session.is ∙ c.by_session-by_session.ensures.each (get_or rows i blank).session _ (omega (arith, row-few rows c.requires.rows.each i blank c.loop-row-test.true)) in
+    omega (arith, few.0, ap length lane)
 
 pub returns-in_err-add_line-clause-bytes : goal.returns-in_err-add_line-clause-bytes
 returns-in_err-add_line-clause-bytes g c = λ world h answers.
@@ -29,8 +32,9 @@ returns-in_err-add_line-clause-bytes g c = λ world h answers.
     let ends = c.args.ends.now in
     let i = c.loop-row.row-index in
     let told = told-is rows i blank c.loop-row.told c.loop-row.invariant.0 (row-few rows c.requires.rows.each i blank c.loop-row-test.true) in
-    let k = c.index-kept_of-told.result in
-    let is : get_or (kept_of (get_or rows i blank).session ends) (before rows i (get_or rows i blank).session) k ≡ k = (λ j. get_or ((sym c.kept_of.ensures) j) ((sym told) j) k) ∙ sym c.index-kept_of-told.is in
+    let k = c.index-lane-told.result in
+    let lane : c.index-lanes-session.result.now ≡ kept_of (get_or rows i blank).session ends = ap (λ v. v.now) c.index-lanes-session.is ∙ c.by_session-by_session.ensures.each (get_or rows i blank).session _ (omega (arith, row-few rows c.requires.rows.each i blank c.loop-row-test.true)) in
+    let is : get_or (kept_of (get_or rows i blank).session ends) (before rows i (get_or rows i blank).session) k ≡ k = (λ j. get_or ((sym lane) j) ((sym told) j) k) ∙ sym c.index-lane-told.is in
     let lost = c.in_err-add_line.ensures.bytes in
     line-lost world h rows ends answers _ _ _ _ _ i blank k c.loop-row.lines lost.0 c.loop-row-test.true is (c.loop-row.invariant.2 world h answers) lost.1 c.from_residual-in_err-add_line.result c.from_residual-in_err-add_line.ensures.0
 
@@ -46,8 +50,9 @@ loop-row-preserved g c =
     let i = c.loop-row.row-index in
     let few = row-few rows c.requires.rows.each i blank c.loop-row-test.true in
     let told = told-is rows i blank c.loop-row.told c.loop-row.invariant.0 few in
-    let k = c.index-kept_of-told.result in
-    let is : get_or (kept_of (get_or rows i blank).session ends) (before rows i (get_or rows i blank).session) k ≡ k = (λ j. get_or ((sym c.kept_of.ensures) j) ((sym told) j) k) ∙ sym c.index-kept_of-told.is in (
+    let k = c.index-lane-told.result in
+    let lane : c.index-lanes-session.result.now ≡ kept_of (get_or rows i blank).session ends = ap (λ v. v.now) c.index-lanes-session.is ∙ c.by_session-by_session.ensures.each (get_or rows i blank).session _ (omega (arith, row-few rows c.requires.rows.each i blank c.loop-row-test.true)) in
+    let is : get_or (kept_of (get_or rows i blank).session ends) (before rows i (get_or rows i blank).session) k ≡ k = (λ j. get_or ((sym lane) j) ((sym told) j) k) ∙ sym c.index-lane-told.is in (
       told-more rows i blank c.loop-row.told _ c.loop-row.invariant.0 c.loop-row-test.true few refl,
       c.in_ok-add_line.ensures.cause.same ∙ c.loop-row.invariant.1,
       λ world h answers.
