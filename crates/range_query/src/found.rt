@@ -78,6 +78,8 @@ pub fn found_in<I: Index, L: Ledger>(
         return Ok(Answer::Many(found.count));
     }
     found.list.sort_unstable_by_key(|m| m.id);
+    // Answers are kept for long: what room is left goes back.
+    found.list.shrink_to_fit();
     Ok(Answer::Found(PlacedList::from_vec(found.list)))
 }
 

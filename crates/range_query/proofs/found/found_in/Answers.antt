@@ -74,7 +74,7 @@ returns-clause-answer g c world names is_world stands =
     IsPermutation-trans (members_in region world) (members_in region (objects_of (all_rows leaves))) ys moved (subst (λ (l : List Placed). IsPermutation l ys) found c.sort_unstable_by_key.ensures.permutation) in
     let sorted = c.sort_unstable_by_key.ensures.sorted (λ m. m.id) (always_returns_same _ _ _ (λ a r q k. search rules)) in
     listed-found (members_in region world) (members_in region (objects_of (all_rows leaves))) c.from_vec.result c.list_below.new.found.count moved (is.0 ∙ ap length held) (omega (arith, c.if-found-gt-MOST_LISTED.false))
-    (c.from_vec.ensures ∙ same_as_rising (members_in region world) ys (IsRising-members_in region world is_world.rising) perm sorted)
+    (c.from_vec.ensures ∙ c.shrink_to_fit.ensures.items ∙ same_as_rising (members_in region world) ys (IsRising-members_in region world is_world.rising) perm sorted)
 
 pub returns-clause-opened : goal.returns-clause-opened
 returns-clause-opened g c =
