@@ -13,7 +13,7 @@ use Rattle.plain_list.specs.declared.entries.Entry.TheVariants.{Fail, Call, Begi
 use Rattle.plain_list.specs.Answer.{answer_of, after_of}
 use Rattle.plain_list.specs.History.{world_after, replies, reply_at, call_count}
 use Rattle.plain_list.specs.Played.{calls_of, IsPlayed}
-use Rattle.plain_list.proofs.Histories.{replies-append, length-replies}
+use Rattle.plain_list.proofs.Histories.{replies-append, length-replies, call_count-append}
 use Rattle.csv_rows.specs.declared.rows.InRow.{InRow}
 use Rattle.book_lock.specs.Own.{times}
 use Rattle.book_lock.proofs.Positions.{one_same, times-append}
@@ -22,14 +22,6 @@ use Rattle.lane_history.specs.SessionRows.{session_rows}
 use Rattle.lane_history.specs.SessionRows.{row_place, row_place_from}
 use Rattle.lane_history.proofs.CallsOf.{calls-append, calls-prefix, calls-one}
 use Rattle.lane_history.proofs.Numbers.{numbers, numbers-append, numbers-once, numbers-single, times-prefix}
-
-pub count-append : (h g : List Entry) → call_count (h ++ g) ≡ call_count h + call_count g
-count-append [] g = omega arith
-count-append (Call session row op ∷ h) g = let e = count-append h g in omega arith
-count-append (Begin number name ∷ h) g = count-append h g
-count-append (Install number ∷ h) g = count-append h g
-count-append (Abandon number ∷ h) g = count-append h g
-count-append (Fail cell lost ∷ h) g = count-append h g
 
 -- no call of any session has this number
 abbrev pub HasNone : ℕ → List Entry → Type 0
@@ -101,7 +93,7 @@ module _ (rows : List InRow) (h before : List Entry) (s row : ℕ) (op : Op) (pl
   place-of =
       ap (row_place row) (sym stands.1 ∙ append_cons)
       ∙ first-place 0 row s op before stands.0 none-before
-      ∙ ap Some (let e = count-append before (Call s row op ∷ []) in let f : 0 + call_count before + 1 ≡ call_count (before ++ Call s row op ∷ []) = omega arith in f)
+      ∙ ap Some (let e = call_count-append before (Call s row op ∷ []) in let f : 0 + call_count before + 1 ≡ call_count (before ++ Call s row op ∷ []) = omega arith in f)
     where
       append_cons : (before ++ Call s row op ∷ []) ++ stands.0 ≡ before ++ Call s row op ∷ stands.0
       append_cons = append_assoc before (Call s row op ∷ []) stands.0
@@ -120,4 +112,4 @@ reply-of world h before s row op (rest, is) =
     ∙ get-behind (replies world before) (answer_of (world_after world before) op) (replies (after_of (world_after world before) op) rest)
   where
     place : call_count (before ++ Call s row op ∷ []) ≡ suc (call_count before)
-    place = let e = count-append before (Call s row op ∷ []) in omega arith
+    place = let e = call_count-append before (Call s row op ∷ []) in omega arith
