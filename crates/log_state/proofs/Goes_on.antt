@@ -6,6 +6,7 @@ use Rattle.std.specs.List.{filter}
 use Rattle.std.specs.Cmp.{first_so, second_so}
 use Rattle.std.specs.Cmp.Derive.{both_true}
 use Rattle.std.proofs.lemmas.Bool.{cases_Bool, eqb-true, lt-ltb, ltb-true}
+use Rattle.std.proofs.lemmas.Option.{none-some, same_Some}
 use Rattle.std.proofs.lemmas.List.Elements.{filter-append}
 use Rattle.zorder.specs.declared.points.Placed.{Placed}
 use Rattle.zorder.specs.SameName.{same_name}
@@ -43,12 +44,6 @@ pub filter-and : {A : Type 0} (p q : A → Bool) (xs : List A) → filter p (fil
 filter-and p q [] = refl
 filter-and p q (x ∷ xs) = swapped p q x (filter p xs) (filter q xs) (filter-and p q xs) (p x) (q x) refl refl
 
-some-is : {A : Type 0} (x y : A) → Some x ≡ Some y → x ≡ y
-some-is x y e = cc e
-
-none-some : {A : Type 0} (x : A) → None ≡ Some x → ⊥
-none-some x e = cc e
-
 chosen : {A : Type 0} (b : Bool) (x y z : A) → cond b x y ≡ z → ((b ≡ true) × (x ≡ z)) ⊎ ((b ≡ false) × (y ≡ z))
 chosen true x y z e = inl (refl, e)
 chosen false x y z e = inr (refl, e)
@@ -57,7 +52,7 @@ kept_or : (t : Bool) (s : OpenSplit) (rest : List OpenSplit) (n : ℕ) (name : L
     → ((t ≡ true) × ((s.number == n) ≡ true) × (s.name ≡ name)) ⊎ (split_name rest n ≡ Some name)
 kept_or false s rest n name e = inr e
 kept_or true s rest n name e = elim (chosen (s.number == n) (Some s.name) (split_name rest n) (Some name) e) [
-  | inl this ↦ inl (refl, this.0, some-is s.name name this.1)
+  | inl this ↦ inl (refl, this.0, same_Some s.name name this.1)
   | inr other ↦ inr other.1
 ]
 
