@@ -3,6 +3,7 @@ use Rattle.std.proofs.Common.{◌≡◌, inl, inr, ℕ, Bool, true, false, cond,
 use mathlib.Core.List.{IsPrefix}
 use Rattle.std.specs.Prelude.{IfErr, IfOk, ⊤, ◌==◌, ◌&&◌, length}
 use Rattle.std.specs.Option.{option_map}
+use Rattle.std.proofs.lemmas.Bool.{and_right}
 use Rattle.plain_list.specs.declared.ops.Op.{Op}
 use Rattle.plain_list.specs.declared.ops.Op.TheVariants.{Put, Move, Remove, Find, Within, Near}
 use Rattle.plain_list.specs.declared.ops.Answer.{Answer}
@@ -42,7 +43,7 @@ use Rattle.sessions.specs.Splits.{SamePass}
 use Rattle.sessions.specs.declared.faults.CallFault.{CallFault}
 use Rattle.sessions.specs.declared.faults.CallFault.TheVariants as call
 use Rattle.sessions.proofs.Origins.{same-origin, start-of-origin}
-use Rattle.sessions.proofs.StepLemmas.{WasTaken, BookStep, stepped, same-added, same-seen}
+use Rattle.sessions.proofs.StepLemmas.{WasTaken, BookStep, first-none, stepped, same-added, same-seen}
 
 told-update : (w : ℕ) (op : Op) (pass : Known) → IsUpdate op → told_full w op pass ≡ next_full w pass
 told-update w (Put id at) pass is = refl
@@ -73,19 +74,11 @@ query-quiet world (Find id) is = absurd is
 query-quiet world (Within region) is = listed-quiet _ (members_in region world) (length (members_in region world))
 query-quiet world (Near at k) is = refl
 
-and-false : (b c : Bool) → c ≡ false → (b && c) ≡ false
-and-false true c is = is
-and-false false c is = refl
-
-first-none : (cause : Option BookFault) → first_of cause None ≡ cause
-first-none (Some cause) = refl
-first-none None = refl
-
 -- so the log is never in its way
 query-cause : (origin : Origin) (op : Op) (cells : ℕ) (before : List Entry) → IsQuery op → call_cause origin op cells before ≡ call_refusal before
 query-cause origin op cells before is =
     let quiet : ((cells == most_cells) && is_change (answer_of (world_after origin.world before) op)) ≡ false =
-    and-false (cells == most_cells) (is_change (answer_of (world_after origin.world before) op)) (query-quiet (world_after origin.world before) op is) in
+    and_right (cells == most_cells) (is_change (answer_of (world_after origin.world before) op)) (query-quiet (world_after origin.world before) op is) in
     (λ i. first_of (call_refusal before) (cond (quiet i) (Some book.LogFull) None)) ∙ first-none (call_refusal before)
 
 module _ {D : Type 0} (drive : D → Drive) (w : ℕ) (b mid : BookView D) (old took back : Known) (session row : ℕ) (op : Op) (was : WasTaken drive b old took) (books : AreBooks drive w b mid) where

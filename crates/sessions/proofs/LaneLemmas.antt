@@ -1,5 +1,5 @@
 -- Lanes, row by row.
-use Rattle.std.proofs.Common.{◌≡◌, ℕ, suc, ◌+◌, ◌<◌, ◌≤◌, false, List, [], ◌∷◌, ◌++◌, length, take, drop, Option, Err, refl, sym, ap, subst, ◌∙◌, arith}
+use Rattle.std.proofs.Common.{◌≡◌, ℕ, suc, ◌+◌, ◌<◌, ◌≤◌, List, [], ◌∷◌, ◌++◌, length, take, drop, Option, Err, refl, sym, ap, subst, ◌∙◌, arith}
 use Rattle.std.specs.Prelude.{slice_index_or}
 use Rattle.std.proofs.lemmas.List.{append-nil, take_all, take_more, take-append-drop}
 use Rattle.std.proofs.Math.Seq.{drop-cons}
@@ -11,7 +11,6 @@ use Rattle.sessions.specs.declared.faults.CallFault.{CallFault}
 use Rattle.sessions.specs.declared.store.lanes.Lane.{Lane}
 use Rattle.sessions.specs.declared.store.lanes.KeptRow.{KeptRow}
 use Rattle.sessions.specs.Calls.{Called}
-use Rattle.sessions.specs.Splits.{SamePass}
 use Rattle.sessions.specs.Lanes.{IsReady, Keeps, KeepsAll, Stops, Plays, KeepsOne, StopsAt, PlaysTo}
 use Rattle.sessions.proofs.StepLemmas.{same-later}
 use Rattle.sessions.proofs.SplitLemmas.{same-none}
@@ -89,6 +88,3 @@ module _ {I D O P : Type 0} (w : ℕ) where
         keeps = subst (λ (kept : List KeptRow). KeepsAll w old.session old.pass (take i old.rows.items) kept mid.pass) (sym stop.kept) plays.keeps;
         stops = subst (λ (fault : Option CallFault). Stops w old.session mid.pass new.pass (r ∷ drop (suc i) old.rows.items) fault) (sym stop.fault_is) called;
       }
-
-pub ready-pass : {I D O P : Type 0} (lock : TableId) (old new : Lane I D O P) → IsReady lock old → SamePass old.pass new.pass → (new.pass.lock ≡ lock) × (new.pass.holds ≡ false)
-ready-pass lock old new ready same = (ap (λ (k : Known). k.lock) same.1 ∙ ready.lock_is, ap (λ (k : Known). k.holds) same.1 ∙ ready.off)

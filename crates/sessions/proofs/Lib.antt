@@ -1,7 +1,6 @@
 pub mod WorldSteps
 pub mod Origins
 pub mod Sent
-pub mod SameRows
 pub mod LiveSplits
 pub mod StepLemmas
 pub mod OpenLemmas

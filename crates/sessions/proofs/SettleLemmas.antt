@@ -14,7 +14,7 @@ use Rattle.commit_book.specs.IsBook.{most_events}
 use Rattle.commit_book.specs.Refusals.{IsRefusedBy, IsDisk, IsMemoryOrDisk, first_of, closed_refusal, room_refusal, leaf_refusal, end_refusal, most_cells}
 use Rattle.commit_book.specs.declared.faults.BookFault.{BookFault}
 use Rattle.commit_book.specs.declared.faults.BookFault.TheVariants as book
-use Rattle.commit_book.proofs.RefusalLemmas.{number-none, leaf-split}
+use Rattle.commit_book.proofs.RefusalLemmas.{going_on, number-none, leaf-split}
 use Rattle.commit_book.proofs.SplitCalls.{full_leaf-free}
 use Rattle.book_lock.specs.Pass.{Known}
 use Rattle.book_lock.specs.declared.origin.Origin.{Origin}
@@ -24,6 +24,7 @@ use Rattle.sessions.specs.Splits.{BeginsSplit, GivesUp, RanOut, NotInstalled, Sp
 use Rattle.sessions.specs.Settles.{SplitsAll, IsNextFault, SplitFault}
 use Rattle.sessions.specs.declared.faults.Split.{Split}
 use Rattle.sessions.specs.declared.faults.Split.TheVariants.{Installed, NotSplit}
+use Rattle.sessions.proofs.StepLemmas.{first-none}
 use Rattle.sessions.proofs.CallLemmas.{AreCauses, causes-if, refused-cause}
 
 memory-next : (fault : BookFault) → fault ≡ book.Memory → IsNextFault fault
@@ -46,10 +47,6 @@ free-next : (fault : BookFault) → IsMemoryOrDisk fault → IsNextFault fault
 free-next fault (inl memory) = memory-next fault memory
 free-next fault (inr disk) = disk-next fault disk
 
-no-later : (o : Option BookFault) → first_of o None ≡ o
-no-later (Some cause) = refl
-no-later None = refl
-
 -- the begin of the next leaf's split is refused for want of room alone
 begin-room : (w : ℕ) (old : Known) (name : List Bool) (cells : ℕ) (before : List Entry) → before ≡ old.seen → closed_refusal old.seen ≡ None → next_full w old ≡ Some name
     → begin_cause w old.origin name cells before ≡ room_refusal cells (length before)
@@ -60,13 +57,13 @@ begin-room w old name cells before same unclosed full =
     (λ i. first_of (closed_refusal (same i)) (first_of room (leaf_refusal w (state_of w old.origin (same i)) name)))
     ∙ (λ i. first_of (unclosed i) (first_of room (leaf_refusal w s name)))
     ∙ ap (first_of room) (leaf-split w s name free.leaf free.short ∙ ap (option_map book.Splitting) (number-none s.splits name free.free))
-    ∙ no-later room
+    ∙ first-none room
 
 room-next : (cells events : ℕ) → AreCauses IsNextFault (room_refusal cells events)
 room-next cells events = causes-if IsNextFault (nat_lt 16000000 cells || nat_lt 4000000 events) (book.Room cells events) tt
 
 -- where there was room
-has-room : (cells events : ℕ) → room_refusal cells events ≡ None → (events ≤ 4000000) × (cells ≤ 16000000)
+pub has-room : (cells events : ℕ) → room_refusal cells events ≡ None → (events ≤ 4000000) × (cells ≤ 16000000)
 has-room cells events none = by_tests (nat_lt 16000000 cells) (nat_lt 4000000 events) refl refl none
   where
     by_tests : (a b : Bool) → nat_lt 16000000 cells ≡ a → nat_lt 4000000 events ≡ b → cond (a || b) (Some (book.Room cells events)) None ≡ None → (events ≤ 4000000) × (cells ≤ 16000000)
@@ -74,7 +71,7 @@ has-room cells events none = by_tests (nat_lt 16000000 cells) (nat_lt 4000000 ev
     by_tests false true other is none = absurd (cc)
     by_tests false false few less none = (ltb-false 4000000 events less, ltb-false 16000000 cells few)
 
-room-cells : (origin : Origin) (before : List Entry) (cells : ℕ) → AreCells origin before cells → cells ≤ 16000000 → cells_after origin before ≤ 16000000
+pub room-cells : (origin : Origin) (before : List Entry) (cells : ℕ) → AreCells origin before cells → cells ≤ 16000000 → cells_after origin before ≤ 16000000
 room-cells origin before cells (inl is) few = subst (λ (n : ℕ). n ≤ 16000000) is few
 room-cells origin before cells (inr (none, first, less)) few = omega arith
 
@@ -103,23 +100,17 @@ end-free before after number cells name is going few less =
     let full : (cells == most_cells) ≡ false = not-equal cells most_cells (omega arith) in
     λ i. first_of (first_of (option_map book.Closed (unclosed i)) (cond (events i) (Some book.HistoryFull) None)) (cond (full i) (Some book.LogFull) None)
 
-going-none : (h : List Entry) → closed_refusal h ≡ None → failed_cell h ≡ None
-going-none h is = by_cases (failed_cell h) is
-  where
-    by_cases : (o : Option ℕ) → option_map book.Closed o ≡ None → o ≡ None
-    by_cases None is = refl
-    by_cases (Some cell) is = absurd (cc is)
+-- what was done was refused for no cause
+pub allowed : (cause : Option BookFault) (number : ℕ) → IsRefusedBy IsMemoryOrDisk cause (Ok number) → cause ≡ None
+allowed None number refused = refl
+allowed (Some cause) number refused = absurd (cc refused)
 
 module _ (w : ℕ) (old mid : Known) (number : ℕ) (name : List Bool) (all : old.parts ≡ all_parts) (unclosed : closed_refusal old.seen ≡ None) (full : next_full w old ≡ Some name) (begins : BeginsSplit w name old mid (Ok number)) where
   begun-room : (length begins.before ≤ 4000000) × (begins.cells ≤ 16000000)
-  begun-room = has-room begins.cells (length begins.before) (sym (begin-room w old name begins.cells begins.before (begins.alone all) unclosed full) ∙ allowed (begin_cause w old.origin name begins.cells begins.before) begins.refused)
-    where
-      allowed : (cause : Option BookFault) → IsRefusedBy IsMemoryOrDisk cause (Ok number) → cause ≡ None
-      allowed None refused = refl
-      allowed (Some cause) refused = absurd (cc refused)
+  begun-room = has-room begins.cells (length begins.before) (sym (begin-room w old name begins.cells begins.before (begins.alone all) unclosed full) ∙ allowed (begin_cause w old.origin name begins.cells begins.before) number begins.refused)
 
   going : failed_cell begins.before ≡ None
-  going = going-none begins.before (ap closed_refusal (begins.alone all) ∙ unclosed)
+  going = going_on begins.before (ap closed_refusal (begins.alone all) ∙ unclosed)
 
   mid-seen : mid.seen ≡ begins.before ++ Begin number name ∷ []
   mid-seen = ap (λ (k : Known). k.seen) begins.leaves

@@ -172,17 +172,17 @@ abandoned-added b mid number (Ok done) ok = ok.entries
 abandoned-added b mid number (Err fault) ok = tt
 
 -- what a split leaves is the pass with more seen and own
-begins-same : (w : ℕ) (name : List Bool) (old new : Known) (r : Result ℕ BookFault) → BeginsSplit w name old new r → SamePass old new
+pub begins-same : (w : ℕ) (name : List Bool) (old new : Known) (r : Result ℕ BookFault) → BeginsSplit w name old new r → SamePass old new
 begins-same w name old new r step =
     step-same IsMemoryOrDisk (begin_cause w old.origin name) (λ (number : ℕ). Begin number name) (λ (h : List Entry). lost.Begin ((state_of w old.origin h).begun + 1) name) (IsNextSplit w old.origin) old new r step
 
 pub installs-same : (w number : ℕ) (old new : Known) (r : Result (Unit {0}) BookFault) → InstallsSplit w number old new r → SamePass old new
 installs-same w number old new r ends = step-same IsMemoryOrDisk end_refusal (λ (done : Unit {0}). Install number) (λ (h : List Entry). lost.Install number) (λ (h : List Entry) (done : Unit {0}). ⊤) old new r ends.step
 
-abandons-same : (w number : ℕ) (old new : Known) (r : Result (Unit {0}) BookFault) → AbandonsSplit w number old new r → SamePass old new
+pub abandons-same : (w number : ℕ) (old new : Known) (r : Result (Unit {0}) BookFault) → AbandonsSplit w number old new r → SamePass old new
 abandons-same w number old new r ends = step-same IsDisk end_refusal (λ (done : Unit {0}). Abandon number) (λ (h : List Entry). lost.Abandon number) (λ (h : List Entry) (done : Unit {0}). ⊤) old new r ends.step
 
-gives-same : (w number : ℕ) (old new : Known) (fault : BookFault) → GivesUp w number old new fault → SamePass old new
+pub gives-same : (w number : ℕ) (old new : Known) (fault : BookFault) → GivesUp w number old new fault → SamePass old new
 gives-same w number old new fault (inl (memory, step)) = abandons-same w number old new (Ok tt) step
 gives-same w number old new fault (inr step) = abandons-same w number old new (Err fault) step
 
@@ -193,7 +193,7 @@ ran-same : (w number : ℕ) (mid seen : Known) → RanOut w number mid seen → 
 ran-same w number mid seen (inl same) = subst (SamePass mid) (sym same) (same-none mid)
 ran-same w number mid seen (inr step) = installs-same w number mid seen (Err book.Memory) step
 
-not-same : (w number : ℕ) (mid new : Known) (fault : BookFault) → NotInstalled w number mid new fault → SamePass mid new
+pub not-same : (w number : ℕ) (mid new : Known) (fault : BookFault) → NotInstalled w number mid new fault → SamePass mid new
 not-same w number mid new fault (inl (lasting, step)) = installs-same w number mid new (Err fault) step
 not-same w number mid new fault (inr (seen, ran, gives)) = same-later mid seen new (ran-same w number mid seen ran) (gives-same w number seen new fault gives)
 
@@ -206,8 +206,3 @@ split-same w name old new (NotSplit fault) (inr (number, mid, begins, not)) = sa
 pub given-up : (w number : ℕ) (name : List Bool) (old mid seen new : Known) (split : Split) → BeginsAs w name old mid number → RanOut w number mid seen → IsNotSplit (GivesUp w number seen new) split → SplitEnds w name old new split
 given-up w number name old mid seen new (Installed n) begins ran not = absurd not
 given-up w number name old mid seen new (NotSplit fault) begins ran not = inr (number, mid, begins, inr (seen, ran, not))
-
--- the pass that has begun a split lost nothing where memory ran out
-pub ran-later : (w number : ℕ) (name : List Bool) (base : List Row) (mid seen : Known) → InstallsSplit w number mid seen (Err book.Memory) → HasBegun mid number name base → HasBegun seen number name base
-ran-later w number name base mid seen ends begun =
-    begun-later mid seen number name base (installs-same w number mid seen (Err book.Memory) ends).0 (ap (λ (k : Known). k.own) ends.step.leaves) (ap (λ (k : Known). k.origin) ends.step.leaves) begun

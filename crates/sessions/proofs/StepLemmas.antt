@@ -1,22 +1,21 @@
 -- One step under the lock: what it leaves of a pass.
-use Rattle.std.proofs.Common.{◌≡◌, ◌⊎◌, inl, inr, ℕ, ◌+◌, ◌≤◌, Bool, true, false, cond, List, [], ◌∷◌, ◌++◌, length, Option, Some, None, Result, Ok, Err, refl, sym, ap, subst, ◌∙◌, append_assoc, length-append, arith}
+use Rattle.std.proofs.Common.{◌≡◌, ◌⊎◌, inl, inr, ℕ, ◌+◌, ◌≤◌, Bool, true, false, List, [], ◌∷◌, ◌++◌, length, Option, Some, None, Result, Ok, Err, refl, sym, ap, subst, ◌∙◌, append_assoc, arith}
 use mathlib.Core.List.{IsPrefix}
 use Rattle.std.specs.Prelude.{IfErr}
-use Rattle.zorder.specs.declared.points.Placed.{Placed}
 use Rattle.plain_list.specs.declared.ops.Op.{Op}
 use Rattle.plain_list.specs.declared.ops.Op.TheVariants as op
 use Rattle.plain_list.specs.declared.entries.Entry.{Entry}
-use Rattle.plain_list.specs.declared.entries.Entry.TheVariants.{Call, Begin, Install, Abandon, Fail}
+use Rattle.plain_list.specs.declared.entries.Entry.TheVariants.{Call, Begin, Fail}
 use Rattle.plain_list.specs.declared.entries.Lost.{Lost}
-use Rattle.plain_list.specs.Answer.{answer_of, after_of, is_change}
 use Rattle.plain_list.specs.State.{State}
 use Rattle.disk_trait.specs.Drive.{Drive}
-use Rattle.log_state.specs.Changes.{change_cells, cells_of}
+use Rattle.log_state.specs.Changes.{cells_of}
+use Rattle.log_state.proofs.CellCounts.{cells-few}
 use Rattle.kept_log.specs.KeptView.{KeptView}
 use Rattle.kept_log.specs.Journal.{KeepsIn, cells_in}
 use Rattle.commit_book.specs.BookView.{BookView}
 use Rattle.commit_book.specs.IsBook.{IsBook, most_events}
-use Rattle.commit_book.specs.Refusals.{IsRefusedBy, LeavesRefused}
+use Rattle.commit_book.specs.Refusals.{IsRefusedBy, LeavesRefused, first_of}
 use Rattle.commit_book.specs.declared.faults.BookFault.{BookFault}
 use Rattle.commit_book.specs.declared.faults.BookFault.TheVariants.{Closed, Disk, HistoryFull, LogFull, Memory, Room, Splitting, Deep, NoLeaf, Stale, NotOpen}
 use Rattle.book_lock.specs.Pass.{Known}
@@ -29,31 +28,6 @@ use Rattle.sessions.specs.Splits.{SamePass}
 pub prefix-later : (xs ys zs : List Entry) → IsPrefix xs ys → IsPrefix ys zs → IsPrefix xs zs
 prefix-later xs ys zs (a, p) (b, q) = (a ++ b, sym (append_assoc xs a b) ∙ ap (λ (l : List Entry). l ++ b) p ∙ q)
 
-change-few : (o : Op) → length (change_cells o) ≤ 1
-change-few (op.Put id at) = omega arith
-change-few (op.Move id at) = omega arith
-change-few (op.Remove id) = omega arith
-change-few (op.Find id) = omega arith
-change-few (op.Within region) = omega arith
-change-few (op.Near at k) = omega arith
-
-call-few : (b : Bool) (o : Op) → length (cond b (change_cells o) []) ≤ 1
-call-few true o = change-few o
-call-few false o = omega arith
-
--- a history has no more cells than entries
-cells-few : (world : List Placed) (h : List Entry) → length (cells_of world h) ≤ length h
-cells-few world [] = omega arith
-cells-few world (Call session row o ∷ h) =
-    let a = call-few (is_change (answer_of world o)) o in
-    let b = cells-few (after_of world o) h in
-    let c = length-append (cond (is_change (answer_of world o)) (change_cells o) []) (cells_of (after_of world o) h) in
-    omega arith
-cells-few world (Begin number name ∷ h) = let b = cells-few world h in omega arith
-cells-few world (Install number ∷ h) = let b = cells-few world h in omega arith
-cells-few world (Abandon number ∷ h) = let b = cells-few world h in omega arith
-cells-few world (Fail cell lost ∷ h) = let b = cells-few world h in omega arith
-
 log-cells : {D : Type 0} (drive : D → Drive) (w : ℕ) (s : State) (h : List Entry) (log : Option (KeptView D)) → length h ≤ most_events → KeepsIn drive w s h log
     → (cells_in log ≡ first_in log + length (cells_of s.world h)) ⊎ ((cells_in log ≡ 0) × (first_in log ≡ 0) × (first_in log + length (cells_of s.world h) ≤ most_events))
 log-cells drive w s h None few keeps = let c = cells-few s.world h in inr (refl, refl, omega arith)
@@ -62,6 +36,11 @@ log-cells drive w s h (Some log) few keeps = inl keeps.keeps.count
 -- the number of cells of a book's log
 pub are-cells : {D : Type 0} (drive : D → Drive) (w : ℕ) (b : BookView D) → IsBook drive w b → AreCells (origin_of drive b) b.entries (cells_in b.log)
 are-cells drive w b is = log-cells drive w b.opening b.entries b.log is.few is.on_log
+
+-- where no later cause comes, the first one does
+pub first-none : (cause : Option BookFault) → first_of cause None ≡ cause
+first-none (Some cause) = refl
+first-none None = refl
 
 -- a call, a begin and a failed append end no split, so anybody may note them
 pub call-may : (session row : ℕ) (o : Op) (seen : List Entry) (own : List ℕ) → MayNote seen own (Call session row o)

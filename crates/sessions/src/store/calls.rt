@@ -114,10 +114,7 @@ impl<I: Index, D: LogDisk, O: Start> Store<I, D, O> {
         requires update { IsUpdate op.now }
         ensures { Called I.WIDTH session row op.now pass.old pass.new result }
     {
-        match self.update(rt, pass, session, row, op) {
-            Ok(done) => Ok(done),
-            Err(fault) => Err(call_fault(fault)),
-        }
+        self.update(rt, pass, session, row, op).map_err(call_fault)
     }
 
     // Answers a call by its kind.
