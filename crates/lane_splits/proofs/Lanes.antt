@@ -99,7 +99,7 @@ stops-gains w session origin h mid new (r ∷ rest) None none pre = absurd none
 stops-gains w session origin h mid new (r ∷ rest) (Some fault) called pre =
     gains-most origin h mid.own new.own 1 (length (r ∷ rest)) (omega arith) (refused-gains w session r.0 r.1 origin h mid new called.before fault called.leaves pre)
 
-stops-same : (w session : ℕ) (mid new : Known) (rest : List (ℕ × Op)) (fault : Option CallFault) → Stops w session mid new rest fault → SamePass mid new
+pub stops-same : (w session : ℕ) (mid new : Known) (rest : List (ℕ × Op)) (fault : Option CallFault) → Stops w session mid new rest fault → SamePass mid new
 stops-same w session mid new [] None same = subst (SamePass mid) (sym same) (same-none mid)
 stops-same w session mid new [] (Some fault) none = absurd none
 stops-same w session mid new (r ∷ rest) None none = absurd none

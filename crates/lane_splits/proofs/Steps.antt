@@ -1,10 +1,10 @@
 -- What the steps of a pass add to its own positions, in a history that begins with all that it has seen.
-use Rattle.std.proofs.Common.{◌≡◌, inl, inr, ℕ, ◌+◌, ◌<◌, ◌≤◌, ◌==◌, Bool, true, false, ◌||◌, cond, List, [], ◌∷◌, ◌++◌, length, take, Option, Some, None, Ok, Err, refl, sym, ap, subst, ◌∙◌, arith, length-append, ne_eqb}
+use Rattle.std.proofs.Common.{◌≡◌, inl, inr, ℕ, ◌+◌, ◌<◌, ◌≤◌, ◌==◌, Bool, false, ◌||◌, cond, List, [], ◌∷◌, ◌++◌, length, take, Option, Some, None, Ok, Err, refl, sym, ap, subst, ◌∙◌, arith, length-append, ne_eqb}
 use mathlib.Core.List.{IsPrefix}
 use Rattle.std.specs.Prelude.{nat_lt, if◌then◌else◌}
 use Rattle.std.specs.Option.{option_map}
 use Rattle.std.proofs.Math.Seq.{take-append_seam}
-use Rattle.std.proofs.lemmas.Bool.{ltb-false, le-ltb}
+use Rattle.std.proofs.lemmas.Bool.{le-ltb}
 use Rattle.plain_list.specs.declared.entries.Entry.{Entry}
 use Rattle.plain_list.specs.declared.entries.Entry.TheVariants.{Fail, Call, Begin, Install, Abandon}
 use Rattle.plain_list.specs.declared.entries.Lost.{Lost}
@@ -18,6 +18,7 @@ use Rattle.book_lock.specs.declared.origin.Origin.{Origin}
 use Rattle.book_lock.proofs.Histories.{get_prefix, get_last, prefix_trans}
 use Rattle.sessions.specs.Steps.{AreCells, IsStep, Leaves, has_added, has_seen, cells_after}
 use Rattle.sessions.specs.Splits.{BeginsSplit, IsLasting, begin_cause, state_of}
+use Rattle.sessions.proofs.SettleLemmas.{allowed, has-room, room-cells}
 use Rattle.lane_splits.specs.Settled.{IsBounded}
 use Rattle.lane_splits.proofs.Gains.{Puts, Idles}
 
@@ -155,18 +156,6 @@ no-cause None None c none = refl
 no-cause None (Some cause) c none = absurd (cc none)
 no-cause (Some cause) b c none = absurd (cc none)
 
-has-room : (cells events : ℕ) → room_refusal cells events ≡ None → (events ≤ 4000000) × (cells ≤ 16000000)
-has-room cells events none = by_tests (nat_lt 16000000 cells) (nat_lt 4000000 events) refl refl none
-  where
-    by_tests : (a b : Bool) → nat_lt 16000000 cells ≡ a → nat_lt 4000000 events ≡ b → cond (a || b) (Some (book.Room cells events)) None ≡ None → (events ≤ 4000000) × (cells ≤ 16000000)
-    by_tests true b is other none = absurd (cc none)
-    by_tests false true other is none = absurd (cc none)
-    by_tests false false few less none = (ltb-false 4000000 events less, ltb-false 16000000 cells few)
-
-room-cells : (origin : Origin) (before : List Entry) (cells : ℕ) → AreCells origin before cells → cells ≤ 16000000 → cells_after origin before ≤ 16000000
-room-cells origin before cells (inl is) few = omega arith
-room-cells origin before cells (inr (none, first, less)) few = omega arith
-
 not-bad : (origin : Origin) (h before : List Entry) → IsPrefix before h → length before ≤ 4000000 → cells_after origin before ≤ 16000000 → bad origin h (length before) ≡ 0
 not-bad origin h before pre less few =
     let cells : nat_lt 16000000 (cells_after origin before) ≡ false = le-ltb 16000000 (cells_after origin before) few in
@@ -176,12 +165,8 @@ not-bad origin h before pre less few =
 pub begun-room : (w : ℕ) (origin : Origin) (h : List Entry) (name : List Bool) (old new : Known) (number : ℕ) → old.origin ≡ origin → (begins : BeginsSplit w name old new (Ok number)) → IsPrefix new.seen h
     → bad origin h (length begins.before) ≡ 0
 begun-room w origin h name old new number from begins pre =
-    let none : begin_cause w old.origin name begins.cells begins.before ≡ None = allowed (begin_cause w old.origin name begins.cells begins.before) begins.refused in
+    let none : begin_cause w old.origin name begins.cells begins.before ≡ None = allowed (begin_cause w old.origin name begins.cells begins.before) number begins.refused in
     let room = has-room begins.cells (length begins.before)
     (no-cause (closed_refusal begins.before) (room_refusal begins.cells (length begins.before)) (leaf_refusal w (state_of w old.origin begins.before) name) none) in
     let few = room-cells origin begins.before begins.cells (subst (λ (o : Origin). AreCells o begins.before begins.cells) from begins.are_cells) room.1 in
     not-bad origin h begins.before (before-added h old new begins.before (Begin number name) begins.leaves pre) room.0 few
-  where
-    allowed : (cause : Option BookFault) → IsRefusedBy IsMemoryOrDisk cause (Ok number) → cause ≡ None
-    allowed None refused = refl
-    allowed (Some cause) refused = absurd (cc refused)

@@ -1,36 +1,23 @@
 -- What the tries to split add to a pass's own positions.
-use Rattle.std.proofs.Common.{◌≡◌, inl, inr, ℕ, ◌+◌, Bool, List, length, Option, Some, None, Result, Ok, Err, refl, sym, ap, subst, ◌∙◌, arith}
+use Rattle.std.proofs.Common.{◌≡◌, inl, inr, ℕ, ◌+◌, Bool, List, length, Option, Some, None, Ok, Err, refl, sym, ap, subst, ◌∙◌, arith}
 use mathlib.Core.List.{IsPrefix}
 use Rattle.std.specs.Prelude.{⊤}
 use Rattle.plain_list.specs.declared.entries.Entry.{Entry}
 use Rattle.plain_list.specs.declared.entries.Entry.TheVariants.{Begin, Install, Abandon}
 use Rattle.plain_list.specs.declared.entries.Lost.TheVariants as lost
-use Rattle.commit_book.specs.Refusals.{IsDisk, IsMemoryOrDisk, end_refusal}
+use Rattle.commit_book.specs.Refusals.{IsDisk, IsMemoryOrDisk}
 use Rattle.commit_book.specs.declared.faults.BookFault.{BookFault}
 use Rattle.commit_book.specs.declared.faults.BookFault.TheVariants as book
 use Rattle.book_lock.specs.Pass.{Known}
 use Rattle.book_lock.specs.declared.origin.Origin.{Origin}
 use Rattle.book_lock.proofs.Histories.{prefix_trans, prefix_length}
-use Rattle.sessions.specs.Splits.{BeginsSplit, InstallsSplit, AbandonsSplit, GivesUp, RanOut, NotInstalled, SplitEnds, SamePass, IsNextSplit, begin_cause, state_of}
+use Rattle.sessions.specs.Splits.{BeginsSplit, InstallsSplit, GivesUp, RanOut, NotInstalled, SplitEnds, SamePass, state_of}
 use Rattle.sessions.specs.Lanes.{Tries}
 use Rattle.sessions.specs.declared.faults.Split.{Split}
 use Rattle.sessions.specs.declared.faults.Split.TheVariants.{Installed, NotSplit}
-use Rattle.sessions.proofs.StepLemmas.{step-same, same-later}
-use Rattle.sessions.proofs.SplitLemmas.{installs-same, same-none, split-same}
+use Rattle.sessions.proofs.SplitLemmas.{installs-same, not-same, same-none, split-same}
 use Rattle.lane_splits.proofs.Gains.{Puts, Idles, Closes, Begun, HasTried}
 use Rattle.lane_splits.proofs.Steps.{bad, IsCalm, length-added, puts-added, left-idle, calm-not, lasting-disk, begun-room}
-
--- what each step leaves is the pass with more seen and own
-pub abandons-same : (w number : ℕ) (old new : Known) (r : Result (Unit {0}) BookFault) → AbandonsSplit w number old new r → SamePass old new
-abandons-same w number old new r step = step-same IsDisk end_refusal (λ (done : Unit {0}). Abandon number) (λ (h : List Entry). lost.Abandon number) (λ (h : List Entry) (done : Unit {0}). ⊤) old new r step.step
-
-pub begins-same : (w : ℕ) (name : List Bool) (old new : Known) (r : Result ℕ BookFault) → BeginsSplit w name old new r → SamePass old new
-begins-same w name old new r step =
-    step-same IsMemoryOrDisk (begin_cause w old.origin name) (λ (number : ℕ). Begin number name) (λ (h : List Entry). lost.Begin ((state_of w old.origin h).begun + 1) name) (IsNextSplit w old.origin) old new r step
-
-gives-same : (w number : ℕ) (old new : Known) (fault : BookFault) → GivesUp w number old new fault → SamePass old new
-gives-same w number old new fault (inl (memory, step)) = abandons-same w number old new (Ok tt) step
-gives-same w number old new fault (inr step) = abandons-same w number old new (Err fault) step
 
 -- memory ran out: nothing more is own
 record HasRan (mid seen : Known) : Type 0 where
@@ -40,10 +27,6 @@ record HasRan (mid seen : Known) : Type 0 where
 has-ran : (w number : ℕ) (mid seen : Known) → RanOut w number mid seen → HasRan mid seen
 has-ran w number mid seen (inl same) = record { same = subst (SamePass mid) (sym same) (same-none mid); own = ap (λ (k : Known). k.own) same }
 has-ran w number mid seen (inr step) = record { same = installs-same w number mid seen (Err book.Memory) step; own = ap (λ (k : Known). k.own) step.step.leaves }
-
-pub not-same : (w number : ℕ) (mid new : Known) (fault : BookFault) → NotInstalled w number mid new fault → SamePass mid new
-not-same w number mid new fault (inl (lasting, step)) = installs-same w number mid new (Err fault) step
-not-same w number mid new fault (inr (seen, ran, gives)) = same-later mid seen new (has-ran w number mid seen ran).same (gives-same w number seen new fault gives)
 
 module _ (w : ℕ) (origin : Origin) (h : List Entry) where
   -- a split that was given up
