@@ -1,6 +1,7 @@
 -- What a crash leaves of the log of a run.
 use Rattle.std.proofs.Common.{◌≡◌, ◌≢◌, ◌⊎◌, inl, inr, ◌∙◌, ℕ, List, ◌++◌, take, Option, Some, None, sym, ap, subst}
 use Rattle.std.proofs.lemmas.List.{append-nil}
+use Rattle.std.proofs.lemmas.Option.{same_Some}
 use Rattle.zorder.specs.declared.points.Placed.{Placed}
 use Rattle.cell_format.specs.declared.cell.Cell.{Cell}
 use Rattle.plain_list.specs.declared.entries.Entry.{Entry}
@@ -18,9 +19,6 @@ use Rattle.kept_log.proofs.InJournal.{failed_cells-none}
 use Rattle.location_run.specs.Limits.{width}
 use Rattle.location_run.specs.Origin.{Origin, IsFoundOrigin}
 use Rattle.location_run.specs.Crash.{RecoversToPrefix, KeepsAll, KeepsPlayed}
-
-pub some-same : {A : Type 0} (a b : A) → Some a ≡ Some b → a ≡ b
-some-same a b same = cc same
 
 -- an image of legal cells has leaves that tile
 to-prefix : (first : List Cell) (world : List Placed) (h : List Entry) (image : List ℕ) → IsPrefixRecovered width first world h image → RecoversToPrefix width first world h image
@@ -50,7 +48,7 @@ settled-stays a b stays settled xs told c left = settled xs (sym stays.bytes ∙
 first-recovers : (old : Drive) (from : Origin) (bytes : List ℕ) (first : List Cell) → IsFoundOrigin old from → old.bytes ≡ Some bytes → from.first ≡ Some first → Recovers width first bytes
 first-recovers old from bytes first found told is =
     let same : Some first ≡ Some found.first = sym is ∙ ap (λ (o : Origin). o.first) found.origin_is in
-    subst (λ (l : List Cell). Recovers width l bytes) (sym (some-same first found.first same)) (found.recovers bytes told)
+    subst (λ (l : List Cell). Recovers width l bytes) (sym (same_Some first found.first same)) (found.recovers bytes told)
 
 module _ {D : Type 0} (drive : D → Drive) (old : Drive) (log : KeptView D) (from : Origin) (s : State) (h : List Entry) (status : ℕ) (here : Stays old (drive log.start))
     (kept : KeepsLog drive width s h log) (going : status ≢ 7 → failed_cell h ≡ None) (found : IsFoundOrigin old from) (state : s ≡ from.state) where

@@ -1,7 +1,8 @@
 -- Lanes as they are dealt and run.
-use Rattle.std.proofs.Common.{◌≡◌, ◌≢◌, ℕ, zero, suc, ◌+◌, ◌<◌, ◌≤◌, false, List, [], ◌∷◌, ◌++◌, length, length-append, Option, Some, None, Ok, Err, Bool, true, cond, ◌==◌, refl, sym, ap, subst, ◌∙◌, arith}
+use Rattle.std.proofs.Common.{◌≡◌, ◌≢◌, ℕ, zero, suc, ◌+◌, ◌<◌, ◌≤◌, false, List, [], ◌∷◌, ◌++◌, length, length-append, Ok, Bool, true, cond, ◌==◌, refl, sym, ap, subst, ◌∙◌, arith}
 use Rattle.std.specs.Prelude.{slice_index_or, ⊤}
 use Rattle.std.specs.List.{AllByRecursion}
+use Rattle.std.proofs.lemmas.Bool.{eqb-true}
 use Rattle.std.proofs.lemmas.Bool.Decides.{nat_tests, Decides-eqb}
 use Rattle.std.proofs.lemmas.List.{append-nil}
 use Rattle.plain_list.specs.declared.ops.Op.{Op}
@@ -12,37 +13,28 @@ use Rattle.atomic_table.specs.Seated.{TableId}
 use Rattle.book_lock.specs.Pass.{Known}
 use Rattle.book_lock.specs.Own.{times}
 use Rattle.book_lock.specs.declared.origin.Origin.{Origin}
-use Rattle.sessions.specs.declared.faults.CallFault.{CallFault}
-use Rattle.sessions.specs.declared.faults.Split.{Split}
+use Rattle.book_lock.proofs.Positions.{times-append}
 use Rattle.sessions.specs.declared.store.lanes.Lane.{Lane}
 use Rattle.sessions.specs.declared.store.lanes.KeptRow.{KeptRow}
 use Rattle.sessions.specs.Splits.{SamePass}
-use Rattle.sessions.specs.Lanes.{IsReady, Tries, KeepsAll, Stops, Plays}
+use Rattle.sessions.specs.Lanes.{IsReady, KeepsAll, Plays}
 use Rattle.sessions.proofs.CallLemmas.{called-same}
-use Rattle.sessions.proofs.SplitLemmas.{split-same, same-none}
+use Rattle.sessions.proofs.SplitLemmas.{same-none}
 use Rattle.sessions.proofs.StepLemmas.{same-later}
 use Rattle.lane_history.specs.SessionRows.{session_rows, session_rows_from}
 use Rattle.lane_history.specs.Lanes.{HasPlayed, HaveAllPlayed, RiseFrom, AreSessions}
+use Rattle.lane_splits.proofs.Tries.{tries-same}
+use Rattle.lane_splits.proofs.Lanes.{stops-same}
 use Rattle.location_run.specs.inside.Dealt.{one_if, sessions_to, fresh_pass, IsDealt, AreDealt, AddsLane, HasDealt}
 use Rattle.location_run.specs.inside.Joined.{IsIdle, AreIdle}
 
 -- a pass after the rows of a lane
-tries-same : (w : ℕ) (full : Option (List Bool)) (mid new : Known) (split : Option Split) → Tries w full mid new split → SamePass mid new
-tries-same w None mid new split (none, same) = subst (SamePass mid) (sym same) (same-none mid)
-tries-same w (Some name) mid new split (s, is, ends) = split-same w name mid new s ends
-
 keeps-same : (w session : ℕ) (old new : Known) (rows : List (ℕ × Op)) (kept : List KeptRow) → KeepsAll w session old rows kept new → SamePass old new
 keeps-same w session old new [] [] all = subst (SamePass old) (sym all) (same-none old)
 keeps-same w session old new [] (k ∷ kept) all = absurd all
 keeps-same w session old new (r ∷ rows) [] all = absurd all
 keeps-same w session old new (r ∷ rows) (k ∷ kept) (mid, one, rest) =
     same-later old mid new (same-later old one.mid mid (called-same w session r.0 r.1 old one.mid (Ok one.done) one.called) (tries-same w one.done.full one.mid mid k.split one.tries)) (keeps-same w session mid new rows kept rest)
-
-stops-same : (w session : ℕ) (mid new : Known) (rest : List (ℕ × Op)) (fault : Option CallFault) → Stops w session mid new rest fault → SamePass mid new
-stops-same w session mid new [] None same = subst (SamePass mid) (sym same) (same-none mid)
-stops-same w session mid new [] (Some fault) stops = absurd stops
-stops-same w session mid new (r ∷ rest) None stops = absurd stops
-stops-same w session mid new (r ∷ rest) (Some fault) called = called-same w session r.0 r.1 mid new (Err fault) called
 
 plays-same : {I D O P : Type 0} (w : ℕ) (old new : Lane I D O P) → Plays w old new → SamePass old.pass new.pass
 plays-same w old new plays =
@@ -230,16 +222,9 @@ module _ (rows : List InRow) where
       by_rows up [] = subst (λ (l : List ℕ). RiseFrom 0 l) (sym (append-nil (sessions_to n rows))) up
       by_rows up (r ∷ own) = rise-more 0 n (sessions_to n rows) (omega arith) (up-to n) up
 
-times-append : (s : ℕ) (xs ys : List ℕ) → times s (xs ++ ys) ≡ times s xs + times s ys
-times-append s [] ys = omega arith
-times-append s (x ∷ xs) ys = omega (arith, times-append s xs ys)
-
 times-self : (s : ℕ) (own : List (ℕ × Op)) → own ≢ [] → 0 < times s (one_if s own)
 times-self s [] some = absurd (some refl)
 times-self s (r ∷ own) some = omega (arith, ap {B = ℕ} (λ (b : Bool). cond b 1 0) ((Decides-eqb s s).1 refl))
-
-equal-of : (m n : ℕ) → (m == n) ≡ true → m ≡ n
-equal-of m n e = grind (arith, nat_tests)
 
 below-of : (n s : ℕ) → (suc n == s) ≡ false → s ≤ suc n → s ≤ n
 below-of n s e le = grind (arith, nat_tests)
@@ -251,7 +236,7 @@ in-range k s (r ∷ rows) (first, all) some = by_test (in-range (k + 1) s rows a
   where
     by_test : (session_rows_from (k + 1) s rows ≢ [] → (1 ≤ s) × (s ≤ 16)) → (b : Bool) → (r.session == s) ≡ b
         → cond b ((k, r.op) ∷ session_rows_from (k + 1) s rows) (session_rows_from (k + 1) s rows) ≢ [] → (1 ≤ s) × (s ≤ 16)
-    by_test more true e there = (omega (arith, equal-of r.session s e, first.first), omega (arith, equal-of r.session s e, first.last))
+    by_test more true e there = (omega (arith, eqb-true r.session s e, first.first), omega (arith, eqb-true r.session s e, first.last))
     by_test more false e there = more there
 
 stands-in : (rows : List InRow) (n s : ℕ) → 1 ≤ s → s ≤ n → session_rows rows s ≢ [] → 0 < times s (sessions_to n rows)
@@ -263,7 +248,7 @@ stands-in rows (suc n) s least most some = by_test (stands-in rows n s least) (s
 
     by_test : (s ≤ n → session_rows rows s ≢ [] → 0 < times s (sessions_to n rows)) → (b : Bool) → (suc n == s) ≡ b → 0 < times s (sessions_to n rows ++ last)
     by_test more true e =
-        let here : 0 < times s last = subst (λ (k : ℕ). 0 < times s (one_if k (session_rows rows k))) (sym (equal-of (suc n) s e)) (times-self s (session_rows rows s) some) in
+        let here : 0 < times s last = subst (λ (k : ℕ). 0 < times s (one_if k (session_rows rows k))) (sym (eqb-true (suc n) s e)) (times-self s (session_rows rows s) some) in
         omega (arith, times-append s (sessions_to n rows) last, here)
     by_test more false e = omega (arith, times-append s (sessions_to n rows) last, more (below-of n s e most) some)
 

@@ -1,8 +1,9 @@
 -- Lines in the order of rows, from what the lanes of their sessions kept.
-use Rattle.std.proofs.Common.{◌≡◌, ℕ, zero, suc, ◌+◌, ◌<◌, ◌≤◌, Bool, true, false, cond, ◌==◌, List, [], ◌∷◌, ◌++◌, length, length-append, take, drop, get_or, set, map, ◌≢◌, Option, None, Result, refl, sym, ◌∙◌, ap, subst, arith}
+use Rattle.std.proofs.Common.{◌≡◌, ℕ, zero, suc, ◌+◌, ◌<◌, ◌≤◌, Bool, true, false, cond, ◌==◌, List, [], ◌∷◌, ◌++◌, length, length-append, take, drop, get_or, set, map, Option, None, Result, refl, sym, ◌∙◌, ap, subst, arith}
 use Rattle.std.specs.List.{flat_map, range_with_len}
 use Rattle.std.specs.Result.{IsErr}
-use Rattle.std.proofs.lemmas.Bool.Decides.{nat_tests, Decides-eqb}
+use Rattle.std.proofs.lemmas.Bool.{eqb-true, eqb-false}
+use Rattle.std.proofs.lemmas.Bool.Decides.{Decides-eqb}
 use Rattle.std.proofs.lemmas.List.{append-nil, drop_more, take_more, length-set, get_or-set_other}
 use Rattle.std.proofs.lemmas.List.FromFn.{length-range_with_len}
 use Rattle.std.proofs.lemmas.Grind.{get_or-set_at}
@@ -150,12 +151,6 @@ pub record HasTold (rows : List InRow) (i : ℕ) (told : List ℕ) : Type 0 wher
   pub size : length told ≡ 17
   pub each : (t : ℕ) → t ≤ 16 → get_or told t 0 ≡ before rows i t
 
-same-of : (s t : ℕ) → (s == t) ≡ true → t ≡ s
-same-of s t e = grind (arith, nat_tests)
-
-other-of : (s t : ℕ) → (s == t) ≡ false → t ≢ s
-other-of s t e same = grind (arith, nat_tests)
-
 -- one row more was told
 pub told-more : (rows : List InRow) (i : ℕ) (row : InRow) (told : List ℕ) (value : ℕ) → HasTold rows i told → i < length rows → (get_or rows i row).session ≤ 16 → value ≡ get_or told (get_or rows i row).session 0 + 1
     → HasTold rows (i + 1) (set told (get_or rows i row).session value)
@@ -169,13 +164,13 @@ told-more rows i row told value has lt few is = record { size = length-set told 
       where
         by_test : (b : Bool) → (s == t) ≡ b → get_or (set told s value) t 0 ≡ before rows (i + 1) t
         by_test true e =
-            let at : t ≡ s = same-of s t e in
+            let at : t ≡ s = sym (eqb-true s t e) in
             let now : get_or (set told s value) t 0 ≡ value = get_or-set_at told s t value 0 at (omega (arith, has.size, few)) in
             let more : before rows (i + 1) t ≡ before rows i t + 1 = before-more rows i t row lt ∙ ap (λ (b : Bool). before rows i t + cond b 1 0) e in
             let old : get_or told s 0 ≡ before rows i t = ap (λ (k : ℕ). get_or told k 0) (sym at) ∙ has.each t le in
             omega (arith, now, more, old, is)
         by_test false e =
-            let now : get_or (set told s value) t 0 ≡ get_or told t 0 = get_or-set_other told s t value 0 (other-of s t e) in
+            let now : get_or (set told s value) t 0 ≡ get_or told t 0 = get_or-set_other told s t value 0 (λ (same : t ≡ s). eqb-false s t e (sym same)) in
             let more : before rows (i + 1) t ≡ before rows i t + 0 = before-more rows i t row lt ∙ ap (λ (b : Bool). before rows i t + cond b 1 0) e in
             omega (arith, now, more, has.each t le)
 

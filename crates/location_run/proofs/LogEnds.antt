@@ -1,6 +1,7 @@
 -- How rows end that are played over a book.
 use Rattle.std.proofs.Common.{◌≡◌, ◌≢◌, inl, inr, ◌∙◌, ℕ, ◌+◌, ◌≤◌, false, List, length, Option, Some, None, is_some, refl, sym, ap, subst, arith}
 use Rattle.std.specs.Option.{option_map}
+use Rattle.std.proofs.lemmas.Option.{same_Some}
 use Rattle.causes.specs.Causes.{Rose}
 use Rattle.disk_trait.specs.Drive.{Drive}
 use Rattle.plain_list.specs.declared.entries.Entry.{Entry}
@@ -28,7 +29,7 @@ use Rattle.location_run.specs.Answers.{AnswersAsOneList}
 use Rattle.location_run.specs.Playing.{IsStop, EndsRows, IsAnswered}
 use Rattle.location_run.specs.inside.Books.{IsLike, BeginsAs, StopsBook, LeavesLog, OpensBook, count_in}
 use Rattle.location_run.specs.inside.Ended.{EndsBook}
-use Rattle.location_run.proofs.CrashFacts.{some-same, keeps-opened}
+use Rattle.location_run.proofs.CrashFacts.{keeps-opened}
 
 -- the log of a book, as it is left
 pub record KeptSince {D : Type 0} (drive : D → Drive) (s : State) (h : List Entry) (opened : KeptView D) (disk : D) : Type 0 where
@@ -44,10 +45,10 @@ since-in drive s h opened disk None new is begins first keeps told = absurd (cc 
 since-in drive s h opened disk (Some old) None is begins first keeps told = absurd begins
 since-in {D} drive s h opened disk (Some old) (Some new) is begins first keeps told = record {
   now = new;
-  like = subst (λ (v : KeptView D). IsLike (drive v.start) (drive new.start)) (some-same old opened is) begins;
-  first = first ∙ ap (λ (v : KeptView D). v.first) (some-same old opened is);
+  like = subst (λ (v : KeptView D). IsLike (drive v.start) (drive new.start)) (same_Some old opened is) begins;
+  first = first ∙ ap (λ (v : KeptView D). v.first) (same_Some old opened is);
   keeps = keeps;
-  disk_is = sym (some-same disk new.disk told);
+  disk_is = sym (same_Some disk new.disk told);
 }
 
 pub kept-since : {D : Type 0} (drive : D → Drive) (s : State) (h : List Entry) (opened : KeptView D) (disk : D) (log : Option (KeptView D)) → log ≡ Some opened → LeavesLog drive s h log (Some disk) → KeptSince drive s h opened disk

@@ -11,13 +11,13 @@ use Rattle.recovery.specs.Found.{IsFree}
 use Rattle.recovery.specs.Opening.{KeepsCells, IsUntouched, LeavesUnopened}
 use Rattle.recovery.specs.declared.seen.OpenFault.{OpenFault}
 use Rattle.recovery.specs.declared.seen.OpenFault.TheVariants as open_fault
-use Rattle.recovery.proofs.OnlyReading.{rose-earlier}
 use Rattle.recovery.proofs.OpeningLemmas.{leaves-trans, leaves-stays}
 use Rattle.csv_rows.specs.declared.rows.Refusal.{Refusal}
 use Rattle.csv_rows.specs.declared.rows.Refusal.TheVariants as refusal
-use Rattle.location_run.specs.Checking.{IsReadingCause, log_refusal}
+use Rattle.location_run.specs.Checking.{log_refusal}
 use Rattle.location_run.specs.Limits.{width, most_played}
 use Rattle.location_run.specs.Playing.{IsNotOpened}
+use Rattle.location_run.proofs.DriveSteps.{calm-free, calm-named, reading-after}
 
 pub keeps-cells-after : (w : ℕ) (a b c : Drive) → KeepsLaws a → Stays a b → KeepsCells w b c → KeepsCells w a c
 keeps-cells-after w a b c laws stays keeps bytes cells told now =
@@ -39,37 +39,18 @@ untouched-after a b c stays left = record {
 abbrev pub IsNoLog : List ℕ → Type 0
 IsNoLog bytes = (first : List Cell) → Recovers width first bytes → length first ≤ most_played → ⊥
 
--- why a log isn't opened
-reading-after : (most : ℕ) (a b c : Drive) (cause : OpenFault) → Stays a b → a.faults ≤ b.faults → ((bytes : List ℕ) → b.bytes ≡ Some bytes → IsFault 1 most bytes cause)
-    → (cause ≡ open_fault.Disk → Rose b.faults c.faults) → IsReadingCause most a c (log_refusal cause)
-reading-after most a b c open_fault.NotLog stays later wrong rose = λ bytes told. wrong bytes (stays.bytes ∙ told)
-reading-after most a b c (open_fault.OldLog version width) stays later wrong rose = λ bytes told. wrong bytes (stays.bytes ∙ told)
-reading-after most a b c (open_fault.Damaged cell cause) stays later wrong rose = λ bytes told. wrong bytes (stays.bytes ∙ told)
-reading-after most a b c open_fault.Disk stays later wrong rose = rose-earlier a.faults b.faults c.faults later (rose refl)
-reading-after most a b c open_fault.Memory stays later wrong rose = tt
-reading-after most a b c (open_fault.TooLong limit) stays later wrong rose = λ bytes told. (wrong bytes (stays.bytes ∙ told)).1
-
--- an answer that the bytes don't decide is want of memory where the count didn't rise
-free-memory : (a b c : Drive) (cause : OpenFault) → a.faults ≤ b.faults → (Rose a.faults c.faults → ⊥) → IsFree b c cause → log_refusal cause ≡ refusal.Memory
-free-memory a b c cause later calm (inl e) = ap log_refusal e
-free-memory a b c cause later calm (inr rose) = absurd (calm (rose-earlier a.faults b.faults c.faults later rose))
-
 pub open-refused : (a b c : Drive) (why : OpenFault) → KeepsLaws a → Stays a b → a.faults ≤ b.faults → b.faults ≡ a.faults → ((bytes : List ℕ) → b.bytes ≡ Some bytes → IsFault 1 most_played bytes why)
     → ((bytes : List ℕ) (fault : OpenFault) → b.bytes ≡ Some bytes → IsInBytes fault → IsFault 1 most_played bytes fault → (why ≡ fault) ⊎ IsFree b c why)
     → ((bytes : List ℕ) (cells : List Cell) → b.bytes ≡ Some bytes → Recovers 1 cells bytes → length cells ≤ most_played → IsFree b c why)
     → KeepsCells 1 b c → (why ≡ open_fault.Disk → Rose b.faults c.faults) → LeavesUnopened 1 most_played b c why → IsNotOpened a c (log_refusal why)
 open-refused a b c why laws stays later same wrong exact whole keeps rose leaves = record {
   cause = reading-after most_played a b c why stays later wrong rose;
-  exact = λ bytes fault told shown at calm. named fault calm (exact bytes fault (stays.bytes ∙ told) shown at);
-  whole = λ good. free-memory a b c why later good.calm (whole good.bytes good.first (stays.bytes ∙ good.told) good.recovers good.few);
+  exact = λ bytes fault told shown at calm. calm-named a b c why fault later calm (exact bytes fault (stays.bytes ∙ told) shown at);
+  whole = λ good. calm-free a b c why later good.calm (whole good.bytes good.first (stays.bytes ∙ good.told) good.recovers good.few);
   keeps = keeps-cells-after 1 a b c laws stays keeps;
   untouched = λ bytes told none. untouched-after a b c stays (leaves.no_log bytes (stays.bytes ∙ told) none);
   calm = λ other. leaves.calm (λ disk. other (ap log_refusal disk)) ∙ same;
 }
-  where
-    named : (fault : OpenFault) → (Rose a.faults c.faults → ⊥) → (why ≡ fault) ⊎ IsFree b c why → (log_refusal why ≡ log_refusal fault) ⊎ (log_refusal why ≡ refusal.Memory)
-    named fault calm (inl same) = inl (ap log_refusal same)
-    named fault calm (inr free) = inr (free-memory a b c why later calm free)
 
 -- memory ran out once the log was open
 pub memory-refused : (a c : Drive) (why : Refusal) → why ≡ refusal.Memory → KeepsCells 1 a c → ((bytes : List ℕ) → a.bytes ≡ Some bytes → IsNoLog bytes → ⊥) → c.faults ≡ a.faults → IsNotOpened a c why

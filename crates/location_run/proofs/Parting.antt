@@ -1,6 +1,6 @@
 -- The rows of each session, parted one after the other.
 use Rattle.std.proofs.Common.{◌≡◌, ◌≢◌, ℕ, zero, suc, ◌+◌, ◌-◌, ◌<◌, ◌≤◌, List, [], ◌∷◌, ◌++◌, length, take, get_or, set, map, replicate, Bool, true, false, cond, ◌==◌, refl, sym, ap, ◌∙◌, arith}
-use Rattle.std.proofs.lemmas.Bool.Decides.{nat_tests}
+use Rattle.std.proofs.lemmas.Bool.{eqb-true, eqb-false}
 use Rattle.std.proofs.lemmas.List.{append-nil, take_more, length-set, length-map, length-replicate, get_or-map, get_or-replicate, get_or-set_other}
 use Rattle.std.proofs.lemmas.Grind.{get_or-set_at}
 use Rattle.plain_list.specs.declared.ops.Op.{Op}
@@ -43,12 +43,6 @@ rows-more t rows i row lt =
     number : 1 + length (take i rows) ≡ i + 1
     number = omega (arith, taken-length i rows (omega (arith, lt)))
 
-same-of : (s t : ℕ) → (s == t) ≡ true → s ≡ t
-same-of s t e = grind (arith, nat_tests)
-
-other-of : (s t : ℕ) → (s == t) ≡ false → s ≢ t
-other-of s t e same = grind (arith, nat_tests)
-
 abbrev nothing : List (ℕ × Op)
 nothing = []
 
@@ -78,12 +72,12 @@ module _ {V : Type 0} (items : V → List (ℕ × Op)) where
         where
           by_test : (b : Bool) → (r.session == suc s) ≡ b → items (get_or (set own at value) s e) ≡ session_rows (take (i + 1) rows) (suc s)
           by_test true t =
-              let here : s ≡ at = omega (arith, same-of r.session (suc s) t) in
+              let here : s ≡ at = omega (arith, eqb-true r.session (suc s) t) in
               ap items (get_or-set_at own at s value e here (omega (arith, has.size, few, some))) ∙ is
               ∙ ap (λ (l : List (ℕ × Op)). l ++ (i + 1, r.op) ∷ []) (ap (λ (k : ℕ). items (get_or own k d)) (sym here) ∙ has.each s d lt16)
               ∙ sym (rows-more (suc s) rows i row lt ∙ ap (λ (b : Bool). session_rows (take i rows) (suc s) ++ cond b ((i + 1, r.op) ∷ []) []) t)
           by_test false t =
-              let there : s ≢ at = λ e2. other-of r.session (suc s) t (omega (arith, e2, some)) in
+              let there : s ≢ at = λ e2. eqb-false r.session (suc s) t (omega (arith, e2, some)) in
               ap items (get_or-set_other own at s value e there) ∙ has.each s e lt16
               ∙ sym (rows-more (suc s) rows i row lt ∙ ap (λ (b : Bool). session_rows (take i rows) (suc s) ++ cond b ((i + 1, r.op) ∷ []) []) t ∙ append-nil (session_rows (take i rows) (suc s)))
 

@@ -29,10 +29,7 @@ fn judge(alloc: Global, bytes: &[u8]) -> Result<Rows, Refusal>
     ensures rows { IfOk result (λ rows. judged bytes.now ≡ Ok rows) }
     ensures cause { IfErr result (λ why. why ≢ Refusal.Memory → judged bytes.now ≡ Err why) }
 {
-    match read_rows(alloc, bytes) {
-        Ok(rows) => Ok(rows),
-        Err(fault) => Err(refusal_of(fault)),
-    }
+    read_rows(alloc, bytes).map_err(refusal_of)
 }
 
 fn refusal_of(fault: RowsFault) -> Refusal
