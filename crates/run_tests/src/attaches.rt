@@ -16,6 +16,14 @@ fn is_one_of(attaches: &[Attach], wanted: &str, makes: bool) -> bool {
     matches!(attaches, [Attach { name, make }] if name.as_str() == wanted && *make == makes)
 }
 
+fn has_attached_a(left: &Left, makes: bool) -> bool {
+    left.status == 0 && left.others() == 0 && is_one_of(left.attaches(), "a", makes)
+}
+
+fn has_attached_none(left: &Left) -> bool {
+    left.status == 0 && left.others() == 0 && left.attaches().is_empty()
+}
+
 // Whether the command attaches the file `a` once, on the first drive.
 fn attaches_once<R: Threads + Wait + Sync>(
     rt: &R,
@@ -24,23 +32,23 @@ fn attaches_once<R: Threads + Wait + Sync>(
     makes: bool,
 ) -> Result<bool, Memory> {
     let left = run_of(rt, alloc, &[command, "a"])?;
-    Ok(left.status == 0 && left.others() == 0 && is_one_of(left.attaches(), "a", makes))
+    Ok(has_attached_a(&left, makes))
 }
 
 // Whether `play -` attaches none.
 fn attaches_none<R: Threads + Wait + Sync>(rt: &R, alloc: Global) -> Result<bool, Memory> {
     let left = run_of(rt, alloc, &["play", "-"])?;
-    Ok(left.status == 0 && left.others() == 0 && left.attaches().is_empty())
+    Ok(has_attached_none(&left))
 }
 
 fn a_command_attaches_its_file<R: Abort + Threads + Wait + Sync>(
     rt: &R,
     alloc: Global,
 ) -> Result<(), Fail> {
-    assert!(rt; attaches_once(rt, alloc, "init", true)?);
-    assert!(rt; attaches_once(rt, alloc, "check", false)?);
-    assert!(rt; attaches_once(rt, alloc, "play", false)?);
-    assert!(rt; attaches_none(rt, alloc)?);
+    assert_so!(rt; attaches_once(rt, alloc, "init", true));
+    assert_so!(rt; attaches_once(rt, alloc, "check", false));
+    assert_so!(rt; attaches_once(rt, alloc, "play", false));
+    assert_so!(rt; attaches_none(rt, alloc));
     Ok(())
 }
 

@@ -1,8 +1,10 @@
 //! Whether a run leaves what it should. Functions over a runtime alone: a test's proof then holds no drive.
 use disk_mem::{DiskCall, Fail};
-use memory_runs::{Faults, HEADER, NO_FAULTS, run_apart, run_on, text};
+use memory_runs::{Faults, HEADER, Left, NO_FAULTS, run_apart, run_on, text};
 use std::alloc::Global;
+use std::process::Abort;
 use std::sync::Wait;
+use std::test;
 use std::thread::Threads;
 use zorder::Memory;
 
@@ -63,6 +65,18 @@ pub fn failing_ends<'a>(reads: &'a [u64], puts: &'a [u64]) -> Faults<'a> {
     }
 }
 
+/// Ends the test with this message unless it is so.
+pub fn holds<R: Abort>(
+    rt: &R,
+    is_so: Result<bool, Memory>,
+    message: &str,
+) -> Result<(), test::Fail> {
+    if !is_so? {
+        rt.panic(message)
+    }
+    Ok(())
+}
+
 /// Whether these words over no log make this of these rows.
 pub fn tells<R: Threads + Wait + Sync>(
     rt: &R,
@@ -114,7 +128,12 @@ pub fn leaves_with<R: Threads + Wait + Sync>(
 ) -> Result<bool, Memory> {
     let input = text(alloc, rows)?;
     let left = run_on(rt, alloc, words, &input, before, faults)?;
-    Ok(left.tells(wanted.status, wanted.text) && left.file() == after)
+    Ok(is_left(&left, wanted, after))
+}
+
+/// Whether a run left what is wanted, and the file with these bytes.
+pub fn is_left(left: &Left, wanted: Wanted<'_>, file: &[u8]) -> bool {
+    left.tells(wanted.status, wanted.text) && left.file() == file
 }
 
 /// Whether `check` writes this of a file.

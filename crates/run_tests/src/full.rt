@@ -53,9 +53,12 @@ fn keeps_changes_and_splits_alone<R: Threads + Wait + Sync>(
     let disk = MemDisk::new(alloc, full_log(alloc)?, 34_000_000, 20_000, Vec::new(alloc))?;
     let words = &["play", "log", "--bucket", "4096"];
     let left = run_over(rt, alloc, words, &input, disk, &NO_FAULTS)?;
-    let behind = left.file().get(16 + 32 * 1_048_576..).unwrap_or(&[]);
-    let is_kept = behind.starts_with(BEHIND) && behind.len() == 32 * (2 + 2 * 511) + 1;
-    Ok(is_kept && left.tells(0, LINES))
+    Ok(is_kept(left.file()) && left.tells(0, LINES))
+}
+
+fn is_kept(file: &[u8]) -> bool {
+    let behind = file.get(16 + 32 * 1_048_576..).unwrap_or(&[]);
+    behind.starts_with(BEHIND) && behind.len() == 32 * (2 + 2 * 511) + 1
 }
 
 #[test]

@@ -7,6 +7,15 @@
 //! as long.
 #![tactic(auto)]
 
+// `assert!` of what a function tells with `?`, with the branch in a function of its own: the proof of a function with several of them is much
+// shorter so.
+#[cfg(test)]
+macro_rules! assert_so {
+    ($rt:expr; $told:expr $(,)?) => {
+        crate::checks::holds(&$rt, $told, concat!("assertion failed: ", stringify!($told)))?
+    };
+}
+
 #[cfg(test)]
 mod attaches;
 #[cfg(test)]

@@ -1,5 +1,5 @@
 //! The commands over a log, with worked files and faults of the drive and the sink.
-use crate::checks::{Wanted, call_of, ended, failing_ends, failing_reads, well};
+use crate::checks::{Wanted, call_of, ended, failing_ends, failing_reads, is_left, well};
 use disk_mem::DiskCall;
 use memory_runs::{EMPTY_LOG, Faults, PUT_LOG, run_on};
 use std::alloc::Global;
@@ -20,7 +20,7 @@ fn makes_of<R: Threads + Wait + Sync>(
     after: &[u8],
 ) -> Result<bool, Memory> {
     let left = run_on(rt, alloc, &[command, "log"], "", before, faults)?;
-    Ok(left.tells(wanted.status, wanted.text) && left.file() == after)
+    Ok(is_left(&left, wanted, after))
 }
 
 // Whether `init` makes this of a file. The source fails at once.
@@ -47,10 +47,10 @@ fn makes_a_log_of_a_small_file<R: Abort + Threads + Wait + Sync>(
     alloc: Global,
 ) -> Result<(), Fail> {
     let short = b"MDLOCLOG\x01\x01\0\0\0\0\0\0\x01";
-    assert!(rt; inits(rt, alloc, &[], well("made\n"), EMPTY_LOG)?);
-    assert!(rt; inits(rt, alloc, short, well("made\n"), EMPTY_LOG)?);
+    assert_so!(rt; inits(rt, alloc, &[], well("made\n"), EMPTY_LOG));
+    assert_so!(rt; inits(rt, alloc, short, well("made\n"), EMPTY_LOG));
     let large = &[7; 49];
-    assert!(rt; inits(rt, alloc, large, ended(10, "refused in use 49\n"), large)?);
+    assert_so!(rt; inits(rt, alloc, large, ended(10, "refused in use 49\n"), large));
     Ok(())
 }
 
@@ -79,9 +79,9 @@ fn is_told<R: Threads + Wait + Sync>(
 
 fn tells_of_good_logs<R: Abort + Threads + Wait + Sync>(rt: &R, alloc: Global) -> Result<(), Fail> {
     let none = well("cells 0\npoints 0\nleaves 1\nunfinished 0\n");
-    assert!(rt; is_told(rt, alloc, EMPTY_LOG, none)?);
+    assert_so!(rt; is_told(rt, alloc, EMPTY_LOG, none));
     let one = well("cells 1\npoints 1\nleaves 1\nunfinished 0\n");
-    assert!(rt; is_told(rt, alloc, PUT_LOG, one)?);
+    assert_so!(rt; is_told(rt, alloc, PUT_LOG, one));
     Ok(())
 }
 
@@ -92,23 +92,21 @@ fn tells_what_is_wrong<R: Abort + Threads + Wait + Sync>(
     let kind = b"MDLOCLOG\x01\x01\0\0\0\0\0\0\
         \x01\x09\0\0\0\0\0\0\0\x07\0\0\0\0\0\0\0\0\0\0\0\0\0\0\0\0\0\0\0\0\0\0\
         \0";
-    assert!(rt; is_told(rt, alloc, kind, ended(4, "refused cell 0 kind\n"))?);
+    assert_so!(rt; is_told(rt, alloc, kind, ended(4, "refused cell 0 kind\n")));
     let uninstalled = b"MDLOCLOG\x01\x01\0\0\0\0\0\0\
         \x01\x05\0\0\0\0\0\0\0\x01\0\0\0\0\0\0\0\0\0\0\0\0\0\0\0\0\0\0\0\0\0\0\
         \0";
-    assert!(rt;
-        is_told(
+    assert_so!(rt; is_told(
             rt,
             alloc,
             uninstalled,
             ended(4, "refused cell 0 impossible\n")
-        )?
-    );
+        ));
     let set = b"MDLOCLOG\x01\x01\0\0\0\0\0\0\x01";
-    assert!(rt; is_told(rt, alloc, set, ended(4, "refused cell 0 short\n"))?);
+    assert_so!(rt; is_told(rt, alloc, set, ended(4, "refused cell 0 short\n")));
     let old = b"MDLOCLOG\x03\x01\0\0\0\0\0\0\0";
-    assert!(rt; is_told(rt, alloc, old, ended(4, "refused log version 3 width 1\n"))?);
-    assert!(rt; is_told(rt, alloc, &EMPTY_LOG[..16], ended(4, "refused not a log\n"))?);
+    assert_so!(rt; is_told(rt, alloc, old, ended(4, "refused log version 3 width 1\n")));
+    assert_so!(rt; is_told(rt, alloc, &EMPTY_LOG[..16], ended(4, "refused not a log\n")));
     Ok(())
 }
 
@@ -146,7 +144,7 @@ fn tells_of_faults<R: Threads + Wait + Sync>(
 #[test]
 fn faults_of_the_drive_and_the_sink_have_their_statuses(rt: HostRuntime) -> Result<(), Fail> {
     let alloc = rt.alloc();
-    assert!(rt; tells_of_faults(&rt, alloc, "init")?);
-    assert!(rt; tells_of_faults(&rt, alloc, "check")?);
+    assert_so!(rt; tells_of_faults(&rt, alloc, "init"));
+    assert_so!(rt; tells_of_faults(&rt, alloc, "check"));
     Ok(())
 }

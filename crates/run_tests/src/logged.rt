@@ -1,6 +1,6 @@
 //! Rows that are played over a log: what is kept, what a later run finds, and splits.
 use crate::checks::{PLAY, PLAY_BY_4, ended, is_checked, leaves, well};
-use memory_runs::{EMPTY_LOG, NO_FAULTS, PUT_LOG, run_on, text};
+use memory_runs::{EMPTY_LOG, Left, NO_FAULTS, PUT_LOG, run_on, text};
 use std::alloc::{AllocError, Global};
 use std::process::Abort;
 use std::sync::Wait;
@@ -33,12 +33,12 @@ const ONE_CELL: &str = "cells 1\npoints 1\nleaves 1\nunfinished 0\n";
 fn keeps_a_put<R: Abort + Threads + Wait + Sync>(rt: &R, alloc: Global) -> Result<(), Fail> {
     let row = "1,put,7,3,5,,\n";
     let done = well("row,place,answer,detail\n1,1,done,\n");
-    assert!(rt; leaves(rt, alloc, PLAY, row, EMPTY_LOG, done, PUT_LOG)?);
-    assert!(rt; is_checked(rt, alloc, PUT_LOG, ONE_CELL)?);
+    assert_so!(rt; leaves(rt, alloc, PLAY, row, EMPTY_LOG, done, PUT_LOG));
+    assert_so!(rt; is_checked(rt, alloc, PUT_LOG, ONE_CELL));
     let present = well("row,place,answer,detail\n1,1,present,3:5\n");
-    assert!(rt; leaves(rt, alloc, PLAY, row, PUT_LOG, present, PUT_LOG)?);
+    assert_so!(rt; leaves(rt, alloc, PLAY, row, PUT_LOG, present, PUT_LOG));
     let in_use = ended(10, "refused in use 49\n");
-    assert!(rt; leaves(rt, alloc, &["init", "log"], "", PUT_LOG, in_use, PUT_LOG)?);
+    assert_so!(rt; leaves(rt, alloc, &["init", "log"], "", PUT_LOG, in_use, PUT_LOG));
     Ok(())
 }
 
@@ -58,21 +58,31 @@ fn splits<R: Threads + Wait + Sync>(
 ) -> Result<bool, Memory> {
     let input = text(alloc, rows)?;
     let played = run_on(rt, alloc, PLAY_BY_4, &input, before, &NO_FAULTS)?;
+    if !is_split(&played, left) {
+        return Ok(false);
+    }
+    is_found_again(rt, alloc, played.file(), left)
+}
+
+fn is_split(played: &Left, left: SplitLog<'_>) -> bool {
     let file = played.file();
-    let is_so = played.status == 0 && file.len() == left.len && file.ends_with(left.end);
+    played.status == 0
+        && file.len() == left.len
+        && file.ends_with(left.end)
+        && played.history().len() == left.entries
+}
+
+// Whether `check` and a later box tell of a file what they should, and leave it.
+fn is_found_again<R: Threads + Wait + Sync>(
+    rt: &R,
+    alloc: Global,
+    file: &[u8],
+    left: SplitLog<'_>,
+) -> Result<bool, Memory> {
+    let rows = "1,box,,0,0,3,5\n";
     Ok(
-        is_so
-            && played.history().len() == left.entries
-            && is_checked(rt, alloc, file, left.counts)?
-            && leaves(
-                rt,
-                alloc,
-                PLAY_BY_4,
-                "1,box,,0,0,3,5\n",
-                file,
-                well(left.found),
-                file,
-            )?,
+        is_checked(rt, alloc, file, left.counts)?
+            && leaves(rt, alloc, PLAY_BY_4, rows, file, well(left.found), file)?,
     )
 }
 
@@ -125,10 +135,9 @@ fn cuts_off_what_stands_behind<R: Abort + Threads + Wait + Sync>(
     alloc: Global,
 ) -> Result<(), Fail> {
     let file = long_log(alloc)?;
-    assert!(rt; is_checked(rt, alloc, file.as_slice(), ONE_CELL)?);
+    assert_so!(rt; is_checked(rt, alloc, file.as_slice(), ONE_CELL));
     let at = well("row,place,answer,detail\n1,1,at,3:5\n");
-    assert!(rt;
-        leaves(
+    assert_so!(rt; leaves(
             rt,
             alloc,
             PLAY,
@@ -136,8 +145,7 @@ fn cuts_off_what_stands_behind<R: Abort + Threads + Wait + Sync>(
             file.as_slice(),
             at,
             PUT_LOG
-        )?
-    );
+        ));
     Ok(())
 }
 
@@ -150,7 +158,7 @@ fn what_stands_behind_a_log_is_cut_off(rt: HostRuntime) -> Result<(), Fail> {
 fn a_split_that_a_log_left_open_is_begun_anew(rt: HostRuntime) -> Result<(), Fail> {
     let alloc = rt.alloc();
     let begun = "cells 1\npoints 0\nleaves 1\nunfinished 1\n";
-    assert!(rt; is_checked(&rt, alloc, BEGUN_LOG, begun)?);
+    assert_so!(rt; is_checked(&rt, alloc, BEGUN_LOG, begun));
     let left = SplitLog {
         len: 273,
         end: SPLIT_2,
@@ -158,6 +166,6 @@ fn a_split_that_a_log_left_open_is_begun_anew(rt: HostRuntime) -> Result<(), Fai
         counts: "cells 8\npoints 5\nleaves 2\nunfinished 0\n",
         found: "row,place,answer,detail\n1,1,found,1:0:0;5:1:1\n",
     };
-    assert!(rt; splits(&rt, alloc, CORNERS, BEGUN_LOG, left)?);
+    assert_so!(rt; splits(&rt, alloc, CORNERS, BEGUN_LOG, left));
     Ok(())
 }

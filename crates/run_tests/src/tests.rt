@@ -1,6 +1,6 @@
 //! Runs over no log: worked inputs, each refusal's line, and faults of both ends. Each call of a drive fails.
 use crate::checks::{PLAY_NO_LOG, ended, failing_ends, tells, told, well};
-use memory_runs::{HEADER, NO_FAULTS, run_apart, text};
+use memory_runs::{HEADER, Left, NO_FAULTS, run_apart, text};
 use std::alloc::{AllocError, Global};
 use std::process::Abort;
 use std::sync::Wait;
@@ -14,16 +14,14 @@ fn has_a_line_for_each_row<R: Abort + Threads + Wait + Sync>(
 ) -> Result<(), Fail> {
     let rows = "1,put,7,3,5,,\n1,where,7,,,,\n";
     let lines = well("row,place,answer,detail\n1,1,done,\n2,2,at,3:5\n");
-    assert!(rt; tells(rt, alloc, PLAY_NO_LOG, rows, lines)?);
-    assert!(rt;
-        tells(
+    assert_so!(rt; tells(rt, alloc, PLAY_NO_LOG, rows, lines));
+    assert_so!(rt; tells(
             rt,
             alloc,
             PLAY_NO_LOG,
             "",
             well("row,place,answer,detail\n")
-        )?
-    );
+        ));
     Ok(())
 }
 
@@ -64,44 +62,36 @@ fn rows_of_several_sessions_have_their_lines_in_order(rt: HostRuntime) -> Result
 }
 
 fn refuses_bad_input<R: Abort + Threads + Wait + Sync>(rt: &R, alloc: Global) -> Result<(), Fail> {
-    assert!(rt;
-        told(
+    assert_so!(rt; told(
             rt,
             alloc,
             PLAY_NO_LOG,
             "",
             &NO_FAULTS,
             ended(3, "refused header\n")
-        )?
-    );
-    assert!(rt;
-        tells(
+        ));
+    assert_so!(rt; tells(
             rt,
             alloc,
             PLAY_NO_LOG,
             "1,put,7,3,5,\n",
             ended(3, "refused row 1 length\n")
-        )?
-    );
-    assert!(rt;
-        tells(
+        ));
+    assert_so!(rt; tells(
             rt,
             alloc,
             PLAY_NO_LOG,
             "1,put,7,-3,5,,\n",
             ended(3, "refused row 1 column 4\n")
-        )?
-    );
+        ));
     let rows = "1,where,7,,,,\n17,where,7,,,,\n";
-    assert!(rt;
-        tells(
+    assert_so!(rt; tells(
             rt,
             alloc,
             PLAY_NO_LOG,
             rows,
             ended(3, "refused row 2 column 1\n")
-        )?
-    );
+        ));
     Ok(())
 }
 
@@ -116,18 +106,16 @@ fn tells_of_failing_ends<R: Abort + Threads + Wait + Sync>(
 ) -> Result<(), Fail> {
     let input = text(alloc, "1,put,7,3,5,,\n")?;
     let unread = failing_ends(&[1], &[]);
-    assert!(rt;
-        told(
+    assert_so!(rt; told(
             rt,
             alloc,
             PLAY_NO_LOG,
             &input,
             &unread,
             ended(5, "refused source\n")
-        )?
-    );
+        ));
     let unwritten = failing_ends(&[], &[1]);
-    assert!(rt; told(rt, alloc, PLAY_NO_LOG, &input, &unwritten, ended(6, ""))?);
+    assert_so!(rt; told(rt, alloc, PLAY_NO_LOG, &input, &unwritten, ended(6, "")));
     Ok(())
 }
 
@@ -143,23 +131,27 @@ fn is_usage<R: Threads + Wait + Sync>(
     words: &[&str],
 ) -> Result<bool, Memory> {
     let left = run_apart(rt, alloc, words, HEADER, &NO_FAULTS)?;
-    Ok(left.tells(2, "refused usage\n") && left.history().is_empty())
+    Ok(is_told_usage(&left))
+}
+
+fn is_told_usage(left: &Left) -> bool {
+    left.tells(2, "refused usage\n") && left.history().is_empty()
 }
 
 fn refuses_other_words<R: Abort + Threads + Wait + Sync>(
     rt: &R,
     alloc: Global,
 ) -> Result<(), Fail> {
-    assert!(rt; is_usage(rt, alloc, &["play"])?);
-    assert!(rt; is_usage(rt, alloc, &["init", "-"])?);
-    assert!(rt; is_usage(rt, alloc, &["check", ""])?);
-    assert!(rt; is_usage(rt, alloc, &["play", "-log"])?);
-    assert!(rt; is_usage(rt, alloc, &["play", "", "--bucket", "4"])?);
-    assert!(rt; is_usage(rt, alloc, &["play", "-", "--bucket", "3"])?);
-    assert!(rt; is_usage(rt, alloc, &["play", "-", "--bucket", "4097"])?);
-    assert!(rt; is_usage(rt, alloc, &["play", "--bucket", "4", "-"])?);
+    assert_so!(rt; is_usage(rt, alloc, &["play"]));
+    assert_so!(rt; is_usage(rt, alloc, &["init", "-"]));
+    assert_so!(rt; is_usage(rt, alloc, &["check", ""]));
+    assert_so!(rt; is_usage(rt, alloc, &["play", "-log"]));
+    assert_so!(rt; is_usage(rt, alloc, &["play", "", "--bucket", "4"]));
+    assert_so!(rt; is_usage(rt, alloc, &["play", "-", "--bucket", "3"]));
+    assert_so!(rt; is_usage(rt, alloc, &["play", "-", "--bucket", "4097"]));
+    assert_so!(rt; is_usage(rt, alloc, &["play", "--bucket", "4", "-"]));
     let largest = &["play", "-", "--bucket", "4096"];
-    assert!(rt; tells(rt, alloc, largest, "", well("row,place,answer,detail\n"))?);
+    assert_so!(rt; tells(rt, alloc, largest, "", well("row,place,answer,detail\n")));
     Ok(())
 }
 
@@ -174,13 +166,12 @@ fn finds_behind_a_split<R: Threads + Wait + Sync>(rt: &R, alloc: Global) -> Resu
         "1,put,1,0,0,,\n1,put,2,2147483648,0,,\n1,put,3,0,2147483648,,\n1,put,4,2147483648,2147483648,,\n1,put,5,1,1,,\n1,near,,0,0,2,\n1,box,,0,0,1,1\n";
     let words = &["play", "-", "--bucket", "4"];
     let left = run_apart(rt, alloc, words, &text(alloc, rows)?, &NO_FAULTS)?;
-    Ok(
-        left.status == 0
-            && left
-                .taken
-                .as_slice()
-                .ends_with(b"6,6,found,1:0:0;5:1:1\n7,7,found,1:0:0;5:1:1\n"),
-    )
+    Ok(finds_the_two(&left))
+}
+
+fn finds_the_two(left: &Left) -> bool {
+    let end = b"6,6,found,1:0:0;5:1:1\n7,7,found,1:0:0;5:1:1\n";
+    left.status == 0 && left.taken.as_slice().ends_with(end)
 }
 
 #[test]
@@ -200,27 +191,23 @@ fn finds(alloc: Global, count: u32) -> Result<String, AllocError> {
 
 fn is_over_its_limits<R: Abort + Threads + Wait + Sync>(rt: &R, alloc: Global) -> Result<(), Fail> {
     let rows = finds(alloc, 65_537)?;
-    assert!(rt;
-        told(
+    assert_so!(rt; told(
             rt,
             alloc,
             PLAY_NO_LOG,
             &rows,
             &NO_FAULTS,
             ended(8, "refused limit rows\n")
-        )?
-    );
+        ));
     let bytes = finds(alloc, 1_198_373)?;
-    assert!(rt;
-        told(
+    assert_so!(rt; told(
             rt,
             alloc,
             PLAY_NO_LOG,
             &bytes,
             &NO_FAULTS,
             ended(8, "refused limit bytes\n")
-        )?
-    );
+        ));
     Ok(())
 }
 

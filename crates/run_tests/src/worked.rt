@@ -1,6 +1,6 @@
 //! Worked rows and their lines, and the bytes that rows leave in a log.
 use crate::checks::{PLAY, PLAY_BY_4, PLAY_NO_LOG, ended, leaves, tells, well};
-use memory_runs::{EMPTY_LOG, NO_FAULTS, PUT_LOG, run_on, text};
+use memory_runs::{EMPTY_LOG, Left, NO_FAULTS, PUT_LOG, run_on, text};
 use std::alloc::{AllocError, Global};
 use std::process::Abort;
 use std::sync::Wait;
@@ -31,21 +31,19 @@ const SPLIT_AND_PUT: &[u8] = b"\
 fn tells_of_ties<R: Abort + Threads + Wait + Sync>(rt: &R, alloc: Global) -> Result<(), Fail> {
     let ties = "1,put,9,0,1,,\n1,put,3,1,0,,\n1,near,,0,0,1,\n";
     let nearest = "row,place,answer,detail\n1,1,done,\n2,2,done,\n3,3,found,3:1:0\n";
-    assert!(rt; tells(rt, alloc, PLAY_NO_LOG, ties, well(nearest))?);
+    assert_so!(rt; tells(rt, alloc, PLAY_NO_LOG, ties, well(nearest)));
     let far = "1,put,9,0,5,,\n1,put,4,3,4,,\n1,near,,0,0,1,\n1,near,,0,0,2048,\n";
     let both =
         "row,place,answer,detail\n1,1,done,\n2,2,done,\n3,3,found,4:3:4\n4,4,found,4:3:4;9:0:5\n";
-    assert!(rt; tells(rt, alloc, PLAY_NO_LOG, far, well(both))?);
+    assert_so!(rt; tells(rt, alloc, PLAY_NO_LOG, far, well(both)));
     let none = "1,put,9,0,5,,\n1,put,4,3,4,,\n1,near,,0,0,0,\n";
-    assert!(rt;
-        tells(
+    assert_so!(rt; tells(
             rt,
             alloc,
             PLAY_NO_LOG,
             none,
             ended(3, "refused row 3 column 6\n")
-        )?
-    );
+        ));
     Ok(())
 }
 
@@ -57,17 +55,15 @@ fn ties_go_to_the_lesser_id(rt: HostRuntime) -> Result<(), Fail> {
 fn tells_of_boxes<R: Abort + Threads + Wait + Sync>(rt: &R, alloc: Global) -> Result<(), Fail> {
     let rows = "1,put,7,3,5,,\n1,box,,3,5,3,5\n1,box,,0,0,2,2\n";
     let lines = "row,place,answer,detail\n1,1,done,\n2,2,found,7:3:5\n3,3,found,\n";
-    assert!(rt; tells(rt, alloc, PLAY_NO_LOG, rows, well(lines))?);
+    assert_so!(rt; tells(rt, alloc, PLAY_NO_LOG, rows, well(lines)));
     let turned = "1,put,7,3,5,,\n1,box,,4,5,3,5\n";
-    assert!(rt;
-        tells(
+    assert_so!(rt; tells(
             rt,
             alloc,
             PLAY_NO_LOG,
             turned,
             ended(3, "refused row 2 column 6\n")
-        )?
-    );
+        ));
     Ok(())
 }
 
@@ -118,21 +114,23 @@ fn ends_in<R: Threads + Wait + Sync>(
 ) -> Result<bool, Memory> {
     let input = text(alloc, &puts_and(alloc, count, query)?)?;
     let left = run_on(rt, alloc, PLAY_NO_LOG, &input, &[], &NO_FAULTS)?;
-    Ok(left.status == 0 && left.taken.as_slice().ends_with(end.as_bytes()))
+    Ok(has_end(&left, end))
+}
+
+fn has_end(left: &Left, end: &str) -> bool {
+    left.status == 0 && left.taken.as_slice().ends_with(end.as_bytes())
 }
 
 fn lists_and_counts<R: Abort + Threads + Wait + Sync>(rt: &R, alloc: Global) -> Result<(), Fail> {
-    assert!(rt; ends_in(rt, alloc, 2_048, "1,box,,0,0,9999,0\n", ";2047:2047:0\n")?);
-    assert!(rt;
-        ends_in(
+    assert_so!(rt; ends_in(rt, alloc, 2_048, "1,box,,0,0,9999,0\n", ";2047:2047:0\n"));
+    assert_so!(rt; ends_in(
             rt,
             alloc,
             2_049,
             "1,box,,0,0,9999,0\n",
             "2050,2050,many,2049\n"
-        )?
-    );
-    assert!(rt; ends_in(rt, alloc, 2_049, "1,near,,0,0,2048,\n", ";2047:2047:0\n")?);
+        ));
+    assert_so!(rt; ends_in(rt, alloc, 2_049, "1,near,,0,0,2048,\n", ";2047:2047:0\n"));
     Ok(())
 }
 
@@ -151,11 +149,10 @@ fn torn_log(alloc: Global) -> Result<Vec<u8>, AllocError> {
 fn keeps_each_change<R: Abort + Threads + Wait + Sync>(rt: &R, alloc: Global) -> Result<(), Fail> {
     let changes = "1,put,7,3,5,,\n1,move,7,4,5,,\n1,drop,7,,,,\n";
     let lines = well("row,place,answer,detail\n1,1,done,\n2,2,moved,3:5\n3,3,gone,4:5\n");
-    assert!(rt; leaves(rt, alloc, PLAY, changes, EMPTY_LOG, lines, CHANGED_LOG)?);
+    assert_so!(rt; leaves(rt, alloc, PLAY, changes, EMPTY_LOG, lines, CHANGED_LOG));
     let torn = torn_log(alloc)?;
     let line = well("row,place,answer,detail\n1,1,done,\n");
-    assert!(rt;
-        leaves(
+    assert_so!(rt; leaves(
             rt,
             alloc,
             PLAY,
@@ -163,8 +160,7 @@ fn keeps_each_change<R: Abort + Threads + Wait + Sync>(rt: &R, alloc: Global) ->
             torn.as_slice(),
             line,
             TWO_PUTS_LOG
-        )?
-    );
+        ));
     Ok(())
 }
 
@@ -188,7 +184,11 @@ fn splits_before_the_sixth<R: Threads + Wait + Sync>(
         EMPTY_LOG,
         &NO_FAULTS,
     )?;
-    Ok(left.status == 0 && left.file().ends_with(SPLIT_AND_PUT))
+    Ok(has_split(&left))
+}
+
+fn has_split(left: &Left) -> bool {
+    left.status == 0 && left.file().ends_with(SPLIT_AND_PUT)
 }
 
 #[test]
