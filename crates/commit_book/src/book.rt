@@ -128,6 +128,13 @@ impl<I: Index, D: LogDisk> Book<I, D> {
         })
     }
 
+    /// Takes room for so many more entries at once, where there is memory for it, so that the history needn't be moved as it grows.
+    pub fn make_room(&mut self, entries: usize)
+        ensures { self.new ≡ self.old }
+    {
+        self.history.make_room(entries);
+    }
+
     /// How many entries there are.
     pub fn events(&self) -> u64
         ensures events { result ≡ length self.now.entries }

@@ -62,6 +62,13 @@ impl History {
         Ok(())
     }
 
+    /// Takes room for so many more at once, where there is memory for it.
+    pub(crate) fn make_room(&mut self, entries: usize)
+        ensures { self.new ≡ self.old }
+    {
+        let _ = self.entries.reserve(entries);
+    }
+
     /// Appends an entry, for which there is room.
     pub(crate) fn push(&mut self, entry: Entry)
         requires room { 0 < self.old.room }

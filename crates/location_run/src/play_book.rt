@@ -24,6 +24,9 @@ use std::marker::Brand;
 use std::sync::Wait;
 use std::thread::Threads;
 
+// In buckets of 64 a split has its two steps after some 32 puts.
+const ROWS_A_STEP: usize = 16;
+
 /// How rows end that are played over a book: a status, a history, and the drive of the log where there is one.
 #[derive(Drop)]
 pub(crate) struct BookEnd<D: LogDisk> {
@@ -57,6 +60,8 @@ pub(crate) fn play_book<R: Threads + Wait + Sync, K: Sink, D: LogDisk + Send, G:
     requires new { IsNewBook book }
     ensures { EndsBook D.drive report rows.now book result.events result.status result.disk (K.output sink.old) (K.output sink.new) }
 {
+    let mut book = book;
+    book.make_room(rows.len() + rows.len() / ROWS_A_STEP);
     let played = play_sessions::<R, StoreIndex, D, Brand, G>(rt, alloc, rows, book, gate);
     let closed = close(played);
     let status = write_end(report, rows, &closed, sink);

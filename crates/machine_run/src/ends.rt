@@ -7,6 +7,7 @@ use disk_file::FileDisk;
 use disk_trait::LogDisk;
 use io_edge::{OpenGate, StdSink, StdSource};
 use location_run::{Outcome, run};
+use std::alloc::Global;
 use std::fs::Files;
 use std::io::{self, Input, Print};
 use std::process::ExitCode;
@@ -16,6 +17,10 @@ use std::thread::Threads;
 // The status for want of memory.
 const NO_MEMORY: u8 = 9;
 
+// How much memory is asked for at once, and given back: a C library that takes large pieces from the kernel one by one, and gives them
+// back at once, as glibc does, keeps pieces of up to that size from then on and uses them again.
+const HEAP: usize = 16 << 20;
+
 /// Runs these words over standard input and output and these drives.
 pub fn run_words<R: Threads + Wait + Sync + AllocGlobal + Input + Print, D: LogDisk + Send>(
     rt: &R,
@@ -23,6 +28,7 @@ pub fn run_words<R: Threads + Wait + Sync + AllocGlobal + Input + Print, D: LogD
     disk: D,
     other: D,
 ) -> ExitCode {
+    keep_pieces(rt.alloc());
     let mut source = StdSource::new(rt.reader());
     let mut sink = StdSink::new(io::writer(rt));
     let outcome = run(
@@ -36,6 +42,10 @@ pub fn run_words<R: Threads + Wait + Sync + AllocGlobal + Input + Print, D: LogD
         &OpenGate,
     );
     exit_code(&outcome)
+}
+
+fn keep_pieces(alloc: Global) {
+    let _ = Vec::<u8>::with_capacity(alloc, HEAP);
 }
 
 // A program ends with the status of its run.
