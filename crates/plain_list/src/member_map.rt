@@ -40,13 +40,6 @@ impl MemberMap {
         }
     }
 
-    /// The objects of a world.
-    pub fn from_world(alloc: Global, world: &World) -> Result<MemberMap, AllocError>
-        ensures { IfOk result (λ map. map ≡ world.now) }
-    {
-        points_of(alloc, world.as_slice())
-    }
-
     pub fn len(&self) -> usize
         ensures len { result ≡ length self.now }
         ensures world { IsWorld self.now }
@@ -102,16 +95,4 @@ impl MemberMap {
         }
         Ok(World::from_vec(members))
     }
-}
-
-// A map of the objects of a world, one after the other.
-fn points_of(alloc: Global, world: &[Placed]) -> Result<MemberMap, AllocError>
-    requires { IsWorld world.now }
-    ensures { IfOk result (λ points. points ≡ world.now) }
-{
-    let mut points = MemberMap::new(alloc);
-    for member in world {
-        points.insert(member.id, member.at)?;
-    }
-    Ok(points)
 }

@@ -23,7 +23,7 @@ mod splits;
 use crate::crowded::{Begun, Crowded, is_among, is_over};
 use bucket_versions::{Bucket, Commit, Row, RowChange, Undone};
 use index_layer::{Index, Part};
-use plain_list::{Answer, MOST_MEMBERS, MemberMap, Op};
+use plain_list::{Answer, MOST_MEMBERS, MemberShards, Op};
 use std::alloc::Global;
 use std::marker::Model;
 use std::sync::Arc;
@@ -34,7 +34,7 @@ use zorder::{Memory, Name, Point, begins, key};
 pub struct PointTable<I: Index> {
     alloc: Global,
     index: I,
-    members: MemberMap,
+    members: MemberShards,
     crowded: Crowded,
     size: u32,
 }
@@ -63,7 +63,7 @@ impl<I: Index> PointTable<I> {
         Ok(PointTable {
             alloc,
             index,
-            members: MemberMap::new(alloc),
+            members: MemberShards::new(alloc),
             crowded: Crowded::new(alloc),
             size,
         })

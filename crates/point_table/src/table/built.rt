@@ -8,7 +8,7 @@ use crate::crowded::{Crowded, is_over};
 use crate::table::PointTable;
 use index_build::build;
 use index_layer::Index;
-use plain_list::{MemberMap, World};
+use plain_list::{MemberShards, World};
 use std::alloc::{AllocError, Global};
 use table_share::LeafWalk;
 use zorder::{Memory, Name};
@@ -31,7 +31,7 @@ impl<I: Index> PointTable<I> {
         Ok(PointTable {
             alloc,
             index,
-            members: MemberMap::from_world(alloc, world)?,
+            members: MemberShards::from_world(alloc, world)?,
             crowded: Crowded::from_names(names),
             size,
         })

@@ -4,7 +4,7 @@ use Rattle.plain_list.specs.World.{place_of}
 use Rattle.plain_list.specs.Answer.{with_member}
 use Rattle.plain_list.proofs.MemberMaps.{inserted_new}
 use Rattle.plain_list.proofs.RisingMembers.{place_of-next, with_member-next}
-use Rattle.plain_list.proofs.member_map.points_of.Goals as goal
+use Rattle.plain_list.proofs.member_shards.shards_of.Goals as goal
 
 -- what a read behind the end would give
 abbrev beyond : Placed

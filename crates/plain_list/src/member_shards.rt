@@ -1,0 +1,159 @@
+//! A world as many small maps, for whoever looks up an object with each call.
+ghost use Rattle.std.specs.Prelude.{◌≡◌, ◌≤◌, ◌<◌, ◌+◌, [], length, None, OnOk, OnErr, IfOk, MatchOption, replicate};
+ghost use Rattle.zorder.specs.declared.points.Point.{Point};
+ghost use Rattle.plain_list.specs.World.{most_members, IsWorld, place_of};
+ghost use Rattle.plain_list.specs.Answer.{with_member, with_moved, without};
+ghost use Rattle.plain_list.specs.MemberShards.{most_shards, shard_of, AreMade};
+
+use crate::member_map::MemberMap;
+use crate::world::World;
+use std::alloc::{AllocError, Global};
+use std::marker::Model;
+use zorder::{Placed, Point, coordinates_fit};
+
+const SHARDS: usize = 4_096;
+
+// The golden ratio's bits behind the point: ids that are dense, or so in each session, are spread over all shards.
+const MIXER: u64 = 0x9E37_79B9_7F4A_7C15;
+
+/// Where each object is, by its id: a world dealt over shards, so that a look-up mostly reads one node of a small map.
+/// Whatever ids are chosen, a shard is an ordered map, and a look-up takes logarithmic time.
+#[derive(Drop)]
+pub struct MemberShards {
+    alloc: Global,
+    shards: Vec<MemberMap>,
+    len: usize,
+}
+
+impl Model for MemberShards {
+    ghost use Rattle.std.specs.Prelude.{List};
+    ghost use Rattle.zorder.specs.declared.points.Placed.{Placed};
+
+    ghost Value = { List Placed };
+
+    ghost use Rattle.plain_list.specs.MemberShards.{joined, AreShards};
+
+    ghost view = { λ m. joined m.shards.items };
+
+    ghost invariant = { λ m. AreShards m.shards.items m.len };
+}
+
+impl MemberShards {
+    /// No objects. Memory is taken for the first one.
+    pub fn new(alloc: Global) -> MemberShards
+        ensures { result ≡ [] }
+    {
+        MemberShards {
+            alloc,
+            shards: Vec::new(alloc),
+            len: 0,
+        }
+    }
+
+    /// The objects of a world.
+    pub fn from_world(alloc: Global, world: &World) -> Result<MemberShards, AllocError>
+        ensures { IfOk result (λ shards. shards ≡ world.now) }
+    {
+        shards_of(alloc, world.as_slice())
+    }
+
+    pub fn len(&self) -> usize
+        ensures len { result ≡ length self.now }
+        ensures world { IsWorld self.now }
+    {
+        self.len
+    }
+
+    pub fn place(&self, id: u64) -> Option<Point>
+        ensures { result ≡ place_of self.now id }
+    {
+        if self.shards.is_empty() {
+            return None;
+        }
+        self.shards[shard_of(id)].place(id)
+    }
+
+    /// Puts an object at a point, in place of the one of its id, and says where that was.
+    pub fn insert(&mut self, id: u64, at: Point) -> Result<Option<Point>, AllocError>
+        requires room { length self.old < most_members }
+        ensures found { IfOk result (λ there. there ≡ place_of self.old id) }
+        ensures ok { IfOk result (λ there. MatchOption there (self.new ≡ with_member (record { id = id; at = at }) self.old) (λ _. self.new ≡ with_moved id at self.old)) }
+        ensures err { OnErr result (self.new ≡ self.old) }
+        ensures absent { OnErr result (place_of self.old id ≡ None) }
+        ensures world { IsWorld self.new }
+    {
+        coordinates_fit(at);
+        make_shards(self.alloc, &mut self.shards)?;
+        let there = self.shards[shard_of(id)].insert(id, at)?;
+        self.len += usize::from(there.is_none());
+        Ok(there)
+    }
+
+    /// Moves an object, if it is there, and says where it was. It takes no memory.
+    pub fn replace(&mut self, id: u64, at: Point) -> Option<Point>
+        ensures found { result ≡ place_of self.old id }
+        ensures moved { self.new ≡ with_moved id at self.old }
+        ensures world { IsWorld self.new }
+    {
+        coordinates_fit(at);
+        if self.shards.is_empty() {
+            return None;
+        }
+        self.shards[shard_of(id)].replace(id, at)
+    }
+
+    /// Takes an object out, if it is there, and says where it was.
+    pub fn remove(&mut self, id: u64) -> Option<Point>
+        ensures found { result ≡ place_of self.old id }
+        ensures gone { self.new ≡ without id self.old }
+    {
+        if self.shards.is_empty() {
+            return None;
+        }
+        let gone = self.shards[shard_of(id)].remove(id)?;
+        self.len -= 1;
+        Some(gone)
+    }
+}
+
+// The place of the shard that an id is dealt to, by the highest bits of its product.
+fn shard_of(id: u64) -> usize
+    ensures place { result ≡ shard_of id }
+    ensures within { result < most_shards }
+{
+    (id.wrapping_mul(MIXER) >> 52) as usize
+}
+
+// Makes the shards, where there are none yet.
+fn make_shards(alloc: Global, shards: &mut Vec<MemberMap>) -> Result<(), AllocError>
+    ensures ok { OnOk result (AreMade shards.old.items shards.new.items) }
+    ensures none { OnErr result (shards.old.items ≡ []) }
+    ensures err { OnErr result (shards.new.items ≡ []) }
+{
+    if shards.is_empty() {
+        *shards = empty_shards(alloc)?;
+    }
+    Ok(())
+}
+
+fn empty_shards(alloc: Global) -> Result<Vec<MemberMap>, AllocError>
+    ensures { IfOk result (λ shards. shards.items ≡ replicate most_shards []) }
+{
+    let mut shards = Vec::with_capacity(alloc, SHARDS)?;
+    for _ in 0..SHARDS {
+        shards.push(MemberMap::new(alloc))?;
+    }
+    Ok(shards)
+}
+
+// The objects of a world, one after the other.
+fn shards_of(alloc: Global, world: &[Placed]) -> Result<MemberShards, AllocError>
+    requires { IsWorld world.now }
+    ensures { IfOk result (λ shards. shards ≡ world.now) }
+{
+    let mut shards = MemberShards::new(alloc);
+    for member in world {
+        shards.insert(member.id, member.at)?;
+    }
+    Ok(shards)
+}
