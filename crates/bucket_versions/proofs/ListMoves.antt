@@ -1,6 +1,7 @@
 -- A list in which one item comes in the stead of another one, and those between move by one.
-use Rattle.std.proofs.Common.{◌≡◌, ℕ, zero, suc, ◌+◌, ◌<◌, List, [], ◌∷◌, ◌++◌, length, take, drop, refl, sym, ap, arith, append_assoc, subst}
+use Rattle.std.proofs.Common.{◌≡◌, ◌∙◌, ℕ, zero, suc, ◌+◌, ◌<◌, List, [], ◌∷◌, ◌++◌, length, take, drop, refl, sym, ap, arith, append_assoc, subst}
 use Rattle.std.specs.List.{insert, remove, slice_set}
+use Rattle.std.proofs.lemmas.List.{take_at, take_all}
 use borrow.Rule.Slice.PartMut.{put_mid, mid_of}
 
 at_first : {X : Type 0} (i m : ℕ) (xs : List X) (r : X) → m ≡ suc i → put_mid 0 m (r ∷ xs) (drop 1 (mid_of 0 m (r ∷ xs)) ++ take 1 (mid_of 0 m (r ∷ xs))) ≡ insert xs i r
@@ -45,3 +46,20 @@ moved_sooner b m o k [] r e f lt = absurd (omega (arith, lt))
 moved_sooner zero m o k (x ∷ xs) r e f lt = to_first o m k (x ∷ xs) r (omega (arith, e)) (omega (arith, e, f)) lt
 moved_sooner (suc b) m zero k (x ∷ xs) r e f lt = absurd (omega (arith, e, f))
 moved_sooner (suc b) m (suc o) k (x ∷ xs) r e f lt = ap (λ l. x ∷ l) (moved_sooner b m o k xs r (omega (arith, e)) f (omega (arith, lt)))
+
+first_gone : {X : Type 0} (m k : ℕ) (x : X) (xs rest : List X) → m ≡ suc k → length xs ≡ k
+    → take k (put_mid 0 m (x ∷ xs) (drop 1 (mid_of 0 m (x ∷ xs)) ++ take 1 (mid_of 0 m (x ∷ xs))) ++ rest) ≡ xs
+first_gone {X} m k x xs rest e long =
+    let P : ℕ → Type 0 = λ n. take k (put_mid 0 n (x ∷ xs) (drop 1 (mid_of 0 n (x ∷ xs)) ++ take 1 (mid_of 0 n (x ∷ xs))) ++ rest) ≡ xs in
+    let all : take k xs ≡ xs = take_all k xs (omega (arith, long)) in
+    let apart : ((take k xs ++ x ∷ []) ++ drop k xs) ++ rest ≡ take k xs ++ (x ∷ drop k xs ++ rest) =
+    ap (λ l. l ++ rest) (append_assoc (take k xs) (x ∷ []) (drop k xs)) ∙ append_assoc (take k xs) (x ∷ drop k xs) rest in
+    subst P (sym e) (ap (take k) apart ∙ take_at (take k xs) (x ∷ drop k xs ++ rest) k (ap length all ∙ long) ∙ all)
+
+-- all that stood there but one item, once that was moved behind them
+pub moved_out : {X : Type 0} (p m k : ℕ) (xs rest : List X) → p + m ≡ suc k → length xs ≡ suc k → 0 < m
+    → take k (put_mid p m xs (drop 1 (mid_of p m xs) ++ take 1 (mid_of p m xs)) ++ rest) ≡ remove xs p
+moved_out p m k [] rest e long some = absurd (omega (arith, long))
+moved_out zero m k (x ∷ xs) rest e long some = first_gone m k x xs rest (omega (arith, e)) (omega (arith, long))
+moved_out (suc p) m zero (x ∷ xs) rest e long some = absurd (omega (arith, e, some))
+moved_out (suc p) m (suc k) (x ∷ xs) rest e long some = ap (λ l. x ∷ l) (moved_out p m k xs rest (omega (arith, e)) (omega (arith, long)) some)
