@@ -140,6 +140,19 @@ pub(crate) fn step(node: &Node) -> Option<(bool, &Node, &Node)>
     }
 }
 
+/// Whether some half is a leaf. Where none is, there is no step past a leaf without rows.
+#[inline(always)]
+pub(crate) fn has_leaf_half(node: &Node) -> bool {
+    let Node::Inner(pair) = node else {
+        return false;
+    };
+    is_leaf(&pair.zero) || is_leaf(&pair.one)
+}
+
+fn is_leaf(node: &Node) -> bool {
+    matches!(node, Node::Leaf(_))
+}
+
 fn is_bare(node: &Node) -> bool
     ensures { result ≡ is_bare (seen node.now) }
 {

@@ -12,7 +12,7 @@ ghost use Rattle.kd_trie.specs.Walks.{Agrees};
 
 use crate::node::{Node, Way, agreed, divide, leaf_of, put, put_two};
 use crate::rows;
-use crate::stem::{Stem, leaf_past, step, stretch, unwound};
+use crate::stem::{Stem, has_leaf_half, leaf_past, step, stretch, unwound};
 use bucket_versions::{Bucket, Commit, RowChange, Undone};
 use std::alloc::{AllocError, Global};
 use std::sync::Arc;
@@ -123,15 +123,19 @@ impl Stemmed {
     fn wind(&mut self)
         ensures { whole self.new ≡ whole self.old }
     {
-        if step(&self.root).is_some() {
+        if has_leaf_half(&self.root) {
             self.rewind();
         }
     }
 
+    // The same where the root has a leaf for a half, which may be one without rows. A trie of many leaves seldom has.
     #[inline(never)]
     fn rewind(&mut self)
         ensures { whole self.new ≡ whole self.old }
     {
+        if step(&self.root).is_none() {
+            return;
+        }
         if let Ok(longer) = self.wound() {
             *self = longer;
         }
