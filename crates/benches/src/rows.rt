@@ -25,7 +25,7 @@ pub(crate) fn add<I: Index>(index: &mut I, row: Row) -> Result<bool, Undone> {
         return Ok(false);
     }
     match index.put_row(free(row), &mut AtOnce) {
-        Ok(()) => Ok(true),
+        Ok(_) => Ok(true),
         Err(undone) => Err(undone),
     }
 }
@@ -36,7 +36,7 @@ pub(crate) fn shift<I: Index>(index: &mut I, from: &Row, to: Row) -> Result<bool
         return Ok(false);
     }
     match index.move_row(free(*from), free(to), &mut AtOnce) {
-        Ok(()) => Ok(true),
+        Ok(_) => Ok(true),
         Err(undone) => Err(undone),
     }
 }

@@ -16,12 +16,14 @@ mod commit;
 mod content;
 mod deltas;
 mod own_rows;
+mod owned;
 mod places;
 mod row;
 mod walk;
 
 pub use bucket::{Bucket, BucketFault, pass, put, shift, take};
 pub use commit::{AtOnce, Commit, Undone};
+pub use owned::own;
 pub use places::between;
 pub use row::{Row, RowChange};
 pub use walk::BucketRows;

@@ -1,5 +1,5 @@
 -- Leaves of which one has a row more or less.
-use Rattle.std.specs.Prelude.{◌≡◌, ℕ, Bool, List, Some, IfSome}
+use Rattle.std.specs.Prelude.{◌≡◌, ℕ, Bool, List, length, Some, IfSome}
 use Rattle.bucket_versions.specs.declared.row.Row.{Row}
 use Rattle.bucket_versions.specs.declared.row.RowChange.{RowChange}
 use Rattle.bucket_versions.specs.Rows.{Rows, has_row, after_put, after_gone}
@@ -8,6 +8,10 @@ use Rattle.index_layer.specs.Leaves.{Leaf, leaf_under, replaced}
 -- whether a row is there, in the leaf that its key is under
 abbrev pub Holds : Row → List Leaf → Bool → Type 0
 Holds r leaves there = IfSome (leaf_under r.key leaves) (λ (l : Leaf). has_row r l.bucket.rows ≡ there)
+
+-- the leaf that a key is under has so many rows
+abbrev pub CountAt : ℕ → ℕ → List Leaf → Type 0
+CountAt key count leaves = (l : Leaf) → leaf_under key leaves ≡ Some l → count ≡ length l.bucket.rows
 
 -- the bucket of the leaf that a key is under is changed
 pub record ChangesAt (key : ℕ) (change : Rows → Rows) (old new : List Leaf) : Type 0 where

@@ -7,7 +7,7 @@ ghost use Rattle.index_layer.specs.Part.{IsPart};
 ghost use Rattle.index_layer.specs.Below.{IsBelow, begins_some};
 ghost use Rattle.index_layer.specs.Narrowed.{PassesBare};
 ghost use Rattle.zorder.specs.Key.{is_under};
-ghost use Rattle.index_layer.specs.RowChanges.{ChangesAt, Moves, Holds};
+ghost use Rattle.index_layer.specs.RowChanges.{ChangesAt, CountAt, Moves, Holds};
 ghost use Rattle.bucket_versions.specs.Rows.{after_put, after_gone};
 
 use bucket_versions::{Bucket, Commit, RowChange, Undone};
@@ -109,6 +109,14 @@ pub trait Index: Sized + Drop {
     /// The leaf that a key is under.
     fn leaf_of(&self, key: u64) -> (Name, &Arc<Bucket>)
         ensures { leaf_under key (leaves self.now) ≡ Some (record { name = result.0; bucket = arc_value result.1.now }) };
+
+    /// How many rows the leaf has that a key is under.
+    fn count_at(&self, key: u64) -> u64
+        ensures { CountAt key result (leaves self.now) }
+    {
+        let (_, bucket) = self.leaf_of(key);
+        bucket.count()
+    }
 
     /// What stands at a name.
     fn part(&self, name: &Name) -> Part<'_>
@@ -251,20 +259,22 @@ pub trait Index: Sized + Drop {
         Ok(())
     }
 
-    /// Adds a row to the leaf of its key, once the step has succeeded.
-    fn put_row<C: Commit>(&mut self, put: RowChange, commit: &mut C) -> Result<(), Undone>
+    /// Adds a row to the leaf of its key, once the step has succeeded, and answers how many rows that leaf has then.
+    fn put_row<C: Commit>(&mut self, put: RowChange, commit: &mut C) -> Result<u64, Undone>
         requires can { C.can commit.old }
         requires absent { Holds put.row (leaves self.old) false }
         ensures ok { OnOk result (ChangesAt put.row.key (after_put put) (leaves self.old) (leaves self.new)) }
+        ensures count { IfOk result (λ n. CountAt put.row.key n (leaves self.new)) }
         ensures err { OnErr result (leaves self.new ≡ leaves self.old) }
         ensures told { Told C.done C.lost commit.old commit.new result }
     {
         let index = self.with_row(put)?;
+        let count = index.count_at(put.row.key);
         if !commit.commit() {
             return Err(Undone::Lost);
         }
         *self = index;
-        Ok(())
+        Ok(count)
     }
 
     /// Takes a row out of the leaf of its key, once the step has succeeded.
@@ -283,27 +293,30 @@ pub trait Index: Sized + Drop {
         Ok(())
     }
 
-    /// Takes a row out of the leaf of its key and adds another one to that of its own, once the step has succeeded.
+    /// Takes a row out of the leaf of its key and adds another one to that of its own, once the step has succeeded, and answers how
+    /// many rows the second leaf has then.
     fn move_row<C: Commit>(
         &mut self,
         from: RowChange,
         to: RowChange,
         commit: &mut C,
-    ) -> Result<(), Undone>
+    ) -> Result<u64, Undone>
         requires can { C.can commit.old }
         requires present { Holds from.row (leaves self.old) true }
         requires absent { Holds to.row (leaves self.old) false }
         ensures ok { OnOk result (Moves from to (leaves self.old) (leaves self.new)) }
+        ensures count { IfOk result (λ n. CountAt to.row.key n (leaves self.new)) }
         ensures err { OnErr result (leaves self.new ≡ leaves self.old) }
         ensures told { Told C.done C.lost commit.old commit.new result }
     {
         let between = self.without_row(from)?;
         let index = between.with_row(to)?;
+        let count = index.count_at(to.row.key);
         if !commit.commit() {
             return Err(Undone::Lost);
         }
         *self = index;
-        Ok(())
+        Ok(count)
     }
 
     /// The names tile the key space, and the rows of each leaf are in order and under its name.

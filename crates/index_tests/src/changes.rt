@@ -29,7 +29,7 @@ fn put<I: Index>(index: &mut I, put: RowChange) -> Result<bool, Undone> {
         return Ok(false);
     }
     match index.put_row(put, &mut AtOnce) {
-        Ok(()) => Ok(true),
+        Ok(_) => Ok(true),
         Err(undone) => Err(undone),
     }
 }
@@ -39,7 +39,7 @@ fn shift<I: Index>(index: &mut I, from: RowChange, to: RowChange) -> Result<bool
         return Ok(false);
     }
     match index.move_row(from, to, &mut AtOnce) {
-        Ok(()) => Ok(true),
+        Ok(_) => Ok(true),
         Err(undone) => Err(undone),
     }
 }

@@ -1,5 +1,5 @@
 -- A trie with a row more or less in one leaf has leaves that are changed at that leaf.
-use Rattle.std.proofs.Common.{◌≡◌, ℕ, ◌<◌, ◌≤◌, ◌^◌, Bool, true, false, List, [], ◌∷◌, Some, IfSome, Result, Ok, Err, OnOk, refl, sym, ◌∙◌, ap, subst}
+use Rattle.std.proofs.Common.{◌≡◌, ℕ, ◌<◌, ◌≤◌, ◌^◌, Bool, true, false, List, [], ◌∷◌, Some, length, IfSome, Result, Ok, Err, IfOk, OnOk, refl, sym, ◌∙◌, ap, subst}
 use Rattle.std.specs.List.{AllByRecursion}
 use Rattle.zorder.specs.Bits.{low_bits}
 use Rattle.zorder.specs.Key.{is_under}
@@ -12,7 +12,7 @@ use Rattle.index_layer.proofs.LeafKeys.{all_at}
 use Rattle.index_layer.proofs.FoundLeaves.{AreUnder-with_row, AreUnder-without_row}
 use Rattle.index_layer.proofs.LeafChanges.{leaf_at, AreLeaves-replaced}
 use Rattle.kd_trie.specs.Tries.{Trie, tip, fork, height, leaves_under, put_at, name_at, bucket_at, rows_at, changed_at}
-use Rattle.index_layer.specs.RowChanges.{ChangesAt, Moves}
+use Rattle.index_layer.specs.RowChanges.{ChangesAt, CountAt, Moves}
 use Rattle.kd_trie.proofs.TrieLeaves.{hole, within, name-under, leaves-put, leaf-at_key}
 use Rattle.kd_trie.proofs.TrieRows.{height-changed, rows-bucket}
 
@@ -108,3 +108,18 @@ moves-made (Ok x) from to leaves old once twice new same d e ok = record {
   puts = subst (λ (t : Trie). ChangesAt to.row.key (after_put to) (leaves_under [] once) (leaves_under [] t)) (sym ok) e.changes;
 }
 moves-made (Err x) from to leaves old once twice new same d e ok = tt
+
+-- how many rows a key leads to is how many the leaf has that it is under
+pub counts-made : {E : Type 0} (r : Result ℕ E) (key : ℕ) (made new : Trie) → key < 2 ^ 64 → height made ≤ 64 → AreLeaves (leaves_under [] made) → OnOk r (new ≡ made)
+    → IfOk r (λ n. n ≡ length (rows_at (low_bits 64 key) new)) → IfOk r (λ n. CountAt key n (leaves_under [] new))
+counts-made (Ok n) key made new lt h are ok is =
+    let f = find-leaf key made lt h are in
+    λ l found.
+    is
+    ∙ ap (λ (t : Trie). length (rows_at (low_bits 64 key) t)) ok
+    ∙ ap length (rows-bucket (low_bits 64 key) made f.bucket f.held)
+    ∙ ap (λ (m : Leaf). length m.bucket.rows) (one (leaf_at f.name f.bucket) l (sym f.found ∙ ap (λ (t : Trie). leaf_under key (leaves_under [] t)) (sym ok) ∙ found))
+  where
+    one : (x y : Leaf) → Some x ≡ Some y → x ≡ y
+    one x y e = cc e
+counts-made (Err e) key made new lt h are ok is = tt

@@ -140,3 +140,9 @@ pub made-under : {A E : Type 0} (r : Result A E) (sides : List Side) (change und
     → change (stem_over sides old) ≡ stem_over sides (under old) → OnOk r (new ≡ under old) → OnOk r (last ≡ change first)
 made-under (Ok x) sides change under old new first last begun ended over made = ended ∙ ap (stem_over sides) made ∙ sym over ∙ ap change begun
 made-under (Err e) sides change under old new first last begun ended over made = tt
+
+-- how many rows a key leads to under the stem and over it
+pub counted-under : {E : Type 0} (r : Result ℕ E) (sides : List Side) (key left : ℕ) (under last : Trie) → low_bits 64 key ≡ way_of sides ++ low_bits left key → last ≡ stem_over sides under
+    → IfOk r (λ n. n ≡ length (rows_at (low_bits left key) under)) → IfOk r (λ n. n ≡ length (rows_at (low_bits 64 key) last))
+counted-under (Ok n) sides key left under last path ended is = is ∙ ap length (sym (rows-under sides key left path under)) ∙ ap (λ (t : Trie). length (rows_at (low_bits 64 key) t)) (sym ended)
+counted-under (Err e) sides key left under last path ended is = tt

@@ -1,5 +1,5 @@
 -- What a way leads to.
-use Rattle.std.specs.Prelude.{◌≡◌, ◌≤◌, ℕ, Bool, true, false}
+use Rattle.std.specs.Prelude.{◌≡◌, ◌≤◌, ℕ, Bool, true, false, length}
 use Rattle.std.specs.Arc.{arc_value}
 use Rattle.zorder.specs.Bits.{low_bits}
 use Rattle.bucket_versions.specs.declared.row.Row.{Row}
@@ -24,6 +24,10 @@ both_put key b other c t = put_at (low_bits 64 other) c (put_at (low_bits 64 key
 -- whether a row stands in the leaf that the last bits of its key lead to
 abbrev pub has_under : ℕ → Row → Trie → Bool
 has_under left r t = has_row r (rows_at (low_bits left r.key) t)
+
+-- how many rows stand in that leaf
+abbrev pub count_under : ℕ → Row → Trie → ℕ
+count_under left r t = length (rows_at (low_bits left r.key) t)
 
 -- the trie with a row more in that leaf, and with a row less
 abbrev pub put_under : ℕ → RowChange → Trie → Trie

@@ -1,7 +1,6 @@
 //! Nodes: a leaf's bucket, or two halves.
-ghost use Rattle.std.specs.Prelude.{◌≡◌, ◌≤◌, ◌<◌, ◌+◌, ◌-◌, ◌==◌, ◌⊎◌, Some, length, IfOk, OnOk, OnErr};
-ghost use Rattle.std.specs.Arc.{arc_value, arc_follows_make_mut};
-ghost use Rattle.std.specs.Borrow.{sem};
+ghost use Rattle.std.specs.Prelude.{◌≡◌, ◌≤◌, ◌<◌, ◌+◌, ◌-◌, ◌==◌, Some, length, IfOk, OnOk, OnErr};
+ghost use Rattle.std.specs.Arc.{arc_value};
 ghost use Rattle.std.specs.Int.{bit_at};
 ghost use Rattle.zorder.specs.Bits.{low_bits};
 ghost use Rattle.kd_trie.specs.Tries.{name_at, bucket_at, graft, twins};
@@ -10,8 +9,8 @@ ghost use Rattle.kd_trie.specs.Ways.{Fits, put_way};
 ghost use Rattle.kd_trie.specs.Walks.{Agrees};
 ghost use Rattle.bucket_versions.specs.Told.{Told};
 
-use bucket_versions::{Bucket, Commit, Undone};
-use std::alloc::{AllocError, Allocator, Global};
+use bucket_versions::{Bucket, Commit, Undone, own};
+use std::alloc::{AllocError, Global};
 use std::sync::Arc;
 
 /// A leaf's bucket, or what is under the next bit.
@@ -40,33 +39,6 @@ impl Node {
             Node::Inner(pair) => Ok(Node::Inner(Arc::try_clone(pair)?)),
         }
     }
-}
-
-// What is behind a pointer, to write to: a clone of it, if it has other owners. `Arc::make_mut` does the same, and is called
-// only then, so that no call stands in the loops down the trie.
-#[inline(always)]
-pub(crate) fn own<T: Clone + Drop, A: Allocator + Clone>(
-    shared: &mut Arc<T, A>,
-) -> Result<&mut T, AllocError>
-    ensures* writes_back { sem 𝓛 (arc_follows_make_mut T.row A.row A.Allocator T.is_clone shared.entry result) }
-    ensures value { IfOk result (λ x. (x.now ≡ arc_value shared.old) ⊎ T.is_clone (arc_value shared.old) x.now) }
-{
-    if Arc::strong_count(shared) != 1 {
-        part(shared)?;
-    }
-    match Arc::get_mut(shared) {
-        Some(value) => Ok(value),
-        None => Err(AllocError),
-    }
-}
-
-// Parts a pointer from its other owners.
-#[inline(never)]
-fn part<T: Clone + Drop, A: Allocator + Clone>(shared: &mut Arc<T, A>) -> Result<(), AllocError>
-    ensures { (arc_value shared.new ≡ arc_value shared.old) ⊎ T.is_clone (arc_value shared.old) (arc_value shared.new) }
-{
-    Arc::make_mut(shared)?;
-    Ok(())
 }
 
 impl Clone for Pair {

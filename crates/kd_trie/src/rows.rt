@@ -1,64 +1,77 @@
 //! Rows that are put, taken and moved in a trie that is changed in place.
-ghost use Rattle.std.specs.Prelude.{◌≡◌, true, false, OnOk, OnErr};
+ghost use Rattle.std.specs.Prelude.{◌≡◌, true, false, length, IfOk, OnOk, OnErr};
 ghost use Rattle.std.specs.Arc.{arc_value};
 ghost use Rattle.bucket_versions.specs.Rows.{has_row, without_row, after_put, after_gone};
 ghost use Rattle.bucket_versions.specs.Told.{Told};
 ghost use Rattle.kd_trie.specs.Nodes.{seen};
-ghost use Rattle.kd_trie.specs.Ways.{Fits, has_under, put_under, gone_under, MayMove};
+ghost use Rattle.kd_trie.specs.Ways.{Fits, has_under, put_under, gone_under, count_under, MayMove};
 
-use crate::node::{Node, Pair, next_bit, own};
-use bucket_versions::{Bucket, Commit, RowChange, Undone, pass, put, shift, take};
+use crate::node::{Node, Pair, next_bit};
+use bucket_versions::{Bucket, Commit, RowChange, Undone, own, pass, put, shift, take};
 use std::sync::Arc;
 
+/// A row that is to go, and how that ended.
+///
+/// The ways down to a leaf answer here: they would be no loops if they gave it back.
+#[derive(Drop)]
+pub(crate) struct Going {
+    pub(crate) change: RowChange,
+    pub(crate) ended: Result<(), Undone>,
+}
+
+/// A row that is to come, and how that ended: with how many rows are there then.
+#[derive(Drop)]
+pub(crate) struct Coming {
+    pub(crate) change: RowChange,
+    pub(crate) ended: Result<u64, Undone>,
+}
+
 /// Adds a row to the leaf that the last `left` bits of its key lead to, once the step has succeeded.
-pub(crate) fn put_row<C: Commit>(
-    node: &mut Node,
-    change: &RowChange,
-    left: u8,
-    commit: &mut C,
-) -> Result<(), Undone>
+pub(crate) fn put_row<C: Commit>(node: &mut Node, to: &mut Coming, left: u8, commit: &mut C)
     requires can { C.can commit.old }
     requires fits { Fits left (seen node.old) }
-    requires absent { has_under left change.now.row (seen node.old) ≡ false }
-    ensures ok { OnOk result (seen node.new ≡ put_under left change.now (seen node.old)) }
-    ensures err { OnErr result (seen node.new ≡ seen node.old) }
-    ensures told { Told C.done C.lost commit.old commit.new result }
+    requires absent { has_under left to.old.change.row (seen node.old) ≡ false }
+    ensures ok { OnOk to.new.ended (seen node.new ≡ put_under left to.old.change (seen node.old)) }
+    ensures count { IfOk to.new.ended (λ n. n ≡ count_under left to.old.change.row (seen node.new)) }
+    ensures err { OnErr to.new.ended (seen node.new ≡ seen node.old) }
+    ensures told { Told C.done C.lost commit.old commit.new to.new.ended }
 {
     match node {
-        Node::Leaf(leaf) => put_there(leaf, change, commit),
+        Node::Leaf(leaf) => put_there(leaf, to, commit),
         Node::Inner(pair) => {
-            let pair = own(pair)?;
-            if next_bit(change.row.key, left) {
-                put_row(&mut pair.one, change, left - 1, commit)
+            let Ok(pair) = own(pair) else {
+                to.ended = Err(Undone::Memory);
+                return;
+            };
+            if next_bit(to.change.row.key, left) {
+                put_row(&mut pair.one, to, left - 1, commit);
             } else {
-                put_row(&mut pair.zero, change, left - 1, commit)
+                put_row(&mut pair.zero, to, left - 1, commit);
             }
         }
     }
 }
 
 /// Takes a row out of the leaf that the last `left` bits of its key lead to, once the step has succeeded.
-pub(crate) fn take_row<C: Commit>(
-    node: &mut Node,
-    change: &RowChange,
-    left: u8,
-    commit: &mut C,
-) -> Result<(), Undone>
+pub(crate) fn take_row<C: Commit>(node: &mut Node, from: &mut Going, left: u8, commit: &mut C)
     requires can { C.can commit.old }
     requires fits { Fits left (seen node.old) }
-    requires present { has_under left change.now.row (seen node.old) ≡ true }
-    ensures ok { OnOk result (seen node.new ≡ gone_under left change.now (seen node.old)) }
-    ensures err { OnErr result (seen node.new ≡ seen node.old) }
-    ensures told { Told C.done C.lost commit.old commit.new result }
+    requires present { has_under left from.old.change.row (seen node.old) ≡ true }
+    ensures ok { OnOk from.new.ended (seen node.new ≡ gone_under left from.old.change (seen node.old)) }
+    ensures err { OnErr from.new.ended (seen node.new ≡ seen node.old) }
+    ensures told { Told C.done C.lost commit.old commit.new from.new.ended }
 {
     match node {
-        Node::Leaf(leaf) => take_there(leaf, change, commit),
+        Node::Leaf(leaf) => take_there(leaf, from, commit),
         Node::Inner(pair) => {
-            let pair = own(pair)?;
-            if next_bit(change.row.key, left) {
-                take_row(&mut pair.one, change, left - 1, commit)
+            let Ok(pair) = own(pair) else {
+                from.ended = Err(Undone::Memory);
+                return;
+            };
+            if next_bit(from.change.row.key, left) {
+                take_row(&mut pair.one, from, left - 1, commit);
             } else {
-                take_row(&mut pair.zero, change, left - 1, commit)
+                take_row(&mut pair.zero, from, left - 1, commit);
             }
         }
     }
@@ -69,33 +82,37 @@ pub(crate) fn take_row<C: Commit>(
 pub(crate) fn shift_row<C: Commit>(
     node: &mut Node,
     from: &RowChange,
-    to: &RowChange,
+    to: &mut Coming,
     left: u8,
     commit: &mut C,
-) -> Result<(), Undone>
+)
     requires can { C.can commit.old }
     requires fits { Fits left (seen node.old) }
-    requires rows { MayMove left from.now left to.now (seen node.old) (gone_under left from.now (seen node.old)) }
-    ensures ok { OnOk result (seen node.new ≡ put_under left to.now (gone_under left from.now (seen node.old))) }
-    ensures err { OnErr result (seen node.new ≡ seen node.old) }
-    ensures told { Told C.done C.lost commit.old commit.new result }
+    requires rows { MayMove left from.now left to.old.change (seen node.old) (gone_under left from.now (seen node.old)) }
+    ensures ok { OnOk to.new.ended (seen node.new ≡ put_under left to.old.change (gone_under left from.now (seen node.old))) }
+    ensures count { IfOk to.new.ended (λ n. n ≡ count_under left to.old.change.row (seen node.new)) }
+    ensures err { OnErr to.new.ended (seen node.new ≡ seen node.old) }
+    ensures told { Told C.done C.lost commit.old commit.new to.new.ended }
 {
     match node {
         Node::Leaf(leaf) => shift_there(leaf, from, to, commit),
         Node::Inner(pair) => {
-            let pair = own(pair)?;
+            let Ok(pair) = own(pair) else {
+                to.ended = Err(Undone::Memory);
+                return;
+            };
             if next_bit(from.row.key, left) {
-                if next_bit(to.row.key, left) {
-                    shift_row(&mut pair.one, from, to, left - 1, commit)
+                if next_bit(to.change.row.key, left) {
+                    shift_row(&mut pair.one, from, to, left - 1, commit);
                 } else {
                     let Pair { zero, one } = pair;
-                    pass_row(one, from, left - 1, zero, to, left - 1, commit)
+                    pass_row(one, from, left - 1, zero, to, left - 1, commit);
                 }
-            } else if next_bit(to.row.key, left) {
+            } else if next_bit(to.change.row.key, left) {
                 let Pair { zero, one } = pair;
-                pass_row(zero, from, left - 1, one, to, left - 1, commit)
+                pass_row(zero, from, left - 1, one, to, left - 1, commit);
             } else {
-                shift_row(&mut pair.zero, from, to, left - 1, commit)
+                shift_row(&mut pair.zero, from, to, left - 1, commit);
             }
         }
     }
@@ -107,23 +124,27 @@ fn pass_row<C: Commit>(
     from: &RowChange,
     left: u8,
     other: &mut Node,
-    to: &RowChange,
+    to: &mut Coming,
     other_left: u8,
     commit: &mut C,
-) -> Result<(), Undone>
+)
     requires can { C.can commit.old }
     requires fits { Fits left (seen node.old) × Fits other_left (seen other.old) }
-    requires rows { MayMove left from.now other_left to.now (seen node.old) (seen other.old) }
-    ensures ok { OnOk result ((seen node.new ≡ gone_under left from.now (seen node.old)) × (seen other.new ≡ put_under other_left to.now (seen other.old))) }
-    ensures err { OnErr result ((seen node.new ≡ seen node.old) × (seen other.new ≡ seen other.old)) }
-    ensures told { Told C.done C.lost commit.old commit.new result }
+    requires rows { MayMove left from.now other_left to.old.change (seen node.old) (seen other.old) }
+    ensures ok { OnOk to.new.ended ((seen node.new ≡ gone_under left from.now (seen node.old)) × (seen other.new ≡ put_under other_left to.old.change (seen other.old))) }
+    ensures count { IfOk to.new.ended (λ n. n ≡ count_under other_left to.old.change.row (seen other.new)) }
+    ensures err { OnErr to.new.ended ((seen node.new ≡ seen node.old) × (seen other.new ≡ seen other.old)) }
+    ensures told { Told C.done C.lost commit.old commit.new to.new.ended }
 {
     match node {
         Node::Leaf(leaf) => pass_on(leaf, from, other, to, other_left, commit),
         Node::Inner(pair) => {
-            let pair = own(pair)?;
+            let Ok(pair) = own(pair) else {
+                to.ended = Err(Undone::Memory);
+                return;
+            };
             if next_bit(from.row.key, left) {
-                pass_row(&mut pair.one, from, left - 1, other, to, other_left, commit)
+                pass_row(&mut pair.one, from, left - 1, other, to, other_left, commit);
             } else {
                 pass_row(
                     &mut pair.zero,
@@ -133,7 +154,7 @@ fn pass_row<C: Commit>(
                     to,
                     other_left,
                     commit,
-                )
+                );
             }
         }
     }
@@ -144,25 +165,29 @@ fn pass_on<C: Commit>(
     leaf: &mut Arc<Bucket>,
     from: &RowChange,
     node: &mut Node,
-    to: &RowChange,
+    to: &mut Coming,
     left: u8,
     commit: &mut C,
-) -> Result<(), Undone>
+)
     requires can { C.can commit.old }
     requires fits { Fits left (seen node.old) }
-    requires rows { (has_row from.now.row (arc_value leaf.old).rows ≡ true) × (has_under left to.now.row (seen node.old) ≡ false) }
-    ensures ok { OnOk result ((arc_value leaf.new ≡ after_gone from.now (arc_value leaf.old)) × (seen node.new ≡ put_under left to.now (seen node.old))) }
-    ensures err { OnErr result ((arc_value leaf.new ≡ arc_value leaf.old) × (seen node.new ≡ seen node.old)) }
-    ensures told { Told C.done C.lost commit.old commit.new result }
+    requires rows { (has_row from.now.row (arc_value leaf.old).rows ≡ true) × (has_under left to.old.change.row (seen node.old) ≡ false) }
+    ensures ok { OnOk to.new.ended ((arc_value leaf.new ≡ after_gone from.now (arc_value leaf.old)) × (seen node.new ≡ put_under left to.old.change (seen node.old))) }
+    ensures count { IfOk to.new.ended (λ n. n ≡ count_under left to.old.change.row (seen node.new)) }
+    ensures err { OnErr to.new.ended ((arc_value leaf.new ≡ arc_value leaf.old) × (seen node.new ≡ seen node.old)) }
+    ensures told { Told C.done C.lost commit.old commit.new to.new.ended }
 {
     match node {
         Node::Leaf(other) => pass_there(leaf, from, other, to, commit),
         Node::Inner(pair) => {
-            let pair = own(pair)?;
-            if next_bit(to.row.key, left) {
-                pass_on(leaf, from, &mut pair.one, to, left - 1, commit)
+            let Ok(pair) = own(pair) else {
+                to.ended = Err(Undone::Memory);
+                return;
+            };
+            if next_bit(to.change.row.key, left) {
+                pass_on(leaf, from, &mut pair.one, to, left - 1, commit);
             } else {
-                pass_on(leaf, from, &mut pair.zero, to, left - 1, commit)
+                pass_on(leaf, from, &mut pair.zero, to, left - 1, commit);
             }
         }
     }
@@ -171,50 +196,39 @@ fn pass_on<C: Commit>(
 // The changes of a leaf's bucket. They stay out of the ways down to it, which are loops without them.
 
 #[inline(never)]
-fn put_there<C: Commit>(
-    leaf: &mut Arc<Bucket>,
-    change: &RowChange,
-    commit: &mut C,
-) -> Result<(), Undone>
+fn put_there<C: Commit>(leaf: &mut Arc<Bucket>, to: &mut Coming, commit: &mut C)
     requires can { C.can commit.old }
-    requires absent { has_row change.now.row (arc_value leaf.old).rows ≡ false }
-    ensures ok { OnOk result (arc_value leaf.new ≡ after_put change.now (arc_value leaf.old)) }
-    ensures err { OnErr result (arc_value leaf.new ≡ arc_value leaf.old) }
-    ensures told { Told C.done C.lost commit.old commit.new result }
+    requires absent { has_row to.old.change.row (arc_value leaf.old).rows ≡ false }
+    ensures ok { OnOk to.new.ended (arc_value leaf.new ≡ after_put to.old.change (arc_value leaf.old)) }
+    ensures count { IfOk to.new.ended (λ n. n ≡ length (arc_value leaf.new).rows) }
+    ensures err { OnErr to.new.ended (arc_value leaf.new ≡ arc_value leaf.old) }
+    ensures told { Told C.done C.lost commit.old commit.new to.new.ended }
 {
-    put(leaf, *change, commit)
+    to.ended = put(leaf, to.change, commit);
 }
 
 #[inline(never)]
-fn take_there<C: Commit>(
-    leaf: &mut Arc<Bucket>,
-    change: &RowChange,
-    commit: &mut C,
-) -> Result<(), Undone>
+fn take_there<C: Commit>(leaf: &mut Arc<Bucket>, from: &mut Going, commit: &mut C)
     requires can { C.can commit.old }
-    requires present { has_row change.now.row (arc_value leaf.old).rows ≡ true }
-    ensures ok { OnOk result (arc_value leaf.new ≡ after_gone change.now (arc_value leaf.old)) }
-    ensures err { OnErr result (arc_value leaf.new ≡ arc_value leaf.old) }
-    ensures told { Told C.done C.lost commit.old commit.new result }
+    requires present { has_row from.old.change.row (arc_value leaf.old).rows ≡ true }
+    ensures ok { OnOk from.new.ended (arc_value leaf.new ≡ after_gone from.old.change (arc_value leaf.old)) }
+    ensures err { OnErr from.new.ended (arc_value leaf.new ≡ arc_value leaf.old) }
+    ensures told { Told C.done C.lost commit.old commit.new from.new.ended }
 {
-    take(leaf, *change, commit)
+    from.ended = take(leaf, from.change, commit);
 }
 
 #[inline(never)]
-fn shift_there<C: Commit>(
-    leaf: &mut Arc<Bucket>,
-    from: &RowChange,
-    to: &RowChange,
-    commit: &mut C,
-) -> Result<(), Undone>
+fn shift_there<C: Commit>(leaf: &mut Arc<Bucket>, from: &RowChange, to: &mut Coming, commit: &mut C)
     requires can { C.can commit.old }
     requires present { has_row from.now.row (arc_value leaf.old).rows ≡ true }
-    requires absent { has_row to.now.row (without_row from.now.row (arc_value leaf.old).rows) ≡ false }
-    ensures ok { OnOk result (arc_value leaf.new ≡ after_put to.now (after_gone from.now (arc_value leaf.old))) }
-    ensures err { OnErr result (arc_value leaf.new ≡ arc_value leaf.old) }
-    ensures told { Told C.done C.lost commit.old commit.new result }
+    requires absent { has_row to.old.change.row (without_row from.now.row (arc_value leaf.old).rows) ≡ false }
+    ensures ok { OnOk to.new.ended (arc_value leaf.new ≡ after_put to.old.change (after_gone from.now (arc_value leaf.old))) }
+    ensures count { IfOk to.new.ended (λ n. n ≡ length (arc_value leaf.new).rows) }
+    ensures err { OnErr to.new.ended (arc_value leaf.new ≡ arc_value leaf.old) }
+    ensures told { Told C.done C.lost commit.old commit.new to.new.ended }
 {
-    shift(leaf, *from, *to, commit)
+    to.ended = shift(leaf, *from, to.change, commit);
 }
 
 #[inline(never)]
@@ -222,14 +236,15 @@ fn pass_there<C: Commit>(
     leaf: &mut Arc<Bucket>,
     from: &RowChange,
     other: &mut Arc<Bucket>,
-    to: &RowChange,
+    to: &mut Coming,
     commit: &mut C,
-) -> Result<(), Undone>
+)
     requires can { C.can commit.old }
-    requires rows { (has_row from.now.row (arc_value leaf.old).rows ≡ true) × (has_row to.now.row (arc_value other.old).rows ≡ false) }
-    ensures ok { OnOk result ((arc_value leaf.new ≡ after_gone from.now (arc_value leaf.old)) × (arc_value other.new ≡ after_put to.now (arc_value other.old))) }
-    ensures err { OnErr result ((arc_value leaf.new ≡ arc_value leaf.old) × (arc_value other.new ≡ arc_value other.old)) }
-    ensures told { Told C.done C.lost commit.old commit.new result }
+    requires rows { (has_row from.now.row (arc_value leaf.old).rows ≡ true) × (has_row to.old.change.row (arc_value other.old).rows ≡ false) }
+    ensures ok { OnOk to.new.ended ((arc_value leaf.new ≡ after_gone from.now (arc_value leaf.old)) × (arc_value other.new ≡ after_put to.old.change (arc_value other.old))) }
+    ensures count { IfOk to.new.ended (λ n. n ≡ length (arc_value other.new).rows) }
+    ensures err { OnErr to.new.ended ((arc_value leaf.new ≡ arc_value leaf.old) × (arc_value other.new ≡ arc_value other.old)) }
+    ensures told { Told C.done C.lost commit.old commit.new to.new.ended }
 {
-    pass(leaf, *from, other, *to, commit)
+    to.ended = pass(leaf, *from, other, to.change, commit);
 }

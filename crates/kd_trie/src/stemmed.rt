@@ -5,13 +5,13 @@ ghost use Rattle.zorder.specs.Bits.{low_bits};
 ghost use Rattle.zorder.specs.Key.{is_under};
 ghost use Rattle.bucket_versions.specs.Told.{Told};
 ghost use Rattle.kd_trie.specs.Tries.{height, name_at, bucket_at, put_at, graft, twins, tip};
-ghost use Rattle.kd_trie.specs.Ways.{both_put, has_under, put_under, gone_under, MayMove};
+ghost use Rattle.kd_trie.specs.Ways.{both_put, has_under, put_under, gone_under, count_under, MayMove};
 ghost use Rattle.kd_trie.specs.Wholes.{whole};
 ghost use Rattle.kd_trie.specs.Nodes.{seen};
 ghost use Rattle.kd_trie.specs.Walks.{Agrees};
 
 use crate::node::{Node, Way, agreed, divide, leaf_of, put, put_two};
-use crate::rows;
+use crate::rows::{self, Coming, Going};
 use crate::stem::{Stem, has_leaf_half, leaf_past, step, stretch, unwound};
 use bucket_versions::{Bucket, Commit, RowChange, Undone};
 use std::alloc::{AllocError, Global};
@@ -225,24 +225,29 @@ impl Stemmed {
         done
     }
 
-    /// Adds a row to the leaf of its key, once the step has succeeded.
+    /// Adds a row to the leaf of its key, once the step has succeeded, and answers how many rows are there then.
     pub(crate) fn put_row<C: Commit>(
         &mut self,
         change: &RowChange,
         commit: &mut C,
-    ) -> Result<(), Undone>
+    ) -> Result<u64, Undone>
         requires can { C.can commit.old }
         requires height { height (whole self.old) ≤ 64 }
         requires absent { has_under 64 change.now.row (whole self.old) ≡ false }
         ensures ok { OnOk result (whole self.new ≡ put_under 64 change.now (whole self.old)) }
+        ensures count { IfOk result (λ n. n ≡ count_under 64 change.now.row (whole self.new)) }
         ensures err { OnErr result (whole self.new ≡ whole self.old) }
         ensures told { Told C.done C.lost commit.old commit.new result }
     {
         self.open_to(change.row.key)?;
         let left = 64 - self.stem.name.len();
-        let done = rows::put_row(&mut self.root, change, left, commit);
+        let mut to = Coming {
+            change: *change,
+            ended: Err(Undone::Memory),
+        };
+        rows::put_row(&mut self.root, &mut to, left, commit);
         self.wind();
-        done
+        to.ended
     }
 
     /// Takes a row out of the leaf of its key, once the step has succeeded.
@@ -260,30 +265,39 @@ impl Stemmed {
     {
         self.open_to(change.row.key)?;
         let left = 64 - self.stem.name.len();
-        let done = rows::take_row(&mut self.root, change, left, commit);
+        let mut from = Going {
+            change: *change,
+            ended: Err(Undone::Memory),
+        };
+        rows::take_row(&mut self.root, &mut from, left, commit);
         self.wind();
-        done
+        from.ended
     }
 
-    /// Takes a row out and adds another one, once the step has succeeded.
+    /// Takes a row out and adds another one, once the step has succeeded, and answers how many rows are then where that one is.
     pub(crate) fn shift_row<C: Commit>(
         &mut self,
         from: &RowChange,
         to: &RowChange,
         commit: &mut C,
-    ) -> Result<(), Undone>
+    ) -> Result<u64, Undone>
         requires can { C.can commit.old }
         requires height { height (whole self.old) ≤ 64 }
         requires rows { MayMove 64 from.now 64 to.now (whole self.old) (gone_under 64 from.now (whole self.old)) }
         ensures ok { OnOk result (whole self.new ≡ put_under 64 to.now (gone_under 64 from.now (whole self.old))) }
+        ensures count { IfOk result (λ n. n ≡ count_under 64 to.now.row (whole self.new)) }
         ensures err { OnErr result (whole self.new ≡ whole self.old) }
         ensures told { Told C.done C.lost commit.old commit.new result }
     {
         self.open_to(from.row.key)?;
         self.open_to(to.row.key)?;
         let left = 64 - self.stem.name.len();
-        let done = rows::shift_row(&mut self.root, from, to, left, commit);
+        let mut to = Coming {
+            change: *to,
+            ended: Err(Undone::Memory),
+        };
+        rows::shift_row(&mut self.root, from, &mut to, left, commit);
         self.wind();
-        done
+        to.ended
     }
 }

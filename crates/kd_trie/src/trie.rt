@@ -183,7 +183,7 @@ impl Index for KdTrie {
         self.tree.divide(name.bits(), zero, one, commit)
     }
 
-    fn put_row<C: Commit>(&mut self, put: RowChange, commit: &mut C) -> Result<(), Undone> {
+    fn put_row<C: Commit>(&mut self, put: RowChange, commit: &mut C) -> Result<u64, Undone> {
         in_range(put.row.key);
         self.tree.put_row(&put, commit)
     }
@@ -198,7 +198,7 @@ impl Index for KdTrie {
         from: RowChange,
         to: RowChange,
         commit: &mut C,
-    ) -> Result<(), Undone> {
+    ) -> Result<u64, Undone> {
         in_range(from.row.key);
         in_range(to.row.key);
         self.tree.shift_row(&from, &to, commit)

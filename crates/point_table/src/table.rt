@@ -8,7 +8,7 @@ ghost use Rattle.zorder.specs.declared.points.Point.{Point};
 ghost use Rattle.plain_list.specs.World.{IsWorld, place_of, is_full};
 ghost use Rattle.plain_list.specs.Answer.{answer_of, is_change};
 ghost use Rattle.index_layer.specs.Leaves.{AreLeaves, names_of, has_name};
-ghost use Rattle.index_layer.specs.RowChanges.{Holds, ChangesAt, Moves};
+ghost use Rattle.index_layer.specs.RowChanges.{CountAt, Holds, ChangesAt, Moves};
 ghost use Rattle.index_layer.specs.Stands.{HasRowsOf};
 ghost use Rattle.point_table.specs.Changes.{KeepsAt, CanMove};
 ghost use Rattle.point_table.specs.Crowded.{Reserves};
@@ -154,12 +154,16 @@ impl<I: Index> PointTable<I> {
         }
         let row = Row { key: key(at), id };
         let put = change(&self.index, begun, row);
-        if let Err(undone) = put_row(&mut self.index, &mut self.crowded, put, commit) {
-            self.members.remove(id);
-            return Err(undone);
+        match put_row(&mut self.index, &mut self.crowded, put, commit) {
+            Ok(count) => {
+                mark_come(&mut self.crowded, &self.index, self.size, row.key, count);
+                Ok(Answer::Done)
+            }
+            Err(undone) => {
+                self.members.remove(id);
+                Err(undone)
+            }
         }
-        mark(&mut self.crowded, &self.index, self.size, row.key);
-        Ok(Answer::Done)
     }
 
     fn is_full(&self) -> bool
@@ -208,12 +212,17 @@ impl<I: Index> PointTable<I> {
         let to = Row { key: key(at), id };
         let gone = change(&self.index, begun, from);
         let put = change(&self.index, begun, to);
-        if let Err(undone) = move_row(&mut self.index, &mut self.crowded, gone, put, commit) {
-            self.members.replace(id, old);
-            return Err(undone);
+        match move_row(&mut self.index, &mut self.crowded, gone, put, commit) {
+            Ok(count) => {
+                let (from, to) = (from.key, to.key);
+                mark_two(&mut self.crowded, &self.index, self.size, from, to, count);
+                Ok(Answer::Moved(old))
+            }
+            Err(undone) => {
+                self.members.replace(id, old);
+                Err(undone)
+            }
         }
-        mark_two(&mut self.crowded, &self.index, self.size, from.key, to.key);
-        Ok(Answer::Moved(old))
     }
 
     #[tactic(auto, using(crate::proofs::Settled::settled_same))]
@@ -304,16 +313,17 @@ fn change<I: Index>(index: &I, begun: &[Begun], row: Row) -> RowChange
     }
 }
 
-// Puts a row, once there is room to mark its leaf and the step has succeeded.
+// Puts a row, once there is room to mark its leaf and the step has succeeded, and answers how many rows that leaf has then.
 fn put_row<I: Index, C: Commit>(
     index: &mut I,
     crowded: &mut Crowded,
     put: RowChange,
     commit: &mut C,
-) -> Result<(), Undone>
+) -> Result<u64, Undone>
     requires can { C.can commit.old }
     requires absent { Holds put.row (I.leaves index.old) false }
     ensures ok { OnOk result (ChangesAt put.row.key (after_put put) (I.leaves index.old) (I.leaves index.new)) }
+    ensures count { IfOk result (λ n. CountAt put.row.key n (I.leaves index.new)) }
     ensures err { OnErr result (I.leaves index.new ≡ I.leaves index.old) }
     ensures told { Told C.done C.lost commit.old commit.new result }
     ensures crowded { Reserves 1 crowded.old crowded.new result }
@@ -322,17 +332,19 @@ fn put_row<I: Index, C: Commit>(
     index.put_row(put, commit)
 }
 
-// Takes a row out and puts another one, once there is room to mark both leaves and the step has succeeded.
+// Takes a row out and puts another one, once there is room to mark both leaves and the step has succeeded, and answers how many rows
+// the second one's leaf has then.
 fn move_row<I: Index, C: Commit>(
     index: &mut I,
     crowded: &mut Crowded,
     gone: RowChange,
     put: RowChange,
     commit: &mut C,
-) -> Result<(), Undone>
+) -> Result<u64, Undone>
     requires can { C.can commit.old }
     requires rows { CanMove gone.row put.row (I.leaves index.old) }
     ensures ok { OnOk result (Moves gone put (I.leaves index.old) (I.leaves index.new)) }
+    ensures count { IfOk result (λ n. CountAt put.row.key n (I.leaves index.new)) }
     ensures err { OnErr result (I.leaves index.new ≡ I.leaves index.old) }
     ensures told { Told C.done C.lost commit.old commit.new result }
     ensures crowded { Reserves 2 crowded.old crowded.new result }
@@ -363,11 +375,27 @@ fn mark_left<I: Index>(crowded: &mut Crowded, index: &I, size: u32, key: u64)
     }
 }
 
+// The same for a leaf that a row has come to, which has so many then. Where these are no more than the size and no leaf is to be
+// split, that one isn't either, and isn't looked for.
+fn mark_come<I: Index>(crowded: &mut Crowded, index: &I, size: u32, key: u64, count: u64)
+    requires room { 0 < crowded.old.room }
+    requires count { CountAt key count (I.leaves index.now) }
+    ensures { MarksAt key (I.leaves index.now) (λ l. mark_under I.WIDTH size l crowded.old.names) crowded.new.names }
+{
+    if !crowded.is_empty() || count > u64::from(size) {
+        mark(crowded, index, size, key);
+    }
+}
+
 // The same for the leaf that a row has left, and then for that to which it has come: once where both are one.
-fn mark_two<I: Index>(crowded: &mut Crowded, index: &I, size: u32, from: u64, to: u64)
-    requires { 2 ≤ crowded.old.room }
+fn mark_two<I: Index>(crowded: &mut Crowded, index: &I, size: u32, from: u64, to: u64, count: u64)
+    requires room { 2 ≤ crowded.old.room }
+    requires count { CountAt to count (I.leaves index.now) }
     ensures { MarksTwo I.WIDTH size from to (I.leaves index.now) crowded.old.names crowded.new.names }
 {
+    if crowded.is_empty() && count <= u64::from(size) {
+        return;
+    }
     let (name, bucket) = index.leaf_of(to);
     let is_crowded = is_over(size, I::WIDTH, &name, bucket);
     if !begins(&name, from) {

@@ -9,8 +9,8 @@ use Rattle.kd_trie.specs.Wholes.{sides_of, whole}
 use Rattle.kd_trie.proofs.StemLemmas.{fits-under, under-stem, made-under, changed-under, rows-under}
 use Rattle.kd_trie.proofs.stemmed.Stemmed.take_row.Goals as goal
 
-pub take_row-done-requires-clause-fits : goal.take_row-done-requires-clause-fits
-take_row-done-requires-clause-fits g c =
+pub take_row-requires-clause-fits : goal.take_row-requires-clause-fits
+take_row-requires-clause-fits g c =
     let s = c.open_to.new.self in
     let sides : List Side = sides_of s.stem in
     let left : ℕ = 64 - c.len-left.result in
@@ -19,8 +19,8 @@ take_row-done-requires-clause-fits g c =
     let path : low_bits 64 c.args.change.now.row.key ≡ way_of sides ++ low_bits left c.args.change.now.row.key = under-stem s.stem.name sides c.args.change.now.row.key left s.stem.named c.in_ok-open_to.ensures.under fits in
     fits-under s.stem.name sides (seen s.root) left s.stem.named fits (subst (λ (t : Trie). height t ≤ 64) (sym begun) c.requires.height)
 
-pub take_row-done-requires-clause-present : goal.take_row-done-requires-clause-present
-take_row-done-requires-clause-present g c =
+pub take_row-requires-clause-present : goal.take_row-requires-clause-present
+take_row-requires-clause-present g c =
     let s = c.open_to.new.self in
     let sides : List Side = sides_of s.stem in
     let left : ℕ = 64 - c.len-left.result in
@@ -39,6 +39,6 @@ returns-clause-ok g c =
     let fits : left ≡ 64 - length s.stem.name = ap (λ (n : ℕ). 64 - n) c.len-left.ensures.len in
     let begun : whole s ≡ whole c.args.self.now = c.in_ok-open_to.ensures.whole in
     let path : low_bits 64 c.args.change.now.row.key ≡ way_of sides ++ low_bits left c.args.change.now.row.key = under-stem s.stem.name sides c.args.change.now.row.key left s.stem.named c.in_ok-open_to.ensures.under fits in
-    made-under c.take_row-done.result sides (λ t. changed_at (low_bits 64 c.args.change.now.row.key) (after_gone c.args.change.now) t) (λ t. changed_at (low_bits left c.args.change.now.row.key) (after_gone c.args.change.now) t) (seen s.root) (seen c.take_row-done.new.node) (whole c.args.self.now) (whole c.wind.new.self) begun c.wind.ensures
+    made-under c.take_row.new.from.ended sides (λ t. changed_at (low_bits 64 c.args.change.now.row.key) (after_gone c.args.change.now) t) (λ t. changed_at (low_bits left c.args.change.now.row.key) (after_gone c.args.change.now) t) (seen s.root) (seen c.take_row.new.node) (whole c.args.self.now) (whole c.wind.new.self) begun c.wind.ensures
     (changed-under sides c.args.change.now.row.key left path (after_gone c.args.change.now) (seen s.root))
-    c.take_row-done.ensures.ok
+    c.take_row.ensures.ok

@@ -5,7 +5,7 @@ use Rattle.kd_trie.specs.Tries.{leaves_under, changed_at, rows_at}
 use Rattle.kd_trie.specs.Wholes.{whole}
 use Rattle.kd_trie.proofs.TrieLeaves.{short-kept, are_leaves-kept}
 use Rattle.kd_trie.proofs.TrieRows.{absent-after}
-use Rattle.kd_trie.proofs.RowLeaves.{puts, takes, rows-found, moves-made}
+use Rattle.kd_trie.proofs.RowLeaves.{puts, takes, rows-found, moves-made, counts-made}
 use Rattle.kd_trie.proofs.trie.KdTrieIndex.move_row.Goals as goal
 
 pub shift_row-requires-clause-rows : goal.shift_row-requires-clause-rows
@@ -40,3 +40,13 @@ returns-clause-ok g c =
     let none : has_row c.args.to.row (rows_at (low_bits 64 c.args.to.row.key) once) ≡ false = absent-after (low_bits 64 c.args.to.row.key) (low_bits 64 c.args.from.row.key) c.args.to.row c.args.from old (rows-found c.args.to.row.key old c.args.to.row false c.in_range-2.ensures c.args.self.now.short c.args.self.now.are_leaves c.requires.absent) in
     let e = puts c.args.to once c.in_range-2.ensures d.short d.are_leaves none in
     moves-made c.shift_row.result c.args.from c.args.to (leaves_under [] old) old once twice (whole c.shift_row.new.self) refl d e c.shift_row.ensures.ok
+
+pub returns-clause-count : goal.returns-clause-count
+returns-clause-count g c =
+    let old = whole c.args.self.now.tree in
+    let once = changed_at (low_bits 64 c.args.from.row.key) (after_gone c.args.from) old in
+    let twice = changed_at (low_bits 64 c.args.to.row.key) (after_put c.args.to) once in
+    let d = takes c.args.from old c.in_range.ensures c.args.self.now.short c.args.self.now.are_leaves in
+    let none : has_row c.args.to.row (rows_at (low_bits 64 c.args.to.row.key) once) ≡ false = absent-after (low_bits 64 c.args.to.row.key) (low_bits 64 c.args.from.row.key) c.args.to.row c.args.from old (rows-found c.args.to.row.key old c.args.to.row false c.in_range-2.ensures c.args.self.now.short c.args.self.now.are_leaves c.requires.absent) in
+    let e = puts c.args.to once c.in_range-2.ensures d.short d.are_leaves none in
+    counts-made c.shift_row.result c.args.to.row.key twice (whole c.shift_row.new.self) c.in_range-2.ensures e.short e.are_leaves c.shift_row.ensures.ok c.shift_row.ensures.count

@@ -4,7 +4,7 @@ use Rattle.bucket_versions.specs.Rows.{after_put}
 use Rattle.kd_trie.specs.Tries.{leaves_under, changed_at}
 use Rattle.kd_trie.specs.Wholes.{whole}
 use Rattle.kd_trie.proofs.TrieLeaves.{short-kept, are_leaves-kept}
-use Rattle.kd_trie.proofs.RowLeaves.{puts, rows-found, changes-made}
+use Rattle.kd_trie.proofs.RowLeaves.{puts, rows-found, changes-made, counts-made}
 use Rattle.kd_trie.proofs.trie.KdTrieIndex.put_row.Goals as goal
 
 pub put_row-requires-clause-absent : goal.put_row-requires-clause-absent
@@ -28,3 +28,10 @@ returns-clause-ok g c =
     let made = changed_at (low_bits 64 c.args.put.row.key) (after_put c.args.put) old in
     let d = puts c.args.put old c.in_range.ensures c.args.self.now.short c.args.self.now.are_leaves (rows-found c.args.put.row.key old c.args.put.row false c.in_range.ensures c.args.self.now.short c.args.self.now.are_leaves c.requires.absent) in
     changes-made c.put_row.result c.args.put.row.key (after_put c.args.put) (leaves_under [] old) old made (whole c.put_row.new.self) refl d c.put_row.ensures.ok
+
+pub returns-clause-count : goal.returns-clause-count
+returns-clause-count g c =
+    let old = whole c.args.self.now.tree in
+    let made = changed_at (low_bits 64 c.args.put.row.key) (after_put c.args.put) old in
+    let d = puts c.args.put old c.in_range.ensures c.args.self.now.short c.args.self.now.are_leaves (rows-found c.args.put.row.key old c.args.put.row false c.in_range.ensures c.args.self.now.short c.args.self.now.are_leaves c.requires.absent) in
+    counts-made c.put_row.result c.args.put.row.key made (whole c.put_row.new.self) c.in_range.ensures d.short d.are_leaves c.put_row.ensures.ok c.put_row.ensures.count

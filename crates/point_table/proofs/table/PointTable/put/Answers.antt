@@ -67,8 +67,8 @@ returns-in-Err-clause-err g c =
     let back : c.remove.new.self ≡ inside.members = c.remove.ensures.gone ∙ ap (without c.args.id) added ∙ without-with_member m inside.members none in
     same_view g.I.Index.leaves inside (record inside { index = c.put_row.new.index; members = c.remove.new.self; crowded = c.put_row.new.crowded }) back c.in-Err.ensures.err refl ∙ c.self.view_is
 
-pub invariant_of-self-2 : goal.invariant_of-self-2
-invariant_of-self-2 g c =
+pub invariant_of-self-in-Ok : goal.invariant_of-self-in-Ok
+invariant_of-self-in-Ok g c =
     let w = g.I.Index.WIDTH in
     let inside = c.self.inside in
     let id = c.args.id in
@@ -76,11 +76,11 @@ invariant_of-self-2 g c =
     let key : c.key.result ≡ key_of c.args.at = c.key.ensures.sum in
     let none : place_of inside.members id ≡ None = sym c.in_ok-place.ensures.found ∙ c.in_default.is in
     let added : c.insert.new.self ≡ with_member m inside.members = match_none c.in_ok-place.field-0 _ _ c.in_ok-place.ensures.ok c.in_default.is in
-    let change = rw (c.change-put.ensures.row, key) at c.in_default-put_row.ensures.ok in
+    let change = rw (c.change-put.ensures.row, key) at c.in-Ok.ensures.ok in
     let keeps = rw key at c.change-put.ensures.keeps in
-    let marks = rw (key, c.put_row.ensures.crowded.0) at c.mark.ensures.names in
+    let marks = rw (key, c.put_row.ensures.crowded.0) at c.mark_come.ensures in
     let it =
-    put_after w inside.size (splits_of c.args.begun.now) c.change-put.result.keeps_base (g.I.Index.leaves inside.index) (g.I.Index.leaves c.put_row.new.index) inside.members inside.crowded.names c.mark.new.crowded.names
+    put_after w inside.size (splits_of c.args.begun.now) c.change-put.result.keeps_base (g.I.Index.leaves inside.index) (g.I.Index.leaves c.put_row.new.index) inside.members inside.crowded.names c.mark_come.new.crowded.names
     (g.met.I.Index.are_leaves inside.index) c.self.invariant.rows c.self.invariant.crowded id c.args.at none change keeps marks in
     record {
       world = c.insert.ensures.world;
@@ -88,8 +88,8 @@ invariant_of-self-2 g c =
       crowded = it.crowded;
     }
 
-pub returns-clause-ok : goal.returns-clause-ok
-returns-clause-ok g c =
+pub returns-in-Ok-clause-ok : goal.returns-in-Ok-clause-ok
+returns-in-Ok-clause-ok g c =
     let w = g.I.Index.WIDTH in
     let inside = c.self.inside in
     let id = c.args.id in
@@ -97,11 +97,11 @@ returns-clause-ok g c =
     let key : c.key.result ≡ key_of c.args.at = c.key.ensures.sum in
     let none : place_of inside.members id ≡ None = sym c.in_ok-place.ensures.found ∙ c.in_default.is in
     let added : c.insert.new.self ≡ with_member m inside.members = match_none c.in_ok-place.field-0 _ _ c.in_ok-place.ensures.ok c.in_default.is in
-    let change = rw (c.change-put.ensures.row, key) at c.in_default-put_row.ensures.ok in
+    let change = rw (c.change-put.ensures.row, key) at c.in-Ok.ensures.ok in
     let keeps = rw key at c.change-put.ensures.keeps in
-    let marks = rw (key, c.put_row.ensures.crowded.0) at c.mark.ensures.names in
+    let marks = rw (key, c.put_row.ensures.crowded.0) at c.mark_come.ensures in
     let it =
-    put_after w inside.size (splits_of c.args.begun.now) c.change-put.result.keeps_base (g.I.Index.leaves inside.index) (g.I.Index.leaves c.put_row.new.index) inside.members inside.crowded.names c.mark.new.crowded.names
+    put_after w inside.size (splits_of c.args.begun.now) c.change-put.result.keeps_base (g.I.Index.leaves inside.index) (g.I.Index.leaves c.put_row.new.index) inside.members inside.crowded.names c.mark_come.new.crowded.names
     (g.met.I.Index.are_leaves inside.index) c.self.invariant.rows c.self.invariant.crowded id c.args.at none change keeps marks in
     let room : is_full c.args.self.now.world ≡ false = sym c.is_full.ensures ∙ c.if-is_full.false in
     rw (← c.self.view_is)

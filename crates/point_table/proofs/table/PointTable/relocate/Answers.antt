@@ -78,15 +78,15 @@ returns-in-Err-clause-err g c =
     c.replace-in-Err.ensures.moved ∙ ap (with_moved id c.in-Some.old) c.replace.ensures.moved ∙ with_moved-back id c.in-Some.old c.args.at inside.members c.self.invariant.world.rising there in
     same_view g.I.Index.leaves inside (record inside { index = c.move_row.new.index; members = c.replace-in-Err.new.self; crowded = c.move_row.new.crowded }) back c.in-Err.ensures.err refl ∙ c.self.view_is
 
-pub invariant_of-self-2 : goal.invariant_of-self-2
-invariant_of-self-2 g c =
+pub invariant_of-self-in-Ok : goal.invariant_of-self-in-Ok
+invariant_of-self-in-Ok g c =
     let inside = c.self.inside in
     let id = c.args.id in
     let old = c.in-Some.old in
     let from : c.key.result ≡ key_of old = c.key.ensures.sum in
     let to : c.key-2.result ≡ key_of c.args.at = c.key-2.ensures.sum in
     let there : place_of inside.members id ≡ Some old = sym c.in-Some.ensures.found in
-    let moves = rw (c.change-gone.ensures.row, c.change-put.ensures.row, from, to) at c.in_default-move_row.ensures.ok in
+    let moves = rw (c.change-gone.ensures.row, c.change-put.ensures.row, from, to) at c.in-Ok.ensures.ok in
     let from_keeps = rw from at c.change-gone.ensures.keeps in
     let to_keeps = rw to at c.change-put.ensures.keeps in
     let marks = rw (from, to, c.move_row.ensures.crowded.0) at c.mark_two.ensures in
@@ -99,15 +99,15 @@ invariant_of-self-2 g c =
       crowded = it.crowded;
     }
 
-pub returns-clause-ok : goal.returns-clause-ok
-returns-clause-ok g c =
+pub returns-in-Ok-clause-ok : goal.returns-in-Ok-clause-ok
+returns-in-Ok-clause-ok g c =
     let inside = c.self.inside in
     let id = c.args.id in
     let old = c.in-Some.old in
     let from : c.key.result ≡ key_of old = c.key.ensures.sum in
     let to : c.key-2.result ≡ key_of c.args.at = c.key-2.ensures.sum in
     let there : place_of inside.members id ≡ Some old = sym c.in-Some.ensures.found in
-    let moves = rw (c.change-gone.ensures.row, c.change-put.ensures.row, from, to) at c.in_default-move_row.ensures.ok in
+    let moves = rw (c.change-gone.ensures.row, c.change-put.ensures.row, from, to) at c.in-Ok.ensures.ok in
     let from_keeps = rw from at c.change-gone.ensures.keeps in
     let to_keeps = rw to at c.change-put.ensures.keeps in
     let marks = rw (from, to, c.move_row.ensures.crowded.0) at c.mark_two.ensures in
