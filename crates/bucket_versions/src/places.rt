@@ -28,8 +28,8 @@ fn rows_below(rows: &[Row], row: &Row) -> usize
     rows.partition_point(|r| is_below(r, row))
 }
 
-// Whether a row comes before another. As numbers of 128 bits both are compared at once, without a branch that can be foreseen only half of
-// the time.
+// Whether a row comes before another. As numbers of 128 bits they are compared without a branch, which a processor would guess wrong
+// half of the time.
 #[inline(always)]
 fn is_below(row: &Row, other: &Row) -> bool
     ensures { result ≡ is_below row.now other.now }
