@@ -4,9 +4,11 @@ ghost use Rattle.std.specs.Prelude.{◌≡◌, [], ◌∷◌};
 use bucket_versions::{Bucket, BucketFault, Row};
 use std::alloc::{AllocError, Global};
 use std::marker::Brand;
+use std::process::Abort;
 use std::sync::ledger::{Blank, Ledger};
 use std::test::*;
 use step_count::Steps;
+use zorder::Memory;
 
 fn row(key: u64, id: u64) -> Row
     ensures { result ≡ record { key = key; id = id } }
@@ -34,51 +36,89 @@ fn a_bucket_may_be_shared_and_sent() {
     in_threads::<Bucket>();
 }
 
+// What is there before all else.
+fn two_rows(alloc: Global) -> Result<Bucket, Memory> {
+    Bucket::from_rows(alloc, &[row(1, 9), row(27, 7)])
+}
+
+fn has_base(bucket: &Bucket, rows: &[Row]) -> bool {
+    bucket.base_rows() == rows
+}
+
+fn has_base_once_folded(bucket: &Bucket, rows: &[Row]) -> Result<bool, Memory> {
+    Ok(has_base(&bucket.folded()?, rows))
+}
+
+fn lists(alloc: Global, bucket: &Bucket, rows: &[Row]) -> Result<bool, AllocError> {
+    Ok(listed::<Brand>(alloc, bucket, Blank::new(1))?.as_slice() == rows)
+}
+
+// How long the delta is behind a put or a removal.
+fn delta_behind(bucket: Result<Bucket, BucketFault>) -> Result<u64, BucketFault> {
+    Ok(bucket?.delta_len())
+}
+
+// `c` is `b` with a put.
+fn keeps_the_base(rt: &impl Abort, b: &Bucket, c: &Bucket) {
+    assert_same!(rt; b.with_put(row(27, 7)).err(), Some(BucketFault::Present));
+    assert_is!(rt; has_base(c, &[row(1, 9), row(27, 7)]));
+    assert_same!(rt; c.count(), 3);
+    assert_same!(rt; (b.delta_len(), c.delta_len()), (0, 1));
+    assert_is!(rt; c.holds(&row(2, 4)));
+    assert_is!(rt; !b.holds(&row(2, 4)));
+}
+
+fn folds_into_its_base(rt: &impl Abort, alloc: Global, c: &Bucket) -> Result<(), Fail> {
+    let rows = [row(1, 9), row(2, 4), row(27, 7)];
+    assert_is!(rt; lists(alloc, c, &rows)?);
+    assert_is!(rt; has_base_once_folded(c, &rows)?);
+    Ok(())
+}
+
+fn takes_a_put(rt: &impl Abort, alloc: Global, b: &Bucket) -> Result<(), Fail> {
+    let c = b.with_put(row(2, 4))?;
+    keeps_the_base(rt, b, &c);
+    folds_into_its_base(rt, alloc, &c)
+}
+
 #[test]
 fn a_put_keeps_the_base_and_folding_moves_it(rt: HostRuntime) -> Result<(), Fail> {
-    let b = Bucket::from_rows(rt.alloc(), &[row(1, 9), row(27, 7)])?;
-    assert_eq!(rt; b.with_put(row(27, 7)).err(), Some(BucketFault::Present));
-    let c = b.with_put(row(2, 4))?;
-    assert_eq!(rt; c.base_rows(), [row(1, 9), row(27, 7)].as_slice());
-    assert_eq!(rt; c.count(), 3);
-    assert_eq!(rt; (b.delta_len(), c.delta_len()), (0, 1));
-    let rows = listed::<Brand>(rt.alloc(), &c, Blank::new(1))?;
-    assert_eq!(rt;
-        rows.as_slice(),
-        [row(1, 9), row(2, 4), row(27, 7)].as_slice()
-    );
-    assert!(rt; c.holds(&row(2, 4)));
-    assert!(rt; !b.holds(&row(2, 4)));
-    assert_eq!(rt;
-        c.folded()?.base_rows(),
-        [row(1, 9), row(2, 4), row(27, 7)].as_slice()
-    );
+    takes_a_put(&rt, rt.alloc(), &two_rows(rt.alloc())?)
+}
+
+// `d` is `c` without a row.
+fn keeps_the_other_rows(rt: &impl Abort, c: &Bucket, d: &Bucket) -> Result<(), Fail> {
+    assert_same!(rt; delta_behind(c.with_gone(row(2, 4))), Ok(0));
+    assert_same!(rt; d.delta_len(), 2);
+    assert_same!(rt; (d.count(), d.holds(&row(27, 7))), (2, false));
+    assert_same!(rt; delta_behind(d.with_put(row(27, 7))), Ok(1));
+    assert_is!(rt; has_base(d, &[row(1, 9), row(27, 7)]));
+    assert_is!(rt; has_base_once_folded(d, &[row(1, 9), row(2, 4)])?);
     Ok(())
+}
+
+fn takes_a_removal(rt: &impl Abort, c: &Bucket) -> Result<(), Fail> {
+    keeps_the_other_rows(rt, c, &c.with_gone(row(27, 7))?)
 }
 
 #[test]
 fn a_removal_keeps_the_base_and_the_other_rows(rt: HostRuntime) -> Result<(), Fail> {
-    let b = Bucket::from_rows(rt.alloc(), &[row(1, 9), row(27, 7)])?;
-    assert_eq!(rt; b.with_gone(row(2, 1)).err(), Some(BucketFault::Absent));
-    let c = b.with_put(row(2, 4))?;
-    let d = c.with_gone(row(27, 7))?;
-    assert_eq!(rt;
-        (c.with_gone(row(2, 4))?.delta_len(), d.delta_len()),
-        (0, 2)
-    );
-    assert_eq!(rt; (d.count(), d.holds(&row(27, 7))), (2, false));
-    assert_eq!(rt; d.with_put(row(27, 7))?.delta_len(), 1);
-    assert_eq!(rt; d.base_rows(), [row(1, 9), row(27, 7)].as_slice());
-    assert_eq!(rt; d.folded()?.base_rows(), [row(1, 9), row(2, 4)].as_slice());
-    Ok(())
+    let b = two_rows(rt.alloc())?;
+    assert_same!(rt; b.with_gone(row(2, 1)).err(), Some(BucketFault::Absent));
+    takes_a_removal(&rt, &b.with_put(row(2, 4))?)
+}
+
+// A bucket whose base has a row less in its range than the other has.
+fn caught_up(alloc: Global) -> Result<Bucket, Fail> {
+    let c = Bucket::from_rows(alloc, &[row(1, 9), row(27, 7)])?.with_put(row(2, 4))?;
+    let cut = Bucket::from_rows(alloc, &[row(27, 7)])?;
+    Ok(cut.caught_up(&c, 2, 27)?)
 }
 
 #[test]
 fn a_cut_bucket_catches_up_with_the_rows_in_its_range(rt: HostRuntime) -> Result<(), Fail> {
-    let c = Bucket::from_rows(rt.alloc(), &[row(1, 9), row(27, 7)])?.with_put(row(2, 4))?;
-    let cut = Bucket::from_rows(rt.alloc(), &[row(27, 7)])?;
-    let late = cut.caught_up(&c, 2, 27)?;
-    assert_eq!(rt; late.base_rows(), [row(2, 4), row(27, 7)].as_slice());
-    assert_eq!(rt; late.count(), 2);
+    let late = caught_up(rt.alloc())?;
+    assert_is!(rt; has_base(&late, &[row(2, 4), row(27, 7)]));
+    assert_same!(rt; late.count(), 2);
     Ok(())
 }

@@ -2,6 +2,7 @@
 ghost use Rattle.std.specs.Prelude.{◌≤◌, length};
 
 use cell_format::{Cell, CellFault, decode, encode, header};
+use std::process::Abort;
 use zorder::{Name, Point};
 
 /// These bytes, and zeros behind them.
@@ -15,7 +16,18 @@ fn padded(front: &[u8]) -> [u8; 32]
 
 #[test]
 fn a_header_is_the_word_the_version_and_the_width(rt: HostRuntime) {
-    assert!(rt; header(1) == *b"MDLOCLOG\x01\x01\0\0\0\0\0\0");
+    assert_is!(rt; header(1) == *b"MDLOCLOG\x01\x01\0\0\0\0\0\0");
+}
+
+fn expect_spelling(rt: &impl Abort, cell: &Cell, bytes: &[u8; 32]) {
+    assert_is!(rt; encode(cell) == *bytes);
+    assert!(rt; bytes[0] == 1);
+    assert_is!(rt; decode(bytes) == Ok(*cell));
+}
+
+fn expect_fault(rt: &impl Abort, bytes: &[u8; 32], fault: CellFault) {
+    assert!(rt; bytes[0] == 1);
+    assert_is!(rt; decode(bytes) == Err(fault));
 }
 
 #[test]
@@ -52,9 +64,7 @@ fn each_cell_has_its_worked_spelling(rt: HostRuntime) {
         ),
     ];
     for (cell, bytes) in &table {
-        assert!(rt; encode(cell) == *bytes);
-        assert!(rt; bytes[0] == 1);
-        assert!(rt; decode(bytes) == Ok(*cell));
+        expect_spelling(&rt, cell, bytes);
     }
 }
 
@@ -86,7 +96,6 @@ fn the_first_fault_is_answered(rt: HostRuntime) {
         ),
     ];
     for (bytes, fault) in &table {
-        assert!(rt; bytes[0] == 1);
-        assert!(rt; decode(bytes) == Err(*fault));
+        expect_fault(&rt, bytes, *fault);
     }
 }

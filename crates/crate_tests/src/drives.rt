@@ -61,59 +61,84 @@ fn a_drive_may_be_sent_between_threads(rt: HostRuntime) -> Result<(), Fail> {
     Ok(())
 }
 
+// Four moments: of the bytes as they were, of two writes, and of a sync between them.
+fn write_twice<D: LogDisk>(disk: &mut D) -> Result<(), DiskFault> {
+    write(disk, &[7])?;
+    sync(disk)?;
+    write(disk, &[1, 2, 3])
+}
+
+fn expect_images(rt: &impl Abort, disk: &MemDisk) -> Result<(), PickFault> {
+    expect_image(rt, disk, 0, 9, 4, &[5, 6])?;
+    expect_image(rt, disk, 1, 9, 0, &[0, 6])?;
+    expect_image(rt, disk, 1, 0, 1, &[1, 6])?;
+    expect_image(rt, disk, 2, 9, 1, &[7, 6])?;
+    expect_image(rt, disk, 3, 9, 0, &[0, 0, 0])?;
+    expect_image(rt, disk, 3, 0, 1, &[1, 1])
+}
+
 #[test]
 fn bytes_of_a_write_are_any_until_its_sync(rt: HostRuntime) -> Result<(), Fail> {
     let mut disk = two_bytes(rt.alloc(), Vec::new(rt.alloc()))?;
-    write(&mut disk, &[7])?;
-    sync(&mut disk)?;
-    write(&mut disk, &[1, 2, 3])?;
-    expect_image(&rt, &disk, 0, 9, 4, &[5, 6])?;
-    expect_image(&rt, &disk, 1, 9, 0, &[0, 6])?;
-    expect_image(&rt, &disk, 1, 0, 1, &[1, 6])?;
-    expect_image(&rt, &disk, 2, 9, 1, &[7, 6])?;
-    expect_image(&rt, &disk, 3, 9, 0, &[0, 0, 0])?;
-    expect_image(&rt, &disk, 3, 0, 1, &[1, 1])?;
-    assert_eq!(rt;
-        expect_image(&rt, &disk, 4, 9, 0, &[]),
-        Err(PickFault::NoMoment { moments: 3 })
-    );
+    assert_same!(rt; write_twice(&mut disk), Ok(()));
+    assert_same!(rt; expect_images(&rt, &disk), Ok(()));
+    let behind = expect_image(&rt, &disk, 4, 9, 0, &[]);
+    assert_same!(rt; behind, Err(PickFault::NoMoment { moments: 3 }));
     Ok(())
+}
+
+fn expect_each_length(rt: &impl Abort, disk: &MemDisk) -> Result<(), PickFault> {
+    expect_image(rt, disk, 1, 0, 9, &[])?;
+    expect_image(rt, disk, 1, 1, 9, &[9])?;
+    expect_image(rt, disk, 1, 9, 9, &[9, 9])
 }
 
 #[test]
 fn a_cut_may_leave_each_length(rt: HostRuntime) -> Result<(), Fail> {
     let mut disk = two_bytes(rt.alloc(), Vec::new(rt.alloc()))?;
-    cut(&mut disk)?;
-    expect_image(&rt, &disk, 1, 0, 9, &[])?;
-    expect_image(&rt, &disk, 1, 1, 9, &[9])?;
-    expect_image(&rt, &disk, 1, 9, 9, &[9, 9])?;
+    assert_same!(rt; cut(&mut disk), Ok(()));
+    assert_same!(rt; expect_each_length(&rt, &disk), Ok(()));
     Ok(())
+}
+
+const FAILING: [Failing; 3] = [
+    Failing {
+        call: DiskCall::Write,
+        number: 1,
+    },
+    Failing {
+        call: DiskCall::Sync,
+        number: 2,
+    },
+    Failing {
+        call: DiskCall::Attach,
+        number: 2,
+    },
+];
+
+fn fails_at_a_write<D: LogDisk>(rt: &impl Abort, disk: &mut D, alloc: Global) {
+    assert_same!(rt; attach(disk, alloc), Ok(()));
+    assert_same!(rt; write(disk, &[7]), Err(DiskFault));
+    // A failed write leaves what a read gives.
+    assert_same!(rt; byte_behind(disk, 0), Ok(5));
+    assert_same!(rt; write(disk, &[8]), Ok(()));
+}
+
+fn fails_further_on<D: LogDisk>(rt: &impl Abort, disk: &mut D, alloc: Global) {
+    assert_same!(rt; sync(disk), Ok(()));
+    // Past the room.
+    assert_same!(rt; write(disk, &[1; 9]), Err(DiskFault));
+    assert_same!(rt; sync(disk), Err(DiskFault));
+    assert_same!(rt; attach(disk, alloc), Err(AttachFault::Disk));
+    // Past the calls.
+    assert_same!(rt; length(disk), Err(DiskFault));
 }
 
 #[test]
 fn calls_fail_by_kind_and_number(rt: HostRuntime) -> Result<(), Fail> {
-    let mut failing = Vec::new(rt.alloc());
-    for (call, number) in [
-        (DiskCall::Write, 1),
-        (DiskCall::Sync, 2),
-        (DiskCall::Attach, 2),
-    ] {
-        failing.push(Failing { call, number })?;
-    }
-    let mut disk = two_bytes(rt.alloc(), failing)?;
-    assert_eq!(rt; attach(&mut disk, rt.alloc()), Ok(()));
-    assert_eq!(rt; write(&mut disk, &[7]), Err(DiskFault));
-    assert_eq!(rt;
-        byte_behind(&mut disk, 0),
-        Ok(5),
-        "a failed write leaves what a read gives"
-    );
-    assert_eq!(rt; write(&mut disk, &[8]), Ok(()));
-    assert_eq!(rt; sync(&mut disk), Ok(()));
-    assert_eq!(rt; write(&mut disk, &[1; 9]), Err(DiskFault), "past the room");
-    assert_eq!(rt; sync(&mut disk), Err(DiskFault));
-    assert_eq!(rt; attach(&mut disk, rt.alloc()), Err(AttachFault::Disk));
-    assert_eq!(rt; length(&mut disk), Err(DiskFault), "past the calls");
-    expect_image(&rt, &disk, 5, 8, 3, &[3; 8])?;
+    let mut disk = two_bytes(rt.alloc(), FAILING.to_vec(rt.alloc())?)?;
+    fails_at_a_write(&rt, &mut disk, rt.alloc());
+    fails_further_on(&rt, &mut disk, rt.alloc());
+    assert_same!(rt; expect_image(&rt, &disk, 5, 8, 3, &[3; 8]), Ok(()));
     Ok(())
 }

@@ -2,7 +2,9 @@
 use disk_file::FileDisk;
 use disk_trait::{AttachFault, DiskFault, LogDisk};
 use std::alloc::Global;
+use std::fs::Files;
 use std::path::PathBuf;
+use std::process::Abort;
 use std::test::Fail;
 use std::{env, fs, process};
 
@@ -38,23 +40,39 @@ fn length<D: LogDisk>(disk: &mut D) -> Result<u64, DiskFault> {
     disk.len()
 }
 
+fn is_not_made<D: LogDisk>(rt: &impl Abort, disk: &mut D, alloc: Global, name: &str) {
+    assert_same!(rt; length(disk), Err(DiskFault));
+    assert_same!(rt; attach(disk, alloc, name, false), Err(AttachFault::Disk));
+}
+
+fn is_made<D: LogDisk>(rt: &impl Abort, disk: &mut D, alloc: Global, name: &str) {
+    assert_same!(rt; attach(disk, alloc, name, true), Ok(()));
+    assert_same!(rt; length(disk), Ok(0));
+    assert_same!(rt; fill_and_cut(disk), Ok(*b"bxy---"));
+    assert_same!(rt; length(disk), Ok(4));
+}
+
+fn makes_a_file<R: Abort + Files + AllocGlobal, D: LogDisk + Send>(
+    rt: &R,
+    mut disk: D,
+    name: &str,
+) {
+    is_not_made(rt, &mut disk, rt.alloc(), name);
+    assert_same!(rt; fs::exists(rt, name).ok(), Some(false));
+    is_made(rt, &mut disk, rt.alloc(), name);
+    may_be_sent(disk);
+}
+
+fn takes_away<R: Abort + Files + AllocGlobal>(rt: &R, name: &str) -> Result<(), Fail> {
+    let bytes = fs::read(rt, name)?;
+    fs::remove_file(rt, name)?;
+    assert_same!(rt; bytes.as_slice(), b"Abxy".as_slice());
+    Ok(())
+}
+
 #[test]
 fn a_file_is_made_where_it_may_be_and_keeps_what_is_written(rt: HostRuntime) -> Result<(), Fail> {
     let name = file_name(&rt)?;
-    let mut disk = FileDisk::new(rt.clone()?);
-    assert_eq!(rt; length(&mut disk), Err(DiskFault));
-    assert_eq!(rt;
-        attach(&mut disk, rt.alloc(), name.as_str(), false),
-        Err(AttachFault::Disk)
-    );
-    assert!(rt; !fs::exists(&rt, name.as_path())?);
-    assert_eq!(rt; attach(&mut disk, rt.alloc(), name.as_str(), true), Ok(()));
-    assert_eq!(rt; length(&mut disk), Ok(0));
-    assert_eq!(rt; fill_and_cut(&mut disk), Ok(*b"bxy---"));
-    assert_eq!(rt; length(&mut disk), Ok(4));
-    may_be_sent(disk);
-    let bytes = fs::read(&rt, name.as_path())?;
-    fs::remove_file(&rt, name.as_path())?;
-    assert_eq!(rt; bytes.as_slice(), b"Abxy".as_slice());
-    Ok(())
+    makes_a_file(&rt, FileDisk::new(rt.clone()?), name.as_str());
+    takes_away(&rt, name.as_str())
 }

@@ -3,10 +3,27 @@
 //! They stand apart from these crates, so that each is proved once. Nothing else is here.
 #![tactic(auto)]
 
+// `assert!` and `assert_eq!` as calls: the proof of a function with several of them is much shorter so.
+#[cfg(test)]
+macro_rules! assert_is {
+    ($rt:expr; $is_so:expr $(,)?) => {
+        crate::checks::holds(&$rt, $is_so, concat!("assertion failed: ", stringify!($is_so)))
+    };
+}
+
+#[cfg(test)]
+macro_rules! assert_same {
+    ($rt:expr; $left:expr, $right:expr $(,)?) => {
+        crate::checks::same(&$rt, &$left, &$right, stringify!($left))
+    };
+}
+
 #[cfg(test)]
 mod buckets;
 #[cfg(test)]
 mod cells;
+#[cfg(test)]
+mod checks;
 #[cfg(test)]
 mod drives;
 #[cfg(test)]

@@ -1,11 +1,13 @@
 //! A worked split of the whole space.
 ghost use Rattle.std.specs.Prelude.{◌≡◌, [], IfOk};
 ghost use Rattle.std.specs.Arc.{arc_value};
+ghost use Rattle.bucket_versions.specs.Rows.{IsRows};
 ghost use Rattle.bucket_versions.specs.Under.{AreUnder};
 
 use bucket_versions::{Bucket, Row};
 use split_prepare::{Prepared, SplitTicket, prepare};
 use std::alloc::Global;
+use std::process::Abort;
 use std::sync::Arc;
 use std::test::*;
 use zorder::{Memory, Name};
@@ -40,33 +42,48 @@ fn a_ticket_and_what_was_prepared_may_be_sent() {
     sent::<Prepared>();
 }
 
+fn expect_children(rt: &impl Abort, prepared: &Prepared, wanted: &[&[Row]]) {
+    assert_same!(rt; prepared.children().len(), wanted.len());
+    for (child, rows) in prepared.children().iter().zip(wanted) {
+        assert_same!(rt; child.base_rows(), *rows);
+        assert_same!(rt; child.count(), rows.len() as u64);
+    }
+}
+
+fn expect_head(rt: &impl Abort, prepared: &Prepared, number: u64, base: &[Row]) {
+    assert_same!(rt; prepared.number(), number);
+    assert_same!(rt; prepared.name(), Name::whole());
+    assert_same!(rt; prepared.base_rows(), base);
+}
+
+// A split into two, of a bucket that has a row behind its base.
+fn two_children(alloc: Global, base: &[Row]) -> Result<Prepared, Fail>
+    requires { IsRows base.now }
+{
+    let bucket = Bucket::from_rows(alloc, base)?.with_put(row(UPPER, 4))?;
+    Ok(prepare(alloc, &begun(alloc, 5, bucket)?, 1)?)
+}
+
 #[test]
 fn each_child_has_the_base_rows_under_its_name(rt: HostRuntime) -> Result<(), Fail> {
     let base = [row(1, 9), row(27, 7)];
-    let bucket = Bucket::from_rows(rt.alloc(), &base)?.with_put(row(UPPER, 4))?;
-    let ticket = begun(rt.alloc(), 5, bucket)?;
-    let prepared = prepare(rt.alloc(), &ticket, 1)?;
-    assert_eq!(rt; prepared.number(), 5);
-    assert_eq!(rt; prepared.name(), Name::whole());
-    assert_eq!(rt; prepared.base_rows(), base.as_slice());
-    let wanted = [base.as_slice(), &[]];
-    assert_eq!(rt; prepared.children().len(), wanted.len());
-    for (child, rows) in prepared.children().iter().zip(wanted) {
-        assert_eq!(rt; child.base_rows(), rows);
-    }
+    let prepared = two_children(rt.alloc(), &base)?;
+    expect_head(&rt, &prepared, 5, &base);
+    expect_children(&rt, &prepared, &[base.as_slice(), &[]]);
     Ok(())
+}
+
+fn four_children(alloc: Global, rows: &[Row]) -> Result<Prepared, Fail>
+    requires { IsRows rows.now }
+{
+    let bucket = Bucket::from_rows(alloc, rows)?;
+    Ok(prepare(alloc, &begun(alloc, 1, bucket)?, 2)?)
 }
 
 #[test]
 fn four_children_share_the_rows_in_key_order(rt: HostRuntime) -> Result<(), Fail> {
     let rows = [row(0, 1), row(UPPER, 2), row(UPPER, 3), row(u64::MAX, 4)];
-    let ticket = begun(rt.alloc(), 1, Bucket::from_rows(rt.alloc(), &rows)?)?;
-    let prepared = prepare(rt.alloc(), &ticket, 2)?;
-    let wanted = [&rows[..1], &[], &rows[1..3], &rows[3..]];
-    assert_eq!(rt; prepared.children().len(), wanted.len());
-    for (child, rows) in prepared.children().iter().zip(wanted) {
-        assert_eq!(rt; child.base_rows(), rows);
-        assert_eq!(rt; child.count(), rows.len() as u64);
-    }
+    let prepared = four_children(rt.alloc(), &rows)?;
+    expect_children(&rt, &prepared, &[&rows[..1], &[], &rows[1..3], &rows[3..]]);
     Ok(())
 }

@@ -3,8 +3,10 @@ use io_edge::{
     MemSink, MemSource, ReadFault, Sink, SinkFault, Source, SourceFault, StdSink, StdSource,
     read_all,
 };
+use std::alloc::{AllocError, Global};
 use std::io;
 use std::io::{Read, Write};
+use std::process::Abort;
 use std::test::Fail;
 
 // Gives one byte a call, counting down to 1, and fails once its number has come to `failing`.
@@ -46,89 +48,108 @@ impl Write for Pairs {
     }
 }
 
+fn source_of(alloc: Global, text: &[u8], failing: &[u64]) -> Result<MemSource, AllocError> {
+    Ok(MemSource::new(text.to_vec(alloc)?, failing.to_vec(alloc)?))
+}
+
+fn expect_all<S: Source>(
+    rt: &impl Abort,
+    alloc: Global,
+    source: &mut S,
+    most: usize,
+    text: &[u8],
+) -> Result<(), ReadFault> {
+    let all = read_all(alloc, source, most)?;
+    assert_same!(rt; all.as_slice(), text);
+    Ok(())
+}
+
+// What a read of everything answers in place of the text.
+fn fault_of<S: Source>(alloc: Global, source: &mut S, most: usize) -> Option<ReadFault> {
+    read_all(alloc, source, most).err()
+}
+
+fn read<S: Source>(source: &mut S, into: &mut [u8]) -> Result<usize, SourceFault> {
+    source.read(into)
+}
+
 #[test]
 fn a_source_in_memory_is_read_to_its_end(rt: HostRuntime) -> Result<(), Fail> {
-    let bytes = b"id,x,y".to_vec(rt.alloc())?;
-    let mut source = MemSource::new(bytes, Vec::new(rt.alloc()));
-    let all = read_all(rt.alloc(), &mut source, 6)?;
-    assert_eq!(rt; all.as_slice(), b"id,x,y".as_slice());
-    assert_eq!(rt; source.read(&mut [0; 4]), Ok(0));
+    let mut source = source_of(rt.alloc(), b"id,x,y", &[])?;
+    expect_all(&rt, rt.alloc(), &mut source, 6, b"id,x,y")?;
+    assert_same!(rt; read(&mut source, &mut [0; 4]), Ok(0));
     Ok(())
 }
 
 #[test]
 fn one_byte_above_the_bound_is_too_long(rt: HostRuntime) -> Result<(), Fail> {
-    let bytes = b"1234567".to_vec(rt.alloc())?;
-    let mut source = MemSource::new(bytes, Vec::new(rt.alloc()));
-    assert_eq!(rt;
-        read_all(rt.alloc(), &mut source, 4),
-        Err(ReadFault::TooLong)
-    );
+    let mut source = source_of(rt.alloc(), b"1234567", &[])?;
+    assert_same!(rt; fault_of(rt.alloc(), &mut source, 4), Some(ReadFault::TooLong));
     let mut rest = [0; 4];
-    assert_eq!(rt; source.read(&mut rest), Ok(2));
-    assert_eq!(rt; rest, *b"67\0\0");
+    assert_same!(rt; read(&mut source, &mut rest), Ok(2));
+    assert_same!(rt; rest, *b"67\0\0");
     Ok(())
+}
+
+fn fails_at_2_and_4<S: Source>(rt: &impl Abort, alloc: Global, source: &mut S) {
+    let mut into = [0; 2];
+    assert_same!(rt; read(source, &mut into), Ok(2));
+    assert_same!(rt; read(source, &mut into), Err(SourceFault));
+    assert_same!(rt; read(source, &mut into), Ok(1));
+    assert_same!(rt; into, *b"cb");
+    assert_same!(rt; fault_of(alloc, source, usize::MAX), Some(ReadFault::Source));
 }
 
 #[test]
 fn listed_reads_fail_and_take_nothing(rt: HostRuntime) -> Result<(), Fail> {
-    let bytes = b"abc".to_vec(rt.alloc())?;
-    let mut source = MemSource::new(bytes, [2, 4].to_vec(rt.alloc())?);
-    let mut into = [0; 2];
-    assert_eq!(rt; source.read(&mut into), Ok(2));
-    assert_eq!(rt; source.read(&mut into), Err(SourceFault));
-    assert_eq!(rt; source.read(&mut into), Ok(1));
-    assert_eq!(rt; into, *b"cb");
-    assert_eq!(rt;
-        read_all(rt.alloc(), &mut source, usize::MAX),
-        Err(ReadFault::Source)
-    );
+    let mut source = source_of(rt.alloc(), b"abc", &[2, 4])?;
+    fails_at_2_and_4(&rt, rt.alloc(), &mut source);
     Ok(())
+}
+
+fn put<K: Sink>(sink: &mut K, piece: &[u8]) -> Result<(), SinkFault> {
+    sink.put(piece)
+}
+
+fn takes_five_and_fails_at_2<K: Sink>(rt: &impl Abort, sink: &mut K) {
+    assert_same!(rt; put(sink, b"abc"), Ok(()));
+    assert_same!(rt; put(sink, b"d"), Err(SinkFault));
+    assert_same!(rt; put(sink, b"def"), Err(SinkFault));
+    assert_same!(rt; put(sink, b"de"), Ok(()));
+    assert_same!(rt; put(sink, b""), Ok(()));
 }
 
 #[test]
 fn a_sink_in_memory_keeps_what_fits(rt: HostRuntime) -> Result<(), Fail> {
-    let mut sink = match MemSink::new(rt.alloc(), 5, [2].to_vec(rt.alloc())?) {
-        Ok(sink) => sink,
-        Err(_) => return Err(Fail::from("no memory")),
-    };
-    assert_eq!(rt; sink.put(b"abc"), Ok(()));
-    assert_eq!(rt; sink.put(b"d"), Err(SinkFault));
-    assert_eq!(rt; sink.put(b"def"), Err(SinkFault));
-    assert_eq!(rt; sink.put(b"de"), Ok(()));
-    assert_eq!(rt; sink.put(b""), Ok(()));
-    assert_eq!(rt; sink.bytes(), b"abcde".as_slice());
+    let mut sink = MemSink::new(rt.alloc(), 5, [2].to_vec(rt.alloc())?)?;
+    takes_five_and_fails_at_2(&rt, &mut sink);
+    assert_same!(rt; sink.bytes(), b"abcde".as_slice());
     Ok(())
+}
+
+// Gives 5, 4, 3, 2 and 1, one a read, and fails in place of this one.
+fn counting_down(failing: u8) -> StdSource<Countdown> {
+    StdSource::new(Countdown { number: 5, failing })
 }
 
 #[test]
 fn a_reader_of_short_reads_is_read_whole(rt: HostRuntime) -> Result<(), Fail> {
-    let mut source = StdSource::new(Countdown {
-        number: 5,
-        failing: 9,
-    });
-    let all = read_all(rt.alloc(), &mut source, 100)?;
-    assert_eq!(rt; all.as_slice(), [5, 4, 3, 2, 1].as_slice());
+    let mut source = counting_down(9);
+    expect_all(&rt, rt.alloc(), &mut source, 100, &[5, 4, 3, 2, 1])?;
     Ok(())
 }
 
 #[test]
 fn a_reader_that_fails_in_mid_stream_is_a_source_fault(rt: HostRuntime) {
-    let mut source = StdSource::new(Countdown {
-        number: 5,
-        failing: 2,
-    });
-    assert_eq!(rt;
-        read_all(rt.alloc(), &mut source, 100),
-        Err(ReadFault::Source)
-    );
-    assert_eq!(rt; source.read(&mut [0; 4]), Err(SourceFault));
+    let mut source = counting_down(2);
+    assert_same!(rt; fault_of(rt.alloc(), &mut source, 100), Some(ReadFault::Source));
+    assert_same!(rt; read(&mut source, &mut [0; 4]), Err(SourceFault));
 }
 
 #[test]
 fn a_writer_of_short_writes_takes_the_whole_piece_or_is_a_fault(rt: HostRuntime) {
     let mut sink = StdSink::new(Pairs { room: 5 });
-    assert_eq!(rt; sink.put(&[1, 2, 3, 4, 5]), Ok(()));
-    assert_eq!(rt; sink.put(&[]), Ok(()));
-    assert_eq!(rt; sink.put(&[6]), Err(SinkFault));
+    assert_same!(rt; put(&mut sink, &[1, 2, 3, 4, 5]), Ok(()));
+    assert_same!(rt; put(&mut sink, &[]), Ok(()));
+    assert_same!(rt; put(&mut sink, &[6]), Err(SinkFault));
 }

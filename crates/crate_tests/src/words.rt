@@ -1,6 +1,6 @@
 //! Words that are accepted, and words that aren't.
 use command_words::{Command, Made, command_in};
-use std::alloc::Global;
+use std::alloc::{AllocError, Global};
 use std::test::Fail;
 use zorder::{Point, Region};
 
@@ -10,97 +10,102 @@ fn asked(alloc: Global, line: &str) -> Result<String, Fail> {
     for word in line.split(' ') {
         words.push(String::from_str(alloc, word)?)?;
     }
-    let text = match command_in(words.as_slice()) {
-        Some(Command::Init(file)) => format!(in alloc; "init {file}")?,
-        Some(Command::Check(file)) => format!(in alloc; "check {file}")?,
-        Some(Command::Play(Some(file), size)) => format!(in alloc; "play {file} {size}")?,
-        Some(Command::Play(None, size)) => format!(in alloc; "play {size}")?,
-        Some(Command::Show(file, region)) => shown(alloc, file, region)?,
-        Some(Command::Trial(Some(file), made)) => tried(alloc, file, made)?,
-        Some(Command::Trial(None, made)) => tried(alloc, "none", made)?,
-        None => String::from_str(alloc, "usage")?,
-    };
-    Ok(text)
+    Ok(text_of(alloc, command_in(words.as_slice()))?)
 }
 
-fn shown(alloc: Global, file: &str, region: Region) -> Result<String, Fail> {
+fn text_of(alloc: Global, command: Option<Command<'_>>) -> Result<String, AllocError> {
+    match command {
+        Some(Command::Init(file)) => format!(in alloc; "init {file}"),
+        Some(Command::Check(file)) => format!(in alloc; "check {file}"),
+        Some(Command::Play(Some(file), size)) => format!(in alloc; "play {file} {size}"),
+        Some(Command::Play(None, size)) => format!(in alloc; "play {size}"),
+        Some(Command::Show(file, region)) => shown(alloc, file, region),
+        Some(Command::Trial(Some(file), made)) => tried(alloc, file, made),
+        Some(Command::Trial(None, made)) => tried(alloc, "none", made),
+        None => String::from_str(alloc, "usage"),
+    }
+}
+
+fn shown(alloc: Global, file: &str, region: Region) -> Result<String, AllocError> {
     let Region {
         lo: Point { x, y },
         hi: Point { x: a, y: b },
     } = region;
-    Ok(format!(in alloc; "show {file} {x} {y} {a} {b}")?)
+    format!(in alloc; "show {file} {x} {y} {a} {b}")
 }
 
-fn tried(alloc: Global, file: &str, made: Made) -> Result<String, Fail> {
+fn tried(alloc: Global, file: &str, made: Made) -> Result<String, AllocError> {
     let Made { rows, seed } = made;
-    Ok(format!(in alloc; "trial {file} {rows} {seed}")?)
+    format!(in alloc; "trial {file} {rows} {seed}")
 }
+
+const COMMANDS: [(&str, &str); 11] = [
+    ("init moves.log", "init moves.log"),
+    ("check moves.log", "check moves.log"),
+    ("play -", "play 64"),
+    ("play moves.log", "play moves.log 64"),
+    ("play - --bucket 4", "play 4"),
+    ("play moves.log --bucket 4096", "play moves.log 4096"),
+    ("show moves.log 0 0 1 1", "show moves.log 0 0 1 1"),
+    ("show moves.log 5 0 5 007", "show moves.log 5 0 5 7"),
+    (
+        "show moves.log 0 0 4294967295 4294967295",
+        "show moves.log 0 0 4294967295 4294967295",
+    ),
+    ("trial - 1 0", "trial none 1 0"),
+    (
+        "trial moves.log 65536 18446744073709551615",
+        "trial moves.log 65536 18446744073709551615",
+    ),
+];
 
 #[test]
 fn each_command_has_its_words(rt: HostRuntime) -> Result<(), Fail> {
-    let table = [
-        ("init moves.log", "init moves.log"),
-        ("check moves.log", "check moves.log"),
-        ("play -", "play 64"),
-        ("play moves.log", "play moves.log 64"),
-        ("play - --bucket 4", "play 4"),
-        ("play moves.log --bucket 4096", "play moves.log 4096"),
-        ("show moves.log 0 0 1 1", "show moves.log 0 0 1 1"),
-        ("show moves.log 5 0 5 007", "show moves.log 5 0 5 7"),
-        (
-            "show moves.log 0 0 4294967295 4294967295",
-            "show moves.log 0 0 4294967295 4294967295",
-        ),
-        ("trial - 1 0", "trial none 1 0"),
-        (
-            "trial moves.log 65536 18446744073709551615",
-            "trial moves.log 65536 18446744073709551615",
-        ),
-    ];
-    for (line, command) in table {
-        assert_eq!(rt; asked(rt.alloc(), line)?.as_str(), command);
+    for (line, command) in COMMANDS {
+        assert_same!(rt; asked(rt.alloc(), line)?.as_str(), command);
     }
     Ok(())
 }
 
+const OTHER_WORDS: [&str; 32] = [
+    "",
+    "help",
+    "--help",
+    "init",
+    "init -",
+    "init moves.log more",
+    "check -x",
+    "play",
+    "play -x",
+    "play - --bucket",
+    "play - --bucket 3",
+    "play - --bucket 4097",
+    "play - --bucket +64",
+    "play - --size 64",
+    "play - --bucket 64 more",
+    "show moves.log",
+    "show - 0 0 1 1",
+    "show moves.log 0 0 1",
+    "show moves.log 0 0 1 1 1",
+    "show moves.log 5 0 4 0",
+    "show moves.log 0 5 0 4",
+    "show moves.log 0 0 1 4294967296",
+    "show moves.log 0 0 1 -1",
+    "shows moves.log 0 0 1 1",
+    "trial",
+    "trial - 1",
+    "trial -x 1 0",
+    "trial - 0 1",
+    "trial - 65537 1",
+    "trial - 1 18446744073709551616",
+    "trial - 1 2 more",
+    "trial - 1 2 --bucket 64",
+];
+
 #[test]
 fn other_words_are_usage(rt: HostRuntime) -> Result<(), Fail> {
-    let table = [
-        "",
-        "help",
-        "--help",
-        "init",
-        "init -",
-        "init moves.log more",
-        "check -x",
-        "play",
-        "play -x",
-        "play - --bucket",
-        "play - --bucket 3",
-        "play - --bucket 4097",
-        "play - --bucket +64",
-        "play - --size 64",
-        "play - --bucket 64 more",
-        "show moves.log",
-        "show - 0 0 1 1",
-        "show moves.log 0 0 1",
-        "show moves.log 0 0 1 1 1",
-        "show moves.log 5 0 4 0",
-        "show moves.log 0 5 0 4",
-        "show moves.log 0 0 1 4294967296",
-        "show moves.log 0 0 1 -1",
-        "shows moves.log 0 0 1 1",
-        "trial",
-        "trial - 1",
-        "trial -x 1 0",
-        "trial - 0 1",
-        "trial - 65537 1",
-        "trial - 1 18446744073709551616",
-        "trial - 1 2 more",
-        "trial - 1 2 --bucket 64",
-    ];
-    for line in table {
-        assert_eq!(rt; asked(rt.alloc(), line)?.as_str(), "usage");
+    for line in OTHER_WORDS {
+        assert_same!(rt; asked(rt.alloc(), line)?.as_str(), "usage");
     }
     Ok(())
 }
