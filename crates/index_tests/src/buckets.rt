@@ -2,19 +2,42 @@
 ghost use Rattle.std.specs.Prelude.{◌≡◌, [], ◌∷◌, false, IfOk};
 ghost use Rattle.std.specs.Arc.{arc_value};
 ghost use Rattle.bucket_versions.specs.Rows.{as_base};
-ghost use Rattle.index_layer.specs.Leaves.{AreUnder};
+ghost use Rattle.index_layer.specs.Leaves.{AreUnder, one_leaf};
 
 use bucket_versions::{Bucket, Row, RowChange};
+use index_layer::{Index, IndexFault};
 use std::alloc::Global;
 use std::sync::Arc;
 use std::test::*;
-use zorder::Memory;
+use zorder::{Memory, Name};
 
 /// No rows.
 pub(crate) fn empty(alloc: Global) -> Result<Arc<Bucket>, Memory>
     ensures { IfOk result (λ b. arc_value b ≡ as_base []) }
 {
     Bucket::from_rows(alloc, &[])?.into_shared()
+}
+
+/// An index of one empty leaf.
+pub(crate) fn one_empty_leaf<I: Index>(alloc: Global) -> Result<I, Memory>
+    ensures { IfOk result (λ index. I.leaves index ≡ one_leaf (as_base [])) }
+{
+    I::whole(alloc, empty(alloc)?)
+}
+
+/// One empty leaf, split into two.
+pub(crate) fn split_in_two<I: Index>(alloc: Global, whole: &I) -> Result<I, IndexFault>
+    requires width { I.WIDTH ≡ 1 }
+    requires whole { I.leaves whole.now ≡ one_leaf (as_base []) }
+{
+    whole.split(&Name::whole(), &[empty(alloc)?, empty(alloc)?])
+}
+
+/// Two empty leaves.
+pub(crate) fn halves<I: Index>(alloc: Global) -> Result<I, IndexFault>
+    requires { I.WIDTH ≡ 1 }
+{
+    split_in_two(alloc, &one_empty_leaf::<I>(alloc)?)
 }
 
 /// Three rows on a base of two.

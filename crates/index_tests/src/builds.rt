@@ -40,31 +40,37 @@ fn five_objects(alloc: Global) -> Result<World, Memory> {
     Ok(world)
 }
 
+fn has_a_leaf<I: Index>(rt: &impl Abort, index: &I, key: u64, name: Name, rows: &[Row]) {
+    let (found, bucket) = index.leaf_of(key);
+    assert_is!(rt; found == name);
+    assert_same!(rt; bucket.base_rows(), rows);
+}
+
+fn has_two_halves<I: Index>(rt: &impl Abort, index: &I, zero: Name, one: Name) {
+    let rows = [row(0, 1), row(3, 5), row(4_611_686_018_427_387_904, 3)];
+    has_a_leaf(rt, index, 0, zero, &rows);
+    let rows = [
+        row(9_223_372_036_854_775_808, 2),
+        row(13_835_058_055_282_163_712, 4),
+    ];
+    has_a_leaf(rt, index, 9_223_372_036_854_775_808, one, &rows);
+}
+
 fn builds_two_halves<I: Index>(rt: &impl Abort, alloc: Global) -> Result<(), Fail>
     requires { I.WIDTH ≡ 1 }
 {
     let zero = child(&Name::whole(), false);
     let one = child(&Name::whole(), true);
     let index = build::<I>(alloc, &five_objects(alloc)?, &[zero, one])?;
-    let (name, bucket) = index.leaf_of(0);
-    assert!(rt; name == zero);
-    let rows = [row(0, 1), row(3, 5), row(4_611_686_018_427_387_904, 3)];
-    assert_eq!(rt; bucket.base_rows(), rows.as_slice());
-    let (name, bucket) = index.leaf_of(9_223_372_036_854_775_808);
-    assert!(rt; name == one);
-    let rows = [
-        row(9_223_372_036_854_775_808, 2),
-        row(13_835_058_055_282_163_712, 4),
-    ];
-    assert_eq!(rt; bucket.base_rows(), rows.as_slice());
+    has_two_halves(rt, &index, zero, one);
     Ok(())
 }
 
 fn builds_one_empty_leaf<I: Index>(rt: &impl Abort, alloc: Global) -> Result<(), Fail> {
     let index = build::<I>(alloc, &World::empty(alloc), &[Name::whole()])?;
     let (name, bucket) = index.leaf_of(0);
-    assert!(rt; name == Name::whole());
-    assert_eq!(rt; bucket.count(), 0);
+    assert_is!(rt; name == Name::whole());
+    assert_same!(rt; bucket.count(), 0);
     Ok(())
 }
 

@@ -2,7 +2,7 @@
 ghost use Rattle.std.specs.Prelude.{◌≡◌, true, false, IsTrue, IsFalse};
 ghost use Rattle.index_layer.specs.RowChanges.{Holds};
 
-use crate::buckets::{change, empty};
+use crate::buckets::{change, empty, halves};
 use bucket_versions::{AtOnce, Row, RowChange, Undone};
 use flat_index::FlatIndex;
 use index_layer::Index;
@@ -60,22 +60,37 @@ fn first_leaf<I: Index>(index: &I) -> (u64, u64) {
     (bucket.count(), bucket.delta_len())
 }
 
+fn takes_puts<I: Index>(rt: &impl Abort, index: &mut I) -> Result<(), Undone> {
+    assert_is!(rt; put(index, change(1, 9, false))?);
+    assert_is!(rt; put(index, change(27, 7, false))?);
+    assert_same!(rt; first_leaf(index), (2, 0));
+    assert_is!(rt; put(index, change(2, 4, true))?);
+    assert_same!(rt; first_leaf(index), (3, 1));
+    Ok(())
+}
+
+fn takes_moves<I: Index>(rt: &impl Abort, index: &mut I) -> Result<(), Undone> {
+    assert_is!(rt; shift(index, change(27, 7, true), change(3, 7, true))?);
+    assert_same!(rt; first_leaf(index), (3, 3));
+    // Without (3,7) the rows are the base, and (5,7) comes to them.
+    assert_is!(rt; shift(index, change(3, 7, false), change(5, 7, true))?);
+    assert_same!(rt; first_leaf(index), (3, 1));
+    Ok(())
+}
+
+fn takes_removals<I: Index>(rt: &impl Abort, index: &mut I) -> Result<(), Undone> {
+    assert_is!(rt; take(index, change(1, 9, true))?);
+    assert_same!(rt; first_leaf(index), (2, 2));
+    assert_is!(rt; take(index, change(2, 4, false))?);
+    assert_same!(rt; first_leaf(index), (1, 0));
+    Ok(())
+}
+
 fn keeps_a_base_where_it_is_asked_to<I: Index>(rt: &impl Abort, alloc: Global) -> Result<(), Fail> {
     let mut index = I::whole(alloc, empty(alloc)?)?;
-    assert!(rt; put(&mut index, change(1, 9, false))?);
-    assert!(rt; put(&mut index, change(27, 7, false))?);
-    assert_eq!(rt; first_leaf(&index), (2, 0));
-    assert!(rt; put(&mut index, change(2, 4, true))?);
-    assert_eq!(rt; first_leaf(&index), (3, 1));
-    assert!(rt; shift(&mut index, change(27, 7, true), change(3, 7, true))?);
-    assert_eq!(rt; first_leaf(&index), (3, 3));
-    // Without (3,7) the rows are the base, and (5,7) comes to them.
-    assert!(rt; shift(&mut index, change(3, 7, false), change(5, 7, true))?);
-    assert_eq!(rt; first_leaf(&index), (3, 1));
-    assert!(rt; take(&mut index, change(1, 9, true))?);
-    assert_eq!(rt; first_leaf(&index), (2, 2));
-    assert!(rt; take(&mut index, change(2, 4, false))?);
-    assert_eq!(rt; first_leaf(&index), (1, 0));
+    takes_puts(rt, &mut index)?;
+    takes_moves(rt, &mut index)?;
+    takes_removals(rt, &mut index)?;
     Ok(())
 }
 
@@ -87,13 +102,6 @@ fn a_flat_index_keeps_a_base_where_it_is_asked_to(rt: HostRuntime) -> Result<(),
 #[test]
 fn a_trie_keeps_a_base_where_it_is_asked_to(rt: HostRuntime) -> Result<(), Fail> {
     keeps_a_base_where_it_is_asked_to::<KdTrie>(&rt, rt.alloc())
-}
-
-fn halves<I: Index>(alloc: Global) -> Result<I, Fail>
-    requires { I.WIDTH ≡ 1 }
-{
-    let children = [empty(alloc)?, empty(alloc)?];
-    Ok(I::whole(alloc, empty(alloc)?)?.split(&Name::whole(), &children)?)
 }
 
 // A linear congruential generator (Knuth's MMIX).
@@ -165,9 +173,9 @@ fn keeps_its_rows_through_many_changes<I: Index>(rt: &impl Abort, alloc: Global)
 {
     let mut index = filled::<I>(alloc)?;
     let before = index.share()?;
-    assert_eq!(rt; move_many(alloc, &mut index)?, CHANGES);
-    assert_eq!(rt; (how_many(&before), unmoved(&before)), (OBJECTS, OBJECTS));
-    assert_eq!(rt; (how_many(&index), unmoved(&index)), (OBJECTS, 0));
+    assert_same!(rt; move_many(alloc, &mut index)?, CHANGES);
+    assert_same!(rt; (how_many(&before), unmoved(&before)), (OBJECTS, OBJECTS));
+    assert_same!(rt; (how_many(&index), unmoved(&index)), (OBJECTS, 0));
     Ok(())
 }
 

@@ -1,7 +1,7 @@
 //! Queries of an index through the trait's bound.
 ghost use Rattle.std.specs.Prelude.{◌≡◌};
 
-use crate::buckets::{empty, three_rows};
+use crate::buckets::{halves, three_rows};
 use bucket_versions::Row;
 use flat_index::FlatIndex;
 use index_layer::Index;
@@ -21,11 +21,56 @@ use zorder::{Name, Placed, Point, Region, child};
 fn filled<I: Index>(alloc: Global) -> Result<I, Fail>
     requires { I.WIDTH ≡ 1 }
 {
-    let whole = I::whole(alloc, empty(alloc)?)?;
-    let children = [empty(alloc)?, empty(alloc)?];
-    let halves = whole.split(&Name::whole(), &children)?;
     let zero = child(&Name::whole(), false);
-    Ok(halves.replaced(&zero, three_rows(alloc)?)?)
+    let bucket = three_rows(alloc)?;
+    Ok(halves::<I>(alloc)?.replaced(&zero, bucket)?)
+}
+
+const ORIGIN: Point = Point { x: 0, y: 0 };
+
+const RIGHT: Point = Point { x: 1, y: 0 };
+
+const AT_RIGHT: [Placed; 1] = [Placed { id: 4, at: RIGHT }];
+
+fn answers_rows<I: Index, L: Ledger>(
+    rt: &impl Abort,
+    alloc: Global,
+    index: &I,
+    steps: &mut Steps<L>,
+) -> Result<(), Fail> {
+    let rows = scan(alloc, index, 2, 27, steps)?;
+    let wanted = [Row { key: 2, id: 4 }, Row { key: 27, id: 7 }];
+    assert_same!(rt; rows.as_slice(), wanted.as_slice());
+    let last = for_rows(index, 0u64, |_, row: &Row| row.id, steps);
+    assert_same!(rt; last, 7);
+    Ok(())
+}
+
+fn answers_a_box<I: Index, L: Ledger>(
+    rt: &impl Abort,
+    alloc: Global,
+    index: &I,
+    steps: &mut Steps<L>,
+) -> Result<(), Fail> {
+    let region = Region {
+        lo: ORIGIN,
+        hi: RIGHT,
+    };
+    let found = range(alloc, index, &region, steps)?;
+    assert_same!(rt; found.as_slice(), AT_RIGHT.as_slice());
+    assert_same!(rt; count_in(index, &region, steps), 1);
+    Ok(())
+}
+
+fn answers_a_near<I: Index, L: Ledger>(
+    rt: &impl Abort,
+    alloc: Global,
+    index: &I,
+    steps: &mut Steps<L>,
+) -> Result<(), Fail> {
+    let list = nearest(alloc, index, ORIGIN, 1, steps)?;
+    assert_same!(rt; list.as_slice(), AT_RIGHT.as_slice());
+    Ok(())
 }
 
 fn answers_the_worked_queries<I: Index, L: Ledger>(
@@ -38,29 +83,11 @@ fn answers_the_worked_queries<I: Index, L: Ledger>(
     requires parts { blank.parts ≡ L.parts }
     requires one_part { blank.parts ≡ 1 }
 {
-    let mut steps = Steps::<L>::new(blank);
     let index = filled::<I>(alloc)?;
-    let origin = Point { x: 0, y: 0 };
-    let right = Point { x: 1, y: 0 };
-    let at_right = [Placed { id: 4, at: right }];
-
-    let rows = scan(alloc, &index, 2, 27, &mut steps)?;
-    assert_eq!(rt;
-        rows.as_slice(),
-        [Row { key: 2, id: 4 }, Row { key: 27, id: 7 }].as_slice()
-    );
-    let last = for_rows(&index, 0u64, |_, row: &Row| row.id, &mut steps);
-    assert_eq!(rt; last, 7);
-    let region = Region {
-        lo: origin,
-        hi: right,
-    };
-    let found = range(alloc, &index, &region, &mut steps)?;
-    assert_eq!(rt; found.as_slice(), at_right.as_slice());
-    assert_eq!(rt; count_in(&index, &region, &mut steps), 1);
-    let list = nearest(alloc, &index, origin, 1, &mut steps)?;
-    assert_eq!(rt; list.as_slice(), at_right.as_slice());
-    Ok(())
+    let mut steps = Steps::<L>::new(blank);
+    answers_rows(rt, alloc, &index, &mut steps)?;
+    answers_a_box(rt, alloc, &index, &mut steps)?;
+    answers_a_near(rt, alloc, &index, &mut steps)
 }
 
 #[test]

@@ -77,8 +77,8 @@ fn finds_one_point<I: Index, L: Ledger>(
         hi: object.at,
     };
     let found = range(alloc, index, &region, steps)?;
-    assert_eq!(rt; found.as_slice(), [object].as_slice());
-    assert_eq!(rt; count_in(index, &region, steps), 1);
+    assert_same!(rt; found.as_slice(), [object].as_slice());
+    assert_same!(rt; count_in(index, &region, steps), 1);
     Ok(())
 }
 
@@ -118,9 +118,9 @@ fn ranks_by_id_where_all_are_as_far<I: Index, L: Ledger>(
         y: MIDDLE,
     };
     let first = nearest(alloc, &index, middle, 3, &mut steps)?;
-    assert_eq!(rt; first.as_slice(), &objects[..3]);
+    assert_same!(rt; first.as_slice(), &objects[..3]);
     let all = nearest(alloc, &index, middle, 2_048, &mut steps)?;
-    assert_eq!(rt; all.as_slice(), objects.as_slice());
+    assert_same!(rt; all.as_slice(), objects.as_slice());
     Ok(())
 }
 

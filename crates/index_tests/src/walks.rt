@@ -80,36 +80,29 @@ fn has_halves<P>(below: Below<'_, P>) -> bool {
 }
 
 // Where walks between the two objects, at the first one and over all objects begin.
-fn begins_at<I: Index>(
-    rt: &impl Abort,
-    alloc: Global,
-    both: Name,
-    first: Name,
-    all: Name,
-) -> Result<(), Fail>
-    requires { I.WIDTH ≡ 1 }
-{
-    let index = sparse::<I>(alloc)?;
+fn begins_at<I: Index>(rt: &impl Abort, index: &I, both: Name, first: Name, all: Name) {
     let (name, place) = index.reach(FIRST, SECOND);
-    assert!(rt; name == both);
-    assert!(rt; has_halves(index.below(&name, place)));
+    assert_is!(rt; name == both);
+    assert_is!(rt; has_halves(index.below(&name, place)));
     let (name, _) = index.reach(FIRST, FIRST);
-    assert!(rt; name == first);
+    assert_is!(rt; name == first);
     let (name, _) = index.reach(SECOND, BESIDE);
-    assert!(rt; name == Name::whole());
+    assert_is!(rt; name == Name::whole());
     let (name, place) = index.narrow(Name::whole(), index.top());
-    assert!(rt; name == all);
-    assert!(rt; has_halves(index.below(&name, place)));
-    Ok(())
+    assert_is!(rt; name == all);
+    assert_is!(rt; has_halves(index.below(&name, place)));
 }
 
 #[test]
 fn walks_over_a_flat_index_begin_at_the_top(rt: HostRuntime) -> Result<(), Fail> {
     let top = Name::whole();
-    begins_at::<FlatIndex>(&rt, rt.alloc(), top, top, top)
+    begins_at(&rt, &sparse::<FlatIndex>(rt.alloc())?, top, top, top);
+    Ok(())
 }
 
 #[test]
 fn walks_over_a_trie_begin_where_there_is_something_to_see(rt: HostRuntime) -> Result<(), Fail> {
-    begins_at::<KdTrie>(&rt, rt.alloc(), quarter(), first_eighth(), quarter())
+    let index = sparse::<KdTrie>(rt.alloc())?;
+    begins_at(&rt, &index, quarter(), first_eighth(), quarter());
+    Ok(())
 }
