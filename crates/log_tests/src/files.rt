@@ -4,13 +4,14 @@ use crate::fixtures::{ONE_CELL, PUT_7, found_in, log_of};
 use cell_format::Cell;
 use disk_file::FileDisk;
 use disk_trait::LogDisk;
-use recovery::init;
+use recovery::{Seen, init};
 use std::alloc::Global;
 use std::env::Env;
 use std::path::PathBuf;
 use std::process::Abort;
 use std::test::Fail;
 use std::{env, fs, io};
+use zorder::Memory;
 
 // The name of a file of this test alone.
 fn file_name<R: Env + AllocGlobal>(rt: &R) -> io::Result<PathBuf> {
@@ -37,25 +38,38 @@ fn a_cell_appended_to_a_file_is_read_back(rt: HostRuntime) -> Result<(), Fail> {
     let is_whole = make_and_append(rt.alloc(), disk, name.as_str(), &PUT_7);
     let bytes = fs::read(&rt, name.as_path())?;
     fs::remove_file(&rt, name.as_path())?;
-    assert!(rt; is_whole);
-    assert_eq!(rt; bytes.as_slice(), ONE_CELL);
+    assert_same!(rt; (is_whole, bytes.as_slice()), (true, ONE_CELL));
     Ok(())
 }
 
 // What stands behind the one cell of a log: no commit byte, and more than a cell.
 const TAIL: [u8; 41] = [77; 41];
 
-fn is_cut_and_goes_on(rt: &impl Abort, alloc: Global) -> Result<(), Fail> {
+// The bytes of a log of one cell and a tail, behind the append of a second cell.
+fn goes_on(alloc: Global) -> Result<Option<Vec<u8>>, Memory> {
     let torn = log_of(alloc, &[PUT_7], &TAIL)?;
-    let drop_7 = Cell::Remove { id: 7 };
-    let Some(left) = append_in(alloc, torn.as_slice(), &drop_7, &[], 0, 9)? else {
+    let left = append_in(alloc, torn.as_slice(), &Cell::Remove { id: 7 }, &[], 0, 9)?;
+    Ok(left.map(|left| left.bytes))
+}
+
+// Whether two cells are found, behind which there is no object.
+fn holds_two(alloc: Global, bytes: &[u8]) -> Result<bool, Memory> {
+    match found_in(alloc, bytes, 16) {
+        Ok(seen) => Ok(is_two(&seen)),
+        Err(_) => Ok(false),
+    }
+}
+
+fn is_two(seen: &Seen) -> bool {
+    seen.cells == 2 && seen.world.as_slice().is_empty()
+}
+
+fn is_cut_and_goes_on(rt: &impl Abort, alloc: Global) -> Result<(), Fail> {
+    let Some(bytes) = goes_on(alloc)? else {
         panic!(rt; "the log isn't opened");
     };
-    assert_eq!(rt; left.bytes.as_slice().len(), 81);
-    assert_eq!(rt; left.bytes.as_slice().get(80).copied(), Some(0));
-    let seen = found_in(alloc, left.bytes.as_slice(), 16)?;
-    assert_eq!(rt; seen.cells, 2);
-    assert_eq!(rt; seen.world.as_slice().len(), 0);
+    assert_same!(rt; (bytes.len(), bytes.get(80).copied()), (81, Some(0)));
+    assert_so!(rt; holds_two(alloc, bytes.as_slice()));
     Ok(())
 }
 

@@ -6,8 +6,25 @@
 //! Calls of logs stand in functions over any drive, which say nothing of it: a proof that knows a drive in memory takes some times as long.
 #![tactic(auto)]
 
+// `assert!` of what a function tells with `?`, and `assert_eq!`, as calls: the proof of a function with several of them is much shorter so.
+#[cfg(test)]
+macro_rules! assert_so {
+    ($rt:expr; $told:expr $(,)?) => {
+        crate::checks::holds(&$rt, $told, concat!("assertion failed: ", stringify!($told)))?
+    };
+}
+
+#[cfg(test)]
+macro_rules! assert_same {
+    ($rt:expr; $left:expr, $right:expr $(,)?) => {
+        crate::checks::same(&$rt, &$left, &$right, stringify!($left))
+    };
+}
+
 #[cfg(test)]
 mod appends;
+#[cfg(test)]
+mod checks;
 #[cfg(test)]
 mod files;
 #[cfg(test)]

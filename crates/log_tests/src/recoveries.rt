@@ -11,13 +11,23 @@ use zorder::{Memory, Name, Placed};
 // Makes a log in a file with five bytes.
 fn makes_a_log(rt: &impl Abort, alloc: Global) -> Result<(), Fail> {
     let (bytes, fault) = made_of(alloc, b"MDLOC")?;
-    assert_eq!(rt; fault, None);
-    assert_eq!(rt; bytes.as_slice(), EMPTY_LOG);
-    let seen = found_in(alloc, bytes.as_slice(), 0)?;
-    assert_eq!(rt; seen.cells, 0);
-    assert_eq!(rt; seen.world.as_slice().len(), 0);
-    assert!(rt; seen.leaves.as_slice() == [Name::whole()].as_slice());
+    assert_same!(rt; fault, None);
+    assert_same!(rt; bytes.as_slice(), EMPTY_LOG);
+    assert_so!(rt; holds_nothing(alloc, bytes.as_slice()));
     Ok(())
+}
+
+// Whether a log of no cells is found: no object, and one leaf.
+fn holds_nothing(alloc: Global, bytes: &[u8]) -> Result<bool, Memory> {
+    match found_in(alloc, bytes, 0) {
+        Ok(seen) => Ok(is_nothing(&seen)),
+        Err(_) => Ok(false),
+    }
+}
+
+fn is_nothing(seen: &Seen) -> bool {
+    let is_empty = seen.cells == 0 && seen.world.as_slice().is_empty();
+    is_empty && seen.leaves.as_slice() == [Name::whole()].as_slice()
 }
 
 #[test]
@@ -27,8 +37,8 @@ fn a_new_log_is_a_header_and_a_clear_commit_byte(rt: HostRuntime) -> Result<(), 
 
 fn makes_none(rt: &impl Abort, alloc: Global) -> Result<(), Fail> {
     let (bytes, fault) = made_of(alloc, &[1; 18])?;
-    assert_eq!(rt; fault, Some(InitFault::InUse { len: 18 }));
-    assert_eq!(rt; bytes.as_slice(), [1; 18].as_slice());
+    assert_same!(rt; fault, Some(InitFault::InUse { len: 18 }));
+    assert_same!(rt; bytes.as_slice(), [1; 18].as_slice());
     Ok(())
 }
 
@@ -62,11 +72,21 @@ fn cuts_off_what_stands_behind(rt: &impl Abort, alloc: Global) -> Result<(), Fai
     let mut tail = [5; 41];
     tail[0] = 77;
     let torn = log_of(alloc, &[PUT_7], &tail)?;
-    let seen = found_in(alloc, torn.as_slice(), 1)?;
-    assert_eq!(rt; seen.cells, 1);
-    assert!(rt; seen.world.as_slice() == [Placed { id: 7, at: AT }].as_slice());
-    assert!(rt; opens_one(alloc, torn.as_slice(), 49, 77)?);
+    assert_so!(rt; holds_one(alloc, torn.as_slice()));
+    assert_so!(rt; opens_one(alloc, torn.as_slice(), 49, 77));
     Ok(())
+}
+
+// Whether a log of one cell is found, the put of 7.
+fn holds_one(alloc: Global, bytes: &[u8]) -> Result<bool, Memory> {
+    match found_in(alloc, bytes, 1) {
+        Ok(seen) => Ok(is_one(&seen)),
+        Err(_) => Ok(false),
+    }
+}
+
+fn is_one(seen: &Seen) -> bool {
+    seen.cells == 1 && seen.world.as_slice() == [Placed { id: 7, at: AT }].as_slice()
 }
 
 #[test]
@@ -89,23 +109,18 @@ fn damaged(cause: Cause) -> OpenFault {
     OpenFault::Damaged { cell: 0, cause }
 }
 
+const DROP_7: Cell = Cell::Remove { id: 7 };
+
 fn tells_the_first_fault(rt: &impl Abort, alloc: Global) -> Result<(), Fail> {
     let mut bad_kind = [0; 33];
     bad_kind[0] = 1;
     bad_kind[1] = 9;
-    let drop_7 = Cell::Remove { id: 7 };
-    assert!(rt; is_at_fault(alloc, &[], &bad_kind, damaged(Cause::Kind))?);
-    assert!(rt; is_at_fault(alloc, &[], &[1], damaged(Cause::ShortCell))?);
-    assert!(rt; is_at_fault(alloc, &[drop_7], &[0], damaged(Cause::Impossible))?);
-    assert!(rt; is_at_fault(alloc, &[], &[], OpenFault::NotLog)?);
-    assert!(rt;
-        is_at_fault(
-            alloc,
-            &[PUT_7, drop_7],
-            &[0],
-            OpenFault::TooLong { most: 1 }
-        )?
-    );
+    assert_so!(rt; is_at_fault(alloc, &[], &bad_kind, damaged(Cause::Kind)));
+    assert_so!(rt; is_at_fault(alloc, &[], &[1], damaged(Cause::ShortCell)));
+    assert_so!(rt; is_at_fault(alloc, &[DROP_7], &[0], damaged(Cause::Impossible)));
+    assert_so!(rt; is_at_fault(alloc, &[], &[], OpenFault::NotLog));
+    let long = OpenFault::TooLong { most: 1 };
+    assert_so!(rt; is_at_fault(alloc, &[PUT_7, DROP_7], &[0], long));
     Ok(())
 }
 
@@ -117,7 +132,7 @@ fn the_first_place_at_fault_is_told(rt: HostRuntime) -> Result<(), Fail> {
         version: 3,
         width: 1,
     };
-    assert_eq!(rt;
+    assert_same!(rt;
         found_in(alloc, b"MDLOCLOG\x03\x01\0\0\0\0\0\0\0", 1).err(),
         Some(old)
     );
@@ -130,10 +145,12 @@ fn has_split(
     cells: &[Cell],
     leaves: usize,
     unfinished: u64,
-) -> Result<bool, OpenFault> {
+) -> Result<bool, Memory> {
     let bytes = log_of(alloc, cells, &[0])?;
-    let seen = found_in(alloc, bytes.as_slice(), 16)?;
-    Ok(is_split(&seen, leaves, unfinished))
+    match found_in(alloc, bytes.as_slice(), 16) {
+        Ok(seen) => Ok(is_split(&seen, leaves, unfinished)),
+        Err(_) => Ok(false),
+    }
 }
 
 fn is_split(seen: &Seen, leaves: usize, unfinished: u64) -> bool {
@@ -147,7 +164,8 @@ fn a_begin_alone_leaves_its_leaf(rt: HostRuntime) -> Result<(), Fail> {
         number: 1,
         name: Name::whole(),
     };
-    assert!(rt; has_split(alloc, &[begin], 1, 1)?);
-    assert!(rt; has_split(alloc, &[begin, Cell::Install { number: 1 }], 2, 0)?);
+    let cells = [begin, Cell::Install { number: 1 }];
+    assert_so!(rt; has_split(alloc, &cells[..1], 1, 1));
+    assert_so!(rt; has_split(alloc, &cells, 2, 0));
     Ok(())
 }

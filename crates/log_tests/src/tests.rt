@@ -39,13 +39,13 @@ fn appends_the_worked_bytes(alloc: Global) -> Result<bool, Memory> {
 
 #[test]
 fn an_append_leaves_the_worked_bytes(rt: HostRuntime) -> Result<(), Fail> {
-    assert!(rt; appends_the_worked_bytes(rt.alloc())?);
+    assert_so!(rt; appends_the_worked_bytes(rt.alloc()));
     Ok(())
 }
 
 #[test]
 fn an_opened_log_keeps_the_worked_cell(rt: HostRuntime) -> Result<(), Fail> {
-    assert_eq!(rt; journal_of(rt.alloc(), EMPTY_LOG, &PUT_7)?, Some(KEPT));
+    assert_same!(rt; journal_of(rt.alloc(), EMPTY_LOG, &PUT_7)?, Some(KEPT));
     Ok(())
 }
 
@@ -63,10 +63,10 @@ fn is_closed(alloc: Global, sync: u64, fill: u8, commit_byte: u8) -> Result<bool
 }
 
 fn closes_at_a_failed_sync(rt: &impl Abort, alloc: Global) -> Result<(), Fail> {
-    assert!(rt; is_closed(alloc, 2, 1, 0)?);
-    assert!(rt; is_closed(alloc, 2, 0, 0)?);
-    assert!(rt; is_closed(alloc, 3, 1, 1)?);
-    assert!(rt; is_closed(alloc, 3, 0, 0)?);
+    assert_so!(rt; is_closed(alloc, 2, 1, 0));
+    assert_so!(rt; is_closed(alloc, 2, 0, 0));
+    assert_so!(rt; is_closed(alloc, 3, 1, 1));
+    assert_so!(rt; is_closed(alloc, 3, 0, 0));
     Ok(())
 }
 
@@ -83,8 +83,8 @@ fn unpicked(alloc: Global, moment: u64) -> Result<Option<PickFault>, Memory> {
 
 #[test]
 fn no_image_is_picked_above_the_clock(rt: HostRuntime) -> Result<(), Fail> {
-    assert_eq!(rt; unpicked(rt.alloc(), 0)?, None);
-    assert_eq!(rt;
+    assert_same!(rt; unpicked(rt.alloc(), 0)?, None);
+    assert_same!(rt;
         unpicked(rt.alloc(), 1)?,
         Some(PickFault::NoMoment { moments: 0 })
     );
