@@ -174,9 +174,14 @@ fn keeps_its_rows_through_many_changes<I: Index>(rt: &impl Abort, alloc: Global)
     let mut index = filled::<I>(alloc)?;
     let before = index.share()?;
     assert_same!(rt; move_many(alloc, &mut index)?, CHANGES);
-    assert_same!(rt; (how_many(&before), unmoved(&before)), (OBJECTS, OBJECTS));
-    assert_same!(rt; (how_many(&index), unmoved(&index)), (OBJECTS, 0));
+    expect_rows(rt, &before, &index);
     Ok(())
+}
+
+// Each object is there, in the share as at first and in the index elsewhere.
+fn expect_rows<I: Index>(rt: &impl Abort, before: &I, index: &I) {
+    assert_same!(rt; (how_many(before), unmoved(before)), (OBJECTS, OBJECTS));
+    assert_same!(rt; (how_many(index), unmoved(index)), (OBJECTS, 0));
 }
 
 #[test]

@@ -1,5 +1,5 @@
 //! Objects at the corners of the plane, and objects that are all as far.
-ghost use Rattle.std.specs.Prelude.{◌≡◌};
+ghost use Rattle.std.specs.Prelude.{◌≡◌, ◌≤◌};
 
 use flat_index::FlatIndex;
 use index_build::build;
@@ -100,6 +100,27 @@ fn finds_each_corner<I: Index, L: Ledger>(
     Ok(())
 }
 
+// Fails unless these are the nearest to the middle, up to so many of them.
+fn ranks<I: Index, L: Ledger>(
+    rt: &impl Abort,
+    alloc: Global,
+    index: &I,
+    k: u32,
+    wanted: &[Placed],
+    steps: &mut Steps<L>,
+) -> Result<(), Fail>
+    requires least { 1 ≤ k }
+    requires most { k ≤ 2048 }
+{
+    let middle = Point {
+        x: MIDDLE,
+        y: MIDDLE,
+    };
+    let list = nearest(alloc, index, middle, k, steps)?;
+    assert_same!(rt; list.as_slice(), wanted);
+    Ok(())
+}
+
 fn ranks_by_id_where_all_are_as_far<I: Index, L: Ledger>(
     rt: &impl Abort,
     alloc: Global,
@@ -113,15 +134,8 @@ fn ranks_by_id_where_all_are_as_far<I: Index, L: Ledger>(
     let mut steps = Steps::<L>::new(blank);
     let objects = around_the_middle();
     let index = index_of::<I>(alloc, &objects)?;
-    let middle = Point {
-        x: MIDDLE,
-        y: MIDDLE,
-    };
-    let first = nearest(alloc, &index, middle, 3, &mut steps)?;
-    assert_same!(rt; first.as_slice(), &objects[..3]);
-    let all = nearest(alloc, &index, middle, 2_048, &mut steps)?;
-    assert_same!(rt; all.as_slice(), objects.as_slice());
-    Ok(())
+    ranks(rt, alloc, &index, 3, &objects[..3], &mut steps)?;
+    ranks(rt, alloc, &index, 2_048, &objects, &mut steps)
 }
 
 #[test]
