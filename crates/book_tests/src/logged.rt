@@ -25,13 +25,13 @@ fn adds_cells_of_changes<I: Index, D: LogDisk>(
     rt: &impl Abort,
     book: &mut Book<I, D>,
 ) -> Result<(), Fail> {
-    assert!(rt; has(book, 0, 0, None));
+    assert_is!(rt; has(book, 0, 0, None));
     put(book, 1, 7, 3, 5)?;
-    assert!(rt; has(book, 1, 1, None));
+    assert_is!(rt; has(book, 1, 1, None));
     put(book, 2, 7, 8, 8)?;
     find(book, 3, 7)?;
     look(book, 4)?;
-    assert!(rt; has(book, 1, 4, None));
+    assert_is!(rt; has(book, 1, 4, None));
     Ok(())
 }
 
@@ -42,11 +42,11 @@ fn adds_cells_of_splits<I: Index, D: LogDisk>(
 ) -> Result<(), Fail> {
     let whole = Name::whole();
     split(alloc, book, &whole)?;
-    assert!(rt; has(book, 3, 6, None));
-    assert_eq!(rt; begin(book, &child(&whole, false))?, 2);
-    assert!(rt; has(book, 4, 7, None));
+    assert_is!(rt; has(book, 3, 6, None));
+    assert_same!(rt; begin(book, &child(&whole, false))?, 2);
+    assert_is!(rt; has(book, 4, 7, None));
     abandon(book, 2)?;
-    assert!(rt; has(book, 5, 8, None));
+    assert_is!(rt; has(book, 5, 8, None));
     Ok(())
 }
 
@@ -72,35 +72,37 @@ fn a_change_and_a_step_of_a_split_add_a_cell_each(rt: HostRuntime) -> Result<(),
     let alloc = rt.alloc();
     let disk = disk_of(alloc, EMPTY_LOG)?;
     let left = adds_a_cell_each::<KdTrie, MemDisk>(&rt, alloc, disk)?;
-    assert!(rt; left.is_some_and(|disk| disk.bytes() == SPLIT_LOG));
+    assert_is!(rt; left.is_some_and(|disk| disk.bytes() == SPLIT_LOG));
     Ok(())
 }
 
 // Whether this is the history of a first row whose append failed.
 fn is_lost_put(entries: &[Entry]) -> bool {
-    matches!(
-        entries,
-        [Entry::Fail {
-            cell: 0,
-            lost: Lost::Call {
-                session: 1,
-                row: 1,
-                op: Op::Put {
-                    id: 7,
-                    at: Point { x: 3, y: 5 }
-                }
-            }
-        }]
-    )
+    match entries {
+        [Entry::Fail { cell: 0, lost }] => is_put_of_7(lost),
+        _ => false,
+    }
+}
+
+// Whether the put of 7 at (3,5) was lost, the first row.
+fn is_put_of_7(lost: &Lost) -> bool {
+    match lost {
+        Lost::Call {
+            session: 1,
+            row: 1,
+            op: Op::Put { id: 7, at },
+        } => *at == Point { x: 3, y: 5 },
+        _ => false,
+    }
 }
 
 fn closes_at_a_put<I: Index, D: LogDisk>(
     rt: &impl Abort,
     book: &mut Book<I, D>,
 ) -> Result<(), Fail> {
-    assert!(rt; put(book, 1, 7, 3, 5).err() == Some(BookFault::Disk { cell: 0 }));
-    assert!(rt; has(book, 0, 1, Some(0)));
-    assert!(rt; put(book, 2, 8, 1, 1).err() == Some(BookFault::Closed { cell: 0 }));
+    assert_same!(rt; put(book, 1, 7, 3, 5).err(), Some(BookFault::Disk { cell: 0 }));
+    assert_is!(rt; has(book, 0, 1, Some(0)));
+    assert_same!(rt; put(book, 2, 8, 1, 1).err(), Some(BookFault::Closed { cell: 0 }));
     Ok(())
 }
 
@@ -119,7 +121,7 @@ fn closes_for_good<I: Index, D: LogDisk>(
     let mut book = book_on::<I, D>(alloc, disk)?;
     closes_at_a_put(rt, &mut book)?;
     let (entries, rows) = left_of(book);
-    assert!(rt; rows == 0 && is_lost_put(entries.as_slice()));
+    assert_is!(rt; rows == 0 && is_lost_put(entries.as_slice()));
     Ok(())
 }
 
@@ -148,14 +150,14 @@ fn is_present(done: &Done) -> bool {
 }
 
 fn goes_on<I: Index, D: LogDisk>(rt: &impl Abort, book: &mut Book<I, D>) -> Result<(), Fail> {
-    assert!(rt; has(book, 5, 0, None));
-    assert!(rt; is_at(&find(book, 1, 7)?));
-    assert!(rt; is_present(&put(book, 2, 7, 8, 8)?));
+    assert_is!(rt; has(book, 5, 0, None));
+    assert_is!(rt; is_at(&find(book, 1, 7)?));
+    assert_is!(rt; is_present(&put(book, 2, 7, 8, 8)?));
     let whole = Name::whole();
-    assert!(rt; begin(book, &whole).err() == Some(BookFault::NoLeaf));
-    assert!(rt; abandon(book, 2).err() == Some(BookFault::NotOpen { number: 2 }));
-    assert_eq!(rt; begin(book, &child(&whole, false))?, 3);
-    assert!(rt; has(book, 6, 3, None));
+    assert_same!(rt; begin(book, &whole).err(), Some(BookFault::NoLeaf));
+    assert_same!(rt; abandon(book, 2).err(), Some(BookFault::NotOpen { number: 2 }));
+    assert_same!(rt; begin(book, &child(&whole, false))?, 3);
+    assert_is!(rt; has(book, 6, 3, None));
     Ok(())
 }
 

@@ -31,7 +31,7 @@ fn keeps_the_rows_of_a_snapshot<I: Index, D: LogDisk>(
     alloc: Global,
 ) -> Result<(), Fail> {
     let mut book = Book::<I, D>::fresh(alloc, 64)?;
-    assert_eq!(rt; look_twice(&mut book)?, [(2, 1), (4, 2)]);
+    assert_same!(rt; look_twice(&mut book)?, [(2, 1), (4, 2)]);
     Ok(())
 }
 

@@ -15,13 +15,13 @@ fn refuses_by_the_first_cause<I: Index, D: LogDisk>(
     book: &mut Book<I, D>,
 ) -> Result<(), Fail> {
     let whole = Name::whole();
-    assert!(rt; begin(book, &child(&whole, false)).err() == Some(BookFault::NoLeaf));
-    assert_eq!(rt; begin(book, &whole)?, 1);
-    assert!(rt; begin(book, &whole).err() == Some(BookFault::Splitting { number: 1 }));
-    assert!(rt; abandon(book, 2).err() == Some(BookFault::NotOpen { number: 2 }));
+    assert_same!(rt; begin(book, &child(&whole, false)).err(), Some(BookFault::NoLeaf));
+    assert_same!(rt; begin(book, &whole)?, 1);
+    assert_same!(rt; begin(book, &whole).err(), Some(BookFault::Splitting { number: 1 }));
+    assert_same!(rt; abandon(book, 2).err(), Some(BookFault::NotOpen { number: 2 }));
     abandon(book, 1)?;
-    assert!(rt; abandon(book, 1).err() == Some(BookFault::NotOpen { number: 1 }));
-    assert!(rt; has(book, 0, 2, None));
+    assert_same!(rt; abandon(book, 1).err(), Some(BookFault::NotOpen { number: 1 }));
+    assert_is!(rt; has(book, 0, 2, None));
     Ok(())
 }
 
@@ -32,8 +32,8 @@ fn refuses_a_second_install<I: Index, D: LogDisk>(
 ) -> Result<(), Fail> {
     let prepared = begin_and_cut(alloc, book, &Name::whole())?;
     install(book, &prepared)?;
-    assert!(rt; install(book, &prepared).err() == Some(BookFault::Stale { number: 2 }));
-    assert!(rt; has(book, 0, 4, None));
+    assert_same!(rt; install(book, &prepared).err(), Some(BookFault::Stale { number: 2 }));
+    assert_is!(rt; has(book, 0, 4, None));
     Ok(())
 }
 
