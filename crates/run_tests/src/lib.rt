@@ -1,7 +1,7 @@
 //! Tests of the top call over sources, sinks and drives in memory, and no other code.
 //!
 //! Worked rows and their lines, without a log and over one, the commands over a log with worked files, each refusal's line and status, faults
-//! of all ends, the bytes that rows leave, and which files are attached.
+//! of all ends, the bytes that rows leave, which files are attached, and words that ask for no command.
 //!
 //! Each test compares plain bytes, in functions over a runtime: a proof that knows a drive, a host or what `run` promises takes some times
 //! as long.
@@ -29,6 +29,12 @@ mod log_commands;
 #[cfg(test)]
 mod logged;
 #[cfg(test)]
+mod shows;
+#[cfg(test)]
 mod tests;
+#[cfg(test)]
+mod trials;
+#[cfg(test)]
+mod words;
 #[cfg(test)]
 mod worked;

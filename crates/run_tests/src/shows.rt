@@ -1,4 +1,5 @@
 //! `show` over worked logs.
+use crate::checks::{ended, is_left};
 use memory_runs::{EMPTY_LOG, HEADER, Left, NO_FAULTS, PUT_LOG, run_on, text};
 use std::alloc::Global;
 use std::process::Abort;
@@ -26,7 +27,7 @@ fn tells_of<R: Threads + Wait + Sync>(
     told: &str,
 ) -> Result<bool, Memory> {
     let left = run_on(rt, alloc, words, HEADER, file, &NO_FAULTS)?;
-    Ok(left.tells(status, told) && left.file() == file && left.history().is_empty())
+    Ok(is_left(&left, ended(status, told), file) && left.history().is_empty())
 }
 
 // What the five points leave over a new log with buckets of 4.
@@ -44,17 +45,25 @@ fn with_five_points<R: Threads + Wait + Sync>(rt: &R, alloc: Global) -> Result<L
 
 fn lists_the_box<R: Abort + Threads + Wait + Sync>(rt: &R, alloc: Global) -> Result<(), Fail> {
     let left = with_five_points(rt, alloc)?;
-    let file = left.file();
+    lists_boxes(rt, alloc, left.file())
+}
+
+// Shows boxes of a log of the five points.
+fn lists_boxes<R: Abort + Threads + Wait + Sync>(
+    rt: &R,
+    alloc: Global,
+    file: &[u8],
+) -> Result<(), Fail> {
     let corner = &["show", "log", "0", "0", "1", "1"];
-    assert!(rt; tells_of(rt, alloc, corner, file, 0, "id,x,y\n1,0,0\n5,1,1\n")?);
+    assert_so!(rt; tells_of(rt, alloc, corner, file, 0, "id,x,y\n1,0,0\n5,1,1\n"));
     let largest = &["show", "log", "0", "0", "4294967295", "4294967295"];
     let all = "id,x,y\n1,0,0\n2,2147483648,0\n3,0,2147483648\n4,2147483648,2147483648\n5,1,1\n";
-    assert!(rt; tells_of(rt, alloc, largest, file, 0, all)?);
+    assert_so!(rt; tells_of(rt, alloc, largest, file, 0, all));
     let edge = &["show", "log", "1", "1", "2147483648", "2147483648"];
     let within = "id,x,y\n4,2147483648,2147483648\n5,1,1\n";
-    assert!(rt; tells_of(rt, alloc, edge, file, 0, within)?);
+    assert_so!(rt; tells_of(rt, alloc, edge, file, 0, within));
     let between = &["show", "log", "2", "0", "2147483647", "2147483647"];
-    assert!(rt; tells_of(rt, alloc, between, file, 0, "id,x,y\n")?);
+    assert_so!(rt; tells_of(rt, alloc, between, file, 0, "id,x,y\n"));
     Ok(())
 }
 
@@ -78,9 +87,9 @@ fn is_refused<R: Threads + Wait + Sync>(
 }
 
 fn tells_as_check<R: Abort + Threads + Wait + Sync>(rt: &R, alloc: Global) -> Result<(), Fail> {
-    assert!(rt; is_refused(rt, alloc, DAMAGED_LOG, "refused cell 1 kind\n")?);
-    assert!(rt; is_refused(rt, alloc, &PUT_LOG[..48], "refused cell 0 short\n")?);
-    assert!(rt; is_refused(rt, alloc, &[], "refused not a log\n")?);
+    assert_so!(rt; is_refused(rt, alloc, DAMAGED_LOG, "refused cell 1 kind\n"));
+    assert_so!(rt; is_refused(rt, alloc, &PUT_LOG[..48], "refused cell 0 short\n"));
+    assert_so!(rt; is_refused(rt, alloc, &[], "refused not a log\n"));
     Ok(())
 }
 

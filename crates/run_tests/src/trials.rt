@@ -1,6 +1,7 @@
 //! `trial` over no log and over one.
 ghost use Rattle.std.specs.Prelude.{◌≤◌};
 
+use crate::checks::{is_left, well};
 use make_moves::make;
 use memory_runs::{EMPTY_LOG, HEADER, NO_FAULTS, run_apart, run_on};
 use plain_list::{Op, World, WorldBack, after};
@@ -25,17 +26,17 @@ fn tells<R: Threads + Wait + Sync>(
 
 // Seed 2 makes a put of 1717 at (3938983765, 2969520912), seed 1 a box, and seed 0 a move.
 fn tells_of_one_row<R: Abort + Threads + Wait + Sync>(rt: &R, alloc: Global) -> Result<(), Fail> {
-    assert!(rt;
+    assert_so!(rt;
         tells(
             rt,
             alloc,
             "1",
             "2",
             "rows 1\npoints 1\nsum 17116200679316071202\n"
-        )?
+        )
     );
-    assert!(rt; tells(rt, alloc, "1", "1", "rows 1\npoints 0\nsum 0\n")?);
-    assert!(rt; tells(rt, alloc, "1", "0", "rows 1\npoints 0\nsum 0\n")?);
+    assert_so!(rt; tells(rt, alloc, "1", "1", "rows 1\npoints 0\nsum 0\n"));
+    assert_so!(rt; tells(rt, alloc, "1", "0", "rows 1\npoints 0\nsum 0\n"));
     Ok(())
 }
 
@@ -82,8 +83,8 @@ fn text_of(alloc: Global, rows: u32, world: &World) -> Result<String, AllocError
 fn a_trial_tells_twice_what_one_plain_list_has(rt: HostRuntime) -> Result<(), Fail> {
     let alloc = rt.alloc();
     let wanted = text_of(alloc, 20_000, &world_of(alloc, 20_000, 3)?)?;
-    assert!(rt; tells(&rt, alloc, "20000", "3", &wanted)?);
-    assert!(rt; tells(&rt, alloc, "20000", "3", &wanted)?);
+    assert_so!(rt; tells(&rt, alloc, "20000", "3", &wanted));
+    assert_so!(rt; tells(&rt, alloc, "20000", "3", &wanted));
     Ok(())
 }
 
@@ -101,19 +102,19 @@ fn leaves_the_put<R: Threads + Wait + Sync>(
     told: &str,
 ) -> Result<bool, Memory> {
     let left = run_on(rt, alloc, words, HEADER, before, &NO_FAULTS)?;
-    Ok(left.tells(0, told) && left.file() == MADE_LOG)
+    Ok(is_left(&left, well(told), MADE_LOG))
 }
 
 fn keeps_its_put<R: Abort + Threads + Wait + Sync>(rt: &R, alloc: Global) -> Result<(), Fail> {
     let summary = "rows 1\npoints 1\nsum 17116200679316071202\n";
     let trial = &["trial", "log", "1", "2"];
-    assert!(rt; leaves_the_put(rt, alloc, trial, EMPTY_LOG, summary)?);
-    assert!(rt; leaves_the_put(rt, alloc, trial, MADE_LOG, summary)?);
+    assert_so!(rt; leaves_the_put(rt, alloc, trial, EMPTY_LOG, summary));
+    assert_so!(rt; leaves_the_put(rt, alloc, trial, MADE_LOG, summary));
     let counts = "cells 1\npoints 1\nleaves 1\nunfinished 0\n";
-    assert!(rt; leaves_the_put(rt, alloc, &["check", "log"], MADE_LOG, counts)?);
+    assert_so!(rt; leaves_the_put(rt, alloc, &["check", "log"], MADE_LOG, counts));
     let shows = &["show", "log", "0", "0", "4294967295", "4294967295"];
     let point = "id,x,y\n1717,3938983765,2969520912\n";
-    assert!(rt; leaves_the_put(rt, alloc, shows, MADE_LOG, point)?);
+    assert_so!(rt; leaves_the_put(rt, alloc, shows, MADE_LOG, point));
     Ok(())
 }
 

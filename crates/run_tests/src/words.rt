@@ -1,0 +1,59 @@
+//! Words that are near to those of a command.
+use crate::checks::{ended, is_left};
+use memory_runs::{Faults, HEADER, Left, NO_FAULTS, PUT_LOG, run_on};
+use std::alloc::Global;
+use std::process::Abort;
+use std::sync::Wait;
+use std::test::Fail;
+use std::thread::Threads;
+use zorder::Memory;
+
+// Whether these words are usage: nothing is attached, called or written, and the source, which would fail, isn't read.
+fn is_usage<R: Threads + Wait + Sync>(
+    rt: &R,
+    alloc: Global,
+    words: &[&str],
+) -> Result<bool, Memory> {
+    let unread = Faults {
+        reads: &[1],
+        ..NO_FAULTS
+    };
+    let left = run_on(rt, alloc, words, HEADER, PUT_LOG, &unread)?;
+    Ok(is_untouched(&left))
+}
+
+fn is_untouched(left: &Left) -> bool {
+    let wanted = ended(2, "refused usage\n");
+    left.attaches().is_empty() && left.history().is_empty() && is_left(left, wanted, PUT_LOG)
+}
+
+fn refuses_words<R: Abort + Threads + Wait + Sync>(rt: &R, alloc: Global) -> Result<(), Fail> {
+    assert_so!(rt; is_usage(rt, alloc, &[]));
+    assert_so!(rt; is_usage(rt, alloc, &["play"]));
+    assert_so!(rt; is_usage(rt, alloc, &["play", "log", "--bucket", "3"]));
+    assert_so!(rt; is_usage(rt, alloc, &["play", "log", "--bucket"]));
+    assert_so!(rt; is_usage(rt, alloc, &["init", "-"]));
+    assert_so!(rt; is_usage(rt, alloc, &["init", "log", "log"]));
+    assert_so!(rt; is_usage(rt, alloc, &["show", "log", "5", "0", "4", "0"]));
+    assert_so!(rt; is_usage(rt, alloc, &["show", "log", "0", "1", "0", "0"]));
+    assert_so!(rt; is_usage(rt, alloc, &["show", "log", "0", "0", "0", "4294967296"]));
+    assert_so!(rt; is_usage(rt, alloc, &["show", "-", "0", "0", "1", "1"]));
+    assert_so!(rt; is_usage(rt, alloc, &["--help"]));
+    Ok(())
+}
+
+fn refuses_trials<R: Abort + Threads + Wait + Sync>(rt: &R, alloc: Global) -> Result<(), Fail> {
+    assert_so!(rt; is_usage(rt, alloc, &["trial", "-", "0", "1"]));
+    assert_so!(rt; is_usage(rt, alloc, &["trial", "-", "65537", "1"]));
+    assert_so!(rt; is_usage(rt, alloc, &["trial", "log", "1", "18446744073709551616"]));
+    assert_so!(rt; is_usage(rt, alloc, &["trial", "log", "1"]));
+    assert_so!(rt; is_usage(rt, alloc, &["trial", "log", "1", "1", "--bucket", "4"]));
+    Ok(())
+}
+
+#[test]
+fn other_words_are_usage_and_touch_nothing(rt: HostRuntime) -> Result<(), Fail> {
+    let alloc = rt.alloc();
+    refuses_words(&rt, alloc)?;
+    refuses_trials(&rt, alloc)
+}
