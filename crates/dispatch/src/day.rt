@@ -1,5 +1,5 @@
 //! A day of the company.
-ghost use Rattle.std.specs.Prelude.{◌≡◌, ◌+◌, [], false};
+ghost use Rattle.std.specs.Prelude.{◌≡◌, ◌+◌, ◌≤◌, [], false};
 ghost use Rattle.std.specs.Thread.{IsSync};
 ghost use Rattle.plain_list.specs.World.{IsWorld};
 ghost use Rattle.dispatch.specs.Callers.{IsFree, KeepsPass};
@@ -11,7 +11,7 @@ use disk_mem::MemDisk;
 use io_edge::OpenGate;
 use kd_trie::KdTrie;
 use plain_list::{Answer, Entries, Entry, Op, PlacedList};
-use sessions::Store;
+use sessions::{CallFault, Store};
 use std::alloc::Global;
 use std::marker::Brand;
 use std::sync::Wait;
@@ -81,7 +81,7 @@ fn all_at_once<R: Threads + Wait + Sync>(
     );
 }
 
-/// A day over an empty store: three drivers and the dispatcher at once, and then the dispatcher's last question.
+/// A day over an empty store.
 pub fn play_day<R: Threads + Wait + Sync, L: Ledger>(
     rt: &R,
     alloc: Global,
@@ -98,35 +98,7 @@ pub fn play_day<R: Threads + Wait + Sync, L: Ledger>(
         return None;
     };
     let mut steps = Steps::<L>::new(blank);
-    let at = STATION;
-    let waits = Op::Put { id: WAITING, at };
-    let _ = call(
-        rt, alloc, &taxis, &mut pass, DISPATCHER, 0, &waits, &mut steps,
-    );
-    let mut one = Caller::new(1, taxis.split_pass(&mut pass));
-    let mut two = Caller::new(2, taxis.split_pass(&mut pass));
-    let mut three = Caller::new(3, taxis.split_pass(&mut pass));
-    let mut four = Caller::new(DISPATCHER, taxis.split_pass(&mut pass));
-    all_at_once(rt, alloc, &taxis, &mut one, &mut two, &mut three, &mut four);
-    // From here on the dispatcher has seen what the first driver did.
-    taxis.meet(&mut one.pass, &mut four.pass);
-    let near = Op::Near { at, k: 3 };
-    let nearest = call(
-        rt,
-        alloc,
-        &taxis,
-        &mut four.pass,
-        DISPATCHER,
-        101,
-        &near,
-        &mut steps,
-    );
-    let good = [
-        go_home(&taxis, &mut pass, one),
-        go_home(&taxis, &mut pass, two),
-        go_home(&taxis, &mut pass, three),
-        go_home(&taxis, &mut pass, four),
-    ];
+    let (good, nearest) = call_all_day(rt, alloc, &taxis, &mut pass, &mut steps);
     let _ = taxis.settle(rt, alloc, &mut pass, &OpenGate);
     let events = taxis.close(pass).into_parts().entries;
     match nearest {
@@ -137,6 +109,67 @@ pub fn play_day<R: Threads + Wait + Sync, L: Ledger>(
         }),
         _ => None,
     }
+}
+
+// Three drivers and the dispatcher at once, and then the dispatcher's last question.
+fn call_all_day<R: Threads + Wait + Sync, L: Ledger>(
+    rt: &R,
+    alloc: Global,
+    taxis: &Taxis,
+    pass: &mut TaxiPass,
+    steps: &mut Steps<L>,
+) -> ([u32; 4], Result<Answer, CallFault>)
+    requires free { IsFree taxis.now pass.old }
+    requires parts { 5 ≤ pass.old.parts }
+    ensures { KeepsPass pass.old pass.new }
+{
+    put_waiting(rt, alloc, taxis, pass, steps);
+    let mut one = Caller::new(1, taxis.split_pass(pass));
+    let mut two = Caller::new(2, taxis.split_pass(pass));
+    let mut three = Caller::new(3, taxis.split_pass(pass));
+    let mut four = Caller::new(DISPATCHER, taxis.split_pass(pass));
+    all_at_once(rt, alloc, taxis, &mut one, &mut two, &mut three, &mut four);
+    // From here on the dispatcher has seen what the first driver did.
+    taxis.meet(&mut one.pass, &mut four.pass);
+    let nearest = ask_nearest(rt, alloc, taxis, &mut four.pass, steps);
+    let good = [
+        go_home(taxis, pass, one),
+        go_home(taxis, pass, two),
+        go_home(taxis, pass, three),
+        go_home(taxis, pass, four),
+    ];
+    (good, nearest)
+}
+
+fn put_waiting<R: Wait, L: Ledger>(
+    rt: &R,
+    alloc: Global,
+    taxis: &Taxis,
+    pass: &mut TaxiPass,
+    steps: &mut Steps<L>,
+)
+    requires { IsFree taxis.now pass.old }
+    ensures { KeepsPass pass.old pass.new }
+{
+    let waits = Op::Put {
+        id: WAITING,
+        at: STATION,
+    };
+    let _ = call(rt, alloc, taxis, pass, DISPATCHER, 0, &waits, steps);
+}
+
+fn ask_nearest<R: Wait, L: Ledger>(
+    rt: &R,
+    alloc: Global,
+    taxis: &Taxis,
+    pass: &mut TaxiPass,
+    steps: &mut Steps<L>,
+) -> Result<Answer, CallFault>
+    requires { IsFree taxis.now pass.old }
+    ensures { KeepsPass pass.old pass.new }
+{
+    let near = Op::Near { at: STATION, k: 3 };
+    call(rt, alloc, taxis, pass, DISPATCHER, 101, &near, steps)
 }
 
 // Joins a caller's pass to another, and gives how many answers were as they should be.
