@@ -4,7 +4,8 @@ use crate::inputs::words;
 use crate::left::Left;
 use crate::noting::NotingDisk;
 use disk_mem::MemDisk;
-use io_edge::{Gate, MemSink, MemSource, OpenGate};
+use disk_trait::LogDisk;
+use io_edge::{Gate, MemSink, MemSource, OpenGate, Sink, Source};
 use location_run::{Outcome, run};
 use std::alloc::Global;
 use std::sync::Wait;
@@ -85,15 +86,36 @@ fn run_disk<R: Threads + Wait + Sync, G: Gate + Sync>(
     gate: &G,
 ) -> Result<Left, Memory> {
     let words = words(alloc, all)?;
-    let source = MemSource::new(input.as_bytes().to_vec(alloc)?, faults.reads.to_vec(alloc)?);
-    let sink = MemSink::new(alloc, OUTPUT, faults.puts.to_vec(alloc)?)?;
-    let other = failing_disk(alloc)?;
+    let source = source_of(alloc, input, faults.reads)?;
+    let sink = sink_of(alloc, faults.puts)?;
+    let other = NotingDisk::new(alloc, failing_disk(alloc)?);
     let disk = NotingDisk::new(alloc, disk);
-    let other = NotingDisk::new(alloc, other);
     run_all(rt, alloc, words.as_slice(), source, sink, disk, other, gate)
 }
 
-// The one call of `run`.
+fn source_of(alloc: Global, input: &str, failing: &[u64]) -> Result<MemSource, Memory> {
+    let bytes = input.as_bytes().to_vec(alloc)?;
+    Ok(MemSource::new(bytes, failing.to_vec(alloc)?))
+}
+
+fn sink_of(alloc: Global, failing: &[u64]) -> Result<MemSink, Memory> {
+    MemSink::new(alloc, OUTPUT, failing.to_vec(alloc)?)
+}
+
+// The one call of `run`, over any ends.
+fn run_ends<R: Threads + Wait + Sync, S: Source, K: Sink, D: LogDisk + Send, G: Gate + Sync>(
+    rt: &R,
+    alloc: Global,
+    words: &[String],
+    source: &mut S,
+    sink: &mut K,
+    disk: D,
+    other: D,
+    gate: &G,
+) -> Outcome<D> {
+    run(rt, alloc, words, source, sink, disk, other, gate)
+}
+
 fn run_all<R: Threads + Wait + Sync, G: Gate + Sync>(
     rt: &R,
     alloc: Global,
@@ -104,7 +126,7 @@ fn run_all<R: Threads + Wait + Sync, G: Gate + Sync>(
     other: NotingDisk,
     gate: &G,
 ) -> Result<Left, Memory> {
-    let outcome = run(rt, alloc, words, &mut source, &mut sink, disk, other, gate);
+    let outcome = run_ends(rt, alloc, words, &mut source, &mut sink, disk, other, gate);
     let taken = sink.bytes().to_vec(alloc)?;
     Ok(left_of(outcome, taken))
 }
