@@ -1,6 +1,23 @@
 //! Tests of sessions that run at once: passes by hand, lanes in an order that a gate makes, and sixteen lanes together; and the index that one of them watches.
 #![tactic(auto)]
 
+// `assert!` and `assert_eq!` as calls: the proof of a function with several of them is much shorter so.
+#[cfg(test)]
+macro_rules! assert_is {
+    ($rt:expr; $is_so:expr $(,)?) => {
+        crate::checks::holds(&$rt, $is_so, concat!("assertion failed: ", stringify!($is_so)))
+    };
+}
+
+#[cfg(test)]
+macro_rules! assert_same {
+    ($rt:expr; $left:expr, $right:expr $(,)?) => {
+        crate::checks::same(&$rt, &$left, &$right, stringify!($left))
+    };
+}
+
+#[cfg(test)]
+mod checks;
 #[cfg(test)]
 mod crowds;
 #[cfg(test)]

@@ -81,13 +81,16 @@ fn found<I: Index, D: LogDisk, R: Wait>(rt: &R, alloc: Global) -> Option<(Done, 
     }
 }
 
+fn is_absent(done: &Done) -> bool {
+    matches!(done.answer, Answer::Absent) && done.full.is_none()
+}
+
 #[test]
 fn a_pass_learns_what_another_did(rt: HostRuntime) -> Result<(), Fail> {
     let Some((done, events)) = found::<FlatIndex, MemDisk, HostRuntime>(&rt, rt.alloc()) else {
         return Err(AllocError.into());
     };
-    assert_eq!(rt; (done.place, events), (1, 1));
-    assert!(rt; matches!(done.answer, Answer::Absent));
-    assert!(rt; done.full.is_none());
+    assert_same!(rt; (done.place, events), (1, 1));
+    assert_is!(rt; is_absent(&done));
     Ok(())
 }

@@ -4,6 +4,7 @@ ghost use Rattle.plain_list.specs.Answer.{IsValid};
 ghost use Rattle.plain_list.specs.World.{IsWorld};
 ghost use Rattle.thread_tests.specs.Passes.{IsFree, KeepsPass};
 
+use crate::checks::holds;
 use crate::numbered::Numbered;
 use crate::turns::{Turn, Turns};
 use book_lock::Pass;
@@ -225,7 +226,7 @@ fn late_reads<R: Threads + Wait + Abort + Sync, G: Gate + Sync>(
     let Some((answer, index)) = asked(rt, alloc, book, beside, gate) else {
         return Err(AllocError.into());
     };
-    assert!(rt; lists_the_first(&answer));
+    assert_is!(rt; lists_the_first(&answer));
     Ok(index.late_reads())
 }
 
@@ -248,8 +249,8 @@ fn puts_overtake_a_box<R: Threads + Wait + Abort + Sync>(
     let list = [first, taken, second];
     let turns = Turns::new(&list);
     let late_reads = late_reads(rt, alloc, true, &turns)?;
-    assert!(rt; turns.are_over(), "a lane waited for what didn't come");
-    assert!(rt; late_reads > 0);
+    holds(rt, turns.are_over(), "a lane waited for what didn't come");
+    assert_is!(rt; late_reads > 0);
     Ok(())
 }
 
@@ -261,6 +262,6 @@ fn a_query_that_is_held_reads_an_older_version(rt: HostRuntime) -> Result<(), Fa
 #[test]
 fn a_query_by_itself_reads_the_newest_version(rt: HostRuntime) -> Result<(), Fail> {
     let late_reads = late_reads(&rt, rt.alloc(), false, &OpenGate)?;
-    assert_eq!(rt; late_reads, 0);
+    assert_same!(rt; late_reads, 0);
     Ok(())
 }
