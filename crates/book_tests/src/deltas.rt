@@ -42,14 +42,14 @@ fn folds_behind_an_abandoned_split<I: Index, D: LogDisk>(
     book: &mut Book<I, D>,
 ) -> Result<(), Fail> {
     put_many(book, 1, 40)?;
-    assert_same!(rt; first_leaf(book, 41)?, (0, 40));
+    assert_same!(rt; first_leaf(book, 41), Ok((0, 40)));
     let number = begin(book, &Name::whole())?;
     put_many(book, 101, 40)?;
-    assert_same!(rt; first_leaf(book, 141)?, (40, 80));
+    assert_same!(rt; first_leaf(book, 141), Ok((40, 80)));
     abandon(book, number)?;
-    assert_same!(rt; first_leaf(book, 142)?, (40, 80));
+    assert_same!(rt; first_leaf(book, 142), Ok((40, 80)));
     put_many(book, 201, 1)?;
-    assert_same!(rt; first_leaf(book, 202)?, (0, 81));
+    assert_same!(rt; first_leaf(book, 202), Ok((0, 81)));
     Ok(())
 }
 
