@@ -10,23 +10,18 @@ mod day;
 mod town;
 
 use commit_book::Book;
-use day::play_day;
+use day::{Day, play_day};
 use disk_mem::MemDisk;
 use kd_trie::KdTrie;
 use std::io;
+use std::io::Print;
 use std::marker::Brand;
 use std::sync::ledger::Blank;
 
 // How many taxis a leaf should have.
 const BUCKET: u32 = 4;
 
-fn main(rt: HostRuntime) -> io::Result<()> {
-    let Ok(book) = Book::<KdTrie, MemDisk>::fresh(rt.alloc(), BUCKET) else {
-        return println!(rt; "no memory");
-    };
-    let Some(day) = play_day::<HostRuntime, Brand>(&rt, rt.alloc(), book, Blank::new(1)) else {
-        return println!(rt; "no memory");
-    };
+fn tell(rt: &impl Print, day: &Day) -> io::Result<()> {
     for (i, good) in day.good.iter().enumerate() {
         println!(rt; "session {}: {good} answers as they should be", i + 1)?;
     }
@@ -38,4 +33,14 @@ fn main(rt: HostRuntime) -> io::Result<()> {
         )?;
     }
     Ok(())
+}
+
+fn main(rt: HostRuntime) -> io::Result<()> {
+    let Ok(book) = Book::<KdTrie, MemDisk>::fresh(rt.alloc(), BUCKET) else {
+        return println!(rt; "no memory");
+    };
+    match play_day::<HostRuntime, Brand>(&rt, rt.alloc(), book, Blank::new(1)) {
+        Some(day) => tell(&rt, &day),
+        None => println!(rt; "no memory"),
+    }
 }
