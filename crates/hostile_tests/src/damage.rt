@@ -201,26 +201,49 @@ fn file_of(alloc: Global, damage: &Damage) -> Result<Vec<u8>, AllocError> {
 }
 
 fn is_found(alloc: Global, file: &[u8], want: Want) -> Result<bool, Fail> {
-    Ok(match (found_in(alloc, file)?, want) {
-        (Found::Refused(got), Want::Refused(line)) => got.as_bytes() == line.as_bytes(),
-        (
-            Found::State {
-                cells,
-                begun: found_begun,
-                unfinished,
-                leaves,
-                objects,
-            },
-            Want::Found { counts, begun, .. },
-        ) => {
-            let points = objects.len();
-            let text = format!(in alloc;
-                "cells {cells}\npoints {points}\nleaves {leaves}\nunfinished {unfinished}\n"
-            )?;
-            found_begun == begun && text.as_bytes() == counts.as_bytes()
+    let found = found_in(alloc, file)?;
+    match &found {
+        Found::Refused(line) => Ok(is_line(want, line)),
+        Found::State { begun, .. } => {
+            let counts = counts_of(alloc, &found)?;
+            Ok(has_counts(want, *begun, &counts))
         }
-        _ => false,
-    })
+    }
+}
+
+fn is_line(want: Want, line: &str) -> bool {
+    match want {
+        Want::Refused(wanted) => line.as_bytes() == wanted.as_bytes(),
+        Want::Found { .. } => false,
+    }
+}
+
+fn has_counts(want: Want, found_begun: u64, found_counts: &str) -> bool {
+    match want {
+        Want::Refused(_) => false,
+        Want::Found { counts, begun, .. } => {
+            found_begun == begun && found_counts.as_bytes() == counts.as_bytes()
+        }
+    }
+}
+
+// The four counts, as `check` writes them.
+fn counts_of(alloc: Global, found: &Found) -> Result<String, AllocError> {
+    match found {
+        Found::Refused(_) => Ok(String::new(alloc)),
+        Found::State {
+            cells,
+            unfinished,
+            leaves,
+            objects,
+            ..
+        } => {
+            let points = objects.len();
+            format!(in alloc;
+                "cells {cells}\npoints {points}\nleaves {leaves}\nunfinished {unfinished}\n"
+            )
+        }
+    }
 }
 
 fn ask<R: Threads + Wait + Sync>(
@@ -252,10 +275,55 @@ fn wrote(left: &Left, want: Want, title: &str, rest: &str) -> bool {
     }
 }
 
+// Whether a run left the file, and made no change of it on the way.
+fn is_untouched(left: &Left, file: &[u8]) -> bool {
+    left.file.as_slice() == file && left.moments == 0
+}
+
+// A command that only reads the file, and the title of what it lists.
+struct Reading {
+    words: &'static [&'static str],
+    title: &'static str,
+    what: &'static str,
+}
+
+const CHECK: Reading = Reading {
+    words: &["check", "log"],
+    title: "",
+    what: "check of file",
+};
+
+const SHOW: Reading = Reading {
+    words: &["show", "log", "0", "0", "3", "5"],
+    title: "id,x,y\n",
+    what: "show of file",
+};
+
+fn judge_read<R: Threads + Wait + Sync + Abort>(
+    rt: &R,
+    alloc: Global,
+    number: u64,
+    file: &[u8],
+    reading: &Reading,
+    want: Want,
+    rest: &str,
+) -> Result<(), Fail> {
+    let left = ask(rt, alloc, reading.words, file)?;
+    let is_written = wrote(&left, want, reading.title, rest);
+    must(rt, is_written, reading.what, number);
+    must(
+        rt,
+        is_untouched(&left, file),
+        "bytes behind a read of file",
+        number,
+    );
+    Ok(())
+}
+
 fn judge_reads<R: Threads + Wait + Sync + Abort>(
     rt: &R,
     alloc: Global,
-    number: usize,
+    number: u64,
     file: &[u8],
     want: Want,
 ) -> Result<(), Fail> {
@@ -267,38 +335,21 @@ fn judge_reads<R: Threads + Wait + Sync + Abort>(
             ..
         } => (counts, objects),
     };
-    must(
-        rt,
-        is_found(alloc, file, want)?,
-        "found of file",
-        number as u64,
-    );
-    let left = ask(rt, alloc, &["check", "log"], file)?;
-    assert!(rt; wrote(&left, want, "", counts), "file {number}: check");
-    must(
-        rt,
-        left.file.as_slice() == file && left.moments == 0,
-        "check of file",
-        number as u64,
-    );
-    let left = ask(rt, alloc, &["show", "log", "0", "0", "3", "5"], file)?;
-    assert!(rt;
-        wrote(&left, want, "id,x,y\n", objects),
-        "file {number}: show"
-    );
-    must(
-        rt,
-        left.file.as_slice() == file && left.moments == 0,
-        "show of file",
-        number as u64,
-    );
-    Ok(())
+    must(rt, is_found(alloc, file, want)?, "found of file", number);
+    judge_read(rt, alloc, number, file, &CHECK, want, counts)?;
+    judge_read(rt, alloc, number, file, &SHOW, want, objects)
+}
+
+// Whether a refused play left the file and no history, and a crash leaves the file at each moment.
+fn is_kept(left: &Left, file: &[u8]) -> bool {
+    let is_same = left.images.iter().all(|i| i.bytes.as_slice() == file);
+    is_same && left.events.is_empty() && left.file.as_slice() == file
 }
 
 fn judge_play<R: Threads + Wait + Sync + Abort>(
     rt: &R,
     alloc: Global,
-    number: usize,
+    number: u64,
     file: &[u8],
     want: Want,
 ) -> Result<(), Fail> {
@@ -307,18 +358,10 @@ fn judge_play<R: Threads + Wait + Sync + Abort>(
         _ => "1,1,absent,\n",
     };
     let left = ask(rt, alloc, &["play", "log"], file)?;
-    assert!(rt;
-        wrote(&left, want, "row,place,answer,detail\n", answer),
-        "file {number}: play"
-    );
+    let is_written = wrote(&left, want, "row,place,answer,detail\n", answer);
+    must(rt, is_written, "lines of a play of file", number);
     if let Want::Refused(_) = want {
-        let is_same = left.images.iter().all(|i| i.bytes.as_slice() == file);
-        must(
-            rt,
-            is_same && left.events.is_empty() && left.file.as_slice() == file,
-            "play of file",
-            number as u64,
-        );
+        must(rt, is_kept(&left, file), "play of file", number);
     }
     Ok(())
 }
@@ -327,8 +370,8 @@ fn each_file<R: Threads + Wait + Sync + Abort>(rt: &R, alloc: Global) -> Result<
     for (number, damage) in FILES.iter().enumerate() {
         let file = file_of(alloc, damage)?;
         let Damage(_, _, _, want) = *damage;
-        judge_reads(rt, alloc, number, file.as_slice(), want)?;
-        judge_play(rt, alloc, number, file.as_slice(), want)?;
+        judge_reads(rt, alloc, number as u64, file.as_slice(), want)?;
+        judge_play(rt, alloc, number as u64, file.as_slice(), want)?;
     }
     Ok(())
 }
