@@ -74,7 +74,8 @@ fn a_trie_answers_the_worked_calls(rt: HostRuntime) -> Result<(), Fail> {
 fn keeps_what_is_shared<I: Index>(rt: &impl Abort, alloc: Global) -> Result<(), Fail> {
     let mut index = one_empty_leaf::<I>(alloc)?;
     let before = index.share()?;
-    index.put_row(change(27, 7, false), &mut AtOnce)?;
+    let now = index.put_row(change(27, 7, false), &mut AtOnce)?;
+    assert_same!(rt; now, 1);
     assert_same!(rt; index.leaf_of(27).1.count(), 1);
     assert_same!(rt; before.leaf_of(27).1.count(), 0);
     Ok(())
