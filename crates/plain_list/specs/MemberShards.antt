@@ -6,11 +6,11 @@ use Rattle.plain_list.specs.Answer.{with_member}
 
 -- how many shards there are
 unfoldable pub most_shards : ℕ
-most_shards = 4096
+most_shards = 2048
 
 -- the place of the shard that an id is dealt to
 unfoldable pub shard_of : ℕ → ℕ
-shard_of id = ((id * 11400714819323198485) % 2 ^ 64) / 2 ^ 52
+shard_of id = ((id * 11400714819323198485) % 2 ^ 64) / 2 ^ 53
 
 -- the world with these objects more
 abbrev pub with_all : List Placed → List Placed → List Placed

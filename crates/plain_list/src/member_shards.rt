@@ -11,7 +11,7 @@ use std::alloc::{AllocError, Global};
 use std::marker::Model;
 use zorder::{Placed, Point, coordinates_fit};
 
-const SHARDS: usize = 4_096;
+const SHARDS: usize = 2_048;
 
 // The golden ratio's bits behind the point: ids that are dense, or so in each session, are spread over all shards.
 const MIXER: u64 = 0x9E37_79B9_7F4A_7C15;
@@ -121,7 +121,7 @@ fn shard_of(id: u64) -> usize
     ensures place { result ≡ shard_of id }
     ensures within { result < most_shards }
 {
-    (id.wrapping_mul(MIXER) >> 52) as usize
+    (id.wrapping_mul(MIXER) >> 53) as usize
 }
 
 // Makes the shards, where there are none yet.
