@@ -6,7 +6,8 @@
 //! `with_put` and `with_gone` give a new bucket with the same base, `folded` makes the rows its base, and `caught_up` gives a
 //! bucket that was cut out of another one's base the rows that this one has since. `put`, `take`, `shift` and `pass` change
 //! what a pointer holds, in place where nobody shares it, and keep its base or don't (`RowChange`). They wait for a step that
-//! may fail (`Commit`), and take it when all memory is there and before anything changes.
+//! may fail (`Commit`), and take it when all memory is there and before anything changes. `own` gives what a pointer
+//! holds to write to, here and down the nodes of a trie.
 //!
 //! Not here: which keys a bucket may hold (`index_layer`), and when a bucket is folded or cut (`point_table`, `split_prepare`).
 #![tactic(auto)]

@@ -2,7 +2,6 @@
 use Rattle.std.proofs.Common.{◌≡◌, ◌-◌, ◌==◌, ◌<◌, ◌∙◌, ℕ, suc, true, false, cond, ap, arith}
 use Rattle.std.specs.Int.{bit_at}
 use Rattle.zorder.specs.Bits.{low_bits}
-use Rattle.bucket_versions.specs.declared.row.Row.{Row}
 use Rattle.bucket_versions.specs.Rows.{Rows}
 use Rattle.kd_trie.specs.Tries.{Trie, fork, put_at, changed_at, rows_at}
 

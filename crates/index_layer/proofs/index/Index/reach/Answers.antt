@@ -1,4 +1,4 @@
-use Rattle.std.proofs.Common.{◌≡◌, ◌∙◌, true, ap}
+use Rattle.std.proofs.Common.{◌∙◌, ap}
 use Rattle.zorder.specs.Key.{is_under}
 use Rattle.index_layer.specs.Below.{begins_some}
 use Rattle.index_layer.proofs.Narrowing.{under-none, some-whole}
