@@ -1,13 +1,12 @@
 //! Versions of a bucket: the rows under one leaf of an index.
 //!
 //! Contracts see a `Bucket` as two lists of distinct rows in order: its base, and its rows now. Mostly the rows are their own
-//! base, and it keeps one list. A base that is kept while rows change stands apart, where versions share it, and the list has
-//! the delta: the rows that stand in exactly one of the two. A delta of 32 rows gives way to the list of all rows.
-//! `with_put` and `with_gone` give a new bucket with the same base, `folded` makes the rows its base, and `caught_up` gives a
-//! bucket that was cut out of another one's base the rows that this one has since. `put`, `take`, `shift` and `pass` change
-//! what a pointer holds, in place where nobody shares it, and keep its base or don't (`RowChange`). They wait for a step that
-//! may fail (`Commit`), and take it when all memory is there and before anything changes. `own` gives what a pointer
-//! holds to write to, here and down the nodes of a trie.
+//! base, and it keeps one list. A base that is kept while rows change stands apart, where versions share it, and the list has the
+//! delta: the rows that stand in exactly one of the two. A delta of 32 rows gives way to the list of all rows. `with_put` and
+//! `with_gone` give a new bucket with the same base, `folded` makes the rows its base, and `caught_up` gives a bucket that was
+//! cut out of another one's base the rows that this one has since. `put`, `take`, `shift` and `pass` change what a pointer holds,
+//! in place where nobody shares it, and keep its base or don't (`RowChange`). They wait for a step that may fail (`Commit`), and
+//! take it when all memory is there, before anything changes. `own` gives what a pointer holds to write to, in a trie too.
 //!
 //! Not here: which keys a bucket may hold (`index_layer`), and when a bucket is folded or cut (`point_table`, `split_prepare`).
 #![tactic(auto)]

@@ -3,7 +3,7 @@ use Rattle.std.proofs.Common.{◌≡◌, ◌-◌, ◌==◌, ◌<◌, ◌∙◌, 
 use Rattle.std.specs.Int.{bit_at}
 use Rattle.zorder.specs.Bits.{low_bits}
 use Rattle.bucket_versions.specs.Rows.{Rows}
-use Rattle.kd_trie.specs.Tries.{Trie, fork, put_at, changed_at, rows_at}
+use Rattle.kd_trie.specs.Tries.{Trie, fork, put_at, graft, changed_at, rows_at}
 
 again : (left : ℕ) → 0 < left → left ≡ suc (left - 1)
 again left some = omega (arith, some)
@@ -37,3 +37,13 @@ pub rows_zero : (left key : ℕ) (z o : Trie) → 0 < left → (bit_at key (left
 rows_zero left key z o some e =
     let rest = low_bits (left - 1) key in
     ap (λ (n : ℕ). rows_at (low_bits n key) (fork z o)) (again left some) ∙ (λ i. cond (e i) (rows_at rest o) (rows_at rest z))
+
+pub graft_one : (left key : ℕ) (s z o : Trie) → 0 < left → (bit_at key (left - 1) == 1) ≡ true → graft (low_bits left key) s (fork z o) ≡ fork z (graft (low_bits (left - 1) key) s o)
+graft_one left key s z o some e =
+    let rest = low_bits (left - 1) key in
+    ap (λ (n : ℕ). graft (low_bits n key) s (fork z o)) (again left some) ∙ (λ i. cond (e i) (fork z (graft rest s o)) (fork (graft rest s z) o))
+
+pub graft_zero : (left key : ℕ) (s z o : Trie) → 0 < left → (bit_at key (left - 1) == 1) ≡ false → graft (low_bits left key) s (fork z o) ≡ fork (graft (low_bits (left - 1) key) s z) o
+graft_zero left key s z o some e =
+    let rest = low_bits (left - 1) key in
+    ap (λ (n : ℕ). graft (low_bits n key) s (fork z o)) (again left some) ∙ (λ i. cond (e i) (fork z (graft rest s o)) (fork (graft rest s z) o))

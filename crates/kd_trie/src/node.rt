@@ -1,10 +1,12 @@
 //! Nodes: a leaf's bucket, or two halves.
 ghost use Rattle.std.specs.Prelude.{◌≡◌, ◌≤◌, ◌<◌, ◌+◌, ◌-◌, ◌==◌, Some, length, IfOk, OnOk, OnErr};
 ghost use Rattle.std.specs.Arc.{arc_value};
+ghost use Rattle.std.specs.Borrow.{sem};
 ghost use Rattle.std.specs.Int.{bit_at};
 ghost use Rattle.zorder.specs.Bits.{low_bits};
 ghost use Rattle.kd_trie.specs.Tries.{name_at, bucket_at, graft, twins};
 ghost use Rattle.kd_trie.specs.Nodes.{seen};
+ghost use Rattle.kd_trie.specs.Halves.{LendsHalf, half_of};
 ghost use Rattle.kd_trie.specs.Ways.{Fits, put_way};
 ghost use Rattle.kd_trie.specs.Walks.{Agrees};
 ghost use Rattle.bucket_versions.specs.Told.{Told};
@@ -61,6 +63,15 @@ pub(crate) fn next_bit(key: u64, left: u8) -> bool
     (key >> (left - 1)) % 2 == 1
 }
 
+// The half of a pair that a bit leads to, to write to.
+#[inline(always)]
+pub(crate) fn half(pair: &mut Pair, bit: bool) -> &mut Node
+    ensures* lends { sem 𝓛 (LendsHalf pair.entry bit result) }
+    ensures half { seen result.now ≡ half_of pair.old bit }
+{
+    if bit { &mut pair.one } else { &mut pair.zero }
+}
+
 /// A key, and the bucket that is to be put where its last bits lead to.
 #[derive(Drop)]
 pub(crate) struct Way {
@@ -91,18 +102,14 @@ pub(crate) fn put<C: Commit>(
         }
         Node::Inner(pair) => {
             let pair = own(pair)?;
-            if next_bit(way.key, left) {
-                put(&mut pair.one, way, left - 1, commit)
-            } else {
-                put(&mut pair.zero, way, left - 1, commit)
-            }
+            let half = half(pair, next_bit(way.key, left));
+            put(half, way, left - 1, commit)
         }
     }
 }
 
 /// Puts two buckets where the last `left` bits of two keys lead to, once the step has succeeded. Where both lead to one leaf, it gets
 /// the second.
-#[tactic(auto, using(crate::proofs::Halves::put_one, crate::proofs::Halves::put_zero))]
 pub(crate) fn put_two<C: Commit>(
     node: &mut Node,
     first: Way,
@@ -126,25 +133,22 @@ pub(crate) fn put_two<C: Commit>(
         }
         Node::Inner(pair) => {
             let pair = own(pair)?;
-            if next_bit(first.key, left) {
-                if next_bit(second.key, left) {
-                    put_two(&mut pair.one, first, second, left - 1, commit)
-                } else {
-                    let Pair { zero, one } = pair;
-                    put_apart(one, first, left - 1, zero, second, left - 1, commit)
-                }
-            } else if next_bit(second.key, left) {
-                let Pair { zero, one } = pair;
-                put_apart(zero, first, left - 1, one, second, left - 1, commit)
+            let bit = next_bit(first.key, left);
+            if bit == next_bit(second.key, left) {
+                put_two(half(pair, bit), first, second, left - 1, commit)
             } else {
-                put_two(&mut pair.zero, first, second, left - 1, commit)
+                let Pair { zero, one } = pair;
+                if bit {
+                    put_apart(one, first, left - 1, zero, second, left - 1, commit)
+                } else {
+                    put_apart(zero, first, left - 1, one, second, left - 1, commit)
+                }
             }
         }
     }
 }
 
 // The same in two nodes.
-#[tactic(auto, using(crate::proofs::Halves::put_one, crate::proofs::Halves::put_zero))]
 fn put_apart<C: Commit>(
     node: &mut Node,
     first: Way,
@@ -164,33 +168,13 @@ fn put_apart<C: Commit>(
         Node::Leaf(leaf) => put_beside(leaf, first.bucket, other, second, other_left, commit),
         Node::Inner(pair) => {
             let pair = own(pair)?;
-            if next_bit(first.key, left) {
-                put_apart(
-                    &mut pair.one,
-                    first,
-                    left - 1,
-                    other,
-                    second,
-                    other_left,
-                    commit,
-                )
-            } else {
-                put_apart(
-                    &mut pair.zero,
-                    first,
-                    left - 1,
-                    other,
-                    second,
-                    other_left,
-                    commit,
-                )
-            }
+            let half = half(pair, next_bit(first.key, left));
+            put_apart(half, first, left - 1, other, second, other_left, commit)
         }
     }
 }
 
 // The same in a leaf and in a node.
-#[tactic(auto, using(crate::proofs::Halves::put_one, crate::proofs::Halves::put_zero))]
 fn put_beside<C: Commit>(
     leaf: &mut Arc<Bucket>,
     bucket: Arc<Bucket>,
@@ -216,11 +200,8 @@ fn put_beside<C: Commit>(
         }
         Node::Inner(pair) => {
             let pair = own(pair)?;
-            if next_bit(way.key, left) {
-                put_beside(leaf, bucket, &mut pair.one, way, left - 1, commit)
-            } else {
-                put_beside(leaf, bucket, &mut pair.zero, way, left - 1, commit)
-            }
+            let half = half(pair, next_bit(way.key, left));
+            put_beside(leaf, bucket, half, way, left - 1, commit)
         }
     }
 }
@@ -252,11 +233,8 @@ pub(crate) fn divide<C: Commit>(
         }
         Node::Inner(pair) => {
             let pair = own(pair)?;
-            if next_bit(key, left) {
-                divide(alloc, &mut pair.one, key, left - 1, zero, one, commit)
-            } else {
-                divide(alloc, &mut pair.zero, key, left - 1, zero, one, commit)
-            }
+            let half = half(pair, next_bit(key, left));
+            divide(alloc, half, key, left - 1, zero, one, commit)
         }
     }
 }

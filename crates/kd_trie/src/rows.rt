@@ -6,7 +6,7 @@ ghost use Rattle.bucket_versions.specs.Told.{Told};
 ghost use Rattle.kd_trie.specs.Nodes.{seen};
 ghost use Rattle.kd_trie.specs.Ways.{Fits, has_under, put_under, gone_under, count_under, MayMove};
 
-use crate::node::{Node, Pair, next_bit};
+use crate::node::{Node, Pair, half, next_bit};
 use bucket_versions::{Bucket, Commit, RowChange, Undone, own, pass, put, shift, take};
 use std::sync::Arc;
 
@@ -43,11 +43,8 @@ pub(crate) fn put_row<C: Commit>(node: &mut Node, to: &mut Coming, left: u8, com
                 to.ended = Err(Undone::Memory);
                 return;
             };
-            if next_bit(to.change.row.key, left) {
-                put_row(&mut pair.one, to, left - 1, commit);
-            } else {
-                put_row(&mut pair.zero, to, left - 1, commit);
-            }
+            let half = half(pair, next_bit(to.change.row.key, left));
+            put_row(half, to, left - 1, commit);
         }
     }
 }
@@ -68,17 +65,13 @@ pub(crate) fn take_row<C: Commit>(node: &mut Node, from: &mut Going, left: u8, c
                 from.ended = Err(Undone::Memory);
                 return;
             };
-            if next_bit(from.change.row.key, left) {
-                take_row(&mut pair.one, from, left - 1, commit);
-            } else {
-                take_row(&mut pair.zero, from, left - 1, commit);
-            }
+            let half = half(pair, next_bit(from.change.row.key, left));
+            take_row(half, from, left - 1, commit);
         }
     }
 }
 
 /// Takes a row out and adds another one, once the step has succeeded.
-#[tactic(auto, using(crate::proofs::Halves::changed_one, crate::proofs::Halves::changed_zero, crate::proofs::Halves::rows_one, crate::proofs::Halves::rows_zero))]
 pub(crate) fn shift_row<C: Commit>(
     node: &mut Node,
     from: &RowChange,
@@ -101,18 +94,16 @@ pub(crate) fn shift_row<C: Commit>(
                 to.ended = Err(Undone::Memory);
                 return;
             };
-            if next_bit(from.row.key, left) {
-                if next_bit(to.change.row.key, left) {
-                    shift_row(&mut pair.one, from, to, left - 1, commit);
-                } else {
-                    let Pair { zero, one } = pair;
-                    pass_row(one, from, left - 1, zero, to, left - 1, commit);
-                }
-            } else if next_bit(to.change.row.key, left) {
-                let Pair { zero, one } = pair;
-                pass_row(zero, from, left - 1, one, to, left - 1, commit);
+            let bit = next_bit(from.row.key, left);
+            if bit == next_bit(to.change.row.key, left) {
+                shift_row(half(pair, bit), from, to, left - 1, commit);
             } else {
-                shift_row(&mut pair.zero, from, to, left - 1, commit);
+                let Pair { zero, one } = pair;
+                if bit {
+                    pass_row(one, from, left - 1, zero, to, left - 1, commit);
+                } else {
+                    pass_row(zero, from, left - 1, one, to, left - 1, commit);
+                }
             }
         }
     }
@@ -143,19 +134,8 @@ fn pass_row<C: Commit>(
                 to.ended = Err(Undone::Memory);
                 return;
             };
-            if next_bit(from.row.key, left) {
-                pass_row(&mut pair.one, from, left - 1, other, to, other_left, commit);
-            } else {
-                pass_row(
-                    &mut pair.zero,
-                    from,
-                    left - 1,
-                    other,
-                    to,
-                    other_left,
-                    commit,
-                );
-            }
+            let half = half(pair, next_bit(from.row.key, left));
+            pass_row(half, from, left - 1, other, to, other_left, commit);
         }
     }
 }
@@ -184,11 +164,8 @@ fn pass_on<C: Commit>(
                 to.ended = Err(Undone::Memory);
                 return;
             };
-            if next_bit(to.change.row.key, left) {
-                pass_on(leaf, from, &mut pair.one, to, left - 1, commit);
-            } else {
-                pass_on(leaf, from, &mut pair.zero, to, left - 1, commit);
-            }
+            let half = half(pair, next_bit(to.change.row.key, left));
+            pass_on(leaf, from, half, to, left - 1, commit);
         }
     }
 }

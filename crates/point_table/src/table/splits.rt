@@ -4,7 +4,7 @@ ghost use Rattle.std.specs.Arc.{arc_value};
 ghost use Rattle.bucket_versions.specs.Rows.{as_base};
 ghost use Rattle.bucket_versions.specs.Told.{Told};
 ghost use Rattle.index_layer.specs.Leaves.{has_name};
-ghost use Rattle.split_prepare.specs.Cut.{cut};
+ghost use Rattle.split_prepare.specs.Cut.{cut, cut_out};
 ghost use Rattle.point_table.specs.Divisions.{CanDivide, Folds, Divides, KeepsRest, marks_of};
 
 use crate::crowded::{Mark, is_over};
@@ -87,11 +87,19 @@ fn caught_up(
 {
     let mut buckets = Vec::new(alloc);
     for (place, part) in parts.iter().enumerate() {
-        let (lo, hi) = key_range(&child_at(name, width, place));
-        let bucket = part.caught_up(from, lo, hi)?;
-        buckets.push(bucket.into_shared()?)?;
+        let child = child_at(name, width, place);
+        buckets.push(child_now(&child, from, part)?)?;
     }
     Ok(buckets)
+}
+
+// One of them.
+fn child_now(name: &Name, from: &Bucket, part: &Bucket) -> Result<Arc<Bucket>, Memory>
+    requires { part.now ≡ cut_out from.now.base name.now }
+    ensures { IfOk result (λ b. arc_value b ≡ cut_out from.now.rows name.now) }
+{
+    let (lo, hi) = key_range(name);
+    part.caught_up(from, lo, hi)?.into_shared()
 }
 
 // Which of a leaf's children are to be split.

@@ -1,0 +1,21 @@
+-- The half of a pair that a bit leads to.
+use Rattle.std.specs.Prelude.{Bool, if◌then◌else◌}
+use Rattle.std.specs.Borrow.{Lends, MutBor, Fml}
+use Rattle.kd_trie.specs.declared.node.Node.{Node}
+use Rattle.kd_trie.specs.declared.node.Pair.{Pair}
+use Rattle.kd_trie.specs.Tries.{Trie}
+use Rattle.kd_trie.specs.Nodes.{seen}
+use Rattle.kd_trie.specs.contracts.node.Node as node
+use Rattle.kd_trie.specs.contracts.node.Pair as pair
+
+-- what the half holds
+abbrev pub half_of : Pair → Bool → Trie
+half_of p bit = if bit then seen p.one else seen p.zero
+
+-- a pair with another half
+abbrev pub with_half : Pair → Bool → Node → Pair
+with_half p bit n = if bit then record p { one = n } else record p { zero = n }
+
+-- a pair ends with the last value behind r for the half
+abbrev pub LendsHalf : MutBor Pair → Bool → MutBor Node → Fml
+LendsHalf p bit r = Lends pair.the_row node.the_row p r (with_half p.now bit)
