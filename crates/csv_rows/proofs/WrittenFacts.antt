@@ -10,10 +10,11 @@ use Rattle.std.proofs.Math.Seq.{take-length}
 use Rattle.csv_rows.specs.declared.rows.InRow.{InRow}
 use Rattle.csv_rows.specs.InRows.{AreInRows, IsInRow}
 use Rattle.csv_rows.specs.RowLines.{header_line, row_line, rows_text}
+use Rattle.csv_rows.specs.Records.{rows_in}
 use Rattle.csv_rows.specs.Rows.{behind_mark, has_mark, rows_of}
 use Rattle.csv_rows.proofs.NumbersFacts.{numerals}
 use Rattle.csv_rows.proofs.RoundTrip.{rows_of-rows_text}
-use Rattle.csv_rows.proofs.RowsFacts.{all_by_recursion-push, rows_in, rows_of-unmarked}
+use Rattle.csv_rows.proofs.RowsFacts.{all_by_recursion-push, rows_of-unmarked}
 
 first-taken : (text : List ℕ) (len : ℕ) → 0 < len → get_or (take len text) 0 0 ≡ get_or text 0 0
 first-taken text len some = grind (arith, some)
