@@ -7,8 +7,8 @@ use Rattle.std.specs.Borrow.{Bor}
 use Rattle.std.specs.List.{AllByRecursion}
 use Rattle.csv.specs.Reading.{default_config, is_bom, records, strip_bom}
 use Rattle.csv.specs.declared.reader.Reader.{Reader}
-use Rattle.csv_rows.specs.InRows.{IsInRow}
-use Rattle.csv_rows.specs.Records.{StandsBehind, TakesRecord}
+use Rattle.csv_rows.specs.InRows.{AreInRows, IsInRow}
+use Rattle.csv_rows.specs.Records.{HasRead, SoFar, StandsBehind, TakesRecord, rows_in}
 use Rattle.csv_rows.proofs.RecordsFacts.{so_far_first}
 use Rattle.csv_rows.specs.declared.rows.InRow.{InRow}
 use Rattle.csv_rows.specs.declared.rows.RowsFault.{RowsFault}
@@ -16,11 +16,6 @@ use Rattle.csv_rows.specs.declared.rows.RowsFault.TheVariants.{Header, TooMany}
 use Rattle.csv_rows.specs.declared.rows.Wrong.{Wrong}
 use Rattle.csv_rows.specs.Fields.{row_of}
 use Rattle.csv_rows.specs.Rows.{has_mark, behind_mark, rows_of, is_header, rows_behind_header, rows_from, row_then, with_row, with_rows, fault_at}
-
--- the records so far are a header and these rows, so whatever comes is read as the rows behind them. without a record there is no row
-abbrev pub SoFar : List (List (List ℕ)) → List InRow → Type 0
-SoFar [] rows = rows ≡ []
-SoFar (r ∷ rs) rows = (more : List (List (List ℕ))) → rows_behind_header ((r ∷ rs) ++ more) ≡ with_rows rows (rows_from (length (r ∷ rs)) more)
 
 with_rows-push : (rows : List InRow) (row : InRow) (more : Result (List InRow) RowsFault) → with_rows rows (with_row row more) ≡ with_rows (rows ++ row ∷ []) more
 with_rows-push [] row more = refl
@@ -71,20 +66,6 @@ row_over r f rs more rows lt so_far =
     ∙ so_far (f ∷ more)
     ∙ ap (with_rows rows) (ap (λ b. cond b (Err TooMany) (row_then n (row_of f) (rows_from (n + 1) more))) (lt-ltb 65536 n lt))
     ∙ with_rows-err rows TooMany
-
--- what a reader of a text has read: the header, and then these rows, which are one fewer than its records
-pub record HasRead (text : List ℕ) (reader : Reader (Bor (List ℕ))) (rows : List InRow) (number : ℕ) : Type 0 where
-  pub first : List (List ℕ)
-  pub rest : List (List (List ℕ))
-  pub stands : StandsBehind text (first ∷ rest) reader
-  pub count : number ≡ length (first ∷ rest)
-  pub so_far : SoFar (first ∷ rest) rows
-  pub good : AllByRecursion IsInRow rows
-  pub fewer : length rows + 1 ≡ number
-
--- the rows of a text
-abbrev pub rows_in : List ℕ → Result (List InRow) RowsFault
-rows_in text = rows_behind_header (records default_config (strip_bom text))
 
 -- what a read that found a record did, and one that found none
 abbrev took : (P Q : Type 0) (found : Bool) → found ≡ true → MatchBool found P Q → P
@@ -144,6 +125,10 @@ pub has_all : (text : List ℕ) (old new : Reader (Bor (List ℕ))) (rows : List
     → rows_in text ≡ Ok rows
 has_all text old new rows number found f h t e =
     ap rows_behind_header (ended _ _ found e (t text (h.first ∷ h.rest) h.stands)) ∙ ap rows_behind_header (sym (append-nil (h.first ∷ h.rest))) ∙ h.so_far [] ∙ with_rows-ok rows
+
+-- the rows that a reader has read are as few as an input may hold
+pub all_rules : (text : List ℕ) (reader : Reader (Bor (List ℕ))) (rows : List InRow) (number : ℕ) → HasRead text reader rows number → number ≤ 65537 → AreInRows rows
+all_rules text reader rows number h few = record { each = h.good; most = omega (arith, h.fewer, few) }
 
 -- a text without a mark is what the reader reads
 mark-none : (a b c : ℕ) (rest : List ℕ) → has_mark (a ∷ b ∷ c ∷ rest) ≡ false → is_bom a b c ≡ false

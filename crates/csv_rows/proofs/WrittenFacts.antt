@@ -1,19 +1,36 @@
 -- Texts that are as rows are written.
 use Rattle.std.proofs.Common.{◌≡◌, ◌∙◌, ◌<◌, ◌≤◌, ◌+◌, ◌^◌, ℕ, ◌-◌, true, false, List, [], ◌∷◌, ◌++◌, length, take, drop, get_or, Ok, refl, sym, ap, inl, inr, arith, append_assoc, length-append, take-append-drop}
-use Rattle.std.specs.Prelude.{◌⊎◌, decimal, slice_index_or}
+use Rattle.std.specs.Prelude.{◌⊎◌, codes, decimal, slice_index_or}
 use Rattle.std.specs.Char.{is_ascii_digit}
-use Rattle.std.specs.List.{AllByRecursion, list_all}
+use Rattle.std.specs.List.{AllByRecursion, flat_map, list_all}
 use Rattle.std.specs.Str.Parse.{digits_value}
 use Rattle.std.proofs.lemmas.Fmt.{decimal-digits_value}
 use Rattle.std.proofs.lemmas.List.{append-nil, flat_map_more, length-drop, length-take}
 use Rattle.std.proofs.Math.Seq.{take-length}
+use Rattle.plain_list.specs.declared.ops.Op.{Op}
 use Rattle.csv_rows.specs.declared.rows.InRow.{InRow}
 use Rattle.csv_rows.specs.InRows.{AreInRows, IsInRow}
-use Rattle.csv_rows.specs.RowLines.{header_line, row_line, rows_text}
+use Rattle.csv_rows.specs.RowLines.{header_line, op_fields, op_tail, row_line, rows_text}
+use Rattle.csv_rows.specs.Records.{rows_in}
 use Rattle.csv_rows.specs.Rows.{behind_mark, has_mark, rows_of}
 use Rattle.csv_rows.proofs.NumbersFacts.{numerals}
 use Rattle.csv_rows.proofs.RoundTrip.{rows_of-rows_text}
-use Rattle.csv_rows.proofs.RowsFacts.{all_by_recursion-push, rows_in, rows_of-unmarked}
+use Rattle.csv_rows.proofs.RowsFacts.{all_by_recursion-push, rows_of-unmarked}
+
+-- fields, each behind a comma, then the end of the line, and what stands behind it
+abbrev line_then : List (List ℕ) → List ℕ → List ℕ
+line_then [] rest = codes "\n" ++ rest
+line_then (field ∷ fields) rest = codes "," ++ (field ++ line_then fields rest)
+
+fields-then : (fields : List (List ℕ)) (rest : List ℕ) → (flat_map (λ (field : List ℕ). codes "," ++ field) fields ++ codes "\n") ++ rest ≡ line_then fields rest
+fields-then [] rest = refl
+fields-then (field ∷ fields) rest =
+    let more = flat_map (λ (f : List ℕ). codes "," ++ f) fields in
+    ap (λ l. codes "," ++ l) (ap (λ l. l ++ rest) (append_assoc field more (codes "\n")) ∙ append_assoc field (more ++ codes "\n") rest ∙ ap (λ l. field ++ l) (fields-then fields rest))
+
+-- a text of an operation's fields is what is written of it
+pub op-written : (op : Op) (text rest : List ℕ) → text ≡ line_then (op_fields op) rest → text ≡ op_tail op ++ rest
+op-written op text rest e = e ∙ sym (fields-then (op_fields op) rest)
 
 first-taken : (text : List ℕ) (len : ℕ) → 0 < len → get_or (take len text) 0 0 ≡ get_or text 0 0
 first-taken text len some = grind (arith, some)

@@ -1,11 +1,16 @@
 -- Where a reader of a text stands among its records.
-use Rattle.std.specs.Prelude.{◌≡◌, ℕ, List, [], ◌∷◌, ◌++◌, Option, Some, Bool, true}
+use Rattle.std.specs.Prelude.{◌≡◌, ℕ, ◌+◌, List, [], ◌∷◌, ◌++◌, length, Option, Some, Bool, true, Result}
 use Rattle.std.specs.Bool.{MatchBool}
 use Rattle.std.specs.Borrow.{Bor}
+use Rattle.std.specs.List.{AllByRecursion}
 use Rattle.csv.specs.Reading.{Reached, Ready, default_config, is_flexible, records, source_of, strip_bom}
 use Rattle.csv.specs.declared.parser.State.TheVariants as st
 use Rattle.csv.specs.declared.reader.Reader.{Reader}
 use Rattle.csv.specs.declared.reader.Trim.TheVariants as trim
+use Rattle.csv_rows.specs.InRows.{IsInRow}
+use Rattle.csv_rows.specs.Rows.{rows_behind_header, rows_from, with_rows}
+use Rattle.csv_rows.specs.declared.rows.InRow.{InRow}
+use Rattle.csv_rows.specs.declared.rows.RowsFault.{RowsFault}
 
 -- the bytes that a slice has left
 abbrev pub slice_left : Bor (List ℕ) → Option (List ℕ)
@@ -25,3 +30,22 @@ pub record StandsBehind (text : List ℕ) (records : List (List (List ℕ))) (re
 abbrev pub TakesRecord : Reader (Bor (List ℕ)) → Reader (Bor (List ℕ)) → Bool → List (List ℕ) → Type 0
 TakesRecord old new found fields = (text : List ℕ) (so_far : List (List (List ℕ))) → StandsBehind text so_far old
     → MatchBool found (StandsBehind text (so_far ++ fields ∷ []) new) (records default_config (strip_bom text) ≡ so_far)
+
+-- the records so far are a header and these rows, so whatever comes is read as the rows behind them. without a record there is no row
+abbrev pub SoFar : List (List (List ℕ)) → List InRow → Type 0
+SoFar [] rows = rows ≡ []
+SoFar (r ∷ rs) rows = (more : List (List (List ℕ))) → rows_behind_header ((r ∷ rs) ++ more) ≡ with_rows rows (rows_from (length (r ∷ rs)) more)
+
+-- what a reader of a text has read: the header, and then these rows, which are one fewer than its records
+pub record HasRead (text : List ℕ) (reader : Reader (Bor (List ℕ))) (rows : List InRow) (number : ℕ) : Type 0 where
+  pub first : List (List ℕ)
+  pub rest : List (List (List ℕ))
+  pub stands : StandsBehind text (first ∷ rest) reader
+  pub count : number ≡ length (first ∷ rest)
+  pub so_far : SoFar (first ∷ rest) rows
+  pub good : AllByRecursion IsInRow rows
+  pub fewer : length rows + 1 ≡ number
+
+-- the rows of a text
+abbrev pub rows_in : List ℕ → Result (List InRow) RowsFault
+rows_in text = rows_behind_header (records default_config (strip_bom text))

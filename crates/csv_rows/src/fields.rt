@@ -2,7 +2,7 @@
 ghost use Rattle.std.specs.Prelude.{◌≡◌, ◌≢◌, ◌<◌, ◌^◌, ◌∷◌, [], true, false, length, IfOk, MatchOption, MatchResult};
 ghost use Rattle.csv.specs.Records.{fields_of};
 ghost use Rattle.plain_list.specs.Answer.{IsValid, FitsOp};
-ghost use Rattle.csv_rows.specs.Fields.{Empty, keeps, word_of, placed_by, id_by, point_by, box_by, near_by, op_by, row_of, ReadsNumber};
+ghost use Rattle.csv_rows.specs.Fields.{Empty, keeps, is_text, word_of, placed_by, id_by, point_by, box_by, near_by, op_by, row_of, ReadsNumber};
 ghost use Rattle.zorder.specs.Key.{IsPoint};
 ghost use Rattle.csv_rows.specs.Rows.{is_header};
 ghost use Rattle.csv_rows.specs.InRows.{IsInRow};
@@ -61,13 +61,13 @@ pub(crate) fn is_header(record: &ByteRecord) -> bool
     let Some(fields) = fields_in(record) else {
         return false;
     };
-    fields.session == b"session".as_slice()
-        && fields.op == b"op".as_slice()
-        && fields.id == b"id".as_slice()
-        && fields.x == b"x".as_slice()
-        && fields.y == b"y".as_slice()
-        && fields.a == b"a".as_slice()
-        && fields.b == b"b".as_slice()
+    is_text(fields.session, "session")
+        && is_text(fields.op, "op")
+        && is_text(fields.id, "id")
+        && is_text(fields.x, "x")
+        && is_text(fields.y, "y")
+        && is_text(fields.a, "a")
+        && is_text(fields.b, "b")
 }
 
 fn fields_in(record: &ByteRecord) -> Option<Fields<'_>>
@@ -95,20 +95,27 @@ fn fields_in(record: &ByteRecord) -> Option<Fields<'_>>
     })
 }
 
+// Whether a field is this text.
+fn is_text(field: &[u8], text: &str) -> bool
+    ensures { result ≡ is_text field.now text.now }
+{
+    field == text.as_bytes()
+}
+
 fn word_of(field: &[u8]) -> Option<Word>
     ensures { result ≡ word_of field.now }
 {
-    if field == b"put".as_slice() {
+    if is_text(field, "put") {
         Some(Word::Put)
-    } else if field == b"move".as_slice() {
+    } else if is_text(field, "move") {
         Some(Word::Move)
-    } else if field == b"drop".as_slice() {
+    } else if is_text(field, "drop") {
         Some(Word::Drop)
-    } else if field == b"where".as_slice() {
+    } else if is_text(field, "where") {
         Some(Word::Where)
-    } else if field == b"box".as_slice() {
+    } else if is_text(field, "box") {
         Some(Word::Box)
-    } else if field == b"near".as_slice() {
+    } else if is_text(field, "near") {
         Some(Word::Near)
     } else {
         None

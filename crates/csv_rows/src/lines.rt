@@ -143,24 +143,11 @@ fn add_reason(piece: &mut Piece, refusal: &Refusal)
     match refusal {
         Refusal::Usage => push_str(piece, "usage"),
         Refusal::Header => push_str(piece, "header"),
-        Refusal::Csv { row } => {
-            add_counted(piece, "row ", u64::from(*row));
-            push_str(piece, " length");
-        }
-        Refusal::Field { row, column } => {
-            add_counted(piece, "row ", u64::from(*row));
-            add_counted(piece, " column ", u64::from(*column));
-        }
+        Refusal::Csv { row } => add_csv(piece, *row),
+        Refusal::Field { row, column } => add_field(piece, *row, *column),
         Refusal::NotLog => push_str(piece, "not a log"),
-        Refusal::OldLog { version, width } => {
-            add_counted(piece, "log version ", u64::from(*version));
-            add_counted(piece, " width ", u64::from(*width));
-        }
-        Refusal::Damaged { cell, cause } => {
-            add_counted(piece, "cell ", *cell);
-            push_str(piece, " ");
-            push_str(piece, word_of_cause(*cause));
-        }
+        Refusal::OldLog { version, width } => add_old_log(piece, *version, *width),
+        Refusal::Damaged { cell, cause } => add_damaged(piece, *cell, *cause),
         Refusal::Source => push_str(piece, "source"),
         Refusal::Disk { cell: Some(cell) } => add_counted(piece, "disk cell ", *cell),
         Refusal::Disk { cell: None } => push_str(piece, "disk"),
@@ -170,6 +157,43 @@ fn add_reason(piece: &mut Piece, refusal: &Refusal)
         Refusal::Memory => push_str(piece, "memory"),
         Refusal::InUse { len } => add_counted(piece, "in use ", *len),
     }
+}
+
+fn add_csv(piece: &mut Piece, row: u32)
+    requires { array_vec_len piece.old ≤ 64 }
+    ensures bytes { piece.new.items ≡ piece.old.items ++ (codes "row " ++ decimal row ++ codes " length") }
+    ensures len { array_vec_len piece.new ≤ 1024 }
+{
+    add_counted(piece, "row ", u64::from(row));
+    push_str(piece, " length");
+}
+
+fn add_field(piece: &mut Piece, row: u32, column: u8)
+    requires { array_vec_len piece.old ≤ 64 }
+    ensures bytes { piece.new.items ≡ piece.old.items ++ (codes "row " ++ decimal row ++ codes " column " ++ decimal column) }
+    ensures len { array_vec_len piece.new ≤ 1024 }
+{
+    add_counted(piece, "row ", u64::from(row));
+    add_counted(piece, " column ", u64::from(column));
+}
+
+fn add_old_log(piece: &mut Piece, version: u8, width: u8)
+    requires { array_vec_len piece.old ≤ 64 }
+    ensures bytes { piece.new.items ≡ piece.old.items ++ (codes "log version " ++ decimal version ++ codes " width " ++ decimal width) }
+    ensures len { array_vec_len piece.new ≤ 1024 }
+{
+    add_counted(piece, "log version ", u64::from(version));
+    add_counted(piece, " width ", u64::from(width));
+}
+
+fn add_damaged(piece: &mut Piece, cell: u64, cause: Cause)
+    requires { array_vec_len piece.old ≤ 64 }
+    ensures bytes { piece.new.items ≡ piece.old.items ++ (codes "cell " ++ decimal cell ++ codes " " ++ cause_text cause) }
+    ensures len { array_vec_len piece.new ≤ 1024 }
+{
+    add_counted(piece, "cell ", cell);
+    push_str(piece, " ");
+    push_str(piece, word_of_cause(cause));
 }
 
 /// Adds a word and a number.

@@ -1,13 +1,15 @@
 //! The rows of an input.
-ghost use Rattle.std.specs.Prelude.{◌≡◌, ◌≢◌, IfOk, IfErr};
-ghost use Rattle.csv.specs.Reading.{default_config, records, strip_bom};
-ghost use Rattle.csv_rows.specs.Rows.{has_mark, behind_mark, rows_of, rows_behind_header, fault_at};
+ghost use Rattle.std.specs.Prelude.{◌≡◌, ◌≢◌, ◌≤◌, ◌+◌, ℕ, List, [], IfOk, IfErr};
+ghost use Rattle.std.specs.Bool.{MatchBool};
+ghost use Rattle.csv_rows.specs.InRows.{AreInRows};
+ghost use Rattle.csv_rows.specs.Records.{HasRead, StandsBehind, rows_in};
+ghost use Rattle.csv_rows.specs.Rows.{has_mark, behind_mark, rows_of, fault_at};
 
 use crate::fields::{is_header, row_of};
 use crate::records::{next_record, reader_of};
-use crate::rows::{Rows, RowsFault, Wrong};
+use crate::rows::{InRow, Rows, RowsFault, Wrong};
 use crate::written::written_rows;
-use csv::ByteRecord;
+use csv::{ByteRecord, Reader};
 use std::alloc::Global;
 
 pub(crate) const MOST_ROWS: u32 = 65_536;
@@ -44,35 +46,95 @@ fn behind_mark(bytes: &[u8]) -> &[u8]
 
 // The rows of a text that begins with no mark.
 fn read_records(alloc: Global, text: &[u8]) -> Result<Rows, RowsFault>
-    ensures rows { IfOk result (λ rows. rows_behind_header (records default_config (strip_bom text.now)) ≡ Ok rows) }
-    ensures fault { IfErr result (λ e. e ≢ RowsFault.Memory → rows_behind_header (records default_config (strip_bom text.now)) ≡ Err e) }
+    ensures rows { IfOk result (λ rows. rows_in text.now ≡ Ok rows) }
+    ensures fault { IfErr result (λ e. e ≢ RowsFault.Memory → rows_in text.now ≡ Err e) }
 {
     let mut reader = reader_of(alloc, text);
     let mut record = ByteRecord::new(alloc);
-    let begins = next_record(&mut reader, &mut record)?;
-    if !begins {
-        return Err(RowsFault::Header);
-    }
-    if !is_header(&record) {
-        return Err(RowsFault::Header);
-    }
+    read_all(alloc, &mut reader, &mut record)
+}
+
+// All rows that a reader gives from the start.
+fn read_all(
+    alloc: Global,
+    reader: &mut Reader<&[u8]>,
+    record: &mut ByteRecord,
+) -> Result<Rows, RowsFault>
+    ghost text: { List ℕ }
+    requires { StandsBehind text [] reader.old }
+    ensures rows { IfOk result (λ rows. rows_in text ≡ Ok rows) }
+    ensures fault { IfErr result (λ e. e ≢ RowsFault.Memory → rows_in text ≡ Err e) }
+{
+    read_header(reader, record)?;
     let mut rows = Vec::new(alloc);
+    read_behind(reader, record, &mut rows)?;
+    Ok(Rows::from_vec(rows))
+}
+
+// The rows behind the header.
+fn read_behind(
+    reader: &mut Reader<&[u8]>,
+    record: &mut ByteRecord,
+    rows: &mut Vec<InRow>,
+) -> Result<(), RowsFault>
+    ghost text: { List ℕ }
+    requires { HasRead text reader.old rows.old.items 1 }
+    ensures rows { IfOk result (λ _. (rows_in text ≡ Ok rows.new.items) × AreInRows rows.new.items) }
+    ensures fault { IfErr result (λ e. e ≢ RowsFault.Memory → rows_in text ≡ Err e) }
+{
     for number in 1..MOST_ROWS + 1 {
-        let more = next_record(&mut reader, &mut record)?;
+        let more = read_next(reader, record, number, rows)?;
         if !more {
-            return Ok(Rows::from_vec(rows));
+            return Ok(());
         }
-        let row = match row_of(&record) {
-            Ok(row) => row,
-            Err(wrong) => return Err(fault_at(number, wrong)),
-        };
-        rows.push(row)?;
     }
-    let over = next_record(&mut reader, &mut record)?;
+    let over = next_record(reader, record)?;
     if over {
         return Err(RowsFault::TooMany);
     }
-    Ok(Rows::from_vec(rows))
+    Ok(())
+}
+
+fn read_header(reader: &mut Reader<&[u8]>, record: &mut ByteRecord) -> Result<(), RowsFault>
+    ghost text: { List ℕ }
+    requires { StandsBehind text [] reader.old }
+    ensures header { IfOk result (λ _. HasRead text reader.new [] 1) }
+    ensures fault { IfErr result (λ e. e ≢ RowsFault.Memory → rows_in text ≡ Err e) }
+{
+    let begins = next_record(reader, record)?;
+    if !begins {
+        return Err(RowsFault::Header);
+    }
+    if !is_header(record) {
+        return Err(RowsFault::Header);
+    }
+    Ok(())
+}
+
+// The row of this number, and whether there is one.
+fn read_next(
+    reader: &mut Reader<&[u8]>,
+    record: &mut ByteRecord,
+    number: u32,
+    rows: &mut Vec<InRow>,
+) -> Result<bool, RowsFault>
+    ghost text: { List ℕ }
+    requires few { number ≤ 65536 }
+    requires read { HasRead text reader.old rows.old.items number }
+    ensures rows { IfOk result (λ more. MatchBool more (HasRead text reader.new rows.new.items (number + 1))
+        ((rows_in text ≡ Ok rows.new.items) × AreInRows rows.new.items)) }
+    ensures fault { IfErr result (λ e. e ≢ RowsFault.Memory → rows_in text ≡ Err e) }
+{
+    let more = next_record(reader, record)?;
+    if !more {
+        return Ok(false);
+    }
+    let row = match row_of(record) {
+        Ok(row) => row,
+        Err(wrong) => return Err(fault_at(number, wrong)),
+    };
+    rows.push(row)?;
+    Ok(true)
 }
 
 fn fault_at(row: u32, wrong: Wrong) -> RowsFault

@@ -1,6 +1,6 @@
 //! The records of a text, one after the other, as `csv` reads them.
 ghost use Rattle.std.specs.Prelude.{◌≡◌, [], true, IfOk, IfErr};
-ghost use Rattle.csv.specs.Reading.{Ready, is_flexible};
+ghost use Rattle.csv.specs.Reading.{Ready, is_flexible, reader_source};
 ghost use Rattle.csv.specs.Records.{fields_of};
 ghost use Rattle.csv_rows.specs.Records.{StandsBehind, TakesRecord};
 
@@ -10,7 +10,8 @@ use std::alloc::Global;
 
 /// A reader of a text's records, of whatever length.
 pub(crate) fn reader_of(alloc: Global, text: &[u8]) -> Reader<&[u8]>
-    ensures { StandsBehind text.now [] result }
+    ensures start { StandsBehind text.now [] result }
+    ensures source { (reader_source result).now ≡ text.now }
 {
     ReaderBuilder::new()
         .has_headers(false)

@@ -1,5 +1,5 @@
-use Rattle.csv_rows.proofs.RowsFacts.{HasRead}
+use Rattle.csv.specs.Reading.{reader_source}
 use Rattle.csv_rows.proofs.read.read_records.Given as goal
 
-abbrev pub invariant-loop-number : goal.invariant-loop-number
-invariant-loop-number l = HasRead l.fn.text l.reader l.rows.items l.number
+abbrev pub ghost-read_all : goal.ghost-read_all
+ghost-read_all a = (reader_source a.reader.now).now

@@ -1,6 +1,7 @@
 use Rattle.std.proofs.Common.{◌≡◌, ◌∙◌, sym, ap, List, ℕ, Bool, false}
+use Rattle.csv_rows.specs.Records.{rows_in}
 use Rattle.csv_rows.specs.Rows.{has_mark, behind_mark, rows_of}
-use Rattle.csv_rows.proofs.RowsFacts.{rows_in, rows_of-marked, rows_of-unmarked}
+use Rattle.csv_rows.proofs.RowsFacts.{rows_of-marked, rows_of-unmarked}
 use Rattle.csv_rows.proofs.WrittenFacts.{written-rows}
 use Rattle.csv_rows.proofs.read.read_rows.Goals as goal
 
