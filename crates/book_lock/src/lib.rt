@@ -19,6 +19,3 @@ pub use held::Held;
 pub use lock::BookLock;
 pub use origin::Origin;
 pub use pass::Pass;
-
-#[cfg(test)]
-mod tests;

@@ -6,8 +6,6 @@
 
 mod crowd;
 mod tally;
-#[cfg(test)]
-mod tests;
 
 use book_lock::BookLock;
 use std::time::Duration;

@@ -19,22 +19,22 @@ use Rattle.commit_book.specs.BookView.{BookView}
 use Rattle.commit_book.specs.IsBook.{IsOpening, AreBooks}
 use Rattle.commit_book.specs.KeptBases.{HasBaseOf}
 use Rattle.commit_book.specs.SplitSteps.{Begins, Installs, Abandons}
-use Rattle.commit_book.specs.Refusals.{IsRefusedBy, IsDisk, IsMemoryOrDisk, LeavesRefused, begin_refusal, end_refusal, first_of, closed_refusal, room_refusal, leaf_refusal}
+use Rattle.commit_book.specs.Refusals.{IsRefusedBy, IsDisk, IsMemoryOrDisk, LeavesRefused, begin_refusal, end_refusal, install_refusal, abandon_refusal, first_of, closed_refusal, room_refusal, leaf_refusal}
 use Rattle.commit_book.specs.declared.faults.BookFault.{BookFault}
 use Rattle.commit_book.specs.declared.faults.BookFault.TheVariants as book
 use Rattle.book_lock.specs.Pass.{Known}
 use Rattle.book_lock.specs.Own.{IsBelow}
-use Rattle.book_lock.specs.Ends.{MayNote}
+use Rattle.book_lock.specs.Ends.{MayNote, OwnsEnds}
 use Rattle.book_lock.specs.declared.origin.Origin.{Origin}
 use Rattle.book_lock.proofs.OwnSplits.{may_install, may_abandon}
 use Rattle.sessions.specs.Shared.{origin_of, start_of}
-use Rattle.sessions.specs.Steps.{Says, has_entry, has_given}
-use Rattle.sessions.specs.Splits.{HasBegun, BeginsSplit, InstallsSplit, AbandonsSplit, EndsOpen, GivesUp, RanOut, NotInstalled, BeginsAs, SplitEnds, IsNotSplit, IsNextSplit, SamePass, begin_cause, number_of, state_of}
+use Rattle.sessions.specs.Steps.{Says, MayGive, has_entry, has_given}
+use Rattle.sessions.specs.Splits.{HasBegun, BeginsSplit, InstallsSplit, AbandonsSplit, EndsOpen, GivesUp, BegunEnds, RanOut, NotInstalled, BeginsAs, SplitEnds, IsNotSplit, IsNextSplit, SamePass, begin_cause, number_of, state_of}
 use Rattle.sessions.specs.declared.faults.Split.{Split}
 use Rattle.sessions.specs.declared.faults.Split.TheVariants.{Installed, NotSplit}
 use Rattle.sessions.proofs.Origins.{start-of-origin}
-use Rattle.sessions.proofs.StepLemmas.{WasTaken, BookStep, stepped, step-same, same-later, prefix-later}
-use Rattle.sessions.proofs.LiveSplits.{begun-rows}
+use Rattle.sessions.proofs.StepLemmas.{WasTaken, BookStep, may-give, says-all, stepped, step-same, same-later, prefix-later}
+use Rattle.sessions.proofs.LiveSplits.{begun-rows, still_open, never-stale, never-ended}
 
 -- the begin that was just noted
 pub begun-now : {D : Type 0} (drive : D → Drive) (w : ℕ) (b mid : BookView D) (old took back : Known) (name : List Bool) (ticket : SplitTicket) → Begins w b mid name ticket → AreBooks drive w b mid
@@ -65,10 +65,10 @@ begun-later old new number name base later own origin begun = record {
 }
 
 -- so the pass may note its end
-pub begun-install : (pass : Known) (number : ℕ) (name : List Bool) (base : List Row) → HasBegun pass number name base → MayNote pass.seen pass.own (Install number)
+begun-install : (pass : Known) (number : ℕ) (name : List Bool) (base : List Row) → HasBegun pass number name base → MayNote pass.seen pass.own (Install number)
 begun-install pass number name base begun = subst (λ (own : List ℕ). MayNote pass.seen own (Install number)) (sym begun.own_is) (may_install begun.before pass.seen begun.own number name begun.seen)
 
-pub begun-abandon : (pass : Known) (number : ℕ) (name : List Bool) (base : List Row) → HasBegun pass number name base → MayNote pass.seen pass.own (Abandon number)
+begun-abandon : (pass : Known) (number : ℕ) (name : List Bool) (base : List Row) → HasBegun pass number name base → MayNote pass.seen pass.own (Abandon number)
 begun-abandon pass number name base begun = subst (λ (own : List ℕ). MayNote pass.seen own (Abandon number)) (sym begun.own_is) (may_abandon begun.before pass.seen begun.own number name begun.seen)
 
 pub number-entry : (r : Result SplitTicket BookFault) → has_entry (number_of r) ≡ has_entry r
@@ -145,7 +145,7 @@ module _ {D : Type 0} (drive : D → Drive) (w : ℕ) (b mid : BookView D) (old 
   none-said (Ok done) = tt
   none-said (Err fault) = tt
 
-  pub end-step : (IsFree : BookFault → Type 0) (cause : Option BookFault) (e : Entry) (step : Lost) (r : Result (Unit {0}) BookFault) → cause ≡ end_refusal (cells_in b.log) b.entries → IsRefusedBy IsFree cause r
+  end-step : (IsFree : BookFault → Type 0) (cause : Option BookFault) (e : Entry) (step : Lost) (r : Result (Unit {0}) BookFault) → cause ≡ end_refusal (cells_in b.log) b.entries → IsRefusedBy IsFree cause r
       → OnOk r (mid.entries ≡ b.entries ++ e ∷ []) → IfErr r (LeavesRefused drive step b mid) → BookStep drive IsFree (end_refusal (cells_in b.log) b.entries) (λ (done : Unit {0}). e) step b mid r
   end-step IsFree cause e step (Ok done) same refused added left = record { refused = subst (λ (o : Option BookFault). IsRefusedBy {A = Unit {0}} IsFree o (Ok done)) same refused; added = added; left = left }
   end-step IsFree cause e step (Err fault) same refused added left = record { refused = subst (λ (o : Option BookFault). IsRefusedBy {A = Unit {0}} IsFree o (Err fault)) same refused; added = tt; left = left }
@@ -156,20 +156,62 @@ module _ {D : Type 0} (drive : D → Drive) (w : ℕ) (b mid : BookView D) (old 
       let state : state_after w b.opening b.entries ≡ state_of w old.origin took.seen = pass-state drive w b old was.origin books.before.opening b.entries ∙ ap (state_of w old.origin) was.entries in
       subst (λ (s : State). IsTrue (is_some (split_name s.splits number))) state (subst (λ (o : Option (List Bool)). IsTrue (is_some o)) (sym there) refl)
 
-  pub ended : (IsFree : BookFault → Type 0) (number : ℕ) (name : List Bool) (e : Entry) (step : Lost) (r : Result (Unit {0}) BookFault) → split_name (state_after w b.opening b.entries).splits number ≡ Some name
+  ended : (IsFree : BookFault → Type 0) (number : ℕ) (name : List Bool) (e : Entry) (step : Lost) (r : Result (Unit {0}) BookFault) → split_name (state_after w b.opening b.entries).splits number ≡ Some name
       → BookStep drive IsFree (end_refusal (cells_in b.log) b.entries) (λ (done : Unit {0}). e) step b mid r → back ≡ has_given took (has_entry r) mid.entries → EndsOpen w number IsFree e step old back r
   ended IsFree number name e step r there it given = record {
     step = stepped drive w IsFree end_refusal (λ (done : Unit {0}). e) (λ (h : List Entry). step) (λ (h : List Entry) (done : Unit {0}). ⊤) b mid old took back r books.before was it (none-said r) given;
     is_open = open-there number name there;
   }
 
-pub installed-added : {D : Type 0} (w : ℕ) (b mid : BookView D) (number : ℕ) (name : List Bool) (r : Result (Unit {0}) BookFault) → OnOk r (Installs w b mid number name) → OnOk r (mid.entries ≡ b.entries ++ Install number ∷ [])
+installed-added : {D : Type 0} (w : ℕ) (b mid : BookView D) (number : ℕ) (name : List Bool) (r : Result (Unit {0}) BookFault) → OnOk r (Installs w b mid number name) → OnOk r (mid.entries ≡ b.entries ++ Install number ∷ [])
 installed-added w b mid number name (Ok done) ok = ok.entries
 installed-added w b mid number name (Err fault) ok = tt
 
-pub abandoned-added : {D : Type 0} (b mid : BookView D) (number : ℕ) (r : Result (Unit {0}) BookFault) → OnOk r (Abandons b mid number) → OnOk r (mid.entries ≡ b.entries ++ Abandon number ∷ [])
+abandoned-added : {D : Type 0} (b mid : BookView D) (number : ℕ) (r : Result (Unit {0}) BookFault) → OnOk r (Abandons b mid number) → OnOk r (mid.entries ≡ b.entries ++ Abandon number ∷ [])
 abandoned-added b mid number (Ok done) ok = ok.entries
 abandoned-added b mid number (Err fault) ok = tt
+
+-- the end of a split that the pass has begun
+module _ {D : Type 0} (drive : D → Drive) (w : ℕ) (b mid : BookView D) (old took : Known) (was : WasTaken drive b old took) (books : AreBooks drive w b mid) (ends : OwnsEnds took.seen took.own)
+    (number : ℕ) (name : List Bool) (base : List Row) (has : HasBegun old number name base) (r : Result (Unit {0}) BookFault) where
+  begun-took : HasBegun took number name base
+  begun-took = begun-later old took number name base was.later (ap (λ (k : Known). k.own) was.took_is) (ap (λ (k : Known). k.origin) was.took_is) has
+
+  origin-took : origin_of drive b ≡ took.origin
+  origin-took = was.origin ∙ ap (λ (k : Known). k.origin) (sym was.took_is)
+
+  there : split_name (state_after w b.opening b.entries).splits number ≡ Some name
+  there = still_open drive w b took number name base books.before origin-took was.entries ends begun-took
+
+  install-step : IsRefusedBy IsMemoryOrDisk (install_refusal w b number name base) r → OnOk r (Installs w b mid number name) → IfErr r (LeavesRefused drive (lost.Install number) b mid)
+      → BookStep drive IsMemoryOrDisk (end_refusal (cells_in b.log) b.entries) (λ (done : Unit {0}). Install number) (lost.Install number) b mid r
+  install-step refused ok err =
+      end-step drive w b mid old took took was books IsMemoryOrDisk (install_refusal w b number name base) (Install number) (lost.Install number) r
+      (never-stale drive w b took number name base books.before origin-took was.entries ends begun-took) refused (installed-added w b mid number name r ok) err
+
+  pub install-may : IsRefusedBy IsMemoryOrDisk (install_refusal w b number name base) r → OnOk r (Installs w b mid number name) → IfErr r (LeavesRefused drive (lost.Install number) b mid) → MayGive took (has_entry r) mid.entries
+  install-may refused ok err =
+      may-give drive IsMemoryOrDisk (end_refusal (cells_in b.log) b.entries) (λ (done : Unit {0}). Install number) (lost.Install number) b mid took was.entries r (install-step refused ok err)
+      (says-all (λ (done : Unit {0}). MayNote took.seen took.own (Install number)) (λ (done : Unit {0}). begun-install took number name base begun-took) r)
+
+  pub install-ends : (back : Known) → IsRefusedBy IsMemoryOrDisk (install_refusal w b number name base) r → OnOk r (Installs w b mid number name) → IfErr r (LeavesRefused drive (lost.Install number) b mid) → back ≡ has_given took (has_entry r) mid.entries
+      → EndsOpen w number IsMemoryOrDisk (Install number) (lost.Install number) old back r
+  install-ends back refused ok err given = ended drive w b mid old took back was books IsMemoryOrDisk number name (Install number) (lost.Install number) r there (install-step refused ok err) given
+
+  abandon-step : IsRefusedBy IsDisk (abandon_refusal w b number) r → OnOk r (Abandons b mid number) → IfErr r (LeavesRefused drive (lost.Abandon number) b mid)
+      → BookStep drive IsDisk (end_refusal (cells_in b.log) b.entries) (λ (done : Unit {0}). Abandon number) (lost.Abandon number) b mid r
+  abandon-step refused ok err =
+      end-step drive w b mid old took took was books IsDisk (abandon_refusal w b number) (Abandon number) (lost.Abandon number) r
+      (never-ended drive w b took number name base books.before origin-took was.entries ends begun-took) refused (abandoned-added b mid number r ok) err
+
+  pub abandon-may : IsRefusedBy IsDisk (abandon_refusal w b number) r → OnOk r (Abandons b mid number) → IfErr r (LeavesRefused drive (lost.Abandon number) b mid) → MayGive took (has_entry r) mid.entries
+  abandon-may refused ok err =
+      may-give drive IsDisk (end_refusal (cells_in b.log) b.entries) (λ (done : Unit {0}). Abandon number) (lost.Abandon number) b mid took was.entries r (abandon-step refused ok err)
+      (says-all (λ (done : Unit {0}). MayNote took.seen took.own (Abandon number)) (λ (done : Unit {0}). begun-abandon took number name base begun-took) r)
+
+  pub abandon-ends : (back : Known) → IsRefusedBy IsDisk (abandon_refusal w b number) r → OnOk r (Abandons b mid number) → IfErr r (LeavesRefused drive (lost.Abandon number) b mid) → back ≡ has_given took (has_entry r) mid.entries
+      → EndsOpen w number IsDisk (Abandon number) (lost.Abandon number) old back r
+  abandon-ends back refused ok err given = ended drive w b mid old took back was books IsDisk number name (Abandon number) (lost.Abandon number) r there (abandon-step refused ok err) given
 
 -- what a split leaves is the pass with more seen and own
 pub begins-same : (w : ℕ) (name : List Bool) (old new : Known) (r : Result ℕ BookFault) → BeginsSplit w name old new r → SamePass old new
@@ -202,7 +244,18 @@ split-same w name old new (Installed number) (mid, begins, step) = same-later ol
 split-same w name old new (NotSplit fault) (inl step) = begins-same w name old new (Err fault) step
 split-same w name old new (NotSplit fault) (inr (number, mid, begins, not)) = same-later old mid new (begins-same w name old mid (Ok number) begins) (not-same w number mid new fault not)
 
+-- where memory ran out in the installation, the pass has still begun the split
+pub begun-still : (w number : ℕ) (name : List Bool) (base : List Row) (mid seen : Known) → HasBegun mid number name base → InstallsSplit w number mid seen (Err book.Memory) → HasBegun seen number name base
+begun-still w number name base mid seen begun ends =
+    let is = ends.step.leaves in
+    begun-later mid seen number name base (subst (IsPrefix mid.seen) (sym (ap (λ (k : Known). k.seen) is)) ends.step.later) (ap (λ (k : Known). k.own) is) (ap (λ (k : Known). k.origin) is) begun
+
 -- a split that was begun is given up
-pub given-up : (w number : ℕ) (name : List Bool) (old mid seen new : Known) (split : Split) → BeginsAs w name old mid number → RanOut w number mid seen → IsNotSplit (GivesUp w number seen new) split → SplitEnds w name old new split
-given-up w number name old mid seen new (Installed n) begins ran not = absurd not
-given-up w number name old mid seen new (NotSplit fault) begins ran not = inr (number, mid, begins, inr (seen, ran, not))
+pub given-up : (w number : ℕ) (mid seen new : Known) (split : Split) → RanOut w number mid seen → IsNotSplit (GivesUp w number seen new) split → BegunEnds w number mid new split
+given-up w number mid seen new (Installed n) ran not = absurd not
+given-up w number mid seen new (NotSplit fault) ran not = inr (seen, ran, not)
+
+-- so a split ends that was begun
+pub begun-ends : (w number : ℕ) (name : List Bool) (old mid new : Known) (split : Split) → BeginsAs w name old mid number → BegunEnds w number mid new split → SplitEnds w name old new split
+begun-ends w number name old mid new (Installed n) begins (same, step) = (mid, subst (BeginsAs w name old mid) (sym same) begins, subst (λ (m : ℕ). InstallsSplit w m mid new (Ok tt)) (sym same) step)
+begun-ends w number name old mid new (NotSplit fault) begins not = inr (number, mid, begins, not)

@@ -3,7 +3,6 @@ use Rattle.std.proofs.Common.{◌≡◌, ◌⊎◌, inl, inr, ℕ, ◌+◌, ◌�
 use mathlib.Core.List.{IsPrefix}
 use Rattle.std.specs.Prelude.{IfErr}
 use Rattle.plain_list.specs.declared.ops.Op.{Op}
-use Rattle.plain_list.specs.declared.ops.Op.TheVariants as op
 use Rattle.plain_list.specs.declared.entries.Entry.{Entry}
 use Rattle.plain_list.specs.declared.entries.Entry.TheVariants.{Call, Begin, Fail}
 use Rattle.plain_list.specs.declared.entries.Lost.{Lost}
@@ -93,6 +92,13 @@ module _ {D A : Type 0} (drive : D → Drive) (IsFree : BookFault → Type 0) (c
   may-give (Err NoLeaf) step notes = ap (λ (x : BookView D). x.entries) step.left ∙ same
   may-give (Err (Stale number)) step notes = ap (λ (x : BookView D). x.entries) step.left ∙ same
   may-give (Err (NotOpen number)) step notes = ap (λ (x : BookView D). x.entries) step.left ∙ same
+
+-- with the word that a call told for whether an entry was added
+pub may-as : (took : Known) (entries : List Entry) (grown added : Bool) → grown ≡ added → MayGive took added entries → MayGive took grown entries
+may-as took entries grown added is may = subst (λ (b : Bool). MayGive took b entries) (sym is) may
+
+pub given-as : (took back : Known) (entries : List Entry) (grown added : Bool) → grown ≡ added → back ≡ has_given took grown entries → back ≡ has_given took added entries
+given-as took back entries grown added is given = given ∙ ap (λ (b : Bool). has_given took b entries) is
 
 adds : (old took back : Known) (entries : List Entry) (e : Entry) → old.holds ≡ false → took ≡ record old { seen = took.seen; holds = true } → entries ≡ took.seen ++ e ∷ [] → back ≡ has_given took true entries → back ≡ has_added old took.seen e
 adds old took back entries e off took_is entries_is back_is = back_is ∙ (λ i. record (took_is i) { seen = entries_is i; own = (took_is i).own ++ length took.seen ∷ []; holds = sym off i })

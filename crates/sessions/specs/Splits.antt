@@ -93,6 +93,11 @@ RanOut w number mid seen = (seen ≡ mid) ⊎ InstallsSplit w number mid seen (E
 abbrev pub NotInstalled : ℕ → ℕ → Known → Known → BookFault → Type 0
 NotInstalled w number mid new fault = (IsLasting fault × InstallsSplit w number mid new (Err fault)) ⊎ ((seen : Known) × RanOut w number mid seen × GivesUp w number seen new fault)
 
+-- how a split ends that was begun
+abbrev pub BegunEnds : ℕ → ℕ → Known → Known → Split → Type 0
+BegunEnds w number mid new (Installed n) = (n ≡ number) × InstallsSplit w number mid new (Ok tt)
+BegunEnds w number mid new (NotSplit fault) = NotInstalled w number mid new fault
+
 -- a split that was begun
 abbrev pub BeginsAs : ℕ → List Bool → Known → Known → ℕ → Type 0
 BeginsAs w name old mid number = BeginsSplit w name old mid (Ok number)

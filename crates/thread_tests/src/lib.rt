@@ -1,4 +1,4 @@
-//! Tests of sessions that run at once: passes by hand, lanes in an order that a gate makes, and sixteen lanes together; and the index that one of them watches.
+//! Tests of the lock by itself, and of sessions that run at once: passes by hand, lanes in an order that a gate makes, and sixteen lanes together; and the index that one of them watches.
 #![tactic(auto)]
 
 // `assert!` and `assert_eq!` as calls: the proof of a function with several of them is much shorter so.
@@ -29,6 +29,8 @@ mod numbered;
 mod orders;
 #[cfg(test)]
 mod passes;
+#[cfg(test)]
+mod sheets;
 #[cfg(test)]
 mod turns;
 #[cfg(test)]

@@ -3,7 +3,7 @@ ghost use Rattle.std.specs.Prelude.{◌≡◌, Bool, List, false, IfOk};
 ghost use Rattle.std.specs.Arc.{arc_value};
 ghost use Rattle.bucket_versions.specs.declared.row.Row.{Row};
 ghost use Rattle.commit_book.specs.SplitSteps.{CanPrepare};
-ghost use Rattle.sessions.specs.Splits.{number_of, HasBegun, BeginsSplit, InstallsSplit, AbandonsSplit, GivesUp, IsNotSplit, SplitEnds, SamePass};
+ghost use Rattle.sessions.specs.Splits.{number_of, HasBegun, BeginsSplit, InstallsSplit, AbandonsSplit, GivesUp, BegunEnds, IsNotSplit, SplitEnds, SamePass};
 
 use super::Store;
 use crate::faults::{Split, has_entry, lasting};
@@ -93,6 +93,50 @@ impl<I: Index, D: LogDisk, O: Start> Store<I, D, O> {
         }
     }
 
+    // Installs a split that the pass has begun. Where memory runs out, it is abandoned.
+    fn finish<R: Wait>(
+        &self,
+        rt: &R,
+        pass: &mut Pass<SharedBook<I, D, O>>,
+        prepared: &Prepared,
+    ) -> Split
+        requires lock { pass.old.lock ≡ self.now }
+        requires off { pass.old.holds ≡ false }
+        requires width { prepared.now.width ≡ I.WIDTH }
+        requires begun { HasBegun pass.old prepared.now.number prepared.now.name prepared.now.base }
+        ensures { BegunEnds I.WIDTH prepared.now.number pass.old pass.new result }
+    {
+        let number = prepared.number();
+        match self.install(rt, pass, prepared) {
+            Ok(()) => Split::Installed { number },
+            Err(BookFault::Memory) => self.give_up(rt, pass, number),
+            Err(fault) => Split::NotSplit(lasting(fault)),
+        }
+    }
+
+    // Prepares a split that the pass has begun, and installs it. Where memory runs out, it is abandoned.
+    fn carry_out<R: Wait, G: Gate>(
+        &self,
+        rt: &R,
+        alloc: Global,
+        pass: &mut Pass<SharedBook<I, D, O>>,
+        session: u8,
+        ticket: &SplitTicket,
+        gate: &G,
+    ) -> Split
+        requires lock { pass.old.lock ≡ self.now }
+        requires off { pass.old.holds ≡ false }
+        requires ticket { CanPrepare I.WIDTH ticket.now }
+        requires begun { HasBegun pass.old ticket.now.number ticket.now.name (arc_value ticket.now.bucket).base }
+        ensures { BegunEnds I.WIDTH ticket.now.number pass.old pass.new result }
+    {
+        let Ok(prepared) = prepare(alloc, ticket, I::WIDTH) else {
+            return self.give_up(rt, pass, ticket.number);
+        };
+        gate.reach(GatePoint::Ready, session);
+        self.finish(rt, pass, &prepared)
+    }
+
     /// Splits a leaf: begins under the lock, prepares outside it, and installs under it. Where memory runs out between, the split is
     /// abandoned.
     pub fn split_once<R: Wait, G: Gate>(
@@ -114,16 +158,6 @@ impl<I: Index, D: LogDisk, O: Start> Store<I, D, O> {
             Err(fault) => return Split::NotSplit(fault),
         };
         gate.reach(GatePoint::Begun, session);
-        let Ok(prepared) = prepare(alloc, &ticket, I::WIDTH) else {
-            return self.give_up(rt, pass, ticket.number);
-        };
-        gate.reach(GatePoint::Ready, session);
-        match self.install(rt, pass, &prepared) {
-            Ok(()) => Split::Installed {
-                number: ticket.number,
-            },
-            Err(BookFault::Memory) => self.give_up(rt, pass, ticket.number),
-            Err(fault) => Split::NotSplit(lasting(fault)),
-        }
+        self.carry_out(rt, alloc, pass, session, &ticket, gate)
     }
 }

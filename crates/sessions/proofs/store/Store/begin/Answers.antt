@@ -6,7 +6,7 @@ use Rattle.kept_log.specs.Journal.{cells_in}
 use Rattle.book_lock.specs.Ends.{MayNote}
 use Rattle.sessions.specs.Steps.{MayGive, has_entry, has_given}
 use Rattle.sessions.specs.Splits.{begin_cause, number_of, state_of}
-use Rattle.sessions.proofs.StepLemmas.{WasTaken, may-give, says-all, begin-may}
+use Rattle.sessions.proofs.StepLemmas.{WasTaken, may-give, may-as, given-as, says-all, begin-may}
 use Rattle.sessions.proofs.SplitLemmas.{begun-step, begun, begun-notes, begun-name, number-entry}
 use Rattle.sessions.proofs.store.Store.begin.Goals as goal
 
@@ -21,8 +21,8 @@ give-requires-clause-entries g c =
     let name = c.args.name.now in
     let r = c.begin-answer.result in
     let was : WasTaken g.D.LogDisk.drive b old took = record { entries = take.value.0; origin = take.value.1; later = take.later; took_is = take.pass; off = c.requires.off; alone = take.alone } in
-    let grown : has_entry (number_of r) ≡ c.has_entry-grown.result = number-entry r ∙ sym c.has_entry-grown.ensures in
-    subst (λ (grown : Bool). MayGive took grown mid.entries) grown
+    let grown : c.has_entry-grown.result ≡ has_entry (number_of r) = c.has_entry-grown.ensures ∙ sym (number-entry r) in
+    may-as took mid.entries c.has_entry-grown.result (has_entry (number_of r)) grown
     (may-give g.D.LogDisk.drive IsMemoryOrDisk (begin_cause g.I.Index.WIDTH old.origin name (cells_in b.log) b.entries) (λ (number : ℕ). Begin number name) (lost.Begin ((state_of g.I.Index.WIDTH old.origin b.entries).begun + 1) name) b mid took take.value.0
     (number_of r) (begun-step g.D.LogDisk.drive g.I.Index.WIDTH b mid old took took name was begin.book r begin.ok begin.refused begin.err)
     (says-all (λ (number : ℕ). MayNote took.seen took.own (Begin number name)) (λ (number : ℕ). begin-may number name took.seen took.own) (number_of r)))
@@ -35,7 +35,7 @@ returns-clause-step g c =
     let took = c.take-book.new.pass in
     let was : WasTaken g.D.LogDisk.drive c.take-book.result c.args.pass.now took = record { entries = take.value.0; origin = take.value.1; later = take.later; took_is = take.pass; off = c.requires.off; alone = take.alone } in
     begun g.D.LogDisk.drive g.I.Index.WIDTH c.take-book.result mid c.args.pass.now took c.give.new.pass c.args.name.now was begin.book c.begin-answer.result begin.ok begin.refused begin.err
-    (c.give.ensures ∙ ap (λ (grown : Bool). has_given took grown mid.entries) c.has_entry-grown.ensures)
+    (given-as took c.give.new.pass mid.entries c.has_entry-grown.result (has_entry c.begin-answer.result) c.has_entry-grown.ensures c.give.ensures)
 
 pub returns-clause-begun : goal.returns-clause-begun
 returns-clause-begun g c =
@@ -45,7 +45,7 @@ returns-clause-begun g c =
     let took = c.take-book.new.pass in
     let was : WasTaken g.D.LogDisk.drive c.take-book.result c.args.pass.now took = record { entries = take.value.0; origin = take.value.1; later = take.later; took_is = take.pass; off = c.requires.off; alone = take.alone } in
     begun-notes g.D.LogDisk.drive g.I.Index.WIDTH c.take-book.result mid c.args.pass.now took c.give.new.pass c.args.name.now was begin.book c.begin-answer.result begin.ok take.rises.1
-    (c.give.ensures ∙ ap (λ (grown : Bool). has_given took grown mid.entries) c.has_entry-grown.ensures)
+    (given-as took c.give.new.pass mid.entries c.has_entry-grown.result (has_entry c.begin-answer.result) c.has_entry-grown.ensures c.give.ensures)
 
 pub returns-clause-name : goal.returns-clause-name
 returns-clause-name g c = begun-name g.I.Index.WIDTH c.take-book.result c.begin-answer.new.self c.args.name.now c.begin-answer.result c.begin-answer.ensures.ok

@@ -1,5 +1,5 @@
 use Rattle.std.proofs.Common.{◌+◌, ◌*◌}
-use Rattle.book_lock.proofs.tests.+add_all+fn-add_all-join_mut+arg2.Given as goal
+use Rattle.thread_tests.proofs.sheets.+add_all+fn-add_all-join_mut+arg2.Given as goal
 
 abbrev pub decreases-add_all : goal.decreases-add_all
 decreases-add_all g l = 2 * l.session + 1

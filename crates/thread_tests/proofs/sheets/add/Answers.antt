@@ -1,6 +1,6 @@
 use Rattle.std.proofs.Common.{List, [], ◌∷◌, ◌++◌, ap, ◌∙◌}
 use Rattle.plain_list.specs.declared.entries.Entry.{Entry}
-use Rattle.book_lock.proofs.tests.add.Goals as goal
+use Rattle.thread_tests.proofs.sheets.add.Goals as goal
 
 pub note-requires-clause-entry : goal.note-requires-clause-entry
 note-requires-clause-entry g c = (

@@ -1,16 +1,23 @@
+//! A lock around a sheet of entries: what one pass adds comes back, what another is told, and threads at once, also such as sleep at the
+//! lock. One that isn't woken would sleep for ever, and its test be stopped.
 ghost use Rattle.std.specs.Prelude.{◌≡◌, ℕ, ◌+◌, ◌<◌, ◌≤◌, ◌++◌, List, [], ◌∷◌, false, length, IfOk, MatchBool};
 ghost use Rattle.std.specs.Thread.{IsSync};
 ghost use mathlib.Core.List.{IsPrefix};
 ghost use Rattle.plain_list.specs.declared.entries.Entry.{Entry};
 ghost use Rattle.book_lock.specs.Ends.{Ends};
+ghost use Rattle.thread_tests.specs.Passes.{IsFree, KeepsPass};
 
-use crate::{BookLock, Held, Pass};
+use book_lock::{BookLock, Held, Pass};
 use plain_list::{Entry, Lost, Op};
 use std::alloc::{AllocError, Global};
+use std::process::Abort;
+use std::rt::Clock;
 use std::sync::Wait;
 use std::test::*;
-use std::thread::{Threads, join_mut};
+use std::thread::{self, Threads, join_mut};
+use std::time::Duration;
 
+// A slow value, since `is_slow` says so where nothing else is said: who waits for it sleeps until it is woken.
 #[derive(Drop)]
 struct Sheet {
     entries: Vec<Entry>,
@@ -82,11 +89,24 @@ fn failed() -> Entry
     }
 }
 
+// With the lock held, for as long as others are to wait for it.
+fn stay<R: Clock>(rt: &R, asleep: Duration) {
+    if !asleep.is_zero() {
+        thread::sleep(rt, asleep);
+    }
+}
+
 // Adds an entry to the sheet and to the history. The pass has then seen it last, and owns its position.
-fn add(rt: &impl Wait, lock: &BookLock<Sheet>, pass: &mut Pass<Sheet>, entry: Entry) -> bool
-    requires pass { (pass.old.lock ≡ lock.now) × (pass.old.holds ≡ false) }
+fn add<R: Wait + Clock>(
+    rt: &R,
+    lock: &BookLock<Sheet>,
+    pass: &mut Pass<Sheet>,
+    entry: Entry,
+    asleep: Duration,
+) -> bool
+    requires pass { IsFree lock.now pass.old }
     requires plain { (n : ℕ) → ¬ Ends entry n }
-    ensures same { (pass.new.lock ≡ pass.old.lock) × (pass.new.holds ≡ false) × (pass.new.parts ≡ pass.old.parts) }
+    ensures same { KeepsPass pass.old pass.new }
     ensures added { MatchBool result ((before : List Entry) × IsPrefix pass.old.seen before × (pass.new.seen ≡ before ++ entry ∷ []) × (pass.new.own ≡ pass.old.own ++ length before ∷ [])) (pass.new.own ≡ pass.old.own) }
 {
     let mut sheet = lock.take(rt, pass);
@@ -94,27 +114,40 @@ fn add(rt: &impl Wait, lock: &BookLock<Sheet>, pass: &mut Pass<Sheet>, entry: En
     if pushed {
         lock.note(pass, &sheet);
     }
+    stay(rt, asleep);
     lock.put_back(pass, sheet);
     pushed
+}
+
+fn is_the_find(entries: &[Entry]) -> bool {
+    matches!(
+        entries,
+        [Entry::Call {
+            session: 1,
+            row: 1,
+            op: Op::Find { id: 7 }
+        }]
+    )
+}
+
+fn is_the_fail(entries: &[Entry]) -> bool {
+    matches!(
+        entries,
+        [Entry::Fail {
+            cell: 0,
+            lost: Lost::Install { number: 1 }
+        }]
+    )
 }
 
 #[test]
 fn one_find_comes_back(rt: HostRuntime) -> Result<(), Fail> {
     may_be_shared::<Sheet>();
     let (lock, mut pass) = new_lock(rt.alloc())?;
-    let added = add(&rt, &lock, &mut pass, find(1, 1));
+    let added = add(&rt, &lock, &mut pass, find(1, 1), Duration::ZERO);
     let sheet = lock.close(pass);
-    assert!(rt; added);
-    assert!(rt;
-        matches!(
-            sheet.entries.as_slice(),
-            [Entry::Call {
-                session: 1,
-                row: 1,
-                op: Op::Find { id: 7 }
-            }]
-        )
-    );
+    assert_is!(rt; added);
+    assert_is!(rt; is_the_find(sheet.entries.as_slice()));
     Ok(())
 }
 
@@ -122,68 +155,67 @@ fn one_find_comes_back(rt: HostRuntime) -> Result<(), Fail> {
 fn a_fail_of_a_second_pass_is_told_to_the_first(rt: HostRuntime) -> Result<(), Fail> {
     let (lock, mut first) = new_lock(rt.alloc())?;
     let mut second = lock.split_pass(&mut first);
-    let added = add(&rt, &lock, &mut second, failed());
+    let added = add(&rt, &lock, &mut second, failed(), Duration::ZERO);
     lock.meet(&mut second, &mut first);
     lock.join_pass(&mut first, second);
     let sheet = lock.close(first);
-    assert!(rt; added);
-    assert!(rt;
-        matches!(
-            sheet.entries.as_slice(),
-            [Entry::Fail {
-                cell: 0,
-                lost: Lost::Install { number: 1 }
-            }]
-        )
-    );
+    assert_is!(rt; added);
+    assert_is!(rt; is_the_fail(sheet.entries.as_slice()));
     Ok(())
 }
 
-const ROWS: u32 = 1000;
-
-// Adds a thousand entries of one session.
-fn add_rows<R: Wait>(rt: &R, lock: &BookLock<Sheet>, pass: &mut Pass<Sheet>, session: u8)
-    requires { (pass.old.lock ≡ lock.now) × (pass.old.holds ≡ false) }
-    ensures { (pass.new.lock ≡ pass.old.lock) × (pass.new.holds ≡ false) × (pass.new.parts ≡ pass.old.parts) }
-{
-    for row in 0..ROWS {
-        add(rt, lock, pass, find(session, row));
-    }
-}
-
-// Each session up to this one adds its entries, all at once.
-fn add_all<R: Threads + Wait + Sync>(
+// Adds so many entries of one session.
+fn add_rows<R: Wait + Clock>(
     rt: &R,
     lock: &BookLock<Sheet>,
     pass: &mut Pass<Sheet>,
     session: u8,
+    rows: u32,
+    asleep: Duration,
 )
-    requires pass { (pass.old.lock ≡ lock.now) × (pass.old.holds ≡ false) }
+    requires { IsFree lock.now pass.old }
+    ensures { KeepsPass pass.old pass.new }
+{
+    for row in 0..rows {
+        add(rt, lock, pass, find(session, row), asleep);
+    }
+}
+
+// Each session up to this one adds its entries, all at once.
+fn add_all<R: Threads + Wait + Clock + Sync>(
+    rt: &R,
+    lock: &BookLock<Sheet>,
+    pass: &mut Pass<Sheet>,
+    session: u8,
+    rows: u32,
+    asleep: Duration,
+)
+    requires pass { IsFree lock.now pass.old }
     requires parts { session + 1 ≤ pass.old.parts }
-    ensures { (pass.new.lock ≡ pass.old.lock) × (pass.new.holds ≡ false) × (pass.new.parts ≡ pass.old.parts) }
+    ensures { KeepsPass pass.old pass.new }
 {
     if session == 0 {
-        add_rows(rt, lock, pass, 0);
+        add_rows(rt, lock, pass, 0, rows, asleep);
         return;
     }
     let mut mine = lock.split_pass(pass);
     join_mut(
         rt,
         &mut ||
-            requires { IsSync R.row × (0 < session) × (pass.now.lock ≡ lock.now) × (pass.now.holds ≡ false) × (session ≤ pass.now.parts) }
-            ensures { (pass.exit.now.lock ≡ pass.entry.now.lock) × (pass.exit.now.holds ≡ false) × (pass.exit.now.parts ≡ pass.entry.now.parts) }
-        { add_all(rt, lock, pass, session - 1) },
+            requires { IsSync R.row × (0 < session) × IsFree lock.now pass.now × (session ≤ pass.now.parts) }
+            ensures { KeepsPass pass.entry.now pass.exit.now }
+        { add_all(rt, lock, pass, session - 1, rows, asleep) },
         &mut ||
-            requires { IsSync R.row × (mine.lock ≡ lock.now) × (mine.holds ≡ false) }
-            ensures { (mine.exit.lock ≡ mine.entry.lock) × (mine.exit.holds ≡ false) × (mine.exit.parts ≡ mine.entry.parts) }
-        { add_rows(rt, lock, &mut mine, session) },
+            requires { IsSync R.row × IsFree lock.now mine }
+            ensures { KeepsPass mine.entry mine.exit }
+        { add_rows(rt, lock, &mut mine, session, rows, asleep) },
     );
     lock.join_pass(pass, mine);
 }
 
-// Whether each of the sessions has its rows in order, and nobody else one.
-fn are_in_order(entries: &[Entry]) -> bool {
-    let mut next = [0; 8];
+// Whether each of so many sessions has so many rows, in order, and nobody else one.
+fn are_in_order(entries: &[Entry], sessions: usize, rows: u32) -> bool {
+    let mut next = [0; 9];
     for entry in entries {
         let Entry::Call {
             session,
@@ -194,20 +226,43 @@ fn are_in_order(entries: &[Entry]) -> bool {
             return false;
         };
         let place = session as usize;
-        if place >= 8 || next[place] != row {
+        if place >= 9 || next[place] != row {
             return false;
         }
         next[place] = row.saturating_add(1);
     }
-    next.iter().all(|&count| count == ROWS)
+    next.iter().take(sessions).all(|&count| count == rows)
+        && entries.len() == sessions.saturating_mul(rows as usize)
+}
+
+// So many sessions add their rows at once, each time asleep so long while the others wait: all stand in one history.
+fn each_entry_comes<R: Threads + Wait + Clock + Abort + Sync>(
+    rt: &R,
+    alloc: Global,
+    sessions: u8,
+    rows: u32,
+    asleep: Duration,
+) -> Result<(), Fail>
+    requires { 1 ≤ sessions }
+{
+    let (lock, mut pass) = new_lock(alloc)?;
+    add_all(rt, &lock, &mut pass, sessions - 1, rows, asleep);
+    let sheet = lock.close(pass);
+    assert_is!(rt; are_in_order(sheet.entries.as_slice(), sessions as usize, rows));
+    Ok(())
 }
 
 #[test]
 fn eight_threads_add_to_one_history(rt: HostRuntime) -> Result<(), Fail> {
-    let (lock, mut pass) = new_lock(rt.alloc())?;
-    add_all(&rt, &lock, &mut pass, 7);
-    let sheet = lock.close(pass);
-    assert_eq!(rt; sheet.entries.len(), 8000);
-    assert!(rt; are_in_order(sheet.entries.as_slice()));
-    Ok(())
+    each_entry_comes(&rt, rt.alloc(), 8, 1_000, Duration::ZERO)
+}
+
+#[test]
+fn a_thread_sleeps_while_another_holds_the_lock(rt: HostRuntime) -> Result<(), Fail> {
+    each_entry_comes(&rt, rt.alloc(), 2, 500, Duration::from_millis(1))
+}
+
+#[test]
+fn eight_threads_sleep_while_a_ninth_holds_the_lock(rt: HostRuntime) -> Result<(), Fail> {
+    each_entry_comes(&rt, rt.alloc(), 9, 1_000, Duration::from_millis(1))
 }
