@@ -1,11 +1,11 @@
 //! Runs over ends in memory, and what they leave, as plain bytes and numbers.
 //!
 //! `inspect` is called here alone, in a function without clauses: the tests look at what it gives while they run.
+use crate::memory::{Faults, run_gated};
 use cell_format::Cause;
 use disk_mem::{Fail as Failing, MemDisk};
 use disk_trait::LogDisk;
 use io_edge::{Gate, OpenGate};
-use memory_runs::{Faults, run_gated};
 use plain_list::Entry;
 use recovery::{OpenFault, Seen, inspect};
 use std::alloc::{AllocError, Global};
@@ -86,7 +86,7 @@ fn images_of(alloc: Global, disk: &MemDisk) -> Result<Vec<Image>, Fail> {
 }
 
 // What a run over a drive in memory left.
-fn left_of(alloc: Global, left: &memory_runs::Left) -> Result<Left, Fail> {
+fn left_of(alloc: Global, left: &crate::memory::Left) -> Result<Left, Fail> {
     Ok(Left {
         status: left.status,
         events: left.history().to_vec(alloc)?,

@@ -1,7 +1,7 @@
 //! Each device call of a run failing in turn, and what a crash leaves at each moment of such runs.
-use crate::moments::{Trial, judge_images};
-use crate::records::{BEGIN, EMPTY_LOG, INSTALL, MOVE, PUT, Record, front, log_of};
-use crate::runs::{Found, Left, Plan, found_in, must, run_plan};
+use crate::hostile::moments::{Trial, judge_images};
+use crate::hostile::records::{BEGIN, EMPTY_LOG, INSTALL, MOVE, PUT, Record, front, log_of};
+use crate::hostile::runs::{Found, Left, Plan, found_in, must, run_plan};
 use disk_mem::{DiskCall, Fail as Failing};
 use std::alloc::{AllocError, Global};
 use std::process::Abort;

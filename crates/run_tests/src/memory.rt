@@ -1,9 +1,7 @@
-//! Runs of the program over ends in memory: what tests of the top call begin with, and no other code.
+//! Runs of the program over ends in memory: what each test of the top call begins with.
 //!
 //! Here is the one place where tests call `run`. It says nothing of what the run left, so that the proof of a test knows nothing of the
 //! promise that it tries: what a run left is compared while the test runs.
-#![tactic(auto)]
-
 mod faults;
 mod inputs;
 mod left;
@@ -12,7 +10,7 @@ mod noting;
 mod runs;
 
 pub use faults::{Faults, NO_FAULTS};
-pub use inputs::{HEADER, text, words};
+pub use inputs::{HEADER, text};
 pub use left::Left;
 pub use logs::{EMPTY_LOG, PUT_LOG};
 pub use noting::Attach;

@@ -1,6 +1,6 @@
 //! Sources that fail at each read, and sinks that fail at each put, also at the line of a refusal.
-use crate::records::{EMPTY_LOG, PUT, Record, log_of};
-use crate::runs::{Left, Plan, must, run_plan};
+use crate::hostile::records::{EMPTY_LOG, PUT, Record, log_of};
+use crate::hostile::runs::{Left, Plan, must, run_plan};
 use disk_mem::{DiskCall, Fail as Failing};
 use std::alloc::{AllocError, Global};
 use std::process::Abort;

@@ -1,6 +1,6 @@
 //! Damaged logs: what is found in them, and what each command makes of them.
-use crate::records::{ABANDON, BEGIN, DROP, INSTALL, MOVE, PUT, Record, log_of};
-use crate::runs::{Found, Left, Plan, found_in, must, run_plan};
+use crate::hostile::records::{ABANDON, BEGIN, DROP, INSTALL, MOVE, PUT, Record, log_of};
+use crate::hostile::runs::{Found, Left, Plan, found_in, must, run_plan};
 use std::alloc::{AllocError, Global};
 use std::process::Abort;
 use std::sync::Wait;

@@ -1,5 +1,5 @@
 //! What a run left.
-use crate::noting::Attach;
+use crate::memory::noting::Attach;
 use disk_mem::MemDisk;
 use plain_list::{Entries, Entry};
 

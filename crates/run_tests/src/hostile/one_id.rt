@@ -1,7 +1,7 @@
 //! One id for all sessions: each line is the one that a single object, changed row by row in the order of the history, gives.
-use crate::moments::{Trial, judge_images};
-use crate::records::{DROP, EMPTY_LOG, MOVE, PUT, Record, log_of};
-use crate::runs::{Left, Plan, must, run_plan};
+use crate::hostile::moments::{Trial, judge_images};
+use crate::hostile::records::{DROP, EMPTY_LOG, MOVE, PUT, Record, log_of};
+use crate::hostile::runs::{Left, Plan, must, run_plan};
 use disk_mem::{DiskCall, Fail as Failing};
 use plain_list::{Entry, Lost, Op};
 use std::alloc::{AllocError, Global};

@@ -1,6 +1,6 @@
 //! How many records a crash leaves at each moment of a run of `play` over a log.
-use crate::records::{Record, front};
-use crate::runs::{Left, must};
+use crate::hostile::records::{Record, front};
+use crate::hostile::runs::{Left, must};
 use std::process::Abort;
 
 /// A run over a file that had the first so many of these records, and whether its last call failed in an append.

@@ -1,8 +1,8 @@
 //! Runs over ends in memory.
-use crate::faults::Faults;
-use crate::inputs::words;
-use crate::left::Left;
-use crate::noting::NotingDisk;
+use crate::memory::faults::Faults;
+use crate::memory::inputs::words;
+use crate::memory::left::Left;
+use crate::memory::noting::NotingDisk;
 use disk_mem::MemDisk;
 use disk_trait::LogDisk;
 use io_edge::{Gate, MemSink, MemSource, OpenGate, Sink, Source};

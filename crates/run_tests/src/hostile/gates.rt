@@ -1,6 +1,6 @@
 //! Lanes that wait for each other outside the lock: that they run side by side, and that a query and a split let others go on.
-use crate::records::{EMPTY_LOG, INSTALL, PUT, Record, front};
-use crate::runs::{Left, Plan, run_with};
+use crate::hostile::records::{EMPTY_LOG, INSTALL, PUT, Record, front};
+use crate::hostile::runs::{Left, Plan, run_with};
 use io_edge::{Gate, GatePoint};
 use std::alloc::Global;
 use std::process::Abort;
