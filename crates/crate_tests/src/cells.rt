@@ -33,7 +33,7 @@ fn expect_fault(rt: &impl Abort, bytes: &[u8; 32], fault: CellFault) {
 #[test]
 fn each_cell_has_its_worked_spelling(rt: HostRuntime) {
     let ten = Name::new(0x8000_0000_0000_0000, 2);
-    assert!(rt; ten.is_some());
+    assert_is!(rt; ten.is_some());
     let name = ten.unwrap_or(Name::whole());
     let at = Point { x: 3, y: 5 };
     let put = padded(&[1, 1, 0, 0, 0, 0, 0, 0, 0, 7, 0, 0, 0, 3, 0, 0, 0, 5]);

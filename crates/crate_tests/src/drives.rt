@@ -49,7 +49,7 @@ fn expect_image(
     want: &[u8],
 ) -> Result<(), PickFault> {
     let image = disk.pick(moment, len, &[fill])?;
-    assert_eq!(rt; image.as_slice(), want, "at {moment}");
+    assert_same!(rt; (moment, image.as_slice()), (moment, want));
     Ok(())
 }
 
@@ -80,10 +80,10 @@ fn expect_images(rt: &impl Abort, disk: &MemDisk) -> Result<(), PickFault> {
 #[test]
 fn bytes_of_a_write_are_any_until_its_sync(rt: HostRuntime) -> Result<(), Fail> {
     let mut disk = two_bytes(rt.alloc(), Vec::new(rt.alloc()))?;
-    assert_same!(rt; write_twice(&mut disk), Ok(()));
-    assert_same!(rt; expect_images(&rt, &disk), Ok(()));
+    assert_is!(rt; write_twice(&mut disk).is_ok());
+    assert_is!(rt; expect_images(&rt, &disk).is_ok());
     let behind = expect_image(&rt, &disk, 4, 9, 0, &[]);
-    assert_same!(rt; behind, Err(PickFault::NoMoment { moments: 3 }));
+    assert_is!(rt; matches!(behind, Err(PickFault::NoMoment { moments: 3 })));
     Ok(())
 }
 
@@ -96,8 +96,8 @@ fn expect_each_length(rt: &impl Abort, disk: &MemDisk) -> Result<(), PickFault> 
 #[test]
 fn a_cut_may_leave_each_length(rt: HostRuntime) -> Result<(), Fail> {
     let mut disk = two_bytes(rt.alloc(), Vec::new(rt.alloc()))?;
-    assert_same!(rt; cut(&mut disk), Ok(()));
-    assert_same!(rt; expect_each_length(&rt, &disk), Ok(()));
+    assert_is!(rt; cut(&mut disk).is_ok());
+    assert_is!(rt; expect_each_length(&rt, &disk).is_ok());
     Ok(())
 }
 
@@ -117,21 +117,21 @@ const FAILING: [Failing; 3] = [
 ];
 
 fn fails_at_a_write<D: LogDisk>(rt: &impl Abort, disk: &mut D, alloc: Global) {
-    assert_same!(rt; attach(disk, alloc), Ok(()));
-    assert_same!(rt; write(disk, &[7]), Err(DiskFault));
+    assert_is!(rt; attach(disk, alloc).is_ok());
+    assert_is!(rt; write(disk, &[7]).is_err());
     // A failed write leaves what a read gives.
-    assert_same!(rt; byte_behind(disk, 0), Ok(5));
-    assert_same!(rt; write(disk, &[8]), Ok(()));
+    assert_is!(rt; matches!(byte_behind(disk, 0), Ok(5)));
+    assert_is!(rt; write(disk, &[8]).is_ok());
 }
 
 fn fails_further_on<D: LogDisk>(rt: &impl Abort, disk: &mut D, alloc: Global) {
-    assert_same!(rt; sync(disk), Ok(()));
+    assert_is!(rt; sync(disk).is_ok());
     // Past the room.
-    assert_same!(rt; write(disk, &[1; 9]), Err(DiskFault));
-    assert_same!(rt; sync(disk), Err(DiskFault));
-    assert_same!(rt; attach(disk, alloc), Err(AttachFault::Disk));
+    assert_is!(rt; write(disk, &[1; 9]).is_err());
+    assert_is!(rt; sync(disk).is_err());
+    assert_is!(rt; matches!(attach(disk, alloc), Err(AttachFault::Disk)));
     // Past the calls.
-    assert_same!(rt; length(disk), Err(DiskFault));
+    assert_is!(rt; length(disk).is_err());
 }
 
 #[test]
@@ -139,6 +139,6 @@ fn calls_fail_by_kind_and_number(rt: HostRuntime) -> Result<(), Fail> {
     let mut disk = two_bytes(rt.alloc(), FAILING.to_vec(rt.alloc())?)?;
     fails_at_a_write(&rt, &mut disk, rt.alloc());
     fails_further_on(&rt, &mut disk, rt.alloc());
-    assert_same!(rt; expect_image(&rt, &disk, 5, 8, 3, &[3; 8]), Ok(()));
+    assert_is!(rt; expect_image(&rt, &disk, 5, 8, 3, &[3; 8]).is_ok());
     Ok(())
 }

@@ -41,15 +41,15 @@ fn length<D: LogDisk>(disk: &mut D) -> Result<u64, DiskFault> {
 }
 
 fn is_not_made<D: LogDisk>(rt: &impl Abort, disk: &mut D, alloc: Global, name: &str) {
-    assert_same!(rt; length(disk), Err(DiskFault));
-    assert_same!(rt; attach(disk, alloc, name, false), Err(AttachFault::Disk));
+    assert_is!(rt; length(disk).is_err());
+    assert_is!(rt; matches!(attach(disk, alloc, name, false), Err(AttachFault::Disk)));
 }
 
 fn is_made<D: LogDisk>(rt: &impl Abort, disk: &mut D, alloc: Global, name: &str) {
-    assert_same!(rt; attach(disk, alloc, name, true), Ok(()));
-    assert_same!(rt; length(disk), Ok(0));
+    assert_is!(rt; attach(disk, alloc, name, true).is_ok());
+    assert_is!(rt; matches!(length(disk), Ok(0)));
     assert_same!(rt; fill_and_cut(disk), Ok(*b"bxy---"));
-    assert_same!(rt; length(disk), Ok(4));
+    assert_is!(rt; matches!(length(disk), Ok(4)));
 }
 
 fn makes_a_file<R: Abort + Files + AllocGlobal, D: LogDisk + Send>(
@@ -58,7 +58,7 @@ fn makes_a_file<R: Abort + Files + AllocGlobal, D: LogDisk + Send>(
     name: &str,
 ) {
     is_not_made(rt, &mut disk, rt.alloc(), name);
-    assert_same!(rt; fs::exists(rt, name).ok(), Some(false));
+    assert_is!(rt; matches!(fs::exists(rt, name), Ok(false)));
     is_made(rt, &mut disk, rt.alloc(), name);
     may_be_sent(disk);
 }

@@ -18,6 +18,16 @@ macro_rules! assert_same {
     };
 }
 
+// `assert!` of what a function tells with `?`.
+#[cfg(test)]
+macro_rules! assert_so {
+    ($rt:expr; $told:expr $(,)?) => {
+        crate::checks::told(&$rt, $told, concat!("assertion failed: ", stringify!($told)))?
+    };
+}
+
+#[cfg(test)]
+mod book;
 #[cfg(test)]
 mod buckets;
 #[cfg(test)]
@@ -25,15 +35,23 @@ mod cells;
 #[cfg(test)]
 mod checks;
 #[cfg(test)]
+mod counts;
+#[cfg(test)]
 mod drives;
 #[cfg(test)]
 mod files;
+#[cfg(test)]
+mod forgetful;
+#[cfg(test)]
+mod index;
 #[cfg(test)]
 mod keys;
 #[cfg(test)]
 mod lines;
 #[cfg(test)]
 mod lists;
+#[cfg(test)]
+mod logs;
 #[cfg(test)]
 mod moves;
 #[cfg(test)]

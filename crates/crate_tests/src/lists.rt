@@ -62,19 +62,28 @@ fn are_legal(alloc: Global, calls: &[Call]) -> Result<bool, Memory> {
     is_legal(alloc, &World::empty(alloc), calls)
 }
 
+fn changes_one(calls: &mut Vec<Call>) -> Result<(), AllocError> {
+    calls.push(call(1, put(7, 3, 5), Answer::Done))?;
+    calls.push(call(2, Op::Find { id: 7 }, Answer::At(point(3, 5))))?;
+    calls.push(call(3, put(7, 8, 8), Answer::Present(point(3, 5))))?;
+    calls.push(call(4, to(7, 8, 8), Answer::Moved(point(3, 5))))?;
+    Ok(())
+}
+
+fn takes_it_away(calls: &mut Vec<Call>) -> Result<(), AllocError> {
+    calls.push(call(5, Op::Remove { id: 7 }, Answer::Gone(point(8, 8))))?;
+    calls.push(call(6, Op::Remove { id: 7 }, Answer::Absent))?;
+    calls.push(call(7, to(7, 1, 1), Answer::Absent))?;
+    calls.push(call(8, Op::Find { id: 7 }, Answer::Absent))?;
+    Ok(())
+}
+
 #[test]
 fn the_worked_calls_have_their_answers(rt: HostRuntime) -> Result<(), Fail> {
-    let calls = [
-        call(1, put(7, 3, 5), Answer::Done),
-        call(2, Op::Find { id: 7 }, Answer::At(point(3, 5))),
-        call(3, put(7, 8, 8), Answer::Present(point(3, 5))),
-        call(4, to(7, 8, 8), Answer::Moved(point(3, 5))),
-        call(5, Op::Remove { id: 7 }, Answer::Gone(point(8, 8))),
-        call(6, Op::Remove { id: 7 }, Answer::Absent),
-        call(7, to(7, 1, 1), Answer::Absent),
-        call(8, Op::Find { id: 7 }, Answer::Absent),
-    ];
-    assert_same!(rt; are_legal(rt.alloc(), &calls).ok(), Some(true));
+    let mut calls = Vec::new(rt.alloc());
+    changes_one(&mut calls)?;
+    takes_it_away(&mut calls)?;
+    assert_same!(rt; are_legal(rt.alloc(), calls.as_slice()).ok(), Some(true));
     Ok(())
 }
 
@@ -113,8 +122,10 @@ fn absent_after_a_put_is_not_legal(rt: HostRuntime) -> Result<(), Fail> {
         op: Op::Find { id: 1 },
         answer: Answer::Absent,
     };
-    let calls = [call(1, put(1, 3, 5), Answer::Done), find];
-    assert_same!(rt; are_legal(rt.alloc(), &calls).ok(), Some(false));
+    let mut calls = Vec::new(rt.alloc());
+    calls.push(call(1, put(1, 3, 5), Answer::Done))?;
+    calls.push(find)?;
+    assert_same!(rt; are_legal(rt.alloc(), calls.as_slice()).ok(), Some(false));
     Ok(())
 }
 

@@ -1,6 +1,7 @@
 //! Words that are accepted, and words that aren't.
 use command_words::{Command, Made, command_in};
 use std::alloc::{AllocError, Global};
+use std::process::Abort;
 use std::test::Fail;
 use zorder::{Point, Region};
 
@@ -39,7 +40,13 @@ fn tried(alloc: Global, file: &str, made: Made) -> Result<String, AllocError> {
     format!(in alloc; "trial {file} {rows} {seed}")
 }
 
-const COMMANDS: [(&str, &str); 11] = [
+fn expect_asked(rt: &impl Abort, alloc: Global, line: &str, command: &str) -> Result<(), Fail> {
+    let told = asked(alloc, line)?;
+    assert_same!(rt; told.as_str(), command);
+    Ok(())
+}
+
+const COMMANDS: &[(&str, &str)] = &[
     ("init moves.log", "init moves.log"),
     ("check moves.log", "check moves.log"),
     ("play -", "play 64"),
@@ -62,12 +69,12 @@ const COMMANDS: [(&str, &str); 11] = [
 #[test]
 fn each_command_has_its_words(rt: HostRuntime) -> Result<(), Fail> {
     for (line, command) in COMMANDS {
-        assert_same!(rt; asked(rt.alloc(), line)?.as_str(), command);
+        expect_asked(&rt, rt.alloc(), line, command)?;
     }
     Ok(())
 }
 
-const OTHER_WORDS: [&str; 32] = [
+const OTHER_WORDS: &[&str] = &[
     "",
     "help",
     "--help",
@@ -105,7 +112,7 @@ const OTHER_WORDS: [&str; 32] = [
 #[test]
 fn other_words_are_usage(rt: HostRuntime) -> Result<(), Fail> {
     for line in OTHER_WORDS {
-        assert_same!(rt; asked(rt.alloc(), line)?.as_str(), "usage");
+        expect_asked(&rt, rt.alloc(), line, "usage")?;
     }
     Ok(())
 }

@@ -1,5 +1,5 @@
 //! Which files the commands attach, and on which drive.
-use memory_runs::{Attach, EMPTY_LOG, HEADER, Left, NO_FAULTS, run_on};
+use crate::memory::{Attach, EMPTY_LOG, HEADER, Left, NO_FAULTS, run_on};
 use std::alloc::Global;
 use std::process::Abort;
 use std::sync::Wait;

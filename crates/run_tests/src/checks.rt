@@ -1,6 +1,6 @@
 //! Whether a run leaves what it should. Functions over a runtime alone: a test's proof then holds no drive.
+use crate::memory::{Faults, HEADER, Left, NO_FAULTS, run_apart, run_on, text};
 use disk_mem::{DiskCall, Fail};
-use memory_runs::{Faults, HEADER, Left, NO_FAULTS, run_apart, run_on, text};
 use std::alloc::Global;
 use std::process::Abort;
 use std::sync::Wait;

@@ -3,8 +3,8 @@ use crate::checks::{
     PLAY, call_of, ended, failing_calls, failing_ends, failing_reads, is_checked, is_left, leaves,
     leaves_with,
 };
+use crate::memory::{EMPTY_LOG, Left, PUT_LOG, run_on, text};
 use disk_mem::{DiskCall, MemDisk};
-use memory_runs::{EMPTY_LOG, Left, PUT_LOG, run_on, text};
 use plain_list::{Entry, Lost, Op};
 use std::alloc::Global;
 use std::process::Abort;

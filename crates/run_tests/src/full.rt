@@ -1,6 +1,6 @@
 //! A world of all the objects that it may have, through a log of their puts.
+use crate::memory::{NO_FAULTS, run_over, text};
 use disk_mem::MemDisk;
-use memory_runs::{NO_FAULTS, run_over, text};
 use std::alloc::{AllocError, Global};
 use std::sync::Wait;
 use std::test::Fail;

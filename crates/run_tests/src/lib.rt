@@ -1,7 +1,7 @@
 //! Tests of the top call over sources, sinks and drives in memory, and no other code.
 //!
 //! Worked rows and their lines, without a log and over one, the commands over a log with worked files, each refusal's line and status, faults
-//! of all ends, the bytes that rows leave, which files are attached, and words that ask for no command.
+//! of all ends, the bytes that rows leave, which files are attached, and words that ask for no command; in `hostile` what goes wrong around it.
 //!
 //! Each test compares plain bytes, in functions over a runtime: a proof that knows a drive, a host or what `run` promises takes some times
 //! as long.
@@ -25,9 +25,13 @@ mod faults;
 #[cfg(test)]
 mod full;
 #[cfg(test)]
+mod hostile;
+#[cfg(test)]
 mod log_commands;
 #[cfg(test)]
 mod logged;
+#[cfg(test)]
+mod memory;
 #[cfg(test)]
 mod shows;
 #[cfg(test)]

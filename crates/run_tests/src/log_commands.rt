@@ -1,7 +1,7 @@
 //! The commands over a log, with worked files and faults of the drive and the sink.
 use crate::checks::{Wanted, call_of, ended, failing_ends, failing_reads, is_left, well};
+use crate::memory::{EMPTY_LOG, Faults, PUT_LOG, run_on};
 use disk_mem::DiskCall;
-use memory_runs::{EMPTY_LOG, Faults, PUT_LOG, run_on};
 use std::alloc::Global;
 use std::process::Abort;
 use std::sync::Wait;

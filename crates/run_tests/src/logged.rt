@@ -1,6 +1,6 @@
 //! Rows that are played over a log: what is kept, what a later run finds, and splits.
 use crate::checks::{PLAY, PLAY_BY_4, ended, is_checked, leaves, well};
-use memory_runs::{EMPTY_LOG, Left, NO_FAULTS, PUT_LOG, run_on, text};
+use crate::memory::{EMPTY_LOG, Left, NO_FAULTS, PUT_LOG, run_on, text};
 use std::alloc::{AllocError, Global};
 use std::process::Abort;
 use std::sync::Wait;

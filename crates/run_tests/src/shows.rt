@@ -1,6 +1,6 @@
 //! `show` over worked logs.
 use crate::checks::{ended, is_left};
-use memory_runs::{EMPTY_LOG, HEADER, Left, NO_FAULTS, PUT_LOG, run_on, text};
+use crate::memory::{EMPTY_LOG, HEADER, Left, NO_FAULTS, PUT_LOG, run_on, text};
 use std::alloc::Global;
 use std::process::Abort;
 use std::sync::Wait;

@@ -1,6 +1,6 @@
 //! Runs over no log: worked inputs, each refusal's line, and faults of both ends. Each call of a drive fails.
 use crate::checks::{PLAY_NO_LOG, ended, failing_ends, tells, told, well};
-use memory_runs::{HEADER, Left, NO_FAULTS, run_apart, text};
+use crate::memory::{HEADER, Left, NO_FAULTS, run_apart, text};
 use std::alloc::{AllocError, Global};
 use std::process::Abort;
 use std::sync::Wait;

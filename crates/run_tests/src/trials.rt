@@ -2,8 +2,8 @@
 ghost use Rattle.std.specs.Prelude.{◌≤◌};
 
 use crate::checks::{is_left, well};
+use crate::memory::{EMPTY_LOG, HEADER, NO_FAULTS, run_apart, run_on};
 use make_moves::make;
-use memory_runs::{EMPTY_LOG, HEADER, NO_FAULTS, run_apart, run_on};
 use plain_list::{Op, World, WorldBack, after};
 use std::alloc::{AllocError, Global};
 use std::process::Abort;

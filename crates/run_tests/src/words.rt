@@ -1,6 +1,6 @@
 //! Words that are near to those of a command.
 use crate::checks::{ended, is_left};
-use memory_runs::{Faults, HEADER, Left, NO_FAULTS, PUT_LOG, run_on};
+use crate::memory::{Faults, HEADER, Left, NO_FAULTS, PUT_LOG, run_on};
 use std::alloc::Global;
 use std::process::Abort;
 use std::sync::Wait;

@@ -1,6 +1,6 @@
 //! Worked rows and their lines, and the bytes that rows leave in a log.
 use crate::checks::{PLAY, PLAY_BY_4, PLAY_NO_LOG, ended, leaves, tells, well};
-use memory_runs::{EMPTY_LOG, Left, NO_FAULTS, PUT_LOG, run_on, text};
+use crate::memory::{EMPTY_LOG, Left, NO_FAULTS, PUT_LOG, run_on, text};
 use std::alloc::{AllocError, Global};
 use std::process::Abort;
 use std::sync::Wait;

@@ -1,0 +1,11 @@
+//! An index and queries over it, for every form of one.
+//!
+//! A function over the bound `Index` makes the calls, and each form is handed to it.
+mod buckets;
+mod builds;
+mod calls;
+mod changes;
+mod never;
+mod queries;
+mod spread;
+mod walks;

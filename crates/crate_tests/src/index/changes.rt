@@ -1,0 +1,197 @@
+//! Rows that come, go and move in an index, with their bases and without, and a snapshot behind many of them.
+ghost use Rattle.std.specs.Prelude.{◌≡◌, true, false, IsTrue, IsFalse};
+ghost use Rattle.index_layer.specs.RowChanges.{Holds};
+
+use crate::index::buckets::{change, empty, halves};
+use bucket_versions::{AtOnce, Row, RowChange, Undone};
+use flat_index::FlatIndex;
+use index_layer::Index;
+use kd_trie::KdTrie;
+use std::alloc::Global;
+use std::process::Abort;
+use std::test::*;
+use zorder::Name;
+
+const OBJECTS: u64 = 64;
+
+const CHANGES: u64 = 10_000;
+
+fn holds<I: Index>(index: &I, row: &Row) -> bool
+    ensures there { IsTrue result → Holds row.now (I.leaves index.now) true }
+    ensures absent { IsFalse result → Holds row.now (I.leaves index.now) false }
+{
+    let (_, bucket) = index.leaf_of(row.key);
+    bucket.holds(row)
+}
+
+fn put<I: Index>(index: &mut I, put: RowChange) -> Result<bool, Undone> {
+    if holds(index, &put.row) {
+        return Ok(false);
+    }
+    match index.put_row(put, &mut AtOnce) {
+        Ok(_) => Ok(true),
+        Err(undone) => Err(undone),
+    }
+}
+
+fn shift<I: Index>(index: &mut I, from: RowChange, to: RowChange) -> Result<bool, Undone> {
+    if !holds(index, &from.row) || holds(index, &to.row) {
+        return Ok(false);
+    }
+    match index.move_row(from, to, &mut AtOnce) {
+        Ok(_) => Ok(true),
+        Err(undone) => Err(undone),
+    }
+}
+
+fn take<I: Index>(index: &mut I, gone: RowChange) -> Result<bool, Undone> {
+    if !holds(index, &gone.row) {
+        return Ok(false);
+    }
+    match index.take_row(gone, &mut AtOnce) {
+        Ok(()) => Ok(true),
+        Err(undone) => Err(undone),
+    }
+}
+
+// How many rows the first leaf has, and how many of them or of its base alone.
+fn first_leaf<I: Index>(index: &I) -> (u64, u64) {
+    let (_, bucket) = index.leaf_of(0);
+    (bucket.count(), bucket.delta_len())
+}
+
+fn takes_puts<I: Index>(rt: &impl Abort, index: &mut I) -> Result<(), Undone> {
+    assert_is!(rt; put(index, change(1, 9, false))?);
+    assert_is!(rt; put(index, change(27, 7, false))?);
+    assert_same!(rt; first_leaf(index), (2, 0));
+    assert_is!(rt; put(index, change(2, 4, true))?);
+    assert_same!(rt; first_leaf(index), (3, 1));
+    Ok(())
+}
+
+fn takes_moves<I: Index>(rt: &impl Abort, index: &mut I) -> Result<(), Undone> {
+    assert_is!(rt; shift(index, change(27, 7, true), change(3, 7, true))?);
+    assert_same!(rt; first_leaf(index), (3, 3));
+    // Without (3,7) the rows are the base, and (5,7) comes to them.
+    assert_is!(rt; shift(index, change(3, 7, false), change(5, 7, true))?);
+    assert_same!(rt; first_leaf(index), (3, 1));
+    Ok(())
+}
+
+fn takes_removals<I: Index>(rt: &impl Abort, index: &mut I) -> Result<(), Undone> {
+    assert_is!(rt; take(index, change(1, 9, true))?);
+    assert_same!(rt; first_leaf(index), (2, 2));
+    assert_is!(rt; take(index, change(2, 4, false))?);
+    assert_same!(rt; first_leaf(index), (1, 0));
+    Ok(())
+}
+
+fn keeps_a_base_where_it_is_asked_to<I: Index>(rt: &impl Abort, alloc: Global) -> Result<(), Fail> {
+    let mut index = I::whole(alloc, empty(alloc)?)?;
+    takes_puts(rt, &mut index)?;
+    takes_moves(rt, &mut index)?;
+    takes_removals(rt, &mut index)?;
+    Ok(())
+}
+
+#[test]
+fn a_flat_index_keeps_a_base_where_it_is_asked_to(rt: HostRuntime) -> Result<(), Fail> {
+    keeps_a_base_where_it_is_asked_to::<FlatIndex>(&rt, rt.alloc())
+}
+
+#[test]
+fn a_trie_keeps_a_base_where_it_is_asked_to(rt: HostRuntime) -> Result<(), Fail> {
+    keeps_a_base_where_it_is_asked_to::<KdTrie>(&rt, rt.alloc())
+}
+
+// A linear congruential generator (Knuth's MMIX).
+fn drawn(seed: u64) -> u64 {
+    seed.wrapping_mul(6_364_136_223_846_793_005)
+        .wrapping_add(1_442_695_040_888_963_407)
+}
+
+fn first_key(id: u64) -> u64 {
+    id.wrapping_mul(1 << 58)
+}
+
+fn filled<I: Index>(alloc: Global) -> Result<I, Fail>
+    requires { I.WIDTH ≡ 1 }
+{
+    let mut index = halves::<I>(alloc)?;
+    for id in 0..OBJECTS {
+        let _ = put(&mut index, change(first_key(id), id, false))?;
+    }
+    Ok(index)
+}
+
+// Moves objects that are drawn to keys that are drawn, each third time on the old base.
+fn move_many<I: Index>(alloc: Global, index: &mut I) -> Result<u64, Fail> {
+    let mut keys = Vec::new(alloc);
+    for id in 0..OBJECTS {
+        keys.push(first_key(id))?;
+    }
+    let mut seed = 42;
+    let mut moved = 0_u64;
+    for turn in 0..CHANGES {
+        seed = drawn(seed);
+        let id = seed >> 58;
+        if let Some(key) = keys.get_mut(id as usize) {
+            let keeps = turn % 3 == 0;
+            let to = drawn(seed);
+            if shift(index, change(*key, id, keeps), change(to, id, keeps))? {
+                *key = to;
+                moved = moved.saturating_add(1);
+            }
+        }
+    }
+    Ok(moved)
+}
+
+// Of how many objects the index has the row that they had first.
+fn unmoved<I: Index>(index: &I) -> u64 {
+    let mut there = 0_u64;
+    for id in 0..OBJECTS {
+        let row = Row {
+            key: first_key(id),
+            id,
+        };
+        if holds(index, &row) {
+            there = there.saturating_add(1);
+        }
+    }
+    there
+}
+
+fn how_many<I: Index>(index: &I) -> u64 {
+    let (_, low) = index.leaf_of(0);
+    let (_, high) = index.leaf_of(1 << 63);
+    low.count().saturating_add(high.count())
+}
+
+fn keeps_its_rows_through_many_changes<I: Index>(rt: &impl Abort, alloc: Global) -> Result<(), Fail>
+    requires { I.WIDTH ≡ 1 }
+{
+    let mut index = filled::<I>(alloc)?;
+    let before = index.share()?;
+    assert_same!(rt; move_many(alloc, &mut index)?, CHANGES);
+    expect_rows(rt, &before, &index);
+    Ok(())
+}
+
+// Each object is there, in the share as at first and in the index elsewhere.
+fn expect_rows<I: Index>(rt: &impl Abort, before: &I, index: &I) {
+    assert_same!(rt; (how_many(before), unmoved(before)), (OBJECTS, OBJECTS));
+    assert_same!(rt; (how_many(index), unmoved(index)), (OBJECTS, 0));
+}
+
+#[test]
+fn a_share_of_a_flat_index_keeps_its_rows_through_many_changes(
+    rt: HostRuntime,
+) -> Result<(), Fail> {
+    keeps_its_rows_through_many_changes::<FlatIndex>(&rt, rt.alloc())
+}
+
+#[test]
+fn a_share_of_a_trie_keeps_its_rows_through_many_changes(rt: HostRuntime) -> Result<(), Fail> {
+    keeps_its_rows_through_many_changes::<KdTrie>(&rt, rt.alloc())
+}

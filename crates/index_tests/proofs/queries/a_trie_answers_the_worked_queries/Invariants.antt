@@ -1,4 +1,0 @@
-use Rattle.index_tests.proofs.queries.a_trie_answers_the_worked_queries.Given as goal
-
-abbrev pub ghosts-answers_the_worked_queries : goal.ghosts-answers_the_worked_queries
-ghosts-answers_the_worked_queries g a = record { name = a.blank.name; parts = a.blank.parts }

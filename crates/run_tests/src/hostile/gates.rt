@@ -1,0 +1,178 @@
+//! Lanes that wait for each other outside the lock: that they run side by side, and that a query and a split let others go on.
+use crate::hostile::records::{EMPTY_LOG, INSTALL, PUT, Record, front};
+use crate::hostile::runs::{Left, Plan, run_with};
+use io_edge::{Gate, GatePoint};
+use std::alloc::Global;
+use std::process::Abort;
+use std::sync::Wait;
+use std::sync::atomic::{AtomicBool, AtomicU64, Ordering};
+use std::test::Fail;
+use std::thread::{Threads, yield_now};
+use zorder::Point;
+
+// A wait gives up after so many turns.
+const TURNS: u64 = 100_000_000;
+
+// Waits until a word has come to a number, and says whether it did.
+fn comes_to(word: &AtomicU64, number: u64) -> bool {
+    for _ in 0..TURNS {
+        if word.load(Ordering::SeqCst) >= number {
+            return true;
+        }
+        yield_now();
+    }
+    false
+}
+
+// Lane 1 waits at a point until lane 2 has answered twice, and lane 2 at its first answer until lane 1 is there.
+#[derive(Drop)]
+struct Meeting {
+    point: GatePoint,
+    arrivals: AtomicU64,
+    answers: AtomicU64,
+    gave_up: AtomicBool,
+}
+
+impl Meeting {
+    fn at(point: GatePoint) -> Meeting {
+        Meeting {
+            point,
+            arrivals: AtomicU64::new(0),
+            answers: AtomicU64::new(0),
+            gave_up: AtomicBool::new(false),
+        }
+    }
+
+    fn wait(&self, word: &AtomicU64, number: u64) {
+        if !comes_to(word, number) {
+            self.gave_up.store(true, Ordering::SeqCst);
+        }
+    }
+}
+
+impl Gate for Meeting {
+    fn reach(&self, point: GatePoint, lane: u8) {
+        if lane == 1 && point == self.point {
+            self.arrivals.fetch_add(1, Ordering::SeqCst);
+            self.wait(&self.answers, 2);
+        }
+        if lane == 2 && point == GatePoint::Answered {
+            self.answers.fetch_add(1, Ordering::SeqCst);
+            self.wait(&self.arrivals, 1);
+        }
+    }
+}
+
+fn meet<R: Threads + Wait + Sync + Abort>(
+    rt: &R,
+    alloc: Global,
+    point: GatePoint,
+    input: &str,
+) -> Result<Left, Fail> {
+    let meeting = Meeting::at(point);
+    let plan = Plan {
+        words: &["play", "log", "--bucket", "4"],
+        input,
+        file: EMPTY_LOG,
+        reads: &[],
+        puts: &[],
+        calls: &[],
+    };
+    let left = run_with(rt, alloc, &plan, &meeting)?;
+    assert!(rt; !meeting.gave_up.load(Ordering::SeqCst), "a lane gave up");
+    assert!(rt;
+        meeting.arrivals.load(Ordering::SeqCst) > 0,
+        "lane 1 never came"
+    );
+    assert_eq!(rt; left.status, 0);
+    Ok(left)
+}
+
+// A query holds no lock while it is answered, and its answer is the one at its place.
+fn query_beside_put<R: Threads + Wait + Sync + Abort>(rt: &R, alloc: Global) -> Result<(), Fail> {
+    let input = "session,op,id,x,y,a,b\n1,box,,0,0,10,10\n2,where,9,,,,\n2,put,9,3,5,,\n";
+    let left = meet(rt, alloc, GatePoint::Taken, input)?;
+    let taken = left.taken.as_slice();
+    let first = b"row,place,answer,detail\n1,1,found,\n2,2,absent,\n3,3,done,\n".as_slice();
+    let second = b"row,place,answer,detail\n1,2,found,\n2,1,absent,\n3,3,done,\n".as_slice();
+    assert!(rt; taken == first || taken == second);
+    Ok(())
+}
+
+// A put goes on between the begin and the install of its leaf's split.
+fn put_beside_split<R: Threads + Wait + Sync + Abort>(rt: &R, alloc: Global) -> Result<(), Fail> {
+    const HALF: u32 = 1 << 31;
+    let input =
+        "session,op,id,x,y,a,b\n1,put,1,0,0,,\n1,put,2,2147483648,0,,\n1,put,3,0,2147483648,,\n\
+        1,put,4,2147483648,2147483648,,\n1,put,5,1,1,,\n2,where,9,,,,\n2,put,9,2147483648,0,,\n";
+    let left = meet(rt, alloc, GatePoint::Begun, input)?;
+    let put = |id, x, y| Record::at(PUT, id, Point { x, y });
+    let records = [
+        put(1, 0, 0),
+        put(2, HALF, 0),
+        put(3, 0, HALF),
+        put(4, HALF, HALF),
+        put(5, 1, 1),
+        Record::begin(1, 0, 0),
+        put(9, HALF, 0),
+        Record::of(INSTALL, 1),
+    ];
+    assert!(rt; front(left.file.as_slice(), &records) == Some(8));
+    Ok(())
+}
+
+#[test]
+fn queries_and_splits_let_other_lanes_go_on(rt: HostRuntime) -> Result<(), Fail> {
+    query_beside_put(&rt, rt.alloc())?;
+    put_beside_split(&rt, rt.alloc())
+}
+
+// Each of two lanes tells that it has its first answer, and waits until the other tells so too.
+#[derive(Drop)]
+struct Greeting {
+    first: AtomicU64,
+    second: AtomicU64,
+    gave_up: AtomicBool,
+}
+
+impl Gate for Greeting {
+    fn reach(&self, point: GatePoint, lane: u8) {
+        if point != GatePoint::Answered {
+            return;
+        }
+        let (own, other) = if lane == 1 {
+            (&self.first, &self.second)
+        } else {
+            (&self.second, &self.first)
+        };
+        own.store(1, Ordering::SeqCst);
+        if !comes_to(other, 1) {
+            self.gave_up.store(true, Ordering::SeqCst);
+        }
+    }
+}
+
+fn greet<R: Threads + Wait + Sync + Abort>(rt: &R, alloc: Global) -> Result<(), Fail> {
+    let greeting = Greeting {
+        first: AtomicU64::new(0),
+        second: AtomicU64::new(0),
+        gave_up: AtomicBool::new(false),
+    };
+    let plan = Plan {
+        words: &["play", "-"],
+        input: "session,op,id,x,y,a,b\n1,put,1,0,0,,\n2,put,2,1,1,,\n",
+        file: &[],
+        reads: &[],
+        puts: &[],
+        calls: &[],
+    };
+    let left = run_with(rt, alloc, &plan, &greeting)?;
+    assert_eq!(rt; left.status, 0);
+    assert!(rt; !greeting.gave_up.load(Ordering::SeqCst), "a lane gave up");
+    Ok(())
+}
+
+#[test]
+fn two_lanes_see_each_other_under_way(rt: HostRuntime) -> Result<(), Fail> {
+    greet(&rt, rt.alloc())
+}

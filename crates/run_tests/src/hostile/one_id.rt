@@ -1,0 +1,295 @@
+//! One id for all sessions: each line is the one that a single object, changed row by row in the order of the history, gives.
+use crate::hostile::moments::{Trial, judge_images};
+use crate::hostile::records::{DROP, EMPTY_LOG, MOVE, PUT, Record, log_of};
+use crate::hostile::runs::{Left, Plan, must, run_plan};
+use disk_mem::{DiskCall, Fail as Failing};
+use plain_list::{Entry, Lost, Op};
+use std::alloc::{AllocError, Global};
+use std::process::Abort;
+use std::sync::Wait;
+use std::test::Fail;
+use std::thread::Threads;
+use zorder::Point;
+
+// Each session puts the id at a point of its own.
+fn puts(alloc: Global) -> Result<String, AllocError> {
+    let mut text = String::from_str(alloc, "session,op,id,x,y,a,b\n")?;
+    for s in 1..=16 {
+        let row = format!(in alloc; "{s},put,1,{s},0,,\n")?;
+        text.push_str(&row)?;
+    }
+    Ok(text)
+}
+
+// Each session puts, moves, drops and asks for it.
+fn changes(alloc: Global) -> Result<String, AllocError> {
+    let mut text = String::from_str(alloc, "session,op,id,x,y,a,b\n")?;
+    for s in 1..=16 {
+        let rows = format!(in alloc;
+            "{s},put,1,{s},0,,\n{s},move,1,{s},1,,\n{s},drop,1,,,,\n{s},where,1,,,,\n"
+        )?;
+        text.push_str(&rows)?;
+    }
+    Ok(text)
+}
+
+// The row of a session with this number, from 0.
+fn op_of(session: u8, number: u32) -> Op {
+    let x = session as u32;
+    match number {
+        0 => Op::Put {
+            id: 1,
+            at: Point { x, y: 0 },
+        },
+        1 => Op::Move {
+            id: 1,
+            at: Point { x, y: 1 },
+        },
+        2 => Op::Remove { id: 1 },
+        _ => Op::Find { id: 1 },
+    }
+}
+
+// What a row comes to: its answer, the point behind that, and the record of its change.
+#[derive(Clone, Copy)]
+struct Reply(&'static str, Option<Point>, Option<Record>);
+
+fn reply_of(object: Option<Point>, op: &Op) -> Reply {
+    match (*op, object) {
+        (Op::Put { id, at }, None) => Reply("done", None, Some(Record::at(PUT, id, at))),
+        (Op::Put { .. }, Some(_)) => Reply("present", object, None),
+        (_, None) => Reply("absent", None, None),
+        (Op::Move { id, at }, Some(_)) => Reply("moved", object, Some(Record::at(MOVE, id, at))),
+        (Op::Remove { id }, Some(_)) => Reply("gone", object, Some(Record::of(DROP, id))),
+        (_, Some(_)) => Reply("at", object, None),
+    }
+}
+
+fn line_of(alloc: Global, row: u32, place: u64, reply: &Reply) -> Result<String, AllocError> {
+    let Reply(word, point, _) = *reply;
+    match point {
+        Some(Point { x, y }) => format!(in alloc; "{row},{place},{word},{x}:{y}\n"),
+        None => format!(in alloc; "{row},{place},{word},\n"),
+    }
+}
+
+// A history told anew: where the object is, the records of its changes, the line of each row at its place in the input, and how many rows
+// of each session were called. Where an append failed, its record is the last one.
+#[derive(Drop)]
+struct Tale {
+    each: u32,
+    object: Option<Point>,
+    records: Vec<Record>,
+    lines: Vec<String>,
+    called: Vec<u32>,
+    place: u64,
+}
+
+fn no_lines(alloc: Global, rows: u32) -> Result<Vec<String>, AllocError> {
+    let mut lines = Vec::new(alloc);
+    for _ in 0..rows {
+        lines.push(String::new(alloc))?;
+    }
+    Ok(lines)
+}
+
+impl Tale {
+    fn new(alloc: Global, each: u32) -> Result<Tale, AllocError> {
+        Ok(Tale {
+            each,
+            object: None,
+            records: Vec::new(alloc),
+            lines: no_lines(alloc, each.saturating_mul(16))?,
+            called: vec![in alloc; 0; 16]?,
+            place: 0,
+        })
+    }
+
+    // Whether this is the session's next row, which is then called.
+    fn is_next(&mut self, session: u8, row: u32, op: &Op) -> bool {
+        let before = (session as u32).saturating_sub(1);
+        let Some(slot) = self.called.get_mut(before as usize) else {
+            return false;
+        };
+        let number = *slot;
+        *slot = number.saturating_add(1);
+        let place = before.saturating_mul(self.each).saturating_add(number);
+        number < self.each && row == place.saturating_add(1) && *op == op_of(session, number)
+    }
+
+    fn set_line(&mut self, row: u32, line: String) {
+        if let Some(slot) = self.lines.get_mut((row as usize).saturating_sub(1)) {
+            *slot = line;
+        }
+    }
+
+    fn change(&mut self, record: Option<Record>) -> Result<(), AllocError> {
+        if let Some(record) = record {
+            self.records.push(record)?;
+            self.object = if record.kind == DROP {
+                None
+            } else {
+                Some(record.point())
+            };
+        }
+        Ok(())
+    }
+
+    fn call(&mut self, alloc: Global, row: u32, op: &Op) -> Result<(), AllocError> {
+        let reply = reply_of(self.object, op);
+        self.place = self.place.saturating_add(1);
+        let line = line_of(alloc, row, self.place, &reply)?;
+        self.set_line(row, line);
+        let Reply(_, _, record) = reply;
+        self.change(record)
+    }
+
+    fn add(&mut self, alloc: Global, event: &Entry) -> Result<(), Fail> {
+        match *event {
+            Entry::Call { session, row, op } if self.is_next(session, row, &op) => {
+                Ok(self.call(alloc, row, &op)?)
+            }
+            Entry::Fail {
+                lost: Lost::Call { op, .. },
+                ..
+            } => {
+                let Reply(_, _, record) = reply_of(self.object, &op);
+                Ok(self.change(record)?)
+            }
+            _ => Err(Fail::new("neither a session's next row nor a failed one")),
+        }
+    }
+
+    fn output(&self, alloc: Global) -> Result<String, AllocError> {
+        let mut text = String::from_str(alloc, "row,place,answer,detail\n")?;
+        for line in self.lines.iter() {
+            text.push_str(line)?;
+        }
+        Ok(text)
+    }
+}
+
+// Tells the history of a run of so many rows of each session.
+fn told(alloc: Global, each: u32, events: &[Entry]) -> Result<Tale, Fail> {
+    let mut tale = Tale::new(alloc, each)?;
+    for event in events {
+        tale.add(alloc, event)?;
+    }
+    Ok(tale)
+}
+
+// Plays rows over a log of no records with these calls failing.
+fn play<R: Threads + Wait + Sync>(
+    rt: &R,
+    alloc: Global,
+    input: &str,
+    calls: &[Failing],
+) -> Result<Left, Fail> {
+    let plan = Plan {
+        words: &["play", "log", "--bucket", "4"],
+        input,
+        file: EMPTY_LOG,
+        reads: &[],
+        puts: &[],
+        calls,
+    };
+    run_plan(rt, alloc, &plan)
+}
+
+fn judge<R: Abort>(rt: &R, tale: &Tale, left: &Left, is_closed: bool) {
+    let trial = Trial {
+        file: EMPTY_LOG,
+        first: 0,
+        records: tale.records.as_slice(),
+        is_closed,
+    };
+    judge_images(rt, &trial, left);
+}
+
+// A run of so many rows of each session, where nothing fails. It gives how many records it left.
+fn race<R: Threads + Wait + Sync + Abort>(
+    rt: &R,
+    alloc: Global,
+    input: &str,
+    each: u32,
+    round: u64,
+) -> Result<usize, Fail> {
+    let left = play(rt, alloc, input, &[])?;
+    let tale = told(alloc, each, left.events.as_slice())?;
+    let output = tale.output(alloc)?;
+    let log = log_of(alloc, tale.records.as_slice(), &[0])?;
+    must(
+        rt,
+        tale.place == tale.lines.len() as u64,
+        "rows of round",
+        round,
+    );
+    must(rt, left.tells(0, &output), "lines of round", round);
+    let is_held = left.file.as_slice() == log.as_slice();
+    must(rt, is_held, "file of round", round);
+    judge(rt, &tale, &left, false);
+    Ok(tale.records.len())
+}
+
+fn race_puts<R: Threads + Wait + Sync + Abort>(rt: &R, alloc: Global) -> Result<(), Fail> {
+    let input = puts(alloc)?;
+    for round in 0..20 {
+        let count = race(rt, alloc, &input, 1, round)?;
+        must(rt, count == 1, "records of round", round);
+    }
+    Ok(())
+}
+
+#[test]
+fn one_put_of_one_id_is_done_of_16_sessions(rt: HostRuntime) -> Result<(), Fail> {
+    race_puts(&rt, rt.alloc())
+}
+
+fn race_changes<R: Threads + Wait + Sync + Abort>(rt: &R, alloc: Global) -> Result<(), Fail> {
+    let input = changes(alloc)?;
+    for round in 0..20 {
+        race(rt, alloc, &input, 4, round)?;
+    }
+    Ok(())
+}
+
+#[test]
+fn sixteen_sessions_on_one_id_have_one_history(rt: HostRuntime) -> Result<(), Fail> {
+    race_changes(&rt, rt.alloc())
+}
+
+// A run where a sync fails. Whichever session drops the id first has moved it before, behind a put: at least three appends, each with two
+// syncs, behind the one of opening.
+fn race_and_fail<R: Threads + Wait + Sync + Abort>(
+    rt: &R,
+    alloc: Global,
+    input: &str,
+    round: u64,
+) -> Result<(), Fail> {
+    let cell = round % 6 / 2;
+    let failing = Failing {
+        call: DiskCall::Sync,
+        number: (round % 6).saturating_add(2),
+    };
+    let left = play(rt, alloc, input, &[failing])?;
+    let tale = told(alloc, 4, left.events.as_slice())?;
+    let line = format!(in alloc; "refused disk cell {cell}\n")?;
+    must(rt, left.tells(7, &line), "line of round", round);
+    let is_counted = tale.records.len() as u64 == cell.saturating_add(1);
+    must(rt, is_counted, "records of round", round);
+    judge(rt, &tale, &left, true);
+    Ok(())
+}
+
+fn fail_each<R: Threads + Wait + Sync + Abort>(rt: &R, alloc: Global) -> Result<(), Fail> {
+    let input = changes(alloc)?;
+    for round in 0..60 {
+        race_and_fail(rt, alloc, &input, round)?;
+    }
+    Ok(())
+}
+
+#[test]
+fn a_failing_sync_ends_the_one_history_of_16_sessions(rt: HostRuntime) -> Result<(), Fail> {
+    fail_each(&rt, rt.alloc())
+}

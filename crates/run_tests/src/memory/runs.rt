@@ -1,0 +1,150 @@
+//! Runs over ends in memory.
+use crate::memory::faults::Faults;
+use crate::memory::inputs::words;
+use crate::memory::left::Left;
+use crate::memory::noting::NotingDisk;
+use disk_mem::MemDisk;
+use disk_trait::LogDisk;
+use io_edge::{Gate, MemSink, MemSource, OpenGate, Sink, Source};
+use location_run::{Outcome, run};
+use std::alloc::Global;
+use std::sync::Wait;
+use std::thread::Threads;
+use zorder::Memory;
+
+// How long a file may grow, and all that is written to it; how many calls may reach it; how much the sink takes. A few objects near each
+// other take up to 64 splits, of eight calls each.
+const ROOM: usize = 1 << 16;
+
+const CALLS: usize = 1 << 14;
+
+const OUTPUT: usize = 1 << 18;
+
+/// A run of these words and this input over a file with these bytes.
+pub fn run_on<R: Threads + Wait + Sync>(
+    rt: &R,
+    alloc: Global,
+    all: &[&str],
+    input: &str,
+    file: &[u8],
+    faults: &Faults<'_>,
+) -> Result<Left, Memory> {
+    run_gated(rt, alloc, all, input, file, faults, &OpenGate)
+}
+
+/// The same with this hook.
+pub fn run_gated<R: Threads + Wait + Sync, G: Gate + Sync>(
+    rt: &R,
+    alloc: Global,
+    all: &[&str],
+    input: &str,
+    file: &[u8],
+    faults: &Faults<'_>,
+    gate: &G,
+) -> Result<Left, Memory> {
+    let calls = faults.calls.to_vec(alloc)?;
+    let disk = MemDisk::new(alloc, file.to_vec(alloc)?, ROOM, CALLS, calls)?;
+    run_disk(rt, alloc, all, input, disk, faults, gate)
+}
+
+/// The same over drives that fail at each call.
+pub fn run_apart<R: Threads + Wait + Sync>(
+    rt: &R,
+    alloc: Global,
+    all: &[&str],
+    input: &str,
+    faults: &Faults<'_>,
+) -> Result<Left, Memory> {
+    let disk = failing_disk(alloc)?;
+    run_over(rt, alloc, all, input, disk, faults)
+}
+
+// A drive that fails at each call.
+fn failing_disk(alloc: Global) -> Result<MemDisk, Memory> {
+    MemDisk::new(alloc, Vec::new(alloc), 0, 0, Vec::new(alloc))
+}
+
+/// The same over a drive.
+pub fn run_over<R: Threads + Wait + Sync>(
+    rt: &R,
+    alloc: Global,
+    all: &[&str],
+    input: &str,
+    disk: MemDisk,
+    faults: &Faults<'_>,
+) -> Result<Left, Memory> {
+    run_disk(rt, alloc, all, input, disk, faults, &OpenGate)
+}
+
+fn run_disk<R: Threads + Wait + Sync, G: Gate + Sync>(
+    rt: &R,
+    alloc: Global,
+    all: &[&str],
+    input: &str,
+    disk: MemDisk,
+    faults: &Faults<'_>,
+    gate: &G,
+) -> Result<Left, Memory> {
+    let words = words(alloc, all)?;
+    let source = source_of(alloc, input, faults.reads)?;
+    let sink = sink_of(alloc, faults.puts)?;
+    let other = NotingDisk::new(alloc, failing_disk(alloc)?);
+    let disk = NotingDisk::new(alloc, disk);
+    run_all(rt, alloc, words.as_slice(), source, sink, disk, other, gate)
+}
+
+fn source_of(alloc: Global, input: &str, failing: &[u64]) -> Result<MemSource, Memory> {
+    let bytes = input.as_bytes().to_vec(alloc)?;
+    Ok(MemSource::new(bytes, failing.to_vec(alloc)?))
+}
+
+fn sink_of(alloc: Global, failing: &[u64]) -> Result<MemSink, Memory> {
+    MemSink::new(alloc, OUTPUT, failing.to_vec(alloc)?)
+}
+
+// The one call of `run`, over any ends.
+fn run_ends<R: Threads + Wait + Sync, S: Source, K: Sink, D: LogDisk + Send, G: Gate + Sync>(
+    rt: &R,
+    alloc: Global,
+    words: &[String],
+    source: &mut S,
+    sink: &mut K,
+    disk: D,
+    other: D,
+    gate: &G,
+) -> Outcome<D> {
+    run(rt, alloc, words, source, sink, disk, other, gate)
+}
+
+fn run_all<R: Threads + Wait + Sync, G: Gate + Sync>(
+    rt: &R,
+    alloc: Global,
+    words: &[String],
+    mut source: MemSource,
+    mut sink: MemSink,
+    disk: NotingDisk,
+    other: NotingDisk,
+    gate: &G,
+) -> Result<Left, Memory> {
+    let outcome = run_ends(rt, alloc, words, &mut source, &mut sink, disk, other, gate);
+    let taken = sink.bytes().to_vec(alloc)?;
+    Ok(left_of(outcome, taken))
+}
+
+fn left_of(outcome: Outcome<NotingDisk>, taken: Vec<u8>) -> Left {
+    let Outcome {
+        status,
+        disk,
+        other,
+        events,
+    } = outcome;
+    let NotingDisk { disk, attaches } = disk;
+    Left {
+        status,
+        taken,
+        disk,
+        events,
+        attaches,
+        others: other.attaches.len(),
+    }
+}

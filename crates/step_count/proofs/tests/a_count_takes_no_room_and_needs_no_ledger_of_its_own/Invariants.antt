@@ -1,4 +1,0 @@
-use Rattle.step_count.proofs.tests.a_count_takes_no_room_and_needs_no_ledger_of_its_own.Given as goal
-
-abbrev pub ghosts-count : goal.ghosts-count
-ghosts-count g a = record { name = a.blank.name; parts = a.blank.parts }
