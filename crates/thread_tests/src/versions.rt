@@ -161,6 +161,26 @@ fn ask_before<I: Index, D: LogDisk, R: Wait, G: Gate>(
     answer
 }
 
+// The answer to the box, with the puts beside it or after it.
+fn ask_with<R: Threads + Wait + Sync, G: Gate + Sync>(
+    rt: &R,
+    alloc: Global,
+    store: &NumberedStore,
+    gate: &G,
+    beside: bool,
+    one: &mut NumberedPass,
+    two: &mut NumberedPass,
+) -> Result<Done, CallFault>
+    requires { IsFree store.now one.old × IsFree store.now two.old }
+    ensures { KeepsPass one.old one.new × KeepsPass two.old two.new }
+{
+    if beside {
+        ask_beside(rt, alloc, store, gate, one, two)
+    } else {
+        ask_before(rt, alloc, store, gate, one, two)
+    }
+}
+
 fn ask_in<R: Threads + Wait + Sync, G: Gate + Sync>(
     rt: &R,
     alloc: Global,
@@ -174,11 +194,7 @@ fn ask_in<R: Threads + Wait + Sync, G: Gate + Sync>(
     ensures { KeepsPass one.old one.new }
 {
     let mut two = store.split_pass(one);
-    let answer = if beside {
-        ask_beside(rt, alloc, store, gate, one, &mut two)
-    } else {
-        ask_before(rt, alloc, store, gate, one, &mut two)
-    };
+    let answer = ask_with(rt, alloc, store, gate, beside, one, &mut two);
     store.join_pass(one, two);
     answer
 }

@@ -1,4 +1,4 @@
-use Rattle.std.proofs.Common.{rules, ◌≡◌, ◌∙◌, inl, inr, ◌<◌, ◌++◌, length, take, drop, sym, ap, subst, arith}
+use Rattle.std.proofs.Common.{◌≡◌, ◌∙◌, inl, inr, ◌<◌, ◌++◌, length, take, drop, sym, ap, subst, arith}
 use Rattle.std.specs.Prelude.{slice_index_or}
 use Rattle.book_lock.specs.Pass.{Known}
 use Rattle.sessions.specs.Lanes.{IsReady}
@@ -37,7 +37,7 @@ gather-requires-2-clause-idle g c =
     let after = c.run_lanes.new.lanes in
     let value = c.as_mut_slice.ensures.value in
     let has = subst (λ l. HasDealt c.args.store.now c.args.rows.now 16 l c.deal.new.pass) (sym value) c.in-Ok-deal.ensures.all in
-    let same : length after ≡ length before = search rules in
+    let same : length after ≡ length before = c.run_lanes.auto.lanes in
     let back : take c.deal.new.lanes.len (after ++ drop (length after) c.deal.new.lanes.items) ≡ after = written-back c.deal.new.lanes.len after c.deal.new.lanes.items (same ∙ ap length value) c.deal.new.lanes.ok.0 in
     subst (λ l. AreIdle c.args.store.now l) (sym back) (run-idle g.I.Index.WIDTH c.args.store.now c.args.rows.now c.deal.new.pass before after has same c.run_lanes.ensures)
 
@@ -47,7 +47,7 @@ gather-requires-2-clause-room g c =
     let after = c.run_lanes.new.lanes in
     let value = c.as_mut_slice.ensures.value in
     let has = subst (λ l. HasDealt c.args.store.now c.args.rows.now 16 l c.deal.new.pass) (sym value) c.in-Ok-deal.ensures.all in
-    let same : length after ≡ length before = search rules in
+    let same : length after ≡ length before = c.run_lanes.auto.lanes in
     let back : take c.deal.new.lanes.len (after ++ drop (length after) c.deal.new.lanes.items) ≡ after = written-back c.deal.new.lanes.len after c.deal.new.lanes.items (same ∙ ap length value) c.deal.new.lanes.ok.0 in
     let few = lanes-few c.args.store.now c.args.rows.now 16 before c.deal.new.pass has in
     omega (arith, c.in-Ok.ensures.ok, few, same, ap length back)
@@ -58,7 +58,7 @@ returns-then-not-calm-clause-ran g c =
     let after = c.run_lanes.new.lanes in
     let value = c.as_mut_slice.ensures.value in
     let has = subst (λ l. HasDealt c.args.store.now c.args.rows.now 16 l c.deal.new.pass) (sym value) c.in-Ok-deal.ensures.all in
-    let same : length after ≡ length before = search rules in
+    let same : length after ≡ length before = c.run_lanes.auto.lanes in
     let back : take c.deal.new.lanes.len (after ++ drop (length after) c.deal.new.lanes.items) ≡ after = written-back c.deal.new.lanes.len after c.deal.new.lanes.items (same ∙ ap length value) c.deal.new.lanes.ok.0 in
     let takes = subst (λ l. Takes c.deal.new.pass c.gather-2.new.pass l) back c.gather-2.ensures.takes in
     let ends_are : c.gather-2.new.ends.items ≡ ends_of after = c.gather-2.ensures.ends ∙ (λ j. (c.reserve.ensures.items ∙ c.requires.none) j ++ ends_of (back j)) in
@@ -70,7 +70,7 @@ returns-clause-ran g c =
     let after = c.run_lanes.new.lanes in
     let value = c.as_mut_slice.ensures.value in
     let has = subst (λ l. HasDealt c.args.store.now c.args.rows.now 16 l c.deal.new.pass) (sym value) c.in-Ok-deal.ensures.all in
-    let same : length after ≡ length before = search rules in
+    let same : length after ≡ length before = c.run_lanes.auto.lanes in
     let back : take c.deal.new.lanes.len (after ++ drop (length after) c.deal.new.lanes.items) ≡ after = written-back c.deal.new.lanes.len after c.deal.new.lanes.items (same ∙ ap length value) c.deal.new.lanes.ok.0 in
     let takes = subst (λ l. Takes c.deal.new.pass c.gather-2.new.pass l) back c.gather-2.ensures.takes in
     let ends_are : c.gather-2.new.ends.items ≡ ends_of after = c.gather-2.ensures.ends ∙ (λ j. (c.reserve.ensures.items ∙ c.requires.none) j ++ ends_of (back j)) in
