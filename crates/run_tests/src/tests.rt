@@ -138,18 +138,24 @@ fn is_told_usage(left: &Left) -> bool {
     left.tells(2, "refused usage\n") && left.history().is_empty()
 }
 
+const OTHER_WORDS: &[&[&str]] = &[
+    &["play"],
+    &["init", "-"],
+    &["check", ""],
+    &["play", "-log"],
+    &["play", "", "--bucket", "4"],
+    &["play", "-", "--bucket", "3"],
+    &["play", "-", "--bucket", "4097"],
+    &["play", "--bucket", "4", "-"],
+];
+
 fn refuses_other_words<R: Abort + Threads + Wait + Sync>(
     rt: &R,
     alloc: Global,
 ) -> Result<(), Fail> {
-    assert_so!(rt; is_usage(rt, alloc, &["play"]));
-    assert_so!(rt; is_usage(rt, alloc, &["init", "-"]));
-    assert_so!(rt; is_usage(rt, alloc, &["check", ""]));
-    assert_so!(rt; is_usage(rt, alloc, &["play", "-log"]));
-    assert_so!(rt; is_usage(rt, alloc, &["play", "", "--bucket", "4"]));
-    assert_so!(rt; is_usage(rt, alloc, &["play", "-", "--bucket", "3"]));
-    assert_so!(rt; is_usage(rt, alloc, &["play", "-", "--bucket", "4097"]));
-    assert_so!(rt; is_usage(rt, alloc, &["play", "--bucket", "4", "-"]));
+    for words in OTHER_WORDS {
+        assert_so!(rt; is_usage(rt, alloc, words));
+    }
     let largest = &["play", "-", "--bucket", "4096"];
     assert_so!(rt; tells(rt, alloc, largest, "", well("row,place,answer,detail\n")));
     Ok(())

@@ -27,33 +27,33 @@ fn is_untouched(left: &Left) -> bool {
     left.attaches().is_empty() && left.history().is_empty() && is_left(left, wanted, PUT_LOG)
 }
 
-fn refuses_words<R: Abort + Threads + Wait + Sync>(rt: &R, alloc: Global) -> Result<(), Fail> {
-    assert_so!(rt; is_usage(rt, alloc, &[]));
-    assert_so!(rt; is_usage(rt, alloc, &["play"]));
-    assert_so!(rt; is_usage(rt, alloc, &["play", "log", "--bucket", "3"]));
-    assert_so!(rt; is_usage(rt, alloc, &["play", "log", "--bucket"]));
-    assert_so!(rt; is_usage(rt, alloc, &["init", "-"]));
-    assert_so!(rt; is_usage(rt, alloc, &["init", "log", "log"]));
-    assert_so!(rt; is_usage(rt, alloc, &["show", "log", "5", "0", "4", "0"]));
-    assert_so!(rt; is_usage(rt, alloc, &["show", "log", "0", "1", "0", "0"]));
-    assert_so!(rt; is_usage(rt, alloc, &["show", "log", "0", "0", "0", "4294967296"]));
-    assert_so!(rt; is_usage(rt, alloc, &["show", "-", "0", "0", "1", "1"]));
-    assert_so!(rt; is_usage(rt, alloc, &["--help"]));
-    Ok(())
-}
+const OTHER_WORDS: &[&[&str]] = &[
+    &[],
+    &["play"],
+    &["play", "log", "--bucket", "3"],
+    &["play", "log", "--bucket"],
+    &["init", "-"],
+    &["init", "log", "log"],
+    &["show", "log", "5", "0", "4", "0"],
+    &["show", "log", "0", "1", "0", "0"],
+    &["show", "log", "0", "0", "0", "4294967296"],
+    &["show", "-", "0", "0", "1", "1"],
+    &["--help"],
+    &["trial", "-", "0", "1"],
+    &["trial", "-", "65537", "1"],
+    &["trial", "log", "1", "18446744073709551616"],
+    &["trial", "log", "1"],
+    &["trial", "log", "1", "1", "--bucket", "4"],
+];
 
-fn refuses_trials<R: Abort + Threads + Wait + Sync>(rt: &R, alloc: Global) -> Result<(), Fail> {
-    assert_so!(rt; is_usage(rt, alloc, &["trial", "-", "0", "1"]));
-    assert_so!(rt; is_usage(rt, alloc, &["trial", "-", "65537", "1"]));
-    assert_so!(rt; is_usage(rt, alloc, &["trial", "log", "1", "18446744073709551616"]));
-    assert_so!(rt; is_usage(rt, alloc, &["trial", "log", "1"]));
-    assert_so!(rt; is_usage(rt, alloc, &["trial", "log", "1", "1", "--bucket", "4"]));
+fn refuses_words<R: Abort + Threads + Wait + Sync>(rt: &R, alloc: Global) -> Result<(), Fail> {
+    for words in OTHER_WORDS {
+        assert_so!(rt; is_usage(rt, alloc, words));
+    }
     Ok(())
 }
 
 #[test]
 fn other_words_are_usage_and_touch_nothing(rt: HostRuntime) -> Result<(), Fail> {
-    let alloc = rt.alloc();
-    refuses_words(&rt, alloc)?;
-    refuses_trials(&rt, alloc)
+    refuses_words(&rt, rt.alloc())
 }

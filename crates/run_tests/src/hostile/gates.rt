@@ -1,6 +1,6 @@
 //! Lanes that wait for each other outside the lock: that they run side by side, and that a query and a split let others go on.
 use crate::hostile::records::{EMPTY_LOG, INSTALL, PUT, Record, front};
-use crate::hostile::runs::{Left, Plan, run_with};
+use crate::hostile::runs::{Left, Plan, must, run_with};
 use io_edge::{Gate, GatePoint};
 use std::alloc::Global;
 use std::process::Abort;
@@ -79,12 +79,12 @@ fn meet<R: Threads + Wait + Sync + Abort>(
         calls: &[],
     };
     let left = run_with(rt, alloc, &plan, &meeting)?;
-    assert!(rt; !meeting.gave_up.load(Ordering::SeqCst), "a lane gave up");
-    assert!(rt;
-        meeting.arrivals.load(Ordering::SeqCst) > 0,
-        "lane 1 never came"
-    );
-    assert_eq!(rt; left.status, 0);
+    let status = left.status as u64;
+    let gave_up = meeting.gave_up.load(Ordering::SeqCst);
+    must(rt, !gave_up, "a lane gave up, with status", status);
+    let arrivals = meeting.arrivals.load(Ordering::SeqCst);
+    must(rt, arrivals > 0, "how often lane 1 came:", arrivals);
+    must(rt, status == 0, "status", status);
     Ok(left)
 }
 
@@ -95,7 +95,7 @@ fn query_beside_put<R: Threads + Wait + Sync + Abort>(rt: &R, alloc: Global) -> 
     let taken = left.taken.as_slice();
     let first = b"row,place,answer,detail\n1,1,found,\n2,2,absent,\n3,3,done,\n".as_slice();
     let second = b"row,place,answer,detail\n1,2,found,\n2,1,absent,\n3,3,done,\n".as_slice();
-    assert!(rt; taken == first || taken == second);
+    must(rt, taken == first || taken == second, "lines of lanes", 2);
     Ok(())
 }
 
@@ -117,7 +117,8 @@ fn put_beside_split<R: Threads + Wait + Sync + Abort>(rt: &R, alloc: Global) -> 
         put(9, HALF, 0),
         Record::of(INSTALL, 1),
     ];
-    assert!(rt; front(left.file.as_slice(), &records) == Some(8));
+    let is_whole = front(left.file.as_slice(), &records) == Some(8);
+    must(rt, is_whole, "how many records are wanted:", 8);
     Ok(())
 }
 
@@ -167,8 +168,10 @@ fn greet<R: Threads + Wait + Sync + Abort>(rt: &R, alloc: Global) -> Result<(), 
         calls: &[],
     };
     let left = run_with(rt, alloc, &plan, &greeting)?;
-    assert_eq!(rt; left.status, 0);
-    assert!(rt; !greeting.gave_up.load(Ordering::SeqCst), "a lane gave up");
+    let status = left.status as u64;
+    must(rt, status == 0, "status", status);
+    let gave_up = greeting.gave_up.load(Ordering::SeqCst);
+    must(rt, !gave_up, "a lane gave up, with status", status);
     Ok(())
 }
 
