@@ -5,7 +5,7 @@ use Rattle.std.specs.Result.{IsErrAnd}
 use Rattle.causes.specs.Causes.{Rose}
 use Rattle.disk_trait.specs.Drive.{Drive, SameFile, Stays}
 use Rattle.recovery.specs.declared.seen.OpenFault.{OpenFault}
-use Rattle.recovery.specs.declared.seen.OpenFault.TheVariants.{Disk}
+use Rattle.recovery.specs.declared.seen.OpenFault.TheVariants.{Disk, Memory}
 use Rattle.recovery.specs.declared.pieces.Stop.TheVariants.{Set}
 use Rattle.recovery.specs.Faults.{IsFault}
 use Rattle.recovery.specs.Walk.{WalkView}
@@ -119,3 +119,12 @@ reads_after a b c result stays same file reads = record {
   failed = λ disk. rose-earlier a.faults b.faults c.faults (omega (arith, same)) (reads.failed disk);
   file = λ name make at. reads.file name make (file name make at);
 }
+
+-- a reading that ends with the drive's fault, and one that ends since memory ran out
+pub reads_failed : {T : Type 0} (a b : Drive) (result : Result T OpenFault) → IsErrAnd result (λ e. e ≡ Disk) → Stays a b → a.faults ≤ b.faults → Rose a.faults b.faults → SameFile a b → OnlyReads a b result
+reads_failed a b (Ok x) same stays later rose file = absurd same
+reads_failed a b (Err e) same stays later rose file = record { stays = stays; later = later; same = λ other. absurd (other same); failed = λ disk. rose; file = file }
+
+pub reads_memory : {T : Type 0} (a b : Drive) (result : Result T OpenFault) → IsErrAnd result (λ e. e ≡ Memory) → Stays a b → b.faults ≡ a.faults → SameFile a b → OnlyReads a b result
+reads_memory a b (Ok x) same stays calm file = absurd same
+reads_memory a b (Err e) same stays calm file = record { stays = stays; later = omega (arith, calm); same = λ other. calm; failed = λ disk. cc (same, disk); file = file }

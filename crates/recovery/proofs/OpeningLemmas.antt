@@ -6,7 +6,7 @@ use Rattle.causes.specs.Causes.{Rose}
 use Rattle.std.proofs.lemmas.List.{take_at, take-append-drop}
 use Rattle.cell_format.specs.declared.cell.Cell.{Cell}
 use Rattle.disk_trait.specs.declared.disk.DiskFault.{DiskFault}
-use Rattle.disk_trait.specs.Drive.{Drive, SameFile, KeepsLaws, Stays, Shortened, Cuts, Syncs, Only}
+use Rattle.disk_trait.specs.Drive.{Drive, SameFile, KeepsLaws, Stays, Shortened, Cuts, Syncs, Only, CountsFaults}
 use Rattle.disk_trait.specs.Moments.{LeavesNow, LeavesOnly}
 use Rattle.disk_trait.proofs.Stretches.{started, goes_on}
 use Rattle.split_log.specs.LogText.{IsLogText, HoldsCells}
@@ -157,3 +157,8 @@ refused_cut w most a b c seen kept found = record {
   calm = λ other. absurd (other refl);
   no_log = λ bytes told none. absurd (none found.cells (found.recovers bytes (kept ∙ told)) found.few);
 }
+
+-- a fault of a device call, passed on
+pub counts_on : {T : Type 0} (a b : Drive) (result : Result T DiskFault) (fault : DiskFault) → IsErrAnd result (λ e. e ≡ fault) → a.faults ≤ b.faults → Rose a.faults b.faults → SameFile a b → CountsFaults a b result
+counts_on a b (Ok x) fault same later rose file = absurd same
+counts_on a b (Err e) fault same later rose file = record { later = later; same = tt; failed = rose; file = file }

@@ -1,3 +1,5 @@
+use Rattle.recovery.proofs.OnlyReading.{reads_failed}
+use Rattle.recovery.proofs.OpeningLemmas.{not_ok}
 use Rattle.recovery.proofs.PieceLemmas.{passed_on}
 use Rattle.recovery.proofs.ReadingLemmas.{broken, ended, went_on, cut_short}
 use Rattle.std.proofs.Common.{arith}
@@ -26,3 +28,19 @@ returns-in-Set-2-clause-err g c =
     rw c.damaged-in-Set-2.ensures
     (cut_short c.args.most c.args.len c.args.cells c.in_ok-got.got (g.D.LogDisk.drive c.args.disk.now) c.args.walk.now c.read_piece.new.buffer c.requires.came c.in_ok-got.ensures.ok
     c.walk_piece.new.walk c.walk_piece.ensures.width c.in-Set.number (omega (arith, c.if-got-eq-PIECE.false, c.in_ok-got.ensures.ok.0)) walks)
+
+pub returns-in_err-got-clause-ok : goal.returns-in_err-got-clause-ok
+returns-in_err-got-clause-ok g c =
+    not_ok c.from_residual.result _ _ c.from_residual.ensures.1
+
+pub returns-in_err-got-clause-err : goal.returns-in_err-got-clause-err
+returns-in_err-got-clause-err g c =
+    passed_on c.from_residual.result _ _ c.from_residual.ensures.1 (λ xs told. tt)
+
+pub returns-in_err-got-clause-reads : goal.returns-in_err-got-clause-reads
+returns-in_err-got-clause-reads g c =
+    reads_failed (g.D.LogDisk.drive c.args.disk.now) (g.D.LogDisk.drive c.read_piece.new.disk) c.from_residual.result c.from_residual.ensures.1 c.read_piece.ensures.stays c.read_piece.ensures.cause.later c.in_err-got.ensures.cause.failed c.read_piece.ensures.cause.file
+
+pub returns-in_err-all-clause-ok : goal.returns-in_err-all-clause-ok
+returns-in_err-all-clause-ok g c =
+    not_ok c.from_residual-in_err-all.result _ _ c.from_residual-in_err-all.ensures.1
