@@ -1,6 +1,6 @@
 -- Calls that only read, one after the other.
 use Rattle.std.proofs.Common.{◌≡◌, ◌≢◌, ℕ, ◌≤◌, List, length, Some, sym, ◌∙◌, ap, subst, arith}
-use Rattle.std.specs.Prelude.{Result, Ok, Err, MatchResult, IsErrOf}
+use Rattle.std.specs.Prelude.{Result, Ok, Err, IfErr, MatchResult, IsErrOf}
 use Rattle.std.specs.Result.{IsErrAnd}
 use Rattle.causes.specs.Causes.{Rose}
 use Rattle.disk_trait.specs.Drive.{Drive, SameFile, Stays}
@@ -128,3 +128,8 @@ reads_failed a b (Err e) same stays later rose file = record { stays = stays; la
 pub reads_memory : {T : Type 0} (a b : Drive) (result : Result T OpenFault) → IsErrAnd result (λ e. e ≡ Memory) → Stays a b → b.faults ≡ a.faults → SameFile a b → OnlyReads a b result
 reads_memory a b (Ok x) same stays calm file = absurd same
 reads_memory a b (Err e) same stays calm file = record { stays = stays; later = omega (arith, calm); same = λ other. calm; failed = λ disk. cc (same, disk); file = file }
+
+-- a reading whose last answer isn't the drive's
+pub reads_sound : {T : Type 0} (a b : Drive) (result : Result T OpenFault) → Stays a b → b.faults ≡ a.faults → SameFile a b → IfErr result (λ e. e ≢ Disk) → OnlyReads a b result
+reads_sound a b (Ok x) stays calm file sound = record { stays = stays; later = omega (arith, calm); same = calm; failed = λ disk. cc disk; file = file }
+reads_sound a b (Err e) stays calm file sound = record { stays = stays; later = omega (arith, calm); same = λ other. calm; failed = λ disk. absurd (sound (cc disk)); file = file }

@@ -226,3 +226,7 @@ piece_read drive at room most buffer into rest (Ok n) is long same reads = (
       (read.0 ∙ ap (λ (k : ℕ). min k (length xs - at)) (long ∙ sym is), take-append-le n into rest (omega (arith, reads.0, same)) ∙ read.1),
 )
 piece_read drive at room most buffer into rest (Err e) is long same reads = tt
+
+-- what is at fault in a piece is no fault of the drive
+pub breaks_sound : (w most from : ℕ) (s : State) (piece : List ℕ) (why : OpenFault) → Breaks w most from s piece why → why ≢ fault.Disk
+breaks_sound w most from s piece why breaks disk = subst (λ f. FailsAt w most (from + length breaks.cells) (cells_after w s breaks.cells) breaks.tail f) disk breaks.fails

@@ -1,4 +1,4 @@
-use Rattle.std.proofs.Common.{Err, ap, ◌∙◌, arith}
+use Rattle.std.proofs.Common.{Err, ap, sym, ◌∙◌, arith}
 use Rattle.recovery.proofs.PieceLemmas.{passed_on}
 use Rattle.recovery.proofs.OnlyReading.{found_before}
 use Rattle.recovery.proofs.OpeningLemmas.{leaves-sync, keeps_cells, is_ready, not_ok, rose_on, refused_sync, refused_read, refused_cut}
@@ -123,3 +123,15 @@ returns-clause-ready g c =
     (c.in_ok-cut_behind.ensures.cause.same ∙ c.in_ok-found.ensures.reads.same ∙ c.in_ok-sync.ensures.cause.same)
     (λ name make at. c.cut_behind.ensures.cause.file name make (c.read_log.ensures.reads.file name make (c.sync.ensures.cause.file name make at)))
     c.in_ok-sync.ensures.syncs.done c.in_ok-cut_behind.ensures.told c.in_ok-cut_behind.ensures.done
+
+pub cut_behind-requires-clause-within : goal.cut_behind-requires-clause-within
+cut_behind-requires-clause-within g c =
+    c.in_ok-found.ensures.found.room
+
+pub cut_behind-requires-clause-whole : goal.cut_behind-requires-clause-whole
+cut_behind-requires-clause-whole g c =
+    λ xs told. c.in_ok-found.ensures.found.whole xs (sym c.read_log.ensures.reads.stays.bytes ∙ told)
+
+pub read_log-requires : goal.read_log-requires
+read_log-requires g c =
+    c.requires
