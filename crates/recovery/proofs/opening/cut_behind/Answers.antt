@@ -57,10 +57,9 @@ returns-in_ok-sync-clause-told g c =
     ap is_some c.sync.ensures.syncs.bytes ∙ c.cut.ensures.cuts.told
 
 pub returns-in_ok-sync-clause-cause : goal.returns-in_ok-sync-clause-cause
-returns-in_ok-sync-clause-cause g c =
-    record {
-      later = omega (arith, c.cut.ensures.cause.later, c.sync.ensures.cause.later);
-      same = c.in_ok-sync.ensures.cause.same ∙ c.in_ok-cut.ensures.cause.same;
-      failed = tt;
-      file = λ name make at. c.sync.ensures.cause.file name make (c.cut.ensures.cause.file name make at);
-    }
+returns-in_ok-sync-clause-cause g c = record {
+  later = omega (arith, c.cut.ensures.cause.later, c.sync.ensures.cause.later);
+  same = c.in_ok-sync.ensures.cause.same ∙ c.in_ok-cut.ensures.cause.same;
+  failed = tt;
+  file = λ name make at. c.sync.ensures.cause.file name make (c.cut.ensures.cause.file name make at);
+}

@@ -64,5 +64,5 @@ returns-in-Set-2-clause-reads g c =
 
 pub returns-in_err-all-clause-reads : goal.returns-in_err-all-clause-reads
 returns-in_err-all-clause-reads g c =
-    reads_sound (g.D.LogDisk.drive c.args.disk.now) (g.D.LogDisk.drive c.read_piece.new.disk) _ c.read_piece.ensures.stays c.in_ok-got.ensures.cause.same c.read_piece.ensures.cause.file 
+    reads_sound (g.D.LogDisk.drive c.args.disk.now) (g.D.LogDisk.drive c.read_piece.new.disk) _ c.read_piece.ensures.stays c.in_ok-got.ensures.cause.same c.read_piece.ensures.cause.file
     (passed_on c.from_residual-in_err-all.result _ (λ e. e ≢ Disk) c.from_residual-in_err-all.ensures.1 (breaks_sound _ _ _ _ _ _ c.in_err-all.ensures.err))
