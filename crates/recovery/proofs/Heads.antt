@@ -1,5 +1,5 @@
 -- The head of a file, and the header of a log.
-use Rattle.std.proofs.Common.{◌≡◌, ◌≢◌, ℕ, ◌<◌, ◌≤◌, Bool, true, false, not, inl, inr, ⊎_elim, List, [], ◌∷◌, ◌++◌, length, get_or, take, drop, replicate, refl, sym, ◌∙◌, ap, arith, length-drop, length-take}
+use Rattle.std.proofs.Common.{◌≡◌, ◌≢◌, ℕ, ◌<◌, ◌≤◌, false, inl, inr, ⊎_elim, List, [], ◌∷◌, ◌++◌, length, get_or, take, drop, replicate, refl, sym, ◌∙◌, ap, arith, length-drop, length-take}
 use Rattle.std.specs.Prelude.{slice_index, ◌==◌, Result, Ok, Err, OnOk}
 use Rattle.std.specs.Cmp.{unsigned_Decides}
 use Rattle.std.specs.Cmp.Lexicographic.{pointwise, pointwise_decides}
@@ -11,15 +11,8 @@ use Rattle.recovery.specs.declared.seen.OpenFault.TheVariants as fault
 use Rattle.recovery.specs.Faults.{HasOtherHead, IsFault, BeginsWith}
 use Rattle.recovery.specs.Headers.{HasHeader, FailsHead}
 
-pub bytes_differ : (xs ys : List ℕ) → not (pointwise (λ x y. x == y) xs ys) ≡ true → xs ≢ ys
-bytes_differ xs ys test same = true≢false (sym test ∙ ap not ((pointwise_decides unsigned_Decides xs ys).1 same))
-
-not_false : (b : Bool) → not b ≡ false → b ≡ true
-not_false true e = refl
-not_false false e = absurd (true≢false e)
-
-pub bytes_same : (xs ys : List ℕ) → not (pointwise (λ x y. x == y) xs ys) ≡ false → xs ≡ ys
-bytes_same xs ys test = (pointwise_decides unsigned_Decides xs ys).0 (not_false (pointwise (λ x y. x == y) xs ys) test)
+pub bytes_unlike : (xs ys : List ℕ) → pointwise (λ x y. x == y) xs ys ≡ false → xs ≢ ys
+bytes_unlike xs ys test same = true≢false (sym ((pointwise_decides unsigned_Decides xs ys).1 same) ∙ test)
 
 -- the word and the zeros of a header, of any width
 pub header_word : (w : ℕ) → take 8 (header_text w) ≡ take 8 (header_text 1)

@@ -1,15 +1,17 @@
 -- Calls that only read, one after the other.
 use Rattle.std.proofs.Common.{◌≡◌, ◌≢◌, ℕ, ◌≤◌, List, length, Some, sym, ◌∙◌, ap, subst, arith}
-use Rattle.std.specs.Prelude.{Result, Ok, Err, MatchResult, IsErrOf}
+use Rattle.std.specs.Prelude.{Result, Ok, Err, IfErr, MatchResult, IsErrOf}
 use Rattle.std.specs.Result.{IsErrAnd}
 use Rattle.causes.specs.Causes.{Rose}
 use Rattle.disk_trait.specs.Drive.{Drive, SameFile, Stays}
 use Rattle.recovery.specs.declared.seen.OpenFault.{OpenFault}
-use Rattle.recovery.specs.declared.seen.OpenFault.TheVariants.{Disk}
+use Rattle.recovery.specs.declared.seen.OpenFault.TheVariants.{Disk, Memory}
 use Rattle.recovery.specs.declared.pieces.Stop.TheVariants.{Set}
 use Rattle.recovery.specs.Faults.{IsFault}
 use Rattle.recovery.specs.Walk.{WalkView}
-use Rattle.recovery.specs.Reading.{Reaches, Ends, GoesOn, OnlyReads, IsReading}
+use Rattle.recovery.specs.declared.seen.Seen.{Seen}
+use Rattle.recovery.specs.Found.{IsFound}
+use Rattle.recovery.specs.Reading.{Reaches, Ends, GoesOn, OnlyReads, IsReading, IsFoundIn}
 
 pub stays-trans : (a b c : Drive) → Stays a b → Stays b c → Stays a c
 stays-trans a b c first second = record {
@@ -92,3 +94,42 @@ module _ (most len n : ℕ) (before now : Drive) (first walk : WalkView) (buffer
     room = ends.room;
     text = λ xs told. ends.text xs (reading.stays.bytes ∙ told);
   }
+
+-- what was found is said of the drive before calls that left its bytes
+pub found_before : (w most : ℕ) (a b : Drive) (seen : Seen) → b.bytes ≡ a.bytes → IsFound w most b seen → IsFound w most a seen
+found_before w most a b seen kept found = record { cells = found.cells; legal = found.legal; few = found.few; finds = found.finds; recovers = λ bytes told. found.recovers bytes (kept ∙ told) }
+
+pub found_in_before : (v w most len : ℕ) (a b : Drive) (seen : Seen) → v ≡ w → b.bytes ≡ a.bytes → IsFoundIn v most b seen len → IsFoundIn w most a seen len
+found_in_before v w most len a b seen width kept found = record {
+  found = found_before w most a b seen kept (subst (λ u. IsFound u most b seen) width found.found);
+  room = found.room;
+  whole = λ bytes told. found.whole bytes (kept ∙ told);
+}
+
+calm_after : {T : Type 0} (a b c : ℕ) (result : Result T OpenFault) → b ≡ a → MatchResult result (λ _. c ≡ b) (λ e. e ≢ Disk → c ≡ b) → MatchResult result (λ _. c ≡ a) (λ e. e ≢ Disk → c ≡ a)
+calm_after a b c (Ok x) same calm = calm ∙ same
+calm_after a b c (Err e) same calm = λ other. calm other ∙ same
+
+-- the answer of a later call is the answer
+pub reads_after : {T : Type 0} (a b c : Drive) (result : Result T OpenFault) → Stays a b → b.faults ≡ a.faults → SameFile a b → OnlyReads b c result → OnlyReads a c result
+reads_after a b c result stays same file reads = record {
+  stays = stays-trans a b c stays reads.stays;
+  later = omega (arith, same, reads.later);
+  same = calm_after a.faults b.faults c.faults result same reads.same;
+  failed = λ disk. rose-earlier a.faults b.faults c.faults (omega (arith, same)) (reads.failed disk);
+  file = λ name make at. reads.file name make (file name make at);
+}
+
+-- a reading that ends with the drive's fault, and one that ends since memory ran out
+pub reads_failed : {T : Type 0} (a b : Drive) (result : Result T OpenFault) → IsErrAnd result (λ e. e ≡ Disk) → Stays a b → a.faults ≤ b.faults → Rose a.faults b.faults → SameFile a b → OnlyReads a b result
+reads_failed a b (Ok x) same stays later rose file = absurd same
+reads_failed a b (Err e) same stays later rose file = record { stays = stays; later = later; same = λ other. absurd (other same); failed = λ disk. rose; file = file }
+
+pub reads_memory : {T : Type 0} (a b : Drive) (result : Result T OpenFault) → IsErrAnd result (λ e. e ≡ Memory) → Stays a b → b.faults ≡ a.faults → SameFile a b → OnlyReads a b result
+reads_memory a b (Ok x) same stays calm file = absurd same
+reads_memory a b (Err e) same stays calm file = record { stays = stays; later = omega (arith, calm); same = λ other. calm; failed = λ disk. cc (same, disk); file = file }
+
+-- a reading whose last answer isn't the drive's
+pub reads_sound : {T : Type 0} (a b : Drive) (result : Result T OpenFault) → Stays a b → b.faults ≡ a.faults → SameFile a b → IfErr result (λ e. e ≢ Disk) → OnlyReads a b result
+reads_sound a b (Ok x) stays calm file sound = record { stays = stays; later = omega (arith, calm); same = calm; failed = λ disk. cc disk; file = file }
+reads_sound a b (Err e) stays calm file sound = record { stays = stays; later = omega (arith, calm); same = λ other. calm; failed = λ disk. absurd (sound (cc disk)); file = file }

@@ -1,10 +1,12 @@
 -- What a crash leaves while a log is opened.
-use Rattle.std.proofs.Common.{◌≡◌, ℕ, ◌+◌, ◌*◌, inl, inr, ⊎_elim, List, ◌++◌, length, take, drop, Some, is_some, refl, sym, ◌∙◌, ap, subst, arith}
-use Rattle.std.specs.Prelude.{Result}
+use Rattle.std.proofs.Common.{◌≡◌, ◌≢◌, ℕ, ◌+◌, ◌*◌, ◌≤◌, inl, inr, ⊎_elim, List, ◌++◌, length, take, drop, Some, is_some, refl, sym, ◌∙◌, ap, subst, arith}
+use Rattle.std.specs.Prelude.{Result, Ok, Err, IfOk, IsErrOf}
+use Rattle.std.specs.Result.{IsErrAnd}
+use Rattle.causes.specs.Causes.{Rose}
 use Rattle.std.proofs.lemmas.List.{take_at, take-append-drop}
 use Rattle.cell_format.specs.declared.cell.Cell.{Cell}
 use Rattle.disk_trait.specs.declared.disk.DiskFault.{DiskFault}
-use Rattle.disk_trait.specs.Drive.{Drive, SameFile, KeepsLaws, Stays, Shortened, Cuts, Syncs, Only}
+use Rattle.disk_trait.specs.Drive.{Drive, SameFile, KeepsLaws, Stays, Shortened, Cuts, Syncs, Only, CountsFaults}
 use Rattle.disk_trait.specs.Moments.{LeavesNow, LeavesOnly}
 use Rattle.disk_trait.proofs.Stretches.{started, goes_on}
 use Rattle.split_log.specs.LogText.{IsLogText, HoldsCells}
@@ -12,7 +14,10 @@ use Rattle.split_log.proofs.Cells.{length-log}
 use Rattle.split_log.proofs.Unique.{holds-same}
 use Rattle.recovery.specs.declared.seen.Seen.{Seen}
 use Rattle.log_state.specs.Recovers.{Recovers}
-use Rattle.recovery.specs.Opening.{KeepsCells, IsReady}
+use Rattle.recovery.specs.declared.seen.OpenFault.{OpenFault}
+use Rattle.recovery.specs.declared.seen.OpenFault.TheVariants.{Disk}
+use Rattle.recovery.specs.Found.{IsFound}
+use Rattle.recovery.specs.Opening.{KeepsCells, LeavesUnopened, IsReady, IsUntouched}
 use Rattle.recovery.specs.Reading.{IsFoundIn}
 
 -- one stretch after another
@@ -102,3 +107,58 @@ module _ (w most len : ℕ) (d0 d1 d2 : Drive) (seen : Seen) (laws0 : KeepsLaws 
           },
         );
   }
+
+-- a fault is no find
+pub not_ok : {T E : Type 0} (result : Result T E) (fault : E) (P : T → Type 0) → IsErrAnd result (λ e. e ≡ fault) → IfOk result P
+not_ok (Ok x) fault P same = absurd same
+not_ok (Err e) fault P same = tt
+
+-- the drive's fault, passed on, comes where the count rose
+pub rose_on : {T : Type 0} (result : Result T OpenFault) (fault : OpenFault) (a b c : ℕ) → IsErrAnd result (λ e. e ≡ fault) → a ≤ b → (fault ≡ Disk → Rose b c) → IsErrOf result Disk → Rose a c
+rose_on (Ok x) fault a b c same le rose is = absurd same
+rose_on (Err e) fault a b c same le rose is =
+    let e_is : e ≡ Disk = cc is in
+    let later : Rose b c = rose (sym same ∙ e_is) in
+    omega (arith, le, later)
+
+-- a sync, and then calls that only read, leave the file
+untouched-sync : {T : Type 0} (a b : Drive) (result : Result T DiskFault) → Syncs a b result → IsUntouched a b
+untouched-sync a b result syncs = record {
+  bytes = syncs.bytes;
+  images = syncs.crash;
+  since = λ t x le left. ⊎_elim (λ before. inl before) (λ image. inr (syncs.crash x image)) (syncs.time.nothing_else t x le left);
+}
+
+untouched-stays : (a b c : Drive) → IsUntouched a b → Stays b c → IsUntouched a c
+untouched-stays a b c first stays = record {
+  bytes = stays.bytes ∙ first.bytes;
+  images = λ x left. first.images x (stays.images x left);
+  since = λ t x le left. first.since t x le (stays.since t x left);
+}
+
+-- an opening that is refused at its sync, at what was read, and at the cut
+pub refused_sync : {T : Type 0} (w most : ℕ) (a b : Drive) (result : Result T DiskFault) → Syncs a b result → LeavesUnopened w most a b Disk
+refused_sync w most a b result syncs = record {
+  unfailed = λ other. absurd (other refl);
+  calm = λ other. absurd (other refl);
+  no_log = λ bytes told none. untouched-sync a b result syncs;
+}
+
+pub refused_read : {T : Type 0} (w most : ℕ) (a b c : Drive) (result : Result T DiskFault) (fault : OpenFault) → Syncs a b result → Stays b c → b.faults ≡ a.faults → (fault ≢ Disk → c.faults ≡ b.faults) → LeavesUnopened w most a c fault
+refused_read w most a b c result fault syncs stays same calm = record {
+  unfailed = λ other. untouched-stays a b c (untouched-sync a b result syncs) stays;
+  calm = λ other. calm other ∙ same;
+  no_log = λ bytes told none. untouched-stays a b c (untouched-sync a b result syncs) stays;
+}
+
+pub refused_cut : (w most : ℕ) (a b c : Drive) (seen : Seen) → b.bytes ≡ a.bytes → IsFound w most b seen → LeavesUnopened w most a c Disk
+refused_cut w most a b c seen kept found = record {
+  unfailed = λ other. absurd (other refl);
+  calm = λ other. absurd (other refl);
+  no_log = λ bytes told none. absurd (none found.cells (found.recovers bytes (kept ∙ told)) found.few);
+}
+
+-- a fault of a device call, passed on
+pub counts_on : {T : Type 0} (a b : Drive) (result : Result T DiskFault) (fault : DiskFault) → IsErrAnd result (λ e. e ≡ fault) → a.faults ≤ b.faults → Rose a.faults b.faults → SameFile a b → CountsFaults a b result
+counts_on a b (Ok x) fault same later rose file = absurd same
+counts_on a b (Err e) fault same later rose file = record { later = later; same = tt; failed = rose; file = file }

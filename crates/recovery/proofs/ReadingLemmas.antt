@@ -1,6 +1,7 @@
 -- What the pieces of a log say of its bytes.
 use Rattle.std.proofs.Common.{◌≡◌, ◌≢◌, ℕ, ◌+◌, ◌-◌, ◌*◌, ◌<◌, ◌≤◌, min, true, List, [], ◌∷◌, ◌++◌, length, take, drop, Some, refl, sym, ◌∙◌, ap, subst, arith, append_assoc, length-append, length-take}
-use Rattle.std.specs.Prelude.{slice_index}
+use Rattle.std.specs.Prelude.{slice_index, Result, Ok, Err, IfOk}
+use Rattle.disk_trait.specs.declared.disk.DiskFault.{DiskFault}
 use Rattle.std.specs.List.{flat_map}
 use Rattle.std.proofs.lemmas.List.{append-nil, take-append-drop, drop_at, take-append-le, drop_all}
 use Rattle.std.proofs.lemmas.Grind.{flat_map-append}
@@ -9,7 +10,7 @@ use Rattle.cell_format.specs.declared.cell.Cause.{Cause}
 use Rattle.cell_format.specs.declared.cell.Cause.TheVariants as cause
 use Rattle.cell_format.specs.Faults.{HasNoKind, HasReserved, HasBadName}
 use Rattle.cell_format.specs.Spelling.{IsCell, Spells, spelling, header_text}
-use Rattle.disk_trait.specs.Drive.{Drive}
+use Rattle.disk_trait.specs.Drive.{Drive, Reads}
 use Rattle.plain_list.specs.State.{State, empty_state}
 use Rattle.split_log.specs.LogText.{front_of, log_text}
 use Rattle.split_log.proofs.Cells.{length-front_of, length-cells}
@@ -214,3 +215,18 @@ reaches_first w most len drive walk first long whole has = subst (λ v. Reaches 
   room = omega (arith, long);
   begins = λ xs told. (whole xs told, (has xs told).rest, begins_first w xs (has xs told));
 })
+
+-- a read into the front of a buffer
+pub piece_read : (drive : Drive) (at room most : ℕ) (buffer into rest : List ℕ) (result : Result ℕ DiskFault) → most ≡ room → length (take room buffer) ≡ room → length into ≡ length (take room buffer) → Reads drive at (take room buffer) into result
+    → IfOk result (ReadsPiece drive at most (into ++ rest))
+piece_read drive at room most buffer into rest (Ok n) is long same reads = (
+  omega (arith, reads.0, long, is),
+  λ xs told.
+      let read = reads.1 xs told in
+      (read.0 ∙ ap (λ (k : ℕ). min k (length xs - at)) (long ∙ sym is), take-append-le n into rest (omega (arith, reads.0, same)) ∙ read.1),
+)
+piece_read drive at room most buffer into rest (Err e) is long same reads = tt
+
+-- what is at fault in a piece is no fault of the drive
+pub breaks_sound : (w most from : ℕ) (s : State) (piece : List ℕ) (why : OpenFault) → Breaks w most from s piece why → why ≢ fault.Disk
+breaks_sound w most from s piece why breaks disk = subst (λ f. FailsAt w most (from + length breaks.cells) (cells_after w s breaks.cells) breaks.tail f) disk breaks.fails

@@ -1,13 +1,13 @@
 //! Says what a log was found to say, and reads alone.
-ghost use Rattle.std.specs.Prelude.{◌≡◌, ◌⊎◌, ◌≤◌, ◌<◌, ◌^◌, ℕ, List, Some, length, slice_index, take, drop, replicate, OnOk, IfOk, IfErr};
+ghost use Rattle.std.specs.Prelude.{◌≡◌, ◌⊎◌, ◌≤◌, ◌<◌, ◌^◌, ℕ, true, false, List, Some, length, slice_index, take, drop, replicate, OnOk, IfOk, IfErr};
 ghost use Rattle.std.specs.Result.{IsErrAnd};
 ghost use Rattle.cell_format.specs.declared.cell.Cell.{Cell};
 ghost use Rattle.log_state.specs.Recovers.{Recovers};
 ghost use Rattle.recovery.specs.declared.seen.OpenFault.{OpenFault};
 ghost use Rattle.cell_format.specs.Spelling.{header_text};
 ghost use Rattle.recovery.specs.Headers.{HasHeader, FailsHead};
-ghost use Rattle.recovery.specs.Faults.{IsFault, IsInBytes};
-ghost use Rattle.recovery.specs.Reading.{OnlyReads, IsFoundIn};
+ghost use Rattle.recovery.specs.Faults.{IsFault, IsInBytes, HasOtherHead};
+ghost use Rattle.recovery.specs.Reading.{Reaches, OnlyReads, IsFoundIn};
 ghost use Rattle.recovery.specs.Found.{IsFound, IsFree};
 
 use crate::reading::walk_cells;
@@ -61,7 +61,25 @@ pub(crate) fn read_log<D: LogDisk>(
     let len = disk.len()?;
     test_header(disk, len, width)?;
     let mut walk = Walk::new(alloc, width)?;
-    let cells = walk_cells(alloc, disk, &mut walk, len, most)?;
+    read_cells(alloc, disk, &mut walk, len, most)
+}
+
+/// Reads the cells behind the header of a file of this length.
+fn read_cells<D: LogDisk>(
+    alloc: Global,
+    disk: &mut D,
+    walk: &mut Walk,
+    len: u64,
+    most: u64,
+) -> Result<Found, OpenFault>
+    requires first { Reaches most len 0 (D.drive disk.old) walk.old }
+    requires whole { (xs : List ℕ) → (D.drive disk.old).bytes ≡ Some xs → length xs ≡ len }
+
+    ensures found { IfOk result (λ f. IsFoundIn walk.old.width most (D.drive disk.old) f.seen f.len) }
+    ensures fault { IfErr result (λ e. (xs : List ℕ) → (D.drive disk.old).bytes ≡ Some xs → IsFault walk.old.width most xs e) }
+    ensures reads { OnlyReads (D.drive disk.old) (D.drive disk.new) result }
+{
+    let cells = walk_cells(alloc, disk, walk, len, most)?;
     let seen = walk.to_seen(alloc, cells)?;
     Ok(Found { seen, len })
 }
@@ -90,8 +108,7 @@ fn test_head(head: &[u8; 16], width: u8) -> Result<(), OpenFault>
     ensures ok { OnOk result (head.now ≡ header_text width) }
     ensures err { IfErr result (FailsHead width head.now) }
 {
-    let whole = header(width);
-    if head[..8] != whole[..8] || head[10..] != whole[10..] {
+    if !has_marks(head, width) {
         return Err(OpenFault::NotLog);
     }
     if head[8] != 1 || head[9] != width {
@@ -101,4 +118,13 @@ fn test_head(head: &[u8; 16], width: u8) -> Result<(), OpenFault>
         });
     }
     Ok(())
+}
+
+/// Tells whether the letters and the zeros of a header stand there.
+fn has_marks(head: &[u8; 16], width: u8) -> bool
+    ensures yes { result ≡ true → (take 8 head.now ≡ take 8 (header_text width)) × (take 6 (drop 10 head.now) ≡ take 6 (drop 10 (header_text width))) }
+    ensures no { result ≡ false → HasOtherHead head.now }
+{
+    let whole = header(width);
+    head[..8] == whole[..8] && head[10..] == whole[10..]
 }

@@ -1,5 +1,8 @@
-use Rattle.std.proofs.Common.{◌≤◌, length, ◌∙◌, arith}
-use Rattle.recovery.proofs.MakingLemmas.{log_made}
+use Rattle.std.proofs.Common.{◌≤◌, length, ◌∙◌, arith, [], ◌∷◌, ap, length-append}
+use Rattle.causes.specs.Causes.{Rose}
+use Rattle.cell_format.specs.Spelling.{header_text}
+use Rattle.split_log.proofs.Cells.{length-header}
+use Rattle.recovery.proofs.MakingLemmas.{log_made, not_made, refused_on, small_stays, small_written, small_synced}
 use Rattle.recovery.proofs.making.make.Goals as goal
 
 pub returns-clause-made : goal.returns-clause-made
@@ -14,3 +17,60 @@ returns-clause-made g c = record {
             (c.sync.ensures.syncs.bytes ∙ known) (c.in_ok-sync.ensures.syncs.done written known),
       );
 }
+
+pub returns-in_err-len-clause-made : goal.returns-in_err-len-clause-made
+returns-in_err-len-clause-made g c =
+    not_made c.from_residual.result _ _ c.from_residual.ensures.1
+
+pub returns-in_err-write-clause-made : goal.returns-in_err-write-clause-made
+returns-in_err-write-clause-made g c =
+    not_made c.from_residual-in_err-write.result _ _ c.from_residual-in_err-write.ensures.1
+
+pub returns-in_err-sync-clause-made : goal.returns-in_err-sync-clause-made
+returns-in_err-sync-clause-made g c =
+    not_made c.from_residual-in_err-sync.result _ _ c.from_residual-in_err-sync.ensures.1
+
+pub returns-in_err-len-clause-refused : goal.returns-in_err-len-clause-refused
+returns-in_err-len-clause-refused g c =
+    refused_on c.from_residual.result _ _ c.from_residual.ensures.1 c.in_err-len.ensures.cause.failed
+
+pub returns-in_err-len-clause-small : goal.returns-in_err-len-clause-small
+returns-in_err-len-clause-small g c =
+    small_stays (g.D.LogDisk.drive c.args.disk.now) (g.D.LogDisk.drive c.len.new.self) (g.met.D.LogDisk.keeps_laws c.args.disk.now) c.len.ensures.stays c.len.ensures.cause.later c.len.ensures.cause.file
+
+pub returns-then-len-gt-MOST_BYTES-clause-small : goal.returns-then-len-gt-MOST_BYTES-clause-small
+returns-then-len-gt-MOST_BYTES-clause-small g c =
+    small_stays (g.D.LogDisk.drive c.args.disk.now) (g.D.LogDisk.drive c.len.new.self) (g.met.D.LogDisk.keeps_laws c.args.disk.now) c.len.ensures.stays c.len.ensures.cause.later c.len.ensures.cause.file
+
+pub returns-in_err-write-clause-refused : goal.returns-in_err-write-clause-refused
+returns-in_err-write-clause-refused g c =
+    let rose : Rose (g.D.LogDisk.drive c.args.disk.now).faults (g.D.LogDisk.drive c.write.new.self).faults = omega (arith, c.in_ok-len.ensures.cause.same, c.in_err-write.ensures.cause.failed) in
+    refused_on c.from_residual-in_err-write.result _ _ c.from_residual-in_err-write.ensures.1 rose
+
+pub returns-in_err-sync-clause-refused : goal.returns-in_err-sync-clause-refused
+returns-in_err-sync-clause-refused g c =
+    let rose : Rose (g.D.LogDisk.drive c.args.disk.now).faults (g.D.LogDisk.drive c.sync.new.self).faults = omega (arith, c.in_ok-len.ensures.cause.same, c.in_ok-write.ensures.cause.same, c.in_err-sync.ensures.cause.failed) in
+    refused_on c.from_residual-in_err-sync.result _ _ c.from_residual-in_err-sync.ensures.1 rose
+
+pub returns-in_err-write-clause-small : goal.returns-in_err-write-clause-small
+returns-in_err-write-clause-small g c =
+    let short : length c.empty_log.result ≤ 17 = omega (arith, ap length c.empty_log.ensures, length-append (header_text c.args.width) (0 ∷ []), length-header c.args.width) in
+    small_written (g.D.LogDisk.drive c.args.disk.now) (g.D.LogDisk.drive c.len.new.self) (g.met.D.LogDisk.keeps_laws c.args.disk.now) c.len.ensures.stays (g.D.LogDisk.drive c.write.new.self) c.empty_log.result c.write.result short c.write.ensures.writes
+    (λ bytes told. omega (arith, c.in_ok-len.ensures.len bytes told, c.if-len-gt-MOST_BYTES.false)) (omega (arith, c.len.ensures.cause.later, c.write.ensures.cause.later))
+    (λ name make at. c.write.ensures.cause.file name make (c.len.ensures.cause.file name make at))
+
+pub returns-in_err-sync-clause-small : goal.returns-in_err-sync-clause-small
+returns-in_err-sync-clause-small g c =
+    let short : length c.empty_log.result ≤ 17 = omega (arith, ap length c.empty_log.ensures, length-append (header_text c.args.width) (0 ∷ []), length-header c.args.width) in
+    small_synced (g.D.LogDisk.drive c.args.disk.now) (g.D.LogDisk.drive c.len.new.self) (g.met.D.LogDisk.keeps_laws c.args.disk.now) c.len.ensures.stays (g.D.LogDisk.drive c.write.new.self) c.empty_log.result c.write.result short c.write.ensures.writes
+    (λ bytes told. omega (arith, c.in_ok-len.ensures.len bytes told, c.if-len-gt-MOST_BYTES.false)) (g.D.LogDisk.drive c.sync.new.self) c.sync.result c.sync.ensures.syncs
+    (omega (arith, c.len.ensures.cause.later, c.write.ensures.cause.later, c.sync.ensures.cause.later))
+    (λ name make at. c.sync.ensures.cause.file name make (c.write.ensures.cause.file name make (c.len.ensures.cause.file name make at)))
+
+pub returns-clause-small : goal.returns-clause-small
+returns-clause-small g c =
+    let short : length c.empty_log.result ≤ 17 = omega (arith, ap length c.empty_log.ensures, length-append (header_text c.args.width) (0 ∷ []), length-header c.args.width) in
+    small_synced (g.D.LogDisk.drive c.args.disk.now) (g.D.LogDisk.drive c.len.new.self) (g.met.D.LogDisk.keeps_laws c.args.disk.now) c.len.ensures.stays (g.D.LogDisk.drive c.write.new.self) c.empty_log.result c.write.result short c.write.ensures.writes
+    (λ bytes told. omega (arith, c.in_ok-len.ensures.len bytes told, c.if-len-gt-MOST_BYTES.false)) (g.D.LogDisk.drive c.sync.new.self) c.sync.result c.sync.ensures.syncs
+    (omega (arith, c.len.ensures.cause.later, c.write.ensures.cause.later, c.sync.ensures.cause.later))
+    (λ name make at. c.sync.ensures.cause.file name make (c.write.ensures.cause.file name make (c.len.ensures.cause.file name make at)))

@@ -1,5 +1,7 @@
 use Rattle.log_state.specs.Recovers.{Recovers}
-use Rattle.recovery.proofs.OpeningLemmas.{leaves-trans, leaves-sync, leaves-cut}
+use Rattle.std.proofs.Common.{take, is_some, ap, ◌∙◌, arith}
+use Rattle.recovery.proofs.MakingLemmas.{not_made}
+use Rattle.recovery.proofs.OpeningLemmas.{leaves-trans, leaves-sync, leaves-cut, counts_on}
 use Rattle.recovery.proofs.opening.cut_behind.Goals as goal
 
 pub returns-in_err-cut-clause-any_moment : goal.returns-in_err-cut-clause-any_moment
@@ -17,3 +19,47 @@ returns-in_ok-sync-clause-any_moment g c w cells end now =
     let cut = leaves-cut w cells c.args.end end (g.D.LogDisk.drive c.args.disk.now) (g.D.LogDisk.drive c.cut.new.self) c.cut.result (g.met.D.LogDisk.keeps_laws c.args.disk.now) now c.cut.ensures.cuts in
     leaves-trans (g.D.LogDisk.drive c.args.disk.now) (g.D.LogDisk.drive c.cut.new.self) (g.D.LogDisk.drive c.sync.new.self) (Recovers w cells) cut.0
     (leaves-sync (g.D.LogDisk.drive c.cut.new.self) (g.D.LogDisk.drive c.sync.new.self) (Recovers w cells) c.sync.result (g.met.D.LogDisk.keeps_laws c.cut.new.self) cut.1 c.sync.ensures.syncs)
+
+pub returns-in_err-cut-clause-done : goal.returns-in_err-cut-clause-done
+returns-in_err-cut-clause-done g c =
+    not_made c.from_residual.result _ _ c.from_residual.ensures.1
+
+pub returns-in_err-cut-clause-told : goal.returns-in_err-cut-clause-told
+returns-in_err-cut-clause-told g c =
+    not_made c.from_residual.result _ _ c.from_residual.ensures.1
+
+pub returns-in_err-sync-clause-done : goal.returns-in_err-sync-clause-done
+returns-in_err-sync-clause-done g c =
+    not_made c.from_residual-in_err-sync.result _ _ c.from_residual-in_err-sync.ensures.1
+
+pub returns-in_err-sync-clause-told : goal.returns-in_err-sync-clause-told
+returns-in_err-sync-clause-told g c =
+    not_made c.from_residual-in_err-sync.result _ _ c.from_residual-in_err-sync.ensures.1
+
+pub returns-in_err-cut-clause-cause : goal.returns-in_err-cut-clause-cause
+returns-in_err-cut-clause-cause g c =
+    counts_on (g.D.LogDisk.drive c.args.disk.now) (g.D.LogDisk.drive c.cut.new.self) c.from_residual.result _ c.from_residual.ensures.1 c.cut.ensures.cause.later c.in_err-cut.ensures.cause.failed c.cut.ensures.cause.file
+
+pub returns-in_err-sync-clause-cause : goal.returns-in_err-sync-clause-cause
+returns-in_err-sync-clause-cause g c =
+    counts_on (g.D.LogDisk.drive c.args.disk.now) (g.D.LogDisk.drive c.sync.new.self) c.from_residual-in_err-sync.result _ c.from_residual-in_err-sync.ensures.1
+    (omega (arith, c.cut.ensures.cause.later, c.sync.ensures.cause.later)) (omega (arith, c.cut.ensures.cause.later, c.in_err-sync.ensures.cause.failed))
+    (λ name make at. c.sync.ensures.cause.file name make (c.cut.ensures.cause.file name make at))
+
+pub returns-in_ok-sync-clause-done : goal.returns-in_ok-sync-clause-done
+returns-in_ok-sync-clause-done g c =
+    λ xs told only.
+    let cut = c.in_ok-cut.ensures.cuts.done xs told in
+    (c.sync.ensures.syncs.bytes ∙ cut, c.in_ok-sync.ensures.syncs.done (take c.args.end xs) cut)
+
+pub returns-in_ok-sync-clause-told : goal.returns-in_ok-sync-clause-told
+returns-in_ok-sync-clause-told g c =
+    ap is_some c.sync.ensures.syncs.bytes ∙ c.cut.ensures.cuts.told
+
+pub returns-in_ok-sync-clause-cause : goal.returns-in_ok-sync-clause-cause
+returns-in_ok-sync-clause-cause g c = record {
+  later = omega (arith, c.cut.ensures.cause.later, c.sync.ensures.cause.later);
+  same = c.in_ok-sync.ensures.cause.same ∙ c.in_ok-cut.ensures.cause.same;
+  failed = tt;
+  file = λ name make at. c.sync.ensures.cause.file name make (c.cut.ensures.cause.file name make at);
+}

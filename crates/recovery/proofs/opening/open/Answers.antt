@@ -19,3 +19,67 @@ pub returns-in-Err-clause-whole : goal.returns-in-Err-clause-whole
 returns-in-Err-clause-whole g c bytes cells told recovers few =
     told_free c.args.width c.args.most (g.D.LogDisk.drive c.args.disk) (g.D.LogDisk.drive c.settle.new.disk) c.in-Err.cause bytes cells (c.in-Err.ensures.fault bytes told)
     (λ e. c.settle.ensures.rose (c.in-Err.is ∙ ap (λ x. Err x) e)) recovers few
+
+pub returns-in-Ok-clause-found : goal.returns-in-Ok-clause-found
+returns-in-Ok-clause-found g c =
+    c.in-Ok.ensures.found
+
+pub returns-in-Ok-clause-ready : goal.returns-in-Ok-clause-ready
+returns-in-Ok-clause-ready g c =
+    rw c.adopt.ensures c.in-Ok.ensures.ready
+
+pub returns-in-Ok-clause-later : goal.returns-in-Ok-clause-later
+returns-in-Ok-clause-later g c =
+    rw c.adopt.ensures c.settle.ensures.later
+
+pub returns-in-Err-clause-fault : goal.returns-in-Err-clause-fault
+returns-in-Err-clause-fault g c =
+    c.in-Err.ensures.fault
+
+pub returns-in-Err-clause-untouched : goal.returns-in-Err-clause-untouched
+returns-in-Err-clause-untouched g c =
+    c.in-Err.ensures.untouched
+
+pub returns-in-Err-clause-any_moment : goal.returns-in-Err-clause-any_moment
+returns-in-Err-clause-any_moment g c =
+    c.settle.ensures.any_moment
+
+pub returns-in-Err-clause-rose : goal.returns-in-Err-clause-rose
+returns-in-Err-clause-rose g c =
+    λ e. c.settle.ensures.rose (c.in-Err.is ∙ ap (λ x. Err x) e)
+
+pub returns-in-Err-clause-later : goal.returns-in-Err-clause-later
+returns-in-Err-clause-later g c =
+    c.settle.ensures.later
+
+pub returns-in-Ok-clause-fault : goal.returns-in-Ok-clause-fault
+returns-in-Ok-clause-fault g c =
+    tt
+
+pub returns-in-Ok-clause-untouched : goal.returns-in-Ok-clause-untouched
+returns-in-Ok-clause-untouched g c =
+    tt
+
+pub returns-in-Ok-clause-rose : goal.returns-in-Ok-clause-rose
+returns-in-Ok-clause-rose g c =
+    tt
+
+pub returns-in-Ok-clause-whole : goal.returns-in-Ok-clause-whole
+returns-in-Ok-clause-whole g c =
+    λ bytes cells told recovers few. tt
+
+pub returns-in-Err-clause-found : goal.returns-in-Err-clause-found
+returns-in-Err-clause-found g c =
+    tt
+
+pub returns-in-Err-clause-ready : goal.returns-in-Err-clause-ready
+returns-in-Err-clause-ready g c =
+    tt
+
+pub returns-in-Err-clause-log : goal.returns-in-Err-clause-log
+returns-in-Err-clause-log g c =
+    tt
+
+pub returns-in-Err-clause-start : goal.returns-in-Err-clause-start
+returns-in-Err-clause-start g c =
+    tt

@@ -1,6 +1,9 @@
+use Rattle.recovery.proofs.OnlyReading.{reads_failed, reads_sound}
+use Rattle.recovery.proofs.OpeningLemmas.{not_ok}
 use Rattle.recovery.proofs.PieceLemmas.{passed_on}
-use Rattle.recovery.proofs.ReadingLemmas.{broken, ended, went_on, cut_short}
-use Rattle.std.proofs.Common.{arith}
+use Rattle.recovery.proofs.ReadingLemmas.{broken, ended, went_on, cut_short, breaks_sound}
+use Rattle.std.proofs.Common.{◌≢◌, arith}
+use Rattle.recovery.specs.declared.seen.OpenFault.TheVariants.{Disk}
 use Rattle.recovery.proofs.reading.walk_next.Goals as goal
 
 pub returns-in_err-all-clause-err : goal.returns-in_err-all-clause-err
@@ -26,3 +29,40 @@ returns-in-Set-2-clause-err g c =
     rw c.damaged-in-Set-2.ensures
     (cut_short c.args.most c.args.len c.args.cells c.in_ok-got.got (g.D.LogDisk.drive c.args.disk.now) c.args.walk.now c.read_piece.new.buffer c.requires.came c.in_ok-got.ensures.ok
     c.walk_piece.new.walk c.walk_piece.ensures.width c.in-Set.number (omega (arith, c.if-got-eq-PIECE.false, c.in_ok-got.ensures.ok.0)) walks)
+
+pub returns-in_err-got-clause-ok : goal.returns-in_err-got-clause-ok
+returns-in_err-got-clause-ok g c =
+    not_ok c.from_residual.result _ _ c.from_residual.ensures.1
+
+pub returns-in_err-got-clause-err : goal.returns-in_err-got-clause-err
+returns-in_err-got-clause-err g c =
+    passed_on c.from_residual.result _ _ c.from_residual.ensures.1 (λ xs told. tt)
+
+pub returns-in_err-got-clause-reads : goal.returns-in_err-got-clause-reads
+returns-in_err-got-clause-reads g c =
+    reads_failed (g.D.LogDisk.drive c.args.disk.now) (g.D.LogDisk.drive c.read_piece.new.disk) c.from_residual.result c.from_residual.ensures.1 c.read_piece.ensures.stays c.read_piece.ensures.cause.later c.in_err-got.ensures.cause.failed c.read_piece.ensures.cause.file
+
+pub returns-in_err-all-clause-ok : goal.returns-in_err-all-clause-ok
+returns-in_err-all-clause-ok g c =
+    not_ok c.from_residual-in_err-all.result _ _ c.from_residual-in_err-all.ensures.1
+
+pub returns-then-got-eq0-clause-reads : goal.returns-then-got-eq0-clause-reads
+returns-then-got-eq0-clause-reads g c =
+    reads_sound (g.D.LogDisk.drive c.args.disk.now) (g.D.LogDisk.drive c.read_piece.new.disk) _ c.read_piece.ensures.stays c.in_ok-got.ensures.cause.same c.read_piece.ensures.cause.file (λ disk. cc (c.damaged.ensures, disk))
+
+pub returns-in-Clear-clause-reads : goal.returns-in-Clear-clause-reads
+returns-in-Clear-clause-reads g c =
+    reads_sound (g.D.LogDisk.drive c.args.disk.now) (g.D.LogDisk.drive c.read_piece.new.disk) _ c.read_piece.ensures.stays c.in_ok-got.ensures.cause.same c.read_piece.ensures.cause.file tt
+
+pub returns-in-Set-clause-reads : goal.returns-in-Set-clause-reads
+returns-in-Set-clause-reads g c =
+    reads_sound (g.D.LogDisk.drive c.args.disk.now) (g.D.LogDisk.drive c.read_piece.new.disk) _ c.read_piece.ensures.stays c.in_ok-got.ensures.cause.same c.read_piece.ensures.cause.file tt
+
+pub returns-in-Set-2-clause-reads : goal.returns-in-Set-2-clause-reads
+returns-in-Set-2-clause-reads g c =
+    reads_sound (g.D.LogDisk.drive c.args.disk.now) (g.D.LogDisk.drive c.read_piece.new.disk) _ c.read_piece.ensures.stays c.in_ok-got.ensures.cause.same c.read_piece.ensures.cause.file (λ disk. cc (c.damaged-in-Set-2.ensures, disk))
+
+pub returns-in_err-all-clause-reads : goal.returns-in_err-all-clause-reads
+returns-in_err-all-clause-reads g c =
+    reads_sound (g.D.LogDisk.drive c.args.disk.now) (g.D.LogDisk.drive c.read_piece.new.disk) _ c.read_piece.ensures.stays c.in_ok-got.ensures.cause.same c.read_piece.ensures.cause.file
+    (passed_on c.from_residual-in_err-all.result _ (λ e. e ≢ Disk) c.from_residual-in_err-all.ensures.1 (breaks_sound _ _ _ _ _ _ c.in_err-all.ensures.err))
