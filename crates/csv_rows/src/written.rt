@@ -2,6 +2,8 @@
 //!
 //! Most inputs have that form: no quotes, lines that end with a line feed, numbers without leading zeros. Of any other
 //! text, and of one with a fault, nothing is said here: `read` has `csv` decide.
+//!
+//! A function here is left by `let else`, not by `?`, which takes twice the proof where a part is an `Option`.
 ghost use Rattle.std.specs.Prelude.{◌≡◌, ◌≤◌, ◌<◌, ◌^◌, ◌∷◌, ◌++◌, codes, IfOk, IfErr, IfSome};
 ghost use Rattle.std.specs.Fmt.{decimal};
 ghost use Rattle.plain_list.specs.Answer.{IsValid, FitsOp};
