@@ -171,3 +171,11 @@ returns-clause-ok g c =
     let step = begin_step w o h c.self.invariant.legal may.going (cells_in b.journal) number name may next in
     let it = taken g.D.LogDisk.drive w o b c.self.invariant may.going (c.len.result + 2) _ c.fold.new.commit step c.in_ok-reserve-2.ensures.ok refl c.in-Ok.ensures.told in
     rw (← c.self.view_is) (record { entries = it.entries; number_is = next; name_is = refl; folds = c.in-Ok.ensures.folds })
+
+pub returns-clause-book : goal.returns-clause-book
+returns-clause-book g c =
+    record {
+      before = c.keep.ensures;
+      after = c.keep-2.ensures;
+      origin = rw (← c.self.view_is) (record { opening = refl; bucket = ap (λ (t : TableView). t.size) c.in-Ok.ensures.rest; log = c.in-Ok.ensures.told.ends.since });
+    }
