@@ -118,3 +118,11 @@ returns-in-Err-clause-err g c =
     refused-undone g.D.LogDisk.drive w b.opening b c.self.invariant may.may.going (Unit {0}) c.divide.new.self b.history.room c.cells-cell.result c.in-Err.undone _ c.divide.new.commit
     refl refl c.in-Err.ensures.err tt c.cells-cell.ensures.cells c.in-Err.ensures.told in
     rw (← c.self.view_is) (rw (c.fault_of.ensures, ← c.number-number.ensures) it)
+
+pub returns-clause-book : goal.returns-clause-book
+returns-clause-book g c =
+    record {
+      before = c.keep.ensures;
+      after = c.keep-2.ensures;
+      origin = rw (← c.self.view_is) (record { opening = refl; bucket = ap (λ (t : TableView). t.size) c.in_default.ensures.rest; log = c.in_default.ensures.told.ends.since });
+    }
