@@ -1,5 +1,5 @@
 -- What a step that was tried makes of a book.
-use Rattle.std.proofs.Common.{◌≡◌, ℕ, ◌-◌, ◌<◌, ◌≤◌, Bool, true, false, List, [], ◌∷◌, ◌++◌, length, Option, None, Ok, Err, refl, sym, ap, subst, ◌∙◌, arith}
+use Rattle.std.proofs.Common.{◌≡◌, ℕ, ◌-◌, ◌<◌, ◌≤◌, Bool, true, false, List, [], ◌∷◌, ◌++◌, length, Option, None, Some, Ok, Err, inl, inr, refl, sym, ap, subst, ◌∙◌, arith}
 use Rattle.std.specs.Prelude.{◌==◌}
 use mathlib.Core.Bool.{true≢false}
 use Rattle.bucket_versions.specs.Told.{Told}
@@ -25,7 +25,8 @@ use Rattle.point_table.specs.Updates.{TellsIf}
 use Rattle.commit_book.specs.BookInside.{IsInside, book_of}
 use Rattle.commit_book.specs.Events.{Events}
 use Rattle.commit_book.specs.IsBook.{most_events}
-use Rattle.commit_book.specs.Refusals.{WouldChange, LeavesRefused, most_cells}
+use Rattle.commit_book.specs.Refusals.{WouldChange, LeavesRefused, IsRefusedBy, IsMemoryOrDisk, most_cells}
+use Rattle.commit_book.specs.declared.faults.BookFault.{BookFault}
 use Rattle.commit_book.specs.SplitsView.{SplitsView}
 use Rattle.commit_book.specs.Steps.{entry_of, fault_of, IsStep, CanStep, Ends, Takes, Loses}
 use Rattle.commit_book.specs.declared.book.Book.TheInside.{Inside}
@@ -164,3 +165,9 @@ would_change A done lost false a b why told = absurd told
 pub quiet_told : {C A : Type 0} (done lost : C → C → Type 0) (change : Bool) (a b : C) (answer : A) → change ≡ false → TellsIf done lost change a b (Ok answer) → b ≡ a
 quiet_told done lost true a b answer none told = absurd (true≢false none)
 quiet_told done lost false a b answer none told = told
+
+-- a step that was lost, or wasn't taken, behind a check that was passed
+pub refused_freely : (A : Type 0) (o : Option BookFault) (why : Undone) (cell : ℕ) → o ≡ None → IsRefusedBy {A = A} IsMemoryOrDisk o (Err (fault_of why cell))
+refused_freely A (Some cause) why cell none = cc none
+refused_freely A None undone.Lost cell none = inr tt
+refused_freely A None undone.Memory cell none = inl refl

@@ -18,7 +18,7 @@ use Rattle.commit_book.proofs.KeptLemmas.{folded-under}
 use Rattle.commit_book.proofs.RefusalLemmas.{MayBegin, may_begin, passed, is_leaf-names_of}
 use Rattle.commit_book.proofs.SplitCells.{begin_step, few_cells}
 use Rattle.plain_list.proofs.SplitHistories.{open-le, begun-le}
-use Rattle.commit_book.proofs.Undone.{can_step, inside-undone, moments-undone, taken}
+use Rattle.commit_book.proofs.Undone.{can_step, inside-undone, moments-undone, refused-undone, refused_freely, taken}
 use Rattle.commit_book.proofs.book.Book.begin.Goals as goal
 
 pub returns-in_err-check_begin-clause-any_moment : goal.returns-in_err-check_begin-clause-any_moment
@@ -140,3 +140,42 @@ returns-clause-ticket g c =
     let may : MayBegin w (state_after w o h) h (cells_in b.journal) name = may_begin w (book_of b) name (passed _ _ (rw (← c.self.view_is) at c.in_ok-check_begin.ensures)) in
     let book : IsBook g.D.LogDisk.drive w (book_of b) = rw (← c.self.view_is) at c.keep.ensures in
     record { short = may.short; under = folded-under name b.table.leaves _ _ book.stands.are_leaves c.in-Ok.ensures.folds }
+
+pub returns-in-Err-clause-refused : goal.returns-in-Err-clause-refused
+returns-in-Err-clause-refused g c = rw c.fault_of.ensures (refused_freely _ _ c.in-Err.undone c.cells-cell.result (passed _ _ c.in_ok-check_begin.ensures))
+
+pub returns-in-Err-clause-err : goal.returns-in-Err-clause-err
+returns-in-Err-clause-err g c =
+    let w = g.I.Index.WIDTH in
+    let b = c.self.inside in
+    let o = b.opening in
+    let h = b.history.entries in
+    let name = c.args.name.now in
+    let may : MayBegin w (state_after w o h) h (cells_in b.journal) name = may_begin w (book_of b) name (passed _ _ (rw (← c.self.view_is) at c.in_ok-check_begin.ensures)) in
+    let next : c.next_number-number.result ≡ (state_after w o h).begun + 1 = c.next_number-number.ensures ∙ ap (λ n. n + 1) (c.in_ok-reserve.ensures.begun ∙ c.self.invariant.begun) in
+    let it =
+    refused-undone g.D.LogDisk.drive w o b c.self.invariant may.going (Arc Bucket Global) c.fold.new.self (c.len.result + 2) c.cells-cell.result c.in-Err.undone _ c.fold.new.commit
+    c.in_ok-reserve-2.ensures.ok refl c.in-Err.ensures.err tt c.cells-cell.ensures.cells c.in-Err.ensures.told in
+    rw (← c.self.view_is) (rw (c.fault_of.ensures, ← next) it)
+
+pub returns-clause-ok : goal.returns-clause-ok
+returns-clause-ok g c =
+    let w = g.I.Index.WIDTH in
+    let b = c.self.inside in
+    let o = b.opening in
+    let h = b.history.entries in
+    let name = c.args.name.now in
+    let may : MayBegin w (state_after w o h) h (cells_in b.journal) name = may_begin w (book_of b) name (passed _ _ (rw (← c.self.view_is) at c.in_ok-check_begin.ensures)) in
+    let number = c.next_number-number.result in
+    let next : number ≡ (state_after w o h).begun + 1 = c.next_number-number.ensures ∙ ap (λ n. n + 1) (c.in_ok-reserve.ensures.begun ∙ c.self.invariant.begun) in
+    let step = begin_step w o h c.self.invariant.legal may.going (cells_in b.journal) number name may next in
+    let it = taken g.D.LogDisk.drive w o b c.self.invariant may.going (c.len.result + 2) _ c.fold.new.commit step c.in_ok-reserve-2.ensures.ok refl c.in-Ok.ensures.told in
+    rw (← c.self.view_is) (record { entries = it.entries; number_is = next; name_is = refl; folds = c.in-Ok.ensures.folds })
+
+pub returns-clause-book : goal.returns-clause-book
+returns-clause-book g c =
+    record {
+      before = c.keep.ensures;
+      after = c.keep-2.ensures;
+      origin = rw (← c.self.view_is) (record { opening = refl; bucket = ap (λ (t : TableView). t.size) c.in-Ok.ensures.rest; log = c.in-Ok.ensures.told.ends.since });
+    }

@@ -14,7 +14,7 @@ use Rattle.commit_book.proofs.BookStates.{inside-install}
 use Rattle.commit_book.proofs.KeptLemmas.{names_of-divided}
 use Rattle.commit_book.proofs.RefusalLemmas.{MayInstall, may_install, Based, has_base-leaf, is_open-name, passed}
 use Rattle.commit_book.proofs.SplitCells.{install_step, some_open}
-use Rattle.commit_book.proofs.Undone.{can_step, inside-undone, moments-undone, taken}
+use Rattle.commit_book.proofs.Undone.{can_step, inside-undone, moments-undone, refused-undone, refused_freely, taken}
 use Rattle.commit_book.proofs.book.Book.install.Goals as goal
 
 pub returns-in_err-check_install-clause-any_moment : goal.returns-in_err-check_install-clause-any_moment
@@ -104,3 +104,25 @@ invariant_of-self-2 g c =
     (ap names_of divides.leaves ∙ names_of-divided w p.name divides.leaf.bucket.rows b.table.leaves)
     (it.entries ∙ ap (λ n. h ++ Install n ∷ []) number) (omega (arith, it.room)) (ap (λ (t : TableView). t.world) c.in_default.ensures.rest)
     (c.remove.ensures.splits ∙ ap (λ n. without_number n b.splits.splits) number) c.remove.ensures.begun
+
+pub returns-in-Err-clause-refused : goal.returns-in-Err-clause-refused
+returns-in-Err-clause-refused g c = rw c.fault_of.ensures (refused_freely _ _ c.in-Err.undone c.cells-cell.result (passed _ _ c.in_ok-check_install.ensures))
+
+pub returns-in-Err-clause-err : goal.returns-in-Err-clause-err
+returns-in-Err-clause-err g c =
+    let w = g.I.Index.WIDTH in
+    let p = c.args.prepared.now in
+    let b = c.self.inside in
+    let may : MayInstall w (book_of b) p.number p.name p.base = may_install w (book_of b) p.number p.name p.base c.self.invariant.few (passed _ _ (rw (← c.self.view_is) at c.in_ok-check_install.ensures)) in
+    let it =
+    refused-undone g.D.LogDisk.drive w b.opening b c.self.invariant may.may.going (Unit {0}) c.divide.new.self b.history.room c.cells-cell.result c.in-Err.undone _ c.divide.new.commit
+    refl refl c.in-Err.ensures.err tt c.cells-cell.ensures.cells c.in-Err.ensures.told in
+    rw (← c.self.view_is) (rw (c.fault_of.ensures, ← c.number-number.ensures) it)
+
+pub returns-clause-book : goal.returns-clause-book
+returns-clause-book g c =
+    record {
+      before = c.keep.ensures;
+      after = c.keep-2.ensures;
+      origin = rw (← c.self.view_is) (record { opening = refl; bucket = ap (λ (t : TableView). t.size) c.in_default.ensures.rest; log = c.in_default.ensures.told.ends.since });
+    }

@@ -17,7 +17,7 @@ use Rattle.commit_book.proofs.BookStates.{inside-call, steps_on}
 use Rattle.commit_book.proofs.RefusalLemmas.{passed}
 use Rattle.commit_book.proofs.SplitCells.{call_step, cell_there}
 use Rattle.plain_list.proofs.SplitHistories.{open-le}
-use Rattle.commit_book.proofs.Undone.{can_step, inside-undone, moments-undone, refused-undone, would_change, quiet_told, noted}
+use Rattle.commit_book.proofs.Undone.{can_step, inside-undone, moments-undone, refused-undone, refused_freely, would_change, quiet_told, noted}
 use Rattle.commit_book.proofs.UpdateCalls.{may_update}
 use Rattle.commit_book.proofs.book.Book.update.Goals as goal
 
@@ -157,3 +157,6 @@ returns-in-Err-clause-err g c =
     refused-undone g.D.LogDisk.drive w b.opening b c.self.invariant (may_update (book_of b) op c.self.invariant.few (passed _ _ (rw (← c.self.view_is) at c.in_ok-check_update.ensures))).call.going Answer
     c.update.new.self (c.len.result + 1) c.cells-cell.result c.in-Err.undone _ c.update.new.commit c.in_ok-reserve.ensures.ok refl c.in-Err.ensures.err change c.cells-cell.ensures.cells told.1 in
     rw (← c.self.view_is) (rw c.fault_of.ensures it)
+
+pub returns-in-Err-clause-refused : goal.returns-in-Err-clause-refused
+returns-in-Err-clause-refused g c = rw c.fault_of.ensures (refused_freely _ _ c.in-Err.undone c.cells-cell.result (passed _ _ c.in_ok-check_update.ensures))
