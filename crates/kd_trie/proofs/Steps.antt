@@ -1,5 +1,5 @@
 -- A step down a pair that a trie owns, into the half under a key's next bit.
-use Rattle.std.proofs.Common.{◌≡◌, ◌⊎◌, inl, inr, ◌-◌, ◌==◌, ◌<◌, ◌≤◌, ◌∙◌, ℕ, suc, max, true, false, Bool, Result, Ok, Err, OnOk, OnErr, IfOk, length, refl, sym, ap, arith, if◌then◌else◌}
+use Rattle.std.proofs.Common.{◌≡◌, ◌⊎◌, inl, inr, ◌-◌, ◌==◌, ◌<◌, ◌≤◌, ◌∙◌, ℕ, suc, max, true, false, Bool, Result, Ok, Err, OnOk, OnErr, IfOk, IsOk, length, refl, sym, ap, arith, if◌then◌else◌}
 use mathlib.Core.Bool.{beq}
 use Rattle.std.specs.Int.{bit_at}
 use Rattle.zorder.specs.Bits.{low_bits}
@@ -98,6 +98,11 @@ pub counted-step : {left : ℕ} {t : Trie} {p : Pair} {bit : Bool} {u : Trie} {E
     → IfOk r (λ m. m ≡ count_under (left - 1) row (seen n)) → IfOk r (λ m. m ≡ count_under left row (fork (seen q.zero) (seen q.one)))
 counted-step (Err x) row s n q made is = tt
 counted-step {left} {t} {p} {bit} {u} (Ok m) row s n q made is = is ∙ sym (ap length (ap (rows_at (low_bits left row.key)) (made-with p q bit n made) ∙ rows-with left row.key p bit (seen n) s.some s.goes))
+
+-- an answer that is known
+pub held : {A E : Type 0} {x : A} (r : Result A E) → r ≡ Ok x → IsOk r
+held (Ok x) e = refl
+held (Err x) e = absurd (cc e)
 
 -- a pair that could not be owned
 pub kept-default : {A E : Type 0} {t : Trie} {e : E} (a q : Pair) (r : Result A E) → r ≡ Err e → t ≡ fork (seen a.zero) (seen a.one) → OnErr r ((q ≡ a) ⊎ ((seen q.zero ≡ seen a.zero) × (seen q.one ≡ seen a.one)))
