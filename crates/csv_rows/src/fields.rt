@@ -16,7 +16,7 @@ use zorder::{Point, Region};
 pub(crate) const COORDINATE_MAX: u64 = 4_294_967_295;
 
 /// The operation that column 2 names.
-#[derive(Clone, Copy, Debug, PartialEq, Eq)]
+#[derive(Clone, Copy)]
 pub(crate) enum Word {
     Put,
     Move,
@@ -77,13 +77,27 @@ fn fields_in(record: &ByteRecord) -> Option<Fields<'_>>
     if record.len() != 7 {
         return None;
     }
-    let session = record.get(0)?;
-    let op = record.get(1)?;
-    let id = record.get(2)?;
-    let x = record.get(3)?;
-    let y = record.get(4)?;
-    let a = record.get(5)?;
-    let b = record.get(6)?;
+    let Some(session) = record.get(0) else {
+        return None;
+    };
+    let Some(op) = record.get(1) else {
+        return None;
+    };
+    let Some(id) = record.get(2) else {
+        return None;
+    };
+    let Some(x) = record.get(3) else {
+        return None;
+    };
+    let Some(y) = record.get(4) else {
+        return None;
+    };
+    let Some(a) = record.get(5) else {
+        return None;
+    };
+    let Some(b) = record.get(6) else {
+        return None;
+    };
     Some(Fields {
         session,
         op,

@@ -138,7 +138,7 @@ pub struct Summary {
 }
 
 /// What is wrong with a record: it hasn't seven fields, or a column breaks its rule.
-#[derive(Clone, Copy, Debug, PartialEq, Eq)]
+#[derive(Clone, Copy)]
 pub enum Wrong {
     Length,
     Column(u8),

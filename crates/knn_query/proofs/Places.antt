@@ -1,5 +1,5 @@
 -- What is ahead, and its places.
-use Rattle.std.proofs.Common.{◌≡◌, ◌<◌, ℕ, zero, suc, Bool, List, [], ◌∷◌, ◌++◌, length, take, drop, get_or, refl, sym, ap, subst, ◌∙◌, arith}
+use Rattle.std.proofs.Common.{◌≡◌, ◌<◌, ◌+◌, ℕ, zero, suc, Bool, List, [], ◌∷◌, ◌++◌, length, take, drop, get_or, refl, sym, ap, subst, ◌∙◌, arith}
 use Rattle.std.specs.Prelude.{remove}
 use Rattle.std.specs.List.{insert}
 use Rattle.std.proofs.lemmas.List.{take-append-drop}
@@ -33,6 +33,15 @@ one-of old new a (front, back, is, left, low) = (front, back, is, left)
 -- one that was put in
 pub one-inserted : (old new : List Ahead) (i : ℕ) (a : Ahead) → new ≡ insert old i a → IsOne new old a
 one-inserted old new i a is = (take i old, drop i old, is, sym (take-append-drop i old))
+
+length-inserted : {A : Type 0} (xs : List A) (i : ℕ) (x : A) → length (insert xs i x) ≡ length xs + 1
+length-inserted xs zero x = omega arith
+length-inserted [] (suc i) x = omega arith
+length-inserted (y ∷ xs) (suc i) x = omega (arith, length-inserted xs i x)
+
+-- two lists that are equally long, after each got one more
+pub long-inserted : {A B : Type 0} (xs more : List A) (ys others : List B) (i : ℕ) (x : A) (y : B) → length xs ≡ length ys → more ≡ insert xs i x → others ≡ insert ys i y → length more ≡ length others
+long-inserted xs more ys others i x y long e f = omega (arith, long, ap length e, ap length f, length-inserted xs i x, length-inserted ys i y)
 
 module _ {P : Type 0} (is_at : P → List Bool → Type 0) where
   pub length-at : (ahead : List Ahead) (places : List (Bor P)) → AreAt is_at ahead places → length ahead ≡ length places

@@ -1,9 +1,10 @@
 //! Objects in the order of their distance to a point.
-ghost use Rattle.std.specs.Prelude.{◌≡◌, ◌≤◌, ◌<◌, ◌+◌, ◌∷◌, [], take, IfOk, OnOk, length};
+ghost use Rattle.std.specs.Prelude.{◌≡◌, ◌≤◌, ◌<◌, ◌+◌, ◌∷◌, [], ℕ, take, IfOk, OnOk, length};
+ghost use Rattle.std.specs.List.{insert};
 ghost use Rattle.plain_list.specs.Answer.{ranked};
 ghost use Rattle.table_share.specs.Objects.{objects_of, placed_of};
 ghost use Rattle.table_share.specs.Worlds.{OfEachWorld};
-ghost use Rattle.knn_query.specs.Ahead.{OpensNear};
+ghost use Rattle.knn_query.specs.Ahead.{IsFarFirst, OpensNear};
 ghost use Rattle.knn_query.specs.Passes.{held, HasReach, IsEmpty, IsHeld, Keeps, Passes};
 
 use crate::ahead::{Ahead, put_ahead, take_nearest};
@@ -72,10 +73,7 @@ fn keep_nearest<I: Index, L: Ledger>(
             }
             Below::Halves { zero, one } => {
                 let (fore, hind) = next.halves(kept.from);
-                let place = put_ahead(&mut ahead, fore)?;
-                places.insert(place, zero)?;
-                let place = put_ahead(&mut ahead, hind)?;
-                places.insert(place, one)?;
+                put_halves(&mut ahead, &mut places, fore, zero, hind, one)?;
             }
         }
     }
@@ -89,6 +87,42 @@ fn first_of_many<T: Drop>(alloc: Global, first: T) -> Result<Vec<T>, AllocError>
     let mut all = Vec::with_capacity(alloc, MANY_AHEAD)?;
     all.push(first)?;
     Ok(all)
+}
+
+// Puts two subtrees where they belong, each with its place.
+fn put_halves<P: Drop>(
+    ahead: &mut Vec<Ahead>,
+    places: &mut Vec<P>,
+    fore: Ahead,
+    zero: P,
+    hind: Ahead,
+    one: P,
+) -> Result<(), AllocError>
+    requires sorted { IsFarFirst ahead.old.items }
+    requires long { length ahead.old.items ≡ length places.old.items }
+    ensures put { OnOk result ((i : ℕ) × (j : ℕ) × (ahead.new.items ≡ insert (insert ahead.old.items i fore) j hind)
+        × (places.new.items ≡ insert (insert places.old.items i zero) j one)) }
+    ensures sorted { OnOk result (IsFarFirst ahead.new.items) }
+{
+    put_place(ahead, places, fore, zero)?;
+    put_place(ahead, places, hind, one)?;
+    Ok(())
+}
+
+fn put_place<P: Drop>(
+    ahead: &mut Vec<Ahead>,
+    places: &mut Vec<P>,
+    a: Ahead,
+    place: P,
+) -> Result<(), AllocError>
+    requires sorted { IsFarFirst ahead.old.items }
+    requires long { length ahead.old.items ≡ length places.old.items }
+    ensures put { OnOk result ((i : ℕ) × (ahead.new.items ≡ insert ahead.old.items i a) × (places.new.items ≡ insert places.old.items i place)) }
+    ensures sorted { OnOk result (IsFarFirst ahead.new.items) }
+{
+    let number = put_ahead(ahead, a)?;
+    places.insert(number, place)?;
+    Ok(())
 }
 
 // Adds the objects of a bucket.

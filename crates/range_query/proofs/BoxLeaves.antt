@@ -13,7 +13,7 @@ use Rattle.zorder.specs.Key.{IsPoint, key_of}
 use Rattle.zorder.specs.SameName.{same_name}
 use Rattle.zorder.specs.Tile.{tiles_from, next_key}
 use Rattle.zorder.proofs.Places.{IsPoint-point_of}
-use Rattle.prefix_names.specs.Regions.{region_of, lies_in, AllPointsIn}
+use Rattle.prefix_names.specs.Regions.{region_of, lies_in, meet, AllPointsIn}
 use Rattle.prefix_names.proofs.Corners.{has_point-region_of, IsBox-region_of}
 use Rattle.prefix_names.proofs.HeldPoints.{so-held, meet-points, lies_in-points}
 use Rattle.bucket_versions.specs.declared.row.Row.{Row}
@@ -101,3 +101,7 @@ pub keys_of_leaf : (name : List Bool) (b : Rows) (leaves : List Leaf) → leaf_n
 keys_of_leaf name b leaves found under =
     let l : Leaf = record { name = name; bucket = b } in
     among-all (λ (m : Leaf). AreKeysUnder m.name m.bucket.rows) leaves l under (find-among (λ (m : Leaf). same_name m.name name) leaves l found).0
+
+-- whether a box meets a name, by a test of its region
+pub met-is : (region area : Region) (name : List Bool) (test b : Bool) → test ≡ meet area region → area ≡ region_of name → test ≡ b → is_met region name ≡ b
+met-is region area name test b meets is told = sym (meets ∙ ap (λ r. meet r region) is) ∙ told

@@ -114,7 +114,8 @@ fn push_rows<L: Ledger>(
 {
     let corners = KeyBox::of(region);
     for row in bucket.rows(steps) {
-        if corners.has(row.key) {
+        let is_in = corners.has(row.key);
+        if is_in {
             found.push(placed(row))?;
         }
     }

@@ -1,4 +1,5 @@
-use Rattle.std.proofs.Common.{◌+◌, ◌++◌, take, drop, arith, refl}
+use Rattle.std.proofs.Common.{◌+◌, ◌++◌, take, drop, arith, refl, rules}
+use Rattle.std.proofs.lemmas.Grind.{common_steps}
 use Rattle.std.proofs.lemmas.List.{length-take}
 use Rattle.io_edge.proofs.Progress.{HasRead-more, HasRead-end}
 use Rattle.io_edge.proofs.reading.read_all.Goals as goal
@@ -22,3 +23,12 @@ pub returns-in_err-keep-in-Ok-2-clause-taken : goal.returns-in_err-keep-in-Ok-2-
 returns-in_err-keep-in-Ok-2-clause-taken g c =
     let filled = length-take c.in-Ok.n c.read.new.into in
     HasRead-end _ (take c.in-Ok.n c.read.new.into) c.loop-all.invariant c.in-Ok.ensures.bytes.0 (omega arith)
+
+pub loop-all-smaller : goal.loop-all-smaller
+loop-all-smaller g c = grind (arith, common_steps)
+
+pub returns-in-Err-clause-too_long : goal.returns-in-Err-clause-too_long
+returns-in-Err-clause-too_long g c = search rules
+
+pub returns-in-Err-clause-same : goal.returns-in-Err-clause-same
+returns-in-Err-clause-same g c = search rules

@@ -29,3 +29,9 @@ returns-clause-passes g c =
       keeps = λ world rest are_of before.
           subst (λ (rs : List Row). Keeps c.args.kept.now.from c.args.kept.now.k world (objects_of rs ++ rest) c.loop-row.kept) c.in-None.ensures.steps.0 (keeps world rest are_of before).1;
     }
+
+pub returns-clause-opened : goal.returns-clause-opened
+returns-clause-opened g c = c.rows-row-items.ensures.steps
+
+pub returns-in_err-add_row-clause-opened : goal.returns-in_err-add_row-clause-opened
+returns-in_err-add_row-clause-opened g c = c.rows-row-items.ensures.steps

@@ -1,5 +1,6 @@
-use Rattle.std.proofs.Common.{◌≡◌, ◌<◌, ◌≤◌, ◌+◌, ◌∷◌, ◌++◌, ◌∙◌, [], ℕ, List, true, false, sym, subst, arith}
+use Rattle.std.proofs.Common.{◌≡◌, ◌<◌, ◌≤◌, ◌+◌, ◌∷◌, ◌++◌, ◌∙◌, [], ℕ, List, true, false, refl, sym, subst, arith}
 use Rattle.std.specs.Prelude.{nat_le}
+use Rattle.std.specs.List.{insert}
 use Rattle.std.specs.Arc.{arc_value}
 use Rattle.std.proofs.lemmas.Bool.{leb-true, leb-false}
 use Rattle.std.proofs.lemmas.List.Elements.{All-nil}
@@ -60,57 +61,15 @@ returns-then-has_nearer-clause-near g c world names is_world stands d many =
     let k = c.args.kept.k in
     ends p k leaves c.args.steps.now (within p (reach_of p k world d)) c.loop-number.steps (leaves_ahead leaves c.loop-number.ahead.items) (c.loop-number.invariant.0.near world names is_world stands d many)
 
-pub returns-in_err-place-in-Halves-clause-opened : goal.returns-in_err-place-in-Halves-clause-opened
-returns-in_err-place-in-Halves-clause-opened g c =
+pub returns-in_err-put_halves-in-Halves-clause-opened : goal.returns-in_err-put_halves-in-Halves-clause-opened
+returns-in_err-put_halves-in-Halves-clause-opened g c =
     let leaves : List Leaf = g.I.Index.leaves c.args.index.now in
     let p = c.args.kept.from in
     let k = c.args.kept.k in
     ends-every p k leaves c.args.steps.now c.loop-number.steps (leaves_ahead leaves c.loop-number.ahead.items) c.loop-number.invariant.0.opened
 
-pub returns-in_err-place-in-Halves-clause-near : goal.returns-in_err-place-in-Halves-clause-near
-returns-in_err-place-in-Halves-clause-near g c world names is_world stands d many =
-    let leaves : List Leaf = g.I.Index.leaves c.args.index.now in
-    let p = c.args.kept.from in
-    let k = c.args.kept.k in
-    ends p k leaves c.args.steps.now (within p (reach_of p k world d)) c.loop-number.steps (leaves_ahead leaves c.loop-number.ahead.items) (c.loop-number.invariant.0.near world names is_world stands d many)
-
-pub returns-in_err-insert-in-Halves-clause-opened : goal.returns-in_err-insert-in-Halves-clause-opened
-returns-in_err-insert-in-Halves-clause-opened g c =
-    let leaves : List Leaf = g.I.Index.leaves c.args.index.now in
-    let p = c.args.kept.from in
-    let k = c.args.kept.k in
-    ends-every p k leaves c.args.steps.now c.loop-number.steps (leaves_ahead leaves c.loop-number.ahead.items) c.loop-number.invariant.0.opened
-
-pub returns-in_err-place-in-Halves-2-clause-opened : goal.returns-in_err-place-in-Halves-2-clause-opened
-returns-in_err-place-in-Halves-2-clause-opened g c =
-    let leaves : List Leaf = g.I.Index.leaves c.args.index.now in
-    let p = c.args.kept.from in
-    let k = c.args.kept.k in
-    ends-every p k leaves c.args.steps.now c.loop-number.steps (leaves_ahead leaves c.loop-number.ahead.items) c.loop-number.invariant.0.opened
-
-pub returns-in_err-insert-in-Halves-2-clause-opened : goal.returns-in_err-insert-in-Halves-2-clause-opened
-returns-in_err-insert-in-Halves-2-clause-opened g c =
-    let leaves : List Leaf = g.I.Index.leaves c.args.index.now in
-    let p = c.args.kept.from in
-    let k = c.args.kept.k in
-    ends-every p k leaves c.args.steps.now c.loop-number.steps (leaves_ahead leaves c.loop-number.ahead.items) c.loop-number.invariant.0.opened
-
-pub returns-in_err-insert-in-Halves-clause-near : goal.returns-in_err-insert-in-Halves-clause-near
-returns-in_err-insert-in-Halves-clause-near g c world names is_world stands d many =
-    let leaves : List Leaf = g.I.Index.leaves c.args.index.now in
-    let p = c.args.kept.from in
-    let k = c.args.kept.k in
-    ends p k leaves c.args.steps.now (within p (reach_of p k world d)) c.loop-number.steps (leaves_ahead leaves c.loop-number.ahead.items) (c.loop-number.invariant.0.near world names is_world stands d many)
-
-pub returns-in_err-place-in-Halves-2-clause-near : goal.returns-in_err-place-in-Halves-2-clause-near
-returns-in_err-place-in-Halves-2-clause-near g c world names is_world stands d many =
-    let leaves : List Leaf = g.I.Index.leaves c.args.index.now in
-    let p = c.args.kept.from in
-    let k = c.args.kept.k in
-    ends p k leaves c.args.steps.now (within p (reach_of p k world d)) c.loop-number.steps (leaves_ahead leaves c.loop-number.ahead.items) (c.loop-number.invariant.0.near world names is_world stands d many)
-
-pub returns-in_err-insert-in-Halves-2-clause-near : goal.returns-in_err-insert-in-Halves-2-clause-near
-returns-in_err-insert-in-Halves-2-clause-near g c world names is_world stands d many =
+pub returns-in_err-put_halves-in-Halves-clause-near : goal.returns-in_err-put_halves-in-Halves-clause-near
+returns-in_err-put_halves-in-Halves-clause-near g c world names is_world stands d many =
     let leaves : List Leaf = g.I.Index.leaves c.args.index.now in
     let p = c.args.kept.from in
     let k = c.args.kept.k in
@@ -225,12 +184,13 @@ loop-number-smaller g c =
     let t = taken p k leaves c.args.steps.now c.loop-number.steps c.loop-number.ahead.items left a c.loop-number.kept s (first-of c.loop-number.ahead.items c.take_nearest.new.ahead.items c.in-Some.number c.in-Some.next c.in-Some.ensures.taken) in
     let fore : Ahead = c.halves-fore.result.0 in
     let hind : Ahead = c.halves-fore.result.1 in
-    let mid : List Ahead = c.put_ahead.new.ahead.items in
-    let new : List Ahead = c.put_ahead-in-Halves.new.ahead.items in
+    let put = c.in_ok-put_halves-in-Halves.ensures.put in
+    let mid : List Ahead = insert left put.0 fore in
+    let new : List Ahead = c.put_halves.new.ahead.items in
     let fore_name : fore.name ≡ a.name ++ false ∷ [] = c.halves-fore.ensures.names.0 in
     let hind_name : hind.name ≡ a.name ++ true ∷ [] = c.halves-fore.ensures.names.1 in
-    let one = one-inserted left mid c.in_ok-place-in-Halves.place fore c.in_ok-place-in-Halves.ensures.put.1 in
-    let two = one-inserted mid new c.in_ok-place-in-Halves-2.place hind c.in_ok-place-in-Halves-2.ensures.put.1 in
+    let one = one-inserted left mid put.0 fore refl in
+    let two = one-inserted mid new put.1 hind put.2 in
     weight-two c.loop-number.ahead.items left mid new a fore hind (first-of c.loop-number.ahead.items c.take_nearest.new.ahead.items c.in-Some.number c.in-Some.next c.in-Some.ensures.taken) one two
     (inner-room a.name leaves tile c.in-Halves.ensures.0) fore_name hind_name
 
@@ -248,41 +208,27 @@ loop-number-preserved g c =
     let rest = left-at is_at c.loop-number.ahead.items left c.loop-number.places.items c.remove.new.self.items c.in-Some.number a c.loop-number.invariant.2 c.in-Some.ensures.taken c.remove.ensures.items in
     let fore : Ahead = c.halves-fore.result.0 in
     let hind : Ahead = c.halves-fore.result.1 in
-    let mid : List Ahead = c.put_ahead.new.ahead.items in
-    let new : List Ahead = c.put_ahead-in-Halves.new.ahead.items in
+    let put = c.in_ok-put_halves-in-Halves.ensures.put in
+    let mid : List Ahead = insert left put.0 fore in
+    let new : List Ahead = c.put_halves.new.ahead.items in
     let fore_name : fore.name ≡ a.name ++ false ∷ [] = c.halves-fore.ensures.names.0 in
     let hind_name : hind.name ≡ a.name ++ true ∷ [] = c.halves-fore.ensures.names.1 in
-    let one = one-inserted left mid c.in_ok-place-in-Halves.place fore c.in_ok-place-in-Halves.ensures.put.1 in
-    let two = one-inserted mid new c.in_ok-place-in-Halves-2.place hind c.in_ok-place-in-Halves-2.ensures.put.1 in
+    let one = one-inserted left mid put.0 fore refl in
+    let two = one-inserted mid new put.1 hind put.2 in
     let fore_is : IsAhead p fore = subst (λ q. IsAhead q fore) s.from c.halves-fore.ensures.ahead.0 in
     let hind_is : IsAhead p hind = subst (λ q. IsAhead q hind) s.from c.halves-fore.ensures.ahead.1 in
-    let at_fore = put-at is_at left mid c.remove.new.self.items c.insert.new.self.items c.in_ok-place-in-Halves.place fore c.in-Halves.zero rest (subst (is_at c.in-Halves.zero.now) (sym fore_name) c.in-Halves.ensures.2)
-    c.in_ok-place-in-Halves.ensures.put.1 c.in_ok-insert-in-Halves.ensures.items in (
+    let at_fore = put-at is_at left mid c.remove.new.self.items (insert c.remove.new.self.items put.0 c.in-Halves.zero) put.0 fore c.in-Halves.zero rest (subst (is_at c.in-Halves.zero.now) (sym fore_name) c.in-Halves.ensures.2) refl refl in (
       inner-state p k leaves c.args.steps.now tile c.loop-number.steps a left c.loop-number.kept t fore hind mid new c.in-Halves.ensures.0 c.in-Halves.ensures.1 fore_name hind_name fore_is hind_is one two,
       c.loop-number.invariant.1,
-      put-at is_at mid new c.insert.new.self.items c.insert-in-Halves.new.self.items c.in_ok-place-in-Halves-2.place hind c.in-Halves.one at_fore (subst (is_at c.in-Halves.one.now) (sym hind_name) c.in-Halves.ensures.3)
-          c.in_ok-place-in-Halves-2.ensures.put.1 c.in_ok-insert-in-Halves-2.ensures.items,
-      c.in_ok-place-in-Halves-2.ensures.sorted,
+      put-at is_at mid new (insert c.remove.new.self.items put.0 c.in-Halves.zero) c.put_halves.new.places.items put.1 hind c.in-Halves.one at_fore (subst (is_at c.in-Halves.one.now) (sym hind_name) c.in-Halves.ensures.3) put.2 put.3,
+      c.in_ok-put_halves-in-Halves.ensures.sorted,
     )
 
-pub insert-requires : goal.insert-requires
-insert-requires g c =
+pub put_halves-requires-clause-long : goal.put_halves-requires-clause-long
+put_halves-requires-clause-long g c =
     let is_at = g.I.Index.is_at c.args.index.now in
     let left : List Ahead = c.take_nearest.new.ahead.items in
-    let rest = left-at is_at c.loop-number.ahead.items left c.loop-number.places.items c.remove.new.self.items c.in-Some.number c.in-Some.next c.loop-number.invariant.2 c.in-Some.ensures.taken c.remove.ensures.items in
-    omega (arith, c.in_ok-place-in-Halves.ensures.put.0, length-at is_at left c.remove.new.self.items rest, c.remove.new.self.ok.0)
-
-pub insert-requires-in-Halves : goal.insert-requires-in-Halves
-insert-requires-in-Halves g c =
-    let is_at = g.I.Index.is_at c.args.index.now in
-    let left : List Ahead = c.take_nearest.new.ahead.items in
-    let mid : List Ahead = c.put_ahead.new.ahead.items in
-    let fore : Ahead = c.halves-fore.result.0 in
-    let fore_name : fore.name ≡ c.in-Some.next.name ++ false ∷ [] = c.halves-fore.ensures.names.0 in
-    let rest = left-at is_at c.loop-number.ahead.items left c.loop-number.places.items c.remove.new.self.items c.in-Some.number c.in-Some.next c.loop-number.invariant.2 c.in-Some.ensures.taken c.remove.ensures.items in
-    let at_fore = put-at is_at left mid c.remove.new.self.items c.insert.new.self.items c.in_ok-place-in-Halves.place fore c.in-Halves.zero rest (subst (is_at c.in-Halves.zero.now) (sym fore_name) c.in-Halves.ensures.2)
-    c.in_ok-place-in-Halves.ensures.put.1 c.in_ok-insert-in-Halves.ensures.items in
-    omega (arith, c.in_ok-place-in-Halves-2.ensures.put.0, length-at is_at mid c.insert.new.self.items at_fore, c.insert.new.self.ok.0)
+    length-at is_at left c.remove.new.self.items (left-at is_at c.loop-number.ahead.items left c.loop-number.places.items c.remove.new.self.items c.in-Some.number c.in-Some.next c.loop-number.invariant.2 c.in-Some.ensures.taken c.remove.ensures.items)
 
 pub returns-clause-keeps : goal.returns-clause-keeps
 returns-clause-keeps g c world names is_world stands =

@@ -1,14 +1,14 @@
 use Rattle.std.proofs.Common.{◌≡◌, ◌<◌, ◌^◌, ◌∙◌, List, length, length-append, true, false, not, sym, ap, subst, arith}
 use Rattle.std.specs.Prelude.{◌&&◌}
 use Rattle.std.specs.Arc.{arc_value}
-use Rattle.prefix_names.specs.Regions.{meet, lies_in, region_of}
+use Rattle.prefix_names.specs.Regions.{lies_in, region_of}
 use Rattle.index_layer.specs.Leaves.{Leaf, all_rows}
 use Rattle.table_share.specs.KeysUnder.{AreKeysUnder}
 use Rattle.table_share.specs.Subtree.{subtree}
 use Rattle.table_share.proofs.Subtrees.{inner-room, passing-both, passing-leaf, subtree-failing, subtree-leaf}
 use Rattle.range_query.specs.Cut.{is_met, is_cut, leaves_met, leaves_cut, number_in}
 use Rattle.range_query.proofs.BoxCounts.{count_one, count_two, cut_one}
-use Rattle.range_query.proofs.BoxLeaves.{is_met-narrows, is_cut-narrows, keys_of_leaf}
+use Rattle.range_query.proofs.BoxLeaves.{met-is, is_met-narrows, is_cut-narrows, keys_of_leaf}
 use Rattle.range_query.proofs.Reaches.{area-box}
 use Rattle.range_query.proofs.counts.+count_below.Goals as goal
 
@@ -16,14 +16,14 @@ pub returns-then-not-meets-clause-number : goal.returns-then-not-meets-clause-nu
 returns-then-not-meets-clause-number g t c under fits =
     let leaves : List Leaf = g.I.Index.leaves c.args.index.now in
     let region = c.args.region.now in
-    let fails : is_met region c.args.name.now ≡ false = sym (c.meets.ensures.test ∙ ap (λ r. meet r region) c.requires.area.is) ∙ c.if-not-meets.true in
+    let fails : is_met region c.args.name.now ≡ false = met-is region c.args.area.now c.args.name.now c.meets.result false c.meets.ensures.test c.requires.area.is c.if-not-meets.true in
     sym (ap (λ (ls : List Leaf). number_in region (all_rows ls)) (subtree-failing (is_met region) (is_met-narrows region c.requires.is_box) c.args.name.now 0 leaves (g.met.I.Index.are_leaves c.args.index.now).tile fails))
 
 pub returns-then-not-meets-clause-opened : goal.returns-then-not-meets-clause-opened
 returns-then-not-meets-clause-opened g t c =
     let leaves : List Leaf = g.I.Index.leaves c.args.index.now in
     let region = c.args.region.now in
-    let fails : is_met region c.args.name.now ≡ false = sym (c.meets.ensures.test ∙ ap (λ r. meet r region) c.requires.area.is) ∙ c.if-not-meets.true in
+    let fails : is_met region c.args.name.now ≡ false = met-is region c.args.area.now c.args.name.now c.meets.result false c.meets.ensures.test c.requires.area.is c.if-not-meets.true in
     let uncut : is_cut region c.args.name.now ≡ false = ap (λ b. b && not (lies_in (region_of c.args.name.now) region)) fails in
     omega (arith, ap length (subtree-failing (is_cut region) (is_cut-narrows region c.requires.is_box) c.args.name.now 0 leaves (g.met.I.Index.are_leaves c.args.index.now).tile uncut))
 
@@ -44,7 +44,7 @@ returns-in-Leaf-clause-number g t c under fits =
     let name = c.args.name.now in
     let region = c.args.region.now in
     let b = arc_value c.in-Leaf.bucket.now in
-    let met : is_met region name ≡ true = sym (c.meets.ensures.test ∙ ap (λ r. meet r region) c.requires.area.is) ∙ c.if-not-meets.false in
+    let met : is_met region name ≡ true = met-is region c.args.area.now c.args.name.now c.meets.result true c.meets.ensures.test c.requires.area.is c.if-not-meets.false in
     let one = passing-leaf (is_met region) leaves (g.met.I.Index.are_leaves c.args.index.now).tile name b c.in-Leaf.ensures met in
     let same = count_one region c.deref.result.now.rows (leaves_met region (subtree name leaves)) name b (ap (λ b. b.rows) c.deref.ensures) one in
     c.count_leaf.ensures.number (subst (λ b. AreKeysUnder name b.rows) (sym c.deref.ensures) (keys_of_leaf name b leaves c.in-Leaf.ensures under)) (subst (λ n. n < 2 ^ 64) same fits) ∙ sym same

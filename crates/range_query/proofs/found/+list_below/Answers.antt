@@ -2,13 +2,12 @@ use Rattle.std.proofs.Common.{◌≡◌, ◌≤◌, ◌+◌, ◌++◌, ◌∷◌
 use Rattle.std.specs.Arc.{arc_value}
 use Rattle.zorder.specs.declared.points.Placed.{Placed}
 use Rattle.index_layer.specs.Leaves.{Leaf}
-use Rattle.prefix_names.specs.Regions.{meet}
 use Rattle.table_share.specs.KeysUnder.{AreKeysUnder}
 use Rattle.table_share.specs.Subtree.{subtree, leaves_of}
 use Rattle.table_share.proofs.Subtrees.{inner-room, passing-both, passing-leaf, subtree-failing}
 use Rattle.range_query.specs.Cut.{is_met, leaves_met, objects_held}
 use Rattle.range_query.specs.Listing.{IsListing}
-use Rattle.range_query.proofs.BoxLeaves.{is_met-narrows, found_one, found_two, found_none, held-append, keys_of_leaf}
+use Rattle.range_query.proofs.BoxLeaves.{met-is, is_met-narrows, found_one, found_two, found_none, held-append, keys_of_leaf}
 use Rattle.range_query.proofs.Listings.{on_ok}
 use Rattle.range_query.proofs.Reaches.{area-box}
 use Rattle.range_query.proofs.found.+list_below.Goals as goal
@@ -16,14 +15,14 @@ use Rattle.range_query.proofs.found.+list_below.Goals as goal
 pub returns-then-not-meets-clause-lists : goal.returns-then-not-meets-clause-lists
 returns-then-not-meets-clause-lists g t c under ms fits is =
     let leaves : List Leaf = g.I.Index.leaves c.args.index.now in
-    let fails : is_met c.args.region.now c.args.name.now ≡ false = sym (c.meets.ensures.test ∙ ap (λ r. meet r c.args.region.now) c.requires.area.is) ∙ c.if-not-meets.true in
+    let fails : is_met c.args.region.now c.args.name.now ≡ false = met-is c.args.region.now c.args.area.now c.args.name.now c.meets.result false c.meets.ensures.test c.requires.area.is c.if-not-meets.true in
     let none = subtree-failing (is_met c.args.region.now) (is_met-narrows c.args.region.now c.requires.is_box) c.args.name.now 0 leaves (g.met.I.Index.are_leaves c.args.index.now).tile fails in
     subst (λ (xs : List Placed). IsListing xs c.args.found.now) (found_none c.args.region.now c.requires.is_box ms (leaves_met c.args.region.now (subtree c.args.name.now leaves)) none) is
 
 pub returns-then-not-meets-clause-exact : goal.returns-then-not-meets-clause-exact
 returns-then-not-meets-clause-exact g t c few =
     let leaves : List Leaf = g.I.Index.leaves c.args.index.now in
-    let fails : is_met c.args.region.now c.args.name.now ≡ false = sym (c.meets.ensures.test ∙ ap (λ r. meet r c.args.region.now) c.requires.area.is) ∙ c.if-not-meets.true in
+    let fails : is_met c.args.region.now c.args.name.now ≡ false = met-is c.args.region.now c.args.area.now c.args.name.now c.meets.result false c.meets.ensures.test c.requires.area.is c.if-not-meets.true in
     let none = subtree-failing (is_met c.args.region.now) (is_met-narrows c.args.region.now c.requires.is_box) c.args.name.now 0 leaves (g.met.I.Index.are_leaves c.args.index.now).tile fails in
     omega (arith, ap length none)
 
@@ -55,7 +54,7 @@ returns-in-Leaf-clause-lists g t c under ms fits is =
     let rows = c.deref.result.now.rows in
     let passes : List Bool → Bool = is_met region in
     let ls : List Leaf = leaves_of passes (subtree name leaves) in
-    let one = passing-leaf passes leaves (g.met.I.Index.are_leaves c.args.index.now).tile name b c.in-Leaf.ensures (sym (c.meets.ensures.test ∙ ap (λ r. meet r region) c.requires.area.is) ∙ c.if-not-meets.false) in
+    let one = passing-leaf passes leaves (g.met.I.Index.are_leaves c.args.index.now).tile name b c.in-Leaf.ensures (met-is region c.args.area.now c.args.name.now c.meets.result true c.meets.ensures.test c.requires.area.is c.if-not-meets.false) in
     let count = ap length (found_one region c.requires.is_box [] rows ls name b (ap (λ r. r.rows) c.deref.ensures) one) in
     subst (λ (xs : List Placed). OnOk c.list_leaf.result (IsListing xs c.list_leaf.new.found)) (found_one region c.requires.is_box ms rows ls name b (ap (λ r. r.rows) c.deref.ensures) one)
     (c.list_leaf.ensures.lists (subst (λ r. AreKeysUnder name r.rows) (sym c.deref.ensures) (keys_of_leaf name b leaves c.in-Leaf.ensures under)) ms (omega (arith, fits, count)) is)
@@ -64,14 +63,14 @@ pub returns-in-Leaf-clause-opened : goal.returns-in-Leaf-clause-opened
 returns-in-Leaf-clause-opened g t c =
     let leaves : List Leaf = g.I.Index.leaves c.args.index.now in
     let passes : List Bool → Bool = is_met c.args.region.now in
-    let one = passing-leaf passes leaves (g.met.I.Index.are_leaves c.args.index.now).tile c.args.name.now (arc_value c.in-Leaf.bucket.now) c.in-Leaf.ensures (sym (c.meets.ensures.test ∙ ap (λ r. meet r c.args.region.now) c.requires.area.is) ∙ c.if-not-meets.false) in
+    let one = passing-leaf passes leaves (g.met.I.Index.are_leaves c.args.index.now).tile c.args.name.now (arc_value c.in-Leaf.bucket.now) c.in-Leaf.ensures (met-is c.args.region.now c.args.area.now c.args.name.now c.meets.result true c.meets.ensures.test c.requires.area.is c.if-not-meets.false) in
     omega (arith, c.list_leaf.ensures.opened, ap length one)
 
 pub returns-in-Leaf-clause-exact : goal.returns-in-Leaf-clause-exact
 returns-in-Leaf-clause-exact g t c =
     let leaves : List Leaf = g.I.Index.leaves c.args.index.now in
     let passes : List Bool → Bool = is_met c.args.region.now in
-    let one = passing-leaf passes leaves (g.met.I.Index.are_leaves c.args.index.now).tile c.args.name.now (arc_value c.in-Leaf.bucket.now) c.in-Leaf.ensures (sym (c.meets.ensures.test ∙ ap (λ r. meet r c.args.region.now) c.requires.area.is) ∙ c.if-not-meets.false) in
+    let one = passing-leaf passes leaves (g.met.I.Index.are_leaves c.args.index.now).tile c.args.name.now (arc_value c.in-Leaf.bucket.now) c.in-Leaf.ensures (met-is c.args.region.now c.args.area.now c.args.name.now c.meets.result true c.meets.ensures.test c.requires.area.is c.if-not-meets.false) in
     subst (λ n. OnOk c.list_leaf.result (c.list_leaf.new.found.count ≤ 2048 → c.list_leaf.new.steps ≡ c.args.steps.now + n)) (sym (ap length one)) c.list_leaf.ensures.exact
 
 pub returns-in_ok-list_below-in-Halves-clause-lists : goal.returns-in_ok-list_below-in-Halves-clause-lists

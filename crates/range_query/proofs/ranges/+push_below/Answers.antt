@@ -2,25 +2,24 @@ use Rattle.std.proofs.Common.{◌≡◌, ◌+◌, ◌++◌, ◌∷◌, ◌∙◌
 use Rattle.std.specs.Arc.{arc_value}
 use Rattle.zorder.specs.declared.points.Placed.{Placed}
 use Rattle.index_layer.specs.Leaves.{Leaf}
-use Rattle.prefix_names.specs.Regions.{meet}
 use Rattle.table_share.specs.KeysUnder.{AreKeysUnder}
 use Rattle.table_share.specs.Subtree.{subtree, leaves_of}
 use Rattle.table_share.proofs.Subtrees.{whenever, inner-room, passing-both, passing-leaf, subtree-failing}
 use Rattle.range_query.specs.Cut.{is_met, leaves_met}
-use Rattle.range_query.proofs.BoxLeaves.{is_met-narrows, found_one, found_two, found_none, keys_of_leaf}
+use Rattle.range_query.proofs.BoxLeaves.{met-is, is_met-narrows, found_one, found_two, found_none, keys_of_leaf}
 use Rattle.range_query.proofs.ranges.+push_below.Goals as goal
 
 pub returns-then-not-meets-clause-objects : goal.returns-then-not-meets-clause-objects
 returns-then-not-meets-clause-objects g t c under =
     let leaves : List Leaf = g.I.Index.leaves c.args.index.now in
-    let fails : is_met c.args.region.now c.args.name.now ≡ false = sym (c.meets.ensures.test ∙ ap (λ r. meet r c.args.region.now) c.region.ensures.value) ∙ c.if-not-meets.true in
+    let fails : is_met c.args.region.now c.args.name.now ≡ false = met-is c.args.region.now c.region.result c.args.name.now c.meets.result false c.meets.ensures.test c.region.ensures.value c.if-not-meets.true in
     let none = subtree-failing (is_met c.args.region.now) (is_met-narrows c.args.region.now c.requires.is_box) c.args.name.now 0 leaves (g.met.I.Index.are_leaves c.args.index.now).tile fails in
     found_none c.args.region.now c.requires.is_box c.args.found.now.items (leaves_met c.args.region.now (subtree c.args.name.now leaves)) none
 
 pub returns-then-not-meets-clause-exact : goal.returns-then-not-meets-clause-exact
 returns-then-not-meets-clause-exact g t c =
     let leaves : List Leaf = g.I.Index.leaves c.args.index.now in
-    let fails : is_met c.args.region.now c.args.name.now ≡ false = sym (c.meets.ensures.test ∙ ap (λ r. meet r c.args.region.now) c.region.ensures.value) ∙ c.if-not-meets.true in
+    let fails : is_met c.args.region.now c.args.name.now ≡ false = met-is c.args.region.now c.region.result c.args.name.now c.meets.result false c.meets.ensures.test c.region.ensures.value c.if-not-meets.true in
     let none = subtree-failing (is_met c.args.region.now) (is_met-narrows c.args.region.now c.requires.is_box) c.args.name.now 0 leaves (g.met.I.Index.are_leaves c.args.index.now).tile fails in
     omega (arith, ap length none)
 
@@ -42,7 +41,7 @@ returns-in-Leaf-clause-objects g t c under =
     let name = c.args.name.now in
     let found = c.args.found.now.items in
     let passes : List Bool → Bool = is_met c.args.region.now in
-    let one = passing-leaf passes leaves (g.met.I.Index.are_leaves c.args.index.now).tile name (arc_value c.in-Leaf.bucket.now) c.in-Leaf.ensures (sym (c.meets.ensures.test ∙ ap (λ r. meet r c.args.region.now) c.region.ensures.value) ∙ c.if-not-meets.false) in
+    let one = passing-leaf passes leaves (g.met.I.Index.are_leaves c.args.index.now).tile name (arc_value c.in-Leaf.bucket.now) c.in-Leaf.ensures (met-is c.args.region.now c.region.result c.args.name.now c.meets.result true c.meets.ensures.test c.region.ensures.value c.if-not-meets.false) in
     subst (λ (ms : List Placed). OnOk c.push_leaf.result (c.push_leaf.new.found.items ≡ ms))
     (found_one c.args.region.now c.requires.is_box found c.deref.result.now.rows (leaves_of passes (subtree name leaves)) name (arc_value c.in-Leaf.bucket.now) (ap (λ b. b.rows) c.deref.ensures) one)
     (c.push_leaf.ensures.objects (subst (λ b. AreKeysUnder name b.rows) (sym c.deref.ensures) (keys_of_leaf name (arc_value c.in-Leaf.bucket.now) leaves c.in-Leaf.ensures under)))
@@ -51,14 +50,14 @@ pub returns-in-Leaf-clause-opened : goal.returns-in-Leaf-clause-opened
 returns-in-Leaf-clause-opened g t c =
     let leaves : List Leaf = g.I.Index.leaves c.args.index.now in
     let passes : List Bool → Bool = is_met c.args.region.now in
-    let one = passing-leaf passes leaves (g.met.I.Index.are_leaves c.args.index.now).tile c.args.name.now (arc_value c.in-Leaf.bucket.now) c.in-Leaf.ensures (sym (c.meets.ensures.test ∙ ap (λ r. meet r c.args.region.now) c.region.ensures.value) ∙ c.if-not-meets.false) in
+    let one = passing-leaf passes leaves (g.met.I.Index.are_leaves c.args.index.now).tile c.args.name.now (arc_value c.in-Leaf.bucket.now) c.in-Leaf.ensures (met-is c.args.region.now c.region.result c.args.name.now c.meets.result true c.meets.ensures.test c.region.ensures.value c.if-not-meets.false) in
     omega (arith, c.push_leaf.ensures.opened, ap length one)
 
 pub returns-in-Leaf-clause-exact : goal.returns-in-Leaf-clause-exact
 returns-in-Leaf-clause-exact g t c =
     let leaves : List Leaf = g.I.Index.leaves c.args.index.now in
     let passes : List Bool → Bool = is_met c.args.region.now in
-    let one = passing-leaf passes leaves (g.met.I.Index.are_leaves c.args.index.now).tile c.args.name.now (arc_value c.in-Leaf.bucket.now) c.in-Leaf.ensures (sym (c.meets.ensures.test ∙ ap (λ r. meet r c.args.region.now) c.region.ensures.value) ∙ c.if-not-meets.false) in
+    let one = passing-leaf passes leaves (g.met.I.Index.are_leaves c.args.index.now).tile c.args.name.now (arc_value c.in-Leaf.bucket.now) c.in-Leaf.ensures (met-is c.args.region.now c.region.result c.args.name.now c.meets.result true c.meets.ensures.test c.region.ensures.value c.if-not-meets.false) in
     whenever c.push_leaf.result (omega (arith, c.push_leaf.ensures.opened, ap length one))
 
 pub returns-in_ok-push_below-in-Halves-clause-objects : goal.returns-in_ok-push_below-in-Halves-clause-objects
