@@ -10,3 +10,4 @@ pub mod SplitCalls
 pub mod SplitCells
 pub mod Undone
 pub mod UpdateCalls
+pub mod EarlyReturns

@@ -1,5 +1,6 @@
 use Rattle.log_state.specs.Recovers.{Recovers}
-use Rattle.std.proofs.Common.{take, is_some, ap, ◌∙◌, arith}
+use Rattle.std.proofs.Common.{Some, take, is_some, sym, ap, ◌∙◌, arith}
+use Rattle.std.proofs.lemmas.List.{take_all}
 use Rattle.recovery.proofs.MakingLemmas.{not_made}
 use Rattle.recovery.proofs.OpeningLemmas.{leaves-trans, leaves-sync, leaves-cut, counts_on}
 use Rattle.recovery.proofs.opening.cut_behind.Goals as goal
@@ -63,3 +64,8 @@ returns-in_ok-sync-clause-cause g c = record {
   failed = tt;
   file = λ name make at. c.sync.ensures.cause.file name make (c.cut.ensures.cause.file name make at);
 }
+
+pub returns-else-len-end-clause-done : goal.returns-else-len-end-clause-done
+returns-else-len-end-clause-done g c xs told only =
+    let whole = take_all c.args.end xs (omega (arith, c.requires.whole xs told, c.if-len-end.false)) in
+    (told ∙ ap Some (sym whole), λ image left. only image left ∙ sym whole)

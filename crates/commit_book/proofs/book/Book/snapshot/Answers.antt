@@ -10,6 +10,8 @@ use Rattle.commit_book.proofs.BookSteps.{query_keeps, stands_again}
 use Rattle.commit_book.proofs.RefusalLemmas.{MayCall, may_call, passed}
 use Rattle.plain_list.proofs.SplitHistories.{open-le}
 use Rattle.commit_book.proofs.UpdateCalls.{keeps-query}
+use Rattle.commit_book.specs.Refusals.{IsMemory}
+use Rattle.commit_book.proofs.EarlyReturns.{since-same, same_books, if_any, hands_on, no_memory, done_freely}
 use Rattle.commit_book.proofs.book.Book.snapshot.Goals as goal
 
 pub overflow_add-len : goal.overflow_add-len
@@ -49,3 +51,60 @@ returns-clause-index g c =
     let entries : c.push.new.self.entries ≡ h ++ e ∷ [] = ap (λ (v : Events). v.entries) c.push.ensures ∙ ap (λ (v : Events). v.entries ++ e ∷ []) c.in_ok-reserve.ensures.ok in
     let world = c.self.invariant.world ∙ sym (ap (λ (t : State). t.world) steps.after ∙ query_keeps c.args.op.now _ c.requires) ∙ state_after-world w o (h ++ e ∷ []) in
     rw entries (stands_again _ _ _ _ _ c.in_ok-index.ensures.index (g.met.I.Index.are_leaves c.in_ok-index.index) world c.in_ok-index.ensures.rows (c.self.invariant.names ∙ sym (ap (λ (t : State). t.leaves) steps.after)))
+
+pub returns-in_err-check_call-clause-refused : goal.returns-in_err-check_call-clause-refused
+returns-in_err-check_call-clause-refused g c = hands_on (Unit {0}) IsMemory _ c.in_err-check_call.field-0.0 _ c.in_err-check_call.ensures c.from_residual.ensures.1
+
+pub returns-in_err-check_call-clause-err : goal.returns-in_err-check_call-clause-err
+returns-in_err-check_call-clause-err g c = if_any c.from_residual.result _ refl
+
+pub returns-in_err-check_call-clause-book : goal.returns-in_err-check_call-clause-book
+returns-in_err-check_call-clause-book g c = same_books g.D.LogDisk.drive g.I.Index.WIDTH _ _ refl c.keep.ensures
+
+pub returns-in_err-reserve-clause-refused : goal.returns-in_err-reserve-clause-refused
+returns-in_err-reserve-clause-refused g c = no_memory IsMemory _ _ refl (passed _ _ c.in_ok-check_call.ensures) c.from_residual-in_err-reserve.ensures.1
+
+pub returns-in_err-reserve-clause-err : goal.returns-in_err-reserve-clause-err
+returns-in_err-reserve-clause-err g c =
+    let b = c.self.inside in
+    if_any c.from_residual-in_err-reserve.result _ ((λ i. record { leaves = b.table.leaves; opening = b.opening; entries = (c.in_err-reserve.ensures.err i).entries; bucket = b.table.size; log = b.journal }) ∙ c.self.view_is)
+
+pub returns-in_err-reserve-clause-book : goal.returns-in_err-reserve-clause-book
+returns-in_err-reserve-clause-book g c =
+    let b = c.self.inside in
+    same_books g.D.LogDisk.drive g.I.Index.WIDTH _ _ ((λ i. record { leaves = b.table.leaves; opening = b.opening; entries = (c.in_err-reserve.ensures.err i).entries; bucket = b.table.size; log = b.journal }) ∙ c.self.view_is) c.keep.ensures
+
+pub returns-in_err-index-clause-refused : goal.returns-in_err-index-clause-refused
+returns-in_err-index-clause-refused g c = no_memory IsMemory _ _ refl (passed _ _ c.in_ok-check_call.ensures) c.from_residual-in_err-index.ensures.1
+
+pub returns-in_err-index-clause-err : goal.returns-in_err-index-clause-err
+returns-in_err-index-clause-err g c =
+    let b = c.self.inside in
+    if_any c.from_residual-in_err-index.result _ ((λ i. record { leaves = b.table.leaves; opening = b.opening; entries = (c.in_ok-reserve.ensures.ok i).entries; bucket = b.table.size; log = b.journal }) ∙ c.self.view_is)
+
+pub returns-in_err-index-clause-book : goal.returns-in_err-index-clause-book
+returns-in_err-index-clause-book g c =
+    let b = c.self.inside in
+    same_books g.D.LogDisk.drive g.I.Index.WIDTH _ _ ((λ i. record { leaves = b.table.leaves; opening = b.opening; entries = (c.in_ok-reserve.ensures.ok i).entries; bucket = b.table.size; log = b.journal }) ∙ c.self.view_is) c.keep.ensures
+
+pub returns-clause-ok : goal.returns-clause-ok
+returns-clause-ok g c =
+    let e : Entry = Call c.args.session c.args.row c.args.op.now in
+    rw (← c.self.view_is) (record {
+      entries = ap (λ (v : Events). v.entries) c.push.ensures ∙ ap (λ (v : Events). v.entries ++ e ∷ []) c.in_ok-reserve.ensures.ok;
+      place_is = c.calls-place.ensures;
+    })
+
+pub returns-clause-leaves : goal.returns-clause-leaves
+returns-clause-leaves g c = (c.in_ok-index.ensures.index ∙ ap (λ v. v.leaves) c.self.view_is, ap (λ v. v.leaves) c.self.view_is)
+
+pub returns-clause-refused : goal.returns-clause-refused
+returns-clause-refused g c = done_freely IsMemory _ _ (passed _ _ c.in_ok-check_call.ensures)
+
+pub returns-clause-book : goal.returns-clause-book
+returns-clause-book g c =
+    record {
+      before = c.keep.ensures;
+      after = c.keep-2.ensures;
+      origin = rw (← c.self.view_is) (record { opening = refl; bucket = refl; log = since-same c.self.inside.journal });
+    }
