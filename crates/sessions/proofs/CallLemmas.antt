@@ -1,7 +1,7 @@
 -- Calls, as their passes know them.
 use Rattle.std.proofs.Common.{◌≡◌, inl, inr, ℕ, Bool, true, false, cond, List, [], ◌∷◌, ◌++◌, Option, Some, None, Result, Ok, Err, refl, sym, ap, subst, ◌∙◌}
 use mathlib.Core.List.{IsPrefix}
-use Rattle.std.specs.Prelude.{IfErr, IfOk, ⊤, ◌==◌, ◌&&◌, length}
+use Rattle.std.specs.Prelude.{IfErr, IfOk, IsErrAnd, MatchResult, ⊤, ◌==◌, ◌&&◌, length}
 use Rattle.std.specs.Option.{option_map}
 use Rattle.std.proofs.lemmas.Bool.{and_right}
 use Rattle.plain_list.specs.declared.ops.Op.{Op}
@@ -341,6 +341,12 @@ module _ (w session row : ℕ) (op : Op) (old new : Known) where
     answered = answered-err Done IsMemoryOrDisk op (call_cause old.origin op updates.step.cells updates.step.before) fault (free-comes op fault update) updates.step.refused;
     leaves = fault-leaves Done w session row op old updates.step.before new fault updates.step.leaves updates.loses;
   }
+
+  pub change-answers : (before : Result Done BookFault) (after : Result Done CallFault) → IsUpdate op → Updates w session row op old new before
+      → MatchResult before (λ done. after ≡ Ok done) (λ fault. IsErrAnd after (λ (f : CallFault). f ≡ call_fault fault)) → Called w session row op old new after
+  change-answers (Ok done) after update updates is = subst (Called w session row op old new) (sym is) (change-ok done updates)
+  change-answers (Err fault) (Ok done) update updates is = absurd is
+  change-answers (Err fault) (Err f) update updates is = subst (λ (x : CallFault). Called w session row op old new (Err x)) (sym is) (change-err fault update updates)
 
 module _ (op : Op) (old : Known) (query : IsQuery op) where
   cause-is : (result : Result Done CallFault) (cells : ℕ) (before : List Entry) → IsAnswered op (call_refusal before) result → IsAnswered op (call_cause old.origin op cells before) result

@@ -1,17 +1,19 @@
 -- Lanes, row by row.
-use Rattle.std.proofs.Common.{◌≡◌, ℕ, suc, ◌+◌, ◌<◌, ◌≤◌, List, [], ◌∷◌, ◌++◌, length, take, drop, Option, Err, refl, sym, ap, subst, ◌∙◌, arith}
+use Rattle.std.proofs.Common.{◌≡◌, ℕ, suc, ◌+◌, ◌<◌, ◌≤◌, List, [], ◌∷◌, ◌++◌, length, take, drop, Option, Some, Ok, Err, refl, sym, ap, subst, ◌∙◌, arith}
 use Rattle.std.specs.Prelude.{slice_index_or}
-use Rattle.std.proofs.lemmas.List.{append-nil, take_all, take_more, take-append-drop}
+use Rattle.std.proofs.lemmas.List.{append-nil, get_or_default, take_all, take_more, take-append-drop}
 use Rattle.std.proofs.Math.Seq.{drop-cons}
 use Rattle.plain_list.specs.declared.ops.Op.{Op}
 use Rattle.plain_list.specs.declared.ops.Op.TheVariants.{Find}
 use Rattle.atomic_table.specs.Seated.{TableId}
 use Rattle.book_lock.specs.Pass.{Known}
+use Rattle.commit_book.specs.declared.book.Done.{Done}
 use Rattle.sessions.specs.declared.faults.CallFault.{CallFault}
+use Rattle.sessions.specs.declared.faults.Split.{Split}
 use Rattle.sessions.specs.declared.store.lanes.Lane.{Lane}
 use Rattle.sessions.specs.declared.store.lanes.KeptRow.{KeptRow}
 use Rattle.sessions.specs.Calls.{Called}
-use Rattle.sessions.specs.Lanes.{IsReady, Keeps, KeepsAll, Stops, Plays, KeepsOne, StopsAt, PlaysTo}
+use Rattle.sessions.specs.Lanes.{IsReady, Tries, Keeps, KeepsAll, Stops, Plays, KeepsOne, StopsAt, PlaysTo}
 use Rattle.sessions.proofs.StepLemmas.{same-later}
 use Rattle.sessions.proofs.SplitLemmas.{same-none}
 
@@ -21,6 +23,16 @@ keeps-more w session old mid new [] [] r k all one = (new, subst (λ (o : Known)
 keeps-more w session old mid new [] (x ∷ kept) r k all one = absurd all
 keeps-more w session old mid new (x ∷ rows) [] r k all one = absurd all
 keeps-more w session old mid new (x ∷ rows) (y ∷ kept) r k (next, first, rest) one = (next, first, keeps-more w session next mid new rows kept r k rest one)
+
+-- a row of a lane, whatever stands for one that is missing
+row-is : (rows : List (ℕ × Op)) (i : ℕ) (r d : ℕ × Op) → i < length rows → r ≡ slice_index_or rows i r → r ≡ slice_index_or rows i d
+row-is rows i r d within is = is ∙ get_or_default rows i r d within
+
+-- the row that was called, and what is kept of it
+pub keeps-at : (w session i : ℕ) (old mid new : Known) (rows : List (ℕ × Op)) (r : ℕ × Op) (done : Done) (split : Option Split) → i < length rows → r ≡ slice_index_or rows i r → Called w session r.0 r.1 old mid (Ok done) → Tries w done.full mid new split →
+    (d : ℕ × Op) → Keeps w session old new (slice_index_or rows i d) (record { row = r.0; place = done.place; answer = done.answer; split = split })
+keeps-at w session i old mid new rows r done split within is called tries d = subst (λ (x : ℕ × Op). Keeps w session old new x (record { row = r.0; place = done.place; answer = done.answer; split = split })) (row-is rows i r d within is)
+    (record { mid = mid; done = done; called = called; row_is = refl; place_is = refl; answer_is = refl; tries = tries })
 
 module _ {I D O P : Type 0} (w : ℕ) where
   pub plays-none : (lock : TableId) (lane : Lane I D O P) → IsReady lock lane → PlaysTo w 0 lane lane
@@ -88,3 +100,15 @@ module _ {I D O P : Type 0} (w : ℕ) where
         keeps = subst (λ (kept : List KeptRow). KeepsAll w old.session old.pass (take i old.rows.items) kept mid.pass) (sym stop.kept) plays.keeps;
         stops = subst (λ (fault : Option CallFault). Stops w old.session mid.pass new.pass (r ∷ drop (suc i) old.rows.items) fault) (sym stop.fault_is) called;
       }
+
+  -- a row was refused
+  pub stops-at : (i : ℕ) (old : Lane I D O P) (new : Known) (r : ℕ × Op) (fault : CallFault) → i < length old.rows.items → r ≡ slice_index_or old.rows.items i r → Called w old.session r.0 r.1 old.pass new (Err fault) →
+      StopsAt w i old (record old { pass = new; fault = Some fault })
+  stops-at i old new r fault within is called = record {
+    session = refl;
+    rows = refl;
+    kept = refl;
+    fault = fault;
+    fault_is = refl;
+    called = λ (d : ℕ × Op). subst (λ (x : ℕ × Op). Called w old.session x.0 x.1 old.pass new (Err fault)) (row-is old.rows.items i r d within is) called;
+  }

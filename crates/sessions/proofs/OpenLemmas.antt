@@ -1,5 +1,5 @@
 -- How often queries open a bucket, by the names of the leaves.
-use Rattle.std.proofs.Common.{◌≡◌, ℕ, ◌+◌, ◌<◌, ◌≤◌, Bool, true, false, cond, List, [], ◌∷◌, length, Some, None, Ok, Err, Result, refl, sym, ap, ◌∙◌, arith}
+use Rattle.std.proofs.Common.{◌≡◌, ℕ, ◌+◌, ◌<◌, ◌≤◌, Bool, true, false, cond, List, [], ◌∷◌, length, Option, Some, None, Ok, Err, Result, refl, sym, ap, ◌∙◌, arith}
 use Rattle.std.specs.Prelude.{nat_le, IfOk, IfSome, IsErr}
 use Rattle.std.specs.List.{count_by}
 use Rattle.std.proofs.lemmas.List.{length-map}
@@ -16,6 +16,7 @@ use Rattle.table_share.specs.Subtree.{leaves_of}
 use Rattle.range_query.specs.Cut.{is_met, leaves_met}
 use Rattle.range_query.specs.Listing.{OnFound}
 use Rattle.knn_query.specs.Ahead.{least_to, reach_of, OpensNear}
+use Rattle.commit_book.specs.Answers.{IsUpdate}
 use Rattle.sessions.specs.Opens.{listed_in, listed_by, number_met, number_within, OpensBox, OpensNearest, Opens}
 
 -- the leaves that pass a test, by their names
@@ -63,6 +64,15 @@ module _ (p : Point) (k : ℕ) (leaves : List Leaf) (names : List (List Bool)) (
   pub near-fails : {E : Type 0} (result : Result Answer E) → IsErr result → OpensNearest p k names world (listed_by (λ answer. answer) result) before now
   near-fails (Ok answer) is = absurd (cc is)
   near-fails (Err fault) is = record { most = omega (arith, most, length-map leaves (λ (l : Leaf). l.name), ap length are); near = within-near; some = tt }
+
+-- a change or a find opens nothing
+pub opens-still : (op : Op) (names : List (List Bool)) (world : List Placed) (listed : Option (List Placed)) (steps : ℕ) → IsUpdate op → Opens op names world listed steps steps
+opens-still (Put id at) names world listed steps update = refl
+opens-still (Move id at) names world listed steps update = refl
+opens-still (Remove id) names world listed steps update = refl
+opens-still (Find id) names world listed steps update = refl
+opens-still (Within region) names world listed steps update = absurd update
+opens-still (Near at k) names world listed steps update = absurd update
 
 -- a call that was refused opens nothing
 pub opens-none : (op : Op) (names : List (List Bool)) (world : List Placed) (steps : ℕ) → Opens op names world None steps steps

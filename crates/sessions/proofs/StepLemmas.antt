@@ -154,6 +154,16 @@ same-seen old new before later is = (
 pub same-later : (a b c : Known) → SamePass a b → SamePass b c → SamePass a c
 same-later a b c (p, q) (r, s) = (prefix-later a.seen b.seen c.seen p r, s ∙ (λ i. record (q i) { seen = c.seen; own = c.own }))
 
+-- the rest of such a pass
+pub same-lock : (a b : Known) → SamePass a b → b.lock ≡ a.lock
+same-lock a b (p, q) = ap (λ (k : Known). k.lock) q
+
+pub same-holds : (a b : Known) → SamePass a b → b.holds ≡ a.holds
+same-holds a b (p, q) = ap (λ (k : Known). k.holds) q
+
+pub same-parts : (a b : Known) → SamePass a b → b.parts ≡ a.parts
+same-parts a b (p, q) = ap (λ (k : Known). k.parts) q
+
 -- what a step leaves is the pass with more seen and own
 leaves-same : {A : Type 0} (entry : A → Entry) (lost : List Entry → Lost) (old : Known) (before : List Entry) (new : Known) (result : Result A BookFault) → IsPrefix old.seen before → Leaves entry lost old before new result → SamePass old new
 leaves-same entry lost old before new (Ok value) later is = same-added old new before (entry value) later is

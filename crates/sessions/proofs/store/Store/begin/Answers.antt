@@ -1,10 +1,10 @@
-use Rattle.std.proofs.Common.{ℕ, Bool, ap, sym, subst, ◌+◌, ◌∙◌, ◌≡◌}
+use Rattle.std.proofs.Common.{ℕ, sym, ◌+◌, ◌∙◌, ◌≡◌}
 use Rattle.plain_list.specs.declared.entries.Entry.TheVariants.{Begin}
 use Rattle.plain_list.specs.declared.entries.Lost.TheVariants as lost
 use Rattle.commit_book.specs.Refusals.{IsMemoryOrDisk}
 use Rattle.kept_log.specs.Journal.{cells_in}
 use Rattle.book_lock.specs.Ends.{MayNote}
-use Rattle.sessions.specs.Steps.{MayGive, has_entry, has_given}
+use Rattle.sessions.specs.Steps.{has_entry}
 use Rattle.sessions.specs.Splits.{begin_cause, number_of, state_of}
 use Rattle.sessions.proofs.StepLemmas.{WasTaken, may-give, may-as, given-as, says-all, begin-may}
 use Rattle.sessions.proofs.SplitLemmas.{begun-step, begun, begun-notes, begun-name, number-entry}

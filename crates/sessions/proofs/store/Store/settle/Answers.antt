@@ -1,4 +1,4 @@
-use Rattle.std.proofs.Common.{◌≡◌, [], ◌∷◌, ◌++◌, Some, inr, ap, sym, subst, ◌∙◌}
+use Rattle.std.proofs.Common.{◌≡◌, [], ◌∷◌, ◌++◌, Some, inl, inr, refl, sym, subst, ◌∙◌}
 use Rattle.commit_book.specs.declared.faults.BookFault.{BookFault}
 use Rattle.commit_book.specs.declared.faults.BookFault.TheVariants as book
 use Rattle.book_lock.specs.Pass.{Known}
@@ -7,7 +7,8 @@ use Rattle.sessions.specs.Steps.{all_parts}
 use Rattle.sessions.specs.Splits.{SamePass, SplitEnds}
 use Rattle.sessions.specs.Settles.{IsSettleFault}
 use Rattle.sessions.specs.declared.faults.Split.TheVariants.{Installed, NotSplit}
-use Rattle.sessions.proofs.StepLemmas.{same-later}
+use Rattle.sessions.proofs.StepLemmas.{same-later, same-parts}
+use Rattle.sessions.proofs.SplitLemmas.{same-none}
 use Rattle.sessions.proofs.SettleLemmas.{splits-more, room-begin}
 use Rattle.sessions.proofs.store.Store.settle.Goals as goal
 
@@ -37,7 +38,7 @@ returns-in-NotSplit-Room-clause-settles g c =
     let same = c.next-in-loop.ensures.pass in
     let arm = c.in-NotSplit-Room in
     let full : next_full w mid ≡ Some name = sym c.in-Ok-Some.ensures.next.1 ∙ c.in-Ok-Some.field-0-is in
-    let all : mid.parts ≡ all_parts = ap (λ (k : Known). k.parts) so_far.pass.1 ∙ c.requires.all in
+    let all : mid.parts ≡ all_parts = same-parts c.args.pass.now mid so_far.pass ∙ c.requires.all in
     let ends : SplitEnds w name mid new (NotSplit (book.Room arm.field-0-0 arm.field-0-1)) =
     subst (λ (f : BookFault). SplitEnds w name mid new (NotSplit f)) arm.field-0-is (subst (λ (k : Known). SplitEnds w name k new (NotSplit arm.field-0)) same arm.ensures.ends) in
     record {
@@ -73,3 +74,31 @@ returns-in-NotSplit g c =
       };
       pass = same-later old mid new so_far.pass (subst (λ (k : Known). SamePass k new) same c.in-NotSplit.ensures.pass);
     }
+
+pub loop-init : goal.loop-init
+loop-init g c = record { numbers = []; splits = refl; pass = same-none c.args.pass.now }
+
+pub returns-in-Ok-None : goal.returns-in-Ok-None
+returns-in-Ok-None g c =
+    let so_far = c.loop.invariant in
+    let same = c.next-in-loop.ensures.pass in
+    let next = c.in-Ok-None.ensures.next in
+    record {
+      settles = record { numbers = so_far.numbers; mid = c.loop.pass; splits = so_far.splits; ends = ((next.0, sym c.in-Ok-None.field-0-is ∙ next.1), same) };
+      pass = subst (SamePass c.args.pass.now) (sym same) so_far.pass;
+    }
+
+pub returns-in-Err : goal.returns-in-Err
+returns-in-Err g c =
+    let so_far = c.loop.invariant in
+    let same = c.next-in-loop.ensures.pass in
+    record {
+      settles = record { numbers = so_far.numbers; mid = c.loop.pass; splits = so_far.splits; ends = inl (c.in-Err.ensures.next, same) };
+      pass = subst (SamePass c.args.pass.now) (sym same) so_far.pass;
+    }
+
+pub returns-in-NotSplit-Room-clause-pass : goal.returns-in-NotSplit-Room-clause-pass
+returns-in-NotSplit-Room-clause-pass g c =
+    let mid = c.loop.pass in
+    let new = c.split_next.new.pass in
+    same-later c.args.pass.now mid new c.loop.invariant.pass (subst (λ (k : Known). SamePass k new) c.next-in-loop.ensures.pass c.in-NotSplit-Room.ensures.pass)
