@@ -54,7 +54,6 @@ fn a_drive_that_tells_nothing_is_a_drive(rt: HostRuntime) -> Result<(), Fail> {
     assert_is!(rt; matches!(attached, Err(AttachFault::Disk)));
     write_and_sync(&mut disk)?;
     disk.cut(0)?;
-    assert_is!(rt; matches!(disk.len(), Ok(0)));
-    assert_is!(rt; matches!(disk.read(0, &mut [0; 4]), Ok(0)));
+    assert_same!(rt; (disk.len(), disk.read(0, &mut [0; 4])), (Ok(0), Ok(0)));
     Ok(())
 }

@@ -45,14 +45,12 @@ fn a_ticket_and_what_was_prepared_may_be_sent() {
 fn expect_children(rt: &impl Abort, prepared: &Prepared, wanted: &[&[Row]]) {
     assert_same!(rt; prepared.children().len(), wanted.len());
     for (child, rows) in prepared.children().iter().zip(wanted) {
-        assert_same!(rt; child.base_rows(), *rows);
-        assert_same!(rt; child.count(), rows.len() as u64);
+        assert_same!(rt; (child.base_rows(), child.count()), (*rows, rows.len() as u64));
     }
 }
 
 fn expect_head(rt: &impl Abort, prepared: &Prepared, number: u64, base: &[Row]) {
-    assert_same!(rt; prepared.number(), number);
-    assert_same!(rt; prepared.name(), Name::whole());
+    assert_same!(rt; (prepared.number(), prepared.name()), (number, Name::whole()));
     assert_same!(rt; prepared.base_rows(), base);
 }
 

@@ -1,13 +1,12 @@
 //! Queries of an index through the trait's bound.
 ghost use Rattle.std.specs.Prelude.{◌≡◌};
 
+use crate::index::asks::{expect_box, expect_near};
 use crate::index::buckets::{halves, three_rows};
 use bucket_versions::Row;
 use flat_index::FlatIndex;
 use index_layer::Index;
 use kd_trie::KdTrie;
-use knn_query::nearest;
-use range_query::{count_in, range};
 use std::alloc::Global;
 use std::marker::Brand;
 use std::process::Abort;
@@ -15,7 +14,7 @@ use std::sync::ledger::{Blank, Ledger};
 use std::test::*;
 use step_count::Steps;
 use table_share::{for_rows, scan};
-use zorder::{Name, Placed, Point, Region, child};
+use zorder::{Memory, Name, Placed, Point, Region, child};
 
 // Two leaves, of which the first one has three rows.
 fn filled<I: Index>(alloc: Global) -> Result<I, Fail>
@@ -30,47 +29,33 @@ const ORIGIN: Point = Point { x: 0, y: 0 };
 
 const RIGHT: Point = Point { x: 1, y: 0 };
 
-const AT_RIGHT: [Placed; 1] = [Placed { id: 4, at: RIGHT }];
+const AT_RIGHT: &[Placed] = &[Placed { id: 4, at: RIGHT }];
+
+const BOX: Region = Region {
+    lo: ORIGIN,
+    hi: RIGHT,
+};
+
+const LATER_ROWS: &[Row] = &[Row { key: 2, id: 4 }, Row { key: 27, id: 7 }];
+
+fn expect_rows(rt: &impl Abort, rows: &Vec<Row>) {
+    assert_same!(rt; rows.as_slice(), LATER_ROWS);
+}
 
 fn answers_rows<I: Index, L: Ledger>(
     rt: &impl Abort,
     alloc: Global,
     index: &I,
     steps: &mut Steps<L>,
-) -> Result<(), Fail> {
+) -> Result<(), Memory> {
+    assert_same!(rt; last_id(index, steps), 7);
     let rows = scan(alloc, index, 2, 27, steps)?;
-    let wanted = [Row { key: 2, id: 4 }, Row { key: 27, id: 7 }];
-    assert_same!(rt; rows.as_slice(), wanted.as_slice());
-    let last = for_rows(index, 0u64, |_, row: &Row| row.id, steps);
-    assert_same!(rt; last, 7);
+    expect_rows(rt, &rows);
     Ok(())
 }
 
-fn answers_a_box<I: Index, L: Ledger>(
-    rt: &impl Abort,
-    alloc: Global,
-    index: &I,
-    steps: &mut Steps<L>,
-) -> Result<(), Fail> {
-    let region = Region {
-        lo: ORIGIN,
-        hi: RIGHT,
-    };
-    let found = range(alloc, index, &region, steps)?;
-    assert_same!(rt; found.as_slice(), AT_RIGHT.as_slice());
-    assert_same!(rt; count_in(index, &region, steps), 1);
-    Ok(())
-}
-
-fn answers_a_near<I: Index, L: Ledger>(
-    rt: &impl Abort,
-    alloc: Global,
-    index: &I,
-    steps: &mut Steps<L>,
-) -> Result<(), Fail> {
-    let list = nearest(alloc, index, ORIGIN, 1, steps)?;
-    assert_same!(rt; list.as_slice(), AT_RIGHT.as_slice());
-    Ok(())
+fn last_id<I: Index, L: Ledger>(index: &I, steps: &mut Steps<L>) -> u64 {
+    for_rows(index, 0u64, |_, row: &Row| row.id, steps)
 }
 
 fn answers_the_worked_queries<I: Index, L: Ledger>(
@@ -86,8 +71,9 @@ fn answers_the_worked_queries<I: Index, L: Ledger>(
     let index = filled::<I>(alloc)?;
     let mut steps = Steps::<L>::new(blank);
     answers_rows(rt, alloc, &index, &mut steps)?;
-    answers_a_box(rt, alloc, &index, &mut steps)?;
-    answers_a_near(rt, alloc, &index, &mut steps)
+    expect_box(rt, alloc, &index, &BOX, AT_RIGHT, &mut steps)?;
+    expect_near(rt, alloc, &index, ORIGIN, 1, AT_RIGHT, &mut steps)?;
+    Ok(())
 }
 
 #[test]
