@@ -74,10 +74,9 @@ fn delta_behind(bucket: Result<Bucket, BucketFault>) -> Result<u64, BucketFault>
     }
 }
 
-fn expect_folded(rt: &impl Abort, bucket: &Bucket, rows: &[Row]) -> Result<(), Memory> {
-    let folded = bucket.folded()?;
+fn expect_folded(rt: &impl Abort, bucket: &Bucket, rows: &[Row]) {
+    let folded = bucket.folded().expect(rt, "it failed");
     assert_same!(rt; folded.base_rows(), rows);
-    Ok(())
 }
 
 // `c` is `b` with a put.
@@ -88,44 +87,43 @@ fn keeps_the_base(rt: &impl Abort, b: &Bucket, c: &Bucket) {
     assert_same!(rt; tells(b, &row(2, 4)), (2, 0, false));
 }
 
-fn takes_a_put(rt: &impl Abort, b: &Bucket) -> Result<(), BucketFault> {
-    let c = b.with_put(row(2, 4))?;
+fn takes_a_put(rt: &impl Abort, b: &Bucket) {
+    let c = b.with_put(row(2, 4)).expect(rt, "it failed");
     keeps_the_base(rt, b, &c);
     assert_is!(rt; is_listed(&c, &THREE));
-    Ok(expect_folded(rt, &c, &THREE)?)
+    expect_folded(rt, &c, &THREE);
 }
 
 #[test]
-fn a_put_keeps_the_base_and_folding_moves_it(rt: HostRuntime) -> Result<(), BucketFault> {
-    let b = two_rows(rt.alloc())?;
-    takes_a_put(&rt, &b)
+fn a_put_keeps_the_base_and_folding_moves_it(rt: HostRuntime) {
+    let b = two_rows(rt.alloc()).expect(&rt, "it failed");
+    takes_a_put(&rt, &b);
 }
 
 // `d` is `c` without a row.
-fn keeps_the_other_rows(rt: &impl Abort, c: &Bucket, d: &Bucket) -> Result<(), Memory> {
+fn keeps_the_other_rows(rt: &impl Abort, c: &Bucket, d: &Bucket) {
     assert_same!(rt; delta_behind(c.with_gone(row(2, 4))), Ok(0));
     assert_same!(rt; tells(d, &row(27, 7)), (2, 2, false));
     assert_same!(rt; delta_behind(d.with_put(row(27, 7))), Ok(1));
     assert_same!(rt; d.base_rows(), TWO.as_slice());
-    expect_folded(rt, d, &THREE[..2])
+    expect_folded(rt, d, &THREE[..2]);
 }
 
-fn refuses_an_absent_row(rt: &impl Abort, alloc: Global) -> Result<(), Memory> {
-    let b = two_rows(alloc)?;
+fn refuses_an_absent_row(rt: &impl Abort, alloc: Global) {
+    let b = two_rows(alloc).expect(rt, "it failed");
     assert_same!(rt; delta_behind(b.with_gone(row(2, 1))), Err(BucketFault::Absent));
-    Ok(())
 }
 
-fn takes_a_removal(rt: &impl Abort, c: &Bucket) -> Result<(), BucketFault> {
-    let d = c.with_gone(row(27, 7))?;
-    Ok(keeps_the_other_rows(rt, c, &d)?)
+fn takes_a_removal(rt: &impl Abort, c: &Bucket) {
+    let d = c.with_gone(row(27, 7)).expect(rt, "it failed");
+    keeps_the_other_rows(rt, c, &d);
 }
 
 #[test]
-fn a_removal_keeps_the_base_and_the_other_rows(rt: HostRuntime) -> Result<(), BucketFault> {
-    refuses_an_absent_row(&rt, rt.alloc())?;
-    let c = three_rows(rt.alloc())?;
-    takes_a_removal(&rt, &c)
+fn a_removal_keeps_the_base_and_the_other_rows(rt: HostRuntime) {
+    refuses_an_absent_row(&rt, rt.alloc());
+    let c = three_rows(rt.alloc()).expect(&rt, "it failed");
+    takes_a_removal(&rt, &c);
 }
 
 // A bucket whose base has a row less in its range than the other has.
@@ -136,8 +134,7 @@ fn caught_up(alloc: Global) -> Result<Bucket, BucketFault> {
 }
 
 #[test]
-fn a_cut_bucket_catches_up_with_the_rows_in_its_range(rt: HostRuntime) -> Result<(), BucketFault> {
-    let late = caught_up(rt.alloc())?;
+fn a_cut_bucket_catches_up_with_the_rows_in_its_range(rt: HostRuntime) {
+    let late = caught_up(rt.alloc()).expect(&rt, "it failed");
     assert_same!(rt; (late.base_rows(), late.count()), (&THREE[1..], 2));
-    Ok(())
 }

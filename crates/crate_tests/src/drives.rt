@@ -22,24 +22,15 @@ fn a_drive_may_be_sent_between_threads() {
 // An image of a moment by a length and what fills it.
 type Image = (u64, u64, u8, &'static [u8]);
 
-fn expect_image(
-    rt: &impl Abort,
-    disk: &MemDisk,
-    moment: u64,
-    len: u64,
-    fill: u8,
-    want: &[u8],
-) -> Result<(), PickFault> {
-    let image = disk.pick(moment, len, &[fill])?;
+fn expect_image(rt: &impl Abort, disk: &MemDisk, moment: u64, len: u64, fill: u8, want: &[u8]) {
+    let image = disk.pick(moment, len, &[fill]).expect(rt, "it failed");
     assert_same!(rt; (moment, image.as_slice()), (moment, want));
-    Ok(())
 }
 
-fn expect_images(rt: &impl Abort, disk: &MemDisk, images: &[Image]) -> Result<(), PickFault> {
+fn expect_images(rt: &impl Abort, disk: &MemDisk, images: &[Image]) {
     for (moment, len, fill, want) in images {
-        expect_image(rt, disk, *moment, *len, *fill, want)?;
+        expect_image(rt, disk, *moment, *len, *fill, want);
     }
-    Ok(())
 }
 
 // Four moments: of the bytes as they were, of two writes, and of a sync between them.
@@ -59,13 +50,12 @@ const IMAGES: &[Image] = &[
 ];
 
 #[test]
-fn bytes_of_a_write_are_any_until_its_sync(rt: HostRuntime) -> Result<(), Memory> {
-    let mut disk = two_bytes(rt.alloc(), &[])?;
+fn bytes_of_a_write_are_any_until_its_sync(rt: HostRuntime) {
+    let mut disk = two_bytes(rt.alloc(), &[]).expect(&rt, "it failed");
     assert_same!(rt; write_twice(&mut disk), Ok(()));
-    assert_same!(rt; expect_images(&rt, &disk, IMAGES), Ok(()));
-    let behind = expect_image(&rt, &disk, 4, 9, 0, &[]);
-    assert_same!(rt; behind, Err(PickFault::NoMoment { moments: 3 }));
-    Ok(())
+    expect_images(&rt, &disk, IMAGES);
+    let behind = PickFault::NoMoment { moments: 3 };
+    assert_same!(rt; disk.pick(4, 9, &[0]).err(), Some(behind));
 }
 
 fn cut<D: LogDisk>(disk: &mut D) -> Result<(), DiskFault> {
@@ -75,11 +65,10 @@ fn cut<D: LogDisk>(disk: &mut D) -> Result<(), DiskFault> {
 const LENGTHS: &[Image] = &[(1, 0, 9, &[]), (1, 1, 9, &[9]), (1, 9, 9, &[9, 9])];
 
 #[test]
-fn a_cut_may_leave_each_length(rt: HostRuntime) -> Result<(), Memory> {
-    let mut disk = two_bytes(rt.alloc(), &[])?;
+fn a_cut_may_leave_each_length(rt: HostRuntime) {
+    let mut disk = two_bytes(rt.alloc(), &[]).expect(&rt, "it failed");
     assert_same!(rt; cut(&mut disk), Ok(()));
-    assert_same!(rt; expect_images(&rt, &disk, LENGTHS), Ok(()));
-    Ok(())
+    expect_images(&rt, &disk, LENGTHS);
 }
 
 const FAILING: &[Failing] = &[
@@ -162,9 +151,8 @@ fn fails_by_kind_and_number<D: LogDisk>(rt: &impl Abort, disk: &mut D, alloc: Gl
 }
 
 #[test]
-fn calls_fail_by_kind_and_number(rt: HostRuntime) -> Result<(), Memory> {
-    let mut disk = two_bytes(rt.alloc(), FAILING)?;
+fn calls_fail_by_kind_and_number(rt: HostRuntime) {
+    let mut disk = two_bytes(rt.alloc(), FAILING).expect(&rt, "it failed");
     fails_by_kind_and_number(&rt, &mut disk, rt.alloc());
-    assert_same!(rt; expect_image(&rt, &disk, 5, 8, 3, &[3; 8]), Ok(()));
-    Ok(())
+    expect_image(&rt, &disk, 5, 8, 3, &[3; 8]);
 }

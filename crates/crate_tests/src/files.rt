@@ -3,6 +3,7 @@ use crate::folder::{path_of, taken_away};
 use disk_file::FileDisk;
 use disk_trait::{AttachFault, DiskFault, LogDisk};
 use std::alloc::Global;
+use std::env::Env;
 use std::fs::Files;
 use std::path::PathBuf;
 use std::process::Abort;
@@ -50,23 +51,25 @@ fn makes_a_file<R: Abort + Files + AllocGlobal, D: LogDisk + Send>(
     rt: &R,
     disk: &mut D,
     name: &str,
-) -> io::Result<()> {
+) {
     is_not_made(rt, disk, rt.alloc(), name);
     assert_is!(rt; matches!(fs::exists(rt, name), Ok(false)));
     is_made(rt, disk, rt.alloc(), name);
-    let bytes = taken_away(rt, name)?;
+    let bytes = taken_away(rt, name).expect(rt, "it failed");
     assert_same!(rt; bytes.as_slice(), b"Abxy".as_slice());
-    Ok(())
 }
 
-fn path(rt: &HostRuntime) -> Result<PathBuf, Fail> {
-    let name = format!(in rt.alloc(); "disk_file-{}", process::id(rt.process()))?;
-    Ok(path_of(rt, name.as_str())?)
+fn path<R: Abort + Env + AllocGlobal>(rt: &R, id: u32) -> PathBuf {
+    let name = format!(in rt.alloc(); "disk_file-{id}").expect(rt, "a name");
+    path_of(rt, name.as_str()).expect(rt, "a path")
 }
 
 #[test]
-fn a_file_is_made_where_it_may_be_and_keeps_what_is_written(rt: HostRuntime) -> Result<(), Fail> {
-    let path = path(&rt)?;
-    makes_a_file(&rt, &mut FileDisk::new(rt.clone()?), path.as_str())?;
-    Ok(())
+fn a_file_is_made_where_it_may_be_and_keeps_what_is_written(rt: HostRuntime) {
+    let path = path(&rt, process::id(rt.process()));
+    makes_a_file(
+        &rt,
+        &mut FileDisk::new(rt.clone().expect(&rt, "it failed")),
+        path.as_str(),
+    );
 }

@@ -48,15 +48,9 @@ fn expect_text(rt: &impl Abort, sink: &Kept, text: &[u8]) {
     assert_same!(rt; sink.bytes.as_slice(), text);
 }
 
-fn expect_rows(
-    rt: &impl Abort,
-    alloc: Global,
-    text: &[u8],
-    expected: &[InRow],
-) -> Result<(), RowsFault> {
-    let rows = read_rows(alloc, text)?;
+fn expect_rows(rt: &impl Abort, alloc: Global, text: &[u8], expected: &[InRow]) {
+    let rows = read_rows(alloc, text).expect(rt, "it failed");
     assert_same!(rt; rows.as_slice(), expected);
-    Ok(())
 }
 
 fn how_many(alloc: Global, text: &[u8]) -> Result<usize, RowsFault> {
@@ -101,13 +95,10 @@ const SPELLINGS: &[&[u8]] = &[
 ];
 
 #[test]
-fn quotes_line_ends_empty_lines_and_one_mark_change_no_row(
-    rt: HostRuntime,
-) -> Result<(), RowsFault> {
+fn quotes_line_ends_empty_lines_and_one_mark_change_no_row(rt: HostRuntime) {
     for text in SPELLINGS {
-        expect_rows(&rt, rt.alloc(), text, FIRST_ROWS)?;
+        expect_rows(&rt, rt.alloc(), text, FIRST_ROWS);
     }
-    Ok(())
 }
 
 const CORNER: Point = Point { x: 3, y: 5 };
@@ -149,8 +140,8 @@ const OTHER_TEXT: &[u8] =
     b"session,op,id,x,y,a,b\n16,move,18446744073709551615,4294967295,0,,\n2,drop,0,,,,\n1,box,,3,5,3,5\n1,near,,0,0,2048,\n";
 
 #[test]
-fn the_other_operations_are_read(rt: HostRuntime) -> Result<(), RowsFault> {
-    expect_rows(&rt, rt.alloc(), OTHER_TEXT, OTHER_ROWS)
+fn the_other_operations_are_read(rt: HostRuntime) {
+    expect_rows(&rt, rt.alloc(), OTHER_TEXT, OTHER_ROWS);
 }
 
 const NO_HEADERS: &[&[u8]] = &[
@@ -222,12 +213,12 @@ fn many_rows(alloc: Global) -> Result<Vec<u8>, AllocError> {
 }
 
 #[test]
-fn the_record_behind_65536_rows_is_one_too_many(rt: HostRuntime) -> Result<(), AllocError> {
-    let mut text = many_rows(rt.alloc())?;
+fn the_record_behind_65536_rows_is_one_too_many(rt: HostRuntime) {
+    let mut text = many_rows(rt.alloc()).expect(&rt, "it failed");
     assert_same!(rt; how_many(rt.alloc(), text.as_slice()), Ok(65_536));
-    text.extend_from_slice(b"x\n".as_slice())?;
+    text.extend_from_slice(b"x\n".as_slice())
+        .expect(&rt, "it failed");
     assert_same!(rt; how_many(rt.alloc(), text.as_slice()), Err(RowsFault::TooMany));
-    Ok(())
 }
 
 const NUMBERS: &[(&[u8], u64, Option<u64>)] = &[
@@ -276,24 +267,16 @@ fn expect_line(rt: &impl Abort, alloc: Global, number: u32, answer: &Answer, lin
     expect_text(rt, &sink, line);
 }
 
-fn expect_told(
-    rt: &impl Abort,
-    alloc: Global,
-    number: u32,
-    told: Told,
-    line: &[u8],
-) -> Result<(), AllocError> {
-    let answer = answer_of(alloc, told)?;
+fn expect_told(rt: &impl Abort, alloc: Global, number: u32, told: Told, line: &[u8]) {
+    let answer = answer_of(alloc, told).expect(rt, "it failed");
     expect_line(rt, alloc, number, &answer, line);
-    Ok(())
 }
 
 #[test]
-fn answers_are_written_as_lines(rt: HostRuntime) -> Result<(), AllocError> {
+fn answers_are_written_as_lines(rt: HostRuntime) {
     for (number, told, line) in LINES {
-        expect_told(&rt, rt.alloc(), *number, *told, line)?;
+        expect_told(&rt, rt.alloc(), *number, *told, line);
     }
-    Ok(())
 }
 
 const FAR: Placed = Placed {
@@ -316,11 +299,10 @@ fn goes_in_pieces(rt: &impl Abort, alloc: Global, answer: &Answer) {
 }
 
 #[test]
-fn a_list_of_2048_points_goes_in_pieces(rt: HostRuntime) -> Result<(), AllocError> {
-    let answer = long_list(rt.alloc())?;
+fn a_list_of_2048_points_goes_in_pieces(rt: HostRuntime) {
+    let answer = long_list(rt.alloc()).expect(&rt, "it failed");
     goes_in_pieces(&rt, rt.alloc(), &answer);
     assert_is!(rt; write_line(&mut Kept::new(rt.alloc(), 1), 1, 1, &answer).is_err());
-    Ok(())
 }
 
 const REFUSALS: &[(Refusal, &[u8])] = &[
@@ -411,11 +393,15 @@ fn expect_written(rt: &impl Abort, alloc: Global, rows: &Rows, text: &[u8]) {
 }
 
 #[test]
-fn rows_are_written_as_they_are_read(rt: HostRuntime) -> Result<(), RowsFault> {
+fn rows_are_written_as_they_are_read(rt: HostRuntime) {
     let text: &[u8] =
         b"session,op,id,x,y,a,b\n1,put,1717,3938983765,2969520912,,\n16,move,7,8,8,,\n1,drop,7,,,,\n1,where,7,,,,\n1,box,,3,5,3,5\n1,near,,0,0,2048,\n";
-    expect_written(&rt, rt.alloc(), &read_rows(rt.alloc(), text)?, text);
-    Ok(())
+    expect_written(
+        &rt,
+        rt.alloc(),
+        &read_rows(rt.alloc(), text).expect(&rt, "it failed"),
+        text,
+    );
 }
 
 const TOLD: &[(RowsFault, &str)] = &[
@@ -432,21 +418,14 @@ const TOLD: &[(RowsFault, &str)] = &[
     (RowsFault::Memory, "out of memory"),
 ];
 
-fn expect_fault(
-    rt: &impl Abort,
-    alloc: Global,
-    fault: &RowsFault,
-    text: &str,
-) -> Result<(), AllocError> {
-    let told = format!(in alloc; "{fault}")?;
+fn expect_fault(rt: &impl Abort, alloc: Global, fault: &RowsFault, text: &str) {
+    let told = format!(in alloc; "{fault}").expect(rt, "it failed");
     assert_same!(rt; told.as_str(), text);
-    Ok(())
 }
 
 #[test]
-fn a_fault_of_rows_tells_its_place(rt: HostRuntime) -> Result<(), AllocError> {
+fn a_fault_of_rows_tells_its_place(rt: HostRuntime) {
     for (fault, text) in TOLD {
-        expect_fault(&rt, rt.alloc(), fault, text)?;
+        expect_fault(&rt, rt.alloc(), fault, text);
     }
-    Ok(())
 }

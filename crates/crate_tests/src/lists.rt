@@ -159,8 +159,8 @@ fn expect_last(rt: &impl Abort, world: &World) {
     ranking_is_in_order(ORIGIN, world.as_slice());
 }
 
-fn lists_and_counts(rt: &impl Abort, alloc: Global) -> Result<(), Memory> {
-    let world = world_of(alloc, 2048)?;
+fn lists_and_counts(rt: &impl Abort, alloc: Global) {
+    let world = world_of(alloc, 2048).expect(rt, "it failed");
     assert_same!(rt; count_in_a_box(alloc, &world), Ok((2048, 0)));
     let world = next(
         world,
@@ -168,15 +168,15 @@ fn lists_and_counts(rt: &impl Abort, alloc: Global) -> Result<(), Memory> {
             id: 2049,
             at: FIRST,
         },
-    )?;
+    )
+    .expect(rt, "it failed");
     assert_same!(rt; count_in_a_box(alloc, &world), Ok((0, 2049)));
     expect_last(rt, &world);
-    Ok(())
 }
 
 #[test]
-fn a_box_lists_2048_and_counts_2049(rt: HostRuntime) -> Result<(), Fail> {
-    Ok(lists_and_counts(&rt, rt.alloc())?)
+fn a_box_lists_2048_and_counts_2049(rt: HostRuntime) {
+    lists_and_counts(&rt, rt.alloc());
 }
 
 #[test]
@@ -212,9 +212,8 @@ fn copy_of(alloc: Global, history: &Entries) -> Result<Entries, AllocError> {
 }
 
 #[test]
-fn a_history_keeps_its_steps(rt: HostRuntime) -> Result<(), Fail> {
-    let history = two_entries(rt.alloc())?;
-    let copy = copy_of(rt.alloc(), &history)?;
+fn a_history_keeps_its_steps(rt: HostRuntime) {
+    let history = two_entries(rt.alloc()).expect(&rt, "it failed");
+    let copy = copy_of(rt.alloc(), &history).expect(&rt, "it failed");
     assert_same!(rt; (history.as_slice().len(), copy.as_slice().len()), (2, 2));
-    Ok(())
 }

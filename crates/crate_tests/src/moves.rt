@@ -49,10 +49,9 @@ fn is_box(row: Option<InRow>) -> bool {
 }
 
 #[test]
-fn seeds_0_and_1_move_and_ask_for_a_box_first(rt: HostRuntime) -> Result<(), Memory> {
-    assert_is!(rt; is_move(first_row(rt.alloc(), 0)?));
-    assert_is!(rt; is_box(first_row(rt.alloc(), 1)?));
-    Ok(())
+fn seeds_0_and_1_move_and_ask_for_a_box_first(rt: HostRuntime) {
+    assert_is!(rt; is_move(first_row(rt.alloc(), 0).expect(&rt, "it failed")));
+    assert_is!(rt; is_box(first_row(rt.alloc(), 1).expect(&rt, "it failed")));
 }
 
 // The sessions of the first of 17 rows, of the 16th and of the last.

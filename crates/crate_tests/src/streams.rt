@@ -50,16 +50,9 @@ fn source_of(alloc: Global, text: &[u8], failing: &[u64]) -> Result<MemSource, A
     Ok(MemSource::new(text.to_vec(alloc)?, failing.to_vec(alloc)?))
 }
 
-fn expect_all<S: Source>(
-    rt: &impl Abort,
-    alloc: Global,
-    source: &mut S,
-    most: usize,
-    text: &[u8],
-) -> Result<(), ReadFault> {
-    let all = read_all(alloc, source, most)?;
+fn expect_all<S: Source>(rt: &impl Abort, alloc: Global, source: &mut S, most: usize, text: &[u8]) {
+    let all = read_all(alloc, source, most).expect(rt, "it failed");
     assert_same!(rt; all.as_slice(), text);
-    Ok(())
 }
 
 // Whether a read of everything comes to a text that is too long, or else to a fault of the source.
@@ -77,11 +70,10 @@ fn read<S: Source>(source: &mut S, into: &mut [u8]) -> Option<usize> {
 }
 
 #[test]
-fn a_source_in_memory_is_read_to_its_end(rt: HostRuntime) -> Result<(), Fail> {
-    let mut source = source_of(rt.alloc(), b"id,x,y", &[])?;
-    expect_all(&rt, rt.alloc(), &mut source, 6, b"id,x,y")?;
+fn a_source_in_memory_is_read_to_its_end(rt: HostRuntime) {
+    let mut source = source_of(rt.alloc(), b"id,x,y", &[]).expect(&rt, "it failed");
+    expect_all(&rt, rt.alloc(), &mut source, 6, b"id,x,y");
     assert_same!(rt; read(&mut source, &mut [0; 4]), Some(0));
-    Ok(())
 }
 
 fn is_longer_than_4<S: Source>(rt: &impl Abort, alloc: Global, source: &mut S) {
@@ -92,13 +84,12 @@ fn is_longer_than_4<S: Source>(rt: &impl Abort, alloc: Global, source: &mut S) {
 }
 
 #[test]
-fn one_byte_above_the_bound_is_too_long(rt: HostRuntime) -> Result<(), AllocError> {
+fn one_byte_above_the_bound_is_too_long(rt: HostRuntime) {
     is_longer_than_4(
         &rt,
         rt.alloc(),
-        &mut source_of(rt.alloc(), b"1234567", &[])?,
+        &mut source_of(rt.alloc(), b"1234567", &[]).expect(&rt, "it failed"),
     );
-    Ok(())
 }
 
 fn fails_at_2_and_4<S: Source>(rt: &impl Abort, alloc: Global, source: &mut S) {
@@ -111,13 +102,12 @@ fn fails_at_2_and_4<S: Source>(rt: &impl Abort, alloc: Global, source: &mut S) {
 }
 
 #[test]
-fn listed_reads_fail_and_take_nothing(rt: HostRuntime) -> Result<(), AllocError> {
+fn listed_reads_fail_and_take_nothing(rt: HostRuntime) {
     fails_at_2_and_4(
         &rt,
         rt.alloc(),
-        &mut source_of(rt.alloc(), b"abc", &[2, 4])?,
+        &mut source_of(rt.alloc(), b"abc", &[2, 4]).expect(&rt, "it failed"),
     );
-    Ok(())
 }
 
 // Fails unless a sink takes these pieces, and those alone that it is to take.
@@ -141,11 +131,10 @@ fn five_bytes(alloc: Global) -> Result<MemSink, Memory> {
 }
 
 #[test]
-fn a_sink_in_memory_keeps_what_fits(rt: HostRuntime) -> Result<(), Memory> {
-    let mut sink = five_bytes(rt.alloc())?;
+fn a_sink_in_memory_keeps_what_fits(rt: HostRuntime) {
+    let mut sink = five_bytes(rt.alloc()).expect(&rt, "it failed");
     expect_taken(&rt, &mut sink, PIECES);
     assert_same!(rt; sink.bytes(), b"abcde".as_slice());
-    Ok(())
 }
 
 // Gives 5, 4, 3, 2 and 1, one a read, and fails in place of this one.
@@ -154,14 +143,14 @@ fn counting_down(failing: u8) -> StdSource<Countdown> {
 }
 
 #[test]
-fn a_reader_of_short_reads_is_read_whole(rt: HostRuntime) -> Result<(), ReadFault> {
+fn a_reader_of_short_reads_is_read_whole(rt: HostRuntime) {
     expect_all(
         &rt,
         rt.alloc(),
         &mut counting_down(9),
         100,
         &[5, 4, 3, 2, 1],
-    )
+    );
 }
 
 #[test]

@@ -41,15 +41,9 @@ fn words_of(alloc: Global, line: &str) -> Result<Vec<String>, AllocError> {
 }
 
 // What a line of words asks for.
-fn expect_asked(
-    rt: &impl Abort,
-    alloc: Global,
-    line: &str,
-    wanted: Said<'_>,
-) -> Result<(), AllocError> {
-    let words = words_of(alloc, line)?;
+fn expect_asked(rt: &impl Abort, alloc: Global, line: &str, wanted: Said<'_>) {
+    let words = words_of(alloc, line).expect(rt, "it failed");
     assert_same!(rt; said(command_in(words.as_slice())), wanted);
-    Ok(())
 }
 
 const FILE: Option<&str> = Some("moves.log");
@@ -78,11 +72,10 @@ const COMMANDS: &[(&str, Said<'static>)] = &[
 ];
 
 #[test]
-fn each_command_has_its_words(rt: HostRuntime) -> Result<(), AllocError> {
+fn each_command_has_its_words(rt: HostRuntime) {
     for (line, wanted) in COMMANDS {
-        expect_asked(&rt, rt.alloc(), line, *wanted)?;
+        expect_asked(&rt, rt.alloc(), line, *wanted);
     }
-    Ok(())
 }
 
 const OTHER_WORDS: &[&str] = &[
@@ -121,9 +114,8 @@ const OTHER_WORDS: &[&str] = &[
 ];
 
 #[test]
-fn other_words_are_usage(rt: HostRuntime) -> Result<(), AllocError> {
+fn other_words_are_usage(rt: HostRuntime) {
     for line in OTHER_WORDS {
-        expect_asked(&rt, rt.alloc(), line, USAGE)?;
+        expect_asked(&rt, rt.alloc(), line, USAGE);
     }
-    Ok(())
 }

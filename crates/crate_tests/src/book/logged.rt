@@ -68,11 +68,13 @@ fn has_split_log(disk: &Option<MemDisk>) -> bool {
 }
 
 #[test]
-fn a_change_and_a_step_of_a_split_add_a_cell_each(rt: HostRuntime) -> Result<(), Memory> {
-    let disk = disk_of(rt.alloc(), EMPTY_LOG)?;
-    let left = drive_behind::<KdTrie, MemDisk>(&rt, rt.alloc(), disk, ADDING)?;
+fn a_change_and_a_step_of_a_split_add_a_cell_each(rt: HostRuntime) {
+    let disk = disk_of(rt.alloc(), EMPTY_LOG).expect(&rt, "it failed");
+    let left = drive_behind::<KdTrie, MemDisk>(&rt, rt.alloc(), disk, ADDING).expect(
+        &rt,
+        "it failed",
+    );
     assert_is!(rt; has_split_log(&left));
-    Ok(())
 }
 
 // Whether this is the history of a first row whose append failed.
@@ -174,8 +176,10 @@ const GOING_ON: &[Taken] = &[
 ];
 
 #[test]
-fn a_book_goes_on_with_what_its_log_says(rt: HostRuntime) -> Result<(), Memory> {
-    let disk = disk_of(rt.alloc(), SPLIT_LOG)?;
-    let _left = drive_behind::<KdTrie, MemDisk>(&rt, rt.alloc(), disk, GOING_ON)?;
-    Ok(())
+fn a_book_goes_on_with_what_its_log_says(rt: HostRuntime) {
+    let disk = disk_of(rt.alloc(), SPLIT_LOG).expect(&rt, "it failed");
+    let _left = drive_behind::<KdTrie, MemDisk>(&rt, rt.alloc(), disk, GOING_ON).expect(
+        &rt,
+        "it failed",
+    );
 }

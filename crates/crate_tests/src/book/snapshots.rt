@@ -16,6 +16,6 @@ const STEPS: &[Taken] = &[
 ];
 
 #[test]
-fn a_snapshot_keeps_its_rows_while_the_book_goes_on(rt: HostRuntime) -> Result<(), Memory> {
-    follow_fresh::<KdTrie, MemDisk>(&rt, rt.alloc(), 64, STEPS)
+fn a_snapshot_keeps_its_rows_while_the_book_goes_on(rt: HostRuntime) {
+    follow_fresh::<KdTrie, MemDisk>(&rt, rt.alloc(), 64, STEPS);
 }

@@ -41,6 +41,6 @@ const STEPS: &[Taken] = &[
 ];
 
 #[test]
-fn a_split_is_refused_by_the_cause_that_comes_first(rt: HostRuntime) -> Result<(), Memory> {
-    follow_fresh::<KdTrie, MemDisk>(&rt, rt.alloc(), 4, STEPS)
+fn a_split_is_refused_by_the_cause_that_comes_first(rt: HostRuntime) {
+    follow_fresh::<KdTrie, MemDisk>(&rt, rt.alloc(), 4, STEPS);
 }

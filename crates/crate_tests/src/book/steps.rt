@@ -125,10 +125,9 @@ pub fn follow_fresh<I: Index, D: LogDisk>(
     alloc: Global,
     bucket: u32,
     steps: &[Taken],
-) -> Result<(), Memory> {
-    let mut book = fresh::<I, D>(alloc, bucket)?;
+) {
+    let mut book = fresh::<I, D>(alloc, bucket).expect(rt, "it failed");
     follow(rt, alloc, &mut book, steps);
-    Ok(())
 }
 
 /// Takes these steps in a book over the log that a drive has, and gives the book.

@@ -10,7 +10,7 @@ use std::alloc::Global;
 use std::process::Abort;
 use std::sync::ledger::Ledger;
 use step_count::Steps;
-use zorder::{Memory, Placed, Point, Region};
+use zorder::{Placed, Point, Region};
 
 fn expect_list(rt: &impl Abort, list: &PlacedList, wanted: &[Placed]) {
     assert_same!(rt; list.as_slice(), wanted);
@@ -24,13 +24,12 @@ pub(crate) fn expect_box<I: Index, L: Ledger>(
     region: &Region,
     wanted: &[Placed],
     steps: &mut Steps<L>,
-) -> Result<(), Memory>
+)
     requires { IsBox region.now }
 {
-    let found = range(alloc, index, region, steps)?;
+    let found = range(alloc, index, region, steps).expect(rt, "a box");
     expect_list(rt, &found, wanted);
     assert_same!(rt; count_in(index, region, steps), wanted.len() as u64);
-    Ok(())
 }
 
 /// Fails unless these are the nearest to a point, up to so many of them.
@@ -42,11 +41,10 @@ pub(crate) fn expect_near<I: Index, L: Ledger>(
     k: u32,
     wanted: &[Placed],
     steps: &mut Steps<L>,
-) -> Result<(), Memory>
+)
     requires least { 1 ≤ k }
     requires most { k ≤ 2048 }
 {
-    let found = nearest(alloc, index, at, k, steps)?;
+    let found = nearest(alloc, index, at, k, steps).expect(rt, "the nearest");
     expect_list(rt, &found, wanted);
-    Ok(())
 }

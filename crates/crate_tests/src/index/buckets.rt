@@ -5,12 +5,11 @@ ghost use Rattle.bucket_versions.specs.Rows.{as_base};
 ghost use Rattle.index_layer.specs.Leaves.{AreUnder, one_leaf};
 
 use crate::worlds::world_of;
-use bucket_versions::{Bucket, Row, RowChange};
+use bucket_versions::{Bucket, BucketFault, Row, RowChange};
 use index_build::build;
 use index_layer::{Index, IndexFault};
 use std::alloc::Global;
 use std::sync::Arc;
-use std::test::*;
 use zorder::{Memory, Name, Placed, child};
 
 /// No rows.
@@ -52,7 +51,7 @@ pub(crate) fn two_leaves<I: Index>(alloc: Global, objects: &[Placed]) -> Result<
 }
 
 /// Three rows on a base of two.
-pub(crate) fn three_rows(alloc: Global) -> Result<Arc<Bucket>, Fail>
+pub(crate) fn three_rows(alloc: Global) -> Result<Arc<Bucket>, BucketFault>
     ensures { IfOk result (λ b. AreUnder (false ∷ []) (arc_value b).rows) }
 {
     let two = [Row { key: 1, id: 9 }, Row { key: 27, id: 7 }];

@@ -12,11 +12,12 @@ use std::process::Abort;
 use std::test::*;
 use zorder::{Memory, Name, child};
 
-fn halves<I: Index>(alloc: Global) -> Result<I, Fail>
+fn halves<I: Index>(rt: &impl Abort, alloc: Global) -> I
     requires { I.WIDTH ≡ 1 }
 {
-    let whole = one_empty_leaf::<I>(alloc)?;
-    Ok(split_in_two(alloc, &whole.share()?)?)
+    let whole = one_empty_leaf::<I>(alloc).expect(rt, "one leaf");
+    let share = whole.share().expect(rt, "a share");
+    split_in_two(alloc, &share).expect(rt, "two leaves")
 }
 
 const HIGH: u64 = 9_223_372_036_854_775_808;
@@ -57,55 +58,53 @@ fn has_three_rows<I: Index>(rt: &impl Abort, index: &I, filled: &I) {
     assert_same!(rt; sizes(index, 27), (0, 0));
 }
 
-fn filled<I: Index>(alloc: Global, index: &I) -> Result<I, Fail> {
+fn filled<I: Index>(rt: &impl Abort, alloc: Global, index: &I) -> I {
     let zero = child(&Name::whole(), false);
-    Ok(index.replaced(&zero, three_rows(alloc)?)?)
+    let bucket = three_rows(alloc).expect(rt, "three rows");
+    index.replaced(&zero, bucket).expect(rt, "an index")
 }
 
-fn answers_the_worked_calls<I: Index>(rt: &impl Abort, alloc: Global) -> Result<(), Fail>
+fn answers_the_worked_calls<I: Index>(rt: &impl Abort, alloc: Global)
     requires { I.WIDTH ≡ 1 }
 {
-    let index = halves::<I>(alloc)?;
+    let index = halves::<I>(rt, alloc);
     has_two_leaves(rt, &index);
     has_their_parts(rt, &index);
     assert_same!(rt; refuses_a_quarter(alloc, &index), Ok(true));
-    has_three_rows(rt, &index, &filled(alloc, &index)?);
-    Ok(())
+    has_three_rows(rt, &index, &filled(rt, alloc, &index));
 }
 
 #[test]
-fn a_flat_index_answers_the_worked_calls(rt: HostRuntime) -> Result<(), Fail> {
-    answers_the_worked_calls::<FlatIndex>(&rt, rt.alloc())
+fn a_flat_index_answers_the_worked_calls(rt: HostRuntime) {
+    answers_the_worked_calls::<FlatIndex>(&rt, rt.alloc());
 }
 
 #[test]
-fn a_trie_answers_the_worked_calls(rt: HostRuntime) -> Result<(), Fail> {
-    answers_the_worked_calls::<KdTrie>(&rt, rt.alloc())
+fn a_trie_answers_the_worked_calls(rt: HostRuntime) {
+    answers_the_worked_calls::<KdTrie>(&rt, rt.alloc());
 }
 
-fn keeps_what_is_shared<I: Index>(rt: &impl Abort, alloc: Global) -> Result<(), Memory> {
-    let mut index = one_empty_leaf::<I>(alloc)?;
-    let before = index.share()?;
+fn keeps_what_is_shared<I: Index>(rt: &impl Abort, alloc: Global) {
+    let mut index = one_empty_leaf::<I>(alloc).expect(rt, "it failed");
+    let before = index.share().expect(rt, "it failed");
     assert_same!(rt; index.put_row(change(27, 7, false), &mut AtOnce), Ok(1));
     assert_same!(rt; (sizes(&index, 27).0, sizes(&before, 27).0), (1, 0));
-    Ok(())
 }
 
-fn waits_for_its_step<I: Index>(rt: &impl Abort, alloc: Global) -> Result<(), Memory> {
-    let mut index = one_empty_leaf::<I>(alloc)?;
+fn waits_for_its_step<I: Index>(rt: &impl Abort, alloc: Global) {
+    let mut index = one_empty_leaf::<I>(alloc).expect(rt, "it failed");
     let put = index.put_row(change(27, 7, false), &mut Never);
     assert_same!(rt; (put, sizes(&index, 27).0), (Err(Undone::Lost), 0));
-    Ok(())
 }
 
 #[test]
-fn a_flat_index_is_changed_in_place(rt: HostRuntime) -> Result<(), Memory> {
-    keeps_what_is_shared::<FlatIndex>(&rt, rt.alloc())?;
-    waits_for_its_step::<FlatIndex>(&rt, rt.alloc())
+fn a_flat_index_is_changed_in_place(rt: HostRuntime) {
+    keeps_what_is_shared::<FlatIndex>(&rt, rt.alloc());
+    waits_for_its_step::<FlatIndex>(&rt, rt.alloc());
 }
 
 #[test]
-fn a_trie_is_changed_in_place(rt: HostRuntime) -> Result<(), Memory> {
-    keeps_what_is_shared::<KdTrie>(&rt, rt.alloc())?;
-    waits_for_its_step::<KdTrie>(&rt, rt.alloc())
+fn a_trie_is_changed_in_place(rt: HostRuntime) {
+    keeps_what_is_shared::<KdTrie>(&rt, rt.alloc());
+    waits_for_its_step::<KdTrie>(&rt, rt.alloc());
 }

@@ -104,23 +104,19 @@ fn expect_changed<I: Index>(rt: &impl Abort, index: &mut I) {
     }
 }
 
-fn keeps_a_base_where_it_is_asked_to<I: Index>(
-    rt: &impl Abort,
-    alloc: Global,
-) -> Result<(), Memory> {
-    let mut index = one_empty_leaf::<I>(alloc)?;
+fn keeps_a_base_where_it_is_asked_to<I: Index>(rt: &impl Abort, alloc: Global) {
+    let mut index = one_empty_leaf::<I>(alloc).expect(rt, "it failed");
     expect_changed(rt, &mut index);
-    Ok(())
 }
 
 #[test]
-fn a_flat_index_keeps_a_base_where_it_is_asked_to(rt: HostRuntime) -> Result<(), Memory> {
-    keeps_a_base_where_it_is_asked_to::<FlatIndex>(&rt, rt.alloc())
+fn a_flat_index_keeps_a_base_where_it_is_asked_to(rt: HostRuntime) {
+    keeps_a_base_where_it_is_asked_to::<FlatIndex>(&rt, rt.alloc());
 }
 
 #[test]
-fn a_trie_keeps_a_base_where_it_is_asked_to(rt: HostRuntime) -> Result<(), Memory> {
-    keeps_a_base_where_it_is_asked_to::<KdTrie>(&rt, rt.alloc())
+fn a_trie_keeps_a_base_where_it_is_asked_to(rt: HostRuntime) {
+    keeps_a_base_where_it_is_asked_to::<KdTrie>(&rt, rt.alloc());
 }
 
 // A linear congruential generator (Knuth's MMIX).
@@ -200,15 +196,14 @@ fn how_many<I: Index>(index: &I) -> u64 {
     low.count().saturating_add(high.count())
 }
 
-fn keeps_its_rows_through_many_changes<I: Index>(rt: &impl Abort, alloc: Global) -> Result<(), Fail>
+fn keeps_its_rows_through_many_changes<I: Index>(rt: &impl Abort, alloc: Global)
     requires { I.WIDTH ≡ 1 }
 {
-    let mut index = halves::<I>(alloc)?;
-    put_all(&mut index)?;
-    let before = index.share()?;
+    let mut index = halves::<I>(alloc).expect(rt, "it failed");
+    put_all(&mut index).expect(rt, "it failed");
+    let before = index.share().expect(rt, "it failed");
     assert_same!(rt; move_many(&mut index), Ok(CHANGES));
     expect_rows(rt, &before, &index);
-    Ok(())
 }
 
 // Each object is there, in the share as at first and in the index elsewhere.
@@ -218,13 +213,11 @@ fn expect_rows<I: Index>(rt: &impl Abort, before: &I, index: &I) {
 }
 
 #[test]
-fn a_share_of_a_flat_index_keeps_its_rows_through_many_changes(
-    rt: HostRuntime,
-) -> Result<(), Fail> {
-    keeps_its_rows_through_many_changes::<FlatIndex>(&rt, rt.alloc())
+fn a_share_of_a_flat_index_keeps_its_rows_through_many_changes(rt: HostRuntime) {
+    keeps_its_rows_through_many_changes::<FlatIndex>(&rt, rt.alloc());
 }
 
 #[test]
-fn a_share_of_a_trie_keeps_its_rows_through_many_changes(rt: HostRuntime) -> Result<(), Fail> {
-    keeps_its_rows_through_many_changes::<KdTrie>(&rt, rt.alloc())
+fn a_share_of_a_trie_keeps_its_rows_through_many_changes(rt: HostRuntime) {
+    keeps_its_rows_through_many_changes::<KdTrie>(&rt, rt.alloc());
 }

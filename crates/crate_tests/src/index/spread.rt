@@ -52,26 +52,21 @@ const FIRST_THREE: &[Placed] = &[
     placed!(3, LOW, HIGH),
 ];
 
-fn finds_each_corner<I: Index, L: Ledger>(
-    rt: &impl Abort,
-    alloc: Global,
-    blank: Blank,
-) -> Result<(), Memory>
+fn finds_each_corner<I: Index, L: Ledger>(rt: &impl Abort, alloc: Global, blank: Blank)
     requires width { I.WIDTH ≡ 1 }
     requires name { blank.name ≡ L.name }
     requires parts { blank.parts ≡ L.parts }
     requires one_part { blank.parts ≡ 1 }
 {
     let mut steps = Steps::<L>::new(blank);
-    let index = two_leaves::<I>(alloc, CORNERS)?;
+    let index = two_leaves::<I>(alloc, CORNERS).expect(rt, "an index");
     for object in CORNERS {
         let region = Region {
             lo: object.at,
             hi: object.at,
         };
-        expect_box(rt, alloc, &index, &region, &[*object], &mut steps)?;
+        expect_box(rt, alloc, &index, &region, &[*object], &mut steps);
     }
-    Ok(())
 }
 
 const CENTRE: Point = Point {
@@ -83,15 +78,15 @@ fn ranks_by_id_where_all_are_as_far<I: Index, L: Ledger>(
     rt: &impl Abort,
     alloc: Global,
     blank: Blank,
-) -> Result<(), Memory>
+)
     requires width { I.WIDTH ≡ 1 }
     requires name { blank.name ≡ L.name }
     requires parts { blank.parts ≡ L.parts }
     requires one_part { blank.parts ≡ 1 }
 {
     let mut steps = Steps::<L>::new(blank);
-    let index = two_leaves::<I>(alloc, AROUND_THE_MIDDLE)?;
-    expect_near(rt, alloc, &index, CENTRE, 3, FIRST_THREE, &mut steps)?;
+    let index = two_leaves::<I>(alloc, AROUND_THE_MIDDLE).expect(rt, "an index");
+    expect_near(rt, alloc, &index, CENTRE, 3, FIRST_THREE, &mut steps);
     expect_near(
         rt,
         alloc,
@@ -100,25 +95,25 @@ fn ranks_by_id_where_all_are_as_far<I: Index, L: Ledger>(
         2_048,
         AROUND_THE_MIDDLE,
         &mut steps,
-    )
+    );
 }
 
 #[test]
-fn boxes_of_one_point_find_each_corner_in_a_flat_index(rt: HostRuntime) -> Result<(), Memory> {
-    finds_each_corner::<FlatIndex, Brand>(&rt, rt.alloc(), Blank::new(1))
+fn boxes_of_one_point_find_each_corner_in_a_flat_index(rt: HostRuntime) {
+    finds_each_corner::<FlatIndex, Brand>(&rt, rt.alloc(), Blank::new(1));
 }
 
 #[test]
-fn boxes_of_one_point_find_each_corner_in_a_trie(rt: HostRuntime) -> Result<(), Memory> {
-    finds_each_corner::<KdTrie, Brand>(&rt, rt.alloc(), Blank::new(1))
+fn boxes_of_one_point_find_each_corner_in_a_trie(rt: HostRuntime) {
+    finds_each_corner::<KdTrie, Brand>(&rt, rt.alloc(), Blank::new(1));
 }
 
 #[test]
-fn a_flat_index_ranks_by_id_where_all_are_as_far(rt: HostRuntime) -> Result<(), Memory> {
-    ranks_by_id_where_all_are_as_far::<FlatIndex, Brand>(&rt, rt.alloc(), Blank::new(1))
+fn a_flat_index_ranks_by_id_where_all_are_as_far(rt: HostRuntime) {
+    ranks_by_id_where_all_are_as_far::<FlatIndex, Brand>(&rt, rt.alloc(), Blank::new(1));
 }
 
 #[test]
-fn a_trie_ranks_by_id_where_all_are_as_far(rt: HostRuntime) -> Result<(), Memory> {
-    ranks_by_id_where_all_are_as_far::<KdTrie, Brand>(&rt, rt.alloc(), Blank::new(1))
+fn a_trie_ranks_by_id_where_all_are_as_far(rt: HostRuntime) {
+    ranks_by_id_where_all_are_as_far::<KdTrie, Brand>(&rt, rt.alloc(), Blank::new(1));
 }

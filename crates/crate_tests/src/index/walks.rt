@@ -88,15 +88,19 @@ fn begins_at<I: Index>(rt: &impl Abort, index: &I, both: Name, first: Name, all:
 }
 
 #[test]
-fn walks_over_a_flat_index_begin_at_the_top(rt: HostRuntime) -> Result<(), Fail> {
+fn walks_over_a_flat_index_begin_at_the_top(rt: HostRuntime) {
     let top = Name::whole();
-    begins_at(&rt, &sparse::<FlatIndex>(rt.alloc())?, top, top, top);
-    Ok(())
+    begins_at(
+        &rt,
+        &sparse::<FlatIndex>(rt.alloc()).expect(&rt, "it failed"),
+        top,
+        top,
+        top,
+    );
 }
 
 #[test]
-fn walks_over_a_trie_begin_where_there_is_something_to_see(rt: HostRuntime) -> Result<(), Fail> {
-    let index = sparse::<KdTrie>(rt.alloc())?;
+fn walks_over_a_trie_begin_where_there_is_something_to_see(rt: HostRuntime) {
+    let index = sparse::<KdTrie>(rt.alloc()).expect(&rt, "it failed");
     begins_at(&rt, &index, quarter(), first_eighth(), quarter());
-    Ok(())
 }

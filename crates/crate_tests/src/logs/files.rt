@@ -24,22 +24,20 @@ fn make_and_append<D: LogDisk>(alloc: Global, mut disk: D, name: &str, cell: &Ce
     }
 }
 
-fn is_read_back<R: Abort + Files + AllocGlobal, D: LogDisk>(
-    rt: &R,
-    disk: D,
-    name: &str,
-) -> io::Result<()> {
+fn is_read_back<R: Abort + Files + AllocGlobal, D: LogDisk>(rt: &R, disk: D, name: &str) {
     let is_whole = make_and_append(rt.alloc(), disk, name, &PUT_7);
-    let bytes = taken_away(rt, name)?;
+    let bytes = taken_away(rt, name).expect(rt, "it failed");
     assert_same!(rt; (is_whole, bytes.as_slice()), (true, ONE_CELL));
-    Ok(())
 }
 
 #[test]
-fn a_cell_appended_to_a_file_is_read_back(rt: HostRuntime) -> Result<(), Fail> {
-    let path = path_of(&rt, "crate_tests.log")?;
-    is_read_back(&rt, FileDisk::new(rt.clone()?), path.as_str())?;
-    Ok(())
+fn a_cell_appended_to_a_file_is_read_back(rt: HostRuntime) {
+    let path = path_of(&rt, "crate_tests.log").expect(&rt, "it failed");
+    is_read_back(
+        &rt,
+        FileDisk::new(rt.clone().expect(&rt, "it failed")),
+        path.as_str(),
+    );
 }
 
 // What stands behind the one cell of a log: no commit byte, and more than a cell.
@@ -62,10 +60,9 @@ fn expect_two(rt: &impl Abort, alloc: Global, bytes: &[u8]) {
 }
 
 #[test]
-fn the_next_append_stands_where_the_tail_was_cut(rt: HostRuntime) -> Result<(), Memory> {
-    match goes_on(rt.alloc())? {
+fn the_next_append_stands_where_the_tail_was_cut(rt: HostRuntime) {
+    match goes_on(rt.alloc()).expect(&rt, "it failed") {
         Some(bytes) => expect_two(&rt, rt.alloc(), bytes.as_slice()),
         None => rt.panic("the log isn't opened"),
     }
-    Ok(())
 }

@@ -21,12 +21,11 @@ fn expect_worked_bytes(rt: &impl Abort, left: &Left) {
 }
 
 #[test]
-fn an_append_leaves_the_worked_bytes(rt: HostRuntime) -> Result<(), Memory> {
-    match append_in(rt.alloc(), EMPTY_LOG, &PUT_7, &[], 0, 9)? {
+fn an_append_leaves_the_worked_bytes(rt: HostRuntime) {
+    match append_in(rt.alloc(), EMPTY_LOG, &PUT_7, &[], 0, 9).expect(&rt, "it failed") {
         Some(left) => expect_worked_bytes(&rt, &left),
         None => rt.panic("the log isn't opened"),
     }
-    Ok(())
 }
 
 #[test]

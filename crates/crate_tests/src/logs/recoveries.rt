@@ -24,23 +24,21 @@ fn expect_made(
     bytes: &[u8],
     fault: Option<InitFault>,
     held: &[u8],
-) -> Result<(), Memory> {
-    let (disk, told) = made_on(disk_of(alloc, bytes, &[])?);
+) {
+    let (disk, told) = made_on(disk_of(alloc, bytes, &[]).expect(rt, "it failed"));
     assert_same!(rt; (told, disk.bytes()), (fault, held));
-    Ok(())
 }
 
 #[test]
-fn a_new_log_is_a_header_and_a_clear_commit_byte(rt: HostRuntime) -> Result<(), Memory> {
-    expect_made(&rt, rt.alloc(), b"MDLOC", None, EMPTY_LOG)?;
+fn a_new_log_is_a_header_and_a_clear_commit_byte(rt: HostRuntime) {
+    expect_made(&rt, rt.alloc(), b"MDLOC", None, EMPTY_LOG);
     assert_same!(rt; found(rt.alloc(), EMPTY_LOG, 0), Ok(NOTHING));
-    Ok(())
 }
 
 #[test]
-fn no_log_is_made_of_18_bytes(rt: HostRuntime) -> Result<(), Memory> {
+fn no_log_is_made_of_18_bytes(rt: HostRuntime) {
     let in_use = InitFault::InUse { len: 18 };
-    expect_made(&rt, rt.alloc(), &[1; 18], Some(in_use), &[1; 18])
+    expect_made(&rt, rt.alloc(), &[1; 18], Some(in_use), &[1; 18]);
 }
 
 // Opens the log on a drive. It gives how many cells were found, how many the log has, and the drive.
@@ -77,14 +75,11 @@ fn torn_log(alloc: Global) -> Result<Vec<u8>, AllocError> {
 }
 
 #[test]
-fn an_open_cuts_off_what_stands_behind_the_last_commit_byte(
-    rt: HostRuntime,
-) -> Result<(), AllocError> {
-    let torn = torn_log(rt.alloc())?;
+fn an_open_cuts_off_what_stands_behind_the_last_commit_byte(rt: HostRuntime) {
+    let torn = torn_log(rt.alloc()).expect(&rt, "it failed");
     assert_same!(rt; found(rt.alloc(), torn.as_slice(), 1), Ok(ONE_PUT));
     let opened = opened_in(rt.alloc(), torn.as_slice());
     assert_same!(rt; opened, Ok(Some((1, 1, 49, Some(77)))));
-    Ok(())
 }
 
 const DROP_7: Cell = Cell::Remove { id: 7 };
