@@ -2,7 +2,7 @@
 ghost use Rattle.std.specs.Prelude.{◌≡◌, [], ◌∷◌};
 
 use bucket_versions::{Bucket, BucketFault, Row};
-use std::alloc::{AllocError, Global};
+use std::alloc::Global;
 use std::marker::Brand;
 use std::process::Abort;
 use std::sync::ledger::{Blank, Ledger};
@@ -16,17 +16,25 @@ fn row(key: u64, id: u64) -> Row
     Row { key, id }
 }
 
-fn listed<L: Ledger>(alloc: Global, bucket: &Bucket, blank: Blank) -> Result<Vec<Row>, AllocError>
+// Whether a bucket lists these rows.
+fn lists<L: Ledger>(bucket: &Bucket, rows: &[Row], blank: Blank) -> bool
     requires name { blank.name ≡ L.name }
     requires parts { blank.parts ≡ L.parts }
     requires one_part { blank.parts ≡ 1 }
 {
     let mut steps = Steps::<L>::new(blank);
-    let mut all = Vec::new(alloc);
+    let mut rest = rows;
     for row in bucket.rows(&mut steps) {
-        all.push(*row)?;
+        match rest.split_first() {
+            Some((first, others)) if first == row => rest = others,
+            _ => return false,
+        }
     }
-    Ok(all)
+    rest.is_empty()
+}
+
+fn is_listed(bucket: &Bucket, rows: &[Row]) -> bool {
+    lists::<Brand>(bucket, rows, Blank::new(1))
 }
 
 fn in_threads<T: Send + Sync>() {}
@@ -36,89 +44,97 @@ fn a_bucket_may_be_shared_and_sent() {
     in_threads::<Bucket>();
 }
 
+const TWO: [Row; 2] = [Row { key: 1, id: 9 }, Row { key: 27, id: 7 }];
+
+const THREE: [Row; 3] = [
+    Row { key: 1, id: 9 },
+    Row { key: 2, id: 4 },
+    Row { key: 27, id: 7 },
+];
+
 // What is there before all else.
 fn two_rows(alloc: Global) -> Result<Bucket, Memory> {
     Bucket::from_rows(alloc, &[row(1, 9), row(27, 7)])
 }
 
-fn has_base(bucket: &Bucket, rows: &[Row]) -> bool {
-    bucket.base_rows() == rows
+fn three_rows(alloc: Global) -> Result<Bucket, BucketFault> {
+    two_rows(alloc)?.with_put(row(2, 4))
 }
 
-fn has_base_once_folded(bucket: &Bucket, rows: &[Row]) -> Result<bool, Memory> {
-    Ok(has_base(&bucket.folded()?, rows))
-}
-
-fn lists(alloc: Global, bucket: &Bucket, rows: &[Row]) -> Result<bool, AllocError> {
-    Ok(listed::<Brand>(alloc, bucket, Blank::new(1))?.as_slice() == rows)
+// How many rows a bucket has, how long its delta is, and whether it has this row.
+fn tells(bucket: &Bucket, row: &Row) -> (u64, u64, bool) {
+    (bucket.count(), bucket.delta_len(), bucket.holds(row))
 }
 
 // How long the delta is behind a put or a removal.
 fn delta_behind(bucket: Result<Bucket, BucketFault>) -> Result<u64, BucketFault> {
-    Ok(bucket?.delta_len())
+    match bucket {
+        Ok(bucket) => Ok(bucket.delta_len()),
+        Err(fault) => Err(fault),
+    }
+}
+
+fn expect_folded(rt: &impl Abort, bucket: &Bucket, rows: &[Row]) {
+    let folded = bucket.folded().expect(rt, "it failed");
+    assert_same!(rt; folded.base_rows(), rows);
 }
 
 // `c` is `b` with a put.
 fn keeps_the_base(rt: &impl Abort, b: &Bucket, c: &Bucket) {
-    assert_is!(rt; matches!(b.with_put(row(27, 7)).err(), Some(BucketFault::Present)));
-    assert_is!(rt; has_base(c, &[row(1, 9), row(27, 7)]));
-    assert_same!(rt; c.count(), 3);
-    assert_same!(rt; (b.delta_len(), c.delta_len()), (0, 1));
-    assert_is!(rt; c.holds(&row(2, 4)));
-    assert_is!(rt; !b.holds(&row(2, 4)));
+    assert_same!(rt; delta_behind(b.with_put(row(27, 7))), Err(BucketFault::Present));
+    assert_same!(rt; c.base_rows(), TWO.as_slice());
+    assert_same!(rt; tells(c, &row(2, 4)), (3, 1, true));
+    assert_same!(rt; tells(b, &row(2, 4)), (2, 0, false));
 }
 
-fn folds_into_its_base(rt: &impl Abort, alloc: Global, c: &Bucket) -> Result<(), Fail> {
-    let rows = [row(1, 9), row(2, 4), row(27, 7)];
-    assert_is!(rt; lists(alloc, c, &rows)?);
-    assert_is!(rt; has_base_once_folded(c, &rows)?);
-    Ok(())
-}
-
-fn takes_a_put(rt: &impl Abort, alloc: Global, b: &Bucket) -> Result<(), Fail> {
-    let c = b.with_put(row(2, 4))?;
+fn takes_a_put(rt: &impl Abort, b: &Bucket) {
+    let c = b.with_put(row(2, 4)).expect(rt, "it failed");
     keeps_the_base(rt, b, &c);
-    folds_into_its_base(rt, alloc, &c)
+    assert_is!(rt; is_listed(&c, &THREE));
+    expect_folded(rt, &c, &THREE);
 }
 
 #[test]
-fn a_put_keeps_the_base_and_folding_moves_it(rt: HostRuntime) -> Result<(), Fail> {
-    takes_a_put(&rt, rt.alloc(), &two_rows(rt.alloc())?)
+fn a_put_keeps_the_base_and_folding_moves_it(rt: HostRuntime) {
+    let b = two_rows(rt.alloc()).expect(&rt, "it failed");
+    takes_a_put(&rt, &b);
 }
 
 // `d` is `c` without a row.
-fn keeps_the_other_rows(rt: &impl Abort, c: &Bucket, d: &Bucket) -> Result<(), Fail> {
-    assert_is!(rt; matches!(delta_behind(c.with_gone(row(2, 4))), Ok(0)));
-    assert_same!(rt; d.delta_len(), 2);
-    assert_same!(rt; (d.count(), d.holds(&row(27, 7))), (2, false));
-    assert_is!(rt; matches!(delta_behind(d.with_put(row(27, 7))), Ok(1)));
-    assert_is!(rt; has_base(d, &[row(1, 9), row(27, 7)]));
-    assert_is!(rt; has_base_once_folded(d, &[row(1, 9), row(2, 4)])?);
-    Ok(())
+fn keeps_the_other_rows(rt: &impl Abort, c: &Bucket, d: &Bucket) {
+    assert_same!(rt; delta_behind(c.with_gone(row(2, 4))), Ok(0));
+    assert_same!(rt; tells(d, &row(27, 7)), (2, 2, false));
+    assert_same!(rt; delta_behind(d.with_put(row(27, 7))), Ok(1));
+    assert_same!(rt; d.base_rows(), TWO.as_slice());
+    expect_folded(rt, d, &THREE[..2]);
 }
 
-fn takes_a_removal(rt: &impl Abort, c: &Bucket) -> Result<(), Fail> {
-    keeps_the_other_rows(rt, c, &c.with_gone(row(27, 7))?)
+fn refuses_an_absent_row(rt: &impl Abort, alloc: Global) {
+    let b = two_rows(alloc).expect(rt, "it failed");
+    assert_same!(rt; delta_behind(b.with_gone(row(2, 1))), Err(BucketFault::Absent));
+}
+
+fn takes_a_removal(rt: &impl Abort, c: &Bucket) {
+    let d = c.with_gone(row(27, 7)).expect(rt, "it failed");
+    keeps_the_other_rows(rt, c, &d);
 }
 
 #[test]
-fn a_removal_keeps_the_base_and_the_other_rows(rt: HostRuntime) -> Result<(), Fail> {
-    let b = two_rows(rt.alloc())?;
-    assert_is!(rt; matches!(b.with_gone(row(2, 1)).err(), Some(BucketFault::Absent)));
-    takes_a_removal(&rt, &b.with_put(row(2, 4))?)
+fn a_removal_keeps_the_base_and_the_other_rows(rt: HostRuntime) {
+    refuses_an_absent_row(&rt, rt.alloc());
+    let c = three_rows(rt.alloc()).expect(&rt, "it failed");
+    takes_a_removal(&rt, &c);
 }
 
 // A bucket whose base has a row less in its range than the other has.
-fn caught_up(alloc: Global) -> Result<Bucket, Fail> {
+fn caught_up(alloc: Global) -> Result<Bucket, BucketFault> {
     let c = Bucket::from_rows(alloc, &[row(1, 9), row(27, 7)])?.with_put(row(2, 4))?;
     let cut = Bucket::from_rows(alloc, &[row(27, 7)])?;
     Ok(cut.caught_up(&c, 2, 27)?)
 }
 
 #[test]
-fn a_cut_bucket_catches_up_with_the_rows_in_its_range(rt: HostRuntime) -> Result<(), Fail> {
-    let late = caught_up(rt.alloc())?;
-    assert_is!(rt; has_base(&late, &[row(2, 4), row(27, 7)]));
-    assert_same!(rt; late.count(), 2);
-    Ok(())
+fn a_cut_bucket_catches_up_with_the_rows_in_its_range(rt: HostRuntime) {
+    let late = caught_up(rt.alloc()).expect(&rt, "it failed");
+    assert_same!(rt; (late.base_rows(), late.count()), (&THREE[1..], 2));
 }

@@ -16,86 +16,92 @@ fn padded(front: &[u8]) -> [u8; 32]
 
 #[test]
 fn a_header_is_the_word_the_version_and_the_width(rt: HostRuntime) {
-    assert_is!(rt; header(1) == *b"MDLOCLOG\x01\x01\0\0\0\0\0\0");
+    assert_same!(rt; header(1), *b"MDLOCLOG\x01\x01\0\0\0\0\0\0");
 }
 
-fn expect_spelling(rt: &impl Abort, cell: &Cell, bytes: &[u8; 32]) {
-    assert_is!(rt; encode(cell) == *bytes);
+// What these bytes and zeros behind them spell.
+fn decoded(rt: &impl Abort, front: &[u8]) -> Result<Cell, CellFault> {
+    assert!(rt; front.len() <= 32);
+    let bytes = padded(front);
     assert!(rt; bytes[0] == 1);
-    assert_is!(rt; decode(bytes) == Ok(*cell));
+    decode(&bytes)
 }
 
-fn expect_fault(rt: &impl Abort, bytes: &[u8; 32], fault: CellFault) {
-    assert!(rt; bytes[0] == 1);
-    assert_is!(rt; decode(bytes) == Err(fault));
+fn expect_spelling(rt: &impl Abort, cell: &Cell, front: &[u8]) {
+    assert!(rt; front.len() <= 32);
+    assert_same!(rt; encode(cell), padded(front));
+    assert_same!(rt; decoded(rt, front), Ok(*cell));
+}
+
+const AT: Point = Point { x: 3, y: 5 };
+
+const SPELLINGS: [(Cell, &[u8]); 5] = [
+    (
+        Cell::Put { id: 7, at: AT },
+        &[1, 1, 0, 0, 0, 0, 0, 0, 0, 7, 0, 0, 0, 3, 0, 0, 0, 5],
+    ),
+    (
+        Cell::Move { id: 7, at: AT },
+        &[1, 2, 0, 0, 0, 0, 0, 0, 0, 7, 0, 0, 0, 3, 0, 0, 0, 5],
+    ),
+    (Cell::Remove { id: 7 }, &[1, 3, 0, 0, 0, 0, 0, 0, 0, 7]),
+    (Cell::Install { number: 1 }, &[1, 5, 0, 0, 0, 0, 0, 0, 0, 1]),
+    (Cell::Abandon { number: 1 }, &[1, 6, 0, 0, 0, 0, 0, 0, 0, 1]),
+];
+
+const BEGUN: &[(u64, u64, u8, &[u8])] = &[
+    (1, 0, 0, &[1, 4, 0, 0, 0, 0, 0, 0, 0, 1]),
+    (
+        3,
+        0x8000_0000_0000_0000,
+        2,
+        &[1, 4, 0, 0, 0, 0, 0, 0, 0, 3, 0x80, 0, 0, 0, 0, 0, 0, 0, 2],
+    ),
+];
+
+fn expect_begun(rt: &impl Abort, number: u64, bits: u64, len: u8, front: &[u8]) {
+    let Some(name) = Name::new(bits, len) else {
+        rt.panic("there is no such name")
+    };
+    expect_spelling(rt, &Cell::Begin { number, name }, front);
 }
 
 #[test]
 fn each_cell_has_its_worked_spelling(rt: HostRuntime) {
-    let ten = Name::new(0x8000_0000_0000_0000, 2);
-    assert_is!(rt; ten.is_some());
-    let name = ten.unwrap_or(Name::whole());
-    let at = Point { x: 3, y: 5 };
-    let put = padded(&[1, 1, 0, 0, 0, 0, 0, 0, 0, 7, 0, 0, 0, 3, 0, 0, 0, 5]);
-    let moved = padded(&[1, 2, 0, 0, 0, 0, 0, 0, 0, 7, 0, 0, 0, 3, 0, 0, 0, 5]);
-    let begun = padded(&[1, 4, 0, 0, 0, 0, 0, 0, 0, 3, 0x80, 0, 0, 0, 0, 0, 0, 0, 2]);
-    let table = [
-        (Cell::Put { id: 7, at }, put),
-        (Cell::Move { id: 7, at }, moved),
-        (
-            Cell::Remove { id: 7 },
-            padded(&[1, 3, 0, 0, 0, 0, 0, 0, 0, 7]),
-        ),
-        (
-            Cell::Begin {
-                number: 1,
-                name: Name::whole(),
-            },
-            padded(&[1, 4, 0, 0, 0, 0, 0, 0, 0, 1]),
-        ),
-        (Cell::Begin { number: 3, name }, begun),
-        (
-            Cell::Install { number: 1 },
-            padded(&[1, 5, 0, 0, 0, 0, 0, 0, 0, 1]),
-        ),
-        (
-            Cell::Abandon { number: 1 },
-            padded(&[1, 6, 0, 0, 0, 0, 0, 0, 0, 1]),
-        ),
-    ];
-    for (cell, bytes) in &table {
-        expect_spelling(&rt, cell, bytes);
+    for (cell, front) in &SPELLINGS {
+        expect_spelling(&rt, cell, front);
+    }
+    for (number, bits, len, front) in BEGUN {
+        expect_begun(&rt, *number, *bits, *len, front);
     }
 }
 
+const FAULTS: &[(&[u8], CellFault)] = &[
+    (&[1, 0], CellFault::Kind),
+    (&[1, 7], CellFault::Kind),
+    (&[1, 9, 0, 0, 0, 0, 0, 0, 0, 0, 1], CellFault::Kind),
+    (
+        &[1, 1, 0, 0, 0, 0, 0, 0, 0, 7, 0, 0, 0, 3, 0, 0, 0, 5, 1],
+        CellFault::Reserved,
+    ),
+    (&[1, 3, 0, 0, 0, 0, 0, 0, 0, 7, 1], CellFault::Reserved),
+    (
+        &[1, 4, 0, 0, 0, 0, 0, 0, 0, 1, 0, 0, 0, 0, 0, 0, 0, 0, 65, 1],
+        CellFault::Reserved,
+    ),
+    (
+        &[1, 4, 0, 0, 0, 0, 0, 0, 0, 1, 0, 0, 0, 0, 0, 0, 0, 0, 65],
+        CellFault::BadName,
+    ),
+    (
+        &[1, 4, 0, 0, 0, 0, 0, 0, 0, 1, 0xC0, 0, 0, 0, 0, 0, 0, 0, 1],
+        CellFault::BadName,
+    ),
+];
+
 #[test]
 fn the_first_fault_is_answered(rt: HostRuntime) {
-    let table = [
-        (padded(&[1, 0]), CellFault::Kind),
-        (padded(&[1, 7]), CellFault::Kind),
-        (padded(&[1, 9, 0, 0, 0, 0, 0, 0, 0, 0, 1]), CellFault::Kind),
-        (
-            padded(&[1, 1, 0, 0, 0, 0, 0, 0, 0, 7, 0, 0, 0, 3, 0, 0, 0, 5, 1]),
-            CellFault::Reserved,
-        ),
-        (
-            padded(&[1, 3, 0, 0, 0, 0, 0, 0, 0, 7, 1]),
-            CellFault::Reserved,
-        ),
-        (
-            padded(&[1, 4, 0, 0, 0, 0, 0, 0, 0, 1, 0, 0, 0, 0, 0, 0, 0, 0, 65, 1]),
-            CellFault::Reserved,
-        ),
-        (
-            padded(&[1, 4, 0, 0, 0, 0, 0, 0, 0, 1, 0, 0, 0, 0, 0, 0, 0, 0, 65]),
-            CellFault::BadName,
-        ),
-        (
-            padded(&[1, 4, 0, 0, 0, 0, 0, 0, 0, 1, 0xC0, 0, 0, 0, 0, 0, 0, 0, 1]),
-            CellFault::BadName,
-        ),
-    ];
-    for (bytes, fault) in &table {
-        expect_fault(&rt, bytes, *fault);
+    for (front, fault) in FAULTS {
+        assert_same!(rt; decoded(&rt, front), Err(*fault));
     }
 }

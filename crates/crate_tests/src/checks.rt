@@ -1,20 +1,12 @@
 //! Assertions as calls, for shorter proofs of the tests that make them.
 use std::fmt::Debug;
 use std::process::Abort;
-use std::test::Fail;
-use zorder::Memory;
 
 /// Ends the test with these words unless it is so.
 pub fn holds(rt: &impl Abort, is_so: bool, words: &str) {
     if !is_so {
         rt.panic(words)
     }
-}
-
-/// The same of what a function tells.
-pub fn told(rt: &impl Abort, is_so: Result<bool, Memory>, words: &str) -> Result<(), Fail> {
-    holds(rt, is_so?, words);
-    Ok(())
 }
 
 /// Ends the test with what was compared unless both are the same.

@@ -1,107 +1,77 @@
 //! What a drive in memory leaves, picked by length and fill, and where it fails.
-ghost use Rattle.std.specs.Prelude.{◌≤◌, ◌^◌, length};
-
 use disk_mem::{DiskCall, Fail as Failing, MemDisk, PickFault};
 use disk_trait::{AttachFault, DiskFault, LogDisk};
 use std::alloc::Global;
 use std::process::Abort;
-use std::test::Fail;
+use zorder::Memory;
 
-fn two_bytes(alloc: Global, failing: Vec<Failing>) -> Result<MemDisk, Fail> {
-    let bytes = vec![in alloc; 5, 6]?;
-    Ok(MemDisk::new(alloc, bytes, 8, 8, failing)?)
+// A drive with the bytes 5 and 6, room for 8 bytes and for 8 calls, where these fail.
+fn two_bytes(alloc: Global, failing: &[Failing]) -> Result<MemDisk, Memory> {
+    let bytes = Vec::from_slice(alloc, &[5, 6])?;
+    let failing = Vec::from_slice(alloc, failing)?;
+    MemDisk::new(alloc, bytes, 8, 8, failing)
 }
 
-fn attach<D: LogDisk>(disk: &mut D, alloc: Global) -> Result<(), AttachFault> {
-    disk.attach(alloc, "log", false)
+fn may_be_sent<T: Send>() {}
+
+#[test]
+fn a_drive_may_be_sent_between_threads() {
+    may_be_sent::<MemDisk>();
 }
 
-fn write<D: LogDisk>(disk: &mut D, piece: &[u8]) -> Result<(), DiskFault>
-    requires { length piece.now ≤ 2 ^ 40 }
-{
-    disk.write(0, piece)
+// An image of a moment by a length and what fills it.
+type Image = (u64, u64, u8, &'static [u8]);
+
+fn expect_image(rt: &impl Abort, disk: &MemDisk, moment: u64, len: u64, fill: u8, want: &[u8]) {
+    let image = disk.pick(moment, len, &[fill]).expect(rt, "it failed");
+    assert_same!(rt; (moment, image.as_slice()), (moment, want));
+}
+
+fn expect_images(rt: &impl Abort, disk: &MemDisk, images: &[Image]) {
+    for (moment, len, fill, want) in images {
+        expect_image(rt, disk, *moment, *len, *fill, want);
+    }
+}
+
+// Four moments: of the bytes as they were, of two writes, and of a sync between them.
+fn write_twice<D: LogDisk>(disk: &mut D) -> Result<(), DiskFault> {
+    disk.write(0, &[7])?;
+    disk.sync()?;
+    disk.write(0, &[1, 2, 3])
+}
+
+const IMAGES: &[Image] = &[
+    (0, 9, 4, &[5, 6]),
+    (1, 9, 0, &[0, 6]),
+    (1, 0, 1, &[1, 6]),
+    (2, 9, 1, &[7, 6]),
+    (3, 9, 0, &[0, 0, 0]),
+    (3, 0, 1, &[1, 1]),
+];
+
+#[test]
+fn bytes_of_a_write_are_any_until_its_sync(rt: HostRuntime) {
+    let mut disk = two_bytes(rt.alloc(), &[]).expect(&rt, "it failed");
+    assert_same!(rt; write_twice(&mut disk), Ok(()));
+    expect_images(&rt, &disk, IMAGES);
+    let behind = PickFault::NoMoment { moments: 3 };
+    assert_same!(rt; disk.pick(4, 9, &[0]).err(), Some(behind));
 }
 
 fn cut<D: LogDisk>(disk: &mut D) -> Result<(), DiskFault> {
     disk.cut(0)
 }
 
-fn sync<D: LogDisk>(disk: &mut D) -> Result<(), DiskFault> {
-    disk.sync()
-}
-
-fn byte_behind<D: LogDisk>(disk: &mut D, at: u64) -> Result<u8, DiskFault> {
-    let mut byte = [0];
-    disk.read(at, &mut byte)?;
-    Ok(byte[0])
-}
-
-fn length<D: LogDisk>(disk: &mut D) -> Result<u64, DiskFault> {
-    disk.len()
-}
-
-fn expect_image(
-    rt: &impl Abort,
-    disk: &MemDisk,
-    moment: u64,
-    len: u64,
-    fill: u8,
-    want: &[u8],
-) -> Result<(), PickFault> {
-    let image = disk.pick(moment, len, &[fill])?;
-    assert_same!(rt; (moment, image.as_slice()), (moment, want));
-    Ok(())
-}
-
-fn may_be_sent<T: Send + Drop>(_value: T) {}
+const LENGTHS: &[Image] = &[(1, 0, 9, &[]), (1, 1, 9, &[9]), (1, 9, 9, &[9, 9])];
 
 #[test]
-fn a_drive_may_be_sent_between_threads(rt: HostRuntime) -> Result<(), Fail> {
-    may_be_sent(two_bytes(rt.alloc(), Vec::new(rt.alloc()))?);
-    Ok(())
+fn a_cut_may_leave_each_length(rt: HostRuntime) {
+    let mut disk = two_bytes(rt.alloc(), &[]).expect(&rt, "it failed");
+    assert_same!(rt; cut(&mut disk), Ok(()));
+    expect_images(&rt, &disk, LENGTHS);
 }
 
-// Four moments: of the bytes as they were, of two writes, and of a sync between them.
-fn write_twice<D: LogDisk>(disk: &mut D) -> Result<(), DiskFault> {
-    write(disk, &[7])?;
-    sync(disk)?;
-    write(disk, &[1, 2, 3])
-}
-
-fn expect_images(rt: &impl Abort, disk: &MemDisk) -> Result<(), PickFault> {
-    expect_image(rt, disk, 0, 9, 4, &[5, 6])?;
-    expect_image(rt, disk, 1, 9, 0, &[0, 6])?;
-    expect_image(rt, disk, 1, 0, 1, &[1, 6])?;
-    expect_image(rt, disk, 2, 9, 1, &[7, 6])?;
-    expect_image(rt, disk, 3, 9, 0, &[0, 0, 0])?;
-    expect_image(rt, disk, 3, 0, 1, &[1, 1])
-}
-
-#[test]
-fn bytes_of_a_write_are_any_until_its_sync(rt: HostRuntime) -> Result<(), Fail> {
-    let mut disk = two_bytes(rt.alloc(), Vec::new(rt.alloc()))?;
-    assert_is!(rt; write_twice(&mut disk).is_ok());
-    assert_is!(rt; expect_images(&rt, &disk).is_ok());
-    let behind = expect_image(&rt, &disk, 4, 9, 0, &[]);
-    assert_is!(rt; matches!(behind, Err(PickFault::NoMoment { moments: 3 })));
-    Ok(())
-}
-
-fn expect_each_length(rt: &impl Abort, disk: &MemDisk) -> Result<(), PickFault> {
-    expect_image(rt, disk, 1, 0, 9, &[])?;
-    expect_image(rt, disk, 1, 1, 9, &[9])?;
-    expect_image(rt, disk, 1, 9, 9, &[9, 9])
-}
-
-#[test]
-fn a_cut_may_leave_each_length(rt: HostRuntime) -> Result<(), Fail> {
-    let mut disk = two_bytes(rt.alloc(), Vec::new(rt.alloc()))?;
-    assert_is!(rt; cut(&mut disk).is_ok());
-    assert_is!(rt; expect_each_length(&rt, &disk).is_ok());
-    Ok(())
-}
-
-const FAILING: [Failing; 3] = [
+const FAILING: &[Failing] = &[
     Failing {
         call: DiskCall::Write,
         number: 1,
@@ -116,29 +86,73 @@ const FAILING: [Failing; 3] = [
     },
 ];
 
-fn fails_at_a_write<D: LogDisk>(rt: &impl Abort, disk: &mut D, alloc: Global) {
-    assert_is!(rt; attach(disk, alloc).is_ok());
-    assert_is!(rt; write(disk, &[7]).is_err());
-    // A failed write leaves what a read gives.
-    assert_is!(rt; matches!(byte_behind(disk, 0), Ok(5)));
-    assert_is!(rt; write(disk, &[8]).is_ok());
+#[derive(Clone, Copy)]
+enum Call {
+    Attach,
+    Write(u8),
+    WriteLong,
+    Sync,
+    Len,
+    FirstByte,
 }
 
-fn fails_further_on<D: LogDisk>(rt: &impl Abort, disk: &mut D, alloc: Global) {
-    assert_is!(rt; sync(disk).is_ok());
+fn attach<D: LogDisk>(disk: &mut D, alloc: Global) -> Result<u64, DiskFault> {
+    match disk.attach(alloc, "log", false) {
+        Ok(()) => Ok(0),
+        Err(AttachFault::Disk) => Err(DiskFault),
+        Err(AttachFault::Memory) => Ok(u64::MAX),
+    }
+}
+
+fn first_byte<D: LogDisk>(disk: &mut D) -> Result<u64, DiskFault> {
+    let mut byte = [0];
+    disk.read(0, &mut byte)?;
+    Ok(u64::from(byte[0]))
+}
+
+fn nothing(told: Result<(), DiskFault>) -> Result<u64, DiskFault> {
+    match told {
+        Ok(()) => Ok(0),
+        Err(fault) => Err(fault),
+    }
+}
+
+// Makes a call, and gives the number that it tells, if it tells one.
+fn make<D: LogDisk>(disk: &mut D, alloc: Global, call: Call) -> Result<u64, DiskFault> {
+    match call {
+        Call::Attach => attach(disk, alloc),
+        Call::Write(byte) => nothing(disk.write(0, &[byte])),
+        Call::WriteLong => nothing(disk.write(0, &[1; 9])),
+        Call::Sync => nothing(disk.sync()),
+        Call::Len => disk.len(),
+        Call::FirstByte => first_byte(disk),
+    }
+}
+
+const CALLS: &[(Call, Option<u64>)] = &[
+    (Call::Attach, Some(0)),
+    (Call::Write(7), None),
+    // A failed write leaves what a read gives.
+    (Call::FirstByte, Some(5)),
+    (Call::Write(8), Some(0)),
+    (Call::Sync, Some(0)),
     // Past the room.
-    assert_is!(rt; write(disk, &[1; 9]).is_err());
-    assert_is!(rt; sync(disk).is_err());
-    assert_is!(rt; matches!(attach(disk, alloc), Err(AttachFault::Disk)));
+    (Call::WriteLong, None),
+    (Call::Sync, None),
+    (Call::Attach, None),
     // Past the calls.
-    assert_is!(rt; length(disk).is_err());
+    (Call::Len, None),
+];
+
+fn fails_by_kind_and_number<D: LogDisk>(rt: &impl Abort, disk: &mut D, alloc: Global) {
+    for (call, told) in CALLS {
+        assert_same!(rt; make(disk, alloc, *call).ok(), *told);
+    }
 }
 
 #[test]
-fn calls_fail_by_kind_and_number(rt: HostRuntime) -> Result<(), Fail> {
-    let mut disk = two_bytes(rt.alloc(), FAILING.to_vec(rt.alloc())?)?;
-    fails_at_a_write(&rt, &mut disk, rt.alloc());
-    fails_further_on(&rt, &mut disk, rt.alloc());
-    assert_is!(rt; expect_image(&rt, &disk, 5, 8, 3, &[3; 8]).is_ok());
-    Ok(())
+fn calls_fail_by_kind_and_number(rt: HostRuntime) {
+    let mut disk = two_bytes(rt.alloc(), FAILING).expect(&rt, "it failed");
+    fails_by_kind_and_number(&rt, &mut disk, rt.alloc());
+    expect_image(&rt, &disk, 5, 8, 3, &[3; 8]);
 }

@@ -1,20 +1,14 @@
 //! A drive over a real file of the temporary folder.
+use crate::folder::{path_of, taken_away};
 use disk_file::FileDisk;
 use disk_trait::{AttachFault, DiskFault, LogDisk};
 use std::alloc::Global;
+use std::env::Env;
 use std::fs::Files;
 use std::path::PathBuf;
 use std::process::Abort;
 use std::test::Fail;
-use std::{env, fs, process};
-
-fn may_be_sent<T: Send + Drop>(_value: T) {}
-
-fn file_name(rt: &HostRuntime) -> Result<PathBuf, Fail> {
-    let mut path = env::temp_dir(rt)?;
-    path.push(format!(in rt.alloc(); "disk_file-{}", process::id(rt.process()))?.as_str())?;
-    Ok(path)
-}
+use std::{fs, io, process};
 
 fn attach<D: LogDisk>(
     disk: &mut D,
@@ -52,27 +46,30 @@ fn is_made<D: LogDisk>(rt: &impl Abort, disk: &mut D, alloc: Global, name: &str)
     assert_is!(rt; matches!(length(disk), Ok(4)));
 }
 
+// Of a drive that may be sent to a thread.
 fn makes_a_file<R: Abort + Files + AllocGlobal, D: LogDisk + Send>(
     rt: &R,
-    mut disk: D,
+    disk: &mut D,
     name: &str,
 ) {
-    is_not_made(rt, &mut disk, rt.alloc(), name);
+    is_not_made(rt, disk, rt.alloc(), name);
     assert_is!(rt; matches!(fs::exists(rt, name), Ok(false)));
-    is_made(rt, &mut disk, rt.alloc(), name);
-    may_be_sent(disk);
+    is_made(rt, disk, rt.alloc(), name);
+    let bytes = taken_away(rt, name).expect(rt, "it failed");
+    assert_same!(rt; bytes.as_slice(), b"Abxy".as_slice());
 }
 
-fn takes_away<R: Abort + Files + AllocGlobal>(rt: &R, name: &str) -> Result<(), Fail> {
-    let bytes = fs::read(rt, name)?;
-    fs::remove_file(rt, name)?;
-    assert_same!(rt; bytes.as_slice(), b"Abxy".as_slice());
-    Ok(())
+fn path<R: Abort + Env + AllocGlobal>(rt: &R, id: u32) -> PathBuf {
+    let name = format!(in rt.alloc(); "disk_file-{id}").expect(rt, "a name");
+    path_of(rt, name.as_str()).expect(rt, "a path")
 }
 
 #[test]
-fn a_file_is_made_where_it_may_be_and_keeps_what_is_written(rt: HostRuntime) -> Result<(), Fail> {
-    let name = file_name(&rt)?;
-    makes_a_file(&rt, FileDisk::new(rt.clone()?), name.as_str());
-    takes_away(&rt, name.as_str())
+fn a_file_is_made_where_it_may_be_and_keeps_what_is_written(rt: HostRuntime) {
+    let path = path(&rt, process::id(rt.process()));
+    makes_a_file(
+        &rt,
+        &mut FileDisk::new(rt.clone().expect(&rt, "it failed")),
+        path.as_str(),
+    );
 }

@@ -48,13 +48,11 @@ fn write_and_sync<D: LogDisk>(disk: &mut D) -> Result<(), DiskFault> {
 }
 
 #[test]
-fn a_drive_that_tells_nothing_is_a_drive(rt: HostRuntime) -> Result<(), Fail> {
+fn a_drive_that_tells_nothing_is_a_drive(rt: HostRuntime) {
     let mut disk = ForgetfulDisk { faults: 0 };
     let attached = disk.attach(rt.alloc(), "log", true);
     assert_is!(rt; matches!(attached, Err(AttachFault::Disk)));
-    write_and_sync(&mut disk)?;
-    disk.cut(0)?;
-    assert_is!(rt; matches!(disk.len(), Ok(0)));
-    assert_is!(rt; matches!(disk.read(0, &mut [0; 4]), Ok(0)));
-    Ok(())
+    write_and_sync(&mut disk).expect(&rt, "it failed");
+    disk.cut(0).expect(&rt, "it failed");
+    assert_same!(rt; (disk.len(), disk.read(0, &mut [0; 4])), (Ok(0), Ok(0)));
 }

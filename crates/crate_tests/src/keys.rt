@@ -22,7 +22,7 @@ fn point_by_loop(key: u64) -> Point {
     Point { x, y }
 }
 
-const KEYS: [(u32, u32, u64); 6] = [
+const KEYS: &[(u32, u32, u64)] = &[
     (0, 0, 0),
     (1, 0, 2),
     (0, 1, 1),
@@ -34,8 +34,8 @@ const KEYS: [(u32, u32, u64); 6] = [
 #[test]
 fn keys_take_the_bits_in_turn_and_x_comes_first(rt: HostRuntime) {
     for (x, y, want) in KEYS {
-        assert_same!(rt; key(Point { x, y }), want);
-        assert_same!(rt; point(want), Point { x, y });
+        let at = Point { x: *x, y: *y };
+        assert_same!(rt; (key(at), point(*want)), (*want, at));
     }
 }
 
@@ -62,7 +62,7 @@ fn the_fast_forms_answer_as_the_loops_over_the_bits(rt: HostRuntime) {
     }
 }
 
-const ALIKE: [(u64, u64, u8); 4] = [
+const ALIKE: &[(u64, u64, u8)] = &[
     (27, 24, 62),
     (27, 27, 64),
     (0, 18446744073709551615, 0),
@@ -72,29 +72,34 @@ const ALIKE: [(u64, u64, u8); 4] = [
 #[test]
 fn keys_share_as_many_first_bits_as_they_have_alike(rt: HostRuntime) {
     for (a, b, want) in ALIKE {
-        let name = common(a, b);
-        assert_same!(rt; (a, b, name.len()), (a, b, want));
-        assert_same!(rt; (begins(&name, a), begins(&name, b)), (true, true));
+        let name = common(*a, *b);
+        assert_same!(rt; (*a, *b, name.len()), (*a, *b, *want));
+        assert_same!(rt; (begins(&name, *a), begins(&name, *b)), (true, true));
     }
 }
 
+const NAMES: &[(u64, u8, bool)] = &[
+    (1, 63, false),
+    (0, 65, false),
+    (0x8000000000000000, 0, false),
+    (1, 64, true),
+    (0, 0, true),
+];
+
 #[test]
 fn a_name_has_no_bit_behind_its_length(rt: HostRuntime) {
-    assert_is!(rt; Name::new(1, 63).is_none());
-    assert_is!(rt; Name::new(0, 65).is_none());
-    assert_is!(rt; Name::new(0x8000000000000000, 0).is_none());
-    assert_is!(rt; Name::new(1, 64).is_some());
-    assert_is!(rt; Name::new(0, 0) == Some(Name::whole()));
+    for (bits, len, is_name) in NAMES {
+        assert_same!(rt; (*bits, *len, Name::new(*bits, *len).is_some()), (*bits, *len, *is_name));
+    }
+    assert_same!(rt; Name::new(0, 0), Some(Name::whole()));
 }
 
 #[test]
 fn a_child_has_one_bit_more(rt: HostRuntime) {
     let right = child(&Name::whole(), true);
     let low = child(&right, false);
-    assert_is!(rt; Name::new(0x8000000000000000, 1) == Some(right));
-    assert_is!(rt; Name::new(0x8000000000000000, 2) == Some(low));
-    assert_same!(rt; child(&right, true).bits(), 0xC000000000000000);
-    assert_is!(rt; low != right);
-    assert_is!(rt; begins(&low, 0x8000000000000000));
-    assert_is!(rt; !begins(&low, 0xC000000000000000));
+    let (first, last) = (0x8000000000000000, 0xC000000000000000);
+    assert_same!(rt; (Name::new(first, 1), Name::new(first, 2)), (Some(right), Some(low)));
+    assert_same!(rt; child(&right, true).bits(), last);
+    assert_same!(rt; (low != right, begins(&low, first), begins(&low, last)), (true, true, false));
 }

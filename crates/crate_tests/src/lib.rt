@@ -18,14 +18,8 @@ macro_rules! assert_same {
     };
 }
 
-// `assert!` of what a function tells with `?`.
 #[cfg(test)]
-macro_rules! assert_so {
-    ($rt:expr; $told:expr $(,)?) => {
-        crate::checks::told(&$rt, $told, concat!("assertion failed: ", stringify!($told)))?
-    };
-}
-
+mod answers;
 #[cfg(test)]
 mod book;
 #[cfg(test)]
@@ -40,6 +34,8 @@ mod counts;
 mod drives;
 #[cfg(test)]
 mod files;
+#[cfg(test)]
+mod folder;
 #[cfg(test)]
 mod forgetful;
 #[cfg(test)]
@@ -62,3 +58,5 @@ mod splits;
 mod streams;
 #[cfg(test)]
 mod words;
+#[cfg(test)]
+mod worlds;

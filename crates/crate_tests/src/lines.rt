@@ -1,6 +1,7 @@
 //! Rows that are read, and lines that are written.
 ghost use Rattle.std.specs.Prelude.{None};
 
+use crate::answers::{Told, answer_of};
 use cell_format::Cause;
 use csv_rows::{
     InRow, Refusal, Rows, RowsFault, number_in, read_rows, refusal_line, write_line, write_rows,
@@ -8,9 +9,8 @@ use csv_rows::{
 };
 use io_edge::{Sink, SinkFault};
 use plain_list::{Answer, Op, PlacedList};
-use std::alloc::Global;
+use std::alloc::{AllocError, Global};
 use std::process::Abort;
-use std::test::Fail;
 use zorder::{Placed, Point, Region};
 
 /// Keeps what it is given, in so many puts.
@@ -44,29 +44,35 @@ impl Sink for Kept {
     }
 }
 
-fn line_of(alloc: Global, number: u32, answer: Answer) -> Vec<u8> {
-    let mut sink = Kept::new(alloc, 1);
-    let _ = write_line(&mut sink, number, u64::from(number), &answer);
-    let Kept {
-        bytes,
-        puts_left: _,
-        faults: _,
-    } = sink;
-    bytes
+fn expect_text(rt: &impl Abort, sink: &Kept, text: &[u8]) {
+    assert_same!(rt; sink.bytes.as_slice(), text);
 }
 
-fn read(alloc: Global, rows: &[u8]) -> Result<Rows, RowsFault> {
-    let mut text = match Vec::from_slice(alloc, b"session,op,id,x,y,a,b\n".as_slice()) {
-        Ok(text) => text,
-        Err(_) => return Err(RowsFault::Memory),
-    };
-    if text.extend_from_slice(rows).is_err() {
+fn expect_rows(rt: &impl Abort, alloc: Global, text: &[u8], expected: &[InRow]) {
+    let rows = read_rows(alloc, text).expect(rt, "it failed");
+    assert_same!(rt; rows.as_slice(), expected);
+}
+
+fn how_many(alloc: Global, text: &[u8]) -> Result<usize, RowsFault> {
+    let rows = read_rows(alloc, text)?;
+    Ok(rows.as_slice().len())
+}
+
+// How many rows there are behind the header.
+fn how_many_behind(alloc: Global, rows: &[u8]) -> Result<usize, RowsFault> {
+    let Ok(text) = with_header(alloc, rows) else {
         return Err(RowsFault::Memory);
-    }
-    read_rows(alloc, text.as_slice())
+    };
+    how_many(alloc, text.as_slice())
 }
 
-const FIRST_ROWS: [InRow; 2] = [
+fn with_header(alloc: Global, rows: &[u8]) -> Result<Vec<u8>, AllocError> {
+    let mut text = Vec::from_slice(alloc, b"session,op,id,x,y,a,b\n".as_slice())?;
+    text.extend_from_slice(rows)?;
+    Ok(text)
+}
+
+const FIRST_ROWS: &[InRow] = &[
     InRow {
         session: 1,
         op: Op::Put {
@@ -80,7 +86,7 @@ const FIRST_ROWS: [InRow; 2] = [
     },
 ];
 
-const SPELLINGS: [&[u8]; 5] = [
+const SPELLINGS: &[&[u8]] = &[
     b"session,op,id,x,y,a,b\n1,put,7,3,5,,\n1,where,7,,,,\n",
     b"session,op,id,x,y,a,b\r\n\"1\",\"put\",\"7\",\"3\",\"5\",\"\",\"\"\r\n\"1\",\"where\",\"7\",,,,\r\n",
     b"\xEF\xBB\xBFsession,op,id,x,y,a,b\n1,put,7,3,5,,\n1,where,7,,,,\n",
@@ -89,58 +95,56 @@ const SPELLINGS: [&[u8]; 5] = [
 ];
 
 #[test]
-fn quotes_line_ends_empty_lines_and_one_mark_change_no_row(rt: HostRuntime) -> Result<(), Fail> {
+fn quotes_line_ends_empty_lines_and_one_mark_change_no_row(rt: HostRuntime) {
     for text in SPELLINGS {
-        let rows = read_rows(rt.alloc(), text)?;
-        assert_same!(rt; rows.as_slice(), FIRST_ROWS.as_slice());
+        expect_rows(&rt, rt.alloc(), text, FIRST_ROWS);
     }
-    Ok(())
 }
+
+const CORNER: Point = Point { x: 3, y: 5 };
+
+const OTHER_ROWS: &[InRow] = &[
+    InRow {
+        session: 16,
+        op: Op::Move {
+            id: 18_446_744_073_709_551_615,
+            at: Point {
+                x: 4_294_967_295,
+                y: 0,
+            },
+        },
+    },
+    InRow {
+        session: 2,
+        op: Op::Remove { id: 0 },
+    },
+    InRow {
+        session: 1,
+        op: Op::Within {
+            region: Region {
+                lo: CORNER,
+                hi: CORNER,
+            },
+        },
+    },
+    InRow {
+        session: 1,
+        op: Op::Near {
+            at: Point { x: 0, y: 0 },
+            k: 2048,
+        },
+    },
+];
+
+const OTHER_TEXT: &[u8] =
+    b"session,op,id,x,y,a,b\n16,move,18446744073709551615,4294967295,0,,\n2,drop,0,,,,\n1,box,,3,5,3,5\n1,near,,0,0,2048,\n";
 
 #[test]
-fn the_other_operations_are_read(rt: HostRuntime) -> Result<(), Fail> {
-    let rows = read(
-        rt.alloc(),
-        b"16,move,18446744073709551615,4294967295,0,,\n2,drop,0,,,,\n1,box,,3,5,3,5\n1,near,,0,0,2048,\n",
-    )?;
-    let corner = Point { x: 3, y: 5 };
-    let expected = [
-        InRow {
-            session: 16,
-            op: Op::Move {
-                id: 18_446_744_073_709_551_615,
-                at: Point {
-                    x: 4_294_967_295,
-                    y: 0,
-                },
-            },
-        },
-        InRow {
-            session: 2,
-            op: Op::Remove { id: 0 },
-        },
-        InRow {
-            session: 1,
-            op: Op::Within {
-                region: Region {
-                    lo: corner,
-                    hi: corner,
-                },
-            },
-        },
-        InRow {
-            session: 1,
-            op: Op::Near {
-                at: Point { x: 0, y: 0 },
-                k: 2048,
-            },
-        },
-    ];
-    assert_same!(rt; rows.as_slice(), expected.as_slice());
-    Ok(())
+fn the_other_operations_are_read(rt: HostRuntime) {
+    expect_rows(&rt, rt.alloc(), OTHER_TEXT, OTHER_ROWS);
 }
 
-const NO_HEADERS: [&[u8]; 5] = [
+const NO_HEADERS: &[&[u8]] = &[
     b"",
     b"1,put,7,3,5,,\n",
     b"session,op,id,x,y,a\n",
@@ -149,15 +153,14 @@ const NO_HEADERS: [&[u8]; 5] = [
 ];
 
 #[test]
-fn the_header_is_the_first_record_behind_one_mark(rt: HostRuntime) -> Result<(), Fail> {
+fn the_header_is_the_first_record_behind_one_mark(rt: HostRuntime) {
     for text in NO_HEADERS {
-        assert_same!(rt; read_rows(rt.alloc(), text).err(), Some(RowsFault::Header));
+        assert_same!(rt; how_many(rt.alloc(), text), Err(RowsFault::Header));
     }
     assert_same!(rt; how_many(rt.alloc(), b"session,op,id,x,y,a,b"), Ok(0));
-    Ok(())
 }
 
-const FAULTS: [(&[u8], u32, u8); 20] = [
+const FAULTS: &[(&[u8], u32, u8)] = &[
     (b"17,put,7,3,5,,\n", 1, 1),
     (b"0,put,7,3,5,,\n", 1, 1),
     (b"17,push,7,3,5,,\n", 1, 1),
@@ -183,119 +186,126 @@ const FAULTS: [(&[u8], u32, u8); 20] = [
 #[test]
 fn the_leftmost_column_of_the_first_row_at_fault_is_named(rt: HostRuntime) {
     for (rows, row, column) in FAULTS {
-        assert_same!(rt; read(rt.alloc(), rows).err(), Some(RowsFault::Field { row, column }));
+        let (row, column) = (*row, *column);
+        assert_same!(rt; how_many_behind(rt.alloc(), rows), Err(RowsFault::Field { row, column }));
     }
 }
+
+const LENGTHS: &[(&[u8], u32)] = &[
+    (b"1,put,7,3,5,\n", 1),
+    (b"1,put,7,3,5,,\n1,put,7,3,5,,,\n", 2),
+];
 
 #[test]
 fn a_row_of_six_or_eight_fields_is_named(rt: HostRuntime) {
-    assert_same!(rt;
-        read(rt.alloc(), b"1,put,7,3,5,\n").err(),
-        Some(RowsFault::Csv { row: 1 })
-    );
-    assert_same!(rt;
-        read(rt.alloc(), b"1,put,7,3,5,,\n1,put,7,3,5,,,\n").err(),
-        Some(RowsFault::Csv { row: 2 })
-    );
+    for (rows, row) in LENGTHS {
+        assert_same!(rt; how_many_behind(rt.alloc(), rows), Err(RowsFault::Csv { row: *row }));
+    }
 }
 
-// Of so many rows, and then of a record behind them.
-fn reads_no_more(rt: &impl Abort, alloc: Global, mut text: Vec<u8>) -> Result<(), Fail> {
-    assert_same!(rt; how_many(alloc, text.as_slice()), Ok(65_536));
-    text.extend_from_slice(b"x\n".as_slice())?;
-    assert_same!(rt; how_many(alloc, text.as_slice()), Err(RowsFault::TooMany));
-    Ok(())
-}
-
-fn how_many(alloc: Global, text: &[u8]) -> Result<usize, RowsFault> {
-    Ok(read_rows(alloc, text)?.as_slice().len())
-}
-
-#[test]
-fn the_record_behind_65536_rows_is_one_too_many(rt: HostRuntime) -> Result<(), Fail> {
-    let mut text = Vec::from_slice(rt.alloc(), b"session,op,id,x,y,a,b\n".as_slice())?;
+// 65,536 rows.
+fn many_rows(alloc: Global) -> Result<Vec<u8>, AllocError> {
+    let mut text = with_header(alloc, b"")?;
     for _ in 0..65_536 {
         text.extend_from_slice(b"1,where,7,,,,\n".as_slice())?;
     }
-    reads_no_more(&rt, rt.alloc(), text)
+    Ok(text)
 }
+
+#[test]
+fn the_record_behind_65536_rows_is_one_too_many(rt: HostRuntime) {
+    let mut text = many_rows(rt.alloc()).expect(&rt, "it failed");
+    assert_same!(rt; how_many(rt.alloc(), text.as_slice()), Ok(65_536));
+    text.extend_from_slice(b"x\n".as_slice())
+        .expect(&rt, "it failed");
+    assert_same!(rt; how_many(rt.alloc(), text.as_slice()), Err(RowsFault::TooMany));
+}
+
+const NUMBERS: &[(&[u8], u64, Option<u64>)] = &[
+    (b"00000000000000000064", 4, Some(64)),
+    (b"000000000000000000064", 4, None),
+    (b"3", 4, None),
+    (b"", 0, None),
+];
 
 #[test]
 fn a_number_has_one_to_twenty_digits(rt: HostRuntime) {
-    assert_same!(rt; number_in(b"00000000000000000064", 4, 4096), Some(64));
-    assert_same!(rt; number_in(b"000000000000000000064", 4, 4096), None);
-    assert_same!(rt; number_in(b"3", 4, 4096), None);
-    assert_same!(rt; number_in(b"", 0, 4096), None);
-}
-
-fn expect_line(rt: &impl Abort, alloc: Global, number: u32, answer: Answer, line: &[u8]) {
-    assert_same!(rt; line_of(alloc, number, answer).as_slice(), line);
-}
-
-fn expect_found(
-    rt: &impl Abort,
-    alloc: Global,
-    number: u32,
-    points: &[Placed],
-    line: &[u8],
-) -> Result<(), Fail> {
-    let list = PlacedList::from_vec(points.to_vec(alloc)?);
-    expect_line(rt, alloc, number, Answer::Found(list), line);
-    Ok(())
-}
-
-fn expect_lines(rt: &impl Abort, alloc: Global) {
-    let at = Point { x: 3, y: 5 };
-    let gone = Point { x: 8, y: 8 };
-    expect_line(rt, alloc, 1, Answer::Done, b"1,1,done,\n");
-    expect_line(rt, alloc, 2, Answer::At(at), b"2,2,at,3:5\n");
-    expect_line(rt, alloc, 2, Answer::Present(at), b"2,2,present,3:5\n");
-    expect_line(rt, alloc, 3, Answer::Moved(at), b"3,3,moved,3:5\n");
-    expect_line(rt, alloc, 4, Answer::Gone(gone), b"4,4,gone,8:8\n");
-    expect_line(rt, alloc, 5, Answer::Absent, b"5,5,absent,\n");
-    expect_line(rt, alloc, 6, Answer::Full, b"6,6,full,\n");
-    expect_line(rt, alloc, 7, Answer::Many(2049), b"7,7,many,2049\n");
-}
-
-#[test]
-fn answers_are_written_as_lines(rt: HostRuntime) -> Result<(), Fail> {
-    expect_lines(&rt, rt.alloc());
-    let near = [
-        Placed {
-            id: 4,
-            at: Point { x: 3, y: 4 },
-        },
-        Placed {
-            id: 9,
-            at: Point { x: 0, y: 5 },
-        },
-    ];
-    expect_found(&rt, rt.alloc(), 2, &[], b"2,2,found,\n")?;
-    expect_found(&rt, rt.alloc(), 3, &near, b"3,3,found,4:3:4;9:0:5\n")
-}
-
-#[test]
-fn a_list_of_2048_points_goes_in_pieces(rt: HostRuntime) -> Result<(), Fail> {
-    let mut points = Vec::new(rt.alloc());
-    for _ in 0..2048 {
-        points.push(Placed {
-            id: 18_446_744_073_709_551_615,
-            at: Point {
-                x: 4_294_967_295,
-                y: 4_294_967_295,
-            },
-        })?;
+    for (digits, low, number) in NUMBERS {
+        assert_same!(rt; number_in(digits, *low, 4096), *number);
     }
-    let answer = Answer::Found(PlacedList::from_vec(points));
-    let mut sink = Kept::new(rt.alloc(), 100);
-    assert_is!(rt; write_line(&mut sink, 1, 1, &answer).is_ok());
-    assert_same!(rt; sink.bytes.len(), 10 + 2048 * 43);
-    let mut failing = Kept::new(rt.alloc(), 1);
-    assert_is!(rt; write_line(&mut failing, 1, 1, &answer).is_err());
-    Ok(())
 }
 
-const REFUSALS: [(Refusal, &[u8]); 19] = [
+const GONE: Point = Point { x: 8, y: 8 };
+
+const NEAR: &[Placed] = &[
+    Placed {
+        id: 4,
+        at: Point { x: 3, y: 4 },
+    },
+    Placed {
+        id: 9,
+        at: Point { x: 0, y: 5 },
+    },
+];
+
+const LINES: &[(u32, Told, &[u8])] = &[
+    (1, Told::Done, b"1,1,done,\n"),
+    (2, Told::At(CORNER), b"2,2,at,3:5\n"),
+    (2, Told::Present(CORNER), b"2,2,present,3:5\n"),
+    (3, Told::Moved(CORNER), b"3,3,moved,3:5\n"),
+    (4, Told::Gone(GONE), b"4,4,gone,8:8\n"),
+    (5, Told::Absent, b"5,5,absent,\n"),
+    (6, Told::Full, b"6,6,full,\n"),
+    (7, Told::Many(2049), b"7,7,many,2049\n"),
+    (2, Told::Found(&[]), b"2,2,found,\n"),
+    (3, Told::Found(NEAR), b"3,3,found,4:3:4;9:0:5\n"),
+];
+
+fn expect_line(rt: &impl Abort, alloc: Global, number: u32, answer: &Answer, line: &[u8]) {
+    let mut sink = Kept::new(alloc, 1);
+    assert_is!(rt; write_line(&mut sink, number, u64::from(number), answer).is_ok());
+    expect_text(rt, &sink, line);
+}
+
+fn expect_told(rt: &impl Abort, alloc: Global, number: u32, told: Told, line: &[u8]) {
+    let answer = answer_of(alloc, told).expect(rt, "it failed");
+    expect_line(rt, alloc, number, &answer, line);
+}
+
+#[test]
+fn answers_are_written_as_lines(rt: HostRuntime) {
+    for (number, told, line) in LINES {
+        expect_told(&rt, rt.alloc(), *number, *told, line);
+    }
+}
+
+const FAR: Placed = Placed {
+    id: 18_446_744_073_709_551_615,
+    at: Point {
+        x: 4_294_967_295,
+        y: 4_294_967_295,
+    },
+};
+
+fn long_list(alloc: Global) -> Result<Answer, AllocError> {
+    let points = vec![in alloc; FAR; 2048]?;
+    Ok(Answer::Found(PlacedList::from_vec(points)))
+}
+
+fn goes_in_pieces(rt: &impl Abort, alloc: Global, answer: &Answer) {
+    let mut sink = Kept::new(alloc, 100);
+    assert_is!(rt; write_line(&mut sink, 1, 1, answer).is_ok());
+    assert_same!(rt; sink.bytes.len(), 10 + 2048 * 43);
+}
+
+#[test]
+fn a_list_of_2048_points_goes_in_pieces(rt: HostRuntime) {
+    let answer = long_list(rt.alloc()).expect(&rt, "it failed");
+    goes_in_pieces(&rt, rt.alloc(), &answer);
+    assert_is!(rt; write_line(&mut Kept::new(rt.alloc(), 1), 1, 1, &answer).is_err());
+}
+
+const REFUSALS: &[(Refusal, &[u8])] = &[
     (Refusal::Usage, b"refused usage\n"),
     (Refusal::Header, b"refused header\n"),
     (Refusal::Csv { row: 1 }, b"refused row 1 length\n"),
@@ -359,12 +369,12 @@ const REFUSALS: [(Refusal, &[u8]); 19] = [
 fn expect_refusal(rt: &impl Abort, alloc: Global, refusal: &Refusal, text: &[u8]) {
     let mut sink = Kept::new(alloc, 1);
     assert_is!(rt; refusal_line(&mut sink, refusal).is_ok());
-    assert_same!(rt; sink.bytes.as_slice(), text);
+    expect_text(rt, &sink, text);
 }
 
 #[test]
 fn refusals_are_written_as_lines(rt: HostRuntime) {
-    for (refusal, text) in &REFUSALS {
+    for (refusal, text) in REFUSALS {
         expect_refusal(&rt, rt.alloc(), refusal, text);
     }
 }
@@ -373,21 +383,28 @@ fn refusals_are_written_as_lines(rt: HostRuntime) {
 fn the_title_is_written_as_a_line(rt: HostRuntime) {
     let mut sink = Kept::new(rt.alloc(), 1);
     assert_is!(rt; write_title(&mut sink).is_ok());
-    assert_same!(rt; sink.bytes.as_slice(), b"row,place,answer,detail\n".as_slice());
+    expect_text(&rt, &sink, b"row,place,answer,detail\n");
+}
+
+fn expect_written(rt: &impl Abort, alloc: Global, rows: &Rows, text: &[u8]) {
+    let mut sink = Kept::new(alloc, 1);
+    assert_is!(rt; write_rows(&mut sink, rows).is_ok());
+    expect_text(rt, &sink, text);
 }
 
 #[test]
-fn rows_are_written_as_they_are_read(rt: HostRuntime) -> Result<(), Fail> {
+fn rows_are_written_as_they_are_read(rt: HostRuntime) {
     let text: &[u8] =
         b"session,op,id,x,y,a,b\n1,put,1717,3938983765,2969520912,,\n16,move,7,8,8,,\n1,drop,7,,,,\n1,where,7,,,,\n1,box,,3,5,3,5\n1,near,,0,0,2048,\n";
-    let rows = read_rows(rt.alloc(), text)?;
-    let mut sink = Kept::new(rt.alloc(), 1);
-    assert_is!(rt; write_rows(&mut sink, &rows).is_ok());
-    assert_same!(rt; sink.bytes.as_slice(), text);
-    Ok(())
+    expect_written(
+        &rt,
+        rt.alloc(),
+        &read_rows(rt.alloc(), text).expect(&rt, "it failed"),
+        text,
+    );
 }
 
-const TOLD: [(RowsFault, &str); 5] = [
+const TOLD: &[(RowsFault, &str)] = &[
     (
         RowsFault::Header,
         "the header isn't `session,op,id,x,y,a,b`",
@@ -401,10 +418,14 @@ const TOLD: [(RowsFault, &str); 5] = [
     (RowsFault::Memory, "out of memory"),
 ];
 
+fn expect_fault(rt: &impl Abort, alloc: Global, fault: &RowsFault, text: &str) {
+    let told = format!(in alloc; "{fault}").expect(rt, "it failed");
+    assert_same!(rt; told.as_str(), text);
+}
+
 #[test]
-fn a_fault_of_rows_tells_its_place(rt: HostRuntime) -> Result<(), Fail> {
-    for (fault, text) in &TOLD {
-        assert_same!(rt; format!(in rt.alloc(); "{fault}")?.as_str(), *text);
+fn a_fault_of_rows_tells_its_place(rt: HostRuntime) {
+    for (fault, text) in TOLD {
+        expect_fault(&rt, rt.alloc(), fault, text);
     }
-    Ok(())
 }

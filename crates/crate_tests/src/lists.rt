@@ -1,132 +1,132 @@
 //! Worked calls on one list, and boxes at the limit of what is listed.
+use crate::answers::{Told, answer_of};
+use crate::worlds::next;
 use plain_list::{
-    Answer, Call, Entries, Entry, Op, PlacedList, World, after, answer, find_id, is_box, is_legal,
-    ranking_is_in_order,
+    Answer, Call, Entries, Entry, Op, World, answer, find_id, is_box, is_legal, ranking_is_in_order,
 };
 use std::alloc::{AllocError, Global};
+use std::process::Abort;
 use std::test::Fail;
 use zorder::{Memory, Placed, Point, Region};
 
-fn point(x: u32, y: u32) -> Point {
-    Point { x, y }
+const ORIGIN: Point = Point { x: 0, y: 0 };
+
+const BESIDE: Point = Point { x: 1, y: 1 };
+
+const FIRST: Point = Point { x: 3, y: 5 };
+
+const SECOND: Point = Point { x: 8, y: 8 };
+
+const NEAR: Point = Point { x: 3, y: 4 };
+
+const AS_NEAR: Point = Point { x: 0, y: 5 };
+
+const FOUR: Placed = Placed { id: 4, at: NEAR };
+
+const NINE: Placed = Placed { id: 9, at: AS_NEAR };
+
+const SEVEN: Placed = Placed { id: 7, at: FIRST };
+
+const FIND_7: Op = Op::Find { id: 7 };
+
+const DROP_7: Op = Op::Remove { id: 7 };
+
+macro_rules! put {
+    ($id:expr, $at:expr) => {
+        Op::Put { id: $id, at: $at }
+    };
 }
 
-fn placed(id: u64, x: u32, y: u32) -> Placed {
-    Placed {
-        id,
-        at: point(x, y),
-    }
+macro_rules! within {
+    ($lo:expr, $hi:expr) => {
+        Op::Within {
+            region: Region { lo: $lo, hi: $hi },
+        }
+    };
 }
 
-fn put(id: u64, x: u32, y: u32) -> Op {
-    Op::Put {
-        id,
-        at: point(x, y),
-    }
-}
+// The call of a session's row, and what it is told.
+type Row = (u8, u32, Op, Told);
 
-fn to(id: u64, x: u32, y: u32) -> Op {
-    Op::Move {
-        id,
-        at: point(x, y),
-    }
-}
-
-fn within(x: u32, y: u32, a: u32, b: u32) -> Op {
-    Op::Within {
-        region: Region {
-            lo: point(x, y),
-            hi: point(a, b),
-        },
-    }
-}
-
-fn near(x: u32, y: u32, k: u32) -> Op {
-    Op::Near { at: point(x, y), k }
-}
-
-fn found(alloc: Global, list: &[Placed]) -> Result<Answer, AllocError> {
-    Ok(Answer::Found(PlacedList::from_vec(list.to_vec(alloc)?)))
-}
-
-fn call(row: u32, op: Op, answer: Answer) -> Call {
-    Call {
-        session: 1,
+fn add_call(alloc: Global, calls: &mut Vec<Call>, row: &Row) -> Result<(), AllocError> {
+    let (session, row, op, told) = *row;
+    let answer = answer_of(alloc, told)?;
+    calls.push(Call {
+        session,
         row,
         op,
         answer,
+    })?;
+    Ok(())
+}
+
+fn calls_of(alloc: Global, rows: &[Row]) -> Result<Vec<Call>, AllocError> {
+    let mut calls = Vec::new(alloc);
+    for row in rows {
+        add_call(alloc, &mut calls, row)?;
     }
+    Ok(calls)
 }
 
-fn are_legal(alloc: Global, calls: &[Call]) -> Result<bool, Memory> {
-    is_legal(alloc, &World::empty(alloc), calls)
+// Whether these calls are legal, in this order.
+fn are_legal(alloc: Global, rows: &[Row]) -> Result<bool, Memory> {
+    let calls = calls_of(alloc, rows)?;
+    is_legal(alloc, &World::empty(alloc), calls.as_slice())
 }
 
-fn changes_one(calls: &mut Vec<Call>) -> Result<(), AllocError> {
-    calls.push(call(1, put(7, 3, 5), Answer::Done))?;
-    calls.push(call(2, Op::Find { id: 7 }, Answer::At(point(3, 5))))?;
-    calls.push(call(3, put(7, 8, 8), Answer::Present(point(3, 5))))?;
-    calls.push(call(4, to(7, 8, 8), Answer::Moved(point(3, 5))))?;
-    Ok(())
-}
-
-fn takes_it_away(calls: &mut Vec<Call>) -> Result<(), AllocError> {
-    calls.push(call(5, Op::Remove { id: 7 }, Answer::Gone(point(8, 8))))?;
-    calls.push(call(6, Op::Remove { id: 7 }, Answer::Absent))?;
-    calls.push(call(7, to(7, 1, 1), Answer::Absent))?;
-    calls.push(call(8, Op::Find { id: 7 }, Answer::Absent))?;
-    Ok(())
-}
+const WORKED: &[Row] = &[
+    (1, 1, put!(7, FIRST), Told::Done),
+    (1, 2, FIND_7, Told::At(FIRST)),
+    (1, 3, put!(7, SECOND), Told::Present(FIRST)),
+    (1, 4, Op::Move { id: 7, at: SECOND }, Told::Moved(FIRST)),
+    (1, 5, DROP_7, Told::Gone(SECOND)),
+    (1, 6, DROP_7, Told::Absent),
+    (1, 7, Op::Move { id: 7, at: BESIDE }, Told::Absent),
+    (1, 8, FIND_7, Told::Absent),
+];
 
 #[test]
-fn the_worked_calls_have_their_answers(rt: HostRuntime) -> Result<(), Fail> {
-    let mut calls = Vec::new(rt.alloc());
-    changes_one(&mut calls)?;
-    takes_it_away(&mut calls)?;
-    assert_same!(rt; are_legal(rt.alloc(), calls.as_slice()).ok(), Some(true));
-    Ok(())
+fn the_worked_calls_have_their_answers(rt: HostRuntime) {
+    assert_same!(rt; are_legal(rt.alloc(), WORKED), Ok(true));
 }
 
-fn asks_for_the_nearest(alloc: Global, calls: &mut Vec<Call>) -> Result<(), AllocError> {
-    calls.push(call(1, put(9, 0, 5), Answer::Done))?;
-    calls.push(call(2, put(4, 3, 4), Answer::Done))?;
-    let one = found(alloc, &[placed(4, 3, 4)])?;
-    calls.push(call(3, near(0, 0, 1), one))?;
-    let both = found(alloc, &[placed(4, 3, 4), placed(9, 0, 5)])?;
-    calls.push(call(4, near(0, 0, 2048), both))?;
-    Ok(())
-}
-
-fn asks_for_boxes(alloc: Global, calls: &mut Vec<Call>) -> Result<(), AllocError> {
-    calls.push(call(5, put(7, 3, 5), Answer::Done))?;
-    let one = found(alloc, &[placed(7, 3, 5)])?;
-    calls.push(call(6, within(3, 5, 3, 5), one))?;
-    calls.push(call(7, within(0, 0, 2, 2), found(alloc, &[])?))?;
-    Ok(())
-}
-
-#[test]
-fn ties_go_to_the_lesser_id_and_boxes_have_both_corners(rt: HostRuntime) -> Result<(), Fail> {
-    let mut calls = Vec::new(rt.alloc());
-    asks_for_the_nearest(rt.alloc(), &mut calls)?;
-    asks_for_boxes(rt.alloc(), &mut calls)?;
-    assert_same!(rt; are_legal(rt.alloc(), calls.as_slice()).ok(), Some(true));
-    Ok(())
-}
+const TIES: &[Row] = &[
+    (1, 1, put!(9, AS_NEAR), Told::Done),
+    (1, 2, put!(4, NEAR), Told::Done),
+    (1, 3, Op::Near { at: ORIGIN, k: 1 }, Told::Found(&[FOUR])),
+    (
+        1,
+        4,
+        Op::Near {
+            at: ORIGIN,
+            k: 2048,
+        },
+        Told::Found(&[FOUR, NINE]),
+    ),
+    (1, 5, put!(7, FIRST), Told::Done),
+    (1, 6, within!(FIRST, FIRST), Told::Found(&[SEVEN])),
+    (
+        1,
+        7,
+        within!(ORIGIN, Point { x: 2, y: 2 }),
+        Told::Found(&[]),
+    ),
+];
 
 #[test]
-fn absent_after_a_put_is_not_legal(rt: HostRuntime) -> Result<(), Fail> {
-    let find = Call {
-        session: 2,
-        row: 2,
-        op: Op::Find { id: 1 },
-        answer: Answer::Absent,
-    };
-    let mut calls = Vec::new(rt.alloc());
-    calls.push(call(1, put(1, 3, 5), Answer::Done))?;
-    calls.push(find)?;
-    assert_same!(rt; are_legal(rt.alloc(), calls.as_slice()).ok(), Some(false));
-    Ok(())
+fn ties_go_to_the_lesser_id_and_boxes_have_both_corners(rt: HostRuntime) {
+    assert_same!(rt; are_legal(rt.alloc(), TIES), Ok(true));
+}
+
+// A put of session 1, and a find of session 2 that isn't told of it.
+const UNTOLD: &[Row] = &[
+    (1, 1, put!(1, FIRST), Told::Done),
+    (2, 2, Op::Find { id: 1 }, Told::Absent),
+];
+
+#[test]
+fn absent_after_a_put_is_not_legal(rt: HostRuntime) {
+    assert_same!(rt; are_legal(rt.alloc(), UNTOLD), Ok(false));
 }
 
 fn count_of(answer: &Answer) -> (usize, u64) {
@@ -137,59 +137,83 @@ fn count_of(answer: &Answer) -> (usize, u64) {
     }
 }
 
+const BOX: Op = within!(ORIGIN, Point { x: 9, y: 9 });
+
 // What a box answers of a world whose objects are all in it.
 fn count_in_a_box(alloc: Global, world: &World) -> Result<(usize, u64), Memory> {
-    Ok(count_of(&answer(alloc, world, &within(0, 0, 9, 9))?))
+    let answer = answer(alloc, world, &BOX)?;
+    Ok(count_of(&answer))
 }
 
 // So many objects at one point.
 fn world_of(alloc: Global, objects: u64) -> Result<World, Memory> {
     let mut world = World::empty(alloc);
     for id in 1..=objects {
-        world = after(world, &put(id, 3, 5)).map_err(|_| Memory)?;
+        world = next(world, &Op::Put { id, at: FIRST })?;
     }
     Ok(world)
 }
 
+fn expect_last(rt: &impl Abort, world: &World) {
+    assert_same!(rt; find_id(world, 2049), Some(FIRST));
+    ranking_is_in_order(ORIGIN, world.as_slice());
+}
+
+fn lists_and_counts(rt: &impl Abort, alloc: Global) {
+    let world = world_of(alloc, 2048).expect(rt, "it failed");
+    assert_same!(rt; count_in_a_box(alloc, &world), Ok((2048, 0)));
+    let world = next(
+        world,
+        &Op::Put {
+            id: 2049,
+            at: FIRST,
+        },
+    )
+    .expect(rt, "it failed");
+    assert_same!(rt; count_in_a_box(alloc, &world), Ok((0, 2049)));
+    expect_last(rt, &world);
+}
+
 #[test]
-fn a_box_lists_2048_and_counts_2049(rt: HostRuntime) -> Result<(), Fail> {
-    let alloc = rt.alloc();
-    let world = world_of(alloc, 2048)?;
-    assert_same!(rt; count_in_a_box(alloc, &world).ok(), Some((2048, 0)));
-    let world = after(world, &put(2049, 3, 5)).map_err(|_| Memory)?;
-    assert_same!(rt; count_in_a_box(alloc, &world).ok(), Some((0, 2049)));
-    assert_same!(rt; find_id(&world, 2049), Some(point(3, 5)));
-    ranking_is_in_order(point(0, 0), world.as_slice());
-    Ok(())
+fn a_box_lists_2048_and_counts_2049(rt: HostRuntime) {
+    lists_and_counts(&rt, rt.alloc());
 }
 
 #[test]
 fn a_box_of_one_point_is_one(rt: HostRuntime) {
     assert_is!(rt;
         is_box(&Region {
-            lo: point(3, 5),
-            hi: point(3, 5)
+            lo: FIRST,
+            hi: FIRST
         })
     );
 }
 
+const HISTORY: [Entry; 2] = [
+    Entry::Call {
+        session: 1,
+        row: 1,
+        op: put!(7, FIRST),
+    },
+    Entry::Install { number: 1 },
+];
+
 // A put and a step.
 fn two_entries(alloc: Global) -> Result<Entries, Memory> {
     let mut history = Entries::empty(alloc);
-    history.push(Entry::Call {
-        session: 1,
-        row: 1,
-        op: put(7, 3, 5),
-    })?;
-    history.push(Entry::Install { number: 1 })?;
+    for entry in HISTORY {
+        history.push(entry)?;
+    }
     Ok(history)
 }
 
+fn copy_of(alloc: Global, history: &Entries) -> Result<Entries, AllocError> {
+    Ok(Entries::from_vec(history.as_slice().to_vec(alloc)?))
+}
+
 #[test]
-fn a_history_keeps_its_steps(rt: HostRuntime) -> Result<(), Fail> {
-    let history = two_entries(rt.alloc())?;
-    assert_same!(rt; history.as_slice().len(), 2);
-    let copy = Entries::from_vec(history.as_slice().to_vec(rt.alloc())?);
-    assert_same!(rt; copy.as_slice().len(), 2);
-    Ok(())
+fn a_history_keeps_its_steps(rt: HostRuntime) {
+    let history = two_entries(rt.alloc()).expect(&rt, "it failed");
+    let copy = copy_of(rt.alloc(), &history).expect(&rt, "it failed");
+    assert_same!(rt; (history.as_slice().len(), copy.as_slice().len()), (2, 2));
 }

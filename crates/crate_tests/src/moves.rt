@@ -2,8 +2,8 @@
 use csv_rows::InRow;
 use make_moves::make;
 use plain_list::Op;
-use std::test::Fail;
-use zorder::Point;
+use std::alloc::Global;
+use zorder::{Memory, Point};
 
 const PUT: InRow = InRow {
     session: 1,
@@ -16,53 +16,52 @@ const PUT: InRow = InRow {
     },
 };
 
-#[test]
-fn seed_2_puts_an_object_first(rt: HostRuntime) -> Result<(), Fail> {
-    let rows = make(rt.alloc(), 1, 2)?;
-    assert_is!(rt; rows.as_slice() == [PUT].as_slice());
-    Ok(())
+fn only(rows: &[InRow]) -> Option<InRow> {
+    match rows {
+        [row] => Some(*row),
+        _ => None,
+    }
 }
 
-fn is_move(rows: &[InRow]) -> bool {
-    matches!(
-        rows,
-        [InRow {
-            op: Op::Move { .. },
-            ..
-        }]
-    )
-}
-
-fn is_box(rows: &[InRow]) -> bool {
-    matches!(
-        rows,
-        [InRow {
-            op: Op::Within { .. },
-            ..
-        }]
-    )
+// The one row of a seed.
+fn first_row(alloc: Global, seed: u64) -> Result<Option<InRow>, Memory> {
+    let rows = make(alloc, 1, seed)?;
+    Ok(only(rows.as_slice()))
 }
 
 #[test]
-fn seeds_0_and_1_move_and_ask_for_a_box_first(rt: HostRuntime) -> Result<(), Fail> {
-    let moved = make(rt.alloc(), 1, 0)?;
-    assert_is!(rt; is_move(moved.as_slice()));
-    let asked = make(rt.alloc(), 1, 1)?;
-    assert_is!(rt; is_box(asked.as_slice()));
-    Ok(())
+fn seed_2_puts_an_object_first(rt: HostRuntime) {
+    assert_same!(rt; first_row(rt.alloc(), 2), Ok(Some(PUT)));
+}
+
+fn is_move(row: Option<InRow>) -> bool {
+    match row {
+        Some(row) => matches!(row.op, Op::Move { .. }),
+        None => false,
+    }
+}
+
+fn is_box(row: Option<InRow>) -> bool {
+    match row {
+        Some(row) => matches!(row.op, Op::Within { .. }),
+        None => false,
+    }
 }
 
 #[test]
-fn sixteen_sessions_take_turns(rt: HostRuntime) -> Result<(), Fail> {
-    let rows = make(rt.alloc(), 17, 3)?;
-    let sessions = rows.as_slice();
-    assert_same!(rt;
-        (
-            sessions[0].session,
-            sessions[15].session,
-            sessions[16].session
-        ),
-        (1, 16, 1)
-    );
-    Ok(())
+fn seeds_0_and_1_move_and_ask_for_a_box_first(rt: HostRuntime) {
+    assert_is!(rt; is_move(first_row(rt.alloc(), 0).expect(&rt, "it failed")));
+    assert_is!(rt; is_box(first_row(rt.alloc(), 1).expect(&rt, "it failed")));
+}
+
+// The sessions of the first of 17 rows, of the 16th and of the last.
+fn sessions(alloc: Global) -> Result<[u8; 3], Memory> {
+    let made = make(alloc, 17, 3)?;
+    let rows = made.as_slice();
+    Ok([rows[0].session, rows[15].session, rows[16].session])
+}
+
+#[test]
+fn sixteen_sessions_take_turns(rt: HostRuntime) {
+    assert_same!(rt; sessions(rt.alloc()), Ok([1, 16, 1]));
 }

@@ -2,76 +2,80 @@
 use command_words::{Command, Made, command_in};
 use std::alloc::{AllocError, Global};
 use std::process::Abort;
-use std::test::Fail;
 use zorder::{Point, Region};
 
-// What a line of words asks for, in one text.
-fn asked(alloc: Global, line: &str) -> Result<String, Fail> {
-    let mut words = Vec::new(alloc);
-    for word in line.split(' ') {
-        words.push(String::from_str(alloc, word)?)?;
-    }
-    Ok(text_of(alloc, command_in(words.as_slice()))?)
-}
+// What a command says: its word, its file and its numbers.
+type Said<'a> = (&'a str, Option<&'a str>, [u64; 4]);
 
-fn text_of(alloc: Global, command: Option<Command<'_>>) -> Result<String, AllocError> {
+const USAGE: Said<'static> = ("usage", None, [0; 4]);
+
+fn said(command: Option<Command<'_>>) -> Said<'_> {
     match command {
-        Some(Command::Init(file)) => format!(in alloc; "init {file}"),
-        Some(Command::Check(file)) => format!(in alloc; "check {file}"),
-        Some(Command::Play(Some(file), size)) => format!(in alloc; "play {file} {size}"),
-        Some(Command::Play(None, size)) => format!(in alloc; "play {size}"),
-        Some(Command::Show(file, region)) => shown(alloc, file, region),
-        Some(Command::Trial(Some(file), made)) => tried(alloc, file, made),
-        Some(Command::Trial(None, made)) => tried(alloc, "none", made),
-        None => String::from_str(alloc, "usage"),
+        Some(Command::Init(file)) => ("init", Some(file), [0; 4]),
+        Some(Command::Check(file)) => ("check", Some(file), [0; 4]),
+        Some(Command::Play(file, size)) => ("play", file, [u64::from(size), 0, 0, 0]),
+        Some(Command::Show(file, region)) => ("show", Some(file), corners(region)),
+        Some(Command::Trial(file, made)) => ("trial", file, numbers(made)),
+        None => USAGE,
     }
 }
 
-fn shown(alloc: Global, file: &str, region: Region) -> Result<String, AllocError> {
+fn corners(region: Region) -> [u64; 4] {
     let Region {
         lo: Point { x, y },
         hi: Point { x: a, y: b },
     } = region;
-    format!(in alloc; "show {file} {x} {y} {a} {b}")
+    [u64::from(x), u64::from(y), u64::from(a), u64::from(b)]
 }
 
-fn tried(alloc: Global, file: &str, made: Made) -> Result<String, AllocError> {
-    let Made { rows, seed } = made;
-    format!(in alloc; "trial {file} {rows} {seed}")
+fn numbers(made: Made) -> [u64; 4] {
+    [u64::from(made.rows), made.seed, 0, 0]
 }
 
-fn expect_asked(rt: &impl Abort, alloc: Global, line: &str, command: &str) -> Result<(), Fail> {
-    let told = asked(alloc, line)?;
-    assert_same!(rt; told.as_str(), command);
-    Ok(())
+fn words_of(alloc: Global, line: &str) -> Result<Vec<String>, AllocError> {
+    let mut words = Vec::new(alloc);
+    for word in line.split(' ') {
+        words.push(String::from_str(alloc, word)?)?;
+    }
+    Ok(words)
 }
 
-const COMMANDS: &[(&str, &str)] = &[
-    ("init moves.log", "init moves.log"),
-    ("check moves.log", "check moves.log"),
-    ("play -", "play 64"),
-    ("play moves.log", "play moves.log 64"),
-    ("play - --bucket 4", "play 4"),
-    ("play moves.log --bucket 4096", "play moves.log 4096"),
-    ("show moves.log 0 0 1 1", "show moves.log 0 0 1 1"),
-    ("show moves.log 5 0 5 007", "show moves.log 5 0 5 7"),
+// What a line of words asks for.
+fn expect_asked(rt: &impl Abort, alloc: Global, line: &str, wanted: Said<'_>) {
+    let words = words_of(alloc, line).expect(rt, "it failed");
+    assert_same!(rt; said(command_in(words.as_slice())), wanted);
+}
+
+const FILE: Option<&str> = Some("moves.log");
+
+const COMMANDS: &[(&str, Said<'static>)] = &[
+    ("init moves.log", ("init", FILE, [0; 4])),
+    ("check moves.log", ("check", FILE, [0; 4])),
+    ("play -", ("play", None, [64, 0, 0, 0])),
+    ("play moves.log", ("play", FILE, [64, 0, 0, 0])),
+    ("play - --bucket 4", ("play", None, [4, 0, 0, 0])),
     (
-        "show moves.log 0 0 4294967295 4294967295",
-        "show moves.log 0 0 4294967295 4294967295",
+        "play moves.log --bucket 4096",
+        ("play", FILE, [4096, 0, 0, 0]),
     ),
-    ("trial - 1 0", "trial none 1 0"),
+    ("show moves.log 0 0 1 1", ("show", FILE, [0, 0, 1, 1])),
+    ("show moves.log 5 0 5 007", ("show", FILE, [5, 0, 5, 7])),
+    (
+        "show moves.log 0 0 4294967295 4294967295",
+        ("show", FILE, [0, 0, 4294967295, 4294967295]),
+    ),
+    ("trial - 1 0", ("trial", None, [1, 0, 0, 0])),
     (
         "trial moves.log 65536 18446744073709551615",
-        "trial moves.log 65536 18446744073709551615",
+        ("trial", FILE, [65536, 18446744073709551615, 0, 0]),
     ),
 ];
 
 #[test]
-fn each_command_has_its_words(rt: HostRuntime) -> Result<(), Fail> {
-    for (line, command) in COMMANDS {
-        expect_asked(&rt, rt.alloc(), line, command)?;
+fn each_command_has_its_words(rt: HostRuntime) {
+    for (line, wanted) in COMMANDS {
+        expect_asked(&rt, rt.alloc(), line, *wanted);
     }
-    Ok(())
 }
 
 const OTHER_WORDS: &[&str] = &[
@@ -110,9 +114,8 @@ const OTHER_WORDS: &[&str] = &[
 ];
 
 #[test]
-fn other_words_are_usage(rt: HostRuntime) -> Result<(), Fail> {
+fn other_words_are_usage(rt: HostRuntime) {
     for line in OTHER_WORDS {
-        expect_asked(&rt, rt.alloc(), line, "usage")?;
+        expect_asked(&rt, rt.alloc(), line, USAGE);
     }
-    Ok(())
 }

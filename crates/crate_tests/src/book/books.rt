@@ -46,6 +46,11 @@ fn opened<D: LogDisk>(alloc: Global, disk: D, width: u8) -> Result<Opened<D>, Me
     }
 }
 
+/// A book without a log.
+pub fn fresh<I: Index, D: LogDisk>(alloc: Global, bucket: u32) -> Result<Book<I, D>, Memory> {
+    Book::fresh(alloc, bucket)
+}
+
 /// A book over the log that a drive has, with buckets of four.
 pub fn book_on<I: Index, D: LogDisk>(alloc: Global, disk: D) -> Result<Book<I, D>, Memory> {
     let opened = opened(alloc, disk, I::WIDTH)?;

@@ -4,10 +4,36 @@ ghost use Rattle.std.specs.Prelude.{◌≡◌, IfOk};
 use commit_book::{Book, BookFault, Done, Snapshot};
 use disk_trait::LogDisk;
 use index_layer::Index;
-use plain_list::Op;
+use plain_list::{Answer, Op};
 use split_prepare::{Prepared, prepare};
 use std::alloc::Global;
 use zorder::{Name, Point, Region};
+
+/// What a call is told: its place or a number, a word, and a point or two sizes.
+pub type Told = (u64, &'static str, Option<(u64, u64)>);
+
+/// Of a step that tells no more than that it was taken.
+pub const TAKEN: Told = (0, "taken", None);
+
+fn pair(at: Point) -> Option<(u64, u64)> {
+    Some((u64::from(at.x), u64::from(at.y)))
+}
+
+fn told(done: Result<Done, BookFault>) -> Result<Told, BookFault> {
+    match done {
+        Ok(done) => Ok(told_of(&done)),
+        Err(fault) => Err(fault),
+    }
+}
+
+fn told_of(done: &Done) -> Told {
+    match done.answer {
+        Answer::Done => (done.place, "done", None),
+        Answer::Present(at) => (done.place, "present", pair(at)),
+        Answer::At(at) => (done.place, "at", pair(at)),
+        _ => (done.place, "other", None),
+    }
+}
 
 /// Puts an object in a row of session 1.
 pub fn put<I: Index, D: LogDisk>(
@@ -16,9 +42,9 @@ pub fn put<I: Index, D: LogDisk>(
     id: u64,
     x: u32,
     y: u32,
-) -> Result<Done, BookFault> {
+) -> Result<Told, BookFault> {
     let at = Point { x, y };
-    book.update(1, row, &Op::Put { id, at })
+    told(book.update(1, row, &Op::Put { id, at }))
 }
 
 /// Asks where an object is.
@@ -26,8 +52,8 @@ pub fn find<I: Index, D: LogDisk>(
     book: &mut Book<I, D>,
     row: u32,
     id: u64,
-) -> Result<Done, BookFault> {
-    book.update(1, row, &Op::Find { id })
+) -> Result<Told, BookFault> {
+    told(book.update(1, row, &Op::Find { id }))
 }
 
 /// A snapshot for a box from (0,0) to (9,9).
@@ -41,9 +67,22 @@ pub fn look<I: Index, D: LogDisk>(
     book.snapshot(1, row, &Op::Within { region })
 }
 
+/// The place of a snapshot, how many rows of the first leaf stand in exactly one of its base and its rows, and how many it has.
+pub fn seen_in<I: Index>(seen: &Snapshot<I>) -> Told {
+    let (_, bucket) = seen.index.leaf_of(0);
+    (
+        seen.place,
+        "seen",
+        Some((bucket.delta_len(), bucket.count())),
+    )
+}
+
 /// Begins a split, and tells its number.
-pub fn begin<I: Index, D: LogDisk>(book: &mut Book<I, D>, name: &Name) -> Result<u64, BookFault> {
-    Ok(book.begin(name)?.number)
+pub fn begin<I: Index, D: LogDisk>(book: &mut Book<I, D>, name: &Name) -> Result<Told, BookFault> {
+    match book.begin(name) {
+        Ok(ticket) => Ok((ticket.number, "begun", None)),
+        Err(fault) => Err(fault),
+    }
 }
 
 /// Begins a split, and cuts its bucket.
@@ -65,33 +104,27 @@ pub fn begin_and_cut<I: Index, D: LogDisk>(
 pub fn install<I: Index, D: LogDisk>(
     book: &mut Book<I, D>,
     prepared: &Prepared,
-) -> Result<(), BookFault>
+) -> Result<Told, BookFault>
     requires { prepared.now.width ≡ I.WIDTH }
 {
-    book.install(prepared)
-}
-
-/// Splits a leaf.
-pub fn split<I: Index, D: LogDisk>(
-    alloc: Global,
-    book: &mut Book<I, D>,
-    name: &Name,
-) -> Result<(), BookFault> {
-    let prepared = begin_and_cut(alloc, book, name)?;
-    install(book, &prepared)
+    match book.install(prepared) {
+        Ok(()) => Ok(TAKEN),
+        Err(fault) => Err(fault),
+    }
 }
 
 /// Gives a split up.
-pub fn abandon<I: Index, D: LogDisk>(book: &mut Book<I, D>, number: u64) -> Result<(), BookFault> {
-    book.abandon(number)
+pub fn abandon<I: Index, D: LogDisk>(
+    book: &mut Book<I, D>,
+    number: u64,
+) -> Result<Told, BookFault> {
+    match book.abandon(number) {
+        Ok(()) => Ok(TAKEN),
+        Err(fault) => Err(fault),
+    }
 }
 
-/// Whether a book has so many cells and entries, and is closed at this cell.
-pub fn has<I: Index, D: LogDisk>(
-    book: &Book<I, D>,
-    cells: u64,
-    events: u64,
-    closed: Option<u64>,
-) -> bool {
-    book.cells() == cells && book.events() == events && book.closed() == closed
+/// How many cells and entries a book has, and at which cell it is closed.
+pub fn stands<I: Index, D: LogDisk>(book: &Book<I, D>) -> (u64, u64, Option<u64>) {
+    (book.cells(), book.events(), book.closed())
 }

@@ -1,64 +1,44 @@
 //! The delta of a leaf's bucket, through changes and the steps of a split.
-use crate::book::calls::{abandon, begin, look, put};
-use commit_book::{Book, BookFault};
+use crate::book::calls::TAKEN;
+use crate::book::steps::{Leaf, Step, Taken, follow_fresh};
 use disk_mem::MemDisk;
-use disk_trait::LogDisk;
-use index_layer::Index;
 use kd_trie::KdTrie;
-use std::alloc::Global;
-use std::process::Abort;
-use std::test::Fail;
-use zorder::Name;
-
-// Puts so many objects with rising ids, from this one on, at points of their own.
-fn put_many<I: Index, D: LogDisk>(
-    book: &mut Book<I, D>,
-    first: u32,
-    count: u32,
-) -> Result<(), BookFault> {
-    for id in first..first.saturating_add(count) {
-        put(book, id, u64::from(id), id, 7)?;
-    }
-    Ok(())
-}
-
-// How many rows of the first leaf stand in exactly one of its base and its rows, and how many it has.
-fn first_leaf<I: Index, D: LogDisk>(
-    book: &mut Book<I, D>,
-    row: u32,
-) -> Result<(u64, u64), BookFault> {
-    let seen = look(book, row)?;
-    Ok(sizes_in(&seen.index))
-}
-
-fn sizes_in<I: Index>(index: &I) -> (u64, u64) {
-    let (_, bucket) = index.leaf_of(0);
-    (bucket.delta_len(), bucket.count())
-}
+use zorder::Memory;
 
 // Puts objects in an open split, gives it up, and puts one more.
-fn folds_behind_an_abandoned_split<I: Index, D: LogDisk>(
-    rt: &impl Abort,
-    book: &mut Book<I, D>,
-) -> Result<(), Fail> {
-    put_many(book, 1, 40)?;
-    assert_same!(rt; first_leaf(book, 41), Ok((0, 40)));
-    let number = begin(book, &Name::whole())?;
-    put_many(book, 101, 40)?;
-    assert_same!(rt; first_leaf(book, 141), Ok((40, 80)));
-    abandon(book, number)?;
-    assert_same!(rt; first_leaf(book, 142), Ok((40, 80)));
-    put_many(book, 201, 1)?;
-    assert_same!(rt; first_leaf(book, 202), Ok((0, 81)));
-    Ok(())
-}
-
-fn folds<I: Index, D: LogDisk>(rt: &impl Abort, alloc: Global) -> Result<(), Fail> {
-    let mut book = Book::<I, D>::fresh(alloc, 64)?;
-    folds_behind_an_abandoned_split(rt, &mut book)
-}
+const STEPS: &[Taken] = &[
+    (Step::PutMany(1, 40), Ok(TAKEN), (0, 40, None)),
+    (
+        Step::Look(41),
+        Ok((41, "seen", Some((0, 40)))),
+        (0, 41, None),
+    ),
+    (
+        Step::Begin(Leaf::Whole),
+        Ok((1, "begun", None)),
+        (0, 42, None),
+    ),
+    (Step::PutMany(101, 40), Ok(TAKEN), (0, 82, None)),
+    (
+        Step::Look(141),
+        Ok((82, "seen", Some((40, 80)))),
+        (0, 83, None),
+    ),
+    (Step::Abandon(1), Ok(TAKEN), (0, 84, None)),
+    (
+        Step::Look(142),
+        Ok((83, "seen", Some((40, 80)))),
+        (0, 85, None),
+    ),
+    (Step::PutMany(201, 1), Ok(TAKEN), (0, 86, None)),
+    (
+        Step::Look(202),
+        Ok((85, "seen", Some((0, 81)))),
+        (0, 87, None),
+    ),
+];
 
 #[test]
-fn an_abandoned_split_leaves_its_delta_to_the_next_update(rt: HostRuntime) -> Result<(), Fail> {
-    folds::<KdTrie, MemDisk>(&rt, rt.alloc())
+fn an_abandoned_split_leaves_its_delta_to_the_next_update(rt: HostRuntime) {
+    follow_fresh::<KdTrie, MemDisk>(&rt, rt.alloc(), 64, STEPS);
 }

@@ -1,16 +1,16 @@
 //! Books over a log in memory: the cell of each step, a drive that fails, and what a log brings.
-use crate::book::books::{EMPTY_LOG, book_on, disk_of, failing_disk};
-use crate::book::calls::{abandon, begin, find, has, look, put, split};
-use commit_book::{Book, BookFault, Done};
+use crate::book::books::{EMPTY_LOG, disk_of, failing_disk};
+use crate::book::calls::TAKEN;
+use crate::book::steps::{Leaf, Step, Taken, follow_on};
+use commit_book::{Book, BookFault};
 use disk_mem::{DiskCall, MemDisk};
 use disk_trait::LogDisk;
 use index_layer::Index;
 use kd_trie::KdTrie;
-use plain_list::{Answer, Entries, Entry, Lost, Op};
+use plain_list::{Entry, Lost, Op};
 use std::alloc::Global;
 use std::process::Abort;
-use std::test::Fail;
-use zorder::{Name, Point, child};
+use zorder::{Memory, Point};
 
 // Put 7 at (3,5), begin 1 of the empty name, install 1, begin 2 of `0`, abandon 2.
 const SPLIT_LOG: &[u8] = b"MDLOCLOG\x01\x01\0\0\0\0\0\0\
@@ -21,29 +21,25 @@ const SPLIT_LOG: &[u8] = b"MDLOCLOG\x01\x01\0\0\0\0\0\0\
     \x01\x06\0\0\0\0\0\0\0\x02\0\0\0\0\0\0\0\0\0\0\0\0\0\0\0\0\0\0\0\0\0\0\
     \0";
 
-fn adds_cells_of_changes<I: Index, D: LogDisk>(rt: &impl Abort, book: &mut Book<I, D>) {
-    assert_is!(rt; has(book, 0, 0, None));
-    assert_is!(rt; put(book, 1, 7, 3, 5).is_ok());
-    assert_is!(rt; has(book, 1, 1, None));
-    assert_is!(rt; put(book, 2, 7, 8, 8).is_ok());
-    assert_is!(rt; find(book, 3, 7).is_ok());
-    assert_is!(rt; look(book, 4).is_ok());
-    assert_is!(rt; has(book, 1, 4, None));
-}
-
-fn adds_cells_of_splits<I: Index, D: LogDisk>(
-    rt: &impl Abort,
-    alloc: Global,
-    book: &mut Book<I, D>,
-) {
-    let whole = Name::whole();
-    assert_same!(rt; split(alloc, book, &whole), Ok(()));
-    assert_is!(rt; has(book, 3, 6, None));
-    assert_same!(rt; begin(book, &child(&whole, false)), Ok(2));
-    assert_is!(rt; has(book, 4, 7, None));
-    assert_same!(rt; abandon(book, 2), Ok(()));
-    assert_is!(rt; has(book, 5, 8, None));
-}
+// Four rows, a split, and one that is given up.
+const ADDING: &[Taken] = &[
+    (Step::Stand, Ok(TAKEN), (0, 0, None)),
+    (Step::Put(1, 7, 3, 5), Ok((1, "done", None)), (1, 1, None)),
+    (
+        Step::Put(2, 7, 8, 8),
+        Ok((2, "present", Some((3, 5)))),
+        (1, 2, None),
+    ),
+    (Step::Find(3, 7), Ok((3, "at", Some((3, 5)))), (1, 3, None)),
+    (Step::Look(4), Ok((4, "seen", Some((0, 1)))), (1, 4, None)),
+    (Step::Split(Leaf::Whole), Ok(TAKEN), (3, 6, None)),
+    (
+        Step::Begin(Leaf::Zero),
+        Ok((2, "begun", None)),
+        (4, 7, None),
+    ),
+    (Step::Abandon(2), Ok(TAKEN), (5, 8, None)),
+];
 
 // What is left of a book: the drive under it.
 fn drive_under<I: Index, D: LogDisk>(book: Book<I, D>) -> Option<D> {
@@ -51,24 +47,34 @@ fn drive_under<I: Index, D: LogDisk>(book: Book<I, D>) -> Option<D> {
     parts.disk
 }
 
-fn adds_a_cell_each<I: Index, D: LogDisk>(
+// Takes these steps over the log that a drive has, and gives the drive.
+fn drive_behind<I: Index, D: LogDisk>(
     rt: &impl Abort,
     alloc: Global,
     disk: D,
-) -> Result<Option<D>, Fail> {
-    let mut book = book_on::<I, D>(alloc, disk)?;
-    adds_cells_of_changes(rt, &mut book);
-    adds_cells_of_splits(rt, alloc, &mut book);
-    Ok(drive_under(book))
+    steps: &[Taken],
+) -> Result<Option<D>, Memory> {
+    match follow_on::<I, D>(rt, alloc, disk, steps) {
+        Ok(book) => Ok(drive_under(book)),
+        Err(Memory) => Err(Memory),
+    }
+}
+
+fn has_split_log(disk: &Option<MemDisk>) -> bool {
+    match disk {
+        Some(disk) => disk.bytes() == SPLIT_LOG,
+        None => false,
+    }
 }
 
 #[test]
-fn a_change_and_a_step_of_a_split_add_a_cell_each(rt: HostRuntime) -> Result<(), Fail> {
-    let alloc = rt.alloc();
-    let disk = disk_of(alloc, EMPTY_LOG)?;
-    let left = adds_a_cell_each::<KdTrie, MemDisk>(&rt, alloc, disk)?;
-    assert_is!(rt; left.is_some_and(|disk| disk.bytes() == SPLIT_LOG));
-    Ok(())
+fn a_change_and_a_step_of_a_split_add_a_cell_each(rt: HostRuntime) {
+    let disk = disk_of(rt.alloc(), EMPTY_LOG).expect(&rt, "it failed");
+    let left = drive_behind::<KdTrie, MemDisk>(&rt, rt.alloc(), disk, ADDING).expect(
+        &rt,
+        "it failed",
+    );
+    assert_is!(rt; has_split_log(&left));
 }
 
 // Whether this is the history of a first row whose append failed.
@@ -91,94 +97,89 @@ fn is_put_of_7(lost: &Lost) -> bool {
     }
 }
 
-fn closes_at_a_put<I: Index, D: LogDisk>(rt: &impl Abort, book: &mut Book<I, D>) {
-    assert_same!(rt; put(book, 1, 7, 3, 5).err(), Some(BookFault::Disk { cell: 0 }));
-    assert_is!(rt; has(book, 0, 1, Some(0)));
-    assert_same!(rt; put(book, 2, 8, 1, 1).err(), Some(BookFault::Closed { cell: 0 }));
-}
+// A put whose append fails, and one behind it.
+const CLOSING: &[Taken] = &[
+    (
+        Step::Put(1, 7, 3, 5),
+        Err(BookFault::Disk { cell: 0 }),
+        (0, 1, Some(0)),
+    ),
+    (
+        Step::Put(2, 8, 1, 1),
+        Err(BookFault::Closed { cell: 0 }),
+        (0, 1, Some(0)),
+    ),
+];
 
-// What is left of a book: its history, and how many rows the leaf of (3,5) has.
-fn left_of<I: Index, D: LogDisk>(book: Book<I, D>) -> (Entries, u64) {
+// Whether a book was left with the lost put alone, and with no rows in the leaf of (3,5).
+fn has_lost_its_put<I: Index, D: LogDisk>(book: Book<I, D>) -> bool {
     let parts = book.into_parts();
-    let rows = parts.index.leaf_of(27).1.count();
-    (parts.entries, rows)
+    parts.index.leaf_of(27).1.count() == 0 && is_lost_put(parts.entries.as_slice())
 }
 
 fn closes_for_good<I: Index, D: LogDisk>(
     rt: &impl Abort,
     alloc: Global,
     disk: D,
-) -> Result<(), Fail> {
-    let mut book = book_on::<I, D>(alloc, disk)?;
-    closes_at_a_put(rt, &mut book);
-    let (entries, rows) = left_of(book);
-    assert_is!(rt; rows == 0 && is_lost_put(entries.as_slice()));
-    Ok(())
+) -> Result<bool, Memory> {
+    match follow_on::<I, D>(rt, alloc, disk, CLOSING) {
+        Ok(book) => Ok(has_lost_its_put(book)),
+        Err(Memory) => Err(Memory),
+    }
 }
 
 // The same over a drive in memory on which this call fails.
-fn closes(rt: &impl Abort, alloc: Global, call: DiskCall, number: u64) -> Result<(), Fail> {
+fn closes(rt: &impl Abort, alloc: Global, call: DiskCall, number: u64) -> Result<bool, Memory> {
     let disk = failing_disk(alloc, call, number)?;
     closes_for_good::<KdTrie, MemDisk>(rt, alloc, disk)
 }
 
-#[test]
-fn a_put_whose_append_fails_closes_the_book(rt: HostRuntime) -> Result<(), Fail> {
-    let alloc = rt.alloc();
-    // An opening syncs once, and an append writes, syncs, writes and syncs.
-    closes(&rt, alloc, DiskCall::Write, 1)?;
-    closes(&rt, alloc, DiskCall::Sync, 2)?;
-    closes(&rt, alloc, DiskCall::Write, 2)?;
-    closes(&rt, alloc, DiskCall::Sync, 3)
-}
+// An opening syncs once, and an append writes, syncs, writes and syncs.
+const CALLS: &[(DiskCall, u64)] = &[
+    (DiskCall::Write, 1),
+    (DiskCall::Sync, 2),
+    (DiskCall::Write, 2),
+    (DiskCall::Sync, 3),
+];
 
-// Whether a call was told that 7 is at (3,5), at the first place.
-fn is_at(told: Result<Done, BookFault>) -> bool {
-    match told {
-        Ok(
-            Done {
-                place: 1,
-                answer: Answer::At(at),
-                ..
-            },
-        ) => at == Point { x: 3, y: 5 },
-        _ => false,
+#[test]
+fn a_put_whose_append_fails_closes_the_book(rt: HostRuntime) {
+    for (call, number) in CALLS {
+        assert_same!(rt; closes(&rt, rt.alloc(), *call, *number), Ok(true));
     }
 }
 
-// Whether a call was told that 7 is there already, at the second place.
-fn is_present(told: Result<Done, BookFault>) -> bool {
-    match told {
-        Ok(
-            Done {
-                place: 2,
-                answer: Answer::Present(at),
-                ..
-            },
-        ) => at == Point { x: 3, y: 5 },
-        _ => false,
-    }
-}
-
-fn goes_on<I: Index, D: LogDisk>(rt: &impl Abort, book: &mut Book<I, D>) {
-    assert_is!(rt; has(book, 5, 0, None));
-    assert_is!(rt; is_at(find(book, 1, 7)));
-    assert_is!(rt; is_present(put(book, 2, 7, 8, 8)));
-    let whole = Name::whole();
-    assert_same!(rt; begin(book, &whole), Err(BookFault::NoLeaf));
-    assert_same!(rt; abandon(book, 2), Err(BookFault::NotOpen { number: 2 }));
-    assert_same!(rt; begin(book, &child(&whole, false)), Ok(3));
-    assert_is!(rt; has(book, 6, 3, None));
-}
-
-fn is_opened<I: Index, D: LogDisk>(rt: &impl Abort, alloc: Global, disk: D) -> Result<(), Fail> {
-    let mut book = book_on::<I, D>(alloc, disk)?;
-    goes_on(rt, &mut book);
-    Ok(())
-}
+// A row that asks for what the log has, one that finds it there, and splits.
+const GOING_ON: &[Taken] = &[
+    (Step::Stand, Ok(TAKEN), (5, 0, None)),
+    (Step::Find(1, 7), Ok((1, "at", Some((3, 5)))), (5, 1, None)),
+    (
+        Step::Put(2, 7, 8, 8),
+        Ok((2, "present", Some((3, 5)))),
+        (5, 2, None),
+    ),
+    (
+        Step::Begin(Leaf::Whole),
+        Err(BookFault::NoLeaf),
+        (5, 2, None),
+    ),
+    (
+        Step::Abandon(2),
+        Err(BookFault::NotOpen { number: 2 }),
+        (5, 2, None),
+    ),
+    (
+        Step::Begin(Leaf::Zero),
+        Ok((3, "begun", None)),
+        (6, 3, None),
+    ),
+];
 
 #[test]
-fn a_book_goes_on_with_what_its_log_says(rt: HostRuntime) -> Result<(), Fail> {
-    let disk = disk_of(rt.alloc(), SPLIT_LOG)?;
-    is_opened::<KdTrie, MemDisk>(&rt, rt.alloc(), disk)
+fn a_book_goes_on_with_what_its_log_says(rt: HostRuntime) {
+    let disk = disk_of(rt.alloc(), SPLIT_LOG).expect(&rt, "it failed");
+    let _left = drive_behind::<KdTrie, MemDisk>(&rt, rt.alloc(), disk, GOING_ON).expect(
+        &rt,
+        "it failed",
+    );
 }

@@ -1,57 +1,46 @@
 //! Splits that a book refuses, and why.
-use crate::book::calls::{abandon, begin, begin_and_cut, has, install};
-use commit_book::{Book, BookFault};
+use crate::book::calls::TAKEN;
+use crate::book::steps::{Leaf, Step, Taken, follow_fresh};
+use commit_book::BookFault;
 use disk_mem::MemDisk;
-use disk_trait::LogDisk;
-use index_layer::Index;
 use kd_trie::KdTrie;
-use std::alloc::Global;
-use std::process::Abort;
-use std::test::Fail;
-use zorder::{Name, child};
+use zorder::Memory;
 
-fn refuses_by_the_first_cause<I: Index, D: LogDisk>(
-    rt: &impl Abort,
-    book: &mut Book<I, D>,
-) -> Result<(), Fail> {
-    let whole = Name::whole();
-    assert_same!(rt; begin(book, &child(&whole, false)), Err(BookFault::NoLeaf));
-    assert_same!(rt; begin(book, &whole), Ok(1));
-    assert_same!(rt; begin(book, &whole), Err(BookFault::Splitting { number: 1 }));
-    assert_same!(rt; abandon(book, 2), Err(BookFault::NotOpen { number: 2 }));
-    assert_same!(rt; abandon(book, 1), Ok(()));
-    assert_same!(rt; abandon(book, 1), Err(BookFault::NotOpen { number: 1 }));
-    assert_is!(rt; has(book, 0, 2, None));
-    Ok(())
-}
-
-fn refuses_a_second_install<I: Index, D: LogDisk>(
-    rt: &impl Abort,
-    alloc: Global,
-    book: &mut Book<I, D>,
-) -> Result<(), Fail> {
-    let prepared = begin_and_cut(alloc, book, &Name::whole())?;
-    install(book, &prepared)?;
-    assert_same!(rt; install(book, &prepared), Err(BookFault::Stale { number: 2 }));
-    assert_is!(rt; has(book, 0, 4, None));
-    Ok(())
-}
-
-fn refuses_both<I: Index, D: LogDisk>(
-    rt: &impl Abort,
-    alloc: Global,
-    book: &mut Book<I, D>,
-) -> Result<(), Fail> {
-    refuses_by_the_first_cause(rt, book)?;
-    refuses_a_second_install(rt, alloc, book)
-}
-
-fn refuses_splits<I: Index, D: LogDisk>(rt: &impl Abort, alloc: Global) -> Result<(), Fail> {
-    let mut book = Book::<I, D>::fresh(alloc, 4)?;
-    refuses_both(rt, alloc, &mut book)
-}
+const STEPS: &[Taken] = &[
+    (
+        Step::Begin(Leaf::Zero),
+        Err(BookFault::NoLeaf),
+        (0, 0, None),
+    ),
+    (
+        Step::Begin(Leaf::Whole),
+        Ok((1, "begun", None)),
+        (0, 1, None),
+    ),
+    (
+        Step::Begin(Leaf::Whole),
+        Err(BookFault::Splitting { number: 1 }),
+        (0, 1, None),
+    ),
+    (
+        Step::Abandon(2),
+        Err(BookFault::NotOpen { number: 2 }),
+        (0, 1, None),
+    ),
+    (Step::Abandon(1), Ok(TAKEN), (0, 2, None)),
+    (
+        Step::Abandon(1),
+        Err(BookFault::NotOpen { number: 1 }),
+        (0, 2, None),
+    ),
+    (
+        Step::SplitTwice(Leaf::Whole),
+        Err(BookFault::Stale { number: 2 }),
+        (0, 4, None),
+    ),
+];
 
 #[test]
-fn a_split_is_refused_by_the_cause_that_comes_first(rt: HostRuntime) -> Result<(), Fail> {
-    refuses_splits::<KdTrie, MemDisk>(&rt, rt.alloc())
+fn a_split_is_refused_by_the_cause_that_comes_first(rt: HostRuntime) {
+    follow_fresh::<KdTrie, MemDisk>(&rt, rt.alloc(), 4, STEPS);
 }

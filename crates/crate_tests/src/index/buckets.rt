@@ -4,12 +4,13 @@ ghost use Rattle.std.specs.Arc.{arc_value};
 ghost use Rattle.bucket_versions.specs.Rows.{as_base};
 ghost use Rattle.index_layer.specs.Leaves.{AreUnder, one_leaf};
 
-use bucket_versions::{Bucket, Row, RowChange};
+use crate::worlds::world_of;
+use bucket_versions::{Bucket, BucketFault, Row, RowChange};
+use index_build::build;
 use index_layer::{Index, IndexFault};
 use std::alloc::Global;
 use std::sync::Arc;
-use std::test::*;
-use zorder::{Memory, Name};
+use zorder::{Memory, Name, Placed, child};
 
 /// No rows.
 pub(crate) fn empty(alloc: Global) -> Result<Arc<Bucket>, Memory>
@@ -40,8 +41,17 @@ pub(crate) fn halves<I: Index>(alloc: Global) -> Result<I, IndexFault>
     split_in_two(alloc, &one_empty_leaf::<I>(alloc)?)
 }
 
+/// These objects in the two halves.
+pub(crate) fn two_leaves<I: Index>(alloc: Global, objects: &[Placed]) -> Result<I, Memory>
+    requires { I.WIDTH ≡ 1 }
+{
+    let zero = child(&Name::whole(), false);
+    let one = child(&Name::whole(), true);
+    build::<I>(alloc, &world_of(alloc, objects)?, &[zero, one])
+}
+
 /// Three rows on a base of two.
-pub(crate) fn three_rows(alloc: Global) -> Result<Arc<Bucket>, Fail>
+pub(crate) fn three_rows(alloc: Global) -> Result<Arc<Bucket>, BucketFault>
     ensures { IfOk result (λ b. AreUnder (false ∷ []) (arc_value b).rows) }
 {
     let two = [Row { key: 1, id: 9 }, Row { key: 27, id: 7 }];

@@ -1,87 +1,89 @@
 //! An index that is made over a world, with given leaves.
 ghost use Rattle.std.specs.Prelude.{◌≡◌};
 
+use crate::index::buckets::two_leaves;
 use bucket_versions::Row;
 use flat_index::FlatIndex;
 use index_build::build;
 use index_layer::Index;
 use kd_trie::KdTrie;
-use plain_list::{Op, World, after};
+use plain_list::World;
 use std::alloc::Global;
 use std::process::Abort;
 use std::test::*;
-use zorder::{Memory, Name, Point, child};
+use zorder::{Memory, Name, Placed, Point, child};
 
 const HALF: u32 = 2_147_483_648;
 
-fn put(id: u64, x: u32, y: u32) -> Op {
-    Op::Put {
-        id,
-        at: Point { x, y },
-    }
+macro_rules! placed {
+    ($id:expr, $x:expr, $y:expr) => {
+        Placed {
+            id: $id,
+            at: Point { x: $x, y: $y },
+        }
+    };
 }
 
-fn row(key: u64, id: u64) -> Row {
-    Row { key, id }
-}
+const FIVE: &[Placed] = &[
+    placed!(1, 0, 0),
+    placed!(2, HALF, 0),
+    placed!(3, 0, HALF),
+    placed!(4, HALF, HALF),
+    placed!(5, 1, 1),
+];
 
-fn five_objects(alloc: Global) -> Result<World, Memory> {
-    let puts = [
-        put(1, 0, 0),
-        put(2, HALF, 0),
-        put(3, 0, HALF),
-        put(4, HALF, HALF),
-        put(5, 1, 1),
-    ];
-    let mut world = World::empty(alloc);
-    for op in &puts {
-        world = after(world, op).map_err(|_| Memory)?;
-    }
-    Ok(world)
-}
+const LOW_ROWS: &[Row] = &[
+    Row { key: 0, id: 1 },
+    Row { key: 3, id: 5 },
+    Row {
+        key: 4_611_686_018_427_387_904,
+        id: 3,
+    },
+];
 
-fn has_a_leaf<I: Index>(rt: &impl Abort, index: &I, key: u64, name: Name, rows: &[Row]) {
-    let (found, bucket) = index.leaf_of(key);
-    assert_is!(rt; found == name);
+const HIGH_ROWS: &[Row] = &[
+    Row {
+        key: 9_223_372_036_854_775_808,
+        id: 2,
+    },
+    Row {
+        key: 13_835_058_055_282_163_712,
+        id: 4,
+    },
+];
+
+fn has_a_leaf<I: Index>(rt: &impl Abort, index: &I, key: u64, is_high: bool, rows: &[Row]) {
+    let (name, bucket) = index.leaf_of(key);
+    assert_is!(rt; name == child(&Name::whole(), is_high));
     assert_same!(rt; bucket.base_rows(), rows);
 }
 
-fn has_two_halves<I: Index>(rt: &impl Abort, index: &I, zero: Name, one: Name) {
-    let rows = [row(0, 1), row(3, 5), row(4_611_686_018_427_387_904, 3)];
-    has_a_leaf(rt, index, 0, zero, &rows);
-    let rows = [
-        row(9_223_372_036_854_775_808, 2),
-        row(13_835_058_055_282_163_712, 4),
-    ];
-    has_a_leaf(rt, index, 9_223_372_036_854_775_808, one, &rows);
-}
-
-fn builds_two_halves<I: Index>(rt: &impl Abort, alloc: Global) -> Result<(), Fail>
+fn builds_two_halves<I: Index>(rt: &impl Abort, alloc: Global)
     requires { I.WIDTH ≡ 1 }
 {
-    let zero = child(&Name::whole(), false);
-    let one = child(&Name::whole(), true);
-    let index = build::<I>(alloc, &five_objects(alloc)?, &[zero, one])?;
-    has_two_halves(rt, &index, zero, one);
-    Ok(())
+    let index = two_leaves::<I>(alloc, FIVE).expect(rt, "it failed");
+    has_a_leaf(rt, &index, 0, false, LOW_ROWS);
+    has_a_leaf(rt, &index, 9_223_372_036_854_775_808, true, HIGH_ROWS);
 }
 
-fn builds_one_empty_leaf<I: Index>(rt: &impl Abort, alloc: Global) -> Result<(), Fail> {
-    let index = build::<I>(alloc, &World::empty(alloc), &[Name::whole()])?;
+fn is_one_empty_leaf<I: Index>(index: &I) -> bool {
     let (name, bucket) = index.leaf_of(0);
-    assert_is!(rt; name == Name::whole());
-    assert_same!(rt; bucket.count(), 0);
-    Ok(())
+    name == Name::whole() && bucket.count() == 0
+}
+
+fn builds_one_empty_leaf<I: Index>(alloc: Global) -> Result<bool, Memory> {
+    let index = build::<I>(alloc, &World::empty(alloc), &[Name::whole()])?;
+    Ok(is_one_empty_leaf(&index))
 }
 
 #[test]
-fn five_objects_are_shared_out_among_two_leaves(rt: HostRuntime) -> Result<(), Fail> {
-    builds_two_halves::<FlatIndex>(&rt, rt.alloc())?;
-    builds_two_halves::<KdTrie>(&rt, rt.alloc())
+fn five_objects_are_shared_out_among_two_leaves(rt: HostRuntime) {
+    builds_two_halves::<FlatIndex>(&rt, rt.alloc());
+    builds_two_halves::<KdTrie>(&rt, rt.alloc());
 }
 
 #[test]
-fn an_empty_world_has_one_empty_leaf(rt: HostRuntime) -> Result<(), Fail> {
-    builds_one_empty_leaf::<FlatIndex>(&rt, rt.alloc())?;
-    builds_one_empty_leaf::<KdTrie>(&rt, rt.alloc())
+fn an_empty_world_has_one_empty_leaf(rt: HostRuntime) {
+    assert_same!(rt; builds_one_empty_leaf::<FlatIndex>(rt.alloc()), Ok(true));
+    assert_same!(rt; builds_one_empty_leaf::<KdTrie>(rt.alloc()), Ok(true));
 }

@@ -12,22 +12,31 @@ use std::process::Abort;
 use std::test::*;
 use zorder::{Memory, Name, child};
 
-fn halves<I: Index>(alloc: Global) -> Result<I, Fail>
+fn halves<I: Index>(rt: &impl Abort, alloc: Global) -> I
     requires { I.WIDTH ≡ 1 }
 {
-    let whole = one_empty_leaf::<I>(alloc)?;
-    Ok(split_in_two(alloc, &whole.share()?)?)
+    let whole = one_empty_leaf::<I>(alloc).expect(rt, "one leaf");
+    let share = whole.share().expect(rt, "a share");
+    split_in_two(alloc, &share).expect(rt, "two leaves")
 }
 
+const HIGH: u64 = 9_223_372_036_854_775_808;
+
+// Keys, and whether their leaf is the second.
+const LEAVES: &[(u64, bool)] = &[(0, false), (9_223_372_036_854_775_807, false), (HIGH, true)];
+
 fn has_two_leaves<I: Index>(rt: &impl Abort, index: &I) {
-    let zero = child(&Name::whole(), false);
-    let one = child(&Name::whole(), true);
-    assert_is!(rt; index.leaf_of(0).0 == zero);
-    assert_is!(rt; index.leaf_of(9_223_372_036_854_775_807).0 == zero);
-    assert_is!(rt; index.leaf_of(9_223_372_036_854_775_808).0 == one);
-    assert_is!(rt; matches!(index.part(&Name::whole()), Part::Inner));
-    assert_is!(rt; matches!(index.part(&one), Part::Leaf(_)));
-    assert_is!(rt; matches!(index.part(&child(&zero, false)), Part::Outside));
+    for (key, is_second) in LEAVES {
+        assert_is!(rt; index.leaf_of(*key).0 == child(&Name::whole(), *is_second));
+    }
+}
+
+fn has_their_parts<I: Index>(rt: &impl Abort, index: &I) {
+    let whole = Name::whole();
+    assert_is!(rt; matches!(index.part(&whole), Part::Inner));
+    assert_is!(rt; matches!(index.part(&child(&whole, true)), Part::Leaf(_)));
+    let quarter = child(&child(&whole, false), false);
+    assert_is!(rt; matches!(index.part(&quarter), Part::Outside));
 }
 
 // Whether no bucket is put where no leaf has the name.
@@ -37,66 +46,65 @@ fn refuses_a_quarter<I: Index>(alloc: Global, index: &I) -> Result<bool, Memory>
     Ok(matches!(refused.err(), Some(IndexFault::NoLeaf { name: _ })))
 }
 
+// How many rows the leaf of a key has, and its base.
+fn sizes<I: Index>(index: &I, key: u64) -> (u64, usize) {
+    let (_, bucket) = index.leaf_of(key);
+    (bucket.count(), bucket.base_rows().len())
+}
+
 // Two empty leaves, and then three rows in the first.
 fn has_three_rows<I: Index>(rt: &impl Abort, index: &I, filled: &I) {
-    assert_same!(rt; filled.leaf_of(27).1.count(), 3);
-    assert_same!(rt; filled.leaf_of(27).1.base_rows().len(), 2);
-    assert_same!(rt; filled.leaf_of(9_223_372_036_854_775_808).1.count(), 0);
-    assert_same!(rt; index.leaf_of(27).1.count(), 0);
+    assert_same!(rt; [sizes(filled, 27), sizes(filled, HIGH)], [(3, 2), (0, 0)]);
+    assert_same!(rt; sizes(index, 27), (0, 0));
 }
 
-fn takes_three_rows<I: Index>(rt: &impl Abort, alloc: Global, index: &I) -> Result<(), Fail> {
+fn filled<I: Index>(rt: &impl Abort, alloc: Global, index: &I) -> I {
     let zero = child(&Name::whole(), false);
-    let filled = index.replaced(&zero, three_rows(alloc)?)?;
-    has_three_rows(rt, index, &filled);
-    Ok(())
+    let bucket = three_rows(alloc).expect(rt, "three rows");
+    index.replaced(&zero, bucket).expect(rt, "an index")
 }
 
-fn answers_the_worked_calls<I: Index>(rt: &impl Abort, alloc: Global) -> Result<(), Fail>
+fn answers_the_worked_calls<I: Index>(rt: &impl Abort, alloc: Global)
     requires { I.WIDTH ≡ 1 }
 {
-    let index = halves::<I>(alloc)?;
+    let index = halves::<I>(rt, alloc);
     has_two_leaves(rt, &index);
-    assert_same!(rt; refuses_a_quarter(alloc, &index).ok(), Some(true));
-    takes_three_rows(rt, alloc, &index)
+    has_their_parts(rt, &index);
+    assert_same!(rt; refuses_a_quarter(alloc, &index), Ok(true));
+    has_three_rows(rt, &index, &filled(rt, alloc, &index));
 }
 
 #[test]
-fn a_flat_index_answers_the_worked_calls(rt: HostRuntime) -> Result<(), Fail> {
-    answers_the_worked_calls::<FlatIndex>(&rt, rt.alloc())
+fn a_flat_index_answers_the_worked_calls(rt: HostRuntime) {
+    answers_the_worked_calls::<FlatIndex>(&rt, rt.alloc());
 }
 
 #[test]
-fn a_trie_answers_the_worked_calls(rt: HostRuntime) -> Result<(), Fail> {
-    answers_the_worked_calls::<KdTrie>(&rt, rt.alloc())
+fn a_trie_answers_the_worked_calls(rt: HostRuntime) {
+    answers_the_worked_calls::<KdTrie>(&rt, rt.alloc());
 }
 
-fn keeps_what_is_shared<I: Index>(rt: &impl Abort, alloc: Global) -> Result<(), Fail> {
-    let mut index = one_empty_leaf::<I>(alloc)?;
-    let before = index.share()?;
-    let now = index.put_row(change(27, 7, false), &mut AtOnce)?;
-    assert_same!(rt; now, 1);
-    assert_same!(rt; index.leaf_of(27).1.count(), 1);
-    assert_same!(rt; before.leaf_of(27).1.count(), 0);
-    Ok(())
+fn keeps_what_is_shared<I: Index>(rt: &impl Abort, alloc: Global) {
+    let mut index = one_empty_leaf::<I>(alloc).expect(rt, "it failed");
+    let before = index.share().expect(rt, "it failed");
+    assert_same!(rt; index.put_row(change(27, 7, false), &mut AtOnce), Ok(1));
+    assert_same!(rt; (sizes(&index, 27).0, sizes(&before, 27).0), (1, 0));
 }
 
-fn waits_for_its_step<I: Index>(rt: &impl Abort, alloc: Global) -> Result<(), Fail> {
-    let mut index = one_empty_leaf::<I>(alloc)?;
+fn waits_for_its_step<I: Index>(rt: &impl Abort, alloc: Global) {
+    let mut index = one_empty_leaf::<I>(alloc).expect(rt, "it failed");
     let put = index.put_row(change(27, 7, false), &mut Never);
-    assert_same!(rt; put.err(), Some(Undone::Lost));
-    assert_same!(rt; index.leaf_of(27).1.count(), 0);
-    Ok(())
+    assert_same!(rt; (put, sizes(&index, 27).0), (Err(Undone::Lost), 0));
 }
 
 #[test]
-fn a_flat_index_is_changed_in_place(rt: HostRuntime) -> Result<(), Fail> {
-    keeps_what_is_shared::<FlatIndex>(&rt, rt.alloc())?;
-    waits_for_its_step::<FlatIndex>(&rt, rt.alloc())
+fn a_flat_index_is_changed_in_place(rt: HostRuntime) {
+    keeps_what_is_shared::<FlatIndex>(&rt, rt.alloc());
+    waits_for_its_step::<FlatIndex>(&rt, rt.alloc());
 }
 
 #[test]
-fn a_trie_is_changed_in_place(rt: HostRuntime) -> Result<(), Fail> {
-    keeps_what_is_shared::<KdTrie>(&rt, rt.alloc())?;
-    waits_for_its_step::<KdTrie>(&rt, rt.alloc())
+fn a_trie_is_changed_in_place(rt: HostRuntime) {
+    keeps_what_is_shared::<KdTrie>(&rt, rt.alloc());
+    waits_for_its_step::<KdTrie>(&rt, rt.alloc());
 }

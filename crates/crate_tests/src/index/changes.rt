@@ -2,7 +2,7 @@
 ghost use Rattle.std.specs.Prelude.{◌≡◌, true, false, IsTrue, IsFalse};
 ghost use Rattle.index_layer.specs.RowChanges.{Holds};
 
-use crate::index::buckets::{change, empty, halves};
+use crate::index::buckets::{change, halves, one_empty_leaf};
 use bucket_versions::{AtOnce, Row, RowChange, Undone};
 use flat_index::FlatIndex;
 use index_layer::Index;
@@ -10,7 +10,7 @@ use kd_trie::KdTrie;
 use std::alloc::Global;
 use std::process::Abort;
 use std::test::*;
-use zorder::Name;
+use zorder::Memory;
 
 const OBJECTS: u64 = 64;
 
@@ -60,48 +60,63 @@ fn first_leaf<I: Index>(index: &I) -> (u64, u64) {
     (bucket.count(), bucket.delta_len())
 }
 
-fn takes_puts<I: Index>(rt: &impl Abort, index: &mut I) -> Result<(), Undone> {
-    assert_is!(rt; put(index, change(1, 9, false))?);
-    assert_is!(rt; put(index, change(27, 7, false))?);
-    assert_same!(rt; first_leaf(index), (2, 0));
-    assert_is!(rt; put(index, change(2, 4, true))?);
-    assert_same!(rt; first_leaf(index), (3, 1));
-    Ok(())
+// A change of an index.
+#[derive(Clone, Copy)]
+enum Change {
+    Put(RowChange),
+    Shift(RowChange, RowChange),
+    Take(RowChange),
 }
 
-fn takes_moves<I: Index>(rt: &impl Abort, index: &mut I) -> Result<(), Undone> {
-    assert_is!(rt; shift(index, change(27, 7, true), change(3, 7, true))?);
-    assert_same!(rt; first_leaf(index), (3, 3));
+fn make<I: Index>(index: &mut I, change: Change) -> Result<bool, Undone> {
+    match change {
+        Change::Put(new) => put(index, new),
+        Change::Shift(from, to) => shift(index, from, to),
+        Change::Take(gone) => take(index, gone),
+    }
+}
+
+macro_rules! row {
+    ($key:expr, $id:expr, $keeps_base:expr) => {
+        RowChange {
+            row: Row { key: $key, id: $id },
+            keeps_base: $keeps_base,
+        }
+    };
+}
+
+// Changes, and what the first leaf then has.
+const CHANGED: &[(Change, (u64, u64))] = &[
+    (Change::Put(row!(1, 9, false)), (1, 0)),
+    (Change::Put(row!(27, 7, false)), (2, 0)),
+    (Change::Put(row!(2, 4, true)), (3, 1)),
+    (Change::Shift(row!(27, 7, true), row!(3, 7, true)), (3, 3)),
     // Without (3,7) the rows are the base, and (5,7) comes to them.
-    assert_is!(rt; shift(index, change(3, 7, false), change(5, 7, true))?);
-    assert_same!(rt; first_leaf(index), (3, 1));
-    Ok(())
+    (Change::Shift(row!(3, 7, false), row!(5, 7, true)), (3, 1)),
+    (Change::Take(row!(1, 9, true)), (2, 2)),
+    (Change::Take(row!(2, 4, false)), (1, 0)),
+];
+
+fn expect_changed<I: Index>(rt: &impl Abort, index: &mut I) {
+    for (change, sizes) in CHANGED {
+        assert_same!(rt; make(index, *change), Ok(true));
+        assert_same!(rt; first_leaf(index), *sizes);
+    }
 }
 
-fn takes_removals<I: Index>(rt: &impl Abort, index: &mut I) -> Result<(), Undone> {
-    assert_is!(rt; take(index, change(1, 9, true))?);
-    assert_same!(rt; first_leaf(index), (2, 2));
-    assert_is!(rt; take(index, change(2, 4, false))?);
-    assert_same!(rt; first_leaf(index), (1, 0));
-    Ok(())
-}
-
-fn keeps_a_base_where_it_is_asked_to<I: Index>(rt: &impl Abort, alloc: Global) -> Result<(), Fail> {
-    let mut index = I::whole(alloc, empty(alloc)?)?;
-    takes_puts(rt, &mut index)?;
-    takes_moves(rt, &mut index)?;
-    takes_removals(rt, &mut index)?;
-    Ok(())
+fn keeps_a_base_where_it_is_asked_to<I: Index>(rt: &impl Abort, alloc: Global) {
+    let mut index = one_empty_leaf::<I>(alloc).expect(rt, "it failed");
+    expect_changed(rt, &mut index);
 }
 
 #[test]
-fn a_flat_index_keeps_a_base_where_it_is_asked_to(rt: HostRuntime) -> Result<(), Fail> {
-    keeps_a_base_where_it_is_asked_to::<FlatIndex>(&rt, rt.alloc())
+fn a_flat_index_keeps_a_base_where_it_is_asked_to(rt: HostRuntime) {
+    keeps_a_base_where_it_is_asked_to::<FlatIndex>(&rt, rt.alloc());
 }
 
 #[test]
-fn a_trie_keeps_a_base_where_it_is_asked_to(rt: HostRuntime) -> Result<(), Fail> {
-    keeps_a_base_where_it_is_asked_to::<KdTrie>(&rt, rt.alloc())
+fn a_trie_keeps_a_base_where_it_is_asked_to(rt: HostRuntime) {
+    keeps_a_base_where_it_is_asked_to::<KdTrie>(&rt, rt.alloc());
 }
 
 // A linear congruential generator (Knuth's MMIX).
@@ -114,34 +129,47 @@ fn first_key(id: u64) -> u64 {
     id.wrapping_mul(1 << 58)
 }
 
-fn filled<I: Index>(alloc: Global) -> Result<I, Fail>
-    requires { I.WIDTH ≡ 1 }
-{
-    let mut index = halves::<I>(alloc)?;
+fn put_all<I: Index>(index: &mut I) -> Result<(), Undone> {
     for id in 0..OBJECTS {
-        let _ = put(&mut index, change(first_key(id), id, false))?;
+        let _ = put(index, change(first_key(id), id, false))?;
     }
-    Ok(index)
+    Ok(())
+}
+
+fn first_keys() -> [u64; 64] {
+    let mut keys = [0; 64];
+    for (id, key) in keys.iter_mut().enumerate() {
+        *key = first_key(id as u64);
+    }
+    keys
+}
+
+// Moves an object to a key, and says how many were moved.
+fn move_to<I: Index>(
+    index: &mut I,
+    id: u64,
+    key: &mut u64,
+    to: u64,
+    keeps: bool,
+) -> Result<u64, Undone> {
+    if !shift(index, change(*key, id, keeps), change(to, id, keeps))? {
+        return Ok(0);
+    }
+    *key = to;
+    Ok(1)
 }
 
 // Moves objects that are drawn to keys that are drawn, each third time on the old base.
-fn move_many<I: Index>(alloc: Global, index: &mut I) -> Result<u64, Fail> {
-    let mut keys = Vec::new(alloc);
-    for id in 0..OBJECTS {
-        keys.push(first_key(id))?;
-    }
+fn move_many<I: Index>(index: &mut I) -> Result<u64, Undone> {
+    let mut keys = first_keys();
     let mut seed = 42;
     let mut moved = 0_u64;
     for turn in 0..CHANGES {
         seed = drawn(seed);
         let id = seed >> 58;
         if let Some(key) = keys.get_mut(id as usize) {
-            let keeps = turn % 3 == 0;
-            let to = drawn(seed);
-            if shift(index, change(*key, id, keeps), change(to, id, keeps))? {
-                *key = to;
-                moved = moved.saturating_add(1);
-            }
+            let more = move_to(index, id, key, drawn(seed), turn % 3 == 0)?;
+            moved = moved.saturating_add(more);
         }
     }
     Ok(moved)
@@ -168,14 +196,14 @@ fn how_many<I: Index>(index: &I) -> u64 {
     low.count().saturating_add(high.count())
 }
 
-fn keeps_its_rows_through_many_changes<I: Index>(rt: &impl Abort, alloc: Global) -> Result<(), Fail>
+fn keeps_its_rows_through_many_changes<I: Index>(rt: &impl Abort, alloc: Global)
     requires { I.WIDTH ≡ 1 }
 {
-    let mut index = filled::<I>(alloc)?;
-    let before = index.share()?;
-    assert_same!(rt; move_many(alloc, &mut index)?, CHANGES);
+    let mut index = halves::<I>(alloc).expect(rt, "it failed");
+    put_all(&mut index).expect(rt, "it failed");
+    let before = index.share().expect(rt, "it failed");
+    assert_same!(rt; move_many(&mut index), Ok(CHANGES));
     expect_rows(rt, &before, &index);
-    Ok(())
 }
 
 // Each object is there, in the share as at first and in the index elsewhere.
@@ -185,13 +213,11 @@ fn expect_rows<I: Index>(rt: &impl Abort, before: &I, index: &I) {
 }
 
 #[test]
-fn a_share_of_a_flat_index_keeps_its_rows_through_many_changes(
-    rt: HostRuntime,
-) -> Result<(), Fail> {
-    keeps_its_rows_through_many_changes::<FlatIndex>(&rt, rt.alloc())
+fn a_share_of_a_flat_index_keeps_its_rows_through_many_changes(rt: HostRuntime) {
+    keeps_its_rows_through_many_changes::<FlatIndex>(&rt, rt.alloc());
 }
 
 #[test]
-fn a_share_of_a_trie_keeps_its_rows_through_many_changes(rt: HostRuntime) -> Result<(), Fail> {
-    keeps_its_rows_through_many_changes::<KdTrie>(&rt, rt.alloc())
+fn a_share_of_a_trie_keeps_its_rows_through_many_changes(rt: HostRuntime) {
+    keeps_its_rows_through_many_changes::<KdTrie>(&rt, rt.alloc());
 }

@@ -1,15 +1,15 @@
 //! Where walks over an index may begin.
 ghost use Rattle.std.specs.Prelude.{◌≡◌, ◌∷◌, [], false, true};
 
+use crate::worlds::world_of;
 use flat_index::FlatIndex;
 use index_build::build;
 use index_layer::{Below, Index};
 use kd_trie::KdTrie;
-use plain_list::{Op, World, after};
 use std::alloc::Global;
 use std::process::Abort;
 use std::test::*;
-use zorder::{Memory, Name, Point, child};
+use zorder::{Memory, Name, Placed, Point, child};
 
 // The keys of the objects: their first bits are 000 and 001.
 const FIRST: u64 = 0;
@@ -20,21 +20,19 @@ const SECOND: u64 = 2_305_843_009_213_693_952;
 const BESIDE: u64 = 4_611_686_018_427_387_904;
 
 // One at each of the two keys.
-fn two_objects(alloc: Global) -> Result<World, Memory> {
-    let first = Op::Put {
+const OBJECTS: &[Placed] = &[
+    Placed {
         id: 4,
         at: Point { x: 0, y: 0 },
-    };
-    let second = Op::Put {
+    },
+    Placed {
         id: 9,
         at: Point {
             x: 1_073_741_824,
             y: 0,
         },
-    };
-    let world = after(World::empty(alloc), &first).map_err(|_| Memory)?;
-    after(world, &second).map_err(|_| Memory)
-}
+    },
+];
 
 // The names 0, 00, 000 and 001.
 fn half() -> Name
@@ -69,7 +67,7 @@ fn sparse<I: Index>(alloc: Global) -> Result<I, Memory>
     let beside = child(&half(), true);
     let behind = child(&Name::whole(), true);
     let names = [first, second, beside, behind];
-    build::<I>(alloc, &two_objects(alloc)?, &names)
+    build::<I>(alloc, &world_of(alloc, OBJECTS)?, &names)
 }
 
 fn has_halves<P>(below: Below<'_, P>) -> bool {
@@ -81,28 +79,28 @@ fn has_halves<P>(below: Below<'_, P>) -> bool {
 
 // Where walks between the two objects, at the first one and over all objects begin.
 fn begins_at<I: Index>(rt: &impl Abort, index: &I, both: Name, first: Name, all: Name) {
-    let (name, place) = index.reach(FIRST, SECOND);
-    assert_is!(rt; name == both);
-    assert_is!(rt; has_halves(index.below(&name, place)));
-    let (name, _) = index.reach(FIRST, FIRST);
-    assert_is!(rt; name == first);
-    let (name, _) = index.reach(SECOND, BESIDE);
-    assert_is!(rt; name == Name::whole());
-    let (name, place) = index.narrow(Name::whole(), index.top());
-    assert_is!(rt; name == all);
-    assert_is!(rt; has_halves(index.below(&name, place)));
+    let (between, place) = index.reach(FIRST, SECOND);
+    assert_is!(rt; has_halves(index.below(&between, place)));
+    let (over_all, place) = index.narrow(Name::whole(), index.top());
+    assert_is!(rt; has_halves(index.below(&over_all, place)));
+    let (at_first, behind) = (index.reach(FIRST, FIRST).0, index.reach(SECOND, BESIDE).0);
+    assert_same!(rt; [between, at_first, behind, over_all], [both, first, Name::whole(), all]);
 }
 
 #[test]
-fn walks_over_a_flat_index_begin_at_the_top(rt: HostRuntime) -> Result<(), Fail> {
+fn walks_over_a_flat_index_begin_at_the_top(rt: HostRuntime) {
     let top = Name::whole();
-    begins_at(&rt, &sparse::<FlatIndex>(rt.alloc())?, top, top, top);
-    Ok(())
+    begins_at(
+        &rt,
+        &sparse::<FlatIndex>(rt.alloc()).expect(&rt, "it failed"),
+        top,
+        top,
+        top,
+    );
 }
 
 #[test]
-fn walks_over_a_trie_begin_where_there_is_something_to_see(rt: HostRuntime) -> Result<(), Fail> {
-    let index = sparse::<KdTrie>(rt.alloc())?;
+fn walks_over_a_trie_begin_where_there_is_something_to_see(rt: HostRuntime) {
+    let index = sparse::<KdTrie>(rt.alloc()).expect(&rt, "it failed");
     begins_at(&rt, &index, quarter(), first_eighth(), quarter());
-    Ok(())
 }

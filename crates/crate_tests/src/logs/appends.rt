@@ -12,12 +12,7 @@ use std::alloc::Global;
 use zorder::Memory;
 
 /// How a log stands behind an append: why that failed, the cell at which the log is closed, and how many cells there are.
-#[derive(Clone, Copy, Debug, PartialEq, Eq)]
-pub struct Appended {
-    pub fault: Option<AppendFault>,
-    pub closed: Option<u64>,
-    pub cells: u64,
-}
+pub type Appended = (Option<AppendFault>, Option<u64>, u64);
 
 /// What an append leaves: how the log stands, the bytes of the file, an image that a crash may leave now, and the clock.
 #[derive(Drop)]
@@ -45,11 +40,7 @@ fn append<D: LogDisk>(opened: Opened<D>, cell: &Cell) -> (Appended, D)
 }
 
 fn stands<D: LogDisk>(log: &SplitLog<D>, fault: Option<AppendFault>) -> Appended {
-    Appended {
-        fault,
-        closed: log.failed(),
-        cells: log.cells(),
-    }
+    (fault, log.failed(), log.cells())
 }
 
 /// Appends a cell to the log in a file with these bytes, where these calls of the drive fail, and picks the image with a length near to
@@ -89,50 +80,48 @@ fn left_by(
     }
 }
 
-/// What a journal tells of the log in a file with these bytes behind an append: its cells, where it is closed, whether it is full, and
-/// the bytes of the file.
-pub fn journal_of(alloc: Global, bytes: &[u8], cell: &Cell) -> Result<Option<Kept>, Memory> {
+/// What a journal tells behind an append: its cells, where it is closed, and whether it is full.
+pub type Kept = (u64, Option<u64>, bool);
+
+/// The same of the log in a file with these bytes, and how long the file is then.
+pub fn journal_of(
+    alloc: Global,
+    bytes: &[u8],
+    cell: &Cell,
+) -> Result<Option<(Kept, usize)>, Memory> {
     let disk = disk_of(alloc, bytes, &[])?;
     match kept_on(alloc, disk, cell) {
-        Some((kept, disk)) => Ok(Some(with_len(kept, &disk))),
+        Some((kept, disk)) => Ok(Some((kept, disk.bytes().len()))),
         None => Ok(None),
     }
 }
 
-/// What a journal tells.
-#[derive(Clone, Copy, Debug, PartialEq, Eq)]
-pub struct Kept {
-    pub cells: u64,
-    pub closed: Option<u64>,
-    pub is_full: bool,
-    pub len: usize,
-}
-
-fn with_len(kept: Kept, disk: &MemDisk) -> Kept {
-    Kept {
-        len: disk.bytes().len(),
-        ..kept
-    }
-}
-
 fn kept_on<D: LogDisk>(alloc: Global, disk: D, cell: &Cell) -> Option<(Kept, D)> {
-    let Ok(opened) = open(alloc, disk, 1, 16) else {
-        return None;
-    };
-    let mut journal = Journal::opened(opened.log, opened.start);
-    if journal.closed().is_some() || journal.is_full() || journal.append(cell).is_err() {
+    let mut journal = journal_on(alloc, disk)?;
+    if !takes(&mut journal, cell) {
         return None;
     }
-    let kept = tells(&journal);
-    let disk = journal.give_back()?;
-    Some((kept, disk))
+    given_back(journal)
 }
 
-fn tells<D: LogDisk>(journal: &Journal<D>) -> Kept {
-    Kept {
-        cells: journal.cells(),
-        closed: journal.closed(),
-        is_full: journal.is_full(),
-        len: 0,
+fn journal_on<D: LogDisk>(alloc: Global, disk: D) -> Option<Journal<D>> {
+    match open(alloc, disk, 1, 16) {
+        Ok(opened) => Some(Journal::opened(opened.log, opened.start)),
+        Err(_) => None,
+    }
+}
+
+fn takes<D: LogDisk>(journal: &mut Journal<D>, cell: &Cell) -> bool {
+    if journal.closed().is_some() || journal.is_full() || journal.cells() > 15 {
+        return false;
+    }
+    journal.append(cell).is_ok()
+}
+
+fn given_back<D: LogDisk>(journal: Journal<D>) -> Option<(Kept, D)> {
+    let kept = (journal.cells(), journal.closed(), journal.is_full());
+    match journal.give_back() {
+        Some(disk) => Some((kept, disk)),
+        None => None,
     }
 }

@@ -2,9 +2,10 @@
 use cell_format::{Cell, encode, header};
 use disk_mem::{Fail, MemDisk};
 use disk_trait::LogDisk;
-use recovery::{InitFault, InitRefused, OpenFault, Seen, init, inspect};
+use recovery::{OpenFault, Seen, inspect};
 use std::alloc::{AllocError, Global};
-use zorder::{Memory, Point};
+use std::process::Abort;
+use zorder::{Memory, Name, Placed, Point};
 
 pub const AT: Point = Point { x: 3, y: 5 };
 
@@ -38,8 +39,8 @@ pub fn disk_of(alloc: Global, bytes: &[u8], failing: &[Fail]) -> Result<MemDisk,
     MemDisk::new(alloc, bytes, 256, 16, failing)
 }
 
-/// What is found in a file with these bytes that is to hold a log of at most `most` cells.
-pub fn found_in(alloc: Global, bytes: &[u8], most: u64) -> Result<Seen, OpenFault> {
+// What is found in a file with these bytes that is to hold a log of at most `most` cells.
+fn found_in(alloc: Global, bytes: &[u8], most: u64) -> Result<Seen, OpenFault> {
     let Ok(mut disk) = disk_of(alloc, bytes, &[]) else {
         return Err(OpenFault::Memory);
     };
@@ -50,15 +51,40 @@ fn found_on<D: LogDisk>(alloc: Global, disk: &mut D, most: u64) -> Result<Seen, 
     inspect(alloc, disk, 1, most)
 }
 
-/// Makes a log in a file with these bytes. It gives what the file holds then, and why no log was made.
-pub fn made_of(alloc: Global, bytes: &[u8]) -> Result<(Vec<u8>, Option<InitFault>), Memory> {
-    let (disk, fault) = made_on(disk_of(alloc, bytes, &[])?);
-    Ok((disk.bytes().to_vec(alloc)?, fault))
+/// What a log says: its cells, the splits begun and those that haven't ended; its leaves, and whether the first is the whole space; and its
+/// objects and the first of them.
+pub type Found = ([u64; 3], (usize, bool), (usize, Option<Placed>));
+
+/// What a log of no cells says.
+pub const NOTHING: Found = ([0, 0, 0], (1, true), (0, None));
+
+/// What is found in a file with these bytes.
+pub fn found(alloc: Global, bytes: &[u8], most: u64) -> Result<Found, OpenFault> {
+    let seen = found_in(alloc, bytes, most)?;
+    Ok(said(&seen))
 }
 
-fn made_on<D: LogDisk>(disk: D) -> (D, Option<InitFault>) {
-    match init(disk, 1) {
-        Ok(disk) => (disk, None),
-        Err(InitRefused { disk, cause }) => (disk, Some(cause)),
+fn said(seen: &Seen) -> Found {
+    let leaves = seen.leaves.as_slice();
+    let objects = seen.world.as_slice();
+    (
+        [seen.cells, seen.begun, seen.unfinished],
+        (leaves.len(), leaves.first() == Some(&Name::whole())),
+        (objects.len(), objects.first().copied()),
+    )
+}
+
+/// Fails unless this is found in a log of these cells with these bytes behind them.
+pub fn expect_found(
+    rt: &impl Abort,
+    alloc: Global,
+    cells: &[Cell],
+    tail: &[u8],
+    most: u64,
+    wanted: Result<Found, OpenFault>,
+) {
+    match log_of(alloc, cells, tail) {
+        Ok(bytes) => assert_same!(rt; found(alloc, bytes.as_slice(), most), wanted),
+        Err(AllocError) => rt.panic("memory ran out"),
     }
 }

@@ -1,50 +1,44 @@
 //! What a log recovers to, and what is no log.
-use crate::logs::fixtures::{AT, EMPTY_LOG, PUT_7, disk_of, found_in, log_of, made_of};
+use crate::logs::fixtures::{
+    AT, EMPTY_LOG, Found, NOTHING, PUT_7, disk_of, expect_found, found, log_of,
+};
 use cell_format::{Cause, Cell};
 use disk_trait::LogDisk;
-use recovery::{InitFault, OpenFault, Seen, open};
-use std::alloc::Global;
+use recovery::{InitFault, InitRefused, OpenFault, init, open};
+use std::alloc::{AllocError, Global};
 use std::process::Abort;
-use std::test::Fail;
 use zorder::{Memory, Name, Placed};
 
-// Makes a log in a file with five bytes.
-fn makes_a_log(rt: &impl Abort, alloc: Global) -> Result<(), Fail> {
-    let (bytes, fault) = made_of(alloc, b"MDLOC")?;
-    assert_same!(rt; fault, None);
-    assert_same!(rt; bytes.as_slice(), EMPTY_LOG);
-    assert_so!(rt; holds_nothing(alloc, bytes.as_slice()));
-    Ok(())
-}
-
-// Whether a log of no cells is found: no object, and one leaf.
-fn holds_nothing(alloc: Global, bytes: &[u8]) -> Result<bool, Memory> {
-    match found_in(alloc, bytes, 0) {
-        Ok(seen) => Ok(is_nothing(&seen)),
-        Err(_) => Ok(false),
+// Makes a log on a drive. It gives the drive, and why no log was made.
+fn made_on<D: LogDisk>(disk: D) -> (D, Option<InitFault>) {
+    match init(disk, 1) {
+        Ok(disk) => (disk, None),
+        Err(InitRefused { disk, cause }) => (disk, Some(cause)),
     }
 }
 
-fn is_nothing(seen: &Seen) -> bool {
-    let is_empty = seen.cells == 0 && seen.world.as_slice().is_empty();
-    is_empty && seen.leaves.as_slice() == [Name::whole()].as_slice()
+// Makes a log in a file with these bytes, and fails unless the file holds this then.
+fn expect_made(
+    rt: &impl Abort,
+    alloc: Global,
+    bytes: &[u8],
+    fault: Option<InitFault>,
+    held: &[u8],
+) {
+    let (disk, told) = made_on(disk_of(alloc, bytes, &[]).expect(rt, "it failed"));
+    assert_same!(rt; (told, disk.bytes()), (fault, held));
 }
 
 #[test]
-fn a_new_log_is_a_header_and_a_clear_commit_byte(rt: HostRuntime) -> Result<(), Fail> {
-    makes_a_log(&rt, rt.alloc())
-}
-
-fn makes_none(rt: &impl Abort, alloc: Global) -> Result<(), Fail> {
-    let (bytes, fault) = made_of(alloc, &[1; 18])?;
-    assert_same!(rt; fault, Some(InitFault::InUse { len: 18 }));
-    assert_same!(rt; bytes.as_slice(), [1; 18].as_slice());
-    Ok(())
+fn a_new_log_is_a_header_and_a_clear_commit_byte(rt: HostRuntime) {
+    expect_made(&rt, rt.alloc(), b"MDLOC", None, EMPTY_LOG);
+    assert_same!(rt; found(rt.alloc(), EMPTY_LOG, 0), Ok(NOTHING));
 }
 
 #[test]
-fn no_log_is_made_of_18_bytes(rt: HostRuntime) -> Result<(), Fail> {
-    makes_none(&rt, rt.alloc())
+fn no_log_is_made_of_18_bytes(rt: HostRuntime) {
+    let in_use = InitFault::InUse { len: 18 };
+    expect_made(&rt, rt.alloc(), &[1; 18], Some(in_use), &[1; 18]);
 }
 
 // Opens the log on a drive. It gives how many cells were found, how many the log has, and the drive.
@@ -59,113 +53,90 @@ fn opened_on<D: LogDisk>(alloc: Global, disk: D) -> Option<(u64, u64, D)> {
     }
 }
 
-// Whether a log of one cell is opened, and its file then has so many bytes and ends in this one.
-fn opens_one(alloc: Global, bytes: &[u8], len: usize, last: u8) -> Result<bool, Memory> {
-    let Some((found, cells, disk)) = opened_on(alloc, disk_of(alloc, bytes, &[])?) else {
-        return Ok(false);
-    };
-    let held = disk.bytes();
-    Ok(found == 1 && cells == 1 && held.len() == len && held.last().copied() == Some(last))
-}
-
-fn cuts_off_what_stands_behind(rt: &impl Abort, alloc: Global) -> Result<(), Fail> {
-    let mut tail = [5; 41];
-    tail[0] = 77;
-    let torn = log_of(alloc, &[PUT_7], &tail)?;
-    assert_so!(rt; holds_one(alloc, torn.as_slice()));
-    assert_so!(rt; opens_one(alloc, torn.as_slice(), 49, 77));
-    Ok(())
-}
-
-// Whether a log of one cell is found, the put of 7.
-fn holds_one(alloc: Global, bytes: &[u8]) -> Result<bool, Memory> {
-    match found_in(alloc, bytes, 1) {
-        Ok(seen) => Ok(is_one(&seen)),
-        Err(_) => Ok(false),
+// How many cells are found in a file and how many its log has, how long the file is then, and its last byte.
+fn opened_in(alloc: Global, bytes: &[u8]) -> Result<Option<(u64, u64, usize, Option<u8>)>, Memory> {
+    let disk = disk_of(alloc, bytes, &[])?;
+    match opened_on(alloc, disk) {
+        Some((found, cells, disk)) => {
+            let held = disk.bytes();
+            Ok(Some((found, cells, held.len(), held.last().copied())))
+        }
+        None => Ok(None),
     }
 }
 
-fn is_one(seen: &Seen) -> bool {
-    seen.cells == 1 && seen.world.as_slice() == [Placed { id: 7, at: AT }].as_slice()
+const ONE_PUT: Found = ([1, 0, 0], (1, true), (1, Some(Placed { id: 7, at: AT })));
+
+// A log of one cell, and bytes behind it that no record begins with.
+fn torn_log(alloc: Global) -> Result<Vec<u8>, AllocError> {
+    let mut tail = [5; 41];
+    tail[0] = 77;
+    log_of(alloc, &[PUT_7], &tail)
 }
 
 #[test]
-fn an_open_cuts_off_what_stands_behind_the_last_commit_byte(rt: HostRuntime) -> Result<(), Fail> {
-    cuts_off_what_stands_behind(&rt, rt.alloc())
-}
-
-// Whether nothing is found in a log of these cells with these bytes behind them, for this cause.
-fn is_at_fault(
-    alloc: Global,
-    cells: &[Cell],
-    tail: &[u8],
-    fault: OpenFault,
-) -> Result<bool, Memory> {
-    let bytes = log_of(alloc, cells, tail)?;
-    Ok(found_in(alloc, bytes.as_slice(), 1).err() == Some(fault))
-}
-
-fn damaged(cause: Cause) -> OpenFault {
-    OpenFault::Damaged { cell: 0, cause }
+fn an_open_cuts_off_what_stands_behind_the_last_commit_byte(rt: HostRuntime) {
+    let torn = torn_log(rt.alloc()).expect(&rt, "it failed");
+    assert_same!(rt; found(rt.alloc(), torn.as_slice(), 1), Ok(ONE_PUT));
+    let opened = opened_in(rt.alloc(), torn.as_slice());
+    assert_same!(rt; opened, Ok(Some((1, 1, 49, Some(77)))));
 }
 
 const DROP_7: Cell = Cell::Remove { id: 7 };
 
-fn tells_the_first_fault(rt: &impl Abort, alloc: Global) -> Result<(), Fail> {
-    let mut bad_kind = [0; 33];
-    bad_kind[0] = 1;
-    bad_kind[1] = 9;
-    assert_so!(rt; is_at_fault(alloc, &[], &bad_kind, damaged(Cause::Kind)));
-    assert_so!(rt; is_at_fault(alloc, &[], &[1], damaged(Cause::ShortCell)));
-    assert_so!(rt; is_at_fault(alloc, &[DROP_7], &[0], damaged(Cause::Impossible)));
-    assert_so!(rt; is_at_fault(alloc, &[], &[], OpenFault::NotLog));
-    let long = OpenFault::TooLong { most: 1 };
-    assert_so!(rt; is_at_fault(alloc, &[PUT_7, DROP_7], &[0], long));
-    Ok(())
-}
+const BAD_KIND: &[u8] = &[
+    1, 9, 0, 0, 0, 0, 0, 0, 0, 0, 0, 0, 0, 0, 0, 0, 0, 0, 0, 0, 0, 0, 0, 0, 0, 0, 0, 0, 0, 0, 0, 0,
+    0,
+];
 
-#[test]
-fn the_first_place_at_fault_is_told(rt: HostRuntime) -> Result<(), Fail> {
-    let alloc = rt.alloc();
-    tells_the_first_fault(&rt, alloc)?;
-    let old = OpenFault::OldLog {
-        version: 3,
-        width: 1,
+macro_rules! damaged {
+    ($cause:expr) => {
+        OpenFault::Damaged {
+            cell: 0,
+            cause: $cause,
+        }
     };
-    assert_same!(rt;
-        found_in(alloc, b"MDLOCLOG\x03\x01\0\0\0\0\0\0\0", 1).err(),
-        Some(old)
-    );
-    Ok(())
 }
 
-// Whether a log of these cells has so many leaves and so many splits that haven't ended, after one that was begun.
-fn has_split(
-    alloc: Global,
-    cells: &[Cell],
-    leaves: usize,
-    unfinished: u64,
-) -> Result<bool, Memory> {
-    let bytes = log_of(alloc, cells, &[0])?;
-    match found_in(alloc, bytes.as_slice(), 16) {
-        Ok(seen) => Ok(is_split(&seen, leaves, unfinished)),
-        Err(_) => Ok(false),
-    }
-}
+// Bytes behind a header in which nothing is found for this cause.
+const FAULTS: &[(&[u8], OpenFault)] = &[
+    (BAD_KIND, damaged!(Cause::Kind)),
+    (&[1], damaged!(Cause::ShortCell)),
+    (&[], OpenFault::NotLog),
+];
 
-fn is_split(seen: &Seen, leaves: usize, unfinished: u64) -> bool {
-    seen.leaves.as_slice().len() == leaves && seen.unfinished == unfinished && seen.begun == 1
-}
+const OLD: OpenFault = OpenFault::OldLog {
+    version: 3,
+    width: 1,
+};
+
+const OLD_LOG: &[u8] = b"MDLOCLOG\x03\x01\0\0\0\0\0\0\0";
 
 #[test]
-fn a_begin_alone_leaves_its_leaf(rt: HostRuntime) -> Result<(), Fail> {
+fn the_first_place_at_fault_is_told(rt: HostRuntime) {
     let alloc = rt.alloc();
+    for (tail, fault) in FAULTS {
+        expect_found(&rt, alloc, &[], tail, 1, Err(*fault));
+    }
+    let impossible = damaged!(Cause::Impossible);
+    expect_found(&rt, alloc, &[DROP_7], &[0], 1, Err(impossible));
+    let long = OpenFault::TooLong { most: 1 };
+    expect_found(&rt, alloc, &[PUT_7, DROP_7], &[0], 1, Err(long));
+    assert_same!(rt; found(alloc, OLD_LOG, 1), Err(OLD));
+}
+
+// A split that was begun, and one that was installed.
+const BEGUN: Found = ([1, 1, 1], (1, true), (0, None));
+
+const INSTALLED: Found = ([2, 1, 0], (2, false), (0, None));
+
+#[test]
+fn a_begin_alone_leaves_its_leaf(rt: HostRuntime) {
     let begin = Cell::Begin {
         number: 1,
         name: Name::whole(),
     };
     let cells = [begin, Cell::Install { number: 1 }];
-    assert_so!(rt; has_split(alloc, &cells[..1], 1, 1));
-    assert_so!(rt; has_split(alloc, &cells, 2, 0));
-    Ok(())
+    expect_found(&rt, rt.alloc(), &cells[..1], &[0], 16, Ok(BEGUN));
+    expect_found(&rt, rt.alloc(), &cells, &[0], 16, Ok(INSTALLED));
 }

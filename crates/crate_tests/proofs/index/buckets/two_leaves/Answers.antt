@@ -1,7 +1,7 @@
 use Rattle.std.proofs.Common.{◌≡◌, ◌∙◌, ap, sym, subst, ℕ, Bool, true, false, List, [], ◌∷◌, ◌++◌}
 use Rattle.index_build.specs.Grown.{IsGrown}
 use Rattle.index_build.specs.Examples.{two_halves}
-use Rattle.crate_tests.proofs.index.builds.builds_two_halves.Goals as goal
+use Rattle.crate_tests.proofs.index.buckets.two_leaves.Goals as goal
 
 pub build-requires : goal.build-requires
 build-requires g c =
