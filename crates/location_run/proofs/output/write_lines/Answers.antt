@@ -1,4 +1,5 @@
-use Rattle.std.proofs.Common.{◌≡◌, ◌∙◌, length, refl, sym, ap, arith, get_or}
+use Rattle.std.proofs.Common.{◌≡◌, ◌∙◌, ℕ, length, refl, sym, ap, subst, arith, get_or}
+use Rattle.causes.specs.Causes.{Counts}
 use Rattle.csv_rows.specs.declared.rows.InRow.{InRow}
 use Rattle.plain_list.specs.declared.ops.Op.TheVariants.{Put}
 use Rattle.location_run.specs.inside.Answered.{kept_of}
@@ -62,3 +63,6 @@ loop-row-preserved g c =
 pub returns-clause-bytes : goal.returns-clause-bytes
 returns-clause-bytes g c = λ world h answers.
     lines-put world h c.args.rows.now _ _ _ _ _ c.loop-row.row-index c.loop-row.lines c.finish.result (c.loop-row.invariant.2 world h answers) (omega arith) c.finish.ensures.bytes
+
+pub returns-clause-cause : goal.returns-clause-cause
+returns-clause-cause g c = subst (λ (n : ℕ). Counts n (g.K.Sink.output c.finish.new.sink).faults c.finish.result) c.loop-row.invariant.1 c.finish.ensures.cause

@@ -47,3 +47,12 @@ returns-in-Some-Trial-clause-keeps g c =
     let end = c.play_made-end.result in
     let new = at c.args.source.now c.play_made-end.new.sink end.disk in
     rw c.with_rows-in-Some-Trial.ensures (keeps-asked words (command_of command) old new end.status end.events asks (keeps-trial command old new end.status end.events (refl, c.play_made-end.ensures.goes)))
+
+pub returns-in-Some-Play-clause-other : goal.returns-in-Some-Play-clause-other
+returns-in-Some-Play-clause-other g c = rw c.with_rows.ensures refl
+
+pub returns-in-Some-Trial-clause-other : goal.returns-in-Some-Trial-clause-other
+returns-in-Some-Trial-clause-other g c = rw c.with_rows-in-Some-Trial.ensures refl
+
+pub returns-in-Some-Show-clause-other : goal.returns-in-Some-Show-clause-other
+returns-in-Some-Show-clause-other g c = rw c.without_rows-in-Some-Show.ensures refl
