@@ -3,12 +3,10 @@ use crate::memory::{Attach, EMPTY_LOG, HEADER, Left, NO_FAULTS, run_on};
 use std::alloc::Global;
 use std::process::Abort;
 use std::sync::Wait;
-use std::test::Fail;
 use std::thread::Threads;
-use zorder::Memory;
 
 // What a run of these words and no rows leaves over an empty log.
-fn run_of<R: Threads + Wait + Sync>(rt: &R, alloc: Global, words: &[&str]) -> Result<Left, Memory> {
+fn run_of<R: Abort + Threads + Wait + Sync>(rt: &R, alloc: Global, words: &[&str]) -> Left {
     run_on(rt, alloc, words, HEADER, EMPTY_LOG, &NO_FAULTS)
 }
 
@@ -25,34 +23,29 @@ fn has_attached_none(left: &Left) -> bool {
 }
 
 // Whether the command attaches the file `a` once, on the first drive.
-fn attaches_once<R: Threads + Wait + Sync>(
+fn attaches_once<R: Abort + Threads + Wait + Sync>(
     rt: &R,
     alloc: Global,
     command: &str,
     makes: bool,
-) -> Result<bool, Memory> {
-    let left = run_of(rt, alloc, &[command, "a"])?;
-    Ok(has_attached_a(&left, makes))
+) -> bool {
+    let left = run_of(rt, alloc, &[command, "a"]);
+    has_attached_a(&left, makes)
 }
 
 // Whether `play -` attaches none.
-fn attaches_none<R: Threads + Wait + Sync>(rt: &R, alloc: Global) -> Result<bool, Memory> {
-    let left = run_of(rt, alloc, &["play", "-"])?;
-    Ok(has_attached_none(&left))
+fn attaches_none<R: Abort + Threads + Wait + Sync>(rt: &R, alloc: Global) -> bool {
+    let left = run_of(rt, alloc, &["play", "-"]);
+    has_attached_none(&left)
 }
 
-fn a_command_attaches_its_file<R: Abort + Threads + Wait + Sync>(
-    rt: &R,
-    alloc: Global,
-) -> Result<(), Fail> {
-    assert_so!(rt; attaches_once(rt, alloc, "init", true));
-    assert_so!(rt; attaches_once(rt, alloc, "check", false));
-    assert_so!(rt; attaches_once(rt, alloc, "play", false));
-    assert_so!(rt; attaches_none(rt, alloc));
-    Ok(())
-}
+// Whether a command makes the file that it attaches.
+const COMMANDS: &[(&str, bool)] = &[("init", true), ("check", false), ("play", false)];
 
 #[test]
-fn a_command_over_a_log_attaches_its_file_once(rt: HostRuntime) -> Result<(), Fail> {
-    a_command_attaches_its_file(&rt, rt.alloc())
+fn a_command_over_a_log_attaches_its_file_once(rt: HostRuntime) {
+    for (command, makes) in COMMANDS {
+        assert_so!(rt; attaches_once(&rt, rt.alloc(), command, *makes));
+    }
+    assert_so!(rt; attaches_none(&rt, rt.alloc()));
 }

@@ -1,12 +1,9 @@
-//! Whether a run leaves what it should. Functions over a runtime alone: a test's proof then holds no drive.
-use crate::memory::{Faults, HEADER, Left, NO_FAULTS, run_apart, run_on, text};
-use disk_mem::{DiskCall, Fail};
+//! Lists of runs, and what each leaves. Functions over a runtime alone: a test's proof then holds no drive.
+use crate::memory::{EMPTY_LOG, Faults, HEADER, Left, NO_FAULTS, PUT_LOG, run_apart, run_on};
 use std::alloc::Global;
 use std::process::Abort;
 use std::sync::Wait;
-use std::test;
 use std::thread::Threads;
-use zorder::Memory;
 
 /// `play` over no log.
 pub const PLAY_NO_LOG: &[&str] = &["play", "-"];
@@ -20,129 +17,109 @@ pub const PLAY_BY_4: &[&str] = &["play", "log", "--bucket", "4"];
 /// `check` of the file `log`.
 pub const CHECK: &[&str] = &["check", "log"];
 
-/// What is wanted of a run: its status, and the text that the sink takes.
-#[derive(Clone, Copy, Drop)]
-pub struct Wanted<'a> {
+/// `init` of the file `log`.
+pub const INIT: &[&str] = &["init", "log"];
+
+/// A run, and what it is to leave.
+#[derive(Clone, Copy)]
+pub struct Case {
+    /// What fails a test, if the run doesn't leave that.
+    pub name: &'static str,
+    pub words: &'static [&'static str],
+    pub input: &'static str,
+    /// The bytes of the file. Where there are none, there is a drive that fails at each call.
+    pub file: Option<&'static [u8]>,
+    pub faults: Faults<'static>,
     pub status: u8,
-    pub text: &'a str,
+    /// What the sink takes.
+    pub text: &'static str,
+    /// The bytes of the file then.
+    pub held: &'static [u8],
+    /// How many entries the history has.
+    pub entries: usize,
 }
 
-/// What is wanted of a run where all goes well.
-pub fn well(text: &str) -> Wanted<'_> {
-    Wanted { status: 0, text }
-}
+/// Where all goes well, over no log and with no rows.
+pub const NO_LOG: Case = Case {
+    name: "a run over no log",
+    words: PLAY_NO_LOG,
+    input: "session,op,id,x,y,a,b\n",
+    file: None,
+    faults: NO_FAULTS,
+    status: 0,
+    text: "row,place,answer,detail\n",
+    held: &[],
+    entries: 0,
+};
 
-/// What is wanted of a run that is refused, or that ends early.
-pub fn ended(status: u8, text: &str) -> Wanted<'_> {
-    Wanted { status, text }
-}
+/// The same over a log of no cells.
+pub const EMPTY: Case = Case {
+    name: "a run over a log of no cells",
+    words: PLAY,
+    input: "session,op,id,x,y,a,b\n",
+    file: Some(EMPTY_LOG),
+    faults: NO_FAULTS,
+    status: 0,
+    text: "row,place,answer,detail\n",
+    held: EMPTY_LOG,
+    entries: 0,
+};
 
-/// The call of this kind and number.
-pub fn call_of(call: DiskCall, number: u64) -> Fail {
-    Fail { call, number }
-}
-
-/// These calls of the drive fail.
-pub fn failing_calls(calls: &[Fail]) -> Faults<'_> {
-    Faults { calls, ..NO_FAULTS }
-}
-
-/// These reads of the source fail, and these calls of the drive.
-pub fn failing_reads<'a>(reads: &'a [u64], calls: &'a [Fail]) -> Faults<'a> {
-    Faults {
-        reads,
-        calls,
-        ..NO_FAULTS
-    }
-}
-
-/// These reads of the source fail, and these puts of the sink.
-pub fn failing_ends<'a>(reads: &'a [u64], puts: &'a [u64]) -> Faults<'a> {
-    Faults {
-        reads,
-        puts,
-        ..NO_FAULTS
-    }
-}
+/// The same over a log of one put.
+pub const ONE_PUT: Case = Case {
+    name: "a run over a log of one put",
+    words: PLAY,
+    input: "session,op,id,x,y,a,b\n",
+    file: Some(PUT_LOG),
+    faults: NO_FAULTS,
+    status: 0,
+    text: "row,place,answer,detail\n",
+    held: PUT_LOG,
+    entries: 0,
+};
 
 /// Ends the test with this message unless it is so.
-pub fn holds<R: Abort>(
-    rt: &R,
-    is_so: Result<bool, Memory>,
-    message: &str,
-) -> Result<(), test::Fail> {
-    if !is_so? {
+pub fn holds<R: Abort>(rt: &R, is_so: bool, message: &str) {
+    if !is_so {
         rt.panic(message)
     }
-    Ok(())
 }
 
-/// Whether these words over no log make this of these rows.
-pub fn tells<R: Threads + Wait + Sync>(
-    rt: &R,
-    alloc: Global,
-    words: &[&str],
-    rows: &str,
-    wanted: Wanted<'_>,
-) -> Result<bool, Memory> {
-    let input = text(alloc, rows)?;
-    told(rt, alloc, words, &input, &NO_FAULTS, wanted)
+/// Fails at the first run that doesn't leave what it should.
+pub fn each_is_left<R: Abort + Threads + Wait + Sync>(rt: &R, alloc: Global, cases: &[Case]) {
+    for case in cases {
+        holds(rt, is_as_wanted(rt, alloc, case), case.name);
+    }
 }
 
-/// The same of an input, with these faults.
-pub fn told<R: Threads + Wait + Sync>(
-    rt: &R,
-    alloc: Global,
-    words: &[&str],
-    input: &str,
-    faults: &Faults<'_>,
-    wanted: Wanted<'_>,
-) -> Result<bool, Memory> {
-    let left = run_apart(rt, alloc, words, input, faults)?;
-    Ok(left.tells(wanted.status, wanted.text))
+fn is_as_wanted<R: Abort + Threads + Wait + Sync>(rt: &R, alloc: Global, case: &Case) -> bool {
+    let left = run_case(rt, alloc, case);
+    has_left(&left, case)
 }
 
-/// Whether these words make this of these rows over a file with the bytes `before`, and leave it with the bytes `after`.
-pub fn leaves<R: Threads + Wait + Sync>(
-    rt: &R,
-    alloc: Global,
-    words: &[&str],
-    rows: &str,
-    before: &[u8],
-    wanted: Wanted<'_>,
-    after: &[u8],
-) -> Result<bool, Memory> {
-    leaves_with(rt, alloc, words, rows, before, &NO_FAULTS, wanted, after)
+fn run_case<R: Abort + Threads + Wait + Sync>(rt: &R, alloc: Global, case: &Case) -> Left {
+    match case.file {
+        Some(file) => run_on(rt, alloc, case.words, case.input, file, &case.faults),
+        None => run_apart(rt, alloc, case.words, case.input, &case.faults),
+    }
 }
 
-/// The same with these faults.
-pub fn leaves_with<R: Threads + Wait + Sync>(
-    rt: &R,
-    alloc: Global,
-    words: &[&str],
-    rows: &str,
-    before: &[u8],
-    faults: &Faults<'_>,
-    wanted: Wanted<'_>,
-    after: &[u8],
-) -> Result<bool, Memory> {
-    let input = text(alloc, rows)?;
-    let left = run_on(rt, alloc, words, &input, before, faults)?;
-    Ok(is_left(&left, wanted, after))
+fn has_left(left: &Left, case: &Case) -> bool {
+    is_left(left, case.status, case.text, case.held) && left.history().len() == case.entries
 }
 
-/// Whether a run left what is wanted, and the file with these bytes.
-pub fn is_left(left: &Left, wanted: Wanted<'_>, file: &[u8]) -> bool {
-    left.tells(wanted.status, wanted.text) && left.file() == file
+/// Whether a run ended with this status, the sink took this text, and the file has these bytes.
+pub fn is_left(left: &Left, status: u8, text: &str, file: &[u8]) -> bool {
+    left.tells(status, text) && left.file() == file
 }
 
 /// Whether `check` writes this of a file.
-pub fn is_checked<R: Threads + Wait + Sync>(
+pub fn is_checked<R: Abort + Threads + Wait + Sync>(
     rt: &R,
     alloc: Global,
     file: &[u8],
     counts: &str,
-) -> Result<bool, Memory> {
-    let left = run_on(rt, alloc, CHECK, HEADER, file, &NO_FAULTS)?;
-    Ok(left.tells(0, counts))
+) -> bool {
+    let left = run_on(rt, alloc, CHECK, HEADER, file, &NO_FAULTS);
+    left.tells(0, counts)
 }

@@ -1,19 +1,15 @@
 //! Plays over a log where an end fails, or the log isn't opened.
-use crate::checks::{
-    PLAY, call_of, ended, failing_calls, failing_ends, failing_reads, is_checked, is_left, leaves,
-    leaves_with,
-};
-use crate::memory::{EMPTY_LOG, Left, PUT_LOG, run_on, text};
-use disk_mem::{DiskCall, MemDisk};
+use crate::checks::{Case, EMPTY, PLAY, each_is_left, is_checked};
+use crate::memory::{EMPTY_LOG, Faults, Left, NO_FAULTS, PUT_LOG, run_on};
+use disk_mem::{DiskCall, Fail, MemDisk};
 use plain_list::{Entry, Lost, Op};
 use std::alloc::Global;
 use std::process::Abort;
 use std::sync::Wait;
-use std::test::Fail;
 use std::thread::Threads;
 use zorder::Memory;
 
-const ROW: &str = "1,put,7,3,5,,\n";
+const ROW: &str = rows!("1,put,7,3,5,,\n");
 
 // Whether this is the history of two calls, and of a third row whose put was lost.
 fn is_third_put_lost(entries: &[Entry]) -> bool {
@@ -54,26 +50,45 @@ fn image_of(disk: &MemDisk, commit_byte: u8) -> Result<Vec<u8>, Memory> {
     }
 }
 
-// Whether a run of three puts ends at the third where a sync of this number fails, the file then holds so much, and a crash leaves two
-// puts or so much.
-fn ends_at_the_third<R: Threads + Wait + Sync>(
+const THREE_PUTS: &str = rows!("1,put,7,3,5,,\n1,put,8,4,5,,\n1,put,9,5,5,,\n");
+
+const TWO_CELLS: &str = "cells 2\npoints 2\nleaves 1\nunfinished 0\n";
+
+const THREE_CELLS: &str = "cells 3\npoints 3\nleaves 1\nunfinished 0\n";
+
+// A run of three puts where a sync of this number fails.
+fn run_failing<R: Abort + Threads + Wait + Sync>(rt: &R, alloc: Global, number: u64) -> Left {
+    let call = DiskCall::Sync;
+    let faults = Faults {
+        calls: &[Fail { call, number }],
+        ..NO_FAULTS
+    };
+    run_on(rt, alloc, PLAY, THREE_PUTS, EMPTY_LOG, &faults)
+}
+
+// Whether such a run ends at the third put, the file then holds so much, and a crash leaves two puts or so much.
+fn ends_at_the_third<R: Abort + Threads + Wait + Sync>(
     rt: &R,
     alloc: Global,
     number: u64,
     held: &str,
-) -> Result<bool, Memory> {
-    let two = "cells 2\npoints 2\nleaves 1\nunfinished 0\n";
-    let input = text(alloc, "1,put,7,3,5,,\n1,put,8,4,5,,\n1,put,9,5,5,,\n")?;
-    let calls = [call_of(DiskCall::Sync, number)];
-    let left = run_on(rt, alloc, PLAY, &input, EMPTY_LOG, &failing_calls(&calls))?;
+) -> bool {
+    let left = run_failing(rt, alloc, number);
     if !has_lost_the_third(&left) {
-        return Ok(false);
+        return false;
     }
-    Ok(
-        is_checked(rt, alloc, left.file(), held)?
-            && is_image_checked(rt, alloc, &left.disk, 0, two)?
-            && is_image_checked(rt, alloc, &left.disk, 1, held)?,
-    )
+    holds_so_much(rt, alloc, &left.disk, held)
+}
+
+fn holds_so_much<R: Abort + Threads + Wait + Sync>(
+    rt: &R,
+    alloc: Global,
+    disk: &MemDisk,
+    held: &str,
+) -> bool {
+    is_checked(rt, alloc, disk.bytes(), held)
+        && is_image_checked(rt, alloc, disk, 0, TWO_CELLS)
+        && is_image_checked(rt, alloc, disk, 1, held)
 }
 
 fn has_lost_the_third(left: &Left) -> bool {
@@ -81,111 +96,148 @@ fn has_lost_the_third(left: &Left) -> bool {
 }
 
 // Whether `check` writes this of the crash image with this commit byte.
-fn is_image_checked<R: Threads + Wait + Sync>(
+fn is_image_checked<R: Abort + Threads + Wait + Sync>(
     rt: &R,
     alloc: Global,
     disk: &MemDisk,
     commit_byte: u8,
     counts: &str,
-) -> Result<bool, Memory> {
-    let image = image_of(disk, commit_byte)?;
+) -> bool {
+    let image = image_of(disk, commit_byte).expect(rt, "it failed");
     is_checked(rt, alloc, image.as_slice(), counts)
 }
 
 // Of each image that a crash may leave the commit byte of the third cell is clear, or it is set behind a synced cell.
 #[test]
-fn a_failed_sync_ends_a_run_at_its_cell(rt: HostRuntime) -> Result<(), Fail> {
-    let alloc = rt.alloc();
-    let two = "cells 2\npoints 2\nleaves 1\nunfinished 0\n";
-    let three = "cells 3\npoints 3\nleaves 1\nunfinished 0\n";
-    assert_so!(rt; ends_at_the_third(&rt, alloc, 6, two));
-    assert_so!(rt; ends_at_the_third(&rt, alloc, 7, three));
-    Ok(())
+fn a_failed_sync_ends_a_run_at_its_cell(rt: HostRuntime) {
+    assert_so!(rt; ends_at_the_third(&rt, rt.alloc(), 6, TWO_CELLS));
+    assert_so!(rt; ends_at_the_third(&rt, rt.alloc(), 7, THREE_CELLS));
 }
 
-// Whether a put over a file that holds no log is refused with this line, calls nothing and leaves the file.
-fn is_no_log<R: Threads + Wait + Sync>(
-    rt: &R,
-    alloc: Global,
-    file: &[u8],
-    line: &str,
-) -> Result<bool, Memory> {
-    leaves(rt, alloc, PLAY, ROW, file, ended(4, line), file)
+const PUTS: Case = Case {
+    input: ROW,
+    ..EMPTY
+};
+
+const NO_LOG: Case = Case { status: 4, ..PUTS };
+
+const REFUSED: Case = Case {
+    status: 7,
+    text: "refused disk\n",
+    ..PUTS
+};
+
+macro_rules! failing {
+    ($call:expr) => {
+        Faults {
+            calls: &[Fail {
+                call: $call,
+                number: 1,
+            }],
+            ..NO_FAULTS
+        }
+    };
 }
 
-fn leaves_what_is_no_log<R: Abort + Threads + Wait + Sync>(
-    rt: &R,
-    alloc: Global,
-) -> Result<(), Fail> {
-    let short = b"MDLOCLOG\x01\x01\0\0\0\0\0\0\x01";
-    assert_so!(rt; is_no_log(rt, alloc, short, "refused cell 0 short\n"));
-    let old = b"MDLOCLOG\x03\x01\0\0\0\0\0\0\0";
-    assert_so!(rt; is_no_log(rt, alloc, old, "refused log version 3 width 1\n"));
-    assert_so!(rt; is_no_log(rt, alloc, &EMPTY_LOG[..16], "refused not a log\n"));
-    assert_so!(rt; is_no_log(rt, alloc, &[], "refused not a log\n"));
-    Ok(())
-}
+const SHORT: &[u8] = b"MDLOCLOG\x01\x01\0\0\0\0\0\0\x01";
 
-// Whether a put is refused where the first call of this kind fails, and calls nothing.
-fn is_refused_at<R: Threads + Wait + Sync>(
-    rt: &R,
-    alloc: Global,
-    call: DiskCall,
-) -> Result<bool, Memory> {
-    let calls = [call_of(call, 1)];
-    let input = text(alloc, ROW)?;
-    let left = run_on(rt, alloc, PLAY, &input, EMPTY_LOG, &failing_calls(&calls))?;
-    Ok(is_untouched(&left))
-}
+const OLD: &[u8] = b"MDLOCLOG\x03\x01\0\0\0\0\0\0\0";
 
-fn is_untouched(left: &Left) -> bool {
-    let wanted = ended(7, "refused disk\n");
-    left.history().is_empty() && is_left(left, wanted, EMPTY_LOG)
-}
+const HEADER_ALONE: &[u8] = b"MDLOCLOG\x01\x01\0\0\0\0\0\0";
 
-#[test]
-fn a_log_that_is_not_opened_stays_as_it_was(rt: HostRuntime) -> Result<(), Fail> {
-    let alloc = rt.alloc();
-    leaves_what_is_no_log(&rt, alloc)?;
-    assert_so!(rt; is_refused_at(&rt, alloc, DiskCall::Attach));
-    assert_so!(rt; is_refused_at(&rt, alloc, DiskCall::Sync));
-    assert_so!(rt; is_refused_at(&rt, alloc, DiskCall::Len));
-    assert_so!(rt; is_refused_at(&rt, alloc, DiskCall::Read));
-    Ok(())
-}
-
-fn reads_rows_first<R: Abort + Threads + Wait + Sync>(rt: &R, alloc: Global) -> Result<(), Fail> {
-    let calls = [call_of(DiskCall::Attach, 1)];
-    let unread = failing_reads(&[1], &calls);
-    let source = ended(5, "refused source\n");
-    assert_so!(rt; leaves_with(rt, alloc, PLAY, ROW, EMPTY_LOG, &unread, source, EMPTY_LOG));
-    let unattached = failing_calls(&calls);
-    let column = ended(3, "refused row 1 column 4\n");
-    assert_so!(rt; leaves_with(
-            rt,
-            alloc,
-            PLAY,
-            "1,put,7,-3,5,,\n",
-            EMPTY_LOG,
-            &unattached,
-            column,
-            EMPTY_LOG
-        ));
-    let unwritten = failing_ends(&[], &[1]);
-    assert_so!(rt; leaves_with(
-            rt,
-            alloc,
-            PLAY,
-            ROW,
-            EMPTY_LOG,
-            &unwritten,
-            ended(6, ""),
-            PUT_LOG
-        ));
-    Ok(())
-}
+// A put that calls nothing and leaves the file.
+const UNOPENED: &[Case] = &[
+    Case {
+        name: "a put over a set commit byte alone",
+        file: Some(SHORT),
+        text: "refused cell 0 short\n",
+        held: SHORT,
+        ..NO_LOG
+    },
+    Case {
+        name: "a put over an old version",
+        file: Some(OLD),
+        text: "refused log version 3 width 1\n",
+        held: OLD,
+        ..NO_LOG
+    },
+    Case {
+        name: "a put over a header alone",
+        file: Some(HEADER_ALONE),
+        text: "refused not a log\n",
+        held: HEADER_ALONE,
+        ..NO_LOG
+    },
+    Case {
+        name: "a put over an empty file",
+        file: Some(&[]),
+        text: "refused not a log\n",
+        held: &[],
+        ..NO_LOG
+    },
+    Case {
+        name: "a put where the attach fails",
+        faults: failing!(DiskCall::Attach),
+        ..REFUSED
+    },
+    Case {
+        name: "a put where the first sync fails",
+        faults: failing!(DiskCall::Sync),
+        ..REFUSED
+    },
+    Case {
+        name: "a put where the length fails",
+        faults: failing!(DiskCall::Len),
+        ..REFUSED
+    },
+    Case {
+        name: "a put where the first read fails",
+        faults: failing!(DiskCall::Read),
+        ..REFUSED
+    },
+];
 
 #[test]
-fn rows_come_before_the_log_and_lines_behind_it(rt: HostRuntime) -> Result<(), Fail> {
-    reads_rows_first(&rt, rt.alloc())
+fn a_log_that_is_not_opened_stays_as_it_was(rt: HostRuntime) {
+    each_is_left(&rt, rt.alloc(), UNOPENED);
+}
+
+const ATTACHED: Faults<'static> = failing!(DiskCall::Attach);
+
+const IN_ORDER: &[Case] = &[
+    Case {
+        name: "neither the source nor the drive",
+        faults: Faults {
+            reads: &[1],
+            ..ATTACHED
+        },
+        status: 5,
+        text: "refused source\n",
+        ..PUTS
+    },
+    Case {
+        name: "a row at fault, and no drive",
+        input: rows!("1,put,7,-3,5,,\n"),
+        faults: ATTACHED,
+        status: 3,
+        text: "refused row 1 column 4\n",
+        ..PUTS
+    },
+    Case {
+        name: "a put, and no sink",
+        faults: Faults {
+            puts: &[1],
+            ..NO_FAULTS
+        },
+        status: 6,
+        text: "",
+        held: PUT_LOG,
+        entries: 1,
+        ..PUTS
+    },
+];
+
+#[test]
+fn rows_come_before_the_log_and_lines_behind_it(rt: HostRuntime) {
+    each_is_left(&rt, rt.alloc(), IN_ORDER);
 }

@@ -1,9 +1,9 @@
 //! A world of all the objects that it may have, through a log of their puts.
-use crate::memory::{NO_FAULTS, run_over, text};
+use crate::memory::{NO_FAULTS, run_over};
 use disk_mem::MemDisk;
 use std::alloc::{AllocError, Global};
+use std::process::Abort;
 use std::sync::Wait;
-use std::test::Fail;
 use std::thread::Threads;
 use zorder::Memory;
 
@@ -39,21 +39,29 @@ const BEHIND: &[u8] = b"\
 const LINES: &str =
     "row,place,answer,detail\n1,1,full,\n2,2,present,2147483648:0\n3,3,gone,1073741824:0\n4,4,done,\n";
 
+const INPUT: &str = rows!(
+    "1,put,1048576,3,5,,\n1,put,1,3,5,,\n1,drop,2,,,,\n1,put,1048576,3,5,,\n"
+);
+
+const WORDS: &[&str] = &["play", "log", "--bucket", "4096"];
+
+fn full_disk(alloc: Global) -> Result<MemDisk, Memory> {
+    MemDisk::new(alloc, full_log(alloc)?, 34_000_000, 20_000, Vec::new(alloc))
+}
+
 // A put that finds the world full, and one of an object that is there, leave no record of their own. Behind each row the first full leaf is
 // split before the next one. With those at the end there are 511 splits, of two records each: 509 to have 4,096 objects in each leaf, and
 // two where (3,5) is one more.
-fn keeps_changes_and_splits_alone<R: Threads + Wait + Sync>(
-    rt: &R,
-    alloc: Global,
-) -> Result<bool, Memory> {
-    let input = text(
+fn keeps_changes_and_splits_alone<R: Abort + Threads + Wait + Sync>(rt: &R, alloc: Global) -> bool {
+    let left = run_over(
+        rt,
         alloc,
-        "1,put,1048576,3,5,,\n1,put,1,3,5,,\n1,drop,2,,,,\n1,put,1048576,3,5,,\n",
-    )?;
-    let disk = MemDisk::new(alloc, full_log(alloc)?, 34_000_000, 20_000, Vec::new(alloc))?;
-    let words = &["play", "log", "--bucket", "4096"];
-    let left = run_over(rt, alloc, words, &input, disk, &NO_FAULTS)?;
-    Ok(is_kept(left.file()) && left.tells(0, LINES))
+        WORDS,
+        INPUT,
+        full_disk(alloc).expect(rt, "it failed"),
+        &NO_FAULTS,
+    );
+    is_kept(left.file()) && left.tells(0, LINES)
 }
 
 fn is_kept(file: &[u8]) -> bool {
@@ -62,7 +70,6 @@ fn is_kept(file: &[u8]) -> bool {
 }
 
 #[test]
-fn a_world_of_1048576_objects_takes_no_other(rt: HostRuntime) -> Result<(), Fail> {
-    assert!(rt; keeps_changes_and_splits_alone(&rt, rt.alloc())?);
-    Ok(())
+fn a_world_of_1048576_objects_takes_no_other(rt: HostRuntime) {
+    assert_so!(rt; keeps_changes_and_splits_alone(&rt, rt.alloc()));
 }

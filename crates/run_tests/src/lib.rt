@@ -7,12 +7,28 @@
 //! as long.
 #![tactic(auto)]
 
-// `assert!` of what a function tells with `?`, with the branch in a function of its own: the proof of a function with several of them is much
-// shorter so.
+// `assert!` of what a function tells, with the branch in a function of its own: the proof of a function with several of them is much shorter
+// so.
 #[cfg(test)]
 macro_rules! assert_so {
     ($rt:expr; $told:expr $(,)?) => {
-        crate::checks::holds(&$rt, $told, concat!("assertion failed: ", stringify!($told)))?
+        crate::checks::holds(&$rt, $told, concat!("assertion failed: ", stringify!($told)))
+    };
+}
+
+// An input of these rows.
+#[cfg(test)]
+macro_rules! rows {
+    ($rows:literal) => {
+        concat!("session,op,id,x,y,a,b\n", $rows)
+    };
+}
+
+// An output of these lines.
+#[cfg(test)]
+macro_rules! lines {
+    ($lines:literal) => {
+        concat!("row,place,answer,detail\n", $lines)
     };
 }
 

@@ -1,150 +1,174 @@
-//! The commands over a log, with worked files and faults of the drive and the sink.
-use crate::checks::{Wanted, call_of, ended, failing_ends, failing_reads, is_left, well};
-use crate::memory::{EMPTY_LOG, Faults, PUT_LOG, run_on};
-use disk_mem::DiskCall;
-use std::alloc::Global;
-use std::process::Abort;
-use std::sync::Wait;
-use std::test::Fail;
-use std::thread::Threads;
-use zorder::Memory;
+//! The commands over a log, with worked files and faults of the drive and the sink. The source fails at once.
+use crate::checks::{CHECK, Case, EMPTY, INIT, ONE_PUT, each_is_left};
+use crate::memory::{Faults, NO_FAULTS};
+use disk_mem::{DiskCall, Fail};
 
-// Whether a command makes this of a file, and leaves it with the bytes `after`.
-fn makes_of<R: Threads + Wait + Sync>(
-    rt: &R,
-    alloc: Global,
-    command: &str,
-    before: &[u8],
-    faults: &Faults<'_>,
-    wanted: Wanted<'_>,
-    after: &[u8],
-) -> Result<bool, Memory> {
-    let left = run_on(rt, alloc, &[command, "log"], "", before, faults)?;
-    Ok(is_left(&left, wanted, after))
-}
+const UNREAD: Faults<'static> = Faults {
+    reads: &[1],
+    ..NO_FAULTS
+};
 
-// Whether `init` makes this of a file. The source fails at once.
-fn inits<R: Threads + Wait + Sync>(
-    rt: &R,
-    alloc: Global,
-    before: &[u8],
-    wanted: Wanted<'_>,
-    after: &[u8],
-) -> Result<bool, Memory> {
-    makes_of(
-        rt,
-        alloc,
-        "init",
-        before,
-        &failing_ends(&[1], &[]),
-        wanted,
-        after,
-    )
-}
+const INITS: Case = Case {
+    words: INIT,
+    input: "",
+    faults: UNREAD,
+    text: "made\n",
+    ..EMPTY
+};
 
-fn makes_a_log_of_a_small_file<R: Abort + Threads + Wait + Sync>(
-    rt: &R,
-    alloc: Global,
-) -> Result<(), Fail> {
-    let short = b"MDLOCLOG\x01\x01\0\0\0\0\0\0\x01";
-    assert_so!(rt; inits(rt, alloc, &[], well("made\n"), EMPTY_LOG));
-    assert_so!(rt; inits(rt, alloc, short, well("made\n"), EMPTY_LOG));
-    let large = &[7; 49];
-    assert_so!(rt; inits(rt, alloc, large, ended(10, "refused in use 49\n"), large));
-    Ok(())
-}
+const SHORT: &[u8] = b"MDLOCLOG\x01\x01\0\0\0\0\0\0\x01";
+
+const MADE: &[Case] = &[
+    Case {
+        name: "init of an empty file",
+        file: Some(&[]),
+        ..INITS
+    },
+    Case {
+        name: "init of a file of 17 bytes",
+        file: Some(SHORT),
+        ..INITS
+    },
+    Case {
+        name: "init of a file of 49 bytes",
+        file: Some(&[7; 49]),
+        status: 10,
+        text: "refused in use 49\n",
+        held: &[7; 49],
+        ..INITS
+    },
+];
 
 #[test]
-fn init_makes_a_log_of_no_cells(rt: HostRuntime) -> Result<(), Fail> {
-    makes_a_log_of_a_small_file(&rt, rt.alloc())
+fn init_makes_a_log_of_no_cells(rt: HostRuntime) {
+    each_is_left(&rt, rt.alloc(), MADE);
 }
 
-// Whether `check` tells this of a file, and leaves it. The source fails at once.
-fn is_told<R: Threads + Wait + Sync>(
-    rt: &R,
-    alloc: Global,
-    file: &[u8],
-    wanted: Wanted<'_>,
-) -> Result<bool, Memory> {
-    makes_of(
-        rt,
-        alloc,
-        "check",
-        file,
-        &failing_ends(&[1], &[]),
-        wanted,
-        file,
-    )
-}
+const CHECKS: Case = Case {
+    words: CHECK,
+    input: "",
+    faults: UNREAD,
+    ..EMPTY
+};
 
-fn tells_of_good_logs<R: Abort + Threads + Wait + Sync>(rt: &R, alloc: Global) -> Result<(), Fail> {
-    let none = well("cells 0\npoints 0\nleaves 1\nunfinished 0\n");
-    assert_so!(rt; is_told(rt, alloc, EMPTY_LOG, none));
-    let one = well("cells 1\npoints 1\nleaves 1\nunfinished 0\n");
-    assert_so!(rt; is_told(rt, alloc, PUT_LOG, one));
-    Ok(())
-}
+const DAMAGED: Case = Case {
+    status: 4,
+    ..CHECKS
+};
 
-fn tells_what_is_wrong<R: Abort + Threads + Wait + Sync>(
-    rt: &R,
-    alloc: Global,
-) -> Result<(), Fail> {
-    let kind = b"MDLOCLOG\x01\x01\0\0\0\0\0\0\
-        \x01\x09\0\0\0\0\0\0\0\x07\0\0\0\0\0\0\0\0\0\0\0\0\0\0\0\0\0\0\0\0\0\0\
-        \0";
-    assert_so!(rt; is_told(rt, alloc, kind, ended(4, "refused cell 0 kind\n")));
-    let uninstalled = b"MDLOCLOG\x01\x01\0\0\0\0\0\0\
-        \x01\x05\0\0\0\0\0\0\0\x01\0\0\0\0\0\0\0\0\0\0\0\0\0\0\0\0\0\0\0\0\0\0\
-        \0";
-    assert_so!(rt; is_told(
-            rt,
-            alloc,
-            uninstalled,
-            ended(4, "refused cell 0 impossible\n")
-        ));
-    let set = b"MDLOCLOG\x01\x01\0\0\0\0\0\0\x01";
-    assert_so!(rt; is_told(rt, alloc, set, ended(4, "refused cell 0 short\n")));
-    let old = b"MDLOCLOG\x03\x01\0\0\0\0\0\0\0";
-    assert_so!(rt; is_told(rt, alloc, old, ended(4, "refused log version 3 width 1\n")));
-    assert_so!(rt; is_told(rt, alloc, &EMPTY_LOG[..16], ended(4, "refused not a log\n")));
-    Ok(())
-}
+const BAD_KIND: &[u8] = b"MDLOCLOG\x01\x01\0\0\0\0\0\0\
+    \x01\x09\0\0\0\0\0\0\0\x07\0\0\0\0\0\0\0\0\0\0\0\0\0\0\0\0\0\0\0\0\0\0\
+    \0";
 
-#[test]
-fn check_tells_four_lines_or_what_is_wrong(rt: HostRuntime) -> Result<(), Fail> {
-    let alloc = rt.alloc();
-    tells_of_good_logs(&rt, alloc)?;
-    tells_what_is_wrong(&rt, alloc)
-}
+const UNINSTALLED: &[u8] = b"MDLOCLOG\x01\x01\0\0\0\0\0\0\
+    \x01\x05\0\0\0\0\0\0\0\x01\0\0\0\0\0\0\0\0\0\0\0\0\0\0\0\0\0\0\0\0\0\0\
+    \0";
 
-// Whether a command tells of a drive that can't be attached, and of a sink that fails.
-fn tells_of_faults<R: Threads + Wait + Sync>(
-    rt: &R,
-    alloc: Global,
-    command: &str,
-) -> Result<bool, Memory> {
-    let calls = [call_of(DiskCall::Attach, 1)];
-    let refused = failing_reads(&[1], &calls);
-    let disk = ended(7, "refused disk\n");
-    let cut_off = failing_ends(&[1], &[1]);
-    Ok(
-        makes_of(rt, alloc, command, EMPTY_LOG, &refused, disk, EMPTY_LOG)?
-            && makes_of(
-                rt,
-                alloc,
-                command,
-                EMPTY_LOG,
-                &cut_off,
-                ended(6, ""),
-                EMPTY_LOG,
-            )?,
-    )
-}
+const OLD: &[u8] = b"MDLOCLOG\x03\x01\0\0\0\0\0\0\0";
+
+const HEADER_ALONE: &[u8] = b"MDLOCLOG\x01\x01\0\0\0\0\0\0";
+
+const CHECKED: &[Case] = &[
+    Case {
+        name: "check of no cells",
+        text: "cells 0\npoints 0\nleaves 1\nunfinished 0\n",
+        ..CHECKS
+    },
+    Case {
+        name: "check of a put",
+        words: CHECK,
+        input: "",
+        faults: UNREAD,
+        text: "cells 1\npoints 1\nleaves 1\nunfinished 0\n",
+        ..ONE_PUT
+    },
+    Case {
+        name: "check of a kind that isn't there",
+        file: Some(BAD_KIND),
+        text: "refused cell 0 kind\n",
+        held: BAD_KIND,
+        ..DAMAGED
+    },
+    Case {
+        name: "check of an install without a begin",
+        file: Some(UNINSTALLED),
+        text: "refused cell 0 impossible\n",
+        held: UNINSTALLED,
+        ..DAMAGED
+    },
+    Case {
+        name: "check of a set commit byte alone",
+        file: Some(SHORT),
+        text: "refused cell 0 short\n",
+        held: SHORT,
+        ..DAMAGED
+    },
+    Case {
+        name: "check of an old version",
+        file: Some(OLD),
+        text: "refused log version 3 width 1\n",
+        held: OLD,
+        ..DAMAGED
+    },
+    Case {
+        name: "check of a header alone",
+        file: Some(HEADER_ALONE),
+        text: "refused not a log\n",
+        held: HEADER_ALONE,
+        ..DAMAGED
+    },
+];
 
 #[test]
-fn faults_of_the_drive_and_the_sink_have_their_statuses(rt: HostRuntime) -> Result<(), Fail> {
-    let alloc = rt.alloc();
-    assert_so!(rt; tells_of_faults(&rt, alloc, "init"));
-    assert_so!(rt; tells_of_faults(&rt, alloc, "check"));
-    Ok(())
+fn check_tells_four_lines_or_what_is_wrong(rt: HostRuntime) {
+    each_is_left(&rt, rt.alloc(), CHECKED);
+}
+
+const UNATTACHED: Faults<'static> = Faults {
+    calls: &[Fail {
+        call: DiskCall::Attach,
+        number: 1,
+    }],
+    ..UNREAD
+};
+
+const UNWRITTEN: Faults<'static> = Faults {
+    puts: &[1],
+    ..UNREAD
+};
+
+const FAULTS: &[Case] = &[
+    Case {
+        name: "init of a drive that can't be attached",
+        faults: UNATTACHED,
+        status: 7,
+        text: "refused disk\n",
+        ..INITS
+    },
+    Case {
+        name: "init with a sink that fails",
+        faults: UNWRITTEN,
+        status: 6,
+        text: "",
+        ..INITS
+    },
+    Case {
+        name: "check of a drive that can't be attached",
+        faults: UNATTACHED,
+        status: 7,
+        text: "refused disk\n",
+        ..CHECKS
+    },
+    Case {
+        name: "check with a sink that fails",
+        faults: UNWRITTEN,
+        status: 6,
+        text: "",
+        ..CHECKS
+    },
+];
+
+#[test]
+fn faults_of_the_drive_and_the_sink_have_their_statuses(rt: HostRuntime) {
+    each_is_left(&rt, rt.alloc(), FAULTS);
 }

@@ -1,12 +1,12 @@
 //! Rows that are played over a log: what is kept, what a later run finds, and splits.
-use crate::checks::{PLAY, PLAY_BY_4, ended, is_checked, leaves, well};
-use crate::memory::{EMPTY_LOG, Left, NO_FAULTS, PUT_LOG, run_on, text};
-use std::alloc::{AllocError, Global};
+use crate::checks::{
+    CHECK, Case, EMPTY, INIT, ONE_PUT, PLAY_BY_4, each_is_left, is_checked, is_left,
+};
+use crate::memory::{EMPTY_LOG, Left, NO_FAULTS, PUT_LOG, run_on};
+use std::alloc::Global;
 use std::process::Abort;
 use std::sync::Wait;
-use std::test::Fail;
 use std::thread::Threads;
-use zorder::Memory;
 
 // A log of begin 1 of the empty name.
 const BEGUN_LOG: &[u8] = b"MDLOCLOG\x01\x01\0\0\0\0\0\0\
@@ -25,69 +25,91 @@ const SPLIT_2: &[u8] = b"\
     \x01\x05\0\0\0\0\0\0\0\x02\0\0\0\0\0\0\0\0\0\0\0\0\0\0\0\0\0\0\0\0\0\0\
     \0";
 
-const CORNERS: &str =
-    "1,put,1,0,0,,\n1,put,2,2147483648,0,,\n1,put,3,0,2147483648,,\n1,put,4,2147483648,2147483648,,\n1,put,5,1,1,,\n";
+const CORNERS: &str = rows!(
+    "1,put,1,0,0,,\n1,put,2,2147483648,0,,\n1,put,3,0,2147483648,,\n1,put,4,2147483648,2147483648,,\n1,put,5,1,1,,\n"
+);
+
+const BOX: &str = rows!("1,box,,0,0,3,5\n");
 
 const ONE_CELL: &str = "cells 1\npoints 1\nleaves 1\nunfinished 0\n";
 
-fn keeps_a_put<R: Abort + Threads + Wait + Sync>(rt: &R, alloc: Global) -> Result<(), Fail> {
-    let row = "1,put,7,3,5,,\n";
-    let done = well("row,place,answer,detail\n1,1,done,\n");
-    assert_so!(rt; leaves(rt, alloc, PLAY, row, EMPTY_LOG, done, PUT_LOG));
-    assert_so!(rt; is_checked(rt, alloc, PUT_LOG, ONE_CELL));
-    let present = well("row,place,answer,detail\n1,1,present,3:5\n");
-    assert_so!(rt; leaves(rt, alloc, PLAY, row, PUT_LOG, present, PUT_LOG));
-    let in_use = ended(10, "refused in use 49\n");
-    assert_so!(rt; leaves(rt, alloc, &["init", "log"], "", PUT_LOG, in_use, PUT_LOG));
-    Ok(())
-}
+const PUTS: &[Case] = &[
+    Case {
+        name: "a put",
+        input: rows!("1,put,7,3,5,,\n"),
+        text: lines!("1,1,done,\n"),
+        held: PUT_LOG,
+        entries: 1,
+        ..EMPTY
+    },
+    Case {
+        name: "check behind the put",
+        words: CHECK,
+        text: ONE_CELL,
+        ..ONE_PUT
+    },
+    Case {
+        name: "the put again",
+        input: rows!("1,put,7,3,5,,\n"),
+        text: lines!("1,1,present,3:5\n"),
+        entries: 1,
+        ..ONE_PUT
+    },
+    Case {
+        name: "init behind the put",
+        words: INIT,
+        status: 10,
+        text: "refused in use 49\n",
+        ..ONE_PUT
+    },
+];
 
 #[test]
-fn a_put_is_kept_and_found_again(rt: HostRuntime) -> Result<(), Fail> {
-    keeps_a_put(&rt, rt.alloc())
+fn a_put_is_kept_and_found_again(rt: HostRuntime) {
+    each_is_left(&rt, rt.alloc(), PUTS);
 }
 
 // Whether these rows with buckets of 4, over a file with the bytes `before`, leave so many bytes with this end and so many entries,
 // `check` tells these counts of them, and a box over them finds this.
-fn splits<R: Threads + Wait + Sync>(
+fn splits<R: Abort + Threads + Wait + Sync>(
     rt: &R,
     alloc: Global,
     rows: &str,
     before: &[u8],
     left: SplitLog<'_>,
-) -> Result<bool, Memory> {
-    let input = text(alloc, rows)?;
-    let played = run_on(rt, alloc, PLAY_BY_4, &input, before, &NO_FAULTS)?;
+) -> bool {
+    let played = run_on(rt, alloc, PLAY_BY_4, rows, before, &NO_FAULTS);
     if !is_split(&played, left) {
-        return Ok(false);
+        return false;
     }
     is_found_again(rt, alloc, played.file(), left)
 }
 
 fn is_split(played: &Left, left: SplitLog<'_>) -> bool {
-    let file = played.file();
-    played.status == 0
-        && file.len() == left.len
-        && file.ends_with(left.end)
-        && played.history().len() == left.entries
+    let entries = played.history().len();
+    played.status == 0 && entries == left.entries && is_end(played.file(), left)
+}
+
+fn is_end(file: &[u8], left: SplitLog<'_>) -> bool {
+    file.len() == left.len && file.ends_with(left.end)
 }
 
 // Whether `check` and a later box tell of a file what they should, and leave it.
-fn is_found_again<R: Threads + Wait + Sync>(
+fn is_found_again<R: Abort + Threads + Wait + Sync>(
     rt: &R,
     alloc: Global,
     file: &[u8],
     left: SplitLog<'_>,
-) -> Result<bool, Memory> {
-    let rows = "1,box,,0,0,3,5\n";
-    Ok(
-        is_checked(rt, alloc, file, left.counts)?
-            && leaves(rt, alloc, PLAY_BY_4, rows, file, well(left.found), file)?,
-    )
+) -> bool {
+    if !is_checked(rt, alloc, file, left.counts) {
+        return false;
+    }
+    let again = run_on(rt, alloc, PLAY_BY_4, BOX, file, &NO_FAULTS);
+    is_left(&again, 0, left.found, file)
 }
 
 // What is wanted of a log with splits.
-#[derive(Clone, Copy, Drop)]
+#[derive(Clone, Copy)]
 struct SplitLog<'a> {
     len: usize,
     end: &'a [u8],
@@ -96,76 +118,78 @@ struct SplitLog<'a> {
     found: &'a str,
 }
 
-#[test]
-fn a_split_is_kept_and_found_again(rt: HostRuntime) -> Result<(), Fail> {
-    let left = SplitLog {
-        len: 241,
-        end: SPLIT_1,
-        entries: 7,
-        counts: "cells 7\npoints 5\nleaves 2\nunfinished 0\n",
-        found: "row,place,answer,detail\n1,1,found,1:0:0;5:1:1\n",
-    };
-    assert!(rt; splits(&rt, rt.alloc(), CORNERS, EMPTY_LOG, left)?);
-    Ok(())
-}
+const TWO_LEAVES: SplitLog<'static> = SplitLog {
+    len: 241,
+    end: SPLIT_1,
+    entries: 7,
+    counts: "cells 7\npoints 5\nleaves 2\nunfinished 0\n",
+    found: lines!("1,1,found,1:0:0;5:1:1\n"),
+};
 
 #[test]
-fn five_ids_on_one_point_leave_133_cells(rt: HostRuntime) -> Result<(), Fail> {
-    let rows = "1,put,1,3,5,,\n1,put,2,3,5,,\n1,put,3,3,5,,\n1,put,4,3,5,,\n1,put,5,3,5,,\n";
-    let left = SplitLog {
-        len: 4_273,
-        end: &[0],
-        entries: 133,
-        counts: "cells 133\npoints 5\nleaves 65\nunfinished 0\n",
-        found: "row,place,answer,detail\n1,1,found,1:3:5;2:3:5;3:3:5;4:3:5;5:3:5\n",
-    };
-    assert!(rt; splits(&rt, rt.alloc(), rows, EMPTY_LOG, left)?);
-    Ok(())
+fn a_split_is_kept_and_found_again(rt: HostRuntime) {
+    assert_so!(rt; splits(&rt, rt.alloc(), CORNERS, EMPTY_LOG, TWO_LEAVES));
+}
+
+const ONE_POINT: &str = rows!(
+    "1,put,1,3,5,,\n1,put,2,3,5,,\n1,put,3,3,5,,\n1,put,4,3,5,,\n1,put,5,3,5,,\n"
+);
+
+const MANY_LEAVES: SplitLog<'static> = SplitLog {
+    len: 4_273,
+    end: &[0],
+    entries: 133,
+    counts: "cells 133\npoints 5\nleaves 65\nunfinished 0\n",
+    found: lines!("1,1,found,1:3:5;2:3:5;3:3:5;4:3:5;5:3:5\n"),
+};
+
+#[test]
+fn five_ids_on_one_point_leave_133_cells(rt: HostRuntime) {
+    assert_so!(rt; splits(&rt, rt.alloc(), ONE_POINT, EMPTY_LOG, MANY_LEAVES));
 }
 
 // A log of put 7 at (3,5), with 40 bytes behind it.
-fn long_log(alloc: Global) -> Result<Vec<u8>, AllocError> {
-    let mut file = PUT_LOG.to_vec(alloc)?;
-    file.extend_from_slice(&[5; 40])?;
-    Ok(file)
-}
+const LONG_LOG: &[u8] = b"MDLOCLOG\x01\x01\0\0\0\0\0\0\
+    \x01\x01\0\0\0\0\0\0\0\x07\0\0\0\x03\0\0\0\x05\0\0\0\0\0\0\0\0\0\0\0\0\0\0\
+    \0\
+    \x05\x05\x05\x05\x05\x05\x05\x05\x05\x05\x05\x05\x05\x05\x05\x05\x05\x05\x05\x05\
+    \x05\x05\x05\x05\x05\x05\x05\x05\x05\x05\x05\x05\x05\x05\x05\x05\x05\x05\x05\x05";
 
-fn cuts_off_what_stands_behind<R: Abort + Threads + Wait + Sync>(
-    rt: &R,
-    alloc: Global,
-) -> Result<(), Fail> {
-    let file = long_log(alloc)?;
-    assert_so!(rt; is_checked(rt, alloc, file.as_slice(), ONE_CELL));
-    let at = well("row,place,answer,detail\n1,1,at,3:5\n");
-    assert_so!(rt; leaves(
-            rt,
-            alloc,
-            PLAY,
-            "1,where,7,,,,\n",
-            file.as_slice(),
-            at,
-            PUT_LOG
-        ));
-    Ok(())
-}
-
-#[test]
-fn what_stands_behind_a_log_is_cut_off(rt: HostRuntime) -> Result<(), Fail> {
-    cuts_off_what_stands_behind(&rt, rt.alloc())
-}
+const CUT_OFF: &[Case] = &[
+    Case {
+        name: "check of a log with bytes behind it",
+        words: CHECK,
+        file: Some(LONG_LOG),
+        text: ONE_CELL,
+        held: LONG_LOG,
+        ..EMPTY
+    },
+    Case {
+        name: "a play over a log with bytes behind it",
+        input: rows!("1,where,7,,,,\n"),
+        file: Some(LONG_LOG),
+        text: lines!("1,1,at,3:5\n"),
+        held: PUT_LOG,
+        entries: 1,
+        ..EMPTY
+    },
+];
 
 #[test]
-fn a_split_that_a_log_left_open_is_begun_anew(rt: HostRuntime) -> Result<(), Fail> {
-    let alloc = rt.alloc();
+fn what_stands_behind_a_log_is_cut_off(rt: HostRuntime) {
+    each_is_left(&rt, rt.alloc(), CUT_OFF);
+}
+
+const BEGUN_ANEW: SplitLog<'static> = SplitLog {
+    len: 273,
+    end: SPLIT_2,
+    counts: "cells 8\npoints 5\nleaves 2\nunfinished 0\n",
+    ..TWO_LEAVES
+};
+
+#[test]
+fn a_split_that_a_log_left_open_is_begun_anew(rt: HostRuntime) {
     let begun = "cells 1\npoints 0\nleaves 1\nunfinished 1\n";
-    assert_so!(rt; is_checked(&rt, alloc, BEGUN_LOG, begun));
-    let left = SplitLog {
-        len: 273,
-        end: SPLIT_2,
-        entries: 7,
-        counts: "cells 8\npoints 5\nleaves 2\nunfinished 0\n",
-        found: "row,place,answer,detail\n1,1,found,1:0:0;5:1:1\n",
-    };
-    assert_so!(rt; splits(&rt, alloc, CORNERS, BEGUN_LOG, left));
-    Ok(())
+    assert_so!(rt; is_checked(&rt, rt.alloc(), BEGUN_LOG, begun));
+    assert_so!(rt; splits(&rt, rt.alloc(), CORNERS, BEGUN_LOG, BEGUN_ANEW));
 }

@@ -10,7 +10,7 @@ mod noting;
 mod runs;
 
 pub use faults::{Faults, NO_FAULTS};
-pub use inputs::{HEADER, text};
+pub use inputs::HEADER;
 pub use left::Left;
 pub use logs::{EMPTY_LOG, PUT_LOG};
 pub use noting::Attach;

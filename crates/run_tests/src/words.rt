@@ -1,30 +1,25 @@
 //! Words that are near to those of a command.
-use crate::checks::{ended, is_left};
+use crate::checks::is_left;
 use crate::memory::{Faults, HEADER, Left, NO_FAULTS, PUT_LOG, run_on};
 use std::alloc::Global;
 use std::process::Abort;
 use std::sync::Wait;
-use std::test::Fail;
 use std::thread::Threads;
-use zorder::Memory;
+
+const UNREAD: Faults<'static> = Faults {
+    reads: &[1],
+    ..NO_FAULTS
+};
 
 // Whether these words are usage: nothing is attached, called or written, and the source, which would fail, isn't read.
-fn is_usage<R: Threads + Wait + Sync>(
-    rt: &R,
-    alloc: Global,
-    words: &[&str],
-) -> Result<bool, Memory> {
-    let unread = Faults {
-        reads: &[1],
-        ..NO_FAULTS
-    };
-    let left = run_on(rt, alloc, words, HEADER, PUT_LOG, &unread)?;
-    Ok(is_untouched(&left))
+fn is_usage<R: Abort + Threads + Wait + Sync>(rt: &R, alloc: Global, words: &[&str]) -> bool {
+    let left = run_on(rt, alloc, words, HEADER, PUT_LOG, &UNREAD);
+    is_untouched(&left)
 }
 
 fn is_untouched(left: &Left) -> bool {
-    let wanted = ended(2, "refused usage\n");
-    left.attaches().is_empty() && left.history().is_empty() && is_left(left, wanted, PUT_LOG)
+    let is_uncalled = left.attaches().is_empty() && left.history().is_empty();
+    is_uncalled && is_left(left, 2, "refused usage\n", PUT_LOG)
 }
 
 const OTHER_WORDS: &[&[&str]] = &[
@@ -46,14 +41,9 @@ const OTHER_WORDS: &[&[&str]] = &[
     &["trial", "log", "1", "1", "--bucket", "4"],
 ];
 
-fn refuses_words<R: Abort + Threads + Wait + Sync>(rt: &R, alloc: Global) -> Result<(), Fail> {
-    for words in OTHER_WORDS {
-        assert_so!(rt; is_usage(rt, alloc, words));
-    }
-    Ok(())
-}
-
 #[test]
-fn other_words_are_usage_and_touch_nothing(rt: HostRuntime) -> Result<(), Fail> {
-    refuses_words(&rt, rt.alloc())
+fn other_words_are_usage_and_touch_nothing(rt: HostRuntime) {
+    for words in OTHER_WORDS {
+        assert_so!(rt; is_usage(&rt, rt.alloc(), words));
+    }
 }

@@ -6,7 +6,6 @@ use disk_mem::{DiskCall, Fail as Failing};
 use std::alloc::{AllocError, Global};
 use std::process::Abort;
 use std::sync::Wait;
-use std::test::Fail;
 use std::thread::Threads;
 use zorder::{Placed, Point};
 
@@ -205,43 +204,46 @@ const SPLITS: [(u64, u64, usize); 9] = [
 ];
 
 // Whether a file is found to be a log of the first so many records.
-fn is_found(alloc: Global, file: &[u8], count: usize) -> Result<bool, Fail> {
+fn is_found<R: Abort>(rt: &R, alloc: Global, file: &[u8], count: usize) -> bool {
+    has_found(&found_in(rt, alloc, file), count)
+}
+
+fn has_found(found: &Found, count: usize) -> bool {
     let Found::State {
         cells,
         begun,
         unfinished,
         leaves,
         objects,
-    } = found_in(alloc, file)?
+    } = found
     else {
-        return Ok(false);
+        return false;
     };
-    let is_split = SPLITS.get(count) == Some(&(begun, unfinished, leaves));
-    Ok(is_split && cells == count as u64 && are_objects(objects.as_slice(), count))
+    let is_split = SPLITS.get(count) == Some(&(*begun, *unfinished, *leaves));
+    is_split && *cells == count as u64 && are_objects(objects.as_slice(), count)
 }
 
 // Fails unless `inspect` finds in each image of a run over a log of no records what the records in it say.
-fn inspect_images<R: Abort>(rt: &R, alloc: Global, left: &Left) -> Result<(), Fail> {
+fn inspect_images<R: Abort>(rt: &R, alloc: Global, left: &Left) {
     let mut last: &[u8] = &[];
     for image in left.images.iter() {
         let bytes = image.bytes.as_slice();
         if bytes != last {
             let count = front(bytes, WHOLE).unwrap_or(9);
-            let is_found = is_found(alloc, bytes, count)?;
+            let is_found = is_found(rt, alloc, bytes, count);
             must(rt, is_found, "found at moment", image.moment);
         }
         last = bytes;
     }
-    Ok(())
 }
 
 // Plays the rows over a file with these calls failing.
-fn play<R: Threads + Wait + Sync>(
+fn play<R: Abort + Threads + Wait + Sync>(
     rt: &R,
     alloc: Global,
     file: &[u8],
     calls: &[Failing],
-) -> Result<Left, Fail> {
+) -> Left {
     let plan = Plan {
         words: &["play", "log", "--bucket", "4"],
         input: INPUT,
@@ -254,16 +256,11 @@ fn play<R: Threads + Wait + Sync>(
 }
 
 // Plays the rows over a file that has the first so many records, where no call fails.
-fn play_over<R: Threads + Wait + Sync + Abort>(
-    rt: &R,
-    alloc: Global,
-    file: &[u8],
-    first: usize,
-) -> Result<(), Fail> {
-    let left = play(rt, alloc, file, &[])?;
+fn play_over<R: Abort + Threads + Wait + Sync>(rt: &R, alloc: Global, file: &[u8], first: usize) {
+    let left = play(rt, alloc, file, &[]);
     let records = records_over(first);
-    let output = output(alloc, first)?;
-    let log = log_of(alloc, records, &[0])?;
+    let output = output(alloc, first).expect(rt, "it failed");
+    let log = log_of(alloc, records, &[0]).expect(rt, "it failed");
     let is_whole = left.file.as_slice() == log.as_slice();
     must(rt, left.tells(0, &output), "lines over", first as u64);
     must(rt, is_whole, "file over", first as u64);
@@ -274,25 +271,19 @@ fn play_over<R: Threads + Wait + Sync + Abort>(
         is_closed: false,
     };
     judge_images(rt, &trial, &left);
-    Ok(())
 }
 
 // Plays the rows again over each image that a crash may leave at the end of a run.
-fn play_again<R: Threads + Wait + Sync + Abort>(
-    rt: &R,
-    alloc: Global,
-    left: &Left,
-) -> Result<(), Fail> {
+fn play_again<R: Abort + Threads + Wait + Sync>(rt: &R, alloc: Global, left: &Left) {
     let mut last: &[u8] = &[];
     for image in left.images.iter() {
         let bytes = image.bytes.as_slice();
         if image.moment == left.moments && bytes != last {
             let first = front(bytes, WHOLE).unwrap_or(9);
-            play_over(rt, alloc, bytes, first)?;
+            play_over(rt, alloc, bytes, first);
             last = bytes;
         }
     }
-    Ok(())
 }
 
 // The cell of the append that a failing call belongs to: an append has two writes and two syncs, and opening one sync.
@@ -312,14 +303,8 @@ fn line_of(alloc: Global, cell: Option<u64>) -> Result<String, AllocError> {
 }
 
 // Judges a run whose call failed by the cell of its append, if it has one.
-fn judge_failed<R: Abort>(
-    rt: &R,
-    alloc: Global,
-    left: &Left,
-    cell: Option<u64>,
-    number: u64,
-) -> Result<(), Fail> {
-    let line = line_of(alloc, cell)?;
+fn judge_failed<R: Abort>(rt: &R, alloc: Global, left: &Left, cell: Option<u64>, number: u64) {
+    let line = line_of(alloc, cell).expect(rt, "it failed");
     must(rt, left.tells(7, &line), "line of call", number);
     let is_opened = cell.is_some() || left.events.is_empty();
     must(rt, is_opened, "history of call", number);
@@ -330,37 +315,33 @@ fn judge_failed<R: Abort>(
         is_closed: cell.is_some(),
     };
     judge_images(rt, &trial, left);
-    inspect_images(rt, alloc, left)
+    inspect_images(rt, alloc, left);
 }
 
 // Lets each call of a kind fail in turn, until a run of that kind has nothing that fails. It gives how many failed.
-fn fail_each<R: Threads + Wait + Sync + Abort>(
-    rt: &R,
-    alloc: Global,
-    call: DiskCall,
-) -> Result<u64, Fail> {
+fn fail_each<R: Abort + Threads + Wait + Sync>(rt: &R, alloc: Global, call: DiskCall) -> u64 {
     for number in 1..100 {
-        let left = play(rt, alloc, EMPTY_LOG, &[Failing { call, number }])?;
+        let left = play(rt, alloc, EMPTY_LOG, &[Failing { call, number }]);
         if left.status == 0 {
-            return Ok(number.saturating_sub(1));
+            return number.saturating_sub(1);
         }
-        judge_failed(rt, alloc, &left, cell_of(call, number), number)?;
-        play_again(rt, alloc, &left)?;
+        judge_failed(rt, alloc, &left, cell_of(call, number), number);
+        play_again(rt, alloc, &left);
     }
-    Err(Fail::new("a run fails for ever"))
+    rt.panic("a run fails for ever")
 }
 
 // Where no call fails, the lines, the file and each image are as they are over a log of no records; and again over each image of the end.
-fn fail_none<R: Threads + Wait + Sync + Abort>(rt: &R, alloc: Global) -> Result<(), Fail> {
-    play_over(rt, alloc, EMPTY_LOG, 0)?;
-    let left = play(rt, alloc, EMPTY_LOG, &[])?;
-    inspect_images(rt, alloc, &left)?;
-    play_again(rt, alloc, &left)
+fn fail_none<R: Abort + Threads + Wait + Sync>(rt: &R, alloc: Global) {
+    play_over(rt, alloc, EMPTY_LOG, 0);
+    let left = play(rt, alloc, EMPTY_LOG, &[]);
+    inspect_images(rt, alloc, &left);
+    play_again(rt, alloc, &left);
 }
 
 // How many calls a play makes. An append has two writes and two syncs, and there are eight; opening has one sync, and cuts nothing where
 // the log ends with its commit byte.
-const PLAY_CALLS: [(DiskCall, u64); 6] = [
+const PLAY_CALLS: &[(DiskCall, u64)] = &[
     (DiskCall::Attach, 1),
     (DiskCall::Len, 1),
     (DiskCall::Read, 2),
@@ -369,27 +350,26 @@ const PLAY_CALLS: [(DiskCall, u64); 6] = [
     (DiskCall::Sync, 17),
 ];
 
-fn every_call<R: Threads + Wait + Sync + Abort>(rt: &R, alloc: Global) -> Result<(), Fail> {
-    fail_none(rt, alloc)?;
+fn every_call<R: Abort + Threads + Wait + Sync>(rt: &R, alloc: Global) {
+    fail_none(rt, alloc);
     for (call, count) in PLAY_CALLS {
-        let failed = fail_each(rt, alloc, call)?;
-        must(rt, failed == count, "how many calls failed", failed);
+        let failed = fail_each(rt, alloc, *call);
+        must(rt, failed == *count, "how many calls failed", failed);
     }
-    Ok(())
 }
 
 #[test]
-fn each_call_of_a_play_fails_in_turn_and_nothing_is_lost(rt: HostRuntime) -> Result<(), Fail> {
-    every_call(&rt, rt.alloc())
+fn each_call_of_a_play_fails_in_turn_and_nothing_is_lost(rt: HostRuntime) {
+    every_call(&rt, rt.alloc());
 }
 
 // Makes a log over a file with these calls failing.
-fn init<R: Threads + Wait + Sync>(
+fn init<R: Abort + Threads + Wait + Sync>(
     rt: &R,
     alloc: Global,
     file: &[u8],
     calls: &[Failing],
-) -> Result<Left, Fail> {
+) -> Left {
     let plan = Plan {
         words: &["init", "log"],
         input: "",
@@ -406,44 +386,39 @@ fn is_made(left: &Left) -> bool {
 }
 
 // Makes a log anew over each image of an init: it has at most 17 bytes, so that takes it.
-fn make_again<R: Threads + Wait + Sync + Abort>(
-    rt: &R,
-    alloc: Global,
-    left: &Left,
-) -> Result<(), Fail> {
+fn make_again<R: Abort + Threads + Wait + Sync>(rt: &R, alloc: Global, left: &Left) {
     let mut last: &[u8] = &[0; 18];
     for image in left.images.iter() {
         let bytes = image.bytes.as_slice();
         if bytes != last {
-            let again = init(rt, alloc, bytes, &[])?;
+            let again = init(rt, alloc, bytes, &[]);
             let is_made = bytes.len() <= 17 && is_made(&again);
             must(rt, is_made, "made again at", image.moment);
         }
         last = bytes;
     }
-    Ok(())
 }
 
 // Lets each call of a kind fail in turn in an init, as above.
-fn fail_each_of_init<R: Threads + Wait + Sync + Abort>(
+fn fail_each_of_init<R: Abort + Threads + Wait + Sync>(
     rt: &R,
     alloc: Global,
     call: DiskCall,
     file: &[u8],
-) -> Result<u64, Fail> {
+) -> u64 {
     for number in 1..10 {
-        let left = init(rt, alloc, file, &[Failing { call, number }])?;
-        make_again(rt, alloc, &left)?;
+        let left = init(rt, alloc, file, &[Failing { call, number }]);
+        make_again(rt, alloc, &left);
         if left.status == 0 {
             must(rt, is_made(&left), "made without call", number);
-            return Ok(number.saturating_sub(1));
+            return number.saturating_sub(1);
         }
         must(rt, left.tells(7, "refused disk\n"), "init, call", number);
     }
-    Err(Fail::new("an init fails for ever"))
+    rt.panic("an init fails for ever")
 }
 
-const INIT_CALLS: [(DiskCall, u64); 6] = [
+const INIT_CALLS: &[(DiskCall, u64)] = &[
     (DiskCall::Attach, 1),
     (DiskCall::Len, 1),
     (DiskCall::Read, 0),
@@ -452,23 +427,22 @@ const INIT_CALLS: [(DiskCall, u64); 6] = [
     (DiskCall::Sync, 1),
 ];
 
-fn every_call_of_init<R: Threads + Wait + Sync + Abort>(
-    rt: &R,
-    alloc: Global,
-    file: &[u8],
-) -> Result<(), Fail> {
+fn every_call_of_init<R: Abort + Threads + Wait + Sync>(rt: &R, alloc: Global, file: &[u8]) {
     for (call, count) in INIT_CALLS {
-        let failed = fail_each_of_init(rt, alloc, call, file)?;
-        must(rt, failed == count, "how many calls of init failed", failed);
+        let failed = fail_each_of_init(rt, alloc, *call, file);
+        must(
+            rt,
+            failed == *count,
+            "how many calls of init failed",
+            failed,
+        );
     }
-    Ok(())
 }
 
 #[test]
-fn each_call_of_an_init_fails_in_turn_and_it_can_be_run_again(rt: HostRuntime) -> Result<(), Fail> {
+fn each_call_of_an_init_fails_in_turn_and_it_can_be_run_again(rt: HostRuntime) {
     let files: [&[u8]; 4] = [b"", b"MDLOC", EMPTY_LOG, &[1; 17]];
     for file in files {
-        every_call_of_init(&rt, rt.alloc(), file)?;
+        every_call_of_init(&rt, rt.alloc(), file);
     }
-    Ok(())
 }

@@ -4,7 +4,6 @@ use crate::hostile::runs::{Found, Left, Plan, found_in, must, run_plan};
 use std::alloc::{AllocError, Global};
 use std::process::Abort;
 use std::sync::Wait;
-use std::test::Fail;
 use std::thread::Threads;
 
 // What is to be found: a line that refuses the file, or four counts with the splits begun and the objects listed.
@@ -200,13 +199,13 @@ fn file_of(alloc: Global, damage: &Damage) -> Result<Vec<u8>, AllocError> {
     Ok(file)
 }
 
-fn is_found(alloc: Global, file: &[u8], want: Want) -> Result<bool, Fail> {
-    let found = found_in(alloc, file)?;
+fn is_found<R: Abort>(rt: &R, alloc: Global, file: &[u8], want: Want) -> bool {
+    let found = found_in(rt, alloc, file);
     match &found {
-        Found::Refused(line) => Ok(is_line(want, line)),
+        Found::Refused(line) => is_line(want, line),
         Found::State { begun, .. } => {
-            let counts = counts_of(alloc, &found)?;
-            Ok(has_counts(want, *begun, &counts))
+            let counts = counts_of(alloc, &found).expect(rt, "it failed");
+            has_counts(want, *begun, &counts)
         }
     }
 }
@@ -246,12 +245,12 @@ fn counts_of(alloc: Global, found: &Found) -> Result<String, AllocError> {
     }
 }
 
-fn ask<R: Threads + Wait + Sync>(
+fn ask<R: Abort + Threads + Wait + Sync>(
     rt: &R,
     alloc: Global,
     words: &[&str],
     file: &[u8],
-) -> Result<Left, Fail> {
+) -> Left {
     let plan = Plan {
         words,
         input: "session,op,id,x,y,a,b\n1,where,7,,,,\n",
@@ -299,7 +298,7 @@ const SHOW: Reading = Reading {
     what: "show of file",
 };
 
-fn judge_read<R: Threads + Wait + Sync + Abort>(
+fn judge_read<R: Abort + Threads + Wait + Sync>(
     rt: &R,
     alloc: Global,
     number: u64,
@@ -307,8 +306,8 @@ fn judge_read<R: Threads + Wait + Sync + Abort>(
     reading: &Reading,
     want: Want,
     rest: &str,
-) -> Result<(), Fail> {
-    let left = ask(rt, alloc, reading.words, file)?;
+) {
+    let left = ask(rt, alloc, reading.words, file);
     let is_written = wrote(&left, want, reading.title, rest);
     must(rt, is_written, reading.what, number);
     must(
@@ -317,16 +316,15 @@ fn judge_read<R: Threads + Wait + Sync + Abort>(
         "bytes behind a read of file",
         number,
     );
-    Ok(())
 }
 
-fn judge_reads<R: Threads + Wait + Sync + Abort>(
+fn judge_reads<R: Abort + Threads + Wait + Sync>(
     rt: &R,
     alloc: Global,
     number: u64,
     file: &[u8],
     want: Want,
-) -> Result<(), Fail> {
+) {
     let (counts, objects) = match want {
         Want::Refused(_) => ("", ""),
         Want::Found {
@@ -335,9 +333,9 @@ fn judge_reads<R: Threads + Wait + Sync + Abort>(
             ..
         } => (counts, objects),
     };
-    must(rt, is_found(alloc, file, want)?, "found of file", number);
-    judge_read(rt, alloc, number, file, &CHECK, want, counts)?;
-    judge_read(rt, alloc, number, file, &SHOW, want, objects)
+    must(rt, is_found(rt, alloc, file, want), "found of file", number);
+    judge_read(rt, alloc, number, file, &CHECK, want, counts);
+    judge_read(rt, alloc, number, file, &SHOW, want, objects);
 }
 
 // Whether a refused play left the file and no history, and a crash leaves the file at each moment.
@@ -346,37 +344,35 @@ fn is_kept(left: &Left, file: &[u8]) -> bool {
     is_same && left.events.is_empty() && left.file.as_slice() == file
 }
 
-fn judge_play<R: Threads + Wait + Sync + Abort>(
+fn judge_play<R: Abort + Threads + Wait + Sync>(
     rt: &R,
     alloc: Global,
     number: u64,
     file: &[u8],
     want: Want,
-) -> Result<(), Fail> {
+) {
     let answer = match want {
         Want::Found { objects, .. } if !objects.is_empty() => "1,1,at,3:5\n",
         _ => "1,1,absent,\n",
     };
-    let left = ask(rt, alloc, &["play", "log"], file)?;
+    let left = ask(rt, alloc, &["play", "log"], file);
     let is_written = wrote(&left, want, "row,place,answer,detail\n", answer);
     must(rt, is_written, "lines of a play of file", number);
     if let Want::Refused(_) = want {
         must(rt, is_kept(&left, file), "play of file", number);
     }
-    Ok(())
 }
 
-fn each_file<R: Threads + Wait + Sync + Abort>(rt: &R, alloc: Global) -> Result<(), Fail> {
+fn each_file<R: Abort + Threads + Wait + Sync>(rt: &R, alloc: Global) {
     for (number, damage) in FILES.iter().enumerate() {
-        let file = file_of(alloc, damage)?;
+        let file = file_of(alloc, damage).expect(rt, "it failed");
         let Damage(_, _, _, want) = *damage;
-        judge_reads(rt, alloc, number as u64, file.as_slice(), want)?;
-        judge_play(rt, alloc, number as u64, file.as_slice(), want)?;
+        judge_reads(rt, alloc, number as u64, file.as_slice(), want);
+        judge_play(rt, alloc, number as u64, file.as_slice(), want);
     }
-    Ok(())
 }
 
 #[test]
-fn each_damaged_log_has_its_line_under_each_command(rt: HostRuntime) -> Result<(), Fail> {
-    each_file(&rt, rt.alloc())
+fn each_damaged_log_has_its_line_under_each_command(rt: HostRuntime) {
+    each_file(&rt, rt.alloc());
 }

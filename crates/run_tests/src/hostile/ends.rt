@@ -5,7 +5,6 @@ use disk_mem::{DiskCall, Fail as Failing};
 use std::alloc::{AllocError, Global};
 use std::process::Abort;
 use std::sync::Wait;
-use std::test::Fail;
 use std::thread::Threads;
 
 const ROWS: u32 = 9_000;
@@ -38,13 +37,13 @@ const PUT_7: Record = Record {
 const PLAY: &[&str] = &["play", "log"];
 
 // Plays rows with these reads and puts failing.
-fn play<R: Threads + Wait + Sync>(
+fn play<R: Abort + Threads + Wait + Sync>(
     rt: &R,
     alloc: Global,
     input: &str,
     reads: &[u64],
     puts: &[u64],
-) -> Result<Left, Fail> {
+) -> Left {
     let plan = Plan {
         words: PLAY,
         input,
@@ -56,49 +55,46 @@ fn play<R: Threads + Wait + Sync>(
     run_plan(rt, alloc, &plan)
 }
 
-fn each_read<R: Threads + Wait + Sync + Abort>(rt: &R, alloc: Global) -> Result<u64, Fail> {
-    let input = long_input(alloc)?;
+fn each_read<R: Abort + Threads + Wait + Sync>(rt: &R, alloc: Global) -> u64 {
+    let input = long_input(alloc).expect(rt, "it failed");
     for number in 1..20 {
-        let left = play(rt, alloc, &input, &[number], &[])?;
+        let left = play(rt, alloc, &input, &[number], &[]);
         if left.status == 0 {
-            return Ok(number.saturating_sub(1));
+            return number.saturating_sub(1);
         }
         let is_told = left.tells(5, "refused source\n");
         let is_untouched = left.events.is_empty() && left.moments == 0;
         must(rt, is_told && is_untouched, "read", number);
     }
-    Err(Fail::new("a source fails for ever"))
+    rt.panic("a source fails for ever")
 }
 
-fn each_put<R: Threads + Wait + Sync + Abort>(rt: &R, alloc: Global) -> Result<u64, Fail> {
-    let input = long_input(alloc)?;
-    let output = long_output(alloc)?;
-    let log = log_of(alloc, &[PUT_7], &[0])?;
+fn each_put<R: Abort + Threads + Wait + Sync>(rt: &R, alloc: Global) -> u64 {
+    let input = long_input(alloc).expect(rt, "it failed");
+    let output = long_output(alloc).expect(rt, "it failed");
+    let log = log_of(alloc, &[PUT_7], &[0]).expect(rt, "it failed");
     let mut least = 0;
     for number in 1..20 {
-        let left = play(rt, alloc, &input, &[], &[number])?;
+        let left = play(rt, alloc, &input, &[], &[number]);
         let taken = left.taken.as_slice();
         let is_kept = left.file.as_slice() == log.as_slice() && left.events.len() == ROWS as usize;
         must(rt, is_kept, "put", number);
         if left.status == 0 {
             must(rt, taken == output.as_bytes(), "all lines of put", number);
-            return Ok(number.saturating_sub(1));
+            return number.saturating_sub(1);
         }
         let is_front = output.as_bytes().starts_with(taken) && taken.len() >= least;
         must(rt, left.status == 6 && is_front, "lines of put", number);
         least = taken.len().saturating_add(1);
     }
-    Err(Fail::new("a sink fails for ever"))
+    rt.panic("a sink fails for ever")
 }
 
 #[test]
-fn a_failing_source_is_status_5_and_a_failing_sink_6_at_each_call(
-    rt: HostRuntime,
-) -> Result<(), Fail> {
+fn a_failing_source_is_status_5_and_a_failing_sink_6_at_each_call(rt: HostRuntime) {
     // Two pieces and the end of the input; three pieces of output.
-    assert_eq!(rt; each_read(&rt, rt.alloc())?, 3);
-    assert_eq!(rt; each_put(&rt, rt.alloc())?, 3);
-    Ok(())
+    assert_eq!(rt; each_read(&rt, rt.alloc()), 3);
+    assert_eq!(rt; each_put(&rt, rt.alloc()), 3);
 }
 
 // What is refused, by its status and its line.
@@ -185,12 +181,12 @@ const REFUSED: &[Refused] = &[
     },
 ];
 
-fn run_refused<R: Threads + Wait + Sync>(
+fn run_refused<R: Abort + Threads + Wait + Sync>(
     rt: &R,
     alloc: Global,
     refused: &Refused,
     puts: &[u64],
-) -> Result<Left, Fail> {
+) -> Left {
     let plan = Plan {
         words: refused.words,
         input: refused.input,
@@ -202,18 +198,17 @@ fn run_refused<R: Threads + Wait + Sync>(
     run_plan(rt, alloc, &plan)
 }
 
-fn each_refusal<R: Threads + Wait + Sync + Abort>(rt: &R, alloc: Global) -> Result<(), Fail> {
+fn each_refusal<R: Abort + Threads + Wait + Sync>(rt: &R, alloc: Global) {
     for refused in REFUSED {
         let (status, line) = (refused.status, refused.line);
-        let left = run_refused(rt, alloc, refused, &[])?;
+        let left = run_refused(rt, alloc, refused, &[]);
         must(rt, left.tells(status, line), line, 0);
-        let left = run_refused(rt, alloc, refused, &[1])?;
+        let left = run_refused(rt, alloc, refused, &[1]);
         must(rt, left.tells(status, ""), line, 1);
     }
-    Ok(())
 }
 
 #[test]
-fn a_refusal_whose_line_is_not_taken_keeps_its_status(rt: HostRuntime) -> Result<(), Fail> {
-    each_refusal(&rt, rt.alloc())
+fn a_refusal_whose_line_is_not_taken_keeps_its_status(rt: HostRuntime) {
+    each_refusal(&rt, rt.alloc());
 }

@@ -6,7 +6,6 @@ use std::alloc::Global;
 use std::process::Abort;
 use std::sync::Wait;
 use std::sync::atomic::{AtomicBool, AtomicU64, Ordering};
-use std::test::Fail;
 use std::thread::{Threads, yield_now};
 use zorder::Point;
 
@@ -63,12 +62,12 @@ impl Gate for Meeting {
     }
 }
 
-fn meet<R: Threads + Wait + Sync + Abort>(
+fn meet<R: Abort + Threads + Wait + Sync>(
     rt: &R,
     alloc: Global,
     point: GatePoint,
     input: &str,
-) -> Result<Left, Fail> {
+) -> Left {
     let meeting = Meeting::at(point);
     let plan = Plan {
         words: &["play", "log", "--bucket", "4"],
@@ -78,34 +77,33 @@ fn meet<R: Threads + Wait + Sync + Abort>(
         puts: &[],
         calls: &[],
     };
-    let left = run_with(rt, alloc, &plan, &meeting)?;
+    let left = run_with(rt, alloc, &plan, &meeting);
     let status = left.status as u64;
     let gave_up = meeting.gave_up.load(Ordering::SeqCst);
     must(rt, !gave_up, "a lane gave up, with status", status);
     let arrivals = meeting.arrivals.load(Ordering::SeqCst);
     must(rt, arrivals > 0, "how often lane 1 came:", arrivals);
     must(rt, status == 0, "status", status);
-    Ok(left)
+    left
 }
 
 // A query holds no lock while it is answered, and its answer is the one at its place.
-fn query_beside_put<R: Threads + Wait + Sync + Abort>(rt: &R, alloc: Global) -> Result<(), Fail> {
+fn query_beside_put<R: Abort + Threads + Wait + Sync>(rt: &R, alloc: Global) {
     let input = "session,op,id,x,y,a,b\n1,box,,0,0,10,10\n2,where,9,,,,\n2,put,9,3,5,,\n";
-    let left = meet(rt, alloc, GatePoint::Taken, input)?;
+    let left = meet(rt, alloc, GatePoint::Taken, input);
     let taken = left.taken.as_slice();
     let first = b"row,place,answer,detail\n1,1,found,\n2,2,absent,\n3,3,done,\n".as_slice();
     let second = b"row,place,answer,detail\n1,2,found,\n2,1,absent,\n3,3,done,\n".as_slice();
     must(rt, taken == first || taken == second, "lines of lanes", 2);
-    Ok(())
 }
 
 // A put goes on between the begin and the install of its leaf's split.
-fn put_beside_split<R: Threads + Wait + Sync + Abort>(rt: &R, alloc: Global) -> Result<(), Fail> {
+fn put_beside_split<R: Abort + Threads + Wait + Sync>(rt: &R, alloc: Global) {
     const HALF: u32 = 1 << 31;
     let input =
         "session,op,id,x,y,a,b\n1,put,1,0,0,,\n1,put,2,2147483648,0,,\n1,put,3,0,2147483648,,\n\
         1,put,4,2147483648,2147483648,,\n1,put,5,1,1,,\n2,where,9,,,,\n2,put,9,2147483648,0,,\n";
-    let left = meet(rt, alloc, GatePoint::Begun, input)?;
+    let left = meet(rt, alloc, GatePoint::Begun, input);
     let put = |id, x, y| Record::at(PUT, id, Point { x, y });
     let records = [
         put(1, 0, 0),
@@ -119,13 +117,12 @@ fn put_beside_split<R: Threads + Wait + Sync + Abort>(rt: &R, alloc: Global) -> 
     ];
     let is_whole = front(left.file.as_slice(), &records) == Some(8);
     must(rt, is_whole, "how many records are wanted:", 8);
-    Ok(())
 }
 
 #[test]
-fn queries_and_splits_let_other_lanes_go_on(rt: HostRuntime) -> Result<(), Fail> {
-    query_beside_put(&rt, rt.alloc())?;
-    put_beside_split(&rt, rt.alloc())
+fn queries_and_splits_let_other_lanes_go_on(rt: HostRuntime) {
+    query_beside_put(&rt, rt.alloc());
+    put_beside_split(&rt, rt.alloc());
 }
 
 // Each of two lanes tells that it has its first answer, and waits until the other tells so too.
@@ -153,7 +150,7 @@ impl Gate for Greeting {
     }
 }
 
-fn greet<R: Threads + Wait + Sync + Abort>(rt: &R, alloc: Global) -> Result<(), Fail> {
+fn greet<R: Abort + Threads + Wait + Sync>(rt: &R, alloc: Global) {
     let greeting = Greeting {
         first: AtomicU64::new(0),
         second: AtomicU64::new(0),
@@ -167,15 +164,14 @@ fn greet<R: Threads + Wait + Sync + Abort>(rt: &R, alloc: Global) -> Result<(), 
         puts: &[],
         calls: &[],
     };
-    let left = run_with(rt, alloc, &plan, &greeting)?;
+    let left = run_with(rt, alloc, &plan, &greeting);
     let status = left.status as u64;
     must(rt, status == 0, "status", status);
     let gave_up = greeting.gave_up.load(Ordering::SeqCst);
     must(rt, !gave_up, "a lane gave up, with status", status);
-    Ok(())
 }
 
 #[test]
-fn two_lanes_see_each_other_under_way(rt: HostRuntime) -> Result<(), Fail> {
-    greet(&rt, rt.alloc())
+fn two_lanes_see_each_other_under_way(rt: HostRuntime) {
+    greet(&rt, rt.alloc());
 }

@@ -7,7 +7,6 @@ use plain_list::{Entry, Lost, Op};
 use std::alloc::{AllocError, Global};
 use std::process::Abort;
 use std::sync::Wait;
-use std::test::Fail;
 use std::thread::Threads;
 use zorder::Point;
 
@@ -144,19 +143,19 @@ impl Tale {
         self.change(record)
     }
 
-    fn add(&mut self, alloc: Global, event: &Entry) -> Result<(), Fail> {
+    fn add<R: Abort>(&mut self, rt: &R, alloc: Global, event: &Entry) {
         match *event {
             Entry::Call { session, row, op } if self.is_next(session, row, &op) => {
-                Ok(self.call(alloc, row, &op)?)
+                self.call(alloc, row, &op).expect(rt, "it failed");
             }
             Entry::Fail {
                 lost: Lost::Call { op, .. },
                 ..
             } => {
                 let Reply(_, _, record) = reply_of(self.object, &op);
-                Ok(self.change(record)?)
+                self.change(record).expect(rt, "it failed");
             }
-            _ => Err(Fail::new("neither a session's next row nor a failed one")),
+            _ => rt.panic("neither a session's next row nor a failed one"),
         }
     }
 
@@ -170,21 +169,21 @@ impl Tale {
 }
 
 // Tells the history of a run of so many rows of each session.
-fn told(alloc: Global, each: u32, events: &[Entry]) -> Result<Tale, Fail> {
-    let mut tale = Tale::new(alloc, each)?;
+fn told<R: Abort>(rt: &R, alloc: Global, each: u32, events: &[Entry]) -> Tale {
+    let mut tale = Tale::new(alloc, each).expect(rt, "it failed");
     for event in events {
-        tale.add(alloc, event)?;
+        tale.add(rt, alloc, event);
     }
-    Ok(tale)
+    tale
 }
 
 // Plays rows over a log of no records with these calls failing.
-fn play<R: Threads + Wait + Sync>(
+fn play<R: Abort + Threads + Wait + Sync>(
     rt: &R,
     alloc: Global,
     input: &str,
     calls: &[Failing],
-) -> Result<Left, Fail> {
+) -> Left {
     let plan = Plan {
         words: &["play", "log", "--bucket", "4"],
         input,
@@ -207,17 +206,17 @@ fn judge<R: Abort>(rt: &R, tale: &Tale, left: &Left, is_closed: bool) {
 }
 
 // A run of so many rows of each session, where nothing fails. It gives how many records it left.
-fn race<R: Threads + Wait + Sync + Abort>(
+fn race<R: Abort + Threads + Wait + Sync>(
     rt: &R,
     alloc: Global,
     input: &str,
     each: u32,
     round: u64,
-) -> Result<usize, Fail> {
-    let left = play(rt, alloc, input, &[])?;
-    let tale = told(alloc, each, left.events.as_slice())?;
-    let output = tale.output(alloc)?;
-    let log = log_of(alloc, tale.records.as_slice(), &[0])?;
+) -> usize {
+    let left = play(rt, alloc, input, &[]);
+    let tale = told(rt, alloc, each, left.events.as_slice());
+    let output = tale.output(alloc).expect(rt, "it failed");
+    let log = log_of(alloc, tale.records.as_slice(), &[0]).expect(rt, "it failed");
     must(
         rt,
         tale.place == tale.lines.len() as u64,
@@ -228,68 +227,59 @@ fn race<R: Threads + Wait + Sync + Abort>(
     let is_held = left.file.as_slice() == log.as_slice();
     must(rt, is_held, "file of round", round);
     judge(rt, &tale, &left, false);
-    Ok(tale.records.len())
+    tale.records.len()
 }
 
-fn race_puts<R: Threads + Wait + Sync + Abort>(rt: &R, alloc: Global) -> Result<(), Fail> {
-    let input = puts(alloc)?;
+fn race_puts<R: Abort + Threads + Wait + Sync>(rt: &R, alloc: Global) {
+    let input = puts(alloc).expect(rt, "it failed");
     for round in 0..20 {
-        let count = race(rt, alloc, &input, 1, round)?;
+        let count = race(rt, alloc, &input, 1, round);
         must(rt, count == 1, "records of round", round);
     }
-    Ok(())
 }
 
 #[test]
-fn one_put_of_one_id_is_done_of_16_sessions(rt: HostRuntime) -> Result<(), Fail> {
-    race_puts(&rt, rt.alloc())
+fn one_put_of_one_id_is_done_of_16_sessions(rt: HostRuntime) {
+    race_puts(&rt, rt.alloc());
 }
 
-fn race_changes<R: Threads + Wait + Sync + Abort>(rt: &R, alloc: Global) -> Result<(), Fail> {
-    let input = changes(alloc)?;
+fn race_changes<R: Abort + Threads + Wait + Sync>(rt: &R, alloc: Global) {
+    let input = changes(alloc).expect(rt, "it failed");
     for round in 0..20 {
-        race(rt, alloc, &input, 4, round)?;
+        race(rt, alloc, &input, 4, round);
     }
-    Ok(())
 }
 
 #[test]
-fn sixteen_sessions_on_one_id_have_one_history(rt: HostRuntime) -> Result<(), Fail> {
-    race_changes(&rt, rt.alloc())
+fn sixteen_sessions_on_one_id_have_one_history(rt: HostRuntime) {
+    race_changes(&rt, rt.alloc());
 }
 
 // A run where a sync fails. Whichever session drops the id first has moved it before, behind a put: at least three appends, each with two
 // syncs, behind the one of opening.
-fn race_and_fail<R: Threads + Wait + Sync + Abort>(
-    rt: &R,
-    alloc: Global,
-    input: &str,
-    round: u64,
-) -> Result<(), Fail> {
+fn race_and_fail<R: Abort + Threads + Wait + Sync>(rt: &R, alloc: Global, input: &str, round: u64) {
     let cell = round % 6 / 2;
     let failing = Failing {
         call: DiskCall::Sync,
         number: (round % 6).saturating_add(2),
     };
-    let left = play(rt, alloc, input, &[failing])?;
-    let tale = told(alloc, 4, left.events.as_slice())?;
-    let line = format!(in alloc; "refused disk cell {cell}\n")?;
+    let left = play(rt, alloc, input, &[failing]);
+    let tale = told(rt, alloc, 4, left.events.as_slice());
+    let line = format!(in alloc; "refused disk cell {cell}\n").expect(rt, "it failed");
     must(rt, left.tells(7, &line), "line of round", round);
     let is_counted = tale.records.len() as u64 == cell.saturating_add(1);
     must(rt, is_counted, "records of round", round);
     judge(rt, &tale, &left, true);
-    Ok(())
 }
 
-fn fail_each<R: Threads + Wait + Sync + Abort>(rt: &R, alloc: Global) -> Result<(), Fail> {
-    let input = changes(alloc)?;
+fn fail_each<R: Abort + Threads + Wait + Sync>(rt: &R, alloc: Global) {
+    let input = changes(alloc).expect(rt, "it failed");
     for round in 0..60 {
-        race_and_fail(rt, alloc, &input, round)?;
+        race_and_fail(rt, alloc, &input, round);
     }
-    Ok(())
 }
 
 #[test]
-fn a_failing_sync_ends_the_one_history_of_16_sessions(rt: HostRuntime) -> Result<(), Fail> {
-    fail_each(&rt, rt.alloc())
+fn a_failing_sync_ends_the_one_history_of_16_sessions(rt: HostRuntime) {
+    fail_each(&rt, rt.alloc());
 }

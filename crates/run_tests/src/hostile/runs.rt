@@ -11,7 +11,6 @@ use recovery::{OpenFault, Seen, inspect};
 use std::alloc::{AllocError, Global};
 use std::process::Abort;
 use std::sync::Wait;
-use std::test::Fail;
 use std::thread::Threads;
 use zorder::Placed;
 
@@ -58,52 +57,54 @@ pub fn must<R: Abort>(rt: &R, holds: bool, what: &str, number: u64) {
     assert!(rt; holds, "{what} {number}");
 }
 
-fn add_images(
-    alloc: Global,
+fn add_image<R: Abort>(
+    rt: &R,
     disk: &MemDisk,
     moment: u64,
+    len: u64,
+    fill: u8,
     images: &mut Vec<Image>,
-) -> Result<(), Fail> {
-    for len in [0, 1 << 40] {
-        for fill in [0, 1, 9] {
-            let bytes = disk.pick(moment, len, &[fill])?;
-            images.push(Image {
-                moment,
-                fill,
-                bytes,
-            })?;
-        }
-    }
-    Ok(())
+) {
+    let bytes = disk.pick(moment, len, &[fill]).expect(rt, "it failed");
+    let image = Image {
+        moment,
+        fill,
+        bytes,
+    };
+    must(rt, images.push(image).is_ok(), "memory at moment", moment);
 }
 
-fn images_of(alloc: Global, disk: &MemDisk) -> Result<Vec<Image>, Fail> {
+fn images_of<R: Abort>(rt: &R, alloc: Global, disk: &MemDisk) -> Vec<Image> {
     let mut images = Vec::new(alloc);
     for moment in 0..=disk.moments() {
-        add_images(alloc, disk, moment, &mut images)?;
+        for len in [0, 1 << 40] {
+            for fill in [0, 1, 9] {
+                add_image(rt, disk, moment, len, fill, &mut images);
+            }
+        }
     }
-    Ok(images)
+    images
 }
 
 // What a run over a drive in memory left.
-fn left_of(alloc: Global, left: &crate::memory::Left) -> Result<Left, Fail> {
-    Ok(Left {
+fn left_of<R: Abort>(rt: &R, alloc: Global, left: &crate::memory::Left) -> Left {
+    Left {
         status: left.status,
-        events: left.history().to_vec(alloc)?,
-        taken: left.taken.as_slice().to_vec(alloc)?,
-        file: left.file().to_vec(alloc)?,
+        events: left.history().to_vec(alloc).expect(rt, "it failed"),
+        taken: left.taken.to_vec(alloc).expect(rt, "it failed"),
+        file: left.file().to_vec(alloc).expect(rt, "it failed"),
         moments: left.disk.moments(),
-        images: images_of(alloc, &left.disk)?,
-    })
+        images: images_of(rt, alloc, &left.disk),
+    }
 }
 
 /// A run as planned, with this hook.
-pub fn run_with<R: Threads + Wait + Sync, G: Gate + Sync>(
+pub fn run_with<R: Abort + Threads + Wait + Sync, G: Gate + Sync>(
     rt: &R,
     alloc: Global,
     plan: &Plan<'_>,
     gate: &G,
-) -> Result<Left, Fail> {
+) -> Left {
     let Plan {
         words,
         input,
@@ -113,16 +114,12 @@ pub fn run_with<R: Threads + Wait + Sync, G: Gate + Sync>(
         calls,
     } = *plan;
     let faults = Faults { reads, puts, calls };
-    let left = run_gated(rt, alloc, words, input, file, &faults, gate)?;
-    left_of(alloc, &left)
+    let left = run_gated(rt, alloc, words, input, file, &faults, gate);
+    left_of(rt, alloc, &left)
 }
 
 /// A run as planned.
-pub fn run_plan<R: Threads + Wait + Sync>(
-    rt: &R,
-    alloc: Global,
-    plan: &Plan<'_>,
-) -> Result<Left, Fail> {
+pub fn run_plan<R: Abort + Threads + Wait + Sync>(rt: &R, alloc: Global, plan: &Plan<'_>) -> Left {
     run_with(rt, alloc, plan, &OpenGate)
 }
 
@@ -181,10 +178,15 @@ fn line_of(alloc: Global, fault: OpenFault) -> Result<String, AllocError> {
 }
 
 /// What is found in a file.
-pub fn found_in(alloc: Global, file: &[u8]) -> Result<Found, Fail> {
-    let mut disk = MemDisk::new(alloc, file.to_vec(alloc)?, 0, 16, Vec::new(alloc))?;
-    match inspect_any(alloc, &mut disk) {
-        Ok(seen) => Ok(state_of(alloc, &seen)?),
-        Err(fault) => Ok(Found::Refused(line_of(alloc, fault)?)),
+pub fn found_in<R: Abort>(rt: &R, alloc: Global, file: &[u8]) -> Found {
+    let file = file.to_vec(alloc).expect(rt, "it failed");
+    let disk = MemDisk::new(alloc, file, 0, 16, Vec::new(alloc));
+    found_on(rt, alloc, &mut disk.expect(rt, "it failed"))
+}
+
+fn found_on<R: Abort, D: LogDisk>(rt: &R, alloc: Global, disk: &mut D) -> Found {
+    match inspect_any(alloc, disk) {
+        Ok(seen) => state_of(alloc, &seen).expect(rt, "it failed"),
+        Err(fault) => Found::Refused(line_of(alloc, fault).expect(rt, "it failed")),
     }
 }

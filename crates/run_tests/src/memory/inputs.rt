@@ -10,8 +10,3 @@ pub fn words(alloc: Global, all: &[&str]) -> Result<Vec<String>, AllocError> {
     }
     Ok(words)
 }
-
-/// An input of these rows.
-pub fn text(alloc: Global, rows: &str) -> Result<String, AllocError> {
-    format!(in alloc; "{HEADER}{rows}")
-}

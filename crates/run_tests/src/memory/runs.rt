@@ -8,6 +8,7 @@ use disk_trait::LogDisk;
 use io_edge::{Gate, MemSink, MemSource, OpenGate, Sink, Source};
 use location_run::{Outcome, run};
 use std::alloc::Global;
+use std::process::Abort;
 use std::sync::Wait;
 use std::thread::Threads;
 use zorder::Memory;
@@ -21,19 +22,19 @@ const CALLS: usize = 1 << 14;
 const OUTPUT: usize = 1 << 18;
 
 /// A run of these words and this input over a file with these bytes.
-pub fn run_on<R: Threads + Wait + Sync>(
+pub fn run_on<R: Abort + Threads + Wait + Sync>(
     rt: &R,
     alloc: Global,
     all: &[&str],
     input: &str,
     file: &[u8],
     faults: &Faults<'_>,
-) -> Result<Left, Memory> {
+) -> Left {
     run_gated(rt, alloc, all, input, file, faults, &OpenGate)
 }
 
 /// The same with this hook.
-pub fn run_gated<R: Threads + Wait + Sync, G: Gate + Sync>(
+pub fn run_gated<R: Abort + Threads + Wait + Sync, G: Gate + Sync>(
     rt: &R,
     alloc: Global,
     all: &[&str],
@@ -41,21 +42,28 @@ pub fn run_gated<R: Threads + Wait + Sync, G: Gate + Sync>(
     file: &[u8],
     faults: &Faults<'_>,
     gate: &G,
-) -> Result<Left, Memory> {
-    let calls = faults.calls.to_vec(alloc)?;
-    let disk = MemDisk::new(alloc, file.to_vec(alloc)?, ROOM, CALLS, calls)?;
+) -> Left {
+    let calls = faults.calls.to_vec(alloc).expect(rt, "it failed");
+    let disk = MemDisk::new(
+        alloc,
+        file.to_vec(alloc).expect(rt, "it failed"),
+        ROOM,
+        CALLS,
+        calls,
+    )
+    .expect(rt, "it failed");
     run_disk(rt, alloc, all, input, disk, faults, gate)
 }
 
 /// The same over drives that fail at each call.
-pub fn run_apart<R: Threads + Wait + Sync>(
+pub fn run_apart<R: Abort + Threads + Wait + Sync>(
     rt: &R,
     alloc: Global,
     all: &[&str],
     input: &str,
     faults: &Faults<'_>,
-) -> Result<Left, Memory> {
-    let disk = failing_disk(alloc)?;
+) -> Left {
+    let disk = failing_disk(alloc).expect(rt, "it failed");
     run_over(rt, alloc, all, input, disk, faults)
 }
 
@@ -65,18 +73,18 @@ fn failing_disk(alloc: Global) -> Result<MemDisk, Memory> {
 }
 
 /// The same over a drive.
-pub fn run_over<R: Threads + Wait + Sync>(
+pub fn run_over<R: Abort + Threads + Wait + Sync>(
     rt: &R,
     alloc: Global,
     all: &[&str],
     input: &str,
     disk: MemDisk,
     faults: &Faults<'_>,
-) -> Result<Left, Memory> {
+) -> Left {
     run_disk(rt, alloc, all, input, disk, faults, &OpenGate)
 }
 
-fn run_disk<R: Threads + Wait + Sync, G: Gate + Sync>(
+fn run_disk<R: Abort + Threads + Wait + Sync, G: Gate + Sync>(
     rt: &R,
     alloc: Global,
     all: &[&str],
@@ -84,11 +92,11 @@ fn run_disk<R: Threads + Wait + Sync, G: Gate + Sync>(
     disk: MemDisk,
     faults: &Faults<'_>,
     gate: &G,
-) -> Result<Left, Memory> {
-    let words = words(alloc, all)?;
-    let source = source_of(alloc, input, faults.reads)?;
-    let sink = sink_of(alloc, faults.puts)?;
-    let other = NotingDisk::new(alloc, failing_disk(alloc)?);
+) -> Left {
+    let words = words(alloc, all).expect(rt, "it failed");
+    let source = source_of(alloc, input, faults.reads).expect(rt, "it failed");
+    let sink = sink_of(alloc, faults.puts).expect(rt, "it failed");
+    let other = NotingDisk::new(alloc, failing_disk(alloc).expect(rt, "it failed"));
     let disk = NotingDisk::new(alloc, disk);
     run_all(rt, alloc, words.as_slice(), source, sink, disk, other, gate)
 }
@@ -103,7 +111,13 @@ fn sink_of(alloc: Global, failing: &[u64]) -> Result<MemSink, Memory> {
 }
 
 // The one call of `run`, over any ends.
-fn run_ends<R: Threads + Wait + Sync, S: Source, K: Sink, D: LogDisk + Send, G: Gate + Sync>(
+fn run_ends<
+    R: Abort + Threads + Wait + Sync,
+    S: Source,
+    K: Sink,
+    D: LogDisk + Send,
+    G: Gate + Sync,
+>(
     rt: &R,
     alloc: Global,
     words: &[String],
@@ -116,7 +130,7 @@ fn run_ends<R: Threads + Wait + Sync, S: Source, K: Sink, D: LogDisk + Send, G: 
     run(rt, alloc, words, source, sink, disk, other, gate)
 }
 
-fn run_all<R: Threads + Wait + Sync, G: Gate + Sync>(
+fn run_all<R: Abort + Threads + Wait + Sync, G: Gate + Sync>(
     rt: &R,
     alloc: Global,
     words: &[String],
@@ -125,10 +139,10 @@ fn run_all<R: Threads + Wait + Sync, G: Gate + Sync>(
     disk: NotingDisk,
     other: NotingDisk,
     gate: &G,
-) -> Result<Left, Memory> {
+) -> Left {
     let outcome = run_ends(rt, alloc, words, &mut source, &mut sink, disk, other, gate);
-    let taken = sink.bytes().to_vec(alloc)?;
-    Ok(left_of(outcome, taken))
+    let taken = sink.bytes().to_vec(alloc).expect(rt, "it failed");
+    left_of(outcome, taken)
 }
 
 fn left_of(outcome: Outcome<NotingDisk>, taken: Vec<u8>) -> Left {
