@@ -1,5 +1,7 @@
 -- Passes that come together again at the end.
-use Rattle.std.specs.Prelude.{◌≡◌, false}
+use mathlib.Core.List.{IsPrefix}
+use Rattle.std.specs.Prelude.{◌≡◌, ◌++◌, List, [], ◌∷◌, length, false}
+use Rattle.plain_list.specs.declared.entries.Entry.{Entry}
 use Rattle.atomic_table.specs.Seated.{TableId}
 use Rattle.book_lock.specs.Pass.{Known}
 
@@ -10,3 +12,7 @@ IsFree lock pass = (pass.lock ≡ lock) × (pass.holds ≡ false)
 -- the pass is of the same lock, has as many parts, and holds the lock or not as before
 abbrev pub KeepsPass : Known → Known → Type 0
 KeepsPass old new = (new.lock ≡ old.lock) × (new.holds ≡ old.holds) × (new.parts ≡ old.parts)
+
+-- the pass has seen an entry last, behind all that it had seen, and owns its position
+abbrev pub HasAdded : Entry → Known → Known → Type 0
+HasAdded entry old new = (before : List Entry) × IsPrefix old.seen before × (new.seen ≡ before ++ entry ∷ []) × (new.own ≡ old.own ++ length before ∷ [])

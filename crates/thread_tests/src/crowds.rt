@@ -7,7 +7,6 @@ use plain_list::{Entries, Entry};
 use std::alloc::{AllocError, Global};
 use std::process::Abort;
 use std::sync::Wait;
-use std::test::*;
 use std::thread::Threads;
 
 const SESSIONS: u32 = 16;
@@ -76,16 +75,12 @@ fn splits_among_calls(events: &Entries) -> bool {
 }
 
 // Plays so many rows of each session: each row is answered, and leaves are split among the calls.
-fn a_crowd_is_answered<R: Threads + Wait + Abort + Sync>(
-    rt: &R,
-    alloc: Global,
-    rows: u32,
-) -> Result<(), Fail>
+fn a_crowd_is_answered<R: Threads + Wait + Abort + Sync>(rt: &R, alloc: Global, rows: u32)
     requires { rows ≤ 4000 }
 {
-    let left = play(rt, alloc, "64", crowd_text(alloc, rows)?, &OpenGate)?;
+    let text = crowd_text(alloc, rows).expect(rt, "it failed");
+    let left = play(rt, alloc, "64", text, &OpenGate);
     expect_all(rt, &left, SESSIONS as usize * rows as usize);
-    Ok(())
 }
 
 // So many rows are answered.
@@ -98,13 +93,11 @@ fn expect_all(rt: &impl Abort, left: &Left, all: usize) {
 }
 
 #[test]
-fn sixteen_sessions_of_400_rows_split_leaves_among_their_calls(
-    rt: HostRuntime,
-) -> Result<(), Fail> {
-    a_crowd_is_answered(&rt, rt.alloc(), 400)
+fn sixteen_sessions_of_400_rows_split_leaves_among_their_calls(rt: HostRuntime) {
+    a_crowd_is_answered(&rt, rt.alloc(), 400);
 }
 
 #[test]
-fn sixteen_sessions_of_4000_rows_are_all_answered(rt: HostRuntime) -> Result<(), Fail> {
-    a_crowd_is_answered(&rt, rt.alloc(), 4_000)
+fn sixteen_sessions_of_4000_rows_are_all_answered(rt: HostRuntime) {
+    a_crowd_is_answered(&rt, rt.alloc(), 4_000);
 }

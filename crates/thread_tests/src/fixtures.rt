@@ -5,9 +5,10 @@ use io_edge::{Gate, MemSink, MemSource, Sink, Source};
 use location_run::{Outcome, run};
 use plain_list::{Entries, Entry};
 use std::alloc::{AllocError, Global};
+use std::process::Abort;
 use std::sync::Wait;
-use std::test::Fail;
 use std::thread::Threads;
+use zorder::Memory;
 
 pub const HEADER: &str = "session,op,id,x,y,a,b\n";
 
@@ -30,29 +31,41 @@ fn words(alloc: Global, all: &[&str]) -> Result<Vec<String>, AllocError> {
     Ok(words)
 }
 
-fn no_drive(alloc: Global) -> Result<MemDisk, Fail> {
-    Ok(MemDisk::new(alloc, Vec::new(alloc), 0, 0, Vec::new(alloc))?)
+fn no_drive(alloc: Global) -> Result<MemDisk, Memory> {
+    MemDisk::new(alloc, Vec::new(alloc), 0, 0, Vec::new(alloc))
 }
 
 /// Plays an input without a log, with buckets of this size.
-pub fn play<R: Threads + Wait + Sync, G: Gate + Sync>(
+pub fn play<R: Abort + Threads + Wait + Sync, G: Gate + Sync>(
     rt: &R,
     alloc: Global,
     bucket: &str,
     input: Vec<u8>,
     gate: &G,
-) -> Result<Left, Fail> {
-    let words = words(alloc, &["play", "-", "--bucket", bucket])?;
+) -> Left {
+    let words = words(alloc, &["play", "-", "--bucket", bucket]).expect(rt, "it failed");
     let mut source = MemSource::new(input, Vec::new(alloc));
-    let mut sink = MemSink::new(alloc, ROOM, Vec::new(alloc))?;
-    let (disk, other) = (no_drive(alloc)?, no_drive(alloc)?);
-    let words = words.as_slice();
-    let (status, events) = run_over(rt, alloc, words, &mut source, &mut sink, disk, other, gate);
-    Ok(Left {
+    let mut sink = MemSink::new(alloc, ROOM, Vec::new(alloc)).expect(rt, "it failed");
+    let (status, events) = play_over(rt, alloc, words.as_slice(), &mut source, &mut sink, gate);
+    Left {
         status,
         events,
-        written: sink.bytes().to_vec(alloc)?,
-    })
+        written: sink.bytes().to_vec(alloc).expect(rt, "it failed"),
+    }
+}
+
+// The same over two drives of no room.
+fn play_over<R: Abort + Threads + Wait + Sync, S: Source, K: Sink, G: Gate + Sync>(
+    rt: &R,
+    alloc: Global,
+    words: &[String],
+    source: &mut S,
+    sink: &mut K,
+    gate: &G,
+) -> (u8, Entries) {
+    let disk = no_drive(alloc).expect(rt, "it failed");
+    let other = no_drive(alloc).expect(rt, "it failed");
+    run_over(rt, alloc, words, source, sink, disk, other, gate)
 }
 
 // The one call of `run`, over any ends.

@@ -1,11 +1,10 @@
 //! A lock around a sheet of entries: what one pass adds comes back, what another is told, and threads at once, also such as sleep at the
 //! lock. One that isn't woken would sleep for ever, and its test be stopped.
-ghost use Rattle.std.specs.Prelude.{◌≡◌, ℕ, ◌+◌, ◌<◌, ◌≤◌, ◌++◌, List, [], ◌∷◌, false, length, IfOk, MatchBool};
+ghost use Rattle.std.specs.Prelude.{◌≡◌, ℕ, ◌+◌, ◌<◌, ◌≤◌, ◌++◌, [], ◌∷◌, false, IfOk, MatchBool};
 ghost use Rattle.std.specs.Thread.{IsSync};
-ghost use mathlib.Core.List.{IsPrefix};
 ghost use Rattle.plain_list.specs.declared.entries.Entry.{Entry};
 ghost use Rattle.book_lock.specs.Ends.{Ends};
-ghost use Rattle.thread_tests.specs.Passes.{IsFree, KeepsPass};
+ghost use Rattle.thread_tests.specs.Passes.{HasAdded, IsFree, KeepsPass};
 
 use book_lock::{BookLock, Held, Pass};
 use plain_list::{Entry, Lost, Op};
@@ -107,7 +106,7 @@ fn add<R: Wait + Clock>(
     requires pass { IsFree lock.now pass.old }
     requires plain { (n : ℕ) → ¬ Ends entry n }
     ensures same { KeepsPass pass.old pass.new }
-    ensures added { MatchBool result ((before : List Entry) × IsPrefix pass.old.seen before × (pass.new.seen ≡ before ++ entry ∷ []) × (pass.new.own ≡ pass.old.own ++ length before ∷ [])) (pass.new.own ≡ pass.old.own) }
+    ensures added { MatchBool result (HasAdded entry pass.old pass.new) (pass.new.own ≡ pass.old.own) }
 {
     let mut sheet = lock.take(rt, pass);
     let pushed = sheet.push(entry);

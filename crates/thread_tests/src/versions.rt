@@ -16,12 +16,11 @@ use index_layer::Index;
 use io_edge::{Gate, GatePoint, OpenGate};
 use plain_list::{Answer, Op};
 use sessions::{CallFault, SharedBook, Store};
-use std::alloc::{AllocError, Global};
+use std::alloc::Global;
 use std::marker::Brand;
 use std::process::Abort;
 use std::sync::Wait;
 use std::sync::ledger::{Blank, Ledger};
-use std::test::*;
 use std::thread::{Threads, join_mut};
 use step_count::Steps;
 use zorder::{Placed, Point, Region};
@@ -235,22 +234,19 @@ fn late_reads<R: Threads + Wait + Abort + Sync, G: Gate + Sync>(
     alloc: Global,
     beside: bool,
     gate: &G,
-) -> Result<u64, Fail> {
+) -> u64 {
     let Ok(book) = Book::<Numbered<FlatIndex>, MemDisk>::fresh(alloc, 4) else {
-        return Err(AllocError.into());
+        rt.panic("memory ran out");
     };
     let Some((answer, index)) = asked(rt, alloc, book, beside, gate) else {
-        return Err(AllocError.into());
+        rt.panic("memory ran out");
     };
     assert_is!(rt; lists_the_first(&answer));
-    Ok(index.late_reads())
+    index.late_reads()
 }
 
 // Lane 1 has taken the index for its box, and stays until both puts of lane 2 were answered.
-fn puts_overtake_a_box<R: Threads + Wait + Abort + Sync>(
-    rt: &R,
-    alloc: Global,
-) -> Result<(), Fail> {
+fn puts_overtake_a_box<R: Threads + Wait + Abort + Sync>(rt: &R, alloc: Global) {
     let first = Turn {
         point: GatePoint::Answered,
         lane: 2,
@@ -264,20 +260,18 @@ fn puts_overtake_a_box<R: Threads + Wait + Abort + Sync>(
     let second = Turn { until: 0, ..first };
     let list = [first, taken, second];
     let turns = Turns::new(&list);
-    let late_reads = late_reads(rt, alloc, true, &turns)?;
+    let late_reads = late_reads(rt, alloc, true, &turns);
     holds(rt, turns.are_over(), "a lane waited for what didn't come");
     assert_is!(rt; late_reads > 0);
-    Ok(())
 }
 
 #[test]
-fn a_query_that_is_held_reads_an_older_version(rt: HostRuntime) -> Result<(), Fail> {
-    puts_overtake_a_box(&rt, rt.alloc())
+fn a_query_that_is_held_reads_an_older_version(rt: HostRuntime) {
+    puts_overtake_a_box(&rt, rt.alloc());
 }
 
 #[test]
-fn a_query_by_itself_reads_the_newest_version(rt: HostRuntime) -> Result<(), Fail> {
-    let late_reads = late_reads(&rt, rt.alloc(), false, &OpenGate)?;
+fn a_query_by_itself_reads_the_newest_version(rt: HostRuntime) {
+    let late_reads = late_reads(&rt, rt.alloc(), false, &OpenGate);
     assert_same!(rt; late_reads, 0);
-    Ok(())
 }
