@@ -6,7 +6,6 @@ use std::alloc::Global;
 use std::marker::Brand;
 use std::process::Abort;
 use std::sync::ledger::{Blank, Ledger};
-use std::test::*;
 use step_count::Steps;
 use zorder::Memory;
 

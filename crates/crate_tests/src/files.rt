@@ -7,8 +7,7 @@ use std::env::Env;
 use std::fs::Files;
 use std::path::PathBuf;
 use std::process::Abort;
-use std::test::Fail;
-use std::{fs, io, process};
+use std::{fs, process};
 
 fn attach<D: LogDisk>(
     disk: &mut D,

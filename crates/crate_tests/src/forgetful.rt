@@ -1,7 +1,6 @@
 //! A drive of whose content nothing is known can keep the trait's contract.
 use disk_trait::{AttachFault, DiskFault, LogDisk};
 use std::alloc::Global;
-use std::test::Fail;
 
 /// Takes every write and forgets it, and fails at each attach.
 #[derive(Drop)]

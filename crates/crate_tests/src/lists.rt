@@ -6,7 +6,6 @@ use plain_list::{
 };
 use std::alloc::{AllocError, Global};
 use std::process::Abort;
-use std::test::Fail;
 use zorder::{Memory, Placed, Point, Region};
 
 const ORIGIN: Point = Point { x: 0, y: 0 };

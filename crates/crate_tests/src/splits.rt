@@ -9,7 +9,6 @@ use split_prepare::{Prepared, SplitTicket, prepare};
 use std::alloc::Global;
 use std::process::Abort;
 use std::sync::Arc;
-use std::test::*;
 use zorder::{Memory, Name};
 
 const UPPER: u64 = 0x8000000000000000;

@@ -3,7 +3,6 @@ use crate::book::calls::TAKEN;
 use crate::book::steps::{Leaf, Step, Taken, follow_fresh};
 use disk_mem::MemDisk;
 use kd_trie::KdTrie;
-use zorder::Memory;
 
 // Puts objects in an open split, gives it up, and puts one more.
 const STEPS: &[Taken] = &[

@@ -2,7 +2,6 @@
 use crate::book::steps::{Step, Taken, follow_fresh};
 use disk_mem::MemDisk;
 use kd_trie::KdTrie;
-use zorder::Memory;
 
 // A snapshot that is kept over a put, and one behind it.
 const STEPS: &[Taken] = &[

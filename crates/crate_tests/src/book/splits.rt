@@ -4,7 +4,6 @@ use crate::book::steps::{Leaf, Step, Taken, follow_fresh};
 use commit_book::BookFault;
 use disk_mem::MemDisk;
 use kd_trie::KdTrie;
-use zorder::Memory;
 
 const STEPS: &[Taken] = &[
     (

@@ -10,7 +10,6 @@ use kd_trie::KdTrie;
 use plain_list::World;
 use std::alloc::Global;
 use std::process::Abort;
-use std::test::*;
 use zorder::{Memory, Name, Placed, Point, child};
 
 const HALF: u32 = 2_147_483_648;

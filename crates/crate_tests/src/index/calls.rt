@@ -9,7 +9,6 @@ use index_layer::{Index, IndexFault, Part};
 use kd_trie::KdTrie;
 use std::alloc::Global;
 use std::process::Abort;
-use std::test::*;
 use zorder::{Memory, Name, child};
 
 fn halves<I: Index>(rt: &impl Abort, alloc: Global) -> I

@@ -9,8 +9,6 @@ use index_layer::Index;
 use kd_trie::KdTrie;
 use std::alloc::Global;
 use std::process::Abort;
-use std::test::*;
-use zorder::Memory;
 
 const OBJECTS: u64 = 64;
 

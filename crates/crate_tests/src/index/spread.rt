@@ -11,7 +11,7 @@ use std::marker::Brand;
 use std::process::Abort;
 use std::sync::ledger::{Blank, Ledger};
 use step_count::Steps;
-use zorder::{Memory, Placed, Point, Region};
+use zorder::{Placed, Point, Region};
 
 const TOP: u32 = 4_294_967_295;
 

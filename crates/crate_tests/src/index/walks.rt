@@ -8,7 +8,6 @@ use index_layer::{Below, Index};
 use kd_trie::KdTrie;
 use std::alloc::Global;
 use std::process::Abort;
-use std::test::*;
 use zorder::{Memory, Name, Placed, Point, child};
 
 // The keys of the objects: their first bits are 000 and 001.

@@ -10,7 +10,6 @@ use std::alloc::Global;
 use std::fs::Files;
 use std::io;
 use std::process::Abort;
-use std::test::Fail;
 use zorder::Memory;
 
 // Makes a log in the file of this name, and appends a cell.
