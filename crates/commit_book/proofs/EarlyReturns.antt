@@ -2,12 +2,11 @@
 use Rattle.std.proofs.Common.{◌≡◌, ℕ, Option, None, Some, Result, Ok, Err, refl, sym, subst}
 use Rattle.std.specs.Prelude.{IsErrAnd, IfErr}
 use Rattle.disk_trait.specs.Drive.{Drive}
-use Rattle.plain_list.specs.declared.entries.Lost.{Lost}
 use Rattle.kept_log.specs.KeptView.{KeptView}
 use Rattle.kept_log.specs.Journal.{IsSinceIn}
 use Rattle.commit_book.specs.BookView.{BookView}
 use Rattle.commit_book.specs.IsBook.{IsBook, AreBooks}
-use Rattle.commit_book.specs.Refusals.{IsRefusedBy, IsNoFault, LeavesRefused}
+use Rattle.commit_book.specs.Refusals.{IsRefusedBy, IsNoFault}
 use Rattle.commit_book.specs.declared.faults.BookFault.{BookFault}
 use Rattle.commit_book.specs.declared.faults.BookFault.TheVariants.{Memory}
 
@@ -40,7 +39,3 @@ no_memory IsFree o (Err e) free none err = rw none (subst IsFree (sym err) free)
 -- and nothing did
 pub done_freely : {B : Type 0} (IsFree : BookFault → Type 0) (o : Option BookFault) (value : B) → o ≡ None → IsRefusedBy IsFree o (Ok value)
 done_freely IsFree o value none = rw none tt
-
-pub memory_leaves : {D B : Type 0} (drive : D → Drive) (lost : Lost) (old new : BookView D) (r : Result B BookFault) → IsErrAnd r (λ e. e ≡ Memory) → new ≡ old → IfErr r (LeavesRefused drive lost old new)
-memory_leaves drive lost old new (Ok x) err same = absurd err
-memory_leaves drive lost old new (Err e) err same = subst (LeavesRefused drive lost old new) (sym err) same

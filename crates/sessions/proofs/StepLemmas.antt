@@ -155,12 +155,6 @@ pub same-later : (a b c : Known) → SamePass a b → SamePass b c → SamePass 
 same-later a b c (p, q) (r, s) = (prefix-later a.seen b.seen c.seen p r, s ∙ (λ i. record (q i) { seen = c.seen; own = c.own }))
 
 -- the rest of such a pass
-pub same-lock : (a b : Known) → SamePass a b → b.lock ≡ a.lock
-same-lock a b (p, q) = ap (λ (k : Known). k.lock) q
-
-pub same-holds : (a b : Known) → SamePass a b → b.holds ≡ a.holds
-same-holds a b (p, q) = ap (λ (k : Known). k.holds) q
-
 pub same-parts : (a b : Known) → SamePass a b → b.parts ≡ a.parts
 same-parts a b (p, q) = ap (λ (k : Known). k.parts) q
 
