@@ -3,20 +3,10 @@ use Rattle.std.proofs.Common.{◌≡◌, ◌-◌, ◌==◌, ◌<◌, ◌∙◌, 
 use Rattle.std.specs.Int.{bit_at}
 use Rattle.zorder.specs.Bits.{low_bits}
 use Rattle.bucket_versions.specs.Rows.{Rows}
-use Rattle.kd_trie.specs.Tries.{Trie, fork, put_at, graft, changed_at, rows_at}
+use Rattle.kd_trie.specs.Tries.{Trie, fork, graft, changed_at, rows_at}
 
 again : (left : ℕ) → 0 < left → left ≡ suc (left - 1)
 again left some = omega (arith, some)
-
-pub put_one : (left key : ℕ) (b : Rows) (z o : Trie) → 0 < left → (bit_at key (left - 1) == 1) ≡ true → put_at (low_bits left key) b (fork z o) ≡ fork z (put_at (low_bits (left - 1) key) b o)
-put_one left key b z o some e =
-    let rest = low_bits (left - 1) key in
-    ap (λ (n : ℕ). put_at (low_bits n key) b (fork z o)) (again left some) ∙ (λ i. cond (e i) (fork z (put_at rest b o)) (fork (put_at rest b z) o))
-
-pub put_zero : (left key : ℕ) (b : Rows) (z o : Trie) → 0 < left → (bit_at key (left - 1) == 1) ≡ false → put_at (low_bits left key) b (fork z o) ≡ fork (put_at (low_bits (left - 1) key) b z) o
-put_zero left key b z o some e =
-    let rest = low_bits (left - 1) key in
-    ap (λ (n : ℕ). put_at (low_bits n key) b (fork z o)) (again left some) ∙ (λ i. cond (e i) (fork z (put_at rest b o)) (fork (put_at rest b z) o))
 
 pub changed_one : (left key : ℕ) (f : Rows → Rows) (z o : Trie) → 0 < left → (bit_at key (left - 1) == 1) ≡ true → changed_at (low_bits left key) f (fork z o) ≡ fork z (changed_at (low_bits (left - 1) key) f o)
 changed_one left key f z o some e =

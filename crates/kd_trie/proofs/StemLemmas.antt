@@ -8,7 +8,7 @@ use Rattle.zorder.specs.Key.{is_under, key_bits}
 use Rattle.kd_trie.specs.declared.node.Node.{Node}
 use Rattle.bucket_versions.specs.Rows.{Rows}
 use Rattle.kd_trie.specs.declared.stem.Side.{Side}
-use Rattle.kd_trie.specs.Tries.{Trie, height, put_at, name_at, bucket_at, graft, changed_at, rows_at}
+use Rattle.kd_trie.specs.Tries.{Trie, height, name_at, bucket_at, graft, changed_at, rows_at}
 use Rattle.kd_trie.specs.Nodes.{seen}
 use Rattle.kd_trie.specs.Ways.{Fits}
 use Rattle.kd_trie.specs.Stems.{way_of, halves, stem_over}
@@ -52,15 +52,6 @@ pub changed-stem : (sides : List Side) (path : List Bool) (change : Rows → Row
 changed-stem [] path change t = refl
 changed-stem (s ∷ sides) path change t =
     changed-halves s.bit (way_of sides ++ path) change (seen s.node) (stem_over sides t) ∙ ap (halves s.bit (seen s.node)) (changed-stem sides path change t)
-
-put-halves : (b : Bool) (path : List Bool) (r : Rows) (a t : Trie) → put_at (b ∷ path) r (halves b a t) ≡ halves b a (put_at path r t)
-put-halves true path r a t = refl
-put-halves false path r a t = refl
-
-pub put-stem : (sides : List Side) (path : List Bool) (r : Rows) (t : Trie) → put_at (way_of sides ++ path) r (stem_over sides t) ≡ stem_over sides (put_at path r t)
-put-stem [] path r t = refl
-put-stem (s ∷ sides) path r t =
-    put-halves s.bit (way_of sides ++ path) r (seen s.node) (stem_over sides t) ∙ ap (halves s.bit (seen s.node)) (put-stem sides path r t)
 
 graft-halves : (b : Bool) (path : List Bool) (u a t : Trie) → graft (b ∷ path) u (halves b a t) ≡ halves b a (graft path u t)
 graft-halves true path u a t = refl
@@ -119,9 +110,6 @@ fits-under name sides t left named rest h = record { height = omega (arith, heig
 module _ (sides : List Side) (key left : ℕ) (path : low_bits 64 key ≡ way_of sides ++ low_bits left key) where
   pub changed-under : (change : Rows → Rows) (t : Trie) → changed_at (low_bits 64 key) change (stem_over sides t) ≡ stem_over sides (changed_at (low_bits left key) change t)
   changed-under change t = ap (λ (p : List Bool). changed_at p change (stem_over sides t)) path ∙ changed-stem sides (low_bits left key) change t
-
-  pub put-under : (r : Rows) (t : Trie) → put_at (low_bits 64 key) r (stem_over sides t) ≡ stem_over sides (put_at (low_bits left key) r t)
-  put-under r t = ap (λ (p : List Bool). put_at p r (stem_over sides t)) path ∙ put-stem sides (low_bits left key) r t
 
   pub graft-under : (u t : Trie) → graft (low_bits 64 key) u (stem_over sides t) ≡ stem_over sides (graft (low_bits left key) u t)
   graft-under u t = ap (λ (p : List Bool). graft p u (stem_over sides t)) path ∙ graft-stem sides (low_bits left key) u t

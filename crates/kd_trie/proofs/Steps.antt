@@ -8,11 +8,11 @@ use Rattle.bucket_versions.specs.declared.row.RowChange.{RowChange}
 use Rattle.bucket_versions.specs.Rows.{Rows, has_row, after_gone}
 use Rattle.kd_trie.specs.declared.node.Node.{Node}
 use Rattle.kd_trie.specs.declared.node.Pair.{Pair}
-use Rattle.kd_trie.specs.Tries.{Trie, fork, height, put_at, changed_at, rows_at, graft}
+use Rattle.kd_trie.specs.Tries.{Trie, fork, height, changed_at, rows_at, graft}
 use Rattle.kd_trie.specs.Nodes.{seen}
 use Rattle.kd_trie.specs.Halves.{half_of, with_half}
 use Rattle.kd_trie.specs.Ways.{Fits, count_under, gone_under, MayMove}
-use Rattle.kd_trie.proofs.Halves.{put_one, put_zero, changed_one, changed_zero, graft_one, graft_zero, rows_one, rows_zero}
+use Rattle.kd_trie.proofs.Halves.{changed_one, changed_zero, graft_one, graft_zero, rows_one, rows_zero}
 
 -- a pair that holds a trie, the bit that a key goes on with there, and what the half under it holds
 pub record Step (left key : ℕ) (t : Trie) (p : Pair) (bit : Bool) (u : Trie) : Type 0 where
@@ -51,11 +51,6 @@ changed-with : (left key : ℕ) (f : Rows → Rows) (p : Pair) (bit : Bool) (v :
 changed-with left key f p true v some e = changed_one left key f (seen p.zero) v some (sym e)
 changed-with left key f p false v some e = changed_zero left key f v (seen p.one) some (sym e)
 
-put-with : (left key : ℕ) (b : Rows) (p : Pair) (bit : Bool) (v : Trie) → 0 < left → bit ≡ (bit_at key (left - 1) == 1)
-    → put_at (low_bits left key) b (with_trie p bit v) ≡ with_trie p bit (put_at (low_bits (left - 1) key) b v)
-put-with left key b p true v some e = put_one left key b (seen p.zero) v some (sym e)
-put-with left key b p false v some e = put_zero left key b v (seen p.one) some (sym e)
-
 graft-with : (left key : ℕ) (x : Trie) (p : Pair) (bit : Bool) (v : Trie) → 0 < left → bit ≡ (bit_at key (left - 1) == 1)
     → graft (low_bits left key) x (with_trie p bit v) ≡ with_trie p bit (graft (low_bits (left - 1) key) x v)
 graft-with left key x p true v some e = graft_one left key x (seen p.zero) v some (sym e)
@@ -79,11 +74,6 @@ pub changed-step : {left key : ℕ} {t : Trie} {p : Pair} {bit : Bool} {u : Trie
     → seen n ≡ changed_at (low_bits (left - 1) key) f u → fork (seen q.zero) (seen q.one) ≡ changed_at (low_bits left key) f t
 changed-step {left} {key} {t} {p} {bit} {u} s f n q made below =
     made-with p q bit n made ∙ ap (with_trie p bit) below ∙ sym (changed-with left key f p bit u s.some s.goes) ∙ ap (changed_at (low_bits left key) f) (sym (s.is ∙ whole-with p bit u s.half))
-
-pub put-step : {left key : ℕ} {t : Trie} {p : Pair} {bit : Bool} {u : Trie} → Step left key t p bit u → (b : Rows) (n : Node) (q : Pair) → q ≡ with_half p bit n
-    → seen n ≡ put_at (low_bits (left - 1) key) b u → fork (seen q.zero) (seen q.one) ≡ put_at (low_bits left key) b t
-put-step {left} {key} {t} {p} {bit} {u} s b n q made below =
-    made-with p q bit n made ∙ ap (with_trie p bit) below ∙ sym (put-with left key b p bit u s.some s.goes) ∙ ap (put_at (low_bits left key) b) (sym (s.is ∙ whole-with p bit u s.half))
 
 pub graft-step : {left key : ℕ} {t : Trie} {p : Pair} {bit : Bool} {u : Trie} → Step left key t p bit u → (x : Trie) (n : Node) (q : Pair) → q ≡ with_half p bit n
     → seen n ≡ graft (low_bits (left - 1) key) x u → fork (seen q.zero) (seen q.one) ≡ graft (low_bits left key) x t
@@ -145,14 +135,6 @@ changed-twice {left} {key} {t} {p} {bit} {u} s other f h e n q made below =
     ∙ sym (changed-with left other h p bit (changed_at (low_bits (left - 1) key) f u) s.some e)
     ∙ ap (changed_at (low_bits left other) h) (sym (changed-with left key f p bit u s.some s.goes))
     ∙ ap (λ (x : Trie). changed_at (low_bits left other) h (changed_at (low_bits left key) f x)) (sym (s.is ∙ whole-with p bit u s.half))
-
-pub put-twice : {left key : ℕ} {t : Trie} {p : Pair} {bit : Bool} {u : Trie} → Step left key t p bit u → (other : ℕ) (b d : Rows) → bit ≡ (bit_at other (left - 1) == 1) → (n : Node) (q : Pair) → q ≡ with_half p bit n
-    → seen n ≡ put_at (low_bits (left - 1) other) d (put_at (low_bits (left - 1) key) b u) → fork (seen q.zero) (seen q.one) ≡ put_at (low_bits left other) d (put_at (low_bits left key) b t)
-put-twice {left} {key} {t} {p} {bit} {u} s other b d e n q made below =
-    made-with p q bit n made ∙ ap (with_trie p bit) below
-    ∙ sym (put-with left other d p bit (put_at (low_bits (left - 1) key) b u) s.some e)
-    ∙ ap (put_at (low_bits left other) d) (sym (put-with left key b p bit u s.some s.goes))
-    ∙ ap (λ (x : Trie). put_at (low_bits left other) d (put_at (low_bits left key) b x)) (sym (s.is ∙ whole-with p bit u s.half))
 
 -- two bits that differ or don't
 pub unlike-one : (a b : Bool) → a ≡ true → beq a b ≡ false → b ≡ false
@@ -222,24 +204,6 @@ changed-parts-zero {left} {key} {t} {p} {bit} {u} s other next f h zero apart go
     ∙ sym (changed_one left other h (changed_at (low_bits (left - 1) key) f (seen p.zero)) (seen p.one) s.some (sym goes ∙ unlike-zero bit next zero apart))
     ∙ ap (changed_at (low_bits left other) h) (sym (changed_zero left key f (seen p.zero) (seen p.one) s.some (sym s.goes ∙ zero)))
     ∙ ap (λ (x : Trie). changed_at (low_bits left other) h (changed_at (low_bits left key) f x)) (sym s.is)
-
-pub put-parts-one : {left key : ℕ} {t : Trie} {p : Pair} {bit : Bool} {u : Trie} → Step left key t p bit u → (other : ℕ) (next : Bool) (b d : Rows) → bit ≡ true → beq bit next ≡ false → next ≡ (bit_at other (left - 1) == 1)
-    → (near far : Node) (q : Pair) → q ≡ record { zero = far; one = near } → seen near ≡ put_at (low_bits (left - 1) key) b (seen p.one) → seen far ≡ put_at (low_bits (left - 1) other) d (seen p.zero)
-    → fork (seen q.zero) (seen q.one) ≡ put_at (low_bits left other) d (put_at (low_bits left key) b t)
-put-parts-one {left} {key} {t} {p} {bit} {u} s other next b d one apart goes near far q made e h =
-    (λ i. fork (seen (made i).zero) (seen (made i).one)) ∙ (λ i. fork (h i) (e i))
-    ∙ sym (put_zero left other d (seen p.zero) (put_at (low_bits (left - 1) key) b (seen p.one)) s.some (sym goes ∙ unlike-one bit next one apart))
-    ∙ ap (put_at (low_bits left other) d) (sym (put_one left key b (seen p.zero) (seen p.one) s.some (sym s.goes ∙ one)))
-    ∙ ap (λ (x : Trie). put_at (low_bits left other) d (put_at (low_bits left key) b x)) (sym s.is)
-
-pub put-parts-zero : {left key : ℕ} {t : Trie} {p : Pair} {bit : Bool} {u : Trie} → Step left key t p bit u → (other : ℕ) (next : Bool) (b d : Rows) → bit ≡ false → beq bit next ≡ false → next ≡ (bit_at other (left - 1) == 1)
-    → (near far : Node) (q : Pair) → q ≡ record { zero = near; one = far } → seen near ≡ put_at (low_bits (left - 1) key) b (seen p.zero) → seen far ≡ put_at (low_bits (left - 1) other) d (seen p.one)
-    → fork (seen q.zero) (seen q.one) ≡ put_at (low_bits left other) d (put_at (low_bits left key) b t)
-put-parts-zero {left} {key} {t} {p} {bit} {u} s other next b d zero apart goes near far q made e h =
-    (λ i. fork (seen (made i).zero) (seen (made i).one)) ∙ (λ i. fork (e i) (h i))
-    ∙ sym (put_one left other d (put_at (low_bits (left - 1) key) b (seen p.zero)) (seen p.one) s.some (sym goes ∙ unlike-zero bit next zero apart))
-    ∙ ap (put_at (low_bits left other) d) (sym (put_zero left key b (seen p.zero) (seen p.one) s.some (sym s.goes ∙ zero)))
-    ∙ ap (λ (x : Trie). put_at (low_bits left other) d (put_at (low_bits left key) b x)) (sym s.is)
 
 -- the trie as it was, and how many rows a key leads to, where both halves were lent
 pub kept-parts : {t : Trie} (p : Pair) (zero one : Node) (q : Pair) → t ≡ fork (seen p.zero) (seen p.one) → q ≡ record { zero = zero; one = one } → seen zero ≡ seen p.zero → seen one ≡ seen p.one → fork (seen q.zero) (seen q.one) ≡ t

@@ -1,6 +1,6 @@
 -- A trie with another bucket on a path has the leaves with another bucket under one name.
-use Rattle.std.proofs.Common.{◌≡◌, ℕ, zero, suc, ◌+◌, ◌<◌, ◌≤◌, Bool, true, false, ◌||◌, List, [], ◌∷◌, ◌++◌, length, take, Some, Ok, Err, max, refl, sym, ◌∙◌, ap, subst, arith, append_assoc, append-nil, ◌^◌, Result, OnOk, OnErr}
-use Rattle.std.specs.List.{starts_with, list_any}
+use Rattle.std.proofs.Common.{◌≡◌, ℕ, zero, suc, ◌+◌, ◌<◌, ◌≤◌, Bool, true, false, List, [], ◌∷◌, ◌++◌, length, take, Some, Ok, Err, max, refl, sym, ◌∙◌, ap, subst, arith, append_assoc, append-nil, ◌^◌, Result, OnOk, OnErr}
+use Rattle.std.specs.List.{starts_with}
 use mathlib.Core.Bool.{beq}
 use Rattle.zorder.specs.Bits.{low_bits}
 use Rattle.zorder.specs.Name.{first_key, length-low_bits}
@@ -9,10 +9,10 @@ use Rattle.zorder.specs.SameName.{same_name, same_name-decides}
 use Rattle.zorder.specs.Tile.{tiles_from}
 use Rattle.bucket_versions.specs.Rows.{Rows, IsRows}
 use Rattle.index_layer.specs.Leaves.{Leaf, AreLeaves, AreUnder, AreAllUnder, names_of, has_name, replaced, split, leaf_under}
-use Rattle.index_layer.proofs.LeafChanges.{leaf_at, replaced-at, split-at, names_of-replaced, AreLeaves-replaced, AreLeaves-split}
+use Rattle.index_layer.proofs.LeafChanges.{leaf_at, replaced-at, split-at, AreLeaves-replaced, AreLeaves-split}
 use Rattle.index_layer.proofs.LeafKeys.{leaf_under-at, first_key-fits, first_key-under}
 use Rattle.index_layer.proofs.LeafNames.{any-among, one-leaf, short-among}
-use Rattle.kd_trie.specs.Tries.{Trie, tip, fork, height, leaves_under, put_at, name_at, bucket_at, graft, twins}
+use Rattle.kd_trie.specs.Tries.{Trie, tip, fork, height, leaves_under, name_at, bucket_at, graft, twins}
 
 -- the leaves in front of the one on this path, those behind it, and its bucket
 pub record Hole (name path : List Bool) (b : Rows) (t : Trie) : Type 0 where
@@ -20,7 +20,7 @@ pub record Hole (name path : List Bool) (b : Rows) (t : Trie) : Type 0 where
   pub back : List Leaf
   pub old : Rows
   pub before : leaves_under name t ≡ front ++ leaf_at (name ++ name_at path t) old ∷ back
-  pub after : leaves_under name (put_at path b t) ≡ front ++ leaf_at (name ++ name_at path t) b ∷ back
+  pub after : leaves_under name (graft path (tip b) t) ≡ front ++ leaf_at (name ++ name_at path t) b ∷ back
   pub held : bucket_at path t ≡ Some old
   pub cut : (a c : Rows) → leaves_under name (graft path (twins a c) t) ≡ front ++ leaf_at ((name ++ name_at path t) ++ false ∷ []) a ∷ leaf_at ((name ++ name_at path t) ++ true ∷ []) c ∷ back
 
@@ -83,7 +83,7 @@ name_begins [] (fork z o) = refl
 name_begins (true ∷ path) (fork z o) = name_begins path o
 name_begins (false ∷ path) (fork z o) = name_begins path z
 
-pub height-put : (path : List Bool) (b : Rows) (t : Trie) → height (put_at path b t) ≡ height t
+pub height-put : (path : List Bool) (b : Rows) (t : Trie) → height (graft path (tip b) t) ≡ height t
 height-put path b (tip a) = refl
 height-put [] b (fork z o) = refl
 height-put (true ∷ path) b (fork z o) = ap (λ n. suc (max (height z) n)) (height-put path b o)
@@ -99,7 +99,7 @@ name-under key t = name_begins (low_bits 64 key) t
 
 -- another bucket on a key's path is another bucket under the name there
 pub leaves-put : (key : ℕ) (b : Rows) (t : Trie) → height t ≤ 64 → tiles_from 0 (names_of (leaves_under [] t)) ≡ true
-    → leaves_under [] (put_at (low_bits 64 key) b t) ≡ replaced (name_at (low_bits 64 key) t) b (leaves_under [] t)
+    → leaves_under [] (graft (low_bits 64 key) (tip b) t) ≡ replaced (name_at (low_bits 64 key) t) b (leaves_under [] t)
 leaves-put key b t h tile =
     let r = hole [] (low_bits 64 key) b t (within key t h) in
     let tiled : tiles_from 0 (names_of (r.front ++ leaf_at (name_at (low_bits 64 key) t) r.old ∷ r.back)) ≡ true = ap (λ (l : List Leaf). tiles_from 0 (names_of l)) (sym r.before) ∙ tile in
@@ -144,11 +144,11 @@ pub record Differs (name : List Bool) (b : Rows) (old new : Trie) : Type 0 where
   pub leaves : leaves_under [] new ≡ replaced name b (leaves_under [] old)
 
 pub differs-put : (name : List Bool) (key : ℕ) (b : Rows) (t : Trie) → key ≡ first_key name → height t ≤ 64 → AreLeaves (leaves_under [] t) → IsRows b.rows → AreUnder name b.rows → has_name name (leaves_under [] t) ≡ true
-    → Differs name b t (put_at (low_bits 64 key) b t)
+    → Differs name b t (graft (low_bits 64 key) (tip b) t)
 differs-put name key b t first h are rising under there =
     let path : List Bool = low_bits 64 key in
     let found : name_at path t ≡ name = ap (λ k. name_at (low_bits 64 k) t) first ∙ name-found name t h are.tile there in
-    let leaves : leaves_under [] (put_at path b t) ≡ replaced name b (leaves_under [] t) = leaves-put key b t h are.tile ∙ ap (λ (n : List Bool). replaced n b (leaves_under [] t)) found in
+    let leaves : leaves_under [] (graft path (tip b) t) ≡ replaced name b (leaves_under [] t) = leaves-put key b t h are.tile ∙ ap (λ (n : List Bool). replaced n b (leaves_under [] t)) found in
     record {
       short = subst (λ n. n ≤ 64) (sym (height-put path b t)) h;
       are_leaves = subst AreLeaves (sym leaves) (AreLeaves-replaced name b (leaves_under [] t) are rising under);
@@ -167,17 +167,6 @@ are_leaves-kept (Err e) old made new am ao ok err = subst (λ (t : Trie). AreLea
 pub leaves-made : {A E : Type 0} (r : Result A E) (made new : Trie) (leaves : List Leaf) → leaves_under [] made ≡ leaves → OnOk r (new ≡ made) → OnOk r (leaves_under [] new ≡ leaves)
 leaves-made (Ok x) made new leaves e ok = ap (leaves_under []) ok ∙ e
 leaves-made (Err x) made new leaves e ok = tt
-
--- two puts, under the names of two leaves
-pub differs-again : (first second : List Bool) (a b : Rows) (old made : Trie) → Differs first a old made → has_name second (leaves_under [] old) ≡ true → has_name second (leaves_under [] made) ≡ true
-differs-again first second a b old made d there = ap (has_name second) d.leaves ∙ names_same second (replaced first a (leaves_under [] old)) (leaves_under [] old) (names_of-replaced first a (leaves_under [] old)) ∙ there
-  where
-    of_names : (name : List Bool) (ls : List Leaf) → has_name name ls ≡ list_any (λ (n : List Bool). same_name n name) (names_of ls)
-    of_names name [] = refl
-    of_names name (l ∷ ls) = ap (λ (b : Bool). same_name l.name name || b) (of_names name ls)
-
-    names_same : (name : List Bool) (xs ys : List Leaf) → names_of xs ≡ names_of ys → has_name name xs ≡ has_name name ys
-    names_same name xs ys e = of_names name xs ∙ ap (list_any (λ (n : List Bool). same_name n name)) e ∙ sym (of_names name ys)
 
 -- the name on a path is its first bits
 pub name-front : (path : List Bool) (t : Trie) → take (length (name_at path t)) path ≡ name_at path t

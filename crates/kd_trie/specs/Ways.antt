@@ -1,25 +1,15 @@
 -- What a way leads to.
 use Rattle.std.specs.Prelude.{◌≡◌, ◌≤◌, ℕ, Bool, true, false, length}
-use Rattle.std.specs.Arc.{arc_value}
 use Rattle.zorder.specs.Bits.{low_bits}
 use Rattle.bucket_versions.specs.declared.row.Row.{Row}
 use Rattle.bucket_versions.specs.declared.row.RowChange.{RowChange}
-use Rattle.bucket_versions.specs.Rows.{Rows, has_row, after_put, after_gone}
-use Rattle.kd_trie.specs.Tries.{Trie, height, put_at, changed_at, rows_at}
-use Rattle.kd_trie.specs.declared.node.Way.{Way}
+use Rattle.bucket_versions.specs.Rows.{has_row, after_put, after_gone}
+use Rattle.kd_trie.specs.Tries.{Trie, height, changed_at, rows_at}
 
 -- so many bits of a key lead to a leaf
 pub record Fits (left : ℕ) (t : Trie) : Type 0 where
   pub height : height t ≤ left
   pub most : left ≤ 64
-
--- the trie with a way's bucket where so many bits of its key lead to
-abbrev pub put_way : ℕ → Way → Trie → Trie
-put_way left way t = put_at (low_bits left way.key) (arc_value way.bucket) t
-
--- the trie with one bucket where a key leads to, and then with another one where another key leads to
-abbrev pub both_put : ℕ → Rows → ℕ → Rows → Trie → Trie
-both_put key b other c t = put_at (low_bits 64 other) c (put_at (low_bits 64 key) b t)
 
 -- whether a row stands in the leaf that the last bits of its key lead to
 abbrev pub has_under : ℕ → Row → Trie → Bool

@@ -7,7 +7,7 @@ ghost use Rattle.zorder.specs.Bits.{low_bits};
 ghost use Rattle.kd_trie.specs.Tries.{name_at, bucket_at, graft, twins};
 ghost use Rattle.kd_trie.specs.Nodes.{seen};
 ghost use Rattle.kd_trie.specs.Halves.{LendsHalf, half_of};
-ghost use Rattle.kd_trie.specs.Ways.{Fits, put_way};
+ghost use Rattle.kd_trie.specs.Ways.{Fits};
 ghost use Rattle.kd_trie.specs.Walks.{Agrees};
 ghost use Rattle.bucket_versions.specs.Told.{Told};
 
@@ -72,175 +72,38 @@ pub(crate) fn half(pair: &mut Pair, bit: bool) -> &mut Node
     if bit { &mut pair.one } else { &mut pair.zero }
 }
 
-/// A key, and the bucket that is to be put where its last bits lead to.
-#[derive(Drop)]
-pub(crate) struct Way {
-    pub(crate) key: u64,
-    pub(crate) bucket: Arc<Bucket>,
-}
-
-/// Puts a bucket where the last `left` bits of a key lead to, once the step has succeeded.
-pub(crate) fn put<C: Commit>(
-    node: &mut Node,
-    way: Way,
-    left: u8,
-    commit: &mut C,
-) -> Result<(), Undone>
-    requires can { C.can commit.old }
-    requires fits { Fits left (seen node.old) }
-    ensures ok { OnOk result (seen node.new ≡ put_way left way (seen node.old)) }
-    ensures err { OnErr result (seen node.new ≡ seen node.old) }
-    ensures told { Told C.done C.lost commit.old commit.new result }
-{
-    match node {
-        Node::Leaf(leaf) => {
-            if !commit.commit() {
-                return Err(Undone::Lost);
-            }
-            *leaf = way.bucket;
-            Ok(())
-        }
-        Node::Inner(pair) => {
-            let pair = own(pair)?;
-            let half = half(pair, next_bit(way.key, left));
-            put(half, way, left - 1, commit)
-        }
-    }
-}
-
-/// Puts two buckets where the last `left` bits of two keys lead to, once the step has succeeded. Where both lead to one leaf, it gets
-/// the second.
-pub(crate) fn put_two<C: Commit>(
-    node: &mut Node,
-    first: Way,
-    second: Way,
-    left: u8,
-    commit: &mut C,
-) -> Result<(), Undone>
-    requires can { C.can commit.old }
-    requires fits { Fits left (seen node.old) }
-    ensures ok { OnOk result (seen node.new ≡ put_way left second (put_way left first (seen node.old))) }
-    ensures err { OnErr result (seen node.new ≡ seen node.old) }
-    ensures told { Told C.done C.lost commit.old commit.new result }
-{
-    match node {
-        Node::Leaf(leaf) => {
-            if !commit.commit() {
-                return Err(Undone::Lost);
-            }
-            *leaf = second.bucket;
-            Ok(())
-        }
-        Node::Inner(pair) => {
-            let pair = own(pair)?;
-            let bit = next_bit(first.key, left);
-            if bit == next_bit(second.key, left) {
-                put_two(half(pair, bit), first, second, left - 1, commit)
-            } else {
-                let Pair { zero, one } = pair;
-                if bit {
-                    put_apart(one, first, left - 1, zero, second, left - 1, commit)
-                } else {
-                    put_apart(zero, first, left - 1, one, second, left - 1, commit)
-                }
-            }
-        }
-    }
-}
-
-// The same in two nodes.
-fn put_apart<C: Commit>(
-    node: &mut Node,
-    first: Way,
-    left: u8,
-    other: &mut Node,
-    second: Way,
-    other_left: u8,
-    commit: &mut C,
-) -> Result<(), Undone>
-    requires can { C.can commit.old }
-    requires fits { Fits left (seen node.old) × Fits other_left (seen other.old) }
-    ensures ok { OnOk result ((seen node.new ≡ put_way left first (seen node.old)) × (seen other.new ≡ put_way other_left second (seen other.old))) }
-    ensures err { OnErr result ((seen node.new ≡ seen node.old) × (seen other.new ≡ seen other.old)) }
-    ensures told { Told C.done C.lost commit.old commit.new result }
-{
-    match node {
-        Node::Leaf(leaf) => put_beside(leaf, first.bucket, other, second, other_left, commit),
-        Node::Inner(pair) => {
-            let pair = own(pair)?;
-            let half = half(pair, next_bit(first.key, left));
-            put_apart(half, first, left - 1, other, second, other_left, commit)
-        }
-    }
-}
-
-// The same in a leaf and in a node.
-fn put_beside<C: Commit>(
-    leaf: &mut Arc<Bucket>,
-    bucket: Arc<Bucket>,
-    node: &mut Node,
-    way: Way,
-    left: u8,
-    commit: &mut C,
-) -> Result<(), Undone>
-    requires can { C.can commit.old }
-    requires fits { Fits left (seen node.old) }
-    ensures ok { OnOk result ((arc_value leaf.new ≡ arc_value bucket) × (seen node.new ≡ put_way left way (seen node.old))) }
-    ensures err { OnErr result ((arc_value leaf.new ≡ arc_value leaf.old) × (seen node.new ≡ seen node.old)) }
-    ensures told { Told C.done C.lost commit.old commit.new result }
-{
-    match node {
-        Node::Leaf(other) => {
-            if !commit.commit() {
-                return Err(Undone::Lost);
-            }
-            *leaf = bucket;
-            *other = way.bucket;
-            Ok(())
-        }
-        Node::Inner(pair) => {
-            let pair = own(pair)?;
-            let half = half(pair, next_bit(way.key, left));
-            put_beside(leaf, bucket, half, way, left - 1, commit)
-        }
-    }
-}
-
-/// Puts two leaves in the place of the one that the last `left` bits of a key lead to, once the step has succeeded.
-pub(crate) fn divide<C: Commit>(
-    alloc: Global,
+/// Puts a node in the place of the leaf that the last `left` bits of a key lead to, once the step has succeeded.
+pub(crate) fn graft<C: Commit>(
     node: &mut Node,
     key: u64,
     left: u8,
-    zero: Arc<Bucket>,
-    one: Arc<Bucket>,
+    part: Node,
     commit: &mut C,
 ) -> Result<(), Undone>
     requires can { C.can commit.old }
     requires fits { Fits left (seen node.old) }
-    ensures ok { OnOk result (seen node.new ≡ graft (low_bits left key) (twins (arc_value zero) (arc_value one)) (seen node.old)) }
+    ensures ok { OnOk result (seen node.new ≡ graft (low_bits left key) (seen part) (seen node.old)) }
     ensures err { OnErr result (seen node.new ≡ seen node.old) }
     ensures told { Told C.done C.lost commit.old commit.new result }
 {
     match node {
         Node::Leaf(_) => {
-            let children = twins(alloc, zero, one)?;
             if !commit.commit() {
                 return Err(Undone::Lost);
             }
-            *node = children;
+            *node = part;
             Ok(())
         }
         Node::Inner(pair) => {
             let pair = own(pair)?;
             let half = half(pair, next_bit(key, left));
-            divide(alloc, half, key, left - 1, zero, one, commit)
+            graft(half, key, left - 1, part, commit)
         }
     }
 }
 
-// Two leaves of these buckets.
-fn twins(alloc: Global, zero: Arc<Bucket>, one: Arc<Bucket>) -> Result<Node, AllocError>
+/// Two leaves of these buckets.
+pub(crate) fn twins(alloc: Global, zero: Arc<Bucket>, one: Arc<Bucket>) -> Result<Node, AllocError>
     ensures { IfOk result (λ node. seen node ≡ twins (arc_value zero) (arc_value one)) }
 {
     let pair = Pair {

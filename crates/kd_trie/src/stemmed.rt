@@ -4,13 +4,13 @@ ghost use Rattle.std.specs.Arc.{arc_value};
 ghost use Rattle.zorder.specs.Bits.{low_bits};
 ghost use Rattle.zorder.specs.Key.{is_under};
 ghost use Rattle.bucket_versions.specs.Told.{Told};
-ghost use Rattle.kd_trie.specs.Tries.{height, name_at, bucket_at, put_at, graft, twins, tip};
-ghost use Rattle.kd_trie.specs.Ways.{both_put, has_under, put_under, gone_under, count_under, MayMove};
+ghost use Rattle.kd_trie.specs.Tries.{height, name_at, bucket_at, graft, twins, tip};
+ghost use Rattle.kd_trie.specs.Ways.{has_under, put_under, gone_under, count_under, MayMove};
 ghost use Rattle.kd_trie.specs.Wholes.{whole};
 ghost use Rattle.kd_trie.specs.Nodes.{seen};
 ghost use Rattle.kd_trie.specs.Walks.{Agrees};
 
-use crate::node::{Node, Way, agreed, divide, leaf_of, put, put_two};
+use crate::node::{Node, agreed, graft, leaf_of, twins};
 use crate::rows::{self, Coming, Going};
 use crate::stem::{Stem, has_leaf_half, leaf_past, step, stretch, unwound};
 use bucket_versions::{Bucket, Commit, RowChange, Undone};
@@ -165,41 +165,13 @@ impl Stemmed {
     ) -> Result<(), Undone>
         requires can { C.can commit.old }
         requires height { height (whole self.old) ≤ 64 }
-        ensures ok { OnOk result (whole self.new ≡ put_at (low_bits 64 key) (arc_value bucket) (whole self.old)) }
+        ensures ok { OnOk result (whole self.new ≡ graft (low_bits 64 key) (tip (arc_value bucket)) (whole self.old)) }
         ensures err { OnErr result (whole self.new ≡ whole self.old) }
         ensures told { Told C.done C.lost commit.old commit.new result }
     {
         self.open_to(key)?;
         let left = 64 - self.stem.name.len();
-        let done = put(&mut self.root, Way { key, bucket }, left, commit);
-        self.wind();
-        done
-    }
-
-    /// Puts two buckets where two keys lead to, once the step has succeeded. Where both lead to one leaf, it gets the second.
-    pub(crate) fn put_two<C: Commit>(
-        &mut self,
-        key: u64,
-        bucket: Arc<Bucket>,
-        other: u64,
-        other_bucket: Arc<Bucket>,
-        commit: &mut C,
-    ) -> Result<(), Undone>
-        requires can { C.can commit.old }
-        requires height { height (whole self.old) ≤ 64 }
-        ensures ok { OnOk result (whole self.new ≡ both_put key (arc_value bucket) other (arc_value other_bucket) (whole self.old)) }
-        ensures err { OnErr result (whole self.new ≡ whole self.old) }
-        ensures told { Told C.done C.lost commit.old commit.new result }
-    {
-        self.open_to(key)?;
-        self.open_to(other)?;
-        let left = 64 - self.stem.name.len();
-        let first = Way { key, bucket };
-        let second = Way {
-            key: other,
-            bucket: other_bucket,
-        };
-        let done = put_two(&mut self.root, first, second, left, commit);
+        let done = graft(&mut self.root, key, left, Node::Leaf(bucket), commit);
         self.wind();
         done
     }
@@ -218,9 +190,10 @@ impl Stemmed {
         ensures err { OnErr result (whole self.new ≡ whole self.old) }
         ensures told { Told C.done C.lost commit.old commit.new result }
     {
+        let children = twins(self.alloc, zero, one)?;
         self.open_to(key)?;
         let left = 64 - self.stem.name.len();
-        let done = divide(self.alloc, &mut self.root, key, left, zero, one, commit);
+        let done = graft(&mut self.root, key, left, children, commit);
         self.wind();
         done
     }

@@ -156,20 +156,6 @@ impl Index for KdTrie {
         self.tree.put(name.bits(), bucket, commit)
     }
 
-    fn replace_two<C: Commit>(
-        &mut self,
-        name: &Name,
-        bucket: Arc<Bucket>,
-        other: &Name,
-        other_bucket: Arc<Bucket>,
-        commit: &mut C,
-    ) -> Result<(), Undone> {
-        in_order(&bucket);
-        in_order(&other_bucket);
-        self.tree
-            .put_two(name.bits(), bucket, other.bits(), other_bucket, commit)
-    }
-
     fn divide<C: Commit>(
         &mut self,
         name: &Name,

@@ -2,15 +2,15 @@ use Rattle.std.proofs.Common.{◌≡◌, ◌≤◌, ◌-◌, ◌++◌, ℕ, List
 use Rattle.std.specs.Arc.{arc_value}
 use Rattle.zorder.specs.Bits.{low_bits}
 use Rattle.kd_trie.specs.declared.stem.Side.{Side}
-use Rattle.kd_trie.specs.Tries.{Trie, height, put_at}
+use Rattle.kd_trie.specs.Tries.{Trie, height, tip, graft}
 use Rattle.kd_trie.specs.Nodes.{seen}
 use Rattle.kd_trie.specs.Stems.{way_of}
 use Rattle.kd_trie.specs.Wholes.{sides_of, whole}
-use Rattle.kd_trie.proofs.StemLemmas.{fits-under, under-stem, made-under, put-under}
+use Rattle.kd_trie.proofs.StemLemmas.{fits-under, under-stem, made-under, graft-under}
 use Rattle.kd_trie.proofs.stemmed.Stemmed.put.Goals as goal
 
-pub put-done-requires-clause-fits : goal.put-done-requires-clause-fits
-put-done-requires-clause-fits g c =
+pub graft-done-requires-clause-fits : goal.graft-done-requires-clause-fits
+graft-done-requires-clause-fits g c =
     let s = c.open_to.new.self in
     let sides : List Side = sides_of s.stem in
     let left : ℕ = 64 - c.len-left.result in
@@ -27,6 +27,6 @@ returns-clause-ok g c =
     let fits : left ≡ 64 - length s.stem.name = ap (λ (n : ℕ). 64 - n) c.len-left.ensures.len in
     let begun : whole s ≡ whole c.args.self.now = c.in_ok-open_to.ensures.whole in
     let path : low_bits 64 c.args.key ≡ way_of sides ++ low_bits left c.args.key = under-stem s.stem.name sides c.args.key left s.stem.named c.in_ok-open_to.ensures.under fits in
-    made-under c.put-done.result sides (λ t. put_at (low_bits 64 c.args.key) (arc_value c.args.bucket) t) (λ t. put_at (low_bits left c.args.key) (arc_value c.args.bucket) t) (seen s.root) (seen c.put-done.new.node) (whole c.args.self.now) (whole c.wind.new.self) begun c.wind.ensures
-    (put-under sides c.args.key left path (arc_value c.args.bucket) (seen s.root))
-    c.put-done.ensures.ok
+    made-under c.graft-done.result sides (λ t. graft (low_bits 64 c.args.key) (tip (arc_value c.args.bucket)) t) (λ t. graft (low_bits left c.args.key) (tip (arc_value c.args.bucket)) t) (seen s.root) (seen c.graft-done.new.node) (whole c.args.self.now) (whole c.wind.new.self) begun c.wind.ensures
+    (graft-under sides c.args.key left path (tip (arc_value c.args.bucket)) (seen s.root))
+    c.graft-done.ensures.ok

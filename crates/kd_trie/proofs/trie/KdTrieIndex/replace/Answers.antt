@@ -2,7 +2,7 @@ use Rattle.std.proofs.Common.{[]}
 use Rattle.zorder.specs.Bits.{low_bits}
 use Rattle.std.specs.Arc.{arc_value}
 use Rattle.index_layer.specs.Leaves.{replaced}
-use Rattle.kd_trie.specs.Tries.{put_at, leaves_under}
+use Rattle.kd_trie.specs.Tries.{leaves_under, tip, graft}
 use Rattle.kd_trie.specs.Wholes.{whole}
 use Rattle.kd_trie.proofs.TrieLeaves.{differs-put, short-kept, are_leaves-kept, leaves-made}
 use Rattle.kd_trie.proofs.trie.KdTrieIndex.replace.Goals as goal
@@ -10,7 +10,7 @@ use Rattle.kd_trie.proofs.trie.KdTrieIndex.replace.Goals as goal
 pub invariant_of-self : goal.invariant_of-self
 invariant_of-self g c =
     let old = whole c.args.self.now.tree in
-    let made = put_at (low_bits 64 c.bits.result) (arc_value c.args.bucket) old in
+    let made = graft (low_bits 64 c.bits.result) (tip (arc_value c.args.bucket)) old in
     let d = differs-put c.args.name.now c.bits.result (arc_value c.args.bucket) old c.bits.ensures c.args.self.now.short c.args.self.now.are_leaves c.in_order.ensures c.requires.under c.requires.leaf in
     record {
       short = short-kept c.put.result old made (whole c.put.new.self) d.short c.args.self.now.short c.put.ensures.ok c.put.ensures.err;
@@ -20,6 +20,6 @@ invariant_of-self g c =
 pub returns-clause-ok : goal.returns-clause-ok
 returns-clause-ok g c =
     let old = whole c.args.self.now.tree in
-    let made = put_at (low_bits 64 c.bits.result) (arc_value c.args.bucket) old in
+    let made = graft (low_bits 64 c.bits.result) (tip (arc_value c.args.bucket)) old in
     let d = differs-put c.args.name.now c.bits.result (arc_value c.args.bucket) old c.bits.ensures c.args.self.now.short c.args.self.now.are_leaves c.in_order.ensures c.requires.under c.requires.leaf in
     leaves-made c.put.result made (whole c.put.new.self) (replaced c.args.name.now (arc_value c.args.bucket) (leaves_under [] (whole c.args.self.now.tree))) d.leaves c.put.ensures.ok
