@@ -90,6 +90,7 @@ fn first_of_many<T: Drop>(alloc: Global, first: T) -> Result<Vec<T>, AllocError>
 }
 
 // Puts two subtrees where they belong, each with its place.
+#[inline(always)]
 fn put_halves<P: Drop>(
     ahead: &mut Vec<Ahead>,
     places: &mut Vec<P>,
@@ -109,6 +110,7 @@ fn put_halves<P: Drop>(
     Ok(())
 }
 
+#[inline(always)]
 fn put_place<P: Drop>(
     ahead: &mut Vec<Ahead>,
     places: &mut Vec<P>,
