@@ -21,7 +21,7 @@ pub struct Begun {
 }
 
 /// A leaf's name, and whether it is to be split.
-#[derive(Clone, Copy, Debug)]
+#[derive(Clone, Copy)]
 pub(crate) struct Mark {
     pub(crate) name: Name,
     pub(crate) crowded: bool,

@@ -1,4 +1,4 @@
-use Rattle.std.proofs.Common.{◌≡◌, List, Some, None, refl, sym, ap, ◌∙◌, subst}
+use Rattle.std.proofs.Common.{◌≡◌, List, Some, None, refl, sym, ap, ◌∙◌, subst, rules}
 use Rattle.std.specs.Option.{option_map_or}
 use Rattle.std.specs.List.{AllByRecursion}
 use Rattle.zorder.specs.Key.{key_of, point_of}
@@ -117,3 +117,51 @@ returns-in-Ok-clause-ok g c =
     rw (← c.self.view_is)
     (updates_some (splits_of c.args.begun.now) _ _ (Move id c.args.at) (Moved old) (sym (ap (λ o. option_map_or Moved o Absent) there)) refl
     (record { world = c.replace.ensures.moved; bases = it.bases; settled = it.settled; size = refl }))
+
+pub replace-requires : goal.replace-requires
+replace-requires g c = search rules
+
+pub returns-in_default-clause-err : goal.returns-in_default-clause-err
+returns-in_default-clause-err g c = search rules
+
+pub returns-in_default-clause-told : goal.returns-in_default-clause-told
+returns-in_default-clause-told g c = search rules
+
+pub eq-requires : goal.eq-requires
+eq-requires g c = search rules
+
+pub commit-requires : goal.commit-requires
+commit-requires g c = search rules
+
+pub returns-then-eq-clause-told : goal.returns-then-eq-clause-told
+returns-then-eq-clause-told g c = search rules
+
+pub key-requires : goal.key-requires
+key-requires g c = search rules
+
+pub key-requires-2 : goal.key-requires-2
+key-requires-2 g c = search rules
+
+pub move_row-requires-clause-can : goal.move_row-requires-clause-can
+move_row-requires-clause-can g c = search rules
+
+pub mark_two-requires-clause-room : goal.mark_two-requires-clause-room
+mark_two-requires-clause-room g c = search rules
+
+pub mark_two-requires-clause-count : goal.mark_two-requires-clause-count
+mark_two-requires-clause-count g c = search rules
+
+pub replace-requires-in-Err : goal.replace-requires-in-Err
+replace-requires-in-Err g c = search rules
+
+pub returns-in-Ok-clause-err : goal.returns-in-Ok-clause-err
+returns-in-Ok-clause-err g c = search rules
+
+pub returns-in-Ok-clause-told : goal.returns-in-Ok-clause-told
+returns-in-Ok-clause-told g c = search rules
+
+pub returns-in-Err-clause-ok : goal.returns-in-Err-clause-ok
+returns-in-Err-clause-ok g c = search rules
+
+pub returns-in-Err-clause-told : goal.returns-in-Err-clause-told
+returns-in-Err-clause-told g c = search rules

@@ -1,4 +1,4 @@
-use Rattle.std.proofs.Common.{◌≡◌, List, Some, refl, sym, ap, subst}
+use Rattle.std.proofs.Common.{◌≡◌, List, Some, refl, sym, ap, subst, rules}
 use Rattle.std.specs.Option.{option_map_or}
 use Rattle.std.specs.List.{AllByRecursion}
 use Rattle.zorder.specs.Key.{key_of}
@@ -58,3 +58,54 @@ returns-clause-ok g c =
     rw (← c.self.view_is)
     (updates_some (splits_of c.args.begun.now) _ _ (Remove id) (Gone old) (sym (ap (λ o. option_map_or Gone o Absent) there)) refl
     (record { world = c.remove.ensures.gone; bases = it.bases; settled = it.settled; size = refl }))
+
+pub returns-in_default-clause-err : goal.returns-in_default-clause-err
+returns-in_default-clause-err g c = search rules
+
+pub returns-in_default-clause-told : goal.returns-in_default-clause-told
+returns-in_default-clause-told g c = search rules
+
+pub reserve-requires : goal.reserve-requires
+reserve-requires g c = search rules
+
+pub invariant_of-self : goal.invariant_of-self
+invariant_of-self g c = search rules
+
+pub returns-in_err-reserve-clause-ok : goal.returns-in_err-reserve-clause-ok
+returns-in_err-reserve-clause-ok g c = search rules
+
+pub returns-in_err-reserve-clause-err : goal.returns-in_err-reserve-clause-err
+returns-in_err-reserve-clause-err g c = search rules
+
+pub returns-in_err-reserve-clause-told : goal.returns-in_err-reserve-clause-told
+returns-in_err-reserve-clause-told g c = search rules
+
+pub key-requires : goal.key-requires
+key-requires g c = search rules
+
+pub take_row-requires-clause-can : goal.take_row-requires-clause-can
+take_row-requires-clause-can g c = search rules
+
+pub invariant_of-self-in_err-take_row : goal.invariant_of-self-in_err-take_row
+invariant_of-self-in_err-take_row g c = search rules
+
+pub returns-in_err-take_row-clause-ok : goal.returns-in_err-take_row-clause-ok
+returns-in_err-take_row-clause-ok g c = search rules
+
+pub returns-in_err-take_row-clause-err : goal.returns-in_err-take_row-clause-err
+returns-in_err-take_row-clause-err g c = search rules
+
+pub returns-in_err-take_row-clause-told : goal.returns-in_err-take_row-clause-told
+returns-in_err-take_row-clause-told g c = search rules
+
+pub remove-requires : goal.remove-requires
+remove-requires g c = search rules
+
+pub mark_left-requires : goal.mark_left-requires
+mark_left-requires g c = search rules
+
+pub returns-clause-err : goal.returns-clause-err
+returns-clause-err g c = search rules
+
+pub returns-clause-told : goal.returns-clause-told
+returns-clause-told g c = search rules
