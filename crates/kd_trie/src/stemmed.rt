@@ -100,22 +100,11 @@ impl Stemmed {
         ensures whole { whole self.new ≡ whole self.old }
         ensures name { OnOk result (self.new.stem.name ≡ []) }
     {
-        *self = self.plain()?;
+        let stem = &self.stem;
+        let root = unwound(self.alloc, &stem.aside, &self.root)?;
+        self.stem = Stem::none(self.alloc)?;
+        self.root = root;
         Ok(())
-    }
-
-    // The same trie with pairs in the place of the stem.
-    fn plain(&self) -> Result<Stemmed, AllocError>
-        ensures whole { IfOk result (λ s. whole s ≡ whole self.now) }
-        ensures name { IfOk result (λ s. s.stem.name ≡ []) }
-    {
-        let root = unwound(self.alloc, &self.stem.aside, &self.root)?;
-        let stem = Stem::none(self.alloc)?;
-        Ok(Stemmed {
-            alloc: self.alloc,
-            stem,
-            root,
-        })
     }
 
     // Lengthens the stem to where the trie branches. For want of memory it stays as it is.
@@ -133,27 +122,23 @@ impl Stemmed {
     fn rewind(&mut self)
         ensures { whole self.new ≡ whole self.old }
     {
-        if step(&self.root).is_none() {
-            return;
-        }
-        if let Ok(longer) = self.wound() {
-            *self = longer;
+        if step(&self.root).is_some() {
+            let _ = self.lengthen();
         }
     }
 
-    fn wound(&self) -> Result<Stemmed, AllocError>
-        ensures { IfOk result (λ s. whole s ≡ whole self.now) }
+    fn lengthen(&mut self) -> Result<(), AllocError>
+        ensures { whole self.new ≡ whole self.old }
     {
-        let whole = unwound(self.alloc, &self.stem.aside, &self.root)?;
+        let stem = &self.stem;
+        let whole = unwound(self.alloc, &stem.aside, &self.root)?;
         let mut name = Name::whole();
         let mut aside = Vec::new(self.alloc);
         let root = stretch(&mut name, &mut aside, &whole)?;
         let aside = Arc::new(self.alloc, aside)?;
-        Ok(Stemmed {
-            alloc: self.alloc,
-            stem: Stem { name, aside },
-            root,
-        })
+        self.stem = Stem { name, aside };
+        self.root = root;
+        Ok(())
     }
 
     /// Puts a bucket where a key leads to, once the step has succeeded.
