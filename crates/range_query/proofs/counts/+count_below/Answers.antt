@@ -1,4 +1,4 @@
-use Rattle.std.proofs.Common.{◌≡◌, ◌<◌, ◌^◌, ◌∙◌, List, length, length-append, true, false, not, sym, ap, subst, arith}
+use Rattle.std.proofs.Common.{◌≡◌, ◌<◌, ◌^◌, ◌∙◌, List, length, length-append, true, false, not, sym, ap, subst, arith, ◌+◌, ◌++◌, ◌∷◌, [], rules}
 use Rattle.std.specs.Prelude.{◌&&◌}
 use Rattle.std.specs.Arc.{arc_value}
 use Rattle.prefix_names.specs.Regions.{lies_in, region_of}
@@ -6,7 +6,7 @@ use Rattle.index_layer.specs.Leaves.{Leaf, all_rows}
 use Rattle.table_share.specs.KeysUnder.{AreKeysUnder}
 use Rattle.table_share.specs.Subtree.{subtree}
 use Rattle.table_share.proofs.Subtrees.{inner-room, passing-both, passing-leaf, subtree-failing, subtree-leaf}
-use Rattle.range_query.specs.Cut.{is_met, is_cut, leaves_met, leaves_cut, number_in}
+use Rattle.range_query.specs.Cut.{IsAreaOf, is_met, is_cut, leaves_met, leaves_cut, number_in}
 use Rattle.range_query.proofs.BoxCounts.{count_one, count_two, cut_one}
 use Rattle.range_query.proofs.BoxLeaves.{met-is, is_met-narrows, is_cut-narrows, keys_of_leaf}
 use Rattle.range_query.proofs.Reaches.{area-box}
@@ -75,3 +75,31 @@ returns-in-Halves-clause-opened g t c =
     let region = c.args.region.now in
     let both = passing-both (is_cut region) leaves (g.met.I.Index.are_leaves c.args.index.now).tile c.args.name.now c.child.result c.child-in-Halves.result c.child.ensures c.child-in-Halves.ensures c.in-Halves.ensures.0 c.in-Halves.ensures.1 in
     omega (arith, c.count_below-first.ensures.opened, c.count_below-second.ensures.opened, ap length both, length-append (leaves_cut region (subtree c.child.result leaves)) (leaves_cut region (subtree c.child-in-Halves.result leaves)))
+
+pub child-requires-in-Halves : goal.child-requires-in-Halves
+child-requires-in-Halves g t c =
+    inner-room c.args.name.now (g.I.Index.leaves c.args.index.now) (g.met.I.Index.are_leaves c.args.index.now).tile c.in-Halves.ensures.0
+
+pub count_below-first-requires : goal.count_below-first-requires
+count_below-first-requires g t c κs within =
+    let name = c.args.name.now in
+    let room : length name < 64 = inner-room c.args.name.now (g.I.Index.leaves c.args.index.now) (g.met.I.Index.are_leaves c.args.index.now).tile c.in-Halves.ensures.0 in
+    let longer : length c.child.result ≡ length name + 1 = ap length c.child.ensures ∙ length-append name (false ∷ []) in
+    let there = subst (g.I.Index.is_at c.args.index.now c.in-Halves.zero.now) (sym c.child.ensures) c.in-Halves.ensures.2 in
+    let of : IsAreaOf c.child.result c.halves.result.0 = record { is = c.halves.ensures.zero ∙ ap region_of (sym c.child.ensures); short = omega (arith, room, longer) } in
+    (omega (arith, room, longer), (search rules, (search rules, (search rules, (c.requires.is_box, (there, of))))))
+
+pub count_below-second-requires : goal.count_below-second-requires
+count_below-second-requires g t c κs within =
+    let name = c.args.name.now in
+    let room : length name < 64 = inner-room c.args.name.now (g.I.Index.leaves c.args.index.now) (g.met.I.Index.are_leaves c.args.index.now).tile c.in-Halves.ensures.0 in
+    let longer : length c.child-in-Halves.result ≡ length name + 1 = ap length c.child-in-Halves.ensures ∙ length-append name (true ∷ []) in
+    let there = subst (g.I.Index.is_at c.args.index.now c.in-Halves.one.now) (sym c.child-in-Halves.ensures) c.in-Halves.ensures.3 in
+    let of : IsAreaOf c.child-in-Halves.result c.halves.result.1 = record { is = c.halves.ensures.one ∙ ap region_of (sym c.child-in-Halves.ensures); short = omega (arith, room, longer) } in
+    (omega (arith, room, longer), (search rules, (search rules, (search rules, (c.requires.is_box, (there, of))))))
+
+pub halves-requires-clause-whole : goal.halves-requires-clause-whole
+halves-requires-clause-whole g t c = c.requires.area.is
+
+pub count_leaf-requires-clause-met : goal.count_leaf-requires-clause-met
+count_leaf-requires-clause-met g t c = met-is c.args.region.now c.args.area.now c.args.name.now c.meets.result true c.meets.ensures.test c.requires.area.is c.if-not-meets.false

@@ -1,11 +1,12 @@
-use Rattle.std.proofs.Common.{◌≡◌, ◌≤◌, ◌+◌, ◌++◌, ◌∷◌, ◌∙◌, [], Bool, List, OnOk, length, length-append, true, false, refl, sym, ap, subst, arith}
+use Rattle.std.proofs.Common.{◌≡◌, ◌≤◌, ◌+◌, ◌++◌, ◌∷◌, ◌∙◌, [], Bool, List, OnOk, length, length-append, true, false, refl, sym, ap, subst, arith, ◌<◌, rules}
 use Rattle.std.specs.Arc.{arc_value}
 use Rattle.zorder.specs.declared.points.Placed.{Placed}
+use Rattle.prefix_names.specs.Regions.{region_of}
 use Rattle.index_layer.specs.Leaves.{Leaf}
 use Rattle.table_share.specs.KeysUnder.{AreKeysUnder}
 use Rattle.table_share.specs.Subtree.{subtree, leaves_of}
 use Rattle.table_share.proofs.Subtrees.{inner-room, passing-both, passing-leaf, subtree-failing}
-use Rattle.range_query.specs.Cut.{is_met, leaves_met, objects_held}
+use Rattle.range_query.specs.Cut.{IsAreaOf, is_met, leaves_met, objects_held}
 use Rattle.range_query.specs.Listing.{IsListing}
 use Rattle.range_query.proofs.BoxLeaves.{met-is, is_met-narrows, found_one, found_two, found_none, held-append, keys_of_leaf}
 use Rattle.range_query.proofs.Listings.{on_ok}
@@ -117,3 +118,28 @@ returns-in_ok-list_below-in-Halves-clause-exact g t c =
     on_ok c.list_below-in-Halves.result
     (λ rest few. let before = first (omega (arith, few, grows)) in let after = rest few in omega (arith, before, after, ap length both, length-append zero one))
     c.list_below-in-Halves.ensures.exact
+
+pub child-requires-in-Halves : goal.child-requires-in-Halves
+child-requires-in-Halves g t c =
+    inner-room c.args.name.now (g.I.Index.leaves c.args.index.now) (g.met.I.Index.are_leaves c.args.index.now).tile c.in-Halves.ensures.0
+
+pub list_below-requires : goal.list_below-requires
+list_below-requires g t c κs within =
+    let name = c.args.name.now in
+    let room : length name < 64 = inner-room c.args.name.now (g.I.Index.leaves c.args.index.now) (g.met.I.Index.are_leaves c.args.index.now).tile c.in-Halves.ensures.0 in
+    let longer : length c.child.result ≡ length name + 1 = ap length c.child.ensures ∙ length-append name (false ∷ []) in
+    let there = subst (g.I.Index.is_at c.args.index.now c.in-Halves.zero.now) (sym c.child.ensures) c.in-Halves.ensures.2 in
+    let of : IsAreaOf c.child.result c.halves.result.0 = record { is = c.halves.ensures.zero ∙ ap region_of (sym c.child.ensures); short = omega (arith, room, longer) } in
+    (omega (arith, room, longer), (search rules, (search rules, (search rules, (c.requires.is_box, (there, of))))))
+
+pub list_below-requires-in-Halves : goal.list_below-requires-in-Halves
+list_below-requires-in-Halves g t c κs within =
+    let name = c.args.name.now in
+    let room : length name < 64 = inner-room c.args.name.now (g.I.Index.leaves c.args.index.now) (g.met.I.Index.are_leaves c.args.index.now).tile c.in-Halves.ensures.0 in
+    let longer : length c.child-in-Halves.result ≡ length name + 1 = ap length c.child-in-Halves.ensures ∙ length-append name (true ∷ []) in
+    let there = subst (g.I.Index.is_at c.args.index.now c.in-Halves.one.now) (sym c.child-in-Halves.ensures) c.in-Halves.ensures.3 in
+    let of : IsAreaOf c.child-in-Halves.result c.halves.result.1 = record { is = c.halves.ensures.one ∙ ap region_of (sym c.child-in-Halves.ensures); short = omega (arith, room, longer) } in
+    (omega (arith, room, longer), (search rules, (search rules, (search rules, (c.requires.is_box, (there, of))))))
+
+pub halves-requires-clause-whole : goal.halves-requires-clause-whole
+halves-requires-clause-whole g t c = c.requires.area.is
