@@ -1,4 +1,4 @@
-use Rattle.std.proofs.Common.{◌≡◌, ◌+◌, ◌++◌, ◌∷◌, ◌∙◌, [], Bool, List, OnOk, length, length-append, true, false, refl, sym, ap, subst, arith}
+use Rattle.std.proofs.Common.{◌≡◌, ◌+◌, ◌++◌, ◌∷◌, ◌∙◌, [], Bool, List, OnOk, length, length-append, true, false, refl, sym, ap, subst, arith, ◌<◌, rules}
 use Rattle.std.specs.Arc.{arc_value}
 use Rattle.bucket_versions.specs.declared.row.Row.{Row}
 use Rattle.index_layer.specs.Leaves.{Leaf}
@@ -94,3 +94,21 @@ returns-in_ok-push_subtree-in-Halves-clause-exact g t c =
     let sum : c.push_subtree.new.steps + length (leaves_of passes (subtree c.child-in-Halves.result leaves)) ≡ c.args.steps.now + length (leaves_of passes (subtree name leaves)) =
     omega (arith, c.in_ok-push_subtree-in-Halves.ensures.exact, ap length both, length-append (leaves_of passes (subtree c.child.result leaves)) (leaves_of passes (subtree c.child-in-Halves.result leaves))) in
     subst (λ n. OnOk c.push_subtree-in-Halves.result (c.push_subtree-in-Halves.new.steps ≡ n)) sum c.push_subtree-in-Halves.ensures.exact
+
+pub child-requires-in-Halves : goal.child-requires-in-Halves
+child-requires-in-Halves g t c =
+    inner-room c.args.name.now (g.I.Index.leaves c.args.index.now) (g.met.I.Index.are_leaves c.args.index.now).tile c.in-Halves.ensures.0
+
+pub push_subtree-requires : goal.push_subtree-requires
+push_subtree-requires g t c κs within =
+    let name = c.args.name.now in
+    let room : length name < 64 = inner-room c.args.name.now (g.I.Index.leaves c.args.index.now) (g.met.I.Index.are_leaves c.args.index.now).tile c.in-Halves.ensures.0 in
+    let longer : length c.child.result ≡ length name + 1 = ap length c.child.ensures ∙ length-append name (false ∷ []) in
+    (omega (arith, room, longer), (search rules, (search rules, (search rules, subst (g.I.Index.is_at c.args.index.now c.in-Halves.zero.now) (sym c.child.ensures) c.in-Halves.ensures.2))))
+
+pub push_subtree-requires-in-Halves : goal.push_subtree-requires-in-Halves
+push_subtree-requires-in-Halves g t c κs within =
+    let name = c.args.name.now in
+    let room : length name < 64 = inner-room c.args.name.now (g.I.Index.leaves c.args.index.now) (g.met.I.Index.are_leaves c.args.index.now).tile c.in-Halves.ensures.0 in
+    let longer : length c.child-in-Halves.result ≡ length name + 1 = ap length c.child-in-Halves.ensures ∙ length-append name (true ∷ []) in
+    (omega (arith, room, longer), (search rules, (search rules, (search rules, subst (g.I.Index.is_at c.args.index.now c.in-Halves.one.now) (sym c.child-in-Halves.ensures) c.in-Halves.ensures.3))))
