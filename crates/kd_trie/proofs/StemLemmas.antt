@@ -93,6 +93,10 @@ pub stem-over-append : (sides : List Side) (s : Side) (t : Trie) → stem_over (
 stem-over-append [] s t = refl
 stem-over-append (r ∷ sides) s t = ap (halves r.bit (seen r.node)) (stem-over-append sides s t)
 
+pub way-append : (sides : List Side) (s : Side) → way_of (sides ++ s ∷ []) ≡ way_of sides ++ s.bit ∷ []
+way-append [] s = refl
+way-append (r ∷ sides) s = ap (λ (way : List Bool). r.bit ∷ way) (way-append sides s)
+
 -- a stem that grows by one side and then further
 pub stretched : {E : Type 0} (r : Result Node E) (old between new : List Side) (s : Side) (on t : Trie) → between ≡ old ++ s ∷ [] → t ≡ halves s.bit (seen s.node) on
     → IfOk r (λ n. stem_over new (seen n) ≡ stem_over between on) → IfOk r (λ n. stem_over new (seen n) ≡ stem_over old t)

@@ -1,4 +1,4 @@
-use Rattle.std.proofs.Common.{ap}
+use Rattle.std.proofs.Common.{ap, rules}
 use Rattle.kd_trie.specs.Nodes.{seen}
 use Rattle.kd_trie.proofs.Steps.{held, step, graft-step, kept-step, on_ok, on_err}
 use Rattle.kd_trie.proofs.node.+graft.Goals as goal
@@ -12,3 +12,8 @@ pub returns-in_ok-pair-in-Inner-clause-err : goal.returns-in_ok-pair-in-Inner-cl
 returns-in_ok-pair-in-Inner-clause-err g t c =
     let s = step {key = c.args.key} c.requires.fits (ap seen c.in-Inner.is) c.in_ok-pair-in-Inner.ensures.value c.next_bit.ensures c.half-half.ensures.half in
     on_err c.graft.result (kept-step s c.graft.new.node _ (c.own.follows.holds _ (held c.own.result c.in_ok-pair-in-Inner.was))) c.graft.ensures.err
+
+pub graft-requires : goal.graft-requires
+graft-requires g t c κs within =
+    let s = step {key = c.args.key} c.requires.fits (ap seen c.in-Inner.is) c.in_ok-pair-in-Inner.ensures.value c.next_bit.ensures c.half-half.ensures.half in
+    (search rules, (search rules, (c.requires.can, s.fits)))
