@@ -51,6 +51,16 @@ module _ (region : Region) (ms : List Placed) (all rows left : List Row) (r : Ro
   pub passed-in : (new : Listing) → (IsListing p.done listing → IsListing (p.done ++ placed_of r ∷ []) new) → Passed region ms all left new
   passed-in new add = record { done = p.done ++ placed_of r ∷ []; is = add p.is; rest = next }
 
+-- a row that is passed over
+pub passed-by : (region : Region) (ms : List Placed) (all rows left : List Row) (r : Row) (listing : Listing) → rows ≡ r ∷ left → has_point region (placed_of r).at ≡ false → Passed region ms all rows listing
+    → Passed region ms all left listing
+passed-by region ms all rows left r listing first away p = record {
+  done = p.done;
+  is = p.is;
+  rest = ap (λ b. p.done ++ cond b (placed_of r ∷ members_in region (objects_of left)) (members_in region (objects_of left))) (sym away)
+      ∙ ap (λ (rs : List Row). p.done ++ members_in region (objects_of rs)) (sym first) ∙ p.rest;
+}
+
 -- the answer that a list of the objects is
 pub listed-many : (ms found : List Placed) (n : ℕ) → IsPermutation ms found → n ≡ length found → 2048 < n → Many n ≡ listed ms
 listed-many ms found n moved is many =
