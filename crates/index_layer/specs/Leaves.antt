@@ -51,10 +51,6 @@ with_bucket name bucket l = if same_name l.name name then record { name = l.name
 abbrev pub replaced : List Bool → Rows → List Leaf → List Leaf
 replaced name bucket leaves = map (with_bucket name bucket) leaves
 
--- the leaves, with other buckets under two names, or one after the other under one
-abbrev pub both_replaced : List Bool → Rows → List Bool → Rows → List Leaf → List Leaf
-both_replaced name bucket other other_bucket leaves = replaced other other_bucket (replaced name bucket leaves)
-
 -- leaves of these names, with these buckets
 abbrev pub leaves_of : List (List Bool) → List Rows → List Leaf
 leaves_of [] buckets = []

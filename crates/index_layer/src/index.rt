@@ -2,7 +2,7 @@
 ghost use Rattle.std.specs.Prelude.{◌≡◌, ◌⊎◌, ◌^◌, ◌+◌, ◌≤◌, ◌↔◌, ℕ, Bool, List, [], length, map, false, true, Ok, IfOk, OnOk, OnErr, IfErr, IsErrOf};
 ghost use Rattle.std.specs.Arc.{arc_value};
 ghost use Rattle.bucket_versions.specs.Told.{Told};
-ghost use Rattle.index_layer.specs.Leaves.{Leaf, AreLeaves, one_leaf, has_name, leaf_under, replaced, both_replaced, split, AreUnder, AreAllUnder};
+ghost use Rattle.index_layer.specs.Leaves.{Leaf, AreLeaves, one_leaf, has_name, leaf_under, replaced, split, AreUnder, AreAllUnder};
 ghost use Rattle.index_layer.specs.Part.{IsPart};
 ghost use Rattle.index_layer.specs.Below.{IsBelow, begins_some};
 ghost use Rattle.index_layer.specs.Narrowed.{PassesBare};
@@ -203,32 +203,6 @@ pub trait Index: Sized + Drop {
         ensures told { Told C.done C.lost commit.old commit.new result }
     {
         let index = or_memory(self.replaced(name, bucket))?;
-        if !commit.commit() {
-            return Err(Undone::Lost);
-        }
-        *self = index;
-        Ok(())
-    }
-
-    /// Puts other buckets under the names of two leaves, or one after the other under one name, once the step has succeeded.
-    fn replace_two<C: Commit>(
-        &mut self,
-        name: &Name,
-        bucket: Arc<Bucket>,
-        other: &Name,
-        other_bucket: Arc<Bucket>,
-        commit: &mut C,
-    ) -> Result<(), Undone>
-        requires can { C.can commit.old }
-        requires leaf { (has_name name.now (leaves self.old) ≡ true) × (has_name other.now (leaves self.old) ≡ true) }
-        requires under { AreUnder name.now (arc_value bucket).rows }
-        requires other_under { AreUnder other.now (arc_value other_bucket).rows }
-        ensures ok { OnOk result (leaves self.new ≡ both_replaced name.now (arc_value bucket) other.now (arc_value other_bucket) (leaves self.old)) }
-        ensures err { OnErr result (leaves self.new ≡ leaves self.old) }
-        ensures told { Told C.done C.lost commit.old commit.new result }
-    {
-        let index = or_memory(self.replaced(name, bucket))?;
-        let index = or_memory(index.replaced(other, other_bucket))?;
         if !commit.commit() {
             return Err(Undone::Lost);
         }
