@@ -1,6 +1,6 @@
 //! The fields of a record, column by column.
-ghost use Rattle.std.specs.Prelude.{◌≡◌, ◌≢◌, ◌<◌, ◌^◌, ◌∷◌, [], true, false, length, IfOk, MatchOption, MatchResult};
-ghost use Rattle.csv.specs.Records.{fields_of};
+ghost use Rattle.std.specs.Prelude.{◌≡◌, ◌≢◌, ◌<◌, ◌^◌, ◌∷◌, [], true, false, length, Some, IfOk, MatchOption, MatchResult};
+ghost use Rattle.csv.specs.Records.{field_at, fields_of};
 ghost use Rattle.plain_list.specs.Answer.{IsValid, FitsOp};
 ghost use Rattle.csv_rows.specs.Fields.{Empty, keeps, is_text, word_of, placed_by, id_by, point_by, box_by, near_by, op_by, row_of, ReadsNumber};
 ghost use Rattle.zorder.specs.Key.{IsPoint};
@@ -77,36 +77,26 @@ fn fields_in(record: &ByteRecord) -> Option<Fields<'_>>
     if record.len() != 7 {
         return None;
     }
-    let Some(session) = record.get(0) else {
-        return None;
-    };
-    let Some(op) = record.get(1) else {
-        return None;
-    };
-    let Some(id) = record.get(2) else {
-        return None;
-    };
-    let Some(x) = record.get(3) else {
-        return None;
-    };
-    let Some(y) = record.get(4) else {
-        return None;
-    };
-    let Some(a) = record.get(5) else {
-        return None;
-    };
-    let Some(b) = record.get(6) else {
-        return None;
-    };
     Some(Fields {
-        session,
-        op,
-        id,
-        x,
-        y,
-        a,
-        b,
+        session: field_in(record, 0),
+        op: field_in(record, 1),
+        id: field_in(record, 2),
+        x: field_in(record, 3),
+        y: field_in(record, 4),
+        a: field_in(record, 5),
+        b: field_in(record, 6),
     })
+}
+
+// The field at a place where there is one.
+fn field_in(record: &ByteRecord, place: usize) -> &[u8]
+    requires { place < length (fields_of record.now) }
+    ensures { field_at (fields_of record.now) place ≡ Some result.now }
+{
+    match record.get(place) {
+        Some(field) => field,
+        None => unreachable!(),
+    }
 }
 
 // Whether a field is this text.
@@ -160,10 +150,22 @@ fn read_op(fields: &Fields) -> Result<Op, Wrong>
     ensures rules { IfOk result (λ op. IsValid op × FitsOp op) }
 {
     match word_of(fields.op) {
-        Some(Word::Put) => read_placed(fields).map(|(id, at)| Op::Put { id, at }),
-        Some(Word::Move) => read_placed(fields).map(|(id, at)| Op::Move { id, at }),
-        Some(Word::Drop) => read_id(fields).map(|id| Op::Remove { id }),
-        Some(Word::Where) => read_id(fields).map(|id| Op::Find { id }),
+        Some(Word::Put) => {
+            let (id, at) = read_placed(fields)?;
+            Ok(Op::Put { id, at })
+        }
+        Some(Word::Move) => {
+            let (id, at) = read_placed(fields)?;
+            Ok(Op::Move { id, at })
+        }
+        Some(Word::Drop) => {
+            let id = read_id(fields)?;
+            Ok(Op::Remove { id })
+        }
+        Some(Word::Where) => {
+            let id = read_id(fields)?;
+            Ok(Op::Find { id })
+        }
         Some(Word::Box) => read_box(fields),
         Some(Word::Near) => read_near(fields),
         None => Err(Wrong::Column(2)),
