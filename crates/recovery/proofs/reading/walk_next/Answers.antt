@@ -1,4 +1,4 @@
-use Rattle.recovery.proofs.OnlyReading.{reads_failed, reads_sound}
+use Rattle.recovery.proofs.OnlyReading.{damaged-other, reads_failed, reads_sound}
 use Rattle.recovery.proofs.OpeningLemmas.{not_ok}
 use Rattle.recovery.proofs.PieceLemmas.{passed_on}
 use Rattle.recovery.proofs.ReadingLemmas.{broken, ended, went_on, cut_short, breaks_sound}
@@ -48,7 +48,7 @@ returns-in_err-all-clause-ok g c =
 
 pub returns-then-got-eq0-clause-reads : goal.returns-then-got-eq0-clause-reads
 returns-then-got-eq0-clause-reads g c =
-    reads_sound (g.D.LogDisk.drive c.args.disk.now) (g.D.LogDisk.drive c.read_piece.new.disk) _ c.read_piece.ensures.stays c.in_ok-got.ensures.cause.same c.read_piece.ensures.cause.file (λ disk. cc (c.damaged.ensures, disk))
+    reads_sound (g.D.LogDisk.drive c.args.disk.now) (g.D.LogDisk.drive c.read_piece.new.disk) _ c.read_piece.ensures.stays c.in_ok-got.ensures.cause.same c.read_piece.ensures.cause.file (damaged-other _ _ _ c.damaged.ensures)
 
 pub returns-in-Clear-clause-reads : goal.returns-in-Clear-clause-reads
 returns-in-Clear-clause-reads g c =
@@ -60,7 +60,7 @@ returns-in-Set-clause-reads g c =
 
 pub returns-in-Set-2-clause-reads : goal.returns-in-Set-2-clause-reads
 returns-in-Set-2-clause-reads g c =
-    reads_sound (g.D.LogDisk.drive c.args.disk.now) (g.D.LogDisk.drive c.read_piece.new.disk) _ c.read_piece.ensures.stays c.in_ok-got.ensures.cause.same c.read_piece.ensures.cause.file (λ disk. cc (c.damaged-in-Set-2.ensures, disk))
+    reads_sound (g.D.LogDisk.drive c.args.disk.now) (g.D.LogDisk.drive c.read_piece.new.disk) _ c.read_piece.ensures.stays c.in_ok-got.ensures.cause.same c.read_piece.ensures.cause.file (damaged-other _ _ _ c.damaged-in-Set-2.ensures)
 
 pub returns-in_err-all-clause-reads : goal.returns-in_err-all-clause-reads
 returns-in_err-all-clause-reads g c =
