@@ -4,7 +4,7 @@ use Rattle.std.specs.Prelude.{codes, IsTrue}
 use Rattle.std.proofs.lemmas.Bool.{true≢false}
 use Rattle.zorder.specs.declared.points.Region.{Region}
 use Rattle.csv_rows.specs.Numbers.{number_in}
-use Rattle.command_words.specs.Words.{Command, AsksFor, NamesFile, SpellsBox, SpellsPlay, SpellsShow, IsInit, IsCheck, IsPlay, IsShow, IsTrial, IsUnlogged, IsLogged, is_file_name, Init, Check, Play, Show, Trial}
+use Rattle.command_words.specs.Words.{Command, AsksFor, NamesFile, SpellsBox, SpellsNoSize, SpellsPlay, SpellsShow, IsInit, IsCheck, IsPlay, IsShow, IsTrial, IsUnlogged, IsLogged, is_file_name, Init, Check, Play, Show, Trial}
 use Rattle.command_words.proofs.TrialFacts.{trial-word, one-trial, word-at}
 
 init-word : (words : List (List ℕ)) → IsInit words → get_or words 0 [] ≡ codes "init"
@@ -25,6 +25,12 @@ not-played words none play = let (log, size, spells) = spells-play words play in
 log-word : (words : List (List ℕ)) (log : List ℕ) (size : ℕ) → SpellsPlay words log size → get_or words 1 [] ≡ log
 log-word words log size (inl two) = ap (λ (ws : List (List ℕ)). get_or ws 1 []) two.0
 log-word words log size (inr sized) = ap (λ (ws : List (List ℕ)). get_or ws 1 []) sized.1
+
+-- four words of which the last two spell no size
+pub not-sized : (words : List (List ℕ)) (command log option number : List ℕ) → words ≡ command ∷ log ∷ option ∷ number ∷ [] → SpellsNoSize option number → (other : List ℕ) (size : ℕ) → SpellsPlay words other size → ⊥
+not-sized words command log option number is none other size (inl (two, plain)) = absurd (omega (arith, ap length (sym two ∙ is)))
+not-sized words command log option number is none other size (inr (digits, spells, named)) =
+    none (word-at 2 words _ _ is spells) size (ap (number_in 4 4096) (word-at 3 words _ _ is spells) ∙ named)
 
 play-word : (words : List (List ℕ)) → IsPlay words → get_or words 0 [] ≡ codes "play"
 play-word words play = let (log, size, spells) = spells-play words play in by_form log size spells

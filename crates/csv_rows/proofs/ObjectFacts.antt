@@ -6,6 +6,10 @@ use Rattle.zorder.specs.declared.points.Placed.{Placed}
 use Rattle.zorder.specs.declared.points.Region.{Region}
 use Rattle.csv_rows.specs.ObjectLines.{line_in, object_line, object_title, objects_text}
 
+-- the line of an object in the box
+pub line_in-inside : (region : Region) (m : Placed) → has_point region m.at ≡ true → line_in region m ≡ object_line m
+line_in-inside region m e = ap (λ b. cond b (object_line m) []) e
+
 lines-tested : (b : Bool) (region : Region) (m : Placed) (ms rest : List Placed) → flat_map (line_in region) ms ≡ flat_map object_line rest
     → cond b (object_line m) [] ++ flat_map (line_in region) ms ≡ flat_map object_line (cond b (m ∷ rest) rest)
 lines-tested true region m ms rest same = ap (λ l. object_line m ++ l) same

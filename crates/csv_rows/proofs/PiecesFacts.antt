@@ -48,6 +48,10 @@ moves-more a b text held more h = record {
 pub moves-is : (a b : Option (List ℕ)) (text other held : List ℕ) → text ≡ other → Moves a b text held → Moves a b other held
 moves-is a b text other held e h = subst (λ (l : List ℕ). Moves a b l held) e h
 
+-- more text was pushed on what is held back
+pub moves-pushed : (a b : Option (List ℕ)) (text held more pushed : List ℕ) → Moves a b text held → pushed ≡ held ++ more → Moves a b (text ++ more) pushed
+moves-pushed a b text held more pushed h e = subst (λ (l : List ℕ). Moves a b (text ++ more) l) (sym e) (moves-more a b text held more h)
+
 -- what a put of what was held back did
 pub moves-lost : (a b : Option (List ℕ)) (piece : List ℕ) (n : ℕ) → n ≤ length piece → Appends a b (take n piece) → Moves a b piece (drop n piece)
 moves-lost a b piece n le h = record { front = take n piece; grew = h; whole = take-append-drop n piece }

@@ -1,8 +1,8 @@
 //! The fields of a record, column by column.
-ghost use Rattle.std.specs.Prelude.{◌≡◌, ◌≢◌, ◌<◌, ◌^◌, ◌∷◌, [], true, false, length, IfOk, MatchOption, MatchResult};
-ghost use Rattle.csv.specs.Records.{fields_of};
+ghost use Rattle.std.specs.Prelude.{◌≡◌, ◌≢◌, ◌<◌, ◌≤◌, ◌^◌, ◌∷◌, [], true, false, length, Some, IfOk, MatchOption};
+ghost use Rattle.csv.specs.Records.{field_at, fields_of};
 ghost use Rattle.plain_list.specs.Answer.{IsValid, FitsOp};
-ghost use Rattle.csv_rows.specs.Fields.{Empty, keeps, is_text, word_of, placed_by, id_by, point_by, box_by, near_by, op_by, row_of, ReadsNumber};
+ghost use Rattle.csv_rows.specs.Fields.{Between, Empty, keeps, is_text, number, word_of, placed_by, id_by, point_by, box_by, near_by, op_by, row_of};
 ghost use Rattle.zorder.specs.Key.{IsPoint};
 ghost use Rattle.csv_rows.specs.Rows.{is_header};
 ghost use Rattle.csv_rows.specs.InRows.{IsInRow};
@@ -46,7 +46,9 @@ pub(crate) fn row_of(record: &ByteRecord) -> Result<InRow, Wrong>
     let Some(fields) = fields_in(record) else {
         return Err(Wrong::Length);
     };
-    let session = number_at(1, fields.session, 1, 16)?;
+    let Some(session) = number_of(fields.session, 1, 16) else {
+        return Err(Wrong::Column(1));
+    };
     let op = read_op(&fields)?;
     Ok(InRow {
         session: session as u8,
@@ -77,36 +79,26 @@ fn fields_in(record: &ByteRecord) -> Option<Fields<'_>>
     if record.len() != 7 {
         return None;
     }
-    let Some(session) = record.get(0) else {
-        return None;
-    };
-    let Some(op) = record.get(1) else {
-        return None;
-    };
-    let Some(id) = record.get(2) else {
-        return None;
-    };
-    let Some(x) = record.get(3) else {
-        return None;
-    };
-    let Some(y) = record.get(4) else {
-        return None;
-    };
-    let Some(a) = record.get(5) else {
-        return None;
-    };
-    let Some(b) = record.get(6) else {
-        return None;
-    };
     Some(Fields {
-        session,
-        op,
-        id,
-        x,
-        y,
-        a,
-        b,
+        session: field_in(record, 0),
+        op: field_in(record, 1),
+        id: field_in(record, 2),
+        x: field_in(record, 3),
+        y: field_in(record, 4),
+        a: field_in(record, 5),
+        b: field_in(record, 6),
     })
+}
+
+// The field at a place where there is one.
+fn field_in(record: &ByteRecord, place: usize) -> &[u8]
+    requires { place < length (fields_of record.now) }
+    ensures { field_at (fields_of record.now) place ≡ Some result.now }
+{
+    match record.get(place) {
+        Some(field) => field,
+        None => unreachable!(),
+    }
 }
 
 // Whether a field is this text.
@@ -136,23 +128,18 @@ fn word_of(field: &[u8]) -> Option<Word>
     }
 }
 
-fn number_at(column: u8, field: &[u8], low: u64, high: u64) -> Result<u64, Wrong>
-    ensures { ReadsNumber column field.now low high result }
+// The number that a field says, where it lies between these two.
+fn number_of(field: &[u8], low: u64, high: u64) -> Option<u64>
+    ensures { MatchOption result (keeps (Between low high) field.now ≡ false)
+        (λ n. (keeps (Between low high) field.now ≡ true) × (n ≡ number field.now) × (low ≤ n) × (n ≤ high)) }
 {
-    match number_in(field, low, high) {
-        Some(number) => Ok(number),
-        None => Err(Wrong::Column(column)),
-    }
+    number_in(field, low, high)
 }
 
-fn empty_at(column: u8, field: &[u8]) -> Result<(), Wrong>
-    ensures { MatchResult result (λ _. keeps Empty field.now ≡ true) (λ e. (keeps Empty field.now ≡ false) × (e ≡ Wrong.Column column)) }
+fn is_blank(field: &[u8]) -> bool
+    ensures { result ≡ keeps Empty field.now }
 {
-    if field.is_empty() {
-        Ok(())
-    } else {
-        Err(Wrong::Column(column))
-    }
+    field.is_empty()
 }
 
 fn read_op(fields: &Fields) -> Result<Op, Wrong>
@@ -160,10 +147,22 @@ fn read_op(fields: &Fields) -> Result<Op, Wrong>
     ensures rules { IfOk result (λ op. IsValid op × FitsOp op) }
 {
     match word_of(fields.op) {
-        Some(Word::Put) => read_placed(fields).map(|(id, at)| Op::Put { id, at }),
-        Some(Word::Move) => read_placed(fields).map(|(id, at)| Op::Move { id, at }),
-        Some(Word::Drop) => read_id(fields).map(|id| Op::Remove { id }),
-        Some(Word::Where) => read_id(fields).map(|id| Op::Find { id }),
+        Some(Word::Put) => {
+            let (id, at) = read_placed(fields)?;
+            Ok(Op::Put { id, at })
+        }
+        Some(Word::Move) => {
+            let (id, at) = read_placed(fields)?;
+            Ok(Op::Move { id, at })
+        }
+        Some(Word::Drop) => {
+            let id = read_id(fields)?;
+            Ok(Op::Remove { id })
+        }
+        Some(Word::Where) => {
+            let id = read_id(fields)?;
+            Ok(Op::Find { id })
+        }
         Some(Word::Box) => read_box(fields),
         Some(Word::Near) => read_near(fields),
         None => Err(Wrong::Column(2)),
@@ -175,10 +174,16 @@ fn read_placed(fields: &Fields) -> Result<(u64, Point), Wrong>
     ensures placed { result ≡ placed_by fields.now.id.now fields.now.x.now fields.now.y.now fields.now.a.now fields.now.b.now }
     ensures fits { IfOk result (λ p. (p.0 < 2 ^ 64) × IsPoint p.1) }
 {
-    let id = number_at(3, fields.id, 0, u64::MAX)?;
+    let Some(id) = number_of(fields.id, 0, u64::MAX) else {
+        return Err(Wrong::Column(3));
+    };
     let at = read_point(fields)?;
-    empty_at(6, fields.a)?;
-    empty_at(7, fields.b)?;
+    if !is_blank(fields.a) {
+        return Err(Wrong::Column(6));
+    }
+    if !is_blank(fields.b) {
+        return Err(Wrong::Column(7));
+    }
     Ok((id, at))
 }
 
@@ -187,11 +192,21 @@ fn read_id(fields: &Fields) -> Result<u64, Wrong>
     ensures id { result ≡ id_by fields.now.id.now fields.now.x.now fields.now.y.now fields.now.a.now fields.now.b.now }
     ensures fits { IfOk result (λ id. id < 2 ^ 64) }
 {
-    let id = number_at(3, fields.id, 0, u64::MAX)?;
-    empty_at(4, fields.x)?;
-    empty_at(5, fields.y)?;
-    empty_at(6, fields.a)?;
-    empty_at(7, fields.b)?;
+    let Some(id) = number_of(fields.id, 0, u64::MAX) else {
+        return Err(Wrong::Column(3));
+    };
+    if !is_blank(fields.x) {
+        return Err(Wrong::Column(4));
+    }
+    if !is_blank(fields.y) {
+        return Err(Wrong::Column(5));
+    }
+    if !is_blank(fields.a) {
+        return Err(Wrong::Column(6));
+    }
+    if !is_blank(fields.b) {
+        return Err(Wrong::Column(7));
+    }
     Ok(id)
 }
 
@@ -199,10 +214,16 @@ fn read_box(fields: &Fields) -> Result<Op, Wrong>
     ensures op { result ≡ box_by fields.now.id.now fields.now.x.now fields.now.y.now fields.now.a.now fields.now.b.now }
     ensures rules { IfOk result (λ op. IsValid op × FitsOp op) }
 {
-    empty_at(3, fields.id)?;
+    if !is_blank(fields.id) {
+        return Err(Wrong::Column(3));
+    }
     let lo = read_point(fields)?;
-    let x = number_at(6, fields.a, u64::from(lo.x), COORDINATE_MAX)?;
-    let y = number_at(7, fields.b, u64::from(lo.y), COORDINATE_MAX)?;
+    let Some(x) = number_of(fields.a, u64::from(lo.x), COORDINATE_MAX) else {
+        return Err(Wrong::Column(6));
+    };
+    let Some(y) = number_of(fields.b, u64::from(lo.y), COORDINATE_MAX) else {
+        return Err(Wrong::Column(7));
+    };
     let hi = Point {
         x: x as u32,
         y: y as u32,
@@ -216,10 +237,16 @@ fn read_near(fields: &Fields) -> Result<Op, Wrong>
     ensures op { result ≡ near_by fields.now.id.now fields.now.x.now fields.now.y.now fields.now.a.now fields.now.b.now }
     ensures rules { IfOk result (λ op. IsValid op × FitsOp op) }
 {
-    empty_at(3, fields.id)?;
+    if !is_blank(fields.id) {
+        return Err(Wrong::Column(3));
+    }
     let at = read_point(fields)?;
-    let k = number_at(6, fields.a, 1, 2048)?;
-    empty_at(7, fields.b)?;
+    let Some(k) = number_of(fields.a, 1, 2048) else {
+        return Err(Wrong::Column(6));
+    };
+    if !is_blank(fields.b) {
+        return Err(Wrong::Column(7));
+    }
     Ok(Op::Near { at, k: k as u32 })
 }
 
@@ -228,8 +255,12 @@ fn read_point(fields: &Fields) -> Result<Point, Wrong>
     ensures point { result ≡ point_by fields.now.x.now fields.now.y.now }
     ensures fits { IfOk result IsPoint }
 {
-    let x = number_at(4, fields.x, 0, COORDINATE_MAX)?;
-    let y = number_at(5, fields.y, 0, COORDINATE_MAX)?;
+    let Some(x) = number_of(fields.x, 0, COORDINATE_MAX) else {
+        return Err(Wrong::Column(4));
+    };
+    let Some(y) = number_of(fields.y, 0, COORDINATE_MAX) else {
+        return Err(Wrong::Column(5));
+    };
     Ok(Point {
         x: x as u32,
         y: y as u32,

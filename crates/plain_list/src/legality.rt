@@ -1,5 +1,6 @@
 //! Whether answers that were given are those of one list.
 ghost use Rattle.std.specs.Prelude.{◌≡◌, ◌↔◌, IsTrue, IfOk};
+ghost use Rattle.plain_list.specs.Answer.{answer_of};
 ghost use Rattle.plain_list.specs.Calls.{AreReplies};
 
 use crate::answers::answer;
@@ -15,13 +16,24 @@ pub fn is_legal(alloc: Global, world: &World, calls: &[Call]) -> Result<bool, Me
 {
     let mut now = world.copy(alloc)?;
     for call in calls {
-        let reply = answer(alloc, &now, &call.op)?;
-        if !is_same(&reply, &call.answer) {
+        let legal = is_reply(alloc, &now, call)?;
+        if !legal {
             return Ok(false);
         }
-        now = after(now, &call.op).map_err(|_| Memory)?;
+        let Ok(next) = after(now, &call.op) else {
+            return Err(Memory);
+        };
+        now = next;
     }
     Ok(true)
+}
+
+// Whether a call has the answer of this world.
+fn is_reply(alloc: Global, world: &World, call: &Call) -> Result<bool, Memory>
+    ensures { IfOk result (λ same. IsTrue same ↔ answer_of world.now call.now.op ≡ call.now.answer) }
+{
+    let reply = answer(alloc, world, &call.op)?;
+    Ok(is_same(&reply, &call.answer))
 }
 
 fn is_same(one: &Answer, other: &Answer) -> bool

@@ -4,8 +4,9 @@ use Rattle.std.specs.Prelude.{Result, Ok, Err, IfErr, MatchResult, IsErrOf}
 use Rattle.std.specs.Result.{IsErrAnd}
 use Rattle.causes.specs.Causes.{Rose}
 use Rattle.disk_trait.specs.Drive.{Drive, SameFile, Stays}
+use Rattle.cell_format.specs.declared.cell.Cause.{Cause}
 use Rattle.recovery.specs.declared.seen.OpenFault.{OpenFault}
-use Rattle.recovery.specs.declared.seen.OpenFault.TheVariants.{Disk, Memory}
+use Rattle.recovery.specs.declared.seen.OpenFault.TheVariants.{Damaged, Disk, Memory}
 use Rattle.recovery.specs.declared.pieces.Stop.TheVariants.{Set}
 use Rattle.recovery.specs.Faults.{IsFault}
 use Rattle.recovery.specs.Walk.{WalkView}
@@ -128,6 +129,10 @@ reads_failed a b (Err e) same stays later rose file = record { stays = stays; la
 pub reads_memory : {T : Type 0} (a b : Drive) (result : Result T OpenFault) → IsErrAnd result (λ e. e ≡ Memory) → Stays a b → b.faults ≡ a.faults → SameFile a b → OnlyReads a b result
 reads_memory a b (Ok x) same stays calm file = absurd same
 reads_memory a b (Err e) same stays calm file = record { stays = stays; later = omega (arith, calm); same = λ other. calm; failed = λ disk. cc (same, disk); file = file }
+
+-- damage isn't the drive's fault
+pub damaged-other : (e : OpenFault) (cell : ℕ) (cause : Cause) → e ≡ Damaged cell cause → e ≢ Disk
+damaged-other e cell cause is disk = cc (is, disk)
 
 -- a reading whose last answer isn't the drive's
 pub reads_sound : {T : Type 0} (a b : Drive) (result : Result T OpenFault) → Stays a b → b.faults ≡ a.faults → SameFile a b → IfErr result (λ e. e ≢ Disk) → OnlyReads a b result

@@ -11,7 +11,7 @@ use std::marker::Model;
 use zorder::{Name, child};
 
 /// A leaf, and the number of the split last begun of it, 0 where there is none.
-#[derive(Clone, Copy, Debug)]
+#[derive(Clone, Copy)]
 pub(crate) struct MarkedLeaf {
     pub(crate) name: Name,
     pub(crate) split: u64,

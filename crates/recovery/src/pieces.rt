@@ -11,7 +11,7 @@ use cell_format::{Cause, CellFault, decode};
 const CELL: usize = 32;
 
 /// Where the walk over a piece stopped: the number of cells before, and whether the next commit byte is set.
-#[derive(Clone, Copy, Debug)]
+#[derive(Clone, Copy)]
 pub(crate) enum Stop {
     Clear { cells: u64 },
     /// The piece ends within the cell.

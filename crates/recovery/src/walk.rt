@@ -15,7 +15,7 @@ use std::marker::Model;
 use zorder::{Name, Point};
 
 /// Why no step was made.
-#[derive(Clone, Copy, Debug, PartialEq, Eq)]
+#[derive(Clone, Copy)]
 pub(crate) enum StepFault {
     /// The cell isn't possible at this state.
     Impossible,

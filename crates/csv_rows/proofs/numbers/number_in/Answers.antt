@@ -1,4 +1,4 @@
-use Rattle.std.proofs.Common.{◌≡◌, ◌≤◌, ◌==◌, ◌∙◌, sym, refl, arith, ap, ℕ, zero, suc, false, true, length, Some, eqb-true}
+use Rattle.std.proofs.Common.{◌≡◌, ◌≤◌, ◌<◌, ◌==◌, ◌∙◌, sym, refl, arith, ap, ℕ, zero, suc, false, true, length, Some, eqb-true}
 use Rattle.csv_rows.specs.Numbers.{is_number}
 use Rattle.csv_rows.proofs.NumbersFacts.{is_between-no, is_between-outside, is_between-untold, is_between-yes, is_number-digits, is_number-empty, is_number-long, is_number-parts}
 use Rattle.csv_rows.proofs.numbers.number_in.Goals as goal
@@ -6,6 +6,10 @@ use Rattle.csv_rows.proofs.numbers.number_in.Goals as goal
 not-empty : (n : ℕ) → (n == 0) ≡ false → 1 ≤ n
 not-empty zero e = cc e
 not-empty (suc n) e = omega arith
+
+-- a number below this one isn't at least it
+below : (low value number : ℕ) → value ≡ number → value < low → low ≤ number → ⊥
+below low value number is lt le = omega (arith, is, lt, le)
 
 pub returns-then-is_empty : goal.returns-then-is_empty
 returns-then-is_empty c = rw (is_between-no c.args.low c.args.high c.args.field.now (is_number-empty c.args.field.now (eqb-true _ _ (sym c.is_empty.ensures ∙ c.if-is_empty.true)))) refl
@@ -18,7 +22,7 @@ returns-in_err-value c =
     rw (c.from_residual.ensures, is_between-untold c.args.low c.args.high c.args.field.now (λ number h. c.in_err-value.ensures ((is_number-parts c.args.field.now number).2, omega (arith, h, c.ranges.high.fits)))) refl
 
 pub returns-then-value-low : goal.returns-then-value-low
-returns-then-value-low c = rw (is_between-outside c.args.low c.args.high c.args.field.now (λ l h. omega (arith, l, c.in_ok-value.ensures.1, c.if-value-low.true))) refl
+returns-then-value-low c = rw (is_between-outside c.args.low c.args.high c.args.field.now (λ l h. below c.args.low _ _ c.in_ok-value.ensures.1 c.if-value-low.true l)) refl
 
 pub returns-then-high-value : goal.returns-then-high-value
 returns-then-high-value c = rw (is_between-outside c.args.low c.args.high c.args.field.now (λ l h. omega (arith, h, c.in_ok-value.ensures.1, c.if-high-value.true))) refl

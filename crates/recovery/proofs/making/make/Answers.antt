@@ -42,6 +42,10 @@ pub returns-then-len-gt-MOST_BYTES-clause-small : goal.returns-then-len-gt-MOST_
 returns-then-len-gt-MOST_BYTES-clause-small g c =
     small_stays (g.D.LogDisk.drive c.args.disk.now) (g.D.LogDisk.drive c.len.new.self) (g.met.D.LogDisk.keeps_laws c.args.disk.now) c.len.ensures.stays c.len.ensures.cause.later c.len.ensures.cause.file
 
+pub returns-then-len-gt-MOST_BYTES-clause-refused : goal.returns-then-len-gt-MOST_BYTES-clause-refused
+returns-then-len-gt-MOST_BYTES-clause-refused g c =
+    (c.if-len-gt-MOST_BYTES.true, c.in_ok-len.ensures.len, c.len.ensures.stays, c.in_ok-len.ensures.cause.same)
+
 pub returns-in_err-write-clause-refused : goal.returns-in_err-write-clause-refused
 returns-in_err-write-clause-refused g c =
     let rose : Rose (g.D.LogDisk.drive c.args.disk.now).faults (g.D.LogDisk.drive c.write.new.self).faults = omega (arith, c.in_ok-len.ensures.cause.same, c.in_err-write.ensures.cause.failed) in

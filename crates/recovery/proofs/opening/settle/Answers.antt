@@ -1,7 +1,8 @@
 use Rattle.std.proofs.Common.{Err, ap, sym, ◌∙◌, arith}
+use Rattle.log_state.specs.Recovers.{Recovers}
 use Rattle.recovery.proofs.PieceLemmas.{passed_on}
 use Rattle.recovery.proofs.OnlyReading.{found_before}
-use Rattle.recovery.proofs.OpeningLemmas.{leaves-sync, keeps_cells, is_ready, not_ok, rose_on, refused_sync, refused_read, refused_cut}
+use Rattle.recovery.proofs.OpeningLemmas.{leaves-stays, leaves-sync, leaves-trans, keeps_cells, is_ready, not_ok, rose_on, refused_sync, refused_read, refused_cut}
 use Rattle.recovery.proofs.opening.settle.Goals as goal
 
 pub returns-in_err-sync-clause-found : goal.returns-in_err-sync-clause-found
@@ -97,6 +98,20 @@ returns-clause-rose g c =
 pub returns-clause-later : goal.returns-clause-later
 returns-clause-later g c =
     omega (arith, c.sync.ensures.cause.later, c.read_log.ensures.reads.later, c.cut_behind.ensures.cause.later)
+
+pub returns-in_err-sync-clause-any_moment : goal.returns-in_err-sync-clause-any_moment
+returns-in_err-sync-clause-any_moment g c =
+    let drive = g.D.LogDisk.drive in
+    λ bytes cells told now. leaves-sync (drive c.args.disk.now) (drive c.sync.new.self) (Recovers c.args.width cells) c.sync.result (g.met.D.LogDisk.keeps_laws c.args.disk.now) now c.sync.ensures.syncs
+
+pub returns-in_err-found-clause-any_moment : goal.returns-in_err-found-clause-any_moment
+returns-in_err-found-clause-any_moment g c =
+    let drive = g.D.LogDisk.drive in
+    let laws = g.met.D.LogDisk.keeps_laws in
+    λ bytes cells told now.
+    leaves-trans (drive c.args.disk.now) (drive c.sync.new.self) (drive c.read_log.new.disk) (Recovers c.args.width cells)
+    (leaves-sync (drive c.args.disk.now) (drive c.sync.new.self) (Recovers c.args.width cells) c.sync.result (laws c.args.disk.now) now c.sync.ensures.syncs)
+    (leaves-stays (drive c.sync.new.self) (drive c.read_log.new.disk) (Recovers c.args.width cells) (laws c.sync.new.self) (λ x left. now x (c.sync.ensures.syncs.crash x left)) c.read_log.ensures.reads.stays)
 
 pub returns-in_err-cut_behind-clause-any_moment : goal.returns-in_err-cut_behind-clause-any_moment
 returns-in_err-cut_behind-clause-any_moment g c =

@@ -1,8 +1,8 @@
-use Rattle.recovery.proofs.OnlyReading.{reads_failed, reads_sound}
+use Rattle.recovery.proofs.OnlyReading.{damaged-other, reads_failed, reads_sound}
 use Rattle.recovery.proofs.OpeningLemmas.{not_ok}
 use Rattle.recovery.proofs.PieceLemmas.{passed_on}
 use Rattle.recovery.proofs.ReadingLemmas.{broken, ended, went_on, cut_short, breaks_sound}
-use Rattle.std.proofs.Common.{◌≢◌, arith}
+use Rattle.std.proofs.Common.{◌≢◌, refl, arith}
 use Rattle.recovery.specs.declared.seen.OpenFault.TheVariants.{Disk}
 use Rattle.recovery.proofs.reading.walk_next.Goals as goal
 
@@ -48,7 +48,7 @@ returns-in_err-all-clause-ok g c =
 
 pub returns-then-got-eq0-clause-reads : goal.returns-then-got-eq0-clause-reads
 returns-then-got-eq0-clause-reads g c =
-    reads_sound (g.D.LogDisk.drive c.args.disk.now) (g.D.LogDisk.drive c.read_piece.new.disk) _ c.read_piece.ensures.stays c.in_ok-got.ensures.cause.same c.read_piece.ensures.cause.file (λ disk. cc (c.damaged.ensures, disk))
+    reads_sound (g.D.LogDisk.drive c.args.disk.now) (g.D.LogDisk.drive c.read_piece.new.disk) _ c.read_piece.ensures.stays c.in_ok-got.ensures.cause.same c.read_piece.ensures.cause.file (damaged-other _ _ _ c.damaged.ensures)
 
 pub returns-in-Clear-clause-reads : goal.returns-in-Clear-clause-reads
 returns-in-Clear-clause-reads g c =
@@ -60,9 +60,27 @@ returns-in-Set-clause-reads g c =
 
 pub returns-in-Set-2-clause-reads : goal.returns-in-Set-2-clause-reads
 returns-in-Set-2-clause-reads g c =
-    reads_sound (g.D.LogDisk.drive c.args.disk.now) (g.D.LogDisk.drive c.read_piece.new.disk) _ c.read_piece.ensures.stays c.in_ok-got.ensures.cause.same c.read_piece.ensures.cause.file (λ disk. cc (c.damaged-in-Set-2.ensures, disk))
+    reads_sound (g.D.LogDisk.drive c.args.disk.now) (g.D.LogDisk.drive c.read_piece.new.disk) _ c.read_piece.ensures.stays c.in_ok-got.ensures.cause.same c.read_piece.ensures.cause.file (damaged-other _ _ _ c.damaged-in-Set-2.ensures)
 
 pub returns-in_err-all-clause-reads : goal.returns-in_err-all-clause-reads
 returns-in_err-all-clause-reads g c =
     reads_sound (g.D.LogDisk.drive c.args.disk.now) (g.D.LogDisk.drive c.read_piece.new.disk) _ c.read_piece.ensures.stays c.in_ok-got.ensures.cause.same c.read_piece.ensures.cause.file
     (passed_on c.from_residual-in_err-all.result _ (λ e. e ≢ Disk) c.from_residual-in_err-all.ensures.1 (breaks_sound _ _ _ _ _ _ c.in_err-all.ensures.err))
+
+pub returns-in_err-got-clause-room : goal.returns-in_err-got-clause-room
+returns-in_err-got-clause-room g c = record { width_is = refl; long = c.read_piece.ensures.long }
+
+pub returns-then-got-eq0-clause-room : goal.returns-then-got-eq0-clause-room
+returns-then-got-eq0-clause-room g c = record { width_is = refl; long = c.read_piece.ensures.long }
+
+pub returns-in_err-all-clause-room : goal.returns-in_err-all-clause-room
+returns-in_err-all-clause-room g c = record { width_is = c.walk_piece.ensures.width; long = c.read_piece.ensures.long }
+
+pub returns-in-Clear-clause-room : goal.returns-in-Clear-clause-room
+returns-in-Clear-clause-room g c = record { width_is = c.walk_piece.ensures.width; long = c.read_piece.ensures.long }
+
+pub returns-in-Set-clause-room : goal.returns-in-Set-clause-room
+returns-in-Set-clause-room g c = record { width_is = c.walk_piece.ensures.width; long = c.read_piece.ensures.long }
+
+pub returns-in-Set-2-clause-room : goal.returns-in-Set-2-clause-room
+returns-in-Set-2-clause-room g c = record { width_is = c.walk_piece.ensures.width; long = c.read_piece.ensures.long }
