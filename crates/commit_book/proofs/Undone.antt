@@ -18,7 +18,7 @@ use Rattle.plain_list.specs.State.{State, IsLegal}
 use Rattle.disk_trait.specs.Drive.{Drive, KeepsLaws}
 use Rattle.log_state.specs.Changes.{lost_cells}
 use Rattle.kept_log.specs.KeptView.{KeptView}
-use Rattle.kept_log.specs.Journal.{cells_in, KeepsIn, RoseIn, LeavesEither}
+use Rattle.kept_log.specs.Journal.{cells_in, KeepsIn, RoseIn, LeavesEither, IsSinceIn}
 use Rattle.kept_log.proofs.InJournal.{in-call, leaves-quiet}
 use Rattle.point_table.specs.TableView.{TableView}
 use Rattle.point_table.specs.Updates.{TellsIf}
@@ -32,6 +32,7 @@ use Rattle.commit_book.specs.Steps.{entry_of, fault_of, IsStep, CanStep, Ends, T
 use Rattle.commit_book.specs.declared.book.Book.TheInside.{Inside}
 use Rattle.commit_book.specs.declared.steps.Step.{Step}
 use Rattle.commit_book.proofs.BookStates.{inside-fail}
+use Rattle.commit_book.proofs.EarlyReturns.{since-same}
 use Rattle.commit_book.proofs.OnLog.{in-most, in-failed}
 use Rattle.commit_book.proofs.UpdateCalls.{fewer_cells}
 
@@ -171,3 +172,10 @@ pub refused_freely : (A : Type 0) (o : Option BookFault) (why : Undone) (cell : 
 refused_freely A (Some cause) why cell none = cc none
 refused_freely A None undone.Lost cell none = inr tt
 refused_freely A None undone.Memory cell none = inl refl
+
+-- it leaves the opening of the log
+pub since-undone : {D : Type 0} (drive : D → Drive) (A : Type 0) (log : Option (KeptView D)) (why : Undone) (a b : Step D) → a.journal.now ≡ log → Told {A = A} (Takes drive) (Loses drive) a b (Err why)
+    → IsSinceIn log b.journal.now
+since-undone drive A log undone.Lost a b before told = subst (λ (l : Option (KeptView _)). IsSinceIn l b.journal.now) before told.ends.since
+since-undone drive A log undone.Memory a b before told =
+    subst (λ (l : Option (KeptView _)). IsSinceIn log l) (sym (ap (λ (s : Step _). s.journal.now) told ∙ before)) (since-same log)

@@ -1,17 +1,21 @@
 //! A day of the company.
-ghost use Rattle.std.specs.Prelude.{◌≡◌, ◌+◌, ◌≤◌, [], false};
+ghost use Rattle.std.specs.Prelude.{◌≡◌, ◌+◌, ◌≤◌, [], false, IfSome};
 ghost use Rattle.std.specs.Thread.{IsSync};
 ghost use Rattle.plain_list.specs.World.{IsWorld};
+ghost use Rattle.sessions.specs.Steps.{all_parts};
 ghost use Rattle.dispatch.specs.Callers.{IsFree, KeepsPass};
 
 use crate::callers::{Caller, TaxiPass, Taxis, call, work};
 use crate::town::{DISPATCHER, STATION, WAITING};
+use book_lock::Pass;
 use commit_book::Book;
 use disk_mem::MemDisk;
+use disk_trait::LogDisk;
+use index_layer::Index;
 use io_edge::OpenGate;
 use kd_trie::KdTrie;
 use plain_list::{Answer, Entries, Entry, Op, PlacedList};
-use sessions::{CallFault, Store};
+use sessions::{CallFault, SharedBook, Store};
 use std::alloc::Global;
 use std::marker::Brand;
 use std::sync::Wait;
@@ -94,19 +98,40 @@ pub fn play_day<R: Threads + Wait + Sync, L: Ledger>(
     requires parts { blank.parts ≡ L.parts }
     requires one_part { blank.parts ≡ 1 }
 {
-    let Ok((taxis, mut pass)) = Store::<KdTrie, MemDisk, Brand>::new(alloc, book) else {
-        return None;
-    };
+    let (taxis, mut pass) = open_store(alloc, book)?;
     let mut steps = Steps::<L>::new(blank);
     let (good, nearest) = call_all_day(rt, alloc, &taxis, &mut pass, &mut steps);
     let _ = taxis.settle(rt, alloc, &mut pass, &OpenGate);
-    let events = taxis.close(pass).into_parts().entries;
-    match nearest {
-        Ok(Answer::Found(nearest)) => Some(Day {
-            good,
-            events,
-            nearest,
-        }),
+    let events = history_of(taxis.close(pass));
+    let nearest = found(nearest)?;
+    Some(Day {
+        good,
+        events,
+        nearest,
+    })
+}
+
+// A store of a book, and the pass that has all parts of it, where there is memory for it.
+fn open_store<I: Index, D: LogDisk>(
+    alloc: Global,
+    book: Book<I, D>,
+) -> Option<(Store<I, D, Brand>, Pass<SharedBook<I, D, Brand>>)>
+    requires entries { book.entries ≡ [] }
+    requires world { IsWorld book.opening.world }
+    ensures { IfSome result (λ opened. IsFree opened.0 opened.1 × (opened.1.parts ≡ all_parts)) }
+{
+    Store::<I, D, Brand>::new(alloc, book).ok()
+}
+
+// The history that a book leaves.
+fn history_of<I: Index, D: LogDisk>(book: Book<I, D>) -> Entries {
+    book.into_parts().entries
+}
+
+// The objects that an answer lists.
+fn found(answer: Result<Answer, CallFault>) -> Option<PlacedList> {
+    match answer {
+        Ok(Answer::Found(listed)) => Some(listed),
         _ => None,
     }
 }

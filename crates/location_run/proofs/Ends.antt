@@ -1,5 +1,6 @@
 -- How a run ends.
 use Rattle.std.proofs.Common.{◌≡◌, inl, inr, ℕ, List, Result, Ok, Err, sym, ◌∙◌, arith}
+use Rattle.std.specs.Result.{IsErr}
 use Rattle.causes.specs.Causes.{Counts}
 use Rattle.io_edge.specs.Puts.{Puts}
 use Rattle.csv_rows.specs.declared.rows.Refusal.{Refusal}
@@ -12,6 +13,11 @@ use Rattle.io_edge.specs.Streams.{Output}
 pub takes-from_puts : {T E : Type 0} (old new : Output) (text : List ℕ) (result : Result T E) → Puts old.taken new.taken text result → Counts old.faults new.faults result → TakesLine text old new
 takes-from_puts old new text (Ok x) bytes cause = inl bytes
 takes-from_puts old new text (Err e) bytes cause = inr (cause.failed, (bytes.0, bytes.2))
+
+-- a fault, handed on
+pub counts-lost : {T U E F : Type 0} (before now : ℕ) (e : E) (result : Result U F) → Counts {T = T} before now (Err e) → IsErr result → Counts before now result
+counts-lost before now e (Ok x) counts is = cc is
+counts-lost before now e (Err f) counts is = record { later = counts.later; same = tt; failed = counts.failed }
 
 -- a refusal's status is none of a run that writes lines
 pub no-lines : (why : Refusal) (status : ℕ) → status ≡ status_of why → WritesLines status → ⊥

@@ -2,6 +2,7 @@ pub mod Ends
 pub mod WordsFacts
 pub mod CheckingFacts
 pub mod DriveSteps
+pub mod MakingEnds
 pub mod OpeningFacts
 pub mod CrashFacts
 pub mod BookEnds

@@ -1,10 +1,10 @@
 -- Lines in the order of rows, from what the lanes of their sessions kept.
-use Rattle.std.proofs.Common.{◌≡◌, ℕ, zero, suc, ◌+◌, ◌<◌, ◌≤◌, Bool, true, false, cond, ◌==◌, List, [], ◌∷◌, ◌++◌, length, length-append, take, drop, get_or, set, map, Option, None, Result, refl, sym, ◌∙◌, ap, subst, arith}
+use Rattle.std.proofs.Common.{◌≡◌, ℕ, zero, suc, ◌+◌, ◌<◌, ◌≤◌, Bool, true, false, cond, ◌==◌, List, [], ◌∷◌, ◌++◌, length, length-append, take, drop, get_or, replicate, set, map, Option, None, Result, refl, sym, ◌∙◌, ap, subst, arith}
 use Rattle.std.specs.List.{flat_map, range_with_len}
 use Rattle.std.specs.Result.{IsErr}
 use Rattle.std.proofs.lemmas.Bool.{eqb-true, eqb-false}
 use Rattle.std.proofs.lemmas.Bool.Decides.{Decides-eqb}
-use Rattle.std.proofs.lemmas.List.{append-nil, drop_more, take_more, length-set, get_or-set_other}
+use Rattle.std.proofs.lemmas.List.{append-nil, drop_more, take_more, length-set, length-replicate, get_or-replicate, get_or-set_other}
 use Rattle.std.proofs.lemmas.List.FromFn.{length-range_with_len}
 use Rattle.std.proofs.lemmas.Grind.{get_or-set_at}
 use Rattle.zorder.specs.declared.points.Placed.{Placed}
@@ -151,6 +151,10 @@ pub record HasTold (rows : List InRow) (i : ℕ) (told : List ℕ) : Type 0 wher
   pub size : length told ≡ 17
   pub each : (t : ℕ) → t ≤ 16 → get_or told t 0 ≡ before rows i t
 
+-- none were told so far
+pub told-none : (rows : List InRow) → HasTold rows 0 (replicate 17 0)
+told-none rows = record { size = length-replicate {A = ℕ} 17 0; each = λ t le. get_or-replicate {A = ℕ} 17 t 0 0 (omega (arith, le)) }
+
 -- one row more was told
 pub told-more : (rows : List InRow) (i : ℕ) (row : InRow) (told : List ℕ) (value : ℕ) → HasTold rows i told → i < length rows → (get_or rows i row).session ≤ 16 → value ≡ get_or told (get_or rows i row).session 0 + 1
     → HasTold rows (i + 1) (set told (get_or rows i row).session value)
@@ -214,6 +218,12 @@ pub title-lost : {T E : Type 0} (world : List Placed) (h : List Entry) (rows : L
     → Puts old now (lines_of world (length rows) h) result
 title-lost world h rows old now empty lost result none moved err =
     puts-fault old now title_line lost (flat_map (line_of world h) (range_with_len 1 (length rows))) result err (moves-is old now (empty ++ title_line) title_line lost (ap (λ (l : List ℕ). l ++ title_line) none) moved)
+
+-- the title was added, and no line
+pub title-added : (world : List Placed) (h : List Entry) (all : List ℕ) (old now : Option (List ℕ)) (faults later : ℕ) (empty held : List ℕ) → empty ≡ [] → Moves old now (empty ++ title_line) held → later ≡ faults
+    → HasAdded (line_of world h) old now faults later title_line all 0 held
+title-added world h all old now faults later empty held none moved same =
+    record { moved = moves-is old now (empty ++ title_line) (title_line ++ []) held (ap (λ (l : List ℕ). l ++ title_line) none ∙ sym (append-nil title_line)) moved; same = same }
 
 -- all lines were added, and what was held back is put
 pub lines-put : {T E : Type 0} (world : List Placed) (h : List Entry) (rows : List InRow) (old mid now : Option (List ℕ)) (faults later i : ℕ) (held : List ℕ) (result : Result T E)

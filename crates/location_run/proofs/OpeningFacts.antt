@@ -1,9 +1,10 @@
 -- What the opening of a log comes to.
-use Rattle.std.proofs.Common.{◌≡◌, ◌⊎◌, inl, inr, ◌∙◌, ℕ, ◌≤◌, List, length, Some, Result, Ok, Err, refl, sym, ap, subst}
+use Rattle.std.proofs.Common.{◌≡◌, ◌⊎◌, inl, inr, ◌∙◌, ℕ, ◌≤◌, Bool, List, length, Some, Result, Ok, Err, refl, sym, ap, subst}
 use Rattle.std.specs.Prelude.{IfErr}
 use Rattle.causes.specs.Causes.{Rose}
+use Rattle.disk_trait.specs.declared.disk.AttachFault.{AttachFault}
 use Rattle.disk_trait.specs.declared.disk.AttachFault.TheVariants as attach_fault
-use Rattle.disk_trait.specs.Drive.{Drive, KeepsLaws, Stays}
+use Rattle.disk_trait.specs.Drive.{Drive, CountsAttach, KeepsLaws, Stays}
 use Rattle.cell_format.specs.declared.cell.Cell.{Cell}
 use Rattle.log_state.specs.Recovers.{Recovers}
 use Rattle.recovery.specs.Faults.{IsFault, IsInBytes}
@@ -14,7 +15,7 @@ use Rattle.recovery.specs.declared.seen.OpenFault.TheVariants as open_fault
 use Rattle.recovery.proofs.OpeningLemmas.{leaves-trans, leaves-stays}
 use Rattle.csv_rows.specs.declared.rows.Refusal.{Refusal}
 use Rattle.csv_rows.specs.declared.rows.Refusal.TheVariants as refusal
-use Rattle.location_run.specs.Checking.{log_refusal}
+use Rattle.location_run.specs.Checking.{attach_refusal, log_refusal}
 use Rattle.location_run.specs.Limits.{width, most_played}
 use Rattle.location_run.specs.Playing.{IsNotOpened}
 use Rattle.location_run.proofs.DriveSteps.{calm-free, calm-named, reading-after}
@@ -50,6 +51,28 @@ open-refused a b c why laws stays later same wrong exact whole keeps rose leaves
   keeps = keeps-cells-after 1 a b c laws stays keeps;
   untouched = λ bytes told none. untouched-after a b c stays (leaves.no_log bytes (stays.bytes ∙ told) none);
   calm = λ other. leaves.calm (λ disk. other (ap log_refusal disk)) ∙ same;
+}
+
+-- a file that isn't attached is left as it was
+untouched-stays : (a b : Drive) → Stays a b → IsUntouched a b
+untouched-stays a b stays = record { bytes = stays.bytes; images = stays.images; since = λ t x le left. inl (stays.since t x left) }
+
+pub attach-refused : {T : Type 0} (name : List ℕ) (make : Bool) (a b : Drive) (fault : AttachFault) → KeepsLaws a → Stays a b → CountsAttach {T = T} name make a b (Err fault) → IsNotOpened a b (attach_refusal fault)
+attach-refused name make a b attach_fault.Disk laws stays counts = record {
+  cause = counts.failed refl;
+  exact = λ bytes fault told shown at calm. absurd (calm (counts.failed refl));
+  whole = λ good. absurd (good.calm (counts.failed refl));
+  keeps = λ bytes cells told now. leaves-stays a b (Recovers 1 cells) laws now stays;
+  untouched = λ bytes told none. untouched-stays a b stays;
+  calm = λ other. absurd (other refl);
+}
+attach-refused name make a b attach_fault.Memory laws stays counts = record {
+  cause = tt;
+  exact = λ bytes fault told shown at calm. inr refl;
+  whole = λ good. refl;
+  keeps = λ bytes cells told now. leaves-stays a b (Recovers 1 cells) laws now stays;
+  untouched = λ bytes told none. untouched-stays a b stays;
+  calm = λ other. counts.memory refl;
 }
 
 -- memory ran out once the log was open

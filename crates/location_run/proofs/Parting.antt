@@ -2,6 +2,7 @@
 use Rattle.std.proofs.Common.{◌≡◌, ◌≢◌, ℕ, zero, suc, ◌+◌, ◌-◌, ◌<◌, ◌≤◌, List, [], ◌∷◌, ◌++◌, length, take, get_or, set, map, replicate, Bool, true, false, cond, ◌==◌, refl, sym, ap, ◌∙◌, arith}
 use Rattle.std.proofs.lemmas.Bool.{eqb-true, eqb-false}
 use Rattle.std.proofs.lemmas.List.{append-nil, take_more, length-set, length-map, length-replicate, get_or-map, get_or-replicate, get_or-set_other}
+use Rattle.std.proofs.Math.Seq.{take-length}
 use Rattle.std.proofs.lemmas.Grind.{get_or-set_at}
 use Rattle.plain_list.specs.declared.ops.Op.{Op}
 use Rattle.csv_rows.specs.declared.rows.InRow.{InRow}
@@ -80,6 +81,11 @@ module _ {V : Type 0} (items : V → List (ℕ × Op)) where
               let there : s ≢ at = λ e2. eqb-false r.session (suc s) t (omega (arith, e2, some)) in
               ap items (get_or-set_other own at s value e there) ∙ has.each s e lt16
               ∙ sym (rows-more (suc s) rows i row lt ∙ ap (λ (b : Bool). session_rows (take i rows) (suc s) ++ cond b ((i + 1, r.op) ∷ []) []) t ∙ append-nil (session_rows (take i rows) (suc s)))
+
+  -- all rows, where none was taken so far
+  pub left-all : (rows : List InRow) (own : List V) → AreParted items rows (length rows) own → AreLeft items rows 0 own
+  left-all rows own parted =
+      record { size = parted.size; each = λ s d le lt. parted.each s d lt ∙ ap (λ (l : List InRow). session_rows l (suc s)) (take-length rows) }
 
   -- the rows of a session were taken
   pub left-less : (rows : List InRow) (n : ℕ) (own : List V) (value : V) → AreLeft items rows n own → AreLeft items rows (n + 1) (set own n value)

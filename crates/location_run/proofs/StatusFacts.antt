@@ -10,7 +10,7 @@ use Rattle.location_run.specs.declared.reports.Report.{Report}
 use Rattle.location_run.specs.declared.reports.Report.TheVariants as reports
 use Rattle.location_run.specs.Limits.{trial_bucket}
 use Rattle.location_run.specs.Ends.{Ends, Targets}
-use Rattle.command_words.specs.Words.{Command, Init, Check, Play, Show, Trial}
+use Rattle.command_words.specs.Words.{Command, Init, Check, Play, Show, Trial, AsksFor}
 use Rattle.location_run.specs.Status.{status_of}
 use Rattle.location_run.specs.Ending.{EndsWriting, EndsRefused}
 use Rattle.location_run.specs.Making.{IsMakingCause, MakesOrRefuses}
@@ -18,7 +18,7 @@ use Rattle.cell_format.specs.declared.cell.Cell.{Cell}
 use Rattle.location_run.specs.Checking.{EndsTelling, IsCheckingCause, TellsCells}
 use Rattle.location_run.specs.Playing.{IsInputCause, HasNoBook, IsStop, EndsRows, PlaysRows, IsUnread, IsRead}
 use Rattle.location_run.specs.Trying.{PlaysMade}
-use Rattle.location_run.specs.Run.{Keeps}
+use Rattle.location_run.specs.Run.{Keeps, AnswersUsage}
 
 -- a refusal whose cause isn't the words has another status than 2
 not-usage : (Cause : Refusal → Type 0) (status : ℕ) (before after : Output) → (Cause refusal.Usage → ⊥) → EndsRefused Cause status before after → status ≡ 2 → ⊥
@@ -83,3 +83,8 @@ accepted (Trial log made) old new status h keeps two = by_end keeps.goes
     by_end : PlaysMade log made old.to new.to status h → ⊥
     by_end (inl unmade) = omega (arith, unmade.refused.status_is, two)
     by_end (inr plays) = accepted-rows reports.Summary log trial_bucket (made_rows made.rows made.seed) old.to new.to status h plays two
+
+-- words that ask for a command aren't answered as if they asked for none
+pub usage-accepted : {S D : Type 0} (words : List (List ℕ)) (a : Command) (old new : Ends S D) (status : ℕ) (h : List Entry) → AsksFor words a → Keeps a old new status h → AnswersUsage words old new status h
+usage-accepted words a old new status h asks keeps =
+    record { exact = (λ two. absurd (accepted a old new status h keeps two), λ none. absurd (none (a, asks))); refused = λ two. absurd (accepted a old new status h keeps two) }

@@ -100,23 +100,6 @@ impl<I: Index, D: LogDisk, O: Start> Store<I, D, O> {
         }
     }
 
-    // Answers a change or a find.
-    fn change<R: Wait>(
-        &self,
-        rt: &R,
-        pass: &mut Pass<SharedBook<I, D, O>>,
-        session: u8,
-        row: u32,
-        op: &Op,
-    ) -> Result<Done, CallFault>
-        requires lock { pass.old.lock ≡ self.now }
-        requires off { pass.old.holds ≡ false }
-        requires update { IsUpdate op.now }
-        ensures { Called I.WIDTH session row op.now pass.old pass.new result }
-    {
-        self.update(rt, pass, session, row, op).map_err(call_fault)
-    }
-
     // Answers a call by its kind.
     fn answer<R: Wait, G: Gate, L: Ledger>(
         &self,
@@ -138,10 +121,7 @@ impl<I: Index, D: LogDisk, O: Start> Store<I, D, O> {
         match *op {
             Op::Within { .. } => self.query(rt, alloc, pass, session, row, op, gate, steps),
             Op::Near { .. } => self.query(rt, alloc, pass, session, row, op, gate, steps),
-            Op::Put { .. } => self.change(rt, pass, session, row, op),
-            Op::Move { .. } => self.change(rt, pass, session, row, op),
-            Op::Remove { .. } => self.change(rt, pass, session, row, op),
-            Op::Find { .. } => self.change(rt, pass, session, row, op),
+            _ => self.update(rt, pass, session, row, op).map_err(call_fault),
         }
     }
 

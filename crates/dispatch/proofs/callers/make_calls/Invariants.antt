@@ -1,4 +1,4 @@
-use Rattle.dispatch.specs.Callers.{IsFree, KeepsPass}
+use Rattle.dispatch.specs.Callers.{KeepsPass}
 use Rattle.dispatch.proofs.callers.make_calls.Given as goal
 
 abbrev pub invariant-loop-row : goal.invariant-loop-row

@@ -1,11 +1,11 @@
-use Rattle.std.proofs.Common.{◌≡◌, ◌∙◌, ℕ, suc, ◌+◌, ◌==◌, true, length, Vec, Global, sym, ap, subst, arith, add-one}
+use Rattle.std.proofs.Common.{◌≡◌, ◌∙◌, ℕ, suc, ◌+◌, ◌==◌, true, length, Vec, Global, sym, ap, refl, subst, arith, add-one}
 use Rattle.std.proofs.lemmas.Bool.Decides.{nat_tests}
 use Rattle.book_lock.specs.Pass.{Known}
 use Rattle.plain_list.specs.declared.ops.Op.{Op}
 use Rattle.lane_history.specs.SessionRows.{session_rows}
-use Rattle.location_run.specs.inside.Dealt.{HasDealt, AddsLane}
+use Rattle.location_run.specs.inside.Dealt.{AddsLane}
 use Rattle.location_run.proofs.Dealing.{lanes-few, deal-more, deal-none, dealt-same}
-use Rattle.location_run.proofs.Parting.{left-less}
+use Rattle.location_run.proofs.Parting.{left-all, left-less}
 use Rattle.location_run.proofs.lanes.deal.Goals.{then-not-is_empty+in_ok-add_lane, else-not-is_empty}
 use Rattle.location_run.proofs.lanes.deal.Goals as goal
 
@@ -40,3 +40,20 @@ loop-i-preserved g c =
         less,
       )
     ]
+
+pub loop-i-init : goal.loop-i-init
+loop-i-init g c = (c.requires.none, refl, left-all (λ v. v.items) c.args.rows.now _ c.in_ok-own.ensures)
+
+pub returns-in_err-own-clause-some : goal.returns-in_err-own-clause-some
+returns-in_err-own-clause-some g c = (0, omega arith, c.requires.none)
+
+pub returns-in_err-add_lane-clause-some : goal.returns-in_err-add_lane-clause-some
+returns-in_err-add_lane-clause-some g c =
+    let left = c.in_err-add_lane.ensures.err in
+    (c.loop-i.i, omega (arith, c.loop-i-test.true), dealt-same c.args.store.now c.args.rows.now c.loop-i.i c.loop-i.i c.loop-i.lanes.items _ c.loop-i.pass _ refl left.0 left.1 c.loop-i.invariant.0)
+
+pub returns-in_err-add_lane-clause-origin : goal.returns-in_err-add_lane-clause-origin
+returns-in_err-add_lane-clause-origin g c = ap (λ (k : Known). k.origin) c.in_err-add_lane.ensures.err.1 ∙ c.loop-i.invariant.1
+
+pub returns-clause-some : goal.returns-clause-some
+returns-clause-some g c = (c.loop-i.i, omega (arith, c.loop-i.auto.i-end), c.loop-i.invariant.0)

@@ -1,6 +1,4 @@
-use Rattle.std.proofs.Common.{◌≡◌, ℕ, ◌<◌, ◌≤◌, suc, length, get_or, Vec, Global}
-use Rattle.plain_list.specs.declared.ops.Op.{Op}
-use Rattle.lane_history.specs.SessionRows.{session_rows}
+use Rattle.std.proofs.Common.{◌≡◌}
 use Rattle.location_run.specs.inside.Dealt.{HasDealt, AreLeft}
 use Rattle.location_run.proofs.lanes.deal.Given as goal
 

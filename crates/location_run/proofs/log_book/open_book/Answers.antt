@@ -5,7 +5,7 @@ use Rattle.kept_log.proofs.Starting.{opened-found}
 use Rattle.csv_rows.specs.declared.rows.Refusal.{Refusal}
 use Rattle.location_run.specs.Limits.{most_played}
 use Rattle.location_run.specs.Playing.{IsNotOpened}
-use Rattle.location_run.proofs.OpeningFacts.{open-refused, memory-refused, keeps-cells-after, if-err}
+use Rattle.location_run.proofs.OpeningFacts.{attach-refused, open-refused, memory-refused, keeps-cells-after, if-err}
 use Rattle.location_run.proofs.BookEnds.{if-ok, opens-book}
 use Rattle.location_run.proofs.log_book.open_book.Goals as goal
 
@@ -42,3 +42,8 @@ returns-in-Ok-clause-opened g c =
     if-ok _ _ _ c.book_of.result
     (λ b opening log. opens-book drive c.args.file.now (drive c.args.disk) c.args.size b (record { disk = opened.log.disk; cells = opened.log.cells; failed = None; start = opened.start.value; first = opened.log.cells }) opened.seen c.attach.new.self c.in_default.ensures.stays c.in_default.ensures.cause.same c.in_default.ensures.cause.named by.found by.exact refl by.start by.log.0 opening.0 opening.1 log)
     c.book_of.ensures.opening c.book_of.ensures.log
+
+pub returns-in-Err-clause-refused : goal.returns-in-Err-clause-refused
+returns-in-Err-clause-refused g c =
+    rw c.attach_refusal-why.ensures
+    (attach-refused c.args.file.now _ _ _ c.in-Err.fault (g.met.D.LogDisk.keeps_laws c.args.disk) c.in-Err.ensures.stays c.in-Err.ensures.cause)

@@ -3,7 +3,8 @@ use Rattle.causes.specs.Causes.{Counts}
 use Rattle.csv_rows.specs.declared.rows.InRow.{InRow}
 use Rattle.plain_list.specs.declared.ops.Op.TheVariants.{Put}
 use Rattle.location_run.specs.inside.Answered.{kept_of}
-use Rattle.location_run.proofs.LineOrder.{before, title-lost, line-added, line-lost, lines-put, told-is, told-few, told-more, row-few}
+use Rattle.location_run.proofs.Ends.{counts-lost}
+use Rattle.location_run.proofs.LineOrder.{before, told-none, title-added, title-lost, line-added, line-lost, lines-put, told-is, told-few, told-more, row-few}
 use Rattle.location_run.proofs.output.write_lines.Goals as goal
 
 abbrev blank : InRow
@@ -66,3 +67,23 @@ returns-clause-bytes g c = λ world h answers.
 
 pub returns-clause-cause : goal.returns-clause-cause
 returns-clause-cause g c = subst (λ (n : ℕ). Counts n (g.K.Sink.output c.finish.new.sink).faults c.finish.result) c.loop-row.invariant.1 c.finish.ensures.cause
+
+pub loop-row-init : goal.loop-row-init
+loop-row-init g c =
+    let same = c.in_ok-add_title.ensures.cause.same in
+    (told-none c.args.rows.now, same, λ world h answers. title-added world h _ _ _ _ _ c.new-lines.result _ c.new-lines.ensures c.in_ok-add_title.ensures.bytes same)
+
+pub bounds-lanes-session : goal.bounds-lanes-session
+bounds-lanes-session g c = omega (arith, row-few c.args.rows.now c.requires.rows.each c.loop-row.row-index blank c.loop-row-test.true, c.by_session-by_session.ensures.size)
+
+pub bounds-told-session : goal.bounds-told-session
+bounds-told-session g c = omega (arith, row-few c.args.rows.now c.requires.rows.each c.loop-row.row-index blank c.loop-row-test.true)
+
+pub returns-in_err-add_title-clause-cause : goal.returns-in_err-add_title-clause-cause
+returns-in_err-add_title-clause-cause g c = counts-lost _ _ c.in_err-add_title.field-0.0 c.from_residual.result c.in_err-add_title.ensures.cause c.from_residual.ensures.0
+
+pub returns-in_err-add_line-clause-cause : goal.returns-in_err-add_line-clause-cause
+returns-in_err-add_line-clause-cause g c =
+    let last = (g.K.Sink.output c.add_line.new.sink).faults in
+    subst (λ (n : ℕ). Counts n last c.from_residual-in_err-add_line.result) c.loop-row.invariant.1
+    (counts-lost _ _ c.in_err-add_line.field-0.0 c.from_residual-in_err-add_line.result c.in_err-add_line.ensures.cause c.from_residual-in_err-add_line.ensures.0)

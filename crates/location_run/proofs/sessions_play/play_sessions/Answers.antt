@@ -1,6 +1,23 @@
-use Rattle.location_run.proofs.PlayedOut.{played-not}
+use Rattle.std.proofs.Common.{ap}
+use Rattle.book_lock.specs.Pass.{Known}
+use Rattle.location_run.proofs.PlayedOut.{played-not, played-from, answered-from, few-pass}
 use Rattle.location_run.proofs.sessions_play.play_sessions.Goals as goal
 
 pub returns-in-Err-clause-played : goal.returns-in-Err-clause-played
 returns-in-Err-clause-played g c =
     played-not g.D.LogDisk.drive g.I.Index.WIDTH c.args.rows.now c.args.book c.in-Err.book c.events-events.ensures.book c.events-events-in-Err.ensures.book c.requires.new c.in-Err.ensures.back
+
+pub play_store-requires-clause-few : goal.play_store-requires-clause-few
+play_store-requires-clause-few g c κs within =
+    few-pass g.D.LogDisk.drive g.I.Index.WIDTH c.args.rows.now c.args.book c.args.book c.events-events.ensures.book c.events-events.ensures.book c.requires.new c.in-Ok.pass.origin
+    (ap (λ (k : Known). k.origin) c.in-Ok.ensures.store)
+
+pub returns-in-Ok-clause-played : goal.returns-in-Ok-clause-played
+returns-in-Ok-clause-played g c =
+    played-from g.D.LogDisk.drive g.I.Index.WIDTH c.args.rows.now c.args.book c.play_store.result.book c.events-events.ensures.book c.play_store.ensures.book c.requires.new c.in-Ok.pass.origin
+    (ap (λ (k : Known). k.origin) c.in-Ok.ensures.store) c.play_store.ensures.origin c.play_store.ensures.played
+
+pub returns-in-Ok-clause-answered : goal.returns-in-Ok-clause-answered
+returns-in-Ok-clause-answered g c =
+    answered-from g.D.LogDisk.drive g.I.Index.WIDTH c.args.rows.now c.args.book c.play_store.result.book c.events-events.ensures.book c.play_store.ensures.book c.requires.new (λ ends. ends.items)
+    c.play_store.result.ends c.in-Ok.pass.origin (ap (λ (k : Known). k.origin) c.in-Ok.ensures.store) c.play_store.ensures.answered

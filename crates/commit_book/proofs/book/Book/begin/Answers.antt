@@ -1,4 +1,4 @@
-use Rattle.std.proofs.Common.{◌≡◌, ◌+◌, ◌<◌, Bool, List, [], ◌∷◌, ◌++◌, length, Global, refl, sym, ap, subst, ◌∙◌, arith}
+use Rattle.std.proofs.Common.{◌≡◌, ◌+◌, ◌<◌, Bool, List, [], ◌∷◌, ◌++◌, length, Global, inl, refl, sym, ap, subst, ◌∙◌, arith}
 use Rattle.std.specs.Cmp.Derive.{both_true}
 use Rattle.std.proofs.lemmas.Bool.{le-leb}
 use Rattle.std.specs.declared.sync.Arc.{Arc}
@@ -12,13 +12,16 @@ use Rattle.kept_log.proofs.InJournal.{leaves-quiet}
 use Rattle.point_table.specs.TableView.{TableView}
 use Rattle.commit_book.specs.BookInside.{book_of}
 use Rattle.commit_book.specs.Events.{Events}
+use Rattle.commit_book.specs.BookView.{next_number}
 use Rattle.commit_book.specs.IsBook.{IsBook, most_events}
+use Rattle.commit_book.specs.Refusals.{IsMemoryOrDisk}
 use Rattle.commit_book.proofs.BookStates.{inside-begin}
 use Rattle.commit_book.proofs.KeptLemmas.{folded-under}
 use Rattle.commit_book.proofs.RefusalLemmas.{MayBegin, may_begin, passed, is_leaf-names_of}
 use Rattle.commit_book.proofs.SplitCells.{begin_step, few_cells}
 use Rattle.plain_list.proofs.SplitHistories.{open-le, begun-le}
-use Rattle.commit_book.proofs.Undone.{can_step, inside-undone, moments-undone, refused-undone, refused_freely, taken}
+use Rattle.commit_book.proofs.Undone.{can_step, inside-undone, moments-undone, refused-undone, refused_freely, since-undone, taken}
+use Rattle.commit_book.proofs.EarlyReturns.{same_books, hands_on, no_memory, done_freely, calm-begin, leaves-checked, leaves-memory}
 use Rattle.commit_book.proofs.book.Book.begin.Goals as goal
 
 pub returns-in_err-check_begin-clause-any_moment : goal.returns-in_err-check_begin-clause-any_moment
@@ -179,3 +182,64 @@ returns-clause-book g c =
       after = c.keep-2.ensures;
       origin = rw (← c.self.view_is) (record { opening = refl; bucket = ap (λ (t : TableView). t.size) c.in-Ok.ensures.rest; log = c.in-Ok.ensures.told.ends.since });
     }
+
+pub returns-in_err-check_begin-clause-refused : goal.returns-in_err-check_begin-clause-refused
+returns-in_err-check_begin-clause-refused g c = hands_on (Unit {0}) IsMemoryOrDisk _ c.in_err-check_begin.field-0.0 _ c.in_err-check_begin.ensures c.from_residual.ensures.1
+
+pub returns-in_err-check_begin-clause-err : goal.returns-in_err-check_begin-clause-err
+returns-in_err-check_begin-clause-err g c =
+    leaves-checked g.D.LogDisk.drive (lost.Begin (next_number g.I.Index.WIDTH c.args.self.now) c.args.name.now) _ _ refl (Unit {0}) _ c.in_err-check_begin.field-0.0 c.from_residual.result (calm-begin g.I.Index.WIDTH c.args.self.now c.args.name.now) c.in_err-check_begin.ensures c.from_residual.ensures.1
+
+pub returns-in_err-check_begin-clause-book : goal.returns-in_err-check_begin-clause-book
+returns-in_err-check_begin-clause-book g c = same_books g.D.LogDisk.drive g.I.Index.WIDTH _ _ refl c.keep.ensures
+
+pub returns-in_err-reserve-clause-refused : goal.returns-in_err-reserve-clause-refused
+returns-in_err-reserve-clause-refused g c = no_memory IsMemoryOrDisk _ _ (inl refl) (passed _ _ c.in_ok-check_begin.ensures) c.from_residual-in_err-reserve.ensures.1
+
+pub returns-in_err-reserve-clause-err : goal.returns-in_err-reserve-clause-err
+returns-in_err-reserve-clause-err g c =
+    let b = c.self.inside in
+    leaves-memory g.D.LogDisk.drive (lost.Begin (next_number g.I.Index.WIDTH c.args.self.now) c.args.name.now) _ _ (c.self.view_is) c.from_residual-in_err-reserve.result c.from_residual-in_err-reserve.ensures.1
+
+pub returns-in_err-reserve-clause-book : goal.returns-in_err-reserve-clause-book
+returns-in_err-reserve-clause-book g c =
+    let b = c.self.inside in
+    same_books g.D.LogDisk.drive g.I.Index.WIDTH _ _ (c.self.view_is) c.keep.ensures
+
+pub returns-in_err-reserve-2-clause-refused : goal.returns-in_err-reserve-2-clause-refused
+returns-in_err-reserve-2-clause-refused g c = no_memory IsMemoryOrDisk _ _ (inl refl) (passed _ _ c.in_ok-check_begin.ensures) c.from_residual-in_err-reserve-2.ensures.1
+
+pub returns-in_err-reserve-2-clause-err : goal.returns-in_err-reserve-2-clause-err
+returns-in_err-reserve-2-clause-err g c =
+    let b = c.self.inside in
+    leaves-memory g.D.LogDisk.drive (lost.Begin (next_number g.I.Index.WIDTH c.args.self.now) c.args.name.now) _ _ ((λ i. record { leaves = b.table.leaves; opening = b.opening; entries = (c.in_err-reserve-2.ensures.err i).entries; bucket = b.table.size; log = b.journal }) ∙ c.self.view_is) c.from_residual-in_err-reserve-2.result c.from_residual-in_err-reserve-2.ensures.1
+
+pub returns-in_err-reserve-2-clause-book : goal.returns-in_err-reserve-2-clause-book
+returns-in_err-reserve-2-clause-book g c =
+    let b = c.self.inside in
+    same_books g.D.LogDisk.drive g.I.Index.WIDTH _ _ ((λ i. record { leaves = b.table.leaves; opening = b.opening; entries = (c.in_err-reserve-2.ensures.err i).entries; bucket = b.table.size; log = b.journal }) ∙ c.self.view_is) c.keep.ensures
+
+pub returns-in-Err-clause-book : goal.returns-in-Err-clause-book
+returns-in-Err-clause-book g c =
+    record {
+      before = c.keep.ensures;
+      after = c.keep-in-Err.ensures;
+      origin = rw (← c.self.view_is) (record { opening = refl; bucket = ap (λ (t : TableView). t.size) c.in-Err.ensures.err; log = since-undone g.D.LogDisk.drive (Arc Bucket Global) _ c.in-Err.undone _ c.fold.new.commit refl c.in-Err.ensures.told });
+    }
+
+pub returns-clause-refused : goal.returns-clause-refused
+returns-clause-refused g c = done_freely IsMemoryOrDisk _ _ (passed _ _ c.in_ok-check_begin.ensures)
+
+pub returns-clause-any_moment : goal.returns-clause-any_moment
+returns-clause-any_moment g c =
+    let w = g.I.Index.WIDTH in
+    let b = c.self.inside in
+    let o = b.opening in
+    let h = b.history.entries in
+    let name = c.args.name.now in
+    let may : MayBegin w (state_after w o h) h (cells_in b.journal) name = may_begin w (book_of b) name (passed _ _ (rw (← c.self.view_is) at c.in_ok-check_begin.ensures)) in
+    let number = c.next_number-number.result in
+    let next : number ≡ (state_after w o h).begun + 1 = c.next_number-number.ensures ∙ ap (λ n. n + 1) (c.in_ok-reserve.ensures.begun ∙ c.self.invariant.begun) in
+    let step = begin_step w o h c.self.invariant.legal may.going (cells_in b.journal) number name may next in
+    let it = taken g.D.LogDisk.drive w o b c.self.invariant may.going (c.len.result + 2) _ c.fold.new.commit step c.in_ok-reserve-2.ensures.ok refl c.in-Ok.ensures.told in
+    rw (← c.self.view_is) (λ none. subst (λ n. LeavesEither g.D.LogDisk.drive w o h (Begin n name) b.journal c.fold.new.commit.journal.now) next it.moments)

@@ -10,11 +10,13 @@ use Rattle.kept_log.proofs.InJournal.{leaves-quiet}
 use Rattle.point_table.specs.Divisions.{Divides}
 use Rattle.point_table.specs.TableView.{TableView}
 use Rattle.commit_book.specs.BookInside.{book_of}
+use Rattle.commit_book.specs.Refusals.{IsMemoryOrDisk}
 use Rattle.commit_book.proofs.BookStates.{inside-install}
 use Rattle.commit_book.proofs.KeptLemmas.{names_of-divided}
 use Rattle.commit_book.proofs.RefusalLemmas.{MayInstall, may_install, Based, has_base-leaf, is_open-name, passed}
 use Rattle.commit_book.proofs.SplitCells.{install_step, some_open}
-use Rattle.commit_book.proofs.Undone.{can_step, inside-undone, moments-undone, refused-undone, refused_freely, taken}
+use Rattle.commit_book.proofs.Undone.{can_step, inside-undone, moments-undone, refused-undone, refused_freely, since-undone, taken}
+use Rattle.commit_book.proofs.EarlyReturns.{same_books, hands_on, done_freely, calm-install, leaves-checked}
 use Rattle.commit_book.proofs.book.Book.install.Goals as goal
 
 pub returns-in_err-check_install-clause-any_moment : goal.returns-in_err-check_install-clause-any_moment
@@ -126,3 +128,57 @@ returns-clause-book g c =
       after = c.keep-2.ensures;
       origin = rw (← c.self.view_is) (record { opening = refl; bucket = ap (λ (t : TableView). t.size) c.in_default.ensures.rest; log = c.in_default.ensures.told.ends.since });
     }
+
+pub returns-in_err-check_install-clause-refused : goal.returns-in_err-check_install-clause-refused
+returns-in_err-check_install-clause-refused g c = hands_on (Unit {0}) IsMemoryOrDisk _ c.in_err-check_install.field-0.0 _ c.in_err-check_install.ensures c.from_residual.ensures.1
+
+pub returns-in_err-check_install-clause-err : goal.returns-in_err-check_install-clause-err
+returns-in_err-check_install-clause-err g c =
+    leaves-checked g.D.LogDisk.drive (lost.Install c.args.prepared.now.number) _ _ refl (Unit {0}) _ c.in_err-check_install.field-0.0 c.from_residual.result (calm-install g.I.Index.WIDTH c.args.self.now c.args.prepared.now.number c.args.prepared.now.name c.args.prepared.now.base) c.in_err-check_install.ensures c.from_residual.ensures.1
+
+pub returns-in_err-check_install-clause-book : goal.returns-in_err-check_install-clause-book
+returns-in_err-check_install-clause-book g c = same_books g.D.LogDisk.drive g.I.Index.WIDTH _ _ refl c.keep.ensures
+
+pub returns-in-Err-clause-book : goal.returns-in-Err-clause-book
+returns-in-Err-clause-book g c =
+    record {
+      before = c.keep.ensures;
+      after = c.keep-in-Err.ensures;
+      origin = rw (← c.self.view_is) (record { opening = refl; bucket = ap (λ (t : TableView). t.size) c.in-Err.ensures.err; log = since-undone g.D.LogDisk.drive (Unit {0}) _ c.in-Err.undone _ c.divide.new.commit refl c.in-Err.ensures.told });
+    }
+
+pub returns-clause-refused : goal.returns-clause-refused
+returns-clause-refused g c = done_freely IsMemoryOrDisk _ _ (passed _ _ c.in_ok-check_install.ensures)
+
+pub returns-clause-ok : goal.returns-clause-ok
+returns-clause-ok g c =
+    let w = g.I.Index.WIDTH in
+    let p = c.args.prepared.now in
+    let b = c.self.inside in
+    let o = b.opening in
+    let h = b.history.entries in
+    let s = state_after w o h in
+    let may : MayInstall w (book_of b) p.number p.name p.base = may_install w (book_of b) p.number p.name p.base c.self.invariant.few (passed _ _ (rw (← c.self.view_is) at c.in_ok-check_install.ensures)) in
+    let open_one : split_name s.splits p.number ≡ Some p.name = is_open-name s.splits p.number p.name may.is_open_one in
+    let number : c.number-number.result ≡ p.number = c.number-number.ensures in
+    let found : split_name s.splits c.number-number.result ≡ Some p.name = ap (split_name s.splits) number ∙ open_one in
+    let step = install_step w o h c.self.invariant.legal may.may.going c.number-number.result p.name found in
+    let it = taken g.D.LogDisk.drive w o b c.self.invariant may.may.going b.history.room _ c.divide.new.commit step refl refl c.in_default.ensures.told in
+    let divides : Divides w p.name b.table.leaves c.divide.new.self.leaves = subst (λ (nm : List Bool). Divides w nm b.table.leaves c.divide.new.self.leaves) c.name-name.ensures.name c.in_default.ensures.divides in
+    rw (← c.self.view_is) (record { entries = it.entries ∙ ap (λ n. h ++ Install n ∷ []) number; divides = divides })
+
+pub returns-clause-any_moment : goal.returns-clause-any_moment
+returns-clause-any_moment g c =
+    let w = g.I.Index.WIDTH in
+    let p = c.args.prepared.now in
+    let b = c.self.inside in
+    let o = b.opening in
+    let h = b.history.entries in
+    let s = state_after w o h in
+    let may : MayInstall w (book_of b) p.number p.name p.base = may_install w (book_of b) p.number p.name p.base c.self.invariant.few (passed _ _ (rw (← c.self.view_is) at c.in_ok-check_install.ensures)) in
+    let open_one : split_name s.splits p.number ≡ Some p.name = is_open-name s.splits p.number p.name may.is_open_one in
+    let number : c.number-number.result ≡ p.number = c.number-number.ensures in
+    let found : split_name s.splits c.number-number.result ≡ Some p.name = ap (split_name s.splits) number ∙ open_one in
+    let step = install_step w o h c.self.invariant.legal may.may.going c.number-number.result p.name found in
+    let it = taken g.D.LogDisk.drive w o b c.self.invariant may.may.going b.history.room _ c.divide.new.commit step refl refl c.in_default.ensures.told in
+    rw (← c.self.view_is) (λ none. subst (λ n. LeavesEither g.D.LogDisk.drive w o h (Install n) b.journal c.divide.new.commit.journal.now) number it.moments)

@@ -3,6 +3,7 @@ use Rattle.index_build.specs.Grown.{IsGrown}
 use Rattle.plain_list.specs.State.{State}
 use Rattle.kept_log.specs.Journal.{KeepsIn}
 use Rattle.kept_log.specs.Kept.{found_state}
+use Rattle.commit_book.specs.Events.{Events}
 use Rattle.commit_book.proofs.FirstBooks.{inside-first}
 use Rattle.commit_book.proofs.FoundStates.{found-grown, found-begun}
 use Rattle.commit_book.proofs.book.Book.opened.Goals as goal
@@ -26,3 +27,9 @@ invariant_of-result g c =
     c.new.ensures (sym (ap (λ (s : State). s.world) c.of.ensures)) (sym (ap (λ (s : State). s.leaves) c.of.ensures))
     (c.after.ensures ∙ (λ i. record { splits = []; begun = sym (ap (λ (s : State). s.begun) same) i; room = 0 }))
     (subst (λ (s : State). KeepsIn drive w s [] c.opened.result) (sym same) kept)
+
+pub returns-clause-opening : goal.returns-clause-opening
+returns-clause-opening g c =
+    let leaves = c.in-Ok.ensures.leaves ∙ c.as_slice-leaves.ensures in
+    let opening = c.of.ensures ∙ (λ i. record { world = c.in-Ok.ensures.world i; leaves = leaves i; splits = []; begun = c.args.opened.seen.begun }) in
+    (opening, ap (λ (v : Events). v.entries) c.new.ensures, c.in-Ok.ensures.size)

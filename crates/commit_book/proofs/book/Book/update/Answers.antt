@@ -1,4 +1,4 @@
-use Rattle.std.proofs.Common.{◌≡◌, ◌+◌, true, List, length, refl, sym, ap, subst, ◌∙◌, arith}
+use Rattle.std.proofs.Common.{◌≡◌, ◌+◌, true, List, length, inl, refl, sym, ap, subst, ◌∙◌, arith}
 use Rattle.zorder.specs.declared.points.Placed.{Placed}
 use Rattle.plain_list.specs.declared.ops.Answer.{Answer}
 use Rattle.plain_list.specs.declared.entries.Entry.TheVariants.{Call}
@@ -9,15 +9,18 @@ use Rattle.plain_list.specs.State.{OpenSplit}
 use Rattle.point_table.specs.Changes.{AreSettled}
 use Rattle.plain_list.proofs.Histories.{state_after-world, has_failed-none}
 use Rattle.kept_log.proofs.InJournal.{leaves-quiet}
+use Rattle.point_table.specs.TableView.{TableView}
 use Rattle.commit_book.specs.BookInside.{book_of}
 use Rattle.commit_book.specs.Events.{Events}
+use Rattle.commit_book.specs.Refusals.{IsMemoryOrDisk}
 use Rattle.commit_book.specs.Steps.{Takes, Loses}
 use Rattle.commit_book.specs.declared.steps.Step.{Step}
 use Rattle.commit_book.proofs.BookStates.{inside-call, steps_on}
 use Rattle.commit_book.proofs.RefusalLemmas.{passed}
 use Rattle.commit_book.proofs.SplitCells.{call_step, cell_there}
 use Rattle.plain_list.proofs.SplitHistories.{open-le}
-use Rattle.commit_book.proofs.Undone.{can_step, inside-undone, moments-undone, refused-undone, refused_freely, would_change, quiet_told, noted}
+use Rattle.commit_book.proofs.Undone.{can_step, inside-undone, moments-undone, refused-undone, refused_freely, would_change, quiet_told, noted, since-undone}
+use Rattle.commit_book.proofs.EarlyReturns.{same_books, hands_on, no_memory, done_freely, calm-update, leaves-checked, leaves-memory}
 use Rattle.commit_book.proofs.UpdateCalls.{may_update}
 use Rattle.commit_book.proofs.book.Book.update.Goals as goal
 
@@ -160,3 +163,38 @@ returns-in-Err-clause-err g c =
 
 pub returns-in-Err-clause-refused : goal.returns-in-Err-clause-refused
 returns-in-Err-clause-refused g c = rw c.fault_of.ensures (refused_freely _ _ c.in-Err.undone c.cells-cell.result (passed _ _ c.in_ok-check_update.ensures))
+
+pub returns-in_err-check_update-clause-refused : goal.returns-in_err-check_update-clause-refused
+returns-in_err-check_update-clause-refused g c = hands_on (Unit {0}) IsMemoryOrDisk _ c.in_err-check_update.field-0.0 _ c.in_err-check_update.ensures c.from_residual.ensures.1
+
+pub returns-in_err-check_update-clause-err : goal.returns-in_err-check_update-clause-err
+returns-in_err-check_update-clause-err g c =
+    leaves-checked g.D.LogDisk.drive (lost.Call c.args.session c.args.row c.args.op.now) _ _ refl (Unit {0}) _ c.in_err-check_update.field-0.0 c.from_residual.result (calm-update c.args.self.now c.args.op.now) c.in_err-check_update.ensures c.from_residual.ensures.1
+
+pub returns-in_err-check_update-clause-book : goal.returns-in_err-check_update-clause-book
+returns-in_err-check_update-clause-book g c = same_books g.D.LogDisk.drive g.I.Index.WIDTH _ _ refl c.keep.ensures
+
+pub returns-in_err-reserve-clause-refused : goal.returns-in_err-reserve-clause-refused
+returns-in_err-reserve-clause-refused g c = no_memory IsMemoryOrDisk _ _ (inl refl) (passed _ _ c.in_ok-check_update.ensures) c.from_residual-in_err-reserve.ensures.1
+
+pub returns-in_err-reserve-clause-err : goal.returns-in_err-reserve-clause-err
+returns-in_err-reserve-clause-err g c =
+    let b = c.self.inside in
+    leaves-memory g.D.LogDisk.drive (lost.Call c.args.session c.args.row c.args.op.now) _ _ ((λ i. record { leaves = b.table.leaves; opening = b.opening; entries = (c.in_err-reserve.ensures.err i).entries; bucket = b.table.size; log = b.journal }) ∙ c.self.view_is) c.from_residual-in_err-reserve.result c.from_residual-in_err-reserve.ensures.1
+
+pub returns-in_err-reserve-clause-book : goal.returns-in_err-reserve-clause-book
+returns-in_err-reserve-clause-book g c =
+    let b = c.self.inside in
+    same_books g.D.LogDisk.drive g.I.Index.WIDTH _ _ ((λ i. record { leaves = b.table.leaves; opening = b.opening; entries = (c.in_err-reserve.ensures.err i).entries; bucket = b.table.size; log = b.journal }) ∙ c.self.view_is) c.keep.ensures
+
+pub returns-in-Err-clause-book : goal.returns-in-Err-clause-book
+returns-in-Err-clause-book g c =
+    let told = would_change Answer (Takes g.D.LogDisk.drive) (Loses g.D.LogDisk.drive) _ _ c.update.new.commit c.in-Err.undone c.in-Err.ensures.told in
+    record {
+      before = c.keep.ensures;
+      after = c.keep-in-Err.ensures;
+      origin = rw (← c.self.view_is) (record { opening = refl; bucket = ap (λ (t : TableView). t.size) c.in-Err.ensures.err; log = since-undone g.D.LogDisk.drive Answer _ c.in-Err.undone _ c.update.new.commit refl told.1 });
+    }
+
+pub returns-clause-refused : goal.returns-clause-refused
+returns-clause-refused g c = done_freely IsMemoryOrDisk _ _ (passed _ _ c.in_ok-check_update.ensures)

@@ -1,7 +1,21 @@
-use Rattle.std.proofs.Common.{sym, subst}
+use Rattle.std.proofs.Common.{◌≡◌, ℕ, refl}
+use Rattle.zorder.specs.declared.points.Point.{Point}
+use Rattle.zorder.specs.declared.points.Region.{Region}
+use Rattle.plain_list.specs.declared.ops.Op.{Op}
+use Rattle.plain_list.specs.declared.ops.Op.TheVariants.{Put, Move, Remove, Find, Within, Near}
 use Rattle.commit_book.specs.Answers.{IsUpdate}
+use Rattle.sessions.proofs.CallLemmas.{change-answers}
 use Rattle.sessions.proofs.OpenLemmas.{opens-still}
 use Rattle.sessions.proofs.store.Store.answer.Goals as goal
+
+-- what isn't a query is a change or a find
+updates : (op : Op) → ((region : Region) → op ≡ Within region → ⊥) → ((at : Point) (k : ℕ) → op ≡ Near at k → ⊥) → IsUpdate op
+updates (Put id at) within near = tt
+updates (Move id at) within near = tt
+updates (Remove id) within near = tt
+updates (Find id) within near = tt
+updates (Within region) within near = absurd (within region refl)
+updates (Near at k) within near = absurd (near at k refl)
 
 pub returns-in-Within : goal.returns-in-Within
 returns-in-Within g c = c.query.ensures
@@ -9,14 +23,13 @@ returns-in-Within g c = c.query.ensures
 pub returns-in-Near : goal.returns-in-Near
 returns-in-Near g c = c.query-in-Near.ensures
 
-pub returns-in-Put : goal.returns-in-Put
-returns-in-Put g c = record { called = c.change.ensures; opened = opens-still c.args.op.now _ _ _ c.args.steps.now (subst IsUpdate (sym c.in-Put.is) tt) }
+pub update-requires-clause-update : goal.update-requires-clause-update
+update-requires-clause-update g c = updates c.args.op.now c.in_default.not-Within c.in_default.not-Near
 
-pub returns-in-Move : goal.returns-in-Move
-returns-in-Move g c = record { called = c.change-in-Move.ensures; opened = opens-still c.args.op.now _ _ _ c.args.steps.now (subst IsUpdate (sym c.in-Move.is) tt) }
-
-pub returns-in-Remove : goal.returns-in-Remove
-returns-in-Remove g c = record { called = c.change-in-Remove.ensures; opened = opens-still c.args.op.now _ _ _ c.args.steps.now (subst IsUpdate (sym c.in-Remove.is) tt) }
-
-pub returns-in-Find : goal.returns-in-Find
-returns-in-Find g c = record { called = c.change-in-Find.ensures; opened = opens-still c.args.op.now _ _ _ c.args.steps.now (subst IsUpdate (sym c.in-Find.is) tt) }
+pub returns-in_default : goal.returns-in_default
+returns-in_default g c =
+    let is = updates c.args.op.now c.in_default.not-Within c.in_default.not-Near in
+    record {
+      called = change-answers g.I.Index.WIDTH c.args.session c.args.row c.args.op.now c.args.pass.now c.update.new.pass c.update.result c.map_err.result is c.update.ensures c.map_err.ensures.cases;
+      opened = opens-still c.args.op.now _ _ _ c.args.steps.now is;
+    }
