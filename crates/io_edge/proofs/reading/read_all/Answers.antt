@@ -35,12 +35,3 @@ returns-in-Err-clause-same g c = search rules
 
 pub returns-in-Ok-clause-too_long : goal.returns-in-Ok-clause-too_long
 returns-in-Ok-clause-too_long g c = grind (arith, common_steps)
-
-pub returns-in-Ok-eq0-clause-taken : goal.returns-in-Ok-eq0-clause-taken
-returns-in-Ok-eq0-clause-taken g c =
-    let none = c.in-Ok-eq0.field-0-is in
-    let filled = length-take c.in-Ok-eq0.field-0 c.read.new.into in
-    HasRead-end _ (take c.in-Ok-eq0.field-0 c.read.new.into) c.loop-all.invariant c.in-Ok-eq0.ensures.bytes.0 (omega arith)
-
-pub returns-in-Err-clause-taken : goal.returns-in-Err-clause-taken
-returns-in-Err-clause-taken g c = grind (arith, common_steps)
