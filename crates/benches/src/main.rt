@@ -1,16 +1,29 @@
-//! Measures the trie: rows moved in place, looked up and read by key, and tries shared, at leaves of a given depth.
+//! Measures the trie (rows moved in place, looked up and read by key, and tries shared, at leaves of a given depth), and the lock.
 //!
-//! `benches DEPTH POINTS MOVES CHECKS SHARES KEPT` makes 512 leaves of names of so many bits (9 to 60), in which all but
-//! the last 9 bits are those of one city, and adds so many points. It then tries so many moves, checks so many rows as a
-//! move does before it, takes and lets go so many shares, and with a `KEPT` that isn't 0 keeps one share over all moves.
-//! It prints counts alone: the time is read from outside, as by `perf stat` or `time`, with and without one of them.
+//! `benches DEPTH POINTS MOVES CHECKS SHARES KEPT THREADS ROUNDS MICROSECONDS` makes 512 leaves of names of so many bits (9
+//! to 60), in which all but the last 9 bits are those of one city, and adds so many points. It then tries so many moves, checks so
+//! many rows as a move does before it, takes and lets go so many shares, and with a `KEPT` that isn't 0 keeps one share over all
+//! moves. Then so many threads take the lock at once, so many short rounds in all. Each round sleeps so long with the lock held;
+//! where it doesn't, it is a quick one.
+//!
+//! It prints counts alone, also what the value behind the lock counted: the time is read from outside, as by `perf stat` or `time`,
+//! with and without one of them.
 #![tactic(auto)]
 
+ghost use Rattle.std.specs.Prelude.{◌≡◌, ◌≤◌};
+
+mod crowd;
 mod points;
 mod rows;
+mod tally;
 
 use kd_trie::KdTrie;
 use points::Plan;
+use std::alloc::Global;
+use std::rt::Clock;
+use std::sync::Wait;
+use std::thread::Threads;
+use std::time::Duration;
 use std::{env, io};
 
 fn number(word: Option<String>, otherwise: u64) -> u64 {
@@ -20,27 +33,47 @@ fn number(word: Option<String>, otherwise: u64) -> u64 {
     }
 }
 
+fn tell_trie(rt: &impl Print, alloc: Global, plan: &Plan) -> io::Result<()>
+    requires { plan.now.depth ≤ 64 }
+{
+    match points::play::<KdTrie>(alloc, plan) {
+        Ok(done) => println!(rt;
+            "points {}\nmoved {}\nchecked {}\nshared {}\nthere {}\nin the kept share {}",
+            done.points, done.moved, done.checked, done.shared, done.there, done.kept
+        ),
+        Err(_) => println!(rt; "no memory"),
+    }
+}
+
+fn tell_lock<R: Print + Threads + Wait + Clock + Sync>(
+    rt: &R,
+    alloc: Global,
+    threads: u8,
+    rounds: u64,
+    asleep: Duration,
+) -> io::Result<()>
+    requires { 1 ≤ threads }
+{
+    match crowd::play(rt, alloc, threads, rounds, asleep) {
+        Some(entries) => println!(rt; "threads {threads}\nrounds {rounds} each\nentries {entries}"),
+        None => println!(rt; "no memory"),
+    }
+}
+
 fn main(rt: HostRuntime) -> io::Result<()> {
     let mut words = env::args(&rt)?;
     words.next();
-    let depth = number(words.next(), 34).clamp(9, 60) as u8;
     let plan = Plan {
-        depth,
+        depth: number(words.next(), 34).clamp(9, 60) as u8,
         points: number(words.next(), 2000),
         moves: number(words.next(), 4000),
         checks: number(words.next(), 1000),
         shares: number(words.next(), 1000),
         keeps: number(words.next(), 1) != 0,
     };
-    match points::play::<KdTrie>(rt.alloc(), &plan) {
-        Ok(done) => {
-            println!(rt; "points {}", done.points)?;
-            println!(rt; "moved {}", done.moved)?;
-            println!(rt; "checked {}", done.checked)?;
-            println!(rt; "shared {}", done.shared)?;
-            println!(rt; "there {}", done.there)?;
-            println!(rt; "in the kept share {}", done.kept)
-        }
-        Err(_) => println!(rt; "no memory"),
-    }
+    let threads = number(words.next(), 4).clamp(1, 64) as u8;
+    let rounds = number(words.next(), 4000) / u64::from(threads);
+    let asleep = Duration::from_micros(number(words.next(), 0));
+    tell_trie(&rt, rt.alloc(), &plan)?;
+    tell_lock(&rt, rt.alloc(), threads, rounds, asleep)
 }

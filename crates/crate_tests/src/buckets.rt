@@ -7,7 +7,6 @@ use std::marker::Brand;
 use std::process::Abort;
 use std::sync::ledger::{Blank, Ledger};
 use step_count::Steps;
-use zorder::Memory;
 
 fn row(key: u64, id: u64) -> Row
     ensures { result ≡ record { key = key; id = id } }
@@ -22,14 +21,7 @@ fn lists<L: Ledger>(bucket: &Bucket, rows: &[Row], blank: Blank) -> bool
     requires one_part { blank.parts ≡ 1 }
 {
     let mut steps = Steps::<L>::new(blank);
-    let mut rest = rows;
-    for row in bucket.rows(&mut steps) {
-        match rest.split_first() {
-            Some((first, others)) if first == row => rest = others,
-            _ => return false,
-        }
-    }
-    rest.is_empty()
+    bucket.rows(&mut steps).eq(rows)
 }
 
 fn is_listed(bucket: &Bucket, rows: &[Row]) -> bool {
@@ -52,12 +44,14 @@ const THREE: [Row; 3] = [
 ];
 
 // What is there before all else.
-fn two_rows(alloc: Global) -> Result<Bucket, Memory> {
-    Bucket::from_rows(alloc, &[row(1, 9), row(27, 7)])
+fn two_rows(rt: &impl Abort, alloc: Global) -> Bucket {
+    Bucket::from_rows(alloc, &[row(1, 9), row(27, 7)]).expect(rt, "it failed")
 }
 
-fn three_rows(alloc: Global) -> Result<Bucket, BucketFault> {
-    two_rows(alloc)?.with_put(row(2, 4))
+fn three_rows(rt: &impl Abort, alloc: Global) -> Bucket {
+    two_rows(rt, alloc)
+        .with_put(row(2, 4))
+        .expect(rt, "it failed")
 }
 
 // How many rows a bucket has, how long its delta is, and whether it has this row.
@@ -95,8 +89,7 @@ fn takes_a_put(rt: &impl Abort, b: &Bucket) {
 
 #[test]
 fn a_put_keeps_the_base_and_folding_moves_it(rt: HostRuntime) {
-    let b = two_rows(rt.alloc()).expect(&rt, "it failed");
-    takes_a_put(&rt, &b);
+    takes_a_put(&rt, &two_rows(&rt, rt.alloc()));
 }
 
 // `d` is `c` without a row.
@@ -109,7 +102,7 @@ fn keeps_the_other_rows(rt: &impl Abort, c: &Bucket, d: &Bucket) {
 }
 
 fn refuses_an_absent_row(rt: &impl Abort, alloc: Global) {
-    let b = two_rows(alloc).expect(rt, "it failed");
+    let b = two_rows(rt, alloc);
     assert_same!(rt; delta_behind(b.with_gone(row(2, 1))), Err(BucketFault::Absent));
 }
 
@@ -121,19 +114,22 @@ fn takes_a_removal(rt: &impl Abort, c: &Bucket) {
 #[test]
 fn a_removal_keeps_the_base_and_the_other_rows(rt: HostRuntime) {
     refuses_an_absent_row(&rt, rt.alloc());
-    let c = three_rows(rt.alloc()).expect(&rt, "it failed");
-    takes_a_removal(&rt, &c);
+    takes_a_removal(&rt, &three_rows(&rt, rt.alloc()));
 }
 
 // A bucket whose base has a row less in its range than the other has.
-fn caught_up(alloc: Global) -> Result<Bucket, BucketFault> {
-    let c = Bucket::from_rows(alloc, &[row(1, 9), row(27, 7)])?.with_put(row(2, 4))?;
-    let cut = Bucket::from_rows(alloc, &[row(27, 7)])?;
-    Ok(cut.caught_up(&c, 2, 27)?)
+fn caught_up(rt: &impl Abort, alloc: Global) -> Bucket {
+    let two = Bucket::from_rows(alloc, &[row(1, 9), row(27, 7)]).expect(rt, "it failed");
+    let three = two.with_put(row(2, 4)).expect(rt, "it failed");
+    let cut = Bucket::from_rows(alloc, &[row(27, 7)]).expect(rt, "it failed");
+    cut.caught_up(&three, 2, 27).expect(rt, "it failed")
+}
+
+fn expect_late(rt: &impl Abort, late: &Bucket) {
+    assert_same!(rt; (late.base_rows(), late.count()), (&THREE[1..], 2));
 }
 
 #[test]
 fn a_cut_bucket_catches_up_with_the_rows_in_its_range(rt: HostRuntime) {
-    let late = caught_up(rt.alloc()).expect(&rt, "it failed");
-    assert_same!(rt; (late.base_rows(), late.count()), (&THREE[1..], 2));
+    expect_late(&rt, &caught_up(&rt, rt.alloc()));
 }

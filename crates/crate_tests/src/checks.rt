@@ -13,3 +13,8 @@ pub fn holds(rt: &impl Abort, is_so: bool, words: &str) {
 pub fn same<T: PartialEq + Debug>(rt: &impl Abort, left: &T, right: &T, compared: &str) {
     assert_eq!(rt; left, right, "{compared}");
 }
+
+/// Ends the test unless these are the same bytes.
+pub fn same_bytes(rt: &impl Abort, left: &[u8], right: &[u8]) {
+    assert_eq!(rt; left, right);
+}

@@ -1,5 +1,7 @@
 //! A drive over a real file of the temporary folder.
-use crate::folder::{path_of, taken_away};
+use crate::checks::same_bytes;
+use crate::folder::{expect_taken_away, path_of};
+use crate::logs::files::is_read_back;
 use disk_file::FileDisk;
 use disk_trait::{AttachFault, DiskFault, LogDisk};
 use std::alloc::Global;
@@ -18,15 +20,19 @@ fn attach<D: LogDisk>(
     disk.attach(alloc, name, make)
 }
 
-fn fill_and_cut<D: LogDisk>(disk: &mut D) -> Result<[u8; 6], DiskFault> {
-    disk.write(0, b"abcd")?;
-    disk.write(2, b"xyz")?;
-    disk.write(0, b"A")?;
-    disk.sync()?;
-    disk.cut(4)?;
+fn fill_and_cut<D: LogDisk>(rt: &impl Abort, disk: &mut D) {
+    disk.write(0, b"abcd").expect(rt, "no write");
+    disk.write(2, b"xyz").expect(rt, "no write");
+    disk.write(0, b"A").expect(rt, "no write");
+    disk.sync().expect(rt, "no sync");
+    disk.cut(4).expect(rt, "no cut");
+}
+
+// Six bytes of the room of a read from the second byte on.
+fn read<D: LogDisk>(rt: &impl Abort, disk: &mut D) -> [u8; 6] {
     let mut into = [b'-'; 6];
-    disk.read(1, &mut into)?;
-    Ok(into)
+    disk.read(1, &mut into).expect(rt, "no read");
+    into
 }
 
 fn length<D: LogDisk>(disk: &mut D) -> Result<u64, DiskFault> {
@@ -41,34 +47,40 @@ fn is_not_made<D: LogDisk>(rt: &impl Abort, disk: &mut D, alloc: Global, name: &
 fn is_made<D: LogDisk>(rt: &impl Abort, disk: &mut D, alloc: Global, name: &str) {
     assert_is!(rt; attach(disk, alloc, name, true).is_ok());
     assert_is!(rt; matches!(length(disk), Ok(0)));
-    assert_same!(rt; fill_and_cut(disk), Ok(*b"bxy---"));
+    fill_and_cut(rt, disk);
+    same_bytes(rt, &read(rt, disk), b"bxy---");
     assert_is!(rt; matches!(length(disk), Ok(4)));
 }
 
+fn is_there<R: Abort + Files>(rt: &R, name: &str) -> bool {
+    fs::exists(rt, name).expect(rt, "nobody knows")
+}
+
+fn makes_a_file<R: Abort + Files + AllocGlobal, D: LogDisk>(rt: &R, disk: &mut D, name: &str) {
+    is_not_made(rt, disk, rt.alloc(), name);
+    assert_is!(rt; !is_there(rt, name));
+    is_made(rt, disk, rt.alloc(), name);
+    expect_taken_away(rt, name, b"Abxy");
+}
+
 // Of a drive that may be sent to a thread.
-fn makes_a_file<R: Abort + Files + AllocGlobal, D: LogDisk + Send>(
+fn keeps_what_is_written<R: Abort + Files + AllocGlobal, D: LogDisk + Send>(
     rt: &R,
-    disk: &mut D,
+    mut disk: D,
     name: &str,
 ) {
-    is_not_made(rt, disk, rt.alloc(), name);
-    assert_is!(rt; matches!(fs::exists(rt, name), Ok(false)));
-    is_made(rt, disk, rt.alloc(), name);
-    let bytes = taken_away(rt, name).expect(rt, "it failed");
-    assert_same!(rt; bytes.as_slice(), b"Abxy".as_slice());
+    makes_a_file(rt, &mut disk, name);
+    is_read_back(rt, disk, name);
 }
 
 fn path<R: Abort + Env + AllocGlobal>(rt: &R, id: u32) -> PathBuf {
     let name = format!(in rt.alloc(); "disk_file-{id}").expect(rt, "a name");
-    path_of(rt, name.as_str()).expect(rt, "a path")
+    path_of(rt, name.as_str())
 }
 
 #[test]
-fn a_file_is_made_where_it_may_be_and_keeps_what_is_written(rt: HostRuntime) {
+fn a_file_is_made_where_it_may_be_and_keeps_what_is_written_a_log_too(rt: HostRuntime) {
     let path = path(&rt, process::id(rt.process()));
-    makes_a_file(
-        &rt,
-        &mut FileDisk::new(rt.clone().expect(&rt, "it failed")),
-        path.as_str(),
-    );
+    let disk = FileDisk::new(rt.clone().expect(&rt, "it failed"));
+    keeps_what_is_written(&rt, disk, path.as_str());
 }

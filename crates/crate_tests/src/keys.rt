@@ -94,12 +94,26 @@ fn a_name_has_no_bit_behind_its_length(rt: HostRuntime) {
     assert_same!(rt; Name::new(0, 0), Some(Name::whole()));
 }
 
+fn expect_name(rt: &impl Abort, name: Name, bits: u64, len: u8) {
+    assert_same!(rt; Name::new(bits, len), Some(name));
+}
+
+const FIRST: u64 = 0x8000000000000000;
+
+const LAST: u64 = 0xC000000000000000;
+
+fn expect_low(rt: &impl Abort, low: Name, right: Name) {
+    assert_is!(rt; low != right);
+    assert_is!(rt; begins(&low, FIRST));
+    assert_is!(rt; !begins(&low, LAST));
+}
+
 #[test]
 fn a_child_has_one_bit_more(rt: HostRuntime) {
     let right = child(&Name::whole(), true);
     let low = child(&right, false);
-    let (first, last) = (0x8000000000000000, 0xC000000000000000);
-    assert_same!(rt; (Name::new(first, 1), Name::new(first, 2)), (Some(right), Some(low)));
-    assert_same!(rt; child(&right, true).bits(), last);
-    assert_same!(rt; (low != right, begins(&low, first), begins(&low, last)), (true, true, false));
+    expect_name(&rt, right, FIRST, 1);
+    expect_name(&rt, low, FIRST, 2);
+    expect_name(&rt, child(&right, true), LAST, 2);
+    expect_low(&rt, low, right);
 }

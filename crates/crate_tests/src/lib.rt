@@ -49,6 +49,8 @@ mod lists;
 #[cfg(test)]
 mod logs;
 #[cfg(test)]
+mod memory;
+#[cfg(test)]
 mod moves;
 #[cfg(test)]
 mod regions;

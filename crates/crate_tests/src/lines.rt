@@ -2,6 +2,7 @@
 ghost use Rattle.std.specs.Prelude.{None};
 
 use crate::answers::{Told, answer_of};
+use crate::checks::same_bytes;
 use cell_format::Cause;
 use csv_rows::{
     InRow, Refusal, Rows, RowsFault, number_in, read_rows, refusal_line, write_line, write_rows,
@@ -45,7 +46,7 @@ impl Sink for Kept {
 }
 
 fn expect_text(rt: &impl Abort, sink: &Kept, text: &[u8]) {
-    assert_same!(rt; sink.bytes.as_slice(), text);
+    same_bytes(rt, sink.bytes.as_slice(), text);
 }
 
 fn expect_rows(rt: &impl Abort, alloc: Global, text: &[u8], expected: &[InRow]) {
@@ -59,17 +60,20 @@ fn how_many(alloc: Global, text: &[u8]) -> Result<usize, RowsFault> {
 }
 
 // How many rows there are behind the header.
-fn how_many_behind(alloc: Global, rows: &[u8]) -> Result<usize, RowsFault> {
-    let Ok(text) = with_header(alloc, rows) else {
-        return Err(RowsFault::Memory);
-    };
-    how_many(alloc, text.as_slice())
+fn how_many_behind(rt: &impl Abort, alloc: Global, rows: &[u8]) -> Result<usize, RowsFault> {
+    how_many(alloc, with_header(rt, alloc, rows).as_slice())
 }
 
-fn with_header(alloc: Global, rows: &[u8]) -> Result<Vec<u8>, AllocError> {
-    let mut text = Vec::from_slice(alloc, b"session,op,id,x,y,a,b\n".as_slice())?;
-    text.extend_from_slice(rows)?;
-    Ok(text)
+fn with_header(rt: &impl Abort, alloc: Global, rows: &[u8]) -> Vec<u8> {
+    let mut text = b"session,op,id,x,y,a,b\n"
+        .to_vec(alloc)
+        .expect(rt, "no memory");
+    add(rt, &mut text, rows);
+    text
+}
+
+fn add(rt: &impl Abort, text: &mut Vec<u8>, more: &[u8]) {
+    text.extend_from_slice(more).expect(rt, "no memory");
 }
 
 const FIRST_ROWS: &[InRow] = &[
@@ -187,7 +191,7 @@ const FAULTS: &[(&[u8], u32, u8)] = &[
 fn the_leftmost_column_of_the_first_row_at_fault_is_named(rt: HostRuntime) {
     for (rows, row, column) in FAULTS {
         let (row, column) = (*row, *column);
-        assert_same!(rt; how_many_behind(rt.alloc(), rows), Err(RowsFault::Field { row, column }));
+        assert_same!(rt; how_many_behind(&rt, rt.alloc(), rows), Err(RowsFault::Field { row, column }));
     }
 }
 
@@ -199,25 +203,24 @@ const LENGTHS: &[(&[u8], u32)] = &[
 #[test]
 fn a_row_of_six_or_eight_fields_is_named(rt: HostRuntime) {
     for (rows, row) in LENGTHS {
-        assert_same!(rt; how_many_behind(rt.alloc(), rows), Err(RowsFault::Csv { row: *row }));
+        assert_same!(rt; how_many_behind(&rt, rt.alloc(), rows), Err(RowsFault::Csv { row: *row }));
     }
 }
 
 // 65,536 rows.
-fn many_rows(alloc: Global) -> Result<Vec<u8>, AllocError> {
-    let mut text = with_header(alloc, b"")?;
+fn many_rows(rt: &impl Abort, alloc: Global) -> Vec<u8> {
+    let mut text = with_header(rt, alloc, b"");
     for _ in 0..65_536 {
-        text.extend_from_slice(b"1,where,7,,,,\n".as_slice())?;
+        add(rt, &mut text, b"1,where,7,,,,\n");
     }
-    Ok(text)
+    text
 }
 
 #[test]
 fn the_record_behind_65536_rows_is_one_too_many(rt: HostRuntime) {
-    let mut text = many_rows(rt.alloc()).expect(&rt, "it failed");
+    let mut text = many_rows(&rt, rt.alloc());
     assert_same!(rt; how_many(rt.alloc(), text.as_slice()), Ok(65_536));
-    text.extend_from_slice(b"x\n".as_slice())
-        .expect(&rt, "it failed");
+    add(&rt, &mut text, b"x\n");
     assert_same!(rt; how_many(rt.alloc(), text.as_slice()), Err(RowsFault::TooMany));
 }
 

@@ -4,7 +4,7 @@ use crate::worlds::next;
 use plain_list::{
     Answer, Call, Entries, Entry, Op, World, answer, find_id, is_box, is_legal, ranking_is_in_order,
 };
-use std::alloc::{AllocError, Global};
+use std::alloc::Global;
 use std::process::Abort;
 use zorder::{Memory, Placed, Point, Region};
 
@@ -47,29 +47,28 @@ macro_rules! within {
 // The call of a session's row, and what it is told.
 type Row = (u8, u32, Op, Told);
 
-fn add_call(alloc: Global, calls: &mut Vec<Call>, row: &Row) -> Result<(), AllocError> {
+fn call_of(rt: &impl Abort, alloc: Global, row: &Row) -> Call {
     let (session, row, op, told) = *row;
-    let answer = answer_of(alloc, told)?;
-    calls.push(Call {
+    let answer = answer_of(alloc, told).expect(rt, "no memory");
+    Call {
         session,
         row,
         op,
         answer,
-    })?;
-    Ok(())
+    }
 }
 
-fn calls_of(alloc: Global, rows: &[Row]) -> Result<Vec<Call>, AllocError> {
+fn calls_of(rt: &impl Abort, alloc: Global, rows: &[Row]) -> Vec<Call> {
     let mut calls = Vec::new(alloc);
     for row in rows {
-        add_call(alloc, &mut calls, row)?;
+        calls.push(call_of(rt, alloc, row)).expect(rt, "no memory");
     }
-    Ok(calls)
+    calls
 }
 
 // Whether these calls are legal, in this order.
-fn are_legal(alloc: Global, rows: &[Row]) -> Result<bool, Memory> {
-    let calls = calls_of(alloc, rows)?;
+fn are_legal(rt: &impl Abort, alloc: Global, rows: &[Row]) -> Result<bool, Memory> {
+    let calls = calls_of(rt, alloc, rows);
     is_legal(alloc, &World::empty(alloc), calls.as_slice())
 }
 
@@ -86,7 +85,7 @@ const WORKED: &[Row] = &[
 
 #[test]
 fn the_worked_calls_have_their_answers(rt: HostRuntime) {
-    assert_same!(rt; are_legal(rt.alloc(), WORKED), Ok(true));
+    assert_same!(rt; are_legal(&rt, rt.alloc(), WORKED), Ok(true));
 }
 
 const TIES: &[Row] = &[
@@ -114,7 +113,7 @@ const TIES: &[Row] = &[
 
 #[test]
 fn ties_go_to_the_lesser_id_and_boxes_have_both_corners(rt: HostRuntime) {
-    assert_same!(rt; are_legal(rt.alloc(), TIES), Ok(true));
+    assert_same!(rt; are_legal(&rt, rt.alloc(), TIES), Ok(true));
 }
 
 // A put of session 1, and a find of session 2 that isn't told of it.
@@ -125,7 +124,7 @@ const UNTOLD: &[Row] = &[
 
 #[test]
 fn absent_after_a_put_is_not_legal(rt: HostRuntime) {
-    assert_same!(rt; are_legal(rt.alloc(), UNTOLD), Ok(false));
+    assert_same!(rt; are_legal(&rt, rt.alloc(), UNTOLD), Ok(false));
 }
 
 fn count_of(answer: &Answer) -> (usize, u64) {
@@ -198,21 +197,25 @@ const HISTORY: [Entry; 2] = [
 ];
 
 // A put and a step.
-fn two_entries(alloc: Global) -> Result<Entries, Memory> {
+fn two_entries(rt: &impl Abort, alloc: Global) -> Entries {
     let mut history = Entries::empty(alloc);
     for entry in HISTORY {
-        history.push(entry)?;
+        history.push(entry).expect(rt, "no memory");
     }
-    Ok(history)
+    history
 }
 
-fn copy_of(alloc: Global, history: &Entries) -> Result<Entries, AllocError> {
-    Ok(Entries::from_vec(history.as_slice().to_vec(alloc)?))
+fn copy_of(rt: &impl Abort, alloc: Global, history: &Entries) -> Entries {
+    Entries::from_vec(history.as_slice().to_vec(alloc).expect(rt, "no memory"))
+}
+
+fn expect_two(rt: &impl Abort, history: &Entries) {
+    assert_same!(rt; history.as_slice().len(), 2);
 }
 
 #[test]
 fn a_history_keeps_its_steps(rt: HostRuntime) {
-    let history = two_entries(rt.alloc()).expect(&rt, "it failed");
-    let copy = copy_of(rt.alloc(), &history).expect(&rt, "it failed");
-    assert_same!(rt; (history.as_slice().len(), copy.as_slice().len()), (2, 2));
+    let history = two_entries(&rt, rt.alloc());
+    expect_two(&rt, &history);
+    expect_two(&rt, &copy_of(&rt, rt.alloc(), &history));
 }

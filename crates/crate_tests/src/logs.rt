@@ -5,7 +5,7 @@
 //!
 //! Calls of logs stand in functions over any drive, which say nothing of it: a proof that knows a drive in memory takes some times as long.
 mod appends;
-mod files;
+pub mod files;
 mod fixtures;
 mod images;
 mod recoveries;

@@ -1,7 +1,6 @@
 //! A worked split of the whole space.
 ghost use Rattle.std.specs.Prelude.{◌≡◌, [], IfOk};
 ghost use Rattle.std.specs.Arc.{arc_value};
-ghost use Rattle.bucket_versions.specs.Rows.{IsRows};
 ghost use Rattle.bucket_versions.specs.Under.{AreUnder};
 
 use bucket_versions::{Bucket, Row};
@@ -44,44 +43,62 @@ fn a_ticket_and_what_was_prepared_may_be_sent() {
 fn expect_children(rt: &impl Abort, prepared: &Prepared, wanted: &[&[Row]]) {
     assert_same!(rt; prepared.children().len(), wanted.len());
     for (child, rows) in prepared.children().iter().zip(wanted) {
-        assert_same!(rt; (child.base_rows(), child.count()), (*rows, rows.len() as u64));
+        expect_child(rt, child, rows);
     }
 }
 
-fn expect_head(rt: &impl Abort, prepared: &Prepared, number: u64, base: &[Row]) {
-    assert_same!(rt; (prepared.number(), prepared.name()), (number, Name::whole()));
-    assert_same!(rt; prepared.base_rows(), base);
+fn expect_child(rt: &impl Abort, child: &Bucket, rows: &[Row]) {
+    expect_rows(rt, child.base_rows(), rows);
+    assert_same!(rt; child.count(), rows.len() as u64);
+}
+
+fn expect_rows(rt: &impl Abort, rows: &[Row], wanted: &[Row]) {
+    assert_same!(rt; rows, wanted);
+}
+
+const BASE: &[Row] = &[Row { key: 1, id: 9 }, Row { key: 27, id: 7 }];
+
+fn expect_head(rt: &impl Abort, prepared: &Prepared) {
+    assert_same!(rt; (prepared.number(), prepared.name()), (5, Name::whole()));
+    expect_rows(rt, prepared.base_rows(), BASE);
 }
 
 // A split into two, of a bucket that has a row behind its base.
-fn two_children(rt: &impl Abort, alloc: Global, base: &[Row]) -> Prepared
-    requires { IsRows base.now }
-{
-    let bucket = Bucket::from_rows(alloc, base).expect(rt, "a bucket");
+fn two_children(rt: &impl Abort, alloc: Global) -> Prepared {
+    let bucket = Bucket::from_rows(alloc, &[row(1, 9), row(27, 7)]).expect(rt, "a bucket");
     let bucket = bucket.with_put(row(UPPER, 4)).expect(rt, "a bucket");
     let ticket = begun(alloc, 5, bucket).expect(rt, "a ticket");
     prepare(alloc, &ticket, 1).expect(rt, "two children")
 }
 
-#[test]
-fn each_child_has_the_base_rows_under_its_name(rt: HostRuntime) {
-    let base = [row(1, 9), row(27, 7)];
-    let prepared = two_children(&rt, rt.alloc(), &base);
-    expect_head(&rt, &prepared, 5, &base);
-    expect_children(&rt, &prepared, &[base.as_slice(), &[]]);
+fn expect_two(rt: &impl Abort, prepared: &Prepared) {
+    expect_head(rt, prepared);
+    expect_children(rt, prepared, &[BASE, &[]]);
 }
 
-fn four_children(rt: &impl Abort, alloc: Global, rows: &[Row]) -> Prepared
-    requires { IsRows rows.now }
-{
-    let bucket = Bucket::from_rows(alloc, rows).expect(rt, "a bucket");
+#[test]
+fn each_child_has_the_base_rows_under_its_name(rt: HostRuntime) {
+    expect_two(&rt, &two_children(&rt, rt.alloc()));
+}
+
+fn four_children(rt: &impl Abort, alloc: Global) -> Prepared {
+    let rows = [row(0, 1), row(UPPER, 2), row(UPPER, 3), row(u64::MAX, 4)];
+    let bucket = Bucket::from_rows(alloc, &rows).expect(rt, "a bucket");
     let ticket = begun(alloc, 1, bucket).expect(rt, "a ticket");
     prepare(alloc, &ticket, 2).expect(rt, "four children")
 }
 
+const FOUR: &[&[Row]] = &[
+    &[Row { key: 0, id: 1 }],
+    &[],
+    &[Row { key: UPPER, id: 2 }, Row { key: UPPER, id: 3 }],
+    &[Row {
+        key: u64::MAX,
+        id: 4,
+    }],
+];
+
 #[test]
 fn four_children_share_the_rows_in_key_order(rt: HostRuntime) {
-    let rows = [row(0, 1), row(UPPER, 2), row(UPPER, 3), row(u64::MAX, 4)];
-    let prepared = four_children(&rt, rt.alloc(), &rows);
-    expect_children(&rt, &prepared, &[&rows[..1], &[], &rows[1..3], &rows[3..]]);
+    expect_children(&rt, &four_children(&rt, rt.alloc()), FOUR);
 }

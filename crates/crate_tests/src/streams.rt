@@ -1,6 +1,7 @@
 //! Reads and puts on the happy path, failing in mid-stream, and over short reads and writes.
+use crate::checks::same_bytes;
 use io_edge::{MemSink, MemSource, ReadFault, Sink, Source, StdSink, StdSource, read_all};
-use std::alloc::{AllocError, Global};
+use std::alloc::Global;
 use std::io;
 use std::io::{Read, Write};
 use std::process::Abort;
@@ -46,13 +47,14 @@ impl Write for Pairs {
     }
 }
 
-fn source_of(alloc: Global, text: &[u8], failing: &[u64]) -> Result<MemSource, AllocError> {
-    Ok(MemSource::new(text.to_vec(alloc)?, failing.to_vec(alloc)?))
+fn source_of(rt: &impl Abort, alloc: Global, text: &[u8], failing: &[u64]) -> MemSource {
+    let bytes = text.to_vec(alloc).expect(rt, "no memory");
+    MemSource::new(bytes, failing.to_vec(alloc).expect(rt, "no memory"))
 }
 
 fn expect_all<S: Source>(rt: &impl Abort, alloc: Global, source: &mut S, most: usize, text: &[u8]) {
     let all = read_all(alloc, source, most).expect(rt, "it failed");
-    assert_same!(rt; all.as_slice(), text);
+    same_bytes(rt, all.as_slice(), text);
 }
 
 // Whether a read of everything comes to a text that is too long, or else to a fault of the source.
@@ -71,7 +73,7 @@ fn read<S: Source>(source: &mut S, into: &mut [u8]) -> Option<usize> {
 
 #[test]
 fn a_source_in_memory_is_read_to_its_end(rt: HostRuntime) {
-    let mut source = source_of(rt.alloc(), b"id,x,y", &[]).expect(&rt, "it failed");
+    let mut source = source_of(&rt, rt.alloc(), b"id,x,y", &[]);
     expect_all(&rt, rt.alloc(), &mut source, 6, b"id,x,y");
     assert_same!(rt; read(&mut source, &mut [0; 4]), Some(0));
 }
@@ -80,7 +82,7 @@ fn is_longer_than_4<S: Source>(rt: &impl Abort, alloc: Global, source: &mut S) {
     assert_same!(rt; is_too_long(alloc, source, 4), Some(true));
     let mut rest = [0; 4];
     assert_same!(rt; read(source, &mut rest), Some(2));
-    assert_same!(rt; rest, *b"67\0\0");
+    same_bytes(rt, &rest, b"67\0\0");
 }
 
 #[test]
@@ -88,7 +90,7 @@ fn one_byte_above_the_bound_is_too_long(rt: HostRuntime) {
     is_longer_than_4(
         &rt,
         rt.alloc(),
-        &mut source_of(rt.alloc(), b"1234567", &[]).expect(&rt, "it failed"),
+        &mut source_of(&rt, rt.alloc(), b"1234567", &[]),
     );
 }
 
@@ -97,7 +99,7 @@ fn fails_at_2_and_4<S: Source>(rt: &impl Abort, alloc: Global, source: &mut S) {
     for told in [Some(2), None, Some(1)] {
         assert_same!(rt; read(source, &mut into), told);
     }
-    assert_same!(rt; into, *b"cb");
+    same_bytes(rt, &into, b"cb");
     assert_same!(rt; is_too_long(alloc, source, usize::MAX), Some(false));
 }
 
@@ -106,14 +108,14 @@ fn listed_reads_fail_and_take_nothing(rt: HostRuntime) {
     fails_at_2_and_4(
         &rt,
         rt.alloc(),
-        &mut source_of(rt.alloc(), b"abc", &[2, 4]).expect(&rt, "it failed"),
+        &mut source_of(&rt, rt.alloc(), b"abc", &[2, 4]),
     );
 }
 
 // Fails unless a sink takes these pieces, and those alone that it is to take.
 fn expect_taken<K: Sink>(rt: &impl Abort, sink: &mut K, pieces: &[(&[u8], bool)]) {
     for (piece, is_taken) in pieces {
-        assert_same!(rt; (*piece, sink.put(piece).is_ok()), (*piece, *is_taken));
+        assert_same!(rt; sink.put(piece).is_ok(), *is_taken);
     }
 }
 
@@ -134,7 +136,7 @@ fn five_bytes(alloc: Global) -> Result<MemSink, Memory> {
 fn a_sink_in_memory_keeps_what_fits(rt: HostRuntime) {
     let mut sink = five_bytes(rt.alloc()).expect(&rt, "it failed");
     expect_taken(&rt, &mut sink, PIECES);
-    assert_same!(rt; sink.bytes(), b"abcde".as_slice());
+    same_bytes(&rt, sink.bytes(), b"abcde");
 }
 
 // Gives 5, 4, 3, 2 and 1, one a read, and fails in place of this one.

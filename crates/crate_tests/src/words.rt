@@ -1,6 +1,6 @@
 //! Words that are accepted, and words that aren't.
 use command_words::{Command, Made, command_in};
-use std::alloc::{AllocError, Global};
+use std::alloc::Global;
 use std::process::Abort;
 use zorder::{Point, Region};
 
@@ -32,17 +32,22 @@ fn numbers(made: Made) -> [u64; 4] {
     [u64::from(made.rows), made.seed, 0, 0]
 }
 
-fn words_of(alloc: Global, line: &str) -> Result<Vec<String>, AllocError> {
+fn words_of(rt: &impl Abort, alloc: Global, line: &str) -> Vec<String> {
     let mut words = Vec::new(alloc);
     for word in line.split(' ') {
-        words.push(String::from_str(alloc, word)?)?;
+        add(rt, alloc, &mut words, word);
     }
-    Ok(words)
+    words
+}
+
+fn add(rt: &impl Abort, alloc: Global, words: &mut Vec<String>, word: &str) {
+    let word = String::from_str(alloc, word).expect(rt, "no memory");
+    words.push(word).expect(rt, "no memory");
 }
 
 // What a line of words asks for.
 fn expect_asked(rt: &impl Abort, alloc: Global, line: &str, wanted: Said<'_>) {
-    let words = words_of(alloc, line).expect(rt, "it failed");
+    let words = words_of(rt, alloc, line);
     assert_same!(rt; said(command_in(words.as_slice())), wanted);
 }
 

@@ -86,7 +86,7 @@ impl Numbers {
 }
 
 /// What becomes of a call: it passes, it fails as planned, or it is past the bound and reaches nothing.
-#[derive(Clone, Copy, Debug, PartialEq, Eq)]
+#[derive(Clone, Copy)]
 pub enum Verdict {
     Passes,
     Fails,

@@ -2,7 +2,7 @@
 use crate::touches::Touch;
 
 /// The lengths of a file after some entries of its record, and how many of them the last sync that succeeded ends.
-#[derive(Clone, Copy, Debug, PartialEq, Eq)]
+#[derive(Clone, Copy)]
 pub struct Scan {
     pub len: usize,
     pub cut: usize,

@@ -8,7 +8,7 @@ ghost use Rattle.disk_mem.specs.Recorded.{change_of, changes_of, IsStored, range
 use std::alloc::{AllocError, Global};
 
 /// An entry of the record. The bytes of a write lie in the record's pieces, from `from` on.
-#[derive(Clone, Copy, Debug, PartialEq, Eq)]
+#[derive(Clone, Copy)]
 pub enum Touch {
     Wrote { at: usize, from: usize, len: usize },
     FailedWrite { at: usize, len: usize },

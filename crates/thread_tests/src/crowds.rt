@@ -42,14 +42,20 @@ fn row_text(alloc: Global, session: u32, row: u32) -> Result<String, AllocError>
 }
 
 // So many rows of each session, in turn.
-fn crowd_text(alloc: Global, rows: u32) -> Result<Vec<u8>, AllocError> {
-    let mut text = HEADER.as_bytes().to_vec(alloc)?;
+fn crowd_text(rt: &impl Abort, alloc: Global, rows: u32) -> Vec<u8> {
+    let mut text = HEADER.as_bytes().to_vec(alloc).expect(rt, "no memory");
     for row in 0..rows {
         for session in 1..SESSIONS + 1 {
-            text.extend_from_slice(row_text(alloc, session, row)?.as_bytes())?;
+            add_row(rt, alloc, &mut text, session, row);
         }
     }
-    Ok(text)
+    text
+}
+
+fn add_row(rt: &impl Abort, alloc: Global, text: &mut Vec<u8>, session: u32, row: u32) {
+    let row = row_text(alloc, session, row).expect(rt, "no memory");
+    text.extend_from_slice(row.as_bytes())
+        .expect(rt, "no memory");
 }
 
 fn lines(left: &Left) -> usize {
@@ -78,7 +84,7 @@ fn splits_among_calls(events: &Entries) -> bool {
 fn a_crowd_is_answered<R: Threads + Wait + Abort + Sync>(rt: &R, alloc: Global, rows: u32)
     requires { rows ≤ 4000 }
 {
-    let text = crowd_text(alloc, rows).expect(rt, "it failed");
+    let text = crowd_text(rt, alloc, rows);
     let left = play(rt, alloc, "64", text, &OpenGate);
     expect_all(rt, &left, SESSIONS as usize * rows as usize);
 }

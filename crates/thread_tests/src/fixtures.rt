@@ -4,7 +4,7 @@ use disk_trait::LogDisk;
 use io_edge::{Gate, MemSink, MemSource, Sink, Source};
 use location_run::{Outcome, run};
 use plain_list::{Entries, Entry};
-use std::alloc::{AllocError, Global};
+use std::alloc::Global;
 use std::process::Abort;
 use std::sync::Wait;
 use std::thread::Threads;
@@ -23,12 +23,17 @@ pub struct Left {
     pub written: Vec<u8>,
 }
 
-fn words(alloc: Global, all: &[&str]) -> Result<Vec<String>, AllocError> {
+fn words(rt: &impl Abort, alloc: Global, all: &[&str]) -> Vec<String> {
     let mut words = Vec::new(alloc);
     for word in all {
-        words.push(String::from_str(alloc, word)?)?;
+        add_word(rt, alloc, &mut words, word);
     }
-    Ok(words)
+    words
+}
+
+fn add_word(rt: &impl Abort, alloc: Global, words: &mut Vec<String>, word: &str) {
+    let word = String::from_str(alloc, word).expect(rt, "no memory");
+    words.push(word).expect(rt, "no memory");
 }
 
 fn no_drive(alloc: Global) -> Result<MemDisk, Memory> {
@@ -43,7 +48,7 @@ pub fn play<R: Abort + Threads + Wait + Sync, G: Gate + Sync>(
     input: Vec<u8>,
     gate: &G,
 ) -> Left {
-    let words = words(alloc, &["play", "-", "--bucket", bucket]).expect(rt, "it failed");
+    let words = words(rt, alloc, &["play", "-", "--bucket", bucket]);
     let mut source = MemSource::new(input, Vec::new(alloc));
     let mut sink = MemSink::new(alloc, ROOM, Vec::new(alloc)).expect(rt, "it failed");
     let (status, events) = play_over(rt, alloc, words.as_slice(), &mut source, &mut sink, gate);

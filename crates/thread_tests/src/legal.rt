@@ -1,6 +1,7 @@
 //! Whether a history is legal with what its rows were told.
 use plain_list::{Answer, Call, Entries, Entry, World, is_legal};
-use std::alloc::{AllocError, Global};
+use std::alloc::Global;
+use std::process::Abort;
 use zorder::{Memory, Point};
 
 /// What a put or a find was told.
@@ -26,14 +27,14 @@ fn told_of(told: &[Told], row: u32) -> Option<Told> {
 }
 
 // The calls of a history, in its order.
-fn calls_of(alloc: Global, events: &Entries, told: &[Told]) -> Result<Vec<Call>, AllocError> {
+fn calls_of(rt: &impl Abort, alloc: Global, events: &Entries, told: &[Told]) -> Vec<Call> {
     let mut calls = Vec::new(alloc);
     for entry in events.as_slice() {
         if let Some(call) = call_of(entry, told) {
-            calls.push(call)?;
+            calls.push(call).expect(rt, "no memory");
         }
     }
-    Ok(calls)
+    calls
 }
 
 fn call_of(entry: &Entry, told: &[Told]) -> Option<Call> {
@@ -49,7 +50,12 @@ fn call_of(entry: &Entry, told: &[Told]) -> Option<Call> {
 }
 
 /// Whether the calls of a history over no objects have these answers, where one plain list is asked in its order.
-pub fn is_legal_with(alloc: Global, events: &Entries, told: &[Told]) -> Result<bool, Memory> {
-    let calls = calls_of(alloc, events, told)?;
+pub fn is_legal_with(
+    rt: &impl Abort,
+    alloc: Global,
+    events: &Entries,
+    told: &[Told],
+) -> Result<bool, Memory> {
+    let calls = calls_of(rt, alloc, events, told);
     is_legal(alloc, &World::empty(alloc), calls.as_slice())
 }

@@ -24,6 +24,7 @@ mod crowds;
 mod fixtures;
 #[cfg(test)]
 mod legal;
+#[cfg(test)]
 mod numbered;
 #[cfg(test)]
 mod orders;
@@ -31,6 +32,8 @@ mod orders;
 mod passes;
 #[cfg(test)]
 mod sheets;
+#[cfg(test)]
+mod stores;
 #[cfg(test)]
 mod turns;
 #[cfg(test)]

@@ -176,8 +176,8 @@ const SECOND_TOLD: &[Told] = &[Told::Absent, SECOND, Told::Done];
 const SECOND_UNTOLD: &[Told] = &[Told::Absent, Told::Done, FIRST];
 
 fn expect_legal(rt: &impl Abort, alloc: Global, events: &Entries, told: &[Told], untold: &[Told]) {
-    assert_same!(rt; is_legal_with(alloc, events, told), Ok(true));
-    assert_same!(rt; is_legal_with(alloc, events, untold), Ok(false));
+    assert_same!(rt; is_legal_with(rt, alloc, events, told), Ok(true));
+    assert_same!(rt; is_legal_with(rt, alloc, events, untold), Ok(false));
 }
 
 fn is_told<R: Threads + Wait + Abort + Sync>(

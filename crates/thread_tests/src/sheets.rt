@@ -1,6 +1,6 @@
 //! A lock around a sheet of entries: what one pass adds comes back, what another is told, and threads at once, also such as sleep at the
 //! lock. One that isn't woken would sleep for ever, and its test be stopped.
-ghost use Rattle.std.specs.Prelude.{◌≡◌, ℕ, ◌+◌, ◌<◌, ◌≤◌, ◌++◌, [], ◌∷◌, false, IfOk, MatchBool};
+ghost use Rattle.std.specs.Prelude.{◌≡◌, ℕ, ◌+◌, ◌<◌, ◌≤◌, ◌++◌, [], ◌∷◌, false, MatchBool};
 ghost use Rattle.std.specs.Thread.{IsSync};
 ghost use Rattle.plain_list.specs.declared.entries.Entry.{Entry};
 ghost use Rattle.book_lock.specs.Ends.{Ends};
@@ -8,11 +8,10 @@ ghost use Rattle.thread_tests.specs.Passes.{HasAdded, IsFree, KeepsPass};
 
 use book_lock::{BookLock, Held, Pass};
 use plain_list::{Entry, Lost, Op};
-use std::alloc::{AllocError, Global};
+use std::alloc::Global;
 use std::process::Abort;
 use std::rt::Clock;
 use std::sync::Wait;
-use std::test::*;
 use std::thread::{self, Threads, join_mut};
 use std::time::Duration;
 
@@ -47,17 +46,18 @@ impl Sheet {
     }
 }
 
-fn new_lock(alloc: Global) -> Result<(BookLock<Sheet>, Pass<Sheet>), AllocError>
-    ensures { IfOk result (λ r. (r.1.lock ≡ r.0) × (r.1.seen ≡ []) × (r.1.own ≡ []) × (r.1.parts ≡ 65536) × (r.1.holds ≡ false)) }
+fn new_lock(rt: &impl Abort, alloc: Global) -> (BookLock<Sheet>, Pass<Sheet>)
+    ensures lock { (result.1.lock ≡ result.0) × (result.1.holds ≡ false) }
+    ensures pass { (result.1.seen ≡ []) × (result.1.own ≡ []) × (result.1.parts ≡ 65536) }
 {
     let sheet = Sheet {
         entries: Vec::new(alloc),
         bucket: 4,
     };
-    match BookLock::new(alloc, sheet) {
-        Ok(made) => Ok(made),
-        Err(_) => Err(AllocError),
-    }
+    let Ok(made) = BookLock::new(alloc, sheet) else {
+        rt.panic("no lock is made")
+    };
+    made
 }
 
 fn in_threads<T: Send + Sync>() {}
@@ -139,28 +139,34 @@ fn is_the_fail(entries: &[Entry]) -> bool {
     )
 }
 
-#[test]
-fn one_find_comes_back(rt: HostRuntime) -> Result<(), Fail> {
-    may_be_shared::<Sheet>();
-    let (lock, mut pass) = new_lock(rt.alloc())?;
-    let added = add(&rt, &lock, &mut pass, find(1, 1), Duration::ZERO);
+fn comes_back<R: Wait + Clock + Abort>(rt: &R, alloc: Global) {
+    let (lock, mut pass) = new_lock(rt, alloc);
+    let added = add(rt, &lock, &mut pass, find(1, 1), Duration::ZERO);
     let sheet = lock.close(pass);
     assert_is!(rt; added);
     assert_is!(rt; is_the_find(sheet.entries.as_slice()));
-    Ok(())
 }
 
 #[test]
-fn a_fail_of_a_second_pass_is_told_to_the_first(rt: HostRuntime) -> Result<(), Fail> {
-    let (lock, mut first) = new_lock(rt.alloc())?;
+fn one_find_comes_back(rt: HostRuntime) {
+    may_be_shared::<Sheet>();
+    comes_back(&rt, rt.alloc());
+}
+
+fn is_told_to_the_first<R: Wait + Clock + Abort>(rt: &R, alloc: Global) {
+    let (lock, mut first) = new_lock(rt, alloc);
     let mut second = lock.split_pass(&mut first);
-    let added = add(&rt, &lock, &mut second, failed(), Duration::ZERO);
+    let added = add(rt, &lock, &mut second, failed(), Duration::ZERO);
     lock.meet(&mut second, &mut first);
     lock.join_pass(&mut first, second);
     let sheet = lock.close(first);
     assert_is!(rt; added);
     assert_is!(rt; is_the_fail(sheet.entries.as_slice()));
-    Ok(())
+}
+
+#[test]
+fn a_fail_of_a_second_pass_is_told_to_the_first(rt: HostRuntime) {
+    is_told_to_the_first(&rt, rt.alloc());
 }
 
 // Adds so many entries of one session.
@@ -241,27 +247,26 @@ fn each_entry_comes<R: Threads + Wait + Clock + Abort + Sync>(
     sessions: u8,
     rows: u32,
     asleep: Duration,
-) -> Result<(), Fail>
+)
     requires { 1 ≤ sessions }
 {
-    let (lock, mut pass) = new_lock(alloc)?;
+    let (lock, mut pass) = new_lock(rt, alloc);
     add_all(rt, &lock, &mut pass, sessions - 1, rows, asleep);
     let sheet = lock.close(pass);
     assert_is!(rt; are_in_order(sheet.entries.as_slice(), sessions as usize, rows));
-    Ok(())
 }
 
 #[test]
-fn eight_threads_add_to_one_history(rt: HostRuntime) -> Result<(), Fail> {
-    each_entry_comes(&rt, rt.alloc(), 8, 1_000, Duration::ZERO)
+fn eight_threads_add_to_one_history(rt: HostRuntime) {
+    each_entry_comes(&rt, rt.alloc(), 8, 1_000, Duration::ZERO);
 }
 
 #[test]
-fn a_thread_sleeps_while_another_holds_the_lock(rt: HostRuntime) -> Result<(), Fail> {
-    each_entry_comes(&rt, rt.alloc(), 2, 500, Duration::from_millis(1))
+fn a_thread_sleeps_while_another_holds_the_lock(rt: HostRuntime) {
+    each_entry_comes(&rt, rt.alloc(), 2, 500, Duration::from_millis(1));
 }
 
 #[test]
-fn eight_threads_sleep_while_a_ninth_holds_the_lock(rt: HostRuntime) -> Result<(), Fail> {
-    each_entry_comes(&rt, rt.alloc(), 9, 1_000, Duration::from_millis(1))
+fn eight_threads_sleep_while_a_ninth_holds_the_lock(rt: HostRuntime) {
+    each_entry_comes(&rt, rt.alloc(), 9, 1_000, Duration::from_millis(1));
 }

@@ -1,14 +1,14 @@
 //! A box beside another session's puts, over an index whose versions have numbers.
-ghost use Rattle.std.specs.Prelude.{◌≡◌, ◌≤◌, []};
+ghost use Rattle.std.specs.Prelude.{◌≡◌, ◌≤◌};
 ghost use Rattle.plain_list.specs.Answer.{IsValid};
-ghost use Rattle.plain_list.specs.World.{IsWorld};
 ghost use Rattle.thread_tests.specs.Passes.{IsFree, KeepsPass};
 
 use crate::checks::holds;
 use crate::numbered::Numbered;
+use crate::stores::{index_of, new_store};
 use crate::turns::{Turn, Turns};
 use book_lock::Pass;
-use commit_book::{Book, Done};
+use commit_book::Done;
 use disk_mem::MemDisk;
 use disk_trait::LogDisk;
 use flat_index::FlatIndex;
@@ -51,7 +51,8 @@ type NumberedStore = Store<Numbered<FlatIndex>, MemDisk, Brand>;
 
 type NumberedPass = Pass<SharedBook<Numbered<FlatIndex>, MemDisk, Brand>>;
 
-fn call<I: Index, D: LogDisk, L: Ledger, R: Wait, G: Gate>(
+/// One call of a pass, with a count of its own.
+pub fn call<I: Index, D: LogDisk, L: Ledger, R: Wait, G: Gate>(
     rt: &R,
     alloc: Global,
     store: &Store<I, D, Brand>,
@@ -199,26 +200,17 @@ fn ask_in<R: Threads + Wait + Sync, G: Gate + Sync>(
 }
 
 // The answer to the box, and the index in the end.
-fn asked<R: Threads + Wait + Sync, G: Gate + Sync>(
+fn asked<R: Threads + Wait + Abort + Sync, G: Gate + Sync>(
     rt: &R,
     alloc: Global,
-    book: Book<Numbered<FlatIndex>, MemDisk>,
     beside: bool,
     gate: &G,
-) -> Option<(Answer, Numbered<FlatIndex>)>
-    requires entries { book.entries ≡ [] }
-    requires world { IsWorld book.opening.world }
-{
-    let Ok((store, mut pass)) = NumberedStore::new(alloc, book) else {
-        return None;
-    };
+) -> (Answer, Numbered<FlatIndex>) {
+    let (store, mut pass) = new_store::<Numbered<FlatIndex>, MemDisk>(rt, alloc);
     put(rt, alloc, &store, gate, 1, FIRST, &mut pass);
     let answer = ask_in(rt, alloc, &store, gate, beside, &mut pass);
-    let index = store.close(pass).into_parts().index;
-    match answer {
-        Ok(done) => Some((done.answer, index)),
-        Err(_) => None,
-    }
+    let index = index_of(store.close(pass));
+    (answer.expect(rt, "the call failed").answer, index)
 }
 
 fn lists_the_first(answer: &Answer) -> bool {
@@ -235,12 +227,7 @@ fn late_reads<R: Threads + Wait + Abort + Sync, G: Gate + Sync>(
     beside: bool,
     gate: &G,
 ) -> u64 {
-    let Ok(book) = Book::<Numbered<FlatIndex>, MemDisk>::fresh(alloc, 4) else {
-        rt.panic("memory ran out");
-    };
-    let Some((answer, index)) = asked(rt, alloc, book, beside, gate) else {
-        rt.panic("memory ran out");
-    };
+    let (answer, index) = asked(rt, alloc, beside, gate);
     assert_is!(rt; lists_the_first(&answer));
     index.late_reads()
 }

@@ -1,5 +1,5 @@
 //! Calls of a book. They say nothing of it, so that a test's proof knows nothing of what a book promises.
-ghost use Rattle.std.specs.Prelude.{◌≡◌, IfOk};
+ghost use Rattle.std.specs.Prelude.{◌≡◌};
 
 use commit_book::{Book, BookFault, Done, Snapshot};
 use disk_trait::LogDisk;
@@ -7,13 +7,28 @@ use index_layer::Index;
 use plain_list::{Answer, Op};
 use split_prepare::{Prepared, prepare};
 use std::alloc::Global;
-use zorder::{Name, Point, Region};
+use std::process::Abort;
+use zorder::{Name, Point, Region, child};
+
+/// The leaf of the whole space, or the one of the name `0`.
+#[derive(Clone, Copy)]
+pub enum Leaf {
+    Whole,
+    Zero,
+}
 
 /// What a call is told: its place or a number, a word, and a point or two sizes.
 pub type Told = (u64, &'static str, Option<(u64, u64)>);
 
 /// Of a step that tells no more than that it was taken.
 pub const TAKEN: Told = (0, "taken", None);
+
+fn name_of(leaf: Leaf) -> Name {
+    match leaf {
+        Leaf::Whole => Name::whole(),
+        Leaf::Zero => child(&Name::whole(), false),
+    }
+}
 
 fn pair(at: Point) -> Option<(u64, u64)> {
     Some((u64::from(at.x), u64::from(at.y)))
@@ -78,8 +93,8 @@ pub fn seen_in<I: Index>(seen: &Snapshot<I>) -> Told {
 }
 
 /// Begins a split, and tells its number.
-pub fn begin<I: Index, D: LogDisk>(book: &mut Book<I, D>, name: &Name) -> Result<Told, BookFault> {
-    match book.begin(name) {
+pub fn begin<I: Index, D: LogDisk>(book: &mut Book<I, D>, leaf: Leaf) -> Result<Told, BookFault> {
+    match book.begin(&name_of(leaf)) {
         Ok(ticket) => Ok((ticket.number, "begun", None)),
         Err(fault) => Err(fault),
     }
@@ -87,17 +102,15 @@ pub fn begin<I: Index, D: LogDisk>(book: &mut Book<I, D>, name: &Name) -> Result
 
 /// Begins a split, and cuts its bucket.
 pub fn begin_and_cut<I: Index, D: LogDisk>(
+    rt: &impl Abort,
     alloc: Global,
     book: &mut Book<I, D>,
-    name: &Name,
-) -> Result<Prepared, BookFault>
-    ensures { IfOk result (λ p. p.width ≡ I.WIDTH) }
+    leaf: Leaf,
+) -> Prepared
+    ensures { result.width ≡ I.WIDTH }
 {
-    let ticket = book.begin(name)?;
-    match prepare(alloc, &ticket, I::WIDTH) {
-        Ok(prepared) => Ok(prepared),
-        Err(_) => Err(BookFault::Memory),
-    }
+    let ticket = book.begin(&name_of(leaf)).expect(rt, "no split is begun");
+    prepare(alloc, &ticket, I::WIDTH).expect(rt, "no bucket is cut")
 }
 
 /// Installs a split.
@@ -125,6 +138,9 @@ pub fn abandon<I: Index, D: LogDisk>(
 }
 
 /// How many cells and entries a book has, and at which cell it is closed.
-pub fn stands<I: Index, D: LogDisk>(book: &Book<I, D>) -> (u64, u64, Option<u64>) {
+pub type Stands = (u64, u64, Option<u64>);
+
+/// How a book stands.
+pub fn stands<I: Index, D: LogDisk>(book: &Book<I, D>) -> Stands {
     (book.cells(), book.events(), book.closed())
 }

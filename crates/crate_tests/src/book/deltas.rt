@@ -1,6 +1,6 @@
 //! The delta of a leaf's bucket, through changes and the steps of a split.
-use crate::book::calls::TAKEN;
-use crate::book::steps::{Leaf, Step, Taken, follow_fresh};
+use crate::book::calls::{Leaf, TAKEN};
+use crate::book::steps::{Step, Taken, follow_fresh};
 use disk_mem::MemDisk;
 use kd_trie::KdTrie;
 

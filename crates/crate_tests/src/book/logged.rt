@@ -1,16 +1,16 @@
 //! Books over a log in memory: the cell of each step, a drive that fails, and what a log brings.
-use crate::book::books::{EMPTY_LOG, disk_of, failing_disk};
-use crate::book::calls::TAKEN;
-use crate::book::steps::{Leaf, Step, Taken, follow_on};
+use crate::book::calls::{Leaf, TAKEN};
+use crate::book::steps::{Step, Taken, follow_on};
+use crate::memory::{EMPTY_LOG, disk_of};
 use commit_book::{Book, BookFault};
-use disk_mem::{DiskCall, MemDisk};
+use disk_mem::{DiskCall, Fail, MemDisk};
 use disk_trait::LogDisk;
 use index_layer::Index;
 use kd_trie::KdTrie;
 use plain_list::{Entry, Lost, Op};
 use std::alloc::Global;
 use std::process::Abort;
-use zorder::{Memory, Point};
+use zorder::Point;
 
 // Put 7 at (3,5), begin 1 of the empty name, install 1, begin 2 of `0`, abandon 2.
 const SPLIT_LOG: &[u8] = b"MDLOCLOG\x01\x01\0\0\0\0\0\0\
@@ -41,23 +41,15 @@ const ADDING: &[Taken] = &[
     (Step::Abandon(2), Ok(TAKEN), (5, 8, None)),
 ];
 
-// What is left of a book: the drive under it.
-fn drive_under<I: Index, D: LogDisk>(book: Book<I, D>) -> Option<D> {
-    let parts = book.into_parts();
-    parts.disk
-}
-
 // Takes these steps over the log that a drive has, and gives the drive.
 fn drive_behind<I: Index, D: LogDisk>(
     rt: &impl Abort,
     alloc: Global,
     disk: D,
     steps: &[Taken],
-) -> Result<Option<D>, Memory> {
-    match follow_on::<I, D>(rt, alloc, disk, steps) {
-        Ok(book) => Ok(drive_under(book)),
-        Err(Memory) => Err(Memory),
-    }
+) -> Option<D> {
+    let parts = follow_on::<I, D>(rt, alloc, disk, steps).into_parts();
+    parts.disk
 }
 
 fn has_split_log(disk: &Option<MemDisk>) -> bool {
@@ -69,11 +61,8 @@ fn has_split_log(disk: &Option<MemDisk>) -> bool {
 
 #[test]
 fn a_change_and_a_step_of_a_split_add_a_cell_each(rt: HostRuntime) {
-    let disk = disk_of(rt.alloc(), EMPTY_LOG).expect(&rt, "it failed");
-    let left = drive_behind::<KdTrie, MemDisk>(&rt, rt.alloc(), disk, ADDING).expect(
-        &rt,
-        "it failed",
-    );
+    let disk = disk_of(&rt, rt.alloc(), EMPTY_LOG, &[]);
+    let left = drive_behind::<KdTrie, MemDisk>(&rt, rt.alloc(), disk, ADDING);
     assert_is!(rt; has_split_log(&left));
 }
 
@@ -117,20 +106,13 @@ fn has_lost_its_put<I: Index, D: LogDisk>(book: Book<I, D>) -> bool {
     parts.index.leaf_of(27).1.count() == 0 && is_lost_put(parts.entries.as_slice())
 }
 
-fn closes_for_good<I: Index, D: LogDisk>(
-    rt: &impl Abort,
-    alloc: Global,
-    disk: D,
-) -> Result<bool, Memory> {
-    match follow_on::<I, D>(rt, alloc, disk, CLOSING) {
-        Ok(book) => Ok(has_lost_its_put(book)),
-        Err(Memory) => Err(Memory),
-    }
+fn closes_for_good<I: Index, D: LogDisk>(rt: &impl Abort, alloc: Global, disk: D) -> bool {
+    has_lost_its_put(follow_on::<I, D>(rt, alloc, disk, CLOSING))
 }
 
 // The same over a drive in memory on which this call fails.
-fn closes(rt: &impl Abort, alloc: Global, call: DiskCall, number: u64) -> Result<bool, Memory> {
-    let disk = failing_disk(alloc, call, number)?;
+fn closes(rt: &impl Abort, alloc: Global, call: DiskCall, number: u64) -> bool {
+    let disk = disk_of(rt, alloc, EMPTY_LOG, &[Fail { call, number }]);
     closes_for_good::<KdTrie, MemDisk>(rt, alloc, disk)
 }
 
@@ -145,7 +127,7 @@ const CALLS: &[(DiskCall, u64)] = &[
 #[test]
 fn a_put_whose_append_fails_closes_the_book(rt: HostRuntime) {
     for (call, number) in CALLS {
-        assert_same!(rt; closes(&rt, rt.alloc(), *call, *number), Ok(true));
+        assert_is!(rt; closes(&rt, rt.alloc(), *call, *number));
     }
 }
 
@@ -177,9 +159,6 @@ const GOING_ON: &[Taken] = &[
 
 #[test]
 fn a_book_goes_on_with_what_its_log_says(rt: HostRuntime) {
-    let disk = disk_of(rt.alloc(), SPLIT_LOG).expect(&rt, "it failed");
-    let _left = drive_behind::<KdTrie, MemDisk>(&rt, rt.alloc(), disk, GOING_ON).expect(
-        &rt,
-        "it failed",
-    );
+    let disk = disk_of(&rt, rt.alloc(), SPLIT_LOG, &[]);
+    let _left = drive_behind::<KdTrie, MemDisk>(&rt, rt.alloc(), disk, GOING_ON);
 }

@@ -1,6 +1,6 @@
 //! Splits that a book refuses, and why.
-use crate::book::calls::TAKEN;
-use crate::book::steps::{Leaf, Step, Taken, follow_fresh};
+use crate::book::calls::{Leaf, TAKEN};
+use crate::book::steps::{Step, Taken, follow_fresh};
 use commit_book::BookFault;
 use disk_mem::MemDisk;
 use kd_trie::KdTrie;

@@ -1,21 +1,14 @@
 //! Lists of steps that a book takes.
-use crate::book::books::{book_on, fresh};
+use crate::book::books::book_on;
 use crate::book::calls::{
-    TAKEN, Told, abandon, begin, begin_and_cut, find, install, look, put, seen_in, stands,
+    Leaf, Stands, TAKEN, Told, abandon, begin, begin_and_cut, find, install, look, put, seen_in,
+    stands,
 };
 use commit_book::{Book, BookFault};
 use disk_trait::LogDisk;
 use index_layer::Index;
 use std::alloc::Global;
 use std::process::Abort;
-use zorder::{Memory, Name, child};
-
-/// The leaf of the whole space, or the one of the name `0`.
-#[derive(Clone, Copy)]
-pub enum Leaf {
-    Whole,
-    Zero,
-}
 
 /// A row of session 1, or a step of a split.
 #[derive(Clone, Copy)]
@@ -39,15 +32,8 @@ pub enum Step {
     Abandon(u64),
 }
 
-/// A step, what the book tells of it, and how it stands then: with so many cells and entries, and closed at this cell.
-pub type Taken = (Step, Result<Told, BookFault>, (u64, u64, Option<u64>));
-
-fn name_of(leaf: Leaf) -> Name {
-    match leaf {
-        Leaf::Whole => Name::whole(),
-        Leaf::Zero => child(&Name::whole(), false),
-    }
-}
+/// A step, what the book tells of it, and how it stands then.
+pub type Taken = (Step, Result<Told, BookFault>, Stands);
 
 fn put_many<I: Index, D: LogDisk>(
     book: &mut Book<I, D>,
@@ -64,32 +50,39 @@ fn look_at<I: Index, D: LogDisk>(book: &mut Book<I, D>, row: u32) -> Result<Told
     Ok(seen_in(&look(book, row)?))
 }
 
-fn look_over_put<I: Index, D: LogDisk>(book: &mut Book<I, D>, row: u32) -> Result<Told, BookFault> {
+fn look_over_put<I: Index, D: LogDisk>(
+    rt: &impl Abort,
+    book: &mut Book<I, D>,
+    row: u32,
+) -> Result<Told, BookFault> {
     let seen = look(book, row)?;
-    put(book, row.saturating_add(1), 8, 4, 4)?;
+    put(book, row.saturating_add(1), 8, 4, 4).expect(rt, "the put failed");
     Ok(seen_in(&seen))
 }
 
 fn split<I: Index, D: LogDisk>(
+    rt: &impl Abort,
     alloc: Global,
     book: &mut Book<I, D>,
     leaf: Leaf,
 ) -> Result<Told, BookFault> {
-    let prepared = begin_and_cut(alloc, book, &name_of(leaf))?;
+    let prepared = begin_and_cut(rt, alloc, book, leaf);
     install(book, &prepared)
 }
 
 fn split_twice<I: Index, D: LogDisk>(
+    rt: &impl Abort,
     alloc: Global,
     book: &mut Book<I, D>,
     leaf: Leaf,
 ) -> Result<Told, BookFault> {
-    let prepared = begin_and_cut(alloc, book, &name_of(leaf))?;
-    install(book, &prepared)?;
+    let prepared = begin_and_cut(rt, alloc, book, leaf);
+    install(book, &prepared).expect(rt, "the install failed");
     install(book, &prepared)
 }
 
 fn take<I: Index, D: LogDisk>(
+    rt: &impl Abort,
     alloc: Global,
     book: &mut Book<I, D>,
     step: Step,
@@ -100,10 +93,10 @@ fn take<I: Index, D: LogDisk>(
         Step::PutMany(first, count) => put_many(book, first, count),
         Step::Find(row, id) => find(book, row, id),
         Step::Look(row) => look_at(book, row),
-        Step::LookOverPut(row) => look_over_put(book, row),
-        Step::Begin(leaf) => begin(book, &name_of(leaf)),
-        Step::Split(leaf) => split(alloc, book, leaf),
-        Step::SplitTwice(leaf) => split_twice(alloc, book, leaf),
+        Step::LookOverPut(row) => look_over_put(rt, book, row),
+        Step::Begin(leaf) => begin(book, leaf),
+        Step::Split(leaf) => split(rt, alloc, book, leaf),
+        Step::SplitTwice(leaf) => split_twice(rt, alloc, book, leaf),
         Step::Abandon(number) => abandon(book, number),
     }
 }
@@ -115,8 +108,17 @@ fn follow<I: Index, D: LogDisk>(
     steps: &[Taken],
 ) {
     for (step, told, stood) in steps {
-        assert_same!(rt; (take(alloc, book, *step), stands(book)), (*told, *stood));
+        expect_told(rt, &take(rt, alloc, book, *step), told);
+        expect_stands(rt, stands(book), *stood);
     }
+}
+
+fn expect_told(rt: &impl Abort, told: &Result<Told, BookFault>, wanted: &Result<Told, BookFault>) {
+    assert_same!(rt; *told, *wanted);
+}
+
+fn expect_stands(rt: &impl Abort, stood: Stands, wanted: Stands) {
+    assert_same!(rt; stood, wanted);
 }
 
 /// Takes these steps in a book without a log.
@@ -126,7 +128,7 @@ pub fn follow_fresh<I: Index, D: LogDisk>(
     bucket: u32,
     steps: &[Taken],
 ) {
-    let mut book = fresh::<I, D>(alloc, bucket).expect(rt, "it failed");
+    let mut book = Book::<I, D>::fresh(alloc, bucket).expect(rt, "no book is made");
     follow(rt, alloc, &mut book, steps);
 }
 
@@ -136,8 +138,8 @@ pub fn follow_on<I: Index, D: LogDisk>(
     alloc: Global,
     disk: D,
     steps: &[Taken],
-) -> Result<Book<I, D>, Memory> {
-    let mut book = book_on::<I, D>(alloc, disk)?;
+) -> Book<I, D> {
+    let mut book = book_on::<I, D>(rt, alloc, disk);
     follow(rt, alloc, &mut book, steps);
-    Ok(book)
+    book
 }

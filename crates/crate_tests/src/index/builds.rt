@@ -10,7 +10,7 @@ use kd_trie::KdTrie;
 use plain_list::World;
 use std::alloc::Global;
 use std::process::Abort;
-use zorder::{Memory, Name, Placed, Point, child};
+use zorder::{Name, Placed, Point, child};
 
 const HALF: u32 = 2_147_483_648;
 
@@ -70,19 +70,21 @@ fn is_one_empty_leaf<I: Index>(index: &I) -> bool {
     name == Name::whole() && bucket.count() == 0
 }
 
-fn builds_one_empty_leaf<I: Index>(alloc: Global) -> Result<bool, Memory> {
-    let index = build::<I>(alloc, &World::empty(alloc), &[Name::whole()])?;
-    Ok(is_one_empty_leaf(&index))
+fn builds_one_empty_leaf<I: Index>(rt: &impl Abort, alloc: Global) {
+    let world = World::empty(alloc);
+    let index = build::<I>(alloc, &world, &[Name::whole()]).expect(rt, "it failed");
+    assert_is!(rt; is_one_empty_leaf(&index));
+}
+
+fn is_made_with_its_leaves<I: Index>(rt: &impl Abort, alloc: Global)
+    requires { I.WIDTH ≡ 1 }
+{
+    builds_two_halves::<I>(rt, alloc);
+    builds_one_empty_leaf::<I>(rt, alloc);
 }
 
 #[test]
-fn five_objects_are_shared_out_among_two_leaves(rt: HostRuntime) {
-    builds_two_halves::<FlatIndex>(&rt, rt.alloc());
-    builds_two_halves::<KdTrie>(&rt, rt.alloc());
-}
-
-#[test]
-fn an_empty_world_has_one_empty_leaf(rt: HostRuntime) {
-    assert_same!(rt; builds_one_empty_leaf::<FlatIndex>(rt.alloc()), Ok(true));
-    assert_same!(rt; builds_one_empty_leaf::<KdTrie>(rt.alloc()), Ok(true));
+fn five_objects_are_shared_out_among_two_leaves_and_an_empty_world_has_one(rt: HostRuntime) {
+    is_made_with_its_leaves::<FlatIndex>(&rt, rt.alloc());
+    is_made_with_its_leaves::<KdTrie>(&rt, rt.alloc());
 }

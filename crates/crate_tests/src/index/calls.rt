@@ -73,16 +73,6 @@ fn answers_the_worked_calls<I: Index>(rt: &impl Abort, alloc: Global)
     has_three_rows(rt, &index, &filled(rt, alloc, &index));
 }
 
-#[test]
-fn a_flat_index_answers_the_worked_calls(rt: HostRuntime) {
-    answers_the_worked_calls::<FlatIndex>(&rt, rt.alloc());
-}
-
-#[test]
-fn a_trie_answers_the_worked_calls(rt: HostRuntime) {
-    answers_the_worked_calls::<KdTrie>(&rt, rt.alloc());
-}
-
 fn keeps_what_is_shared<I: Index>(rt: &impl Abort, alloc: Global) {
     let mut index = one_empty_leaf::<I>(alloc).expect(rt, "it failed");
     let before = index.share().expect(rt, "it failed");
@@ -96,14 +86,20 @@ fn waits_for_its_step<I: Index>(rt: &impl Abort, alloc: Global) {
     assert_same!(rt; (put, sizes(&index, 27).0), (Err(Undone::Lost), 0));
 }
 
-#[test]
-fn a_flat_index_is_changed_in_place(rt: HostRuntime) {
-    keeps_what_is_shared::<FlatIndex>(&rt, rt.alloc());
-    waits_for_its_step::<FlatIndex>(&rt, rt.alloc());
+fn is_called_and_changed_in_place<I: Index>(rt: &impl Abort, alloc: Global)
+    requires { I.WIDTH ≡ 1 }
+{
+    answers_the_worked_calls::<I>(rt, alloc);
+    keeps_what_is_shared::<I>(rt, alloc);
+    waits_for_its_step::<I>(rt, alloc);
 }
 
 #[test]
-fn a_trie_is_changed_in_place(rt: HostRuntime) {
-    keeps_what_is_shared::<KdTrie>(&rt, rt.alloc());
-    waits_for_its_step::<KdTrie>(&rt, rt.alloc());
+fn a_flat_index_answers_the_worked_calls_and_is_changed_in_place(rt: HostRuntime) {
+    is_called_and_changed_in_place::<FlatIndex>(&rt, rt.alloc());
+}
+
+#[test]
+fn a_trie_answers_the_worked_calls_and_is_changed_in_place(rt: HostRuntime) {
+    is_called_and_changed_in_place::<KdTrie>(&rt, rt.alloc());
 }

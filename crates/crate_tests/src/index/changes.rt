@@ -107,16 +107,6 @@ fn keeps_a_base_where_it_is_asked_to<I: Index>(rt: &impl Abort, alloc: Global) {
     expect_changed(rt, &mut index);
 }
 
-#[test]
-fn a_flat_index_keeps_a_base_where_it_is_asked_to(rt: HostRuntime) {
-    keeps_a_base_where_it_is_asked_to::<FlatIndex>(&rt, rt.alloc());
-}
-
-#[test]
-fn a_trie_keeps_a_base_where_it_is_asked_to(rt: HostRuntime) {
-    keeps_a_base_where_it_is_asked_to::<KdTrie>(&rt, rt.alloc());
-}
-
 // A linear congruential generator (Knuth's MMIX).
 fn drawn(seed: u64) -> u64 {
     seed.wrapping_mul(6_364_136_223_846_793_005)
@@ -210,12 +200,21 @@ fn expect_rows<I: Index>(rt: &impl Abort, before: &I, index: &I) {
     assert_same!(rt; (how_many(index), unmoved(index)), (OBJECTS, 0));
 }
 
-#[test]
-fn a_share_of_a_flat_index_keeps_its_rows_through_many_changes(rt: HostRuntime) {
-    keeps_its_rows_through_many_changes::<FlatIndex>(&rt, rt.alloc());
+fn keeps_what_it_is_to_keep<I: Index>(rt: &impl Abort, alloc: Global)
+    requires { I.WIDTH ≡ 1 }
+{
+    keeps_a_base_where_it_is_asked_to::<I>(rt, alloc);
+    keeps_its_rows_through_many_changes::<I>(rt, alloc);
 }
 
 #[test]
-fn a_share_of_a_trie_keeps_its_rows_through_many_changes(rt: HostRuntime) {
-    keeps_its_rows_through_many_changes::<KdTrie>(&rt, rt.alloc());
+fn a_flat_index_keeps_its_base_where_it_is_asked_to_and_its_share_through_many_changes(
+    rt: HostRuntime,
+) {
+    keeps_what_it_is_to_keep::<FlatIndex>(&rt, rt.alloc());
+}
+
+#[test]
+fn a_trie_keeps_its_base_where_it_is_asked_to_and_its_share_through_many_changes(rt: HostRuntime) {
+    keeps_what_it_is_to_keep::<KdTrie>(&rt, rt.alloc());
 }

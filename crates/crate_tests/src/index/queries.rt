@@ -3,6 +3,7 @@ ghost use Rattle.std.specs.Prelude.{◌≡◌};
 
 use crate::index::asks::{expect_box, expect_near};
 use crate::index::buckets::{halves, three_rows};
+use crate::index::spread::{finds_each_corner, ranks_by_id_where_all_are_as_far};
 use bucket_versions::Row;
 use flat_index::FlatIndex;
 use index_layer::Index;
@@ -57,25 +58,37 @@ fn last_id<I: Index, L: Ledger>(index: &I, steps: &mut Steps<L>) -> u64 {
     for_rows(index, 0u64, |_, row: &Row| row.id, steps)
 }
 
+fn answers_over_three_rows<I: Index, L: Ledger>(
+    rt: &impl Abort,
+    alloc: Global,
+    steps: &mut Steps<L>,
+)
+    requires { I.WIDTH ≡ 1 }
+{
+    let index = filled::<I>(rt, alloc);
+    answers_rows(rt, alloc, &index, steps);
+    expect_box(rt, alloc, &index, &BOX, AT_RIGHT, steps);
+    expect_near(rt, alloc, &index, ORIGIN, 1, AT_RIGHT, steps);
+}
+
 fn answers_the_worked_queries<I: Index, L: Ledger>(rt: &impl Abort, alloc: Global, blank: Blank)
     requires width { I.WIDTH ≡ 1 }
     requires name { blank.name ≡ L.name }
     requires parts { blank.parts ≡ L.parts }
     requires one_part { blank.parts ≡ 1 }
 {
-    let index = filled::<I>(rt, alloc);
     let mut steps = Steps::<L>::new(blank);
-    answers_rows(rt, alloc, &index, &mut steps);
-    expect_box(rt, alloc, &index, &BOX, AT_RIGHT, &mut steps);
-    expect_near(rt, alloc, &index, ORIGIN, 1, AT_RIGHT, &mut steps);
+    answers_over_three_rows::<I, L>(rt, alloc, &mut steps);
+    finds_each_corner::<I, L>(rt, alloc, &mut steps);
+    ranks_by_id_where_all_are_as_far::<I, L>(rt, alloc, &mut steps);
 }
 
 #[test]
-fn a_flat_index_answers_the_worked_queries(rt: HostRuntime) {
+fn a_flat_index_answers_the_worked_queries_at_corners_and_among_equals_too(rt: HostRuntime) {
     answers_the_worked_queries::<FlatIndex, Brand>(&rt, rt.alloc(), Blank::new(1));
 }
 
 #[test]
-fn a_trie_answers_the_worked_queries(rt: HostRuntime) {
+fn a_trie_answers_the_worked_queries_at_corners_and_among_equals_too(rt: HostRuntime) {
     answers_the_worked_queries::<KdTrie, Brand>(&rt, rt.alloc(), Blank::new(1));
 }

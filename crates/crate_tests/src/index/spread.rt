@@ -3,13 +3,10 @@ ghost use Rattle.std.specs.Prelude.{◌≡◌, ◌≤◌};
 
 use crate::index::asks::{expect_box, expect_near};
 use crate::index::buckets::two_leaves;
-use flat_index::FlatIndex;
 use index_layer::Index;
-use kd_trie::KdTrie;
 use std::alloc::Global;
-use std::marker::Brand;
 use std::process::Abort;
-use std::sync::ledger::{Blank, Ledger};
+use std::sync::ledger::Ledger;
 use step_count::Steps;
 use zorder::{Placed, Point, Region};
 
@@ -52,20 +49,21 @@ const FIRST_THREE: &[Placed] = &[
     placed!(3, LOW, HIGH),
 ];
 
-fn finds_each_corner<I: Index, L: Ledger>(rt: &impl Abort, alloc: Global, blank: Blank)
-    requires width { I.WIDTH ≡ 1 }
-    requires name { blank.name ≡ L.name }
-    requires parts { blank.parts ≡ L.parts }
-    requires one_part { blank.parts ≡ 1 }
+/// A box of one point finds the object that is there, at each corner.
+pub(crate) fn finds_each_corner<I: Index, L: Ledger>(
+    rt: &impl Abort,
+    alloc: Global,
+    steps: &mut Steps<L>,
+)
+    requires { I.WIDTH ≡ 1 }
 {
-    let mut steps = Steps::<L>::new(blank);
     let index = two_leaves::<I>(alloc, CORNERS).expect(rt, "an index");
     for object in CORNERS {
         let region = Region {
             lo: object.at,
             hi: object.at,
         };
-        expect_box(rt, alloc, &index, &region, &[*object], &mut steps);
+        expect_box(rt, alloc, &index, &region, &[*object], steps);
     }
 }
 
@@ -74,46 +72,15 @@ const CENTRE: Point = Point {
     y: MIDDLE,
 };
 
-fn ranks_by_id_where_all_are_as_far<I: Index, L: Ledger>(
+/// A near ranks objects by their ids where all are as far.
+pub(crate) fn ranks_by_id_where_all_are_as_far<I: Index, L: Ledger>(
     rt: &impl Abort,
     alloc: Global,
-    blank: Blank,
+    steps: &mut Steps<L>,
 )
-    requires width { I.WIDTH ≡ 1 }
-    requires name { blank.name ≡ L.name }
-    requires parts { blank.parts ≡ L.parts }
-    requires one_part { blank.parts ≡ 1 }
+    requires { I.WIDTH ≡ 1 }
 {
-    let mut steps = Steps::<L>::new(blank);
     let index = two_leaves::<I>(alloc, AROUND_THE_MIDDLE).expect(rt, "an index");
-    expect_near(rt, alloc, &index, CENTRE, 3, FIRST_THREE, &mut steps);
-    expect_near(
-        rt,
-        alloc,
-        &index,
-        CENTRE,
-        2_048,
-        AROUND_THE_MIDDLE,
-        &mut steps,
-    );
-}
-
-#[test]
-fn boxes_of_one_point_find_each_corner_in_a_flat_index(rt: HostRuntime) {
-    finds_each_corner::<FlatIndex, Brand>(&rt, rt.alloc(), Blank::new(1));
-}
-
-#[test]
-fn boxes_of_one_point_find_each_corner_in_a_trie(rt: HostRuntime) {
-    finds_each_corner::<KdTrie, Brand>(&rt, rt.alloc(), Blank::new(1));
-}
-
-#[test]
-fn a_flat_index_ranks_by_id_where_all_are_as_far(rt: HostRuntime) {
-    ranks_by_id_where_all_are_as_far::<FlatIndex, Brand>(&rt, rt.alloc(), Blank::new(1));
-}
-
-#[test]
-fn a_trie_ranks_by_id_where_all_are_as_far(rt: HostRuntime) {
-    ranks_by_id_where_all_are_as_far::<KdTrie, Brand>(&rt, rt.alloc(), Blank::new(1));
+    expect_near(rt, alloc, &index, CENTRE, 3, FIRST_THREE, steps);
+    expect_near(rt, alloc, &index, CENTRE, 2_048, AROUND_THE_MIDDLE, steps);
 }

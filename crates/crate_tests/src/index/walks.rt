@@ -77,29 +77,35 @@ fn has_halves<P>(below: Below<'_, P>) -> bool {
 }
 
 // Where walks between the two objects, at the first one and over all objects begin.
-fn begins_at<I: Index>(rt: &impl Abort, index: &I, both: Name, first: Name, all: Name) {
+fn begins_at<I: Index>(rt: &impl Abort, alloc: Global, both: Name, first: Name, all: Name)
+    requires { I.WIDTH ≡ 1 }
+{
+    let index = sparse::<I>(alloc).expect(rt, "it failed");
+    begins_between(rt, &index, both);
+    begins_over_all(rt, &index, all);
+    let (at_first, behind) = (index.reach(FIRST, FIRST).0, index.reach(SECOND, BESIDE).0);
+    assert_same!(rt; [at_first, behind], [first, Name::whole()]);
+}
+
+fn begins_between<I: Index>(rt: &impl Abort, index: &I, both: Name) {
     let (between, place) = index.reach(FIRST, SECOND);
     assert_is!(rt; has_halves(index.below(&between, place)));
+    assert_same!(rt; between, both);
+}
+
+fn begins_over_all<I: Index>(rt: &impl Abort, index: &I, all: Name) {
     let (over_all, place) = index.narrow(Name::whole(), index.top());
     assert_is!(rt; has_halves(index.below(&over_all, place)));
-    let (at_first, behind) = (index.reach(FIRST, FIRST).0, index.reach(SECOND, BESIDE).0);
-    assert_same!(rt; [between, at_first, behind, over_all], [both, first, Name::whole(), all]);
+    assert_same!(rt; over_all, all);
 }
 
 #[test]
 fn walks_over_a_flat_index_begin_at_the_top(rt: HostRuntime) {
     let top = Name::whole();
-    begins_at(
-        &rt,
-        &sparse::<FlatIndex>(rt.alloc()).expect(&rt, "it failed"),
-        top,
-        top,
-        top,
-    );
+    begins_at::<FlatIndex>(&rt, rt.alloc(), top, top, top);
 }
 
 #[test]
 fn walks_over_a_trie_begin_where_there_is_something_to_see(rt: HostRuntime) {
-    let index = sparse::<KdTrie>(rt.alloc()).expect(&rt, "it failed");
-    begins_at(&rt, &index, quarter(), first_eighth(), quarter());
+    begins_at::<KdTrie>(&rt, rt.alloc(), quarter(), first_eighth(), quarter());
 }

@@ -1,15 +1,13 @@
 //! Logs that are opened, and appends to them.
-ghost use Rattle.std.specs.Prelude.{◌≡◌, None};
-
-use crate::logs::fixtures::disk_of;
+use crate::memory::disk_of;
 use cell_format::Cell;
 use disk_mem::{Fail, MemDisk};
 use disk_trait::LogDisk;
 use kept_log::Journal;
-use recovery::{Opened, open};
+use recovery::open;
 use split_log::{AppendFault, SplitLog};
 use std::alloc::Global;
-use zorder::Memory;
+use std::process::Abort;
 
 /// How a log stands behind an append: why that failed, the cell at which the log is closed, and how many cells there are.
 pub type Appended = (Option<AppendFault>, Option<u64>, u64);
@@ -23,17 +21,16 @@ pub struct Left {
     pub moments: u64,
 }
 
-/// Opens the log on a drive, and appends a cell. There is none where the log isn't opened.
-pub fn append_to<D: LogDisk>(alloc: Global, disk: D, cell: &Cell) -> Option<(Appended, D)> {
-    match open(alloc, disk, 1, 16) {
-        Ok(opened) => Some(append(opened, cell)),
-        Err(_) => None,
-    }
-}
-
-fn append<D: LogDisk>(opened: Opened<D>, cell: &Cell) -> (Appended, D)
-    requires { opened.log.failed ≡ None }
-{
+/// Opens the log on a drive, and appends a cell.
+pub fn append_to<D: LogDisk>(
+    rt: &impl Abort,
+    alloc: Global,
+    disk: D,
+    cell: &Cell,
+) -> (Appended, D) {
+    let Ok(opened) = open(alloc, disk, 1, 16) else {
+        rt.panic("the log isn't opened")
+    };
     let mut log = opened.log;
     let fault = log.append(cell).err();
     (stands(&log, fault), log.give_back())
@@ -46,37 +43,33 @@ fn stands<D: LogDisk>(log: &SplitLog<D>, fault: Option<AppendFault>) -> Appended
 /// Appends a cell to the log in a file with these bytes, where these calls of the drive fail, and picks the image with a length near to
 /// `len` and `fill` in each free byte.
 pub fn append_in(
+    rt: &impl Abort,
     alloc: Global,
     bytes: &[u8],
     cell: &Cell,
     failing: &[Fail],
     len: u64,
     fill: u8,
-) -> Result<Option<Left>, Memory> {
-    let disk = disk_of(alloc, bytes, failing)?;
-    match append_to(alloc, disk, cell) {
-        Some((appended, disk)) => left_by(alloc, appended, &disk, len, fill),
-        None => Ok(None),
-    }
+) -> Left {
+    let disk = disk_of(rt, alloc, bytes, failing);
+    let (appended, disk) = append_to(rt, alloc, disk, cell);
+    left_by(rt, alloc, appended, &disk, len, fill)
 }
 
 fn left_by(
+    rt: &impl Abort,
     alloc: Global,
     appended: Appended,
     disk: &MemDisk,
     len: u64,
     fill: u8,
-) -> Result<Option<Left>, Memory> {
-    let bytes = disk.bytes().to_vec(alloc)?;
+) -> Left {
     let moments = disk.moments();
-    match disk.pick(moments, len, &[fill]) {
-        Ok(image) => Ok(Some(Left {
-            appended,
-            bytes,
-            image,
-            moments,
-        })),
-        Err(_) => Err(Memory),
+    Left {
+        appended,
+        bytes: disk.bytes().to_vec(alloc).expect(rt, "no memory"),
+        image: disk.pick(moments, len, &[fill]).expect(rt, "no image"),
+        moments,
     }
 }
 
@@ -84,31 +77,19 @@ fn left_by(
 pub type Kept = (u64, Option<u64>, bool);
 
 /// The same of the log in a file with these bytes, and how long the file is then.
-pub fn journal_of(
-    alloc: Global,
-    bytes: &[u8],
-    cell: &Cell,
-) -> Result<Option<(Kept, usize)>, Memory> {
-    let disk = disk_of(alloc, bytes, &[])?;
-    match kept_on(alloc, disk, cell) {
-        Some((kept, disk)) => Ok(Some((kept, disk.bytes().len()))),
-        None => Ok(None),
-    }
+pub fn journal_of(rt: &impl Abort, alloc: Global, bytes: &[u8], cell: &Cell) -> (Kept, usize) {
+    let disk = disk_of(rt, alloc, bytes, &[]);
+    let (kept, disk) = kept_on(rt, alloc, disk, cell);
+    (kept, disk.bytes().len())
 }
 
-fn kept_on<D: LogDisk>(alloc: Global, disk: D, cell: &Cell) -> Option<(Kept, D)> {
-    let mut journal = journal_on(alloc, disk)?;
-    if !takes(&mut journal, cell) {
-        return None;
-    }
-    given_back(journal)
-}
-
-fn journal_on<D: LogDisk>(alloc: Global, disk: D) -> Option<Journal<D>> {
-    match open(alloc, disk, 1, 16) {
-        Ok(opened) => Some(Journal::opened(opened.log, opened.start)),
-        Err(_) => None,
-    }
+fn kept_on<D: LogDisk>(rt: &impl Abort, alloc: Global, disk: D, cell: &Cell) -> (Kept, D) {
+    let Ok(opened) = open(alloc, disk, 1, 16) else {
+        rt.panic("the log isn't opened")
+    };
+    let mut journal = Journal::opened(opened.log, opened.start);
+    assert_is!(rt; takes(&mut journal, cell));
+    (told(&journal), given_back(rt, journal))
 }
 
 fn takes<D: LogDisk>(journal: &mut Journal<D>, cell: &Cell) -> bool {
@@ -118,10 +99,13 @@ fn takes<D: LogDisk>(journal: &mut Journal<D>, cell: &Cell) -> bool {
     journal.append(cell).is_ok()
 }
 
-fn given_back<D: LogDisk>(journal: Journal<D>) -> Option<(Kept, D)> {
-    let kept = (journal.cells(), journal.closed(), journal.is_full());
+fn told<D: LogDisk>(journal: &Journal<D>) -> Kept {
+    (journal.cells(), journal.closed(), journal.is_full())
+}
+
+fn given_back<D: LogDisk>(rt: &impl Abort, journal: Journal<D>) -> D {
     match journal.give_back() {
-        Some(disk) => Some((kept, disk)),
-        None => None,
+        Some(disk) => disk,
+        None => rt.panic("the journal has no drive"),
     }
 }

@@ -1,13 +1,13 @@
 //! What a log recovers to, and what is no log.
-use crate::logs::fixtures::{
-    AT, EMPTY_LOG, Found, NOTHING, PUT_7, disk_of, expect_found, found, log_of,
-};
+use crate::checks::same_bytes;
+use crate::logs::fixtures::{AT, Found, NOTHING, PUT_7, expect_found, found, log_of};
+use crate::memory::{EMPTY_LOG, disk_of};
 use cell_format::{Cause, Cell};
 use disk_trait::LogDisk;
 use recovery::{InitFault, InitRefused, OpenFault, init, open};
-use std::alloc::{AllocError, Global};
+use std::alloc::Global;
 use std::process::Abort;
-use zorder::{Memory, Name, Placed};
+use zorder::{Name, Placed};
 
 // Makes a log on a drive. It gives the drive, and why no log was made.
 fn made_on<D: LogDisk>(disk: D) -> (D, Option<InitFault>) {
@@ -25,14 +25,15 @@ fn expect_made(
     fault: Option<InitFault>,
     held: &[u8],
 ) {
-    let (disk, told) = made_on(disk_of(alloc, bytes, &[]).expect(rt, "it failed"));
-    assert_same!(rt; (told, disk.bytes()), (fault, held));
+    let (disk, told) = made_on(disk_of(rt, alloc, bytes, &[]));
+    assert_same!(rt; told, fault);
+    same_bytes(rt, disk.bytes(), held);
 }
 
 #[test]
 fn a_new_log_is_a_header_and_a_clear_commit_byte(rt: HostRuntime) {
     expect_made(&rt, rt.alloc(), b"MDLOC", None, EMPTY_LOG);
-    assert_same!(rt; found(rt.alloc(), EMPTY_LOG, 0), Ok(NOTHING));
+    assert_same!(rt; found(&rt, rt.alloc(), EMPTY_LOG, 0), Ok(NOTHING));
 }
 
 #[test]
@@ -42,44 +43,40 @@ fn no_log_is_made_of_18_bytes(rt: HostRuntime) {
 }
 
 // Opens the log on a drive. It gives how many cells were found, how many the log has, and the drive.
-fn opened_on<D: LogDisk>(alloc: Global, disk: D) -> Option<(u64, u64, D)> {
-    match open(alloc, disk, 1, 1) {
-        Ok(opened) => Some((
-            opened.seen.cells,
-            opened.log.cells(),
-            opened.log.give_back(),
-        )),
-        Err(_) => None,
-    }
+fn opened_on<D: LogDisk>(rt: &impl Abort, alloc: Global, disk: D) -> (u64, u64, D) {
+    let Ok(opened) = open(alloc, disk, 1, 1) else {
+        rt.panic("the log isn't opened")
+    };
+    let cells = opened.log.cells();
+    (opened.seen.cells, cells, opened.log.give_back())
 }
 
 // How many cells are found in a file and how many its log has, how long the file is then, and its last byte.
-fn opened_in(alloc: Global, bytes: &[u8]) -> Result<Option<(u64, u64, usize, Option<u8>)>, Memory> {
-    let disk = disk_of(alloc, bytes, &[])?;
-    match opened_on(alloc, disk) {
-        Some((found, cells, disk)) => {
-            let held = disk.bytes();
-            Ok(Some((found, cells, held.len(), held.last().copied())))
-        }
-        None => Ok(None),
-    }
+fn opened_in(rt: &impl Abort, alloc: Global, bytes: &[u8]) -> (u64, u64, usize, Option<u8>) {
+    let (found, cells, disk) = opened_on(rt, alloc, disk_of(rt, alloc, bytes, &[]));
+    let held = disk.bytes();
+    (found, cells, held.len(), held.last().copied())
 }
 
 const ONE_PUT: Found = ([1, 0, 0], (1, true), (1, Some(Placed { id: 7, at: AT })));
 
 // A log of one cell, and bytes behind it that no record begins with.
-fn torn_log(alloc: Global) -> Result<Vec<u8>, AllocError> {
+fn torn_log(rt: &impl Abort, alloc: Global) -> Vec<u8> {
     let mut tail = [5; 41];
     tail[0] = 77;
-    log_of(alloc, &[PUT_7], &tail)
+    log_of(rt, alloc, &[PUT_7], &tail)
+}
+
+fn cuts_the_tail_off(rt: &impl Abort, alloc: Global) {
+    let torn = torn_log(rt, alloc);
+    assert_same!(rt; found(rt, alloc, torn.as_slice(), 1), Ok(ONE_PUT));
+    let opened = opened_in(rt, alloc, torn.as_slice());
+    assert_same!(rt; opened, (1, 1, 49, Some(77)));
 }
 
 #[test]
 fn an_open_cuts_off_what_stands_behind_the_last_commit_byte(rt: HostRuntime) {
-    let torn = torn_log(rt.alloc()).expect(&rt, "it failed");
-    assert_same!(rt; found(rt.alloc(), torn.as_slice(), 1), Ok(ONE_PUT));
-    let opened = opened_in(rt.alloc(), torn.as_slice());
-    assert_same!(rt; opened, Ok(Some((1, 1, 49, Some(77)))));
+    cuts_the_tail_off(&rt, rt.alloc());
 }
 
 const DROP_7: Cell = Cell::Remove { id: 7 };
@@ -105,6 +102,11 @@ const FAULTS: &[(&[u8], OpenFault)] = &[
     (&[], OpenFault::NotLog),
 ];
 
+// Fails unless such cells alone are refused for this cause.
+fn expect_refused(rt: &impl Abort, alloc: Global, cells: &[Cell], fault: OpenFault) {
+    expect_found(rt, alloc, cells, &[0], 1, Err(fault));
+}
+
 const OLD: OpenFault = OpenFault::OldLog {
     version: 3,
     width: 1,
@@ -114,15 +116,17 @@ const OLD_LOG: &[u8] = b"MDLOCLOG\x03\x01\0\0\0\0\0\0\0";
 
 #[test]
 fn the_first_place_at_fault_is_told(rt: HostRuntime) {
-    let alloc = rt.alloc();
     for (tail, fault) in FAULTS {
-        expect_found(&rt, alloc, &[], tail, 1, Err(*fault));
+        expect_found(&rt, rt.alloc(), &[], tail, 1, Err(*fault));
     }
-    let impossible = damaged!(Cause::Impossible);
-    expect_found(&rt, alloc, &[DROP_7], &[0], 1, Err(impossible));
-    let long = OpenFault::TooLong { most: 1 };
-    expect_found(&rt, alloc, &[PUT_7, DROP_7], &[0], 1, Err(long));
-    assert_same!(rt; found(alloc, OLD_LOG, 1), Err(OLD));
+    assert_same!(rt; found(&rt, rt.alloc(), OLD_LOG, 1), Err(OLD));
+}
+
+#[test]
+fn a_drop_of_nothing_is_impossible_and_a_second_cell_one_too_many(rt: HostRuntime) {
+    let too_long = OpenFault::TooLong { most: 1 };
+    expect_refused(&rt, rt.alloc(), &[DROP_7], damaged!(Cause::Impossible));
+    expect_refused(&rt, rt.alloc(), &[PUT_7, DROP_7], too_long);
 }
 
 // A split that was begun, and one that was installed.

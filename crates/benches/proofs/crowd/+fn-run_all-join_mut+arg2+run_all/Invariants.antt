@@ -1,5 +1,5 @@
 use Rattle.std.proofs.Common.{◌+◌, ◌*◌}
-use Rattle.lock_bench.proofs.crowd.+fn-run_all-join_mut+arg2+run_all.Given as goal
+use Rattle.benches.proofs.crowd.+fn-run_all-join_mut+arg2+run_all.Given as goal
 
 abbrev pub decreases-run_all : goal.decreases-run_all
 decreases-run_all g l = 2 * l.threads + 1

@@ -1,6 +1,6 @@
 //! A value that counts its entries, all of which are one call.
 ghost use Rattle.std.specs.Prelude.{◌≡◌, [], ◌∷◌, ◌++◌, replicate, MatchBool};
-ghost use Rattle.lock_bench.specs.Tally.{one_find};
+ghost use Rattle.benches.specs.Tally.{one_find};
 
 use book_lock::Held;
 

@@ -1,7 +1,7 @@
 use Rattle.std.proofs.Common.{List, [], ◌∷◌, ◌++◌, ap, ◌∙◌, ⊎_elim}
 use Rattle.plain_list.specs.declared.entries.Entry.{Entry}
-use Rattle.lock_bench.specs.Tally.{one_find}
-use Rattle.lock_bench.proofs.crowd.run_round.Goals as goal
+use Rattle.benches.specs.Tally.{one_find}
+use Rattle.benches.proofs.crowd.run_round.Goals as goal
 
 pub note-requires-clause-entry : goal.note-requires-clause-entry
 note-requires-clause-entry g c = (

@@ -4,6 +4,7 @@ ghost use Rattle.std.specs.Thread.{IsSync};
 
 use crate::tally::Tally;
 use book_lock::{BookLock, Pass};
+use std::alloc::Global;
 use std::rt::Clock;
 use std::sync::Wait;
 use std::thread::{self, Threads, join_mut};
@@ -44,8 +45,8 @@ fn run_rounds<R: Wait + Clock>(
     }
 }
 
-/// So many threads, this one among them, take so many rounds each, all at once.
-pub fn run_all<R: Threads + Wait + Clock + Sync>(
+// So many threads, this one among them, take so many rounds each, all at once.
+fn run_all<R: Threads + Wait + Clock + Sync>(
     rt: &R,
     lock: &BookLock<Tally>,
     pass: &mut Pass<Tally>,
@@ -76,4 +77,21 @@ pub fn run_all<R: Threads + Wait + Clock + Sync>(
         { run_rounds(rt, lock, &mut mine, rounds, asleep) },
     );
     lock.join_pass(pass, mine);
+}
+
+/// So many threads take so many rounds each around one value, and it says how many it counted.
+pub(crate) fn play<R: Threads + Wait + Clock + Sync>(
+    rt: &R,
+    alloc: Global,
+    threads: u8,
+    rounds: u64,
+    asleep: Duration,
+) -> Option<u64>
+    requires { 1 ≤ threads }
+{
+    let Ok((lock, mut pass)) = BookLock::new(alloc, Tally::new(!asleep.is_zero())) else {
+        return None;
+    };
+    run_all(rt, &lock, &mut pass, threads, rounds, asleep);
+    Some(lock.close(pass).count())
 }
