@@ -1,5 +1,5 @@
 -- The fields of a row of input, column by column.
-use Rattle.std.specs.Prelude.{ℕ, ◌+◌, Bool, true, false, List, [], ◌∷◌, if◌then◌else◌, Option, Some, None, Result, Ok, Err, codes, nat_eq}
+use Rattle.std.specs.Prelude.{◌≡◌, ℕ, ◌+◌, ◌≤◌, Bool, true, false, List, [], ◌∷◌, if◌then◌else◌, Option, Some, None, Result, Ok, Err, MatchResult, codes, nat_eq}
 use Rattle.std.specs.Cmp.Lexicographic.{pointwise}
 use Rattle.zorder.specs.declared.points.Point.{Point}
 use Rattle.plain_list.specs.declared.ops.Op.{Op}
@@ -91,6 +91,12 @@ id_by id x y a b = unless (first_fault 3 (rules_of Drop x y) (id ∷ x ∷ y ∷
 -- the point that the fields of columns 4 and 5 say, or the leftmost of them at fault
 abbrev pub point_by : List ℕ → List ℕ → Result Point Wrong
 point_by x y = unless (first_fault 4 (coordinate_rule ∷ coordinate_rule ∷ []) (x ∷ y ∷ [])) (point_of x y)
+
+-- the number of a field that lies between these two, or its column at fault
+abbrev pub ReadsNumber : ℕ → List ℕ → ℕ → ℕ → Result ℕ Wrong → Type 0
+ReadsNumber column field low high result = MatchResult result
+    (λ n. (keeps (Between low high) field ≡ true) × (n ≡ number field) × (low ≤ n) × (n ≤ high))
+    (λ e. (keeps (Between low high) field ≡ false) × (e ≡ Column column))
 
 -- the operation of columns 3 to 7, where column 2 is this word, or the leftmost of them at fault
 abbrev pub op_by_word : Option Word → List ℕ → List ℕ → List ℕ → List ℕ → List ℕ → Result Op Wrong

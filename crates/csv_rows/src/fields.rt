@@ -1,8 +1,8 @@
 //! The fields of a record, column by column.
-ghost use Rattle.std.specs.Prelude.{◌≡◌, ◌≢◌, ◌<◌, ◌≤◌, ◌^◌, ◌∷◌, [], true, false, length, Some, IfOk, MatchOption};
+ghost use Rattle.std.specs.Prelude.{◌≡◌, ◌≢◌, ◌<◌, ◌^◌, ◌∷◌, [], true, false, length, Some, IfOk, MatchOption, MatchResult};
 ghost use Rattle.csv.specs.Records.{field_at, fields_of};
 ghost use Rattle.plain_list.specs.Answer.{IsValid, FitsOp};
-ghost use Rattle.csv_rows.specs.Fields.{Between, Empty, keeps, is_text, number, word_of, placed_by, id_by, point_by, box_by, near_by, op_by, row_of};
+ghost use Rattle.csv_rows.specs.Fields.{Empty, keeps, is_text, word_of, placed_by, id_by, point_by, box_by, near_by, op_by, row_of, ReadsNumber};
 ghost use Rattle.zorder.specs.Key.{IsPoint};
 ghost use Rattle.csv_rows.specs.Rows.{is_header};
 ghost use Rattle.csv_rows.specs.InRows.{IsInRow};
@@ -46,9 +46,7 @@ pub(crate) fn row_of(record: &ByteRecord) -> Result<InRow, Wrong>
     let Some(fields) = fields_in(record) else {
         return Err(Wrong::Length);
     };
-    let Some(session) = number_of(fields.session, 1, 16) else {
-        return Err(Wrong::Column(1));
-    };
+    let session = number_at(1, fields.session, 1, 16)?;
     let op = read_op(&fields)?;
     Ok(InRow {
         session: session as u8,
@@ -128,18 +126,23 @@ fn word_of(field: &[u8]) -> Option<Word>
     }
 }
 
-// The number that a field says, where it lies between these two.
-fn number_of(field: &[u8], low: u64, high: u64) -> Option<u64>
-    ensures { MatchOption result (keeps (Between low high) field.now ≡ false)
-        (λ n. (keeps (Between low high) field.now ≡ true) × (n ≡ number field.now) × (low ≤ n) × (n ≤ high)) }
+fn number_at(column: u8, field: &[u8], low: u64, high: u64) -> Result<u64, Wrong>
+    ensures { ReadsNumber column field.now low high result }
 {
-    number_in(field, low, high)
+    match number_in(field, low, high) {
+        Some(number) => Ok(number),
+        None => Err(Wrong::Column(column)),
+    }
 }
 
-fn is_blank(field: &[u8]) -> bool
-    ensures { result ≡ keeps Empty field.now }
+fn empty_at(column: u8, field: &[u8]) -> Result<(), Wrong>
+    ensures { MatchResult result (λ _. keeps Empty field.now ≡ true) (λ e. (keeps Empty field.now ≡ false) × (e ≡ Wrong.Column column)) }
 {
-    field.is_empty()
+    if field.is_empty() {
+        Ok(())
+    } else {
+        Err(Wrong::Column(column))
+    }
 }
 
 fn read_op(fields: &Fields) -> Result<Op, Wrong>
@@ -174,16 +177,10 @@ fn read_placed(fields: &Fields) -> Result<(u64, Point), Wrong>
     ensures placed { result ≡ placed_by fields.now.id.now fields.now.x.now fields.now.y.now fields.now.a.now fields.now.b.now }
     ensures fits { IfOk result (λ p. (p.0 < 2 ^ 64) × IsPoint p.1) }
 {
-    let Some(id) = number_of(fields.id, 0, u64::MAX) else {
-        return Err(Wrong::Column(3));
-    };
+    let id = number_at(3, fields.id, 0, u64::MAX)?;
     let at = read_point(fields)?;
-    if !is_blank(fields.a) {
-        return Err(Wrong::Column(6));
-    }
-    if !is_blank(fields.b) {
-        return Err(Wrong::Column(7));
-    }
+    empty_at(6, fields.a)?;
+    empty_at(7, fields.b)?;
     Ok((id, at))
 }
 
@@ -192,21 +189,11 @@ fn read_id(fields: &Fields) -> Result<u64, Wrong>
     ensures id { result ≡ id_by fields.now.id.now fields.now.x.now fields.now.y.now fields.now.a.now fields.now.b.now }
     ensures fits { IfOk result (λ id. id < 2 ^ 64) }
 {
-    let Some(id) = number_of(fields.id, 0, u64::MAX) else {
-        return Err(Wrong::Column(3));
-    };
-    if !is_blank(fields.x) {
-        return Err(Wrong::Column(4));
-    }
-    if !is_blank(fields.y) {
-        return Err(Wrong::Column(5));
-    }
-    if !is_blank(fields.a) {
-        return Err(Wrong::Column(6));
-    }
-    if !is_blank(fields.b) {
-        return Err(Wrong::Column(7));
-    }
+    let id = number_at(3, fields.id, 0, u64::MAX)?;
+    empty_at(4, fields.x)?;
+    empty_at(5, fields.y)?;
+    empty_at(6, fields.a)?;
+    empty_at(7, fields.b)?;
     Ok(id)
 }
 
@@ -214,16 +201,10 @@ fn read_box(fields: &Fields) -> Result<Op, Wrong>
     ensures op { result ≡ box_by fields.now.id.now fields.now.x.now fields.now.y.now fields.now.a.now fields.now.b.now }
     ensures rules { IfOk result (λ op. IsValid op × FitsOp op) }
 {
-    if !is_blank(fields.id) {
-        return Err(Wrong::Column(3));
-    }
+    empty_at(3, fields.id)?;
     let lo = read_point(fields)?;
-    let Some(x) = number_of(fields.a, u64::from(lo.x), COORDINATE_MAX) else {
-        return Err(Wrong::Column(6));
-    };
-    let Some(y) = number_of(fields.b, u64::from(lo.y), COORDINATE_MAX) else {
-        return Err(Wrong::Column(7));
-    };
+    let x = number_at(6, fields.a, u64::from(lo.x), COORDINATE_MAX)?;
+    let y = number_at(7, fields.b, u64::from(lo.y), COORDINATE_MAX)?;
     let hi = Point {
         x: x as u32,
         y: y as u32,
@@ -237,16 +218,10 @@ fn read_near(fields: &Fields) -> Result<Op, Wrong>
     ensures op { result ≡ near_by fields.now.id.now fields.now.x.now fields.now.y.now fields.now.a.now fields.now.b.now }
     ensures rules { IfOk result (λ op. IsValid op × FitsOp op) }
 {
-    if !is_blank(fields.id) {
-        return Err(Wrong::Column(3));
-    }
+    empty_at(3, fields.id)?;
     let at = read_point(fields)?;
-    let Some(k) = number_of(fields.a, 1, 2048) else {
-        return Err(Wrong::Column(6));
-    };
-    if !is_blank(fields.b) {
-        return Err(Wrong::Column(7));
-    }
+    let k = number_at(6, fields.a, 1, 2048)?;
+    empty_at(7, fields.b)?;
     Ok(Op::Near { at, k: k as u32 })
 }
 
@@ -255,12 +230,8 @@ fn read_point(fields: &Fields) -> Result<Point, Wrong>
     ensures point { result ≡ point_by fields.now.x.now fields.now.y.now }
     ensures fits { IfOk result IsPoint }
 {
-    let Some(x) = number_of(fields.x, 0, COORDINATE_MAX) else {
-        return Err(Wrong::Column(4));
-    };
-    let Some(y) = number_of(fields.y, 0, COORDINATE_MAX) else {
-        return Err(Wrong::Column(5));
-    };
+    let x = number_at(4, fields.x, 0, COORDINATE_MAX)?;
+    let y = number_at(5, fields.y, 0, COORDINATE_MAX)?;
     Ok(Point {
         x: x as u32,
         y: y as u32,
