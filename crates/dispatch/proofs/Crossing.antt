@@ -1,6 +1,6 @@
 -- The store may be shared by threads, and a caller go to another thread.
 use denote.RattleType.{RattleType}
-use denote.Param.Send.{IsSend, IsSync, sendable, plain_send, recorded_send, struct_send}
+use denote.Param.Send.{IsSend, IsSync, sendable, plain_send, recorded_send, struct_send, recorded_sync, struct_sync}
 use denote.Struct.Struct.{Struct}
 use denote.Struct.Declared.{Declared, shape}
 use denote.Struct.Tuple.{TupleAt, type_at}
@@ -36,13 +36,8 @@ taxi_pass_send = pass_send Index.the_row Drive.the_row Brand.the_row Place.the_r
 pub caller_send : IsSend Caller.the_row
 caller_send = recorded_send Caller.the_field.row _ _ Caller.the_type.to_one (struct_send (shape Caller.the_type) (plain_send _ _ _ _ _, (taxi_pass_send, (plain_send _ _ _ _ _, tt))))
 
--- closures over four captures, and over five
-pub closure_send : (ν : Sym) (A B C D : RattleType) → IsSend A → IsSend B → IsSend C → IsSend D → IsSend (TupleAt ν (A ∷ B ∷ C ∷ D ∷ []))
-closure_send ν A B C D a b c d =
-    let T : Declared = type_at ν (A ∷ B ∷ C ∷ D ∷ []) in
-    recorded_send (Struct (shape T)) T.D T.to T.to_one (struct_send (shape T) (a, (b, (c, (d, tt)))))
-
-pub wider_closure_send : (ν : Sym) (A B C D E : RattleType) → IsSend A → IsSend B → IsSend C → IsSend D → IsSend E → IsSend (TupleAt ν (A ∷ B ∷ C ∷ D ∷ E ∷ []))
-wider_closure_send ν A B C D E a b c d e =
-    let T : Declared = type_at ν (A ∷ B ∷ C ∷ D ∷ E ∷ []) in
-    recorded_send (Struct (shape T)) T.D T.to T.to_one (struct_send (shape T) (a, (b, (c, (d, (e, tt))))))
+-- a closure over three captures
+pub closure_sync : (ν : Sym) (A B C : RattleType) → IsSync A → IsSync B → IsSync C → IsSync (TupleAt ν (A ∷ B ∷ C ∷ []))
+closure_sync ν A B C a b c =
+    let T : Declared = type_at ν (A ∷ B ∷ C ∷ []) in
+    recorded_sync (Struct (shape T)) T.D T.to T.to_one (struct_sync (shape T) (a, (b, (c, tt))))

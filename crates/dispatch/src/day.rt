@@ -1,6 +1,5 @@
 //! A day of the company.
-ghost use Rattle.std.specs.Prelude.{◌≡◌, ◌+◌, ◌≤◌, [], false, IfSome};
-ghost use Rattle.std.specs.Thread.{IsSync};
+ghost use Rattle.std.specs.Prelude.{◌≡◌, ℕ, ◌+◌, ◌<◌, ◌≤◌, [], false, length, slice_index_or, IfSome};
 ghost use Rattle.plain_list.specs.World.{IsWorld};
 ghost use Rattle.sessions.specs.Steps.{all_parts};
 ghost use Rattle.dispatch.specs.Callers.{IsFree, KeepsPass};
@@ -20,7 +19,7 @@ use std::alloc::Global;
 use std::marker::Brand;
 use std::sync::Wait;
 use std::sync::ledger::{Blank, Ledger};
-use std::thread::{Threads, join_mut};
+use std::thread::{self, Threads};
 use step_count::Steps;
 
 /// What a day came to.
@@ -33,55 +32,20 @@ pub struct Day {
     pub nearest: PlacedList,
 }
 
-// Two callers at once, one of them in a thread of its own.
-fn two_at_once<R: Threads + Wait + Sync>(
-    rt: &R,
-    alloc: Global,
-    taxis: &Taxis,
-    one: &mut Caller,
-    two: &mut Caller,
-)
-    requires { IsFree taxis.now one.old.pass × IsFree taxis.now two.old.pass }
-    ensures { KeepsPass one.old.pass one.new.pass × KeepsPass two.old.pass two.new.pass }
+// All of a team at once, each in a thread of its own.
+fn all_at_once<R: Threads + Wait + Sync>(rt: &R, alloc: Global, taxis: &Taxis, team: &mut [Caller])
+    requires { (i : ℕ) (d : _) → i < length team.old → IsFree taxis.now (slice_index_or team.old i d).pass }
+    ensures { (i : ℕ) (d : _) → i < length team.old → KeepsPass (slice_index_or team.old i d).pass (slice_index_or team.new i d).pass }
 {
-    join_mut(
+    let threads = team.len().max(1);
+    thread::for_each_mut(
         rt,
-        &mut ||
-            requires { IsFree taxis.now one.now.pass }
-            ensures { KeepsPass one.entry.now.pass one.exit.now.pass }
-        { work(rt, alloc, taxis, one) },
-        &mut ||
-            requires { IsFree taxis.now two.now.pass }
-            ensures { KeepsPass two.entry.now.pass two.exit.now.pass }
-        { work(rt, alloc, taxis, two) },
-    );
-}
-
-// Four callers at once.
-fn all_at_once<R: Threads + Wait + Sync>(
-    rt: &R,
-    alloc: Global,
-    taxis: &Taxis,
-    one: &mut Caller,
-    two: &mut Caller,
-    three: &mut Caller,
-    four: &mut Caller,
-)
-    requires first { IsFree taxis.now one.old.pass × IsFree taxis.now two.old.pass }
-    requires others { IsFree taxis.now three.old.pass × IsFree taxis.now four.old.pass }
-    ensures first { KeepsPass one.old.pass one.new.pass × KeepsPass two.old.pass two.new.pass }
-    ensures others { KeepsPass three.old.pass three.new.pass × KeepsPass four.old.pass four.new.pass }
-{
-    join_mut(
-        rt,
-        &mut ||
-            requires { IsSync R.row × IsFree taxis.now one.now.pass × IsFree taxis.now two.now.pass }
-            ensures { KeepsPass one.entry.now.pass one.exit.now.pass × KeepsPass two.entry.now.pass two.exit.now.pass }
-        { two_at_once(rt, alloc, taxis, one, two) },
-        &mut ||
-            requires { IsSync R.row × IsFree taxis.now three.now.pass × IsFree taxis.now four.now.pass }
-            ensures { KeepsPass three.entry.now.pass three.exit.now.pass × KeepsPass four.entry.now.pass four.exit.now.pass }
-        { two_at_once(rt, alloc, taxis, three, four) },
+        team,
+        threads,
+        &|_, caller|
+            requires { IsFree taxis.now caller.now.pass }
+            ensures { KeepsPass caller.entry.now.pass caller.exit.now.pass }
+        { work(rt, alloc, taxis, caller) },
     );
 }
 
@@ -149,11 +113,14 @@ fn call_all_day<R: Threads + Wait + Sync, L: Ledger>(
     ensures { KeepsPass pass.old pass.new }
 {
     put_waiting(rt, alloc, taxis, pass, steps);
-    let mut one = Caller::new(1, taxis.split_pass(pass));
-    let mut two = Caller::new(2, taxis.split_pass(pass));
-    let mut three = Caller::new(3, taxis.split_pass(pass));
-    let mut four = Caller::new(DISPATCHER, taxis.split_pass(pass));
-    all_at_once(rt, alloc, taxis, &mut one, &mut two, &mut three, &mut four);
+    let mut team = [
+        Caller::new(1, taxis.split_pass(pass)),
+        Caller::new(2, taxis.split_pass(pass)),
+        Caller::new(3, taxis.split_pass(pass)),
+        Caller::new(DISPATCHER, taxis.split_pass(pass)),
+    ];
+    all_at_once(rt, alloc, taxis, &mut team);
+    let [mut one, two, three, mut four] = team;
     // From here on the dispatcher has seen what the first driver did.
     taxis.meet(&mut one.pass, &mut four.pass);
     let nearest = ask_nearest(rt, alloc, taxis, &mut four.pass, steps);
