@@ -22,40 +22,53 @@ fn spread(number: u32) -> u32 {
     number.wrapping_mul(2_654_435_769)
 }
 
-// A row of a session: its puts, and then every operation in turn on the ids that it has put.
-fn row_text(alloc: Global, session: u32, row: u32) -> Result<String, AllocError> {
-    let id = session.wrapping_mul(1_000).wrapping_add(row % PUTS);
-    let (x, y) = (spread(id), spread(row));
+// As far from a coordinate as a box reaches.
+fn reached(from: u32) -> Option<u32> {
+    Some(from.saturating_add(REACH))
+}
+
+// The operation of a session's row, and its fields: its puts, and then every operation in turn on the ids that it has put.
+fn fields_of(session: u32, row: u32) -> (&'static str, [Option<u32>; 5]) {
+    let number = session.wrapping_mul(1_000).wrapping_add(row % PUTS);
+    let corner = (spread(number), spread(row));
+    let (id, x, y) = (Some(number), Some(corner.0), Some(corner.1));
     if row < PUTS {
-        return format!(in alloc; "{session},put,{id},{x},{y},,\n");
+        return ("put", [id, x, y, None, None]);
     }
     match row % 5 {
-        0 => format!(in alloc; "{session},move,{id},{y},{x},,\n"),
-        1 => format!(in alloc; "{session},where,{id},,,,\n"),
-        2 => {
-            let (far_x, far_y) = (x.saturating_add(REACH), y.saturating_add(REACH));
-            format!(in alloc; "{session},box,,{x},{y},{far_x},{far_y}\n")
-        }
-        3 => format!(in alloc; "{session},near,,{x},{y},3,\n"),
-        _ => format!(in alloc; "{session},drop,{id},,,,\n"),
+        0 => ("move", [id, y, x, None, None]),
+        1 => ("where", [id, None, None, None, None]),
+        2 => ("box", [None, x, y, reached(corner.0), reached(corner.1)]),
+        3 => ("near", [None, x, y, Some(3), None]),
+        _ => ("drop", [id, None, None, None, None]),
+    }
+}
+
+fn add_row(text: &mut String, session: u32, row: u32) -> Result<(), AllocError> {
+    let (operation, fields) = fields_of(session, row);
+    write!(text, "{session},{operation}")?;
+    for field in fields {
+        add_field(text, field)?;
+    }
+    text.push('\n')
+}
+
+fn add_field(text: &mut String, field: Option<u32>) -> Result<(), AllocError> {
+    match field {
+        Some(number) => write!(text, ",{number}"),
+        None => text.push(','),
     }
 }
 
 // So many rows of each session, in turn.
 fn crowd_text(rt: &impl Abort, alloc: Global, rows: u32) -> Vec<u8> {
-    let mut text = HEADER.as_bytes().to_vec(alloc).expect(rt, "no memory");
+    let mut text = String::from_str(alloc, HEADER).expect(rt, "no memory");
     for row in 0..rows {
         for session in 1..SESSIONS + 1 {
-            add_row(rt, alloc, &mut text, session, row);
+            add_row(&mut text, session, row).expect(rt, "no memory");
         }
     }
-    text
-}
-
-fn add_row(rt: &impl Abort, alloc: Global, text: &mut Vec<u8>, session: u32, row: u32) {
-    let row = row_text(alloc, session, row).expect(rt, "no memory");
-    text.extend_from_slice(row.as_bytes())
-        .expect(rt, "no memory");
+    text.into_bytes()
 }
 
 fn lines(left: &Left) -> usize {

@@ -48,10 +48,9 @@ pub fn play<R: Abort + Threads + Wait + Sync, G: Gate + Sync>(
     input: Vec<u8>,
     gate: &G,
 ) -> Left {
-    let words = words(rt, alloc, &["play", "-", "--bucket", bucket]);
     let mut source = MemSource::new(input, Vec::new(alloc));
     let mut sink = MemSink::new(alloc, ROOM, Vec::new(alloc)).expect(rt, "it failed");
-    let (status, events) = play_over(rt, alloc, words.as_slice(), &mut source, &mut sink, gate);
+    let (status, events) = play_over(rt, alloc, bucket, &mut source, &mut sink, gate);
     Left {
         status,
         events,
@@ -63,14 +62,15 @@ pub fn play<R: Abort + Threads + Wait + Sync, G: Gate + Sync>(
 fn play_over<R: Abort + Threads + Wait + Sync, S: Source, K: Sink, G: Gate + Sync>(
     rt: &R,
     alloc: Global,
-    words: &[String],
+    bucket: &str,
     source: &mut S,
     sink: &mut K,
     gate: &G,
 ) -> (u8, Entries) {
+    let words = words(rt, alloc, &["play", "-", "--bucket", bucket]);
     let disk = no_drive(alloc).expect(rt, "it failed");
     let other = no_drive(alloc).expect(rt, "it failed");
-    run_over(rt, alloc, words, source, sink, disk, other, gate)
+    run_over(rt, alloc, words.as_slice(), source, sink, disk, other, gate)
 }
 
 // The one call of `run`, over any ends.

@@ -1,5 +1,5 @@
 //! A box beside another session's puts, over an index whose versions have numbers.
-ghost use Rattle.std.specs.Prelude.{◌≡◌, ◌≤◌};
+ghost use Rattle.std.specs.Prelude.{◌≡◌, ◌+◌};
 ghost use Rattle.plain_list.specs.Answer.{IsValid};
 ghost use Rattle.thread_tests.specs.Passes.{IsFree, KeepsPass};
 
@@ -181,22 +181,36 @@ fn ask_with<R: Threads + Wait + Sync, G: Gate + Sync>(
     }
 }
 
-fn ask_in<R: Threads + Wait + Sync, G: Gate + Sync>(
+// A store where session 1 has put an object, and a pass for each of two sessions.
+fn opened<I: Index, D: LogDisk, R: Wait + Abort, G: Gate>(
     rt: &R,
     alloc: Global,
-    store: &NumberedStore,
     gate: &G,
-    beside: bool,
-    one: &mut NumberedPass,
-) -> Result<Done, CallFault>
-    requires free { IsFree store.now one.old }
-    requires parts { 2 ≤ one.old.parts }
-    ensures { KeepsPass one.old one.new }
+) -> (
+    Store<I, D, Brand>,
+    Pass<SharedBook<I, D, Brand>>,
+    Pass<SharedBook<I, D, Brand>>,
+)
+    ensures free { IsFree result.0 result.1 × IsFree result.0 result.2 }
+    ensures parts { result.1.parts + result.2.parts ≡ 65536 }
 {
-    let mut two = store.split_pass(one);
-    let answer = ask_with(rt, alloc, store, gate, beside, one, &mut two);
-    store.join_pass(one, two);
-    answer
+    let (store, mut one) = new_store::<I, D>(rt, alloc);
+    put(rt, alloc, &store, gate, 1, FIRST, &mut one);
+    let two = store.split_pass(&mut one);
+    (store, one, two)
+}
+
+// The index of a store in the end.
+fn closed<I: Index, D: LogDisk>(
+    store: Store<I, D, Brand>,
+    mut one: Pass<SharedBook<I, D, Brand>>,
+    two: Pass<SharedBook<I, D, Brand>>,
+) -> I
+    requires free { IsFree store one × IsFree store two }
+    requires parts { one.parts + two.parts ≡ 65536 }
+{
+    store.join_pass(&mut one, two);
+    index_of(store.close(one))
 }
 
 // The answer to the box, and the index in the end.
@@ -206,10 +220,9 @@ fn asked<R: Threads + Wait + Abort + Sync, G: Gate + Sync>(
     beside: bool,
     gate: &G,
 ) -> (Answer, Numbered<FlatIndex>) {
-    let (store, mut pass) = new_store::<Numbered<FlatIndex>, MemDisk>(rt, alloc);
-    put(rt, alloc, &store, gate, 1, FIRST, &mut pass);
-    let answer = ask_in(rt, alloc, &store, gate, beside, &mut pass);
-    let index = index_of(store.close(pass));
+    let (store, mut one, mut two) = opened(rt, alloc, gate);
+    let answer = ask_with(rt, alloc, &store, gate, beside, &mut one, &mut two);
+    let index = closed(store, one, two);
     (answer.expect(rt, "the call failed").answer, index)
 }
 
