@@ -1,51 +1,42 @@
 //! Which files the commands attach, and on which drive.
-use crate::memory::{Attach, EMPTY_LOG, HEADER, Left, NO_FAULTS, run_on};
+use crate::checks::holds;
+use crate::memory::{EMPTY_LOG, HEADER, Left, NO_FAULTS, run_on};
 use std::alloc::Global;
 use std::process::Abort;
 use std::sync::Wait;
 use std::thread::Threads;
 
-// What a run of these words and no rows leaves over an empty log.
-fn run_of<R: Abort + Threads + Wait + Sync>(rt: &R, alloc: Global, words: &[&str]) -> Left {
-    run_on(rt, alloc, words, HEADER, EMPTY_LOG, &NO_FAULTS)
+// The attaches of the first drive in a run of a command, which attaches the second one never.
+const COMMANDS: &[(&[&str], &str)] = &[
+    (&["init", "a"], "makes a\n"),
+    (&["check", "a"], "opens a\n"),
+    (&["play", "a"], "opens a\n"),
+    (&["play", "-"], ""),
+];
+
+fn has_attached(left: &Left, told: &str) -> bool {
+    left.status == 0 && left.others.is_empty() && left.attaches.as_str() == told
 }
 
-fn is_one_of(attaches: &[Attach], wanted: &str, makes: bool) -> bool {
-    matches!(attaches, [Attach { name, make }] if name.as_str() == wanted && *make == makes)
-}
-
-fn has_attached_a(left: &Left, makes: bool) -> bool {
-    left.status == 0 && left.others() == 0 && is_one_of(left.attaches(), "a", makes)
-}
-
-fn has_attached_none(left: &Left) -> bool {
-    left.status == 0 && left.others() == 0 && left.attaches().is_empty()
-}
-
-// Whether the command attaches the file `a` once, on the first drive.
-fn attaches_once<R: Abort + Threads + Wait + Sync>(
+// Whether these words, over an empty log and no rows, attach this on the first drive alone.
+fn attaches<R: Abort + Threads + Wait + Sync>(
     rt: &R,
     alloc: Global,
-    command: &str,
-    makes: bool,
+    words: &[&str],
+    told: &str,
 ) -> bool {
-    let left = run_of(rt, alloc, &[command, "a"]);
-    has_attached_a(&left, makes)
+    let left = run_on(rt, alloc, words, HEADER, EMPTY_LOG, &NO_FAULTS);
+    has_attached(&left, told)
 }
 
-// Whether `play -` attaches none.
-fn attaches_none<R: Abort + Threads + Wait + Sync>(rt: &R, alloc: Global) -> bool {
-    let left = run_of(rt, alloc, &["play", "-"]);
-    has_attached_none(&left)
+fn each_command<R: Abort + Threads + Wait + Sync>(rt: &R, alloc: Global) {
+    for (words, told) in COMMANDS {
+        let is_attached = attaches(rt, alloc, words, told);
+        holds(rt, is_attached, "a command attaches otherwise");
+    }
 }
-
-// Whether a command makes the file that it attaches.
-const COMMANDS: &[(&str, bool)] = &[("init", true), ("check", false), ("play", false)];
 
 #[test]
 fn a_command_over_a_log_attaches_its_file_once(rt: HostRuntime) {
-    for (command, makes) in COMMANDS {
-        assert_so!(rt; attaches_once(&rt, rt.alloc(), command, *makes));
-    }
-    assert_so!(rt; attaches_none(&rt, rt.alloc()));
+    each_command(&rt, rt.alloc());
 }

@@ -8,6 +8,19 @@ const UNREAD: Faults<'static> = Faults {
     ..NO_FAULTS
 };
 
+const UNATTACHED: Faults<'static> = Faults {
+    calls: &[Fail {
+        call: DiskCall::Attach,
+        number: 1,
+    }],
+    ..UNREAD
+};
+
+const UNWRITTEN: Faults<'static> = Faults {
+    puts: &[1],
+    ..UNREAD
+};
+
 const INITS: Case = Case {
     words: INIT,
     input: "",
@@ -35,6 +48,20 @@ const MADE: &[Case] = &[
         status: 10,
         text: "refused in use 49\n",
         held: &[7; 49],
+        ..INITS
+    },
+    Case {
+        name: "init of a drive that can't be attached",
+        faults: UNATTACHED,
+        status: 7,
+        text: "refused disk\n",
+        ..INITS
+    },
+    Case {
+        name: "init with a sink that fails",
+        faults: UNWRITTEN,
+        status: 6,
+        text: "",
         ..INITS
     },
 ];
@@ -117,41 +144,6 @@ const CHECKED: &[Case] = &[
         held: HEADER_ALONE,
         ..DAMAGED
     },
-];
-
-#[test]
-fn check_tells_four_lines_or_what_is_wrong(rt: HostRuntime) {
-    each_is_left(&rt, rt.alloc(), CHECKED);
-}
-
-const UNATTACHED: Faults<'static> = Faults {
-    calls: &[Fail {
-        call: DiskCall::Attach,
-        number: 1,
-    }],
-    ..UNREAD
-};
-
-const UNWRITTEN: Faults<'static> = Faults {
-    puts: &[1],
-    ..UNREAD
-};
-
-const FAULTS: &[Case] = &[
-    Case {
-        name: "init of a drive that can't be attached",
-        faults: UNATTACHED,
-        status: 7,
-        text: "refused disk\n",
-        ..INITS
-    },
-    Case {
-        name: "init with a sink that fails",
-        faults: UNWRITTEN,
-        status: 6,
-        text: "",
-        ..INITS
-    },
     Case {
         name: "check of a drive that can't be attached",
         faults: UNATTACHED,
@@ -169,6 +161,6 @@ const FAULTS: &[Case] = &[
 ];
 
 #[test]
-fn faults_of_the_drive_and_the_sink_have_their_statuses(rt: HostRuntime) {
-    each_is_left(&rt, rt.alloc(), FAULTS);
+fn check_tells_four_lines_or_what_is_wrong(rt: HostRuntime) {
+    each_is_left(&rt, rt.alloc(), CHECKED);
 }

@@ -1,6 +1,6 @@
 //! Rows that are played over a log: what is kept, what a later run finds, and splits.
 use crate::checks::{
-    CHECK, Case, EMPTY, INIT, ONE_PUT, PLAY_BY_4, each_is_left, is_checked, is_left,
+    CHECK, Case, EMPTY, INIT, ONE_PUT, PLAY_BY_4, each_is_left, holds, is_checked, is_left,
 };
 use crate::memory::{EMPTY_LOG, Left, NO_FAULTS, PUT_LOG, run_on};
 use std::alloc::Global;
@@ -33,7 +33,15 @@ const BOX: &str = rows!("1,box,,0,0,3,5\n");
 
 const ONE_CELL: &str = "cells 1\npoints 1\nleaves 1\nunfinished 0\n";
 
-const PUTS: &[Case] = &[
+// A log of put 7 at (3,5), with 40 bytes behind it.
+const LONG_LOG: &[u8] = b"MDLOCLOG\x01\x01\0\0\0\0\0\0\
+    \x01\x01\0\0\0\0\0\0\0\x07\0\0\0\x03\0\0\0\x05\0\0\0\0\0\0\0\0\0\0\0\0\0\0\
+    \0\
+    \x05\x05\x05\x05\x05\x05\x05\x05\x05\x05\x05\x05\x05\x05\x05\x05\x05\x05\x05\x05\
+    \x05\x05\x05\x05\x05\x05\x05\x05\x05\x05\x05\x05\x05\x05\x05\x05\x05\x05\x05\x05";
+
+// A put is found again, what stands behind a log is cut off, and a split that was begun is unfinished.
+const FOUND: &[Case] = &[
     Case {
         name: "a put",
         input: rows!("1,put,7,3,5,,\n"),
@@ -62,11 +70,36 @@ const PUTS: &[Case] = &[
         text: "refused in use 49\n",
         ..ONE_PUT
     },
+    Case {
+        name: "check of a log with bytes behind it",
+        words: CHECK,
+        file: Some(LONG_LOG),
+        text: ONE_CELL,
+        held: LONG_LOG,
+        ..EMPTY
+    },
+    Case {
+        name: "a play over a log with bytes behind it",
+        input: rows!("1,where,7,,,,\n"),
+        file: Some(LONG_LOG),
+        text: lines!("1,1,at,3:5\n"),
+        held: PUT_LOG,
+        entries: 1,
+        ..EMPTY
+    },
+    Case {
+        name: "check of a split that was begun",
+        words: CHECK,
+        file: Some(BEGUN_LOG),
+        text: "cells 1\npoints 0\nleaves 1\nunfinished 1\n",
+        held: BEGUN_LOG,
+        ..EMPTY
+    },
 ];
 
 #[test]
-fn a_put_is_kept_and_found_again(rt: HostRuntime) {
-    each_is_left(&rt, rt.alloc(), PUTS);
+fn a_later_run_finds_what_a_log_keeps(rt: HostRuntime) {
+    each_is_left(&rt, rt.alloc(), FOUND);
 }
 
 // Whether these rows with buckets of 4, over a file with the bytes `before`, leave so many bytes with this end and so many entries,
@@ -126,11 +159,6 @@ const TWO_LEAVES: SplitLog<'static> = SplitLog {
     found: lines!("1,1,found,1:0:0;5:1:1\n"),
 };
 
-#[test]
-fn a_split_is_kept_and_found_again(rt: HostRuntime) {
-    assert_so!(rt; splits(&rt, rt.alloc(), CORNERS, EMPTY_LOG, TWO_LEAVES));
-}
-
 const ONE_POINT: &str = rows!(
     "1,put,1,3,5,,\n1,put,2,3,5,,\n1,put,3,3,5,,\n1,put,4,3,5,,\n1,put,5,3,5,,\n"
 );
@@ -143,43 +171,6 @@ const MANY_LEAVES: SplitLog<'static> = SplitLog {
     found: lines!("1,1,found,1:3:5;2:3:5;3:3:5;4:3:5;5:3:5\n"),
 };
 
-#[test]
-fn five_ids_on_one_point_leave_133_cells(rt: HostRuntime) {
-    assert_so!(rt; splits(&rt, rt.alloc(), ONE_POINT, EMPTY_LOG, MANY_LEAVES));
-}
-
-// A log of put 7 at (3,5), with 40 bytes behind it.
-const LONG_LOG: &[u8] = b"MDLOCLOG\x01\x01\0\0\0\0\0\0\
-    \x01\x01\0\0\0\0\0\0\0\x07\0\0\0\x03\0\0\0\x05\0\0\0\0\0\0\0\0\0\0\0\0\0\0\
-    \0\
-    \x05\x05\x05\x05\x05\x05\x05\x05\x05\x05\x05\x05\x05\x05\x05\x05\x05\x05\x05\x05\
-    \x05\x05\x05\x05\x05\x05\x05\x05\x05\x05\x05\x05\x05\x05\x05\x05\x05\x05\x05\x05";
-
-const CUT_OFF: &[Case] = &[
-    Case {
-        name: "check of a log with bytes behind it",
-        words: CHECK,
-        file: Some(LONG_LOG),
-        text: ONE_CELL,
-        held: LONG_LOG,
-        ..EMPTY
-    },
-    Case {
-        name: "a play over a log with bytes behind it",
-        input: rows!("1,where,7,,,,\n"),
-        file: Some(LONG_LOG),
-        text: lines!("1,1,at,3:5\n"),
-        held: PUT_LOG,
-        entries: 1,
-        ..EMPTY
-    },
-];
-
-#[test]
-fn what_stands_behind_a_log_is_cut_off(rt: HostRuntime) {
-    each_is_left(&rt, rt.alloc(), CUT_OFF);
-}
-
 const BEGUN_ANEW: SplitLog<'static> = SplitLog {
     len: 273,
     end: SPLIT_2,
@@ -187,9 +178,20 @@ const BEGUN_ANEW: SplitLog<'static> = SplitLog {
     ..TWO_LEAVES
 };
 
+// Rows, and the log that they are played over. A split that it left open is begun anew.
+const SPLITS: &[(&str, &[u8], SplitLog<'static>)] = &[
+    (CORNERS, EMPTY_LOG, TWO_LEAVES),
+    (ONE_POINT, EMPTY_LOG, MANY_LEAVES),
+    (CORNERS, BEGUN_LOG, BEGUN_ANEW),
+];
+
+fn each_split<R: Abort + Threads + Wait + Sync>(rt: &R, alloc: Global) {
+    for (rows, before, left) in SPLITS {
+        holds(rt, splits(rt, alloc, rows, before, *left), left.counts);
+    }
+}
+
 #[test]
-fn a_split_that_a_log_left_open_is_begun_anew(rt: HostRuntime) {
-    let begun = "cells 1\npoints 0\nleaves 1\nunfinished 1\n";
-    assert_so!(rt; is_checked(&rt, rt.alloc(), BEGUN_LOG, begun));
-    assert_so!(rt; splits(&rt, rt.alloc(), CORNERS, BEGUN_LOG, BEGUN_ANEW));
+fn splits_are_kept_and_found_again(rt: HostRuntime) {
+    each_split(&rt, rt.alloc());
 }

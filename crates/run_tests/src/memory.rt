@@ -10,8 +10,7 @@ mod noting;
 mod runs;
 
 pub use faults::{Faults, NO_FAULTS};
-pub use inputs::HEADER;
+pub use inputs::{HEADER, repeated};
 pub use left::Left;
 pub use logs::{EMPTY_LOG, PUT_LOG};
-pub use noting::Attach;
 pub use runs::{run_apart, run_gated, run_on, run_over};

@@ -1,7 +1,7 @@
 //! Runs over no log: worked inputs, each refusal's line, and faults of both ends. Each call of a drive fails.
 use crate::checks::{Case, NO_LOG, PLAY_NO_LOG, each_is_left, holds};
-use crate::memory::{Faults, HEADER, Left, NO_FAULTS, run_apart};
-use std::alloc::{AllocError, Global};
+use crate::memory::{Faults, HEADER, Left, NO_FAULTS, repeated, run_apart};
+use std::alloc::Global;
 use std::process::Abort;
 use std::sync::Wait;
 use std::thread::Threads;
@@ -16,6 +16,23 @@ const ROWS: &[Case] = &[
     },
     Case {
         name: "no rows",
+        ..NO_LOG
+    },
+    Case {
+        name: "queries of split leaves",
+        words: &["play", "-", "--bucket", "4"],
+        input: rows!(
+            "1,put,1,0,0,,\n1,put,2,2147483648,0,,\n1,put,3,0,2147483648,,\n1,put,4,2147483648,2147483648,,\n1,put,5,1,1,,\n1,near,,0,0,2,\n1,box,,0,0,1,1\n"
+        ),
+        text: lines!(
+            "1,1,done,\n2,2,done,\n3,3,done,\n4,4,done,\n5,5,done,\n6,6,found,1:0:0;5:1:1\n7,7,found,1:0:0;5:1:1\n"
+        ),
+        entries: 9,
+        ..NO_LOG
+    },
+    Case {
+        name: "no rows, and the largest buckets",
+        words: &["play", "-", "--bucket", "4096"],
         ..NO_LOG
     },
 ];
@@ -64,7 +81,13 @@ const REFUSED: Case = Case {
     ..NO_LOG
 };
 
-const BAD_INPUT: &[Case] = &[
+const USAGE: Case = Case {
+    status: 2,
+    text: "refused usage\n",
+    ..NO_LOG
+};
+
+const NOT_PLAYED: &[Case] = &[
     Case {
         name: "no input",
         input: "",
@@ -89,14 +112,6 @@ const BAD_INPUT: &[Case] = &[
         text: "refused row 2 column 1\n",
         ..REFUSED
     },
-];
-
-#[test]
-fn bad_input_gets_one_line(rt: HostRuntime) {
-    each_is_left(&rt, rt.alloc(), BAD_INPUT);
-}
-
-const FAILING: &[Case] = &[
     Case {
         name: "a source that fails",
         input: rows!("1,put,7,3,5,,\n"),
@@ -120,77 +135,51 @@ const FAILING: &[Case] = &[
         entries: 1,
         ..NO_LOG
     },
+    Case {
+        name: "play with no log",
+        words: &["play"],
+        ..USAGE
+    },
+    Case {
+        name: "init of no log",
+        words: &["init", "-"],
+        ..USAGE
+    },
+    Case {
+        name: "check of a log with no name",
+        words: &["check", ""],
+        ..USAGE
+    },
+    Case {
+        name: "play over a log that begins like a flag",
+        words: &["play", "-log"],
+        ..USAGE
+    },
+    Case {
+        name: "play over a log with no name",
+        words: &["play", "", "--bucket", "4"],
+        ..USAGE
+    },
+    Case {
+        name: "buckets below the least",
+        words: &["play", "-", "--bucket", "3"],
+        ..USAGE
+    },
+    Case {
+        name: "buckets above the largest",
+        words: &["play", "-", "--bucket", "4097"],
+        ..USAGE
+    },
+    Case {
+        name: "buckets before the log",
+        words: &["play", "--bucket", "4", "-"],
+        ..USAGE
+    },
 ];
 
 #[test]
-fn failing_ends_have_their_statuses(rt: HostRuntime) {
-    each_is_left(&rt, rt.alloc(), FAILING);
-}
-
-// Whether these words are usage, and nothing is called.
-fn is_usage<R: Abort + Threads + Wait + Sync>(rt: &R, alloc: Global, words: &[&str]) -> bool {
-    let left = run_apart(rt, alloc, words, HEADER, &NO_FAULTS);
-    is_told_usage(&left)
-}
-
-fn is_told_usage(left: &Left) -> bool {
-    left.tells(2, "refused usage\n") && left.history().is_empty()
-}
-
-const OTHER_WORDS: &[&[&str]] = &[
-    &["play"],
-    &["init", "-"],
-    &["check", ""],
-    &["play", "-log"],
-    &["play", "", "--bucket", "4"],
-    &["play", "-", "--bucket", "3"],
-    &["play", "-", "--bucket", "4097"],
-    &["play", "--bucket", "4", "-"],
-];
-
-const LARGEST: &[Case] = &[Case {
-    name: "a play with the largest buckets",
-    words: &["play", "-", "--bucket", "4096"],
-    ..NO_LOG
-}];
-
-#[test]
-fn other_words_are_usage(rt: HostRuntime) {
-    for words in OTHER_WORDS {
-        assert_so!(rt; is_usage(&rt, rt.alloc(), words));
-    }
-    each_is_left(&rt, rt.alloc(), LARGEST);
-}
-
-const QUERIES: &str = rows!(
-    "1,put,1,0,0,,\n1,put,2,2147483648,0,,\n1,put,3,0,2147483648,,\n1,put,4,2147483648,2147483648,,\n1,put,5,1,1,,\n1,near,,0,0,2,\n1,box,,0,0,1,1\n"
-);
-
-const BY_4: &[&str] = &["play", "-", "--bucket", "4"];
-
-// Whether queries behind a split of the five points' leaf find what they should.
-fn finds_behind_a_split<R: Abort + Threads + Wait + Sync>(rt: &R, alloc: Global) -> bool {
-    let left = run_apart(rt, alloc, BY_4, QUERIES, &NO_FAULTS);
-    finds_the_two(&left)
-}
-
-fn finds_the_two(left: &Left) -> bool {
-    let end = b"6,6,found,1:0:0;5:1:1\n7,7,found,1:0:0;5:1:1\n";
-    left.status == 0 && left.taken.as_slice().ends_with(end)
-}
-
-#[test]
-fn queries_see_the_points_of_split_leaves(rt: HostRuntime) {
-    assert_so!(rt; finds_behind_a_split(&rt, rt.alloc()));
-}
-
-// An input of so many rows.
-fn finds(alloc: Global, count: u32) -> Result<String, AllocError> {
-    let mut input = String::from_str(alloc, HEADER)?;
-    for _ in 0..count {
-        input.push_str("1,where,7,,,,\n")?;
-    }
-    Ok(input)
+fn words_rows_and_ends_at_fault_have_their_line_and_status(rt: HostRuntime) {
+    each_is_left(&rt, rt.alloc(), NOT_PLAYED);
 }
 
 // Whether an input of so many rows is refused with this line.
@@ -200,7 +189,7 @@ fn is_over_a_limit<R: Abort + Threads + Wait + Sync>(
     count: u32,
     line: &str,
 ) -> bool {
-    let input = finds(alloc, count).expect(rt, "it failed");
+    let input = repeated(alloc, HEADER, count, "1,where,7,,,,\n").expect(rt, "it failed");
     let left = run_apart(rt, alloc, PLAY_NO_LOG, &input, &NO_FAULTS);
     left.tells(8, line)
 }

@@ -19,6 +19,27 @@ const TRIAL: Case = Case {
     ..NO_LOG
 };
 
+// A log of put 1717 at (3938983765, 2969520912).
+const MADE_LOG: &[u8] = b"MDLOCLOG\x01\x01\0\0\0\0\0\0\
+    \x01\x01\0\0\0\0\0\0\x06\xb5\xea\xc8\x1f\x55\xb0\xff\x4b\x10\0\0\0\0\0\0\0\0\0\0\0\0\0\0\
+    \0";
+
+// A trial of seed 2 over a log.
+const OVER: Case = Case {
+    name: "a trial over a log of no cells",
+    words: &["trial", "log", "1", "2"],
+    held: MADE_LOG,
+    text: "rows 1\npoints 1\nsum 17116200679316071202\n",
+    entries: 1,
+    ..EMPTY
+};
+
+const AGAIN: Case = Case {
+    name: "the trial again",
+    file: Some(MADE_LOG),
+    ..OVER
+};
+
 // Seed 2 makes a put of 1717 at (3938983765, 2969520912), seed 1 a box, and seed 0 a move.
 const ONE_ROW: &[Case] = &[
     TRIAL,
@@ -34,10 +55,26 @@ const ONE_ROW: &[Case] = &[
         text: "rows 1\npoints 0\nsum 0\n",
         ..TRIAL
     },
+    OVER,
+    AGAIN,
+    Case {
+        name: "check behind the trial",
+        words: CHECK,
+        text: "cells 1\npoints 1\nleaves 1\nunfinished 0\n",
+        entries: 0,
+        ..AGAIN
+    },
+    Case {
+        name: "show behind the trial",
+        words: &["show", "log", "0", "0", "4294967295", "4294967295"],
+        text: "id,x,y\n1717,3938983765,2969520912\n",
+        entries: 0,
+        ..AGAIN
+    },
 ];
 
 #[test]
-fn a_trial_of_one_row_tells_of_its_put(rt: HostRuntime) {
+fn a_trial_of_one_row_tells_of_its_put_and_keeps_it(rt: HostRuntime) {
     each_is_left(&rt, rt.alloc(), ONE_ROW);
 }
 
@@ -80,10 +117,11 @@ fn wanted(alloc: Global) -> Result<String, Memory> {
     Ok(text_of(alloc, 20_000, &world)?)
 }
 
+const LONG_TRIAL: &[&str] = &["trial", "-", "20000", "3"];
+
 // Whether such a trial over no log tells this.
 fn tells<R: Abort + Threads + Wait + Sync>(rt: &R, alloc: Global, told: &str) -> bool {
-    let words = &["trial", "-", "20000", "3"];
-    let left = run_apart(rt, alloc, words, HEADER, &NO_FAULTS);
+    let left = run_apart(rt, alloc, LONG_TRIAL, HEADER, &NO_FAULTS);
     left.tells(0, told)
 }
 
@@ -94,49 +132,4 @@ fn a_trial_tells_twice_what_one_plain_list_has(rt: HostRuntime) {
     for _ in 0..2 {
         assert_so!(rt; tells(&rt, rt.alloc(), &wanted));
     }
-}
-
-// A log of put 1717 at (3938983765, 2969520912).
-const MADE_LOG: &[u8] = b"MDLOCLOG\x01\x01\0\0\0\0\0\0\
-    \x01\x01\0\0\0\0\0\0\x06\xb5\xea\xc8\x1f\x55\xb0\xff\x4b\x10\0\0\0\0\0\0\0\0\0\0\0\0\0\0\
-    \0";
-
-// A trial of seed 2 over a log.
-const OVER: Case = Case {
-    name: "a trial over a log of no cells",
-    words: &["trial", "log", "1", "2"],
-    held: MADE_LOG,
-    text: "rows 1\npoints 1\nsum 17116200679316071202\n",
-    entries: 1,
-    ..EMPTY
-};
-
-const AGAIN: Case = Case {
-    name: "the trial again",
-    file: Some(MADE_LOG),
-    ..OVER
-};
-
-const KEPT: &[Case] = &[
-    OVER,
-    AGAIN,
-    Case {
-        name: "check behind the trial",
-        words: CHECK,
-        text: "cells 1\npoints 1\nleaves 1\nunfinished 0\n",
-        entries: 0,
-        ..AGAIN
-    },
-    Case {
-        name: "show behind the trial",
-        words: &["show", "log", "0", "0", "4294967295", "4294967295"],
-        text: "id,x,y\n1717,3938983765,2969520912\n",
-        entries: 0,
-        ..AGAIN
-    },
-];
-
-#[test]
-fn a_trial_over_a_log_keeps_its_put(rt: HostRuntime) {
-    each_is_left(&rt, rt.alloc(), KEPT);
 }

@@ -18,7 +18,7 @@ fn is_usage<R: Abort + Threads + Wait + Sync>(rt: &R, alloc: Global, words: &[&s
 }
 
 fn is_untouched(left: &Left) -> bool {
-    let is_uncalled = left.attaches().is_empty() && left.history().is_empty();
+    let is_uncalled = left.attaches.is_empty() && left.history().is_empty();
     is_uncalled && is_left(left, 2, "refused usage\n", PUT_LOG)
 }
 

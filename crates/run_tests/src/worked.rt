@@ -1,6 +1,6 @@
 //! Worked rows and their lines, and the bytes that rows leave in a log.
 use crate::checks::{Case, EMPTY, NO_LOG, PLAY_BY_4, PLAY_NO_LOG, each_is_left, holds};
-use crate::memory::{EMPTY_LOG, HEADER, Left, NO_FAULTS, run_on};
+use crate::memory::{HEADER, Left, NO_FAULTS, run_on};
 use std::alloc::{AllocError, Global};
 use std::process::Abort;
 use std::sync::Wait;
@@ -19,14 +19,20 @@ const TWO_PUTS_LOG: &[u8] = b"MDLOCLOG\x01\x01\0\0\0\0\0\0\
     \x01\x01\0\0\0\0\0\0\0\x08\0\0\0\x04\0\0\0\x05\0\0\0\0\0\0\0\0\0\0\0\0\0\0\
     \0";
 
-// Begin 1 of the empty name, install 1, put 6 at (2,2), and a clear commit byte.
-const SPLIT_AND_PUT: &[u8] = b"\
+// A log of puts 1 to 5, begin 1 of the empty name, install 1, and put 6 at (2,2).
+const SPLIT_LOG: &[u8] = b"MDLOCLOG\x01\x01\0\0\0\0\0\0\
+    \x01\x01\0\0\0\0\0\0\0\x01\0\0\0\0\0\0\0\0\0\0\0\0\0\0\0\0\0\0\0\0\0\0\
+    \x01\x01\0\0\0\0\0\0\0\x02\x80\0\0\0\0\0\0\0\0\0\0\0\0\0\0\0\0\0\0\0\0\0\
+    \x01\x01\0\0\0\0\0\0\0\x03\0\0\0\0\x80\0\0\0\0\0\0\0\0\0\0\0\0\0\0\0\0\0\
+    \x01\x01\0\0\0\0\0\0\0\x04\x80\0\0\0\x80\0\0\0\0\0\0\0\0\0\0\0\0\0\0\0\0\0\
+    \x01\x01\0\0\0\0\0\0\0\x05\0\0\0\x01\0\0\0\x01\0\0\0\0\0\0\0\0\0\0\0\0\0\0\
     \x01\x04\0\0\0\0\0\0\0\x01\0\0\0\0\0\0\0\0\0\0\0\0\0\0\0\0\0\0\0\0\0\0\
     \x01\x05\0\0\0\0\0\0\0\x01\0\0\0\0\0\0\0\0\0\0\0\0\0\0\0\0\0\0\0\0\0\0\
     \x01\x01\0\0\0\0\0\0\0\x06\0\0\0\x02\0\0\0\x02\0\0\0\0\0\0\0\0\0\0\0\0\0\0\
     \0";
 
-const TIES: &[Case] = &[
+// Ties go to the lesser id, a box has both its corners, and a change tells where the object was.
+const ROWS: &[Case] = &[
     Case {
         name: "the nearest of two that are as near",
         input: rows!("1,put,9,0,1,,\n1,put,3,1,0,,\n1,near,,0,0,1,\n"),
@@ -48,14 +54,6 @@ const TIES: &[Case] = &[
         text: "refused row 3 column 6\n",
         ..NO_LOG
     },
-];
-
-#[test]
-fn ties_go_to_the_lesser_id(rt: HostRuntime) {
-    each_is_left(&rt, rt.alloc(), TIES);
-}
-
-const CORNERS: &[Case] = &[
     Case {
         name: "boxes of one point and of none",
         input: rows!("1,put,7,3,5,,\n1,box,,3,5,3,5\n1,box,,0,0,2,2\n"),
@@ -70,28 +68,22 @@ const CORNERS: &[Case] = &[
         text: "refused row 2 column 6\n",
         ..NO_LOG
     },
+    Case {
+        name: "eight rows of one object",
+        input: rows!(
+            "1,put,7,3,5,,\n1,put,7,8,8,,\n1,move,7,8,8,,\n1,drop,7,,,,\n1,drop,7,,,,\n1,move,7,4,5,,\n1,where,7,,,,\n1,box,,0,0,8,8\n"
+        ),
+        text: lines!(
+            "1,1,done,\n2,2,present,3:5\n3,3,moved,3:5\n4,4,gone,8:8\n5,5,absent,\n6,6,absent,\n7,7,absent,\n8,8,found,\n"
+        ),
+        entries: 8,
+        ..NO_LOG
+    },
 ];
 
 #[test]
-fn a_box_has_both_its_corners(rt: HostRuntime) {
-    each_is_left(&rt, rt.alloc(), CORNERS);
-}
-
-const ONE_OBJECT: &[Case] = &[Case {
-    name: "eight rows of one object",
-    input: rows!(
-        "1,put,7,3,5,,\n1,put,7,8,8,,\n1,move,7,8,8,,\n1,drop,7,,,,\n1,drop,7,,,,\n1,move,7,4,5,,\n1,where,7,,,,\n1,box,,0,0,8,8\n"
-    ),
-    text: lines!(
-        "1,1,done,\n2,2,present,3:5\n3,3,moved,3:5\n4,4,gone,8:8\n5,5,absent,\n6,6,absent,\n7,7,absent,\n8,8,found,\n"
-    ),
-    entries: 8,
-    ..NO_LOG
-}];
-
-#[test]
-fn a_change_tells_where_the_object_was(rt: HostRuntime) {
-    each_is_left(&rt, rt.alloc(), ONE_OBJECT);
+fn ties_boxes_and_changes_have_their_lines(rt: HostRuntime) {
+    each_is_left(&rt, rt.alloc(), ROWS);
 }
 
 // An input of puts of ids from 0 on at (id,0), and these rows.
@@ -166,28 +158,20 @@ const CHANGES: &[Case] = &[
         entries: 1,
         ..EMPTY
     },
+    Case {
+        name: "a leaf that is split before the next row",
+        words: PLAY_BY_4,
+        input: rows!(
+            "1,put,1,0,0,,\n1,put,2,2147483648,0,,\n1,put,3,0,2147483648,,\n1,put,4,2147483648,2147483648,,\n1,put,5,1,1,,\n1,put,6,2,2,,\n"
+        ),
+        text: lines!("1,1,done,\n2,2,done,\n3,3,done,\n4,4,done,\n5,5,done,\n6,6,done,\n"),
+        held: SPLIT_LOG,
+        entries: 8,
+        ..EMPTY
+    },
 ];
 
 #[test]
-fn each_change_is_one_record_behind_the_last_commit_byte(rt: HostRuntime) {
+fn changes_and_splits_are_records_behind_the_last_commit_byte(rt: HostRuntime) {
     each_is_left(&rt, rt.alloc(), CHANGES);
-}
-
-const SIX_PUTS: &str = rows!(
-    "1,put,1,0,0,,\n1,put,2,2147483648,0,,\n1,put,3,0,2147483648,,\n1,put,4,2147483648,2147483648,,\n1,put,5,1,1,,\n1,put,6,2,2,,\n"
-);
-
-// Whether six puts leave a log that ends in the split of the five and the sixth.
-fn splits_before_the_sixth<R: Abort + Threads + Wait + Sync>(rt: &R, alloc: Global) -> bool {
-    let left = run_on(rt, alloc, PLAY_BY_4, SIX_PUTS, EMPTY_LOG, &NO_FAULTS);
-    has_split(&left)
-}
-
-fn has_split(left: &Left) -> bool {
-    left.status == 0 && left.file().ends_with(SPLIT_AND_PUT)
-}
-
-#[test]
-fn a_leaf_is_split_before_the_next_row(rt: HostRuntime) {
-    assert_so!(rt; splits_before_the_sixth(&rt, rt.alloc()));
 }

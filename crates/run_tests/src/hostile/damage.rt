@@ -338,10 +338,14 @@ fn judge_reads<R: Abort + Threads + Wait + Sync>(
     judge_read(rt, alloc, number, file, &SHOW, want, objects);
 }
 
-// Whether a refused play left the file and no history, and a crash leaves the file at each moment.
-fn is_kept(left: &Left, file: &[u8]) -> bool {
-    let is_same = left.images.iter().all(|i| i.bytes.as_slice() == file);
-    is_same && left.events.is_empty() && left.file.as_slice() == file
+// A refused play leaves the file and no history, and a crash leaves the file at each moment.
+fn judge_kept<R: Abort>(rt: &R, number: u64, left: &Left, file: &[u8]) {
+    for image in left.images.iter() {
+        let is_same = image.bytes.as_slice() == file;
+        must(rt, is_same, "crash in a play of file", number);
+    }
+    let is_kept = left.events.is_empty() && left.file.as_slice() == file;
+    must(rt, is_kept, "play of file", number);
 }
 
 fn judge_play<R: Abort + Threads + Wait + Sync>(
@@ -359,7 +363,7 @@ fn judge_play<R: Abort + Threads + Wait + Sync>(
     let is_written = wrote(&left, want, "row,place,answer,detail\n", answer);
     must(rt, is_written, "lines of a play of file", number);
     if let Want::Refused(_) = want {
-        must(rt, is_kept(&left, file), "play of file", number);
+        judge_kept(rt, number, &left, file);
     }
 }
 

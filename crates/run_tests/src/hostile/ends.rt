@@ -1,6 +1,7 @@
 //! Sources that fail at each read, and sinks that fail at each put, also at the line of a refusal.
 use crate::hostile::records::{EMPTY_LOG, PUT, Record, log_of};
 use crate::hostile::runs::{Left, Plan, must, run_plan};
+use crate::memory::repeated;
 use disk_mem::{DiskCall, Fail as Failing};
 use std::alloc::{AllocError, Global};
 use std::process::Abort;
@@ -11,20 +12,21 @@ const ROWS: u32 = 9_000;
 
 // A put and many rows that ask where it is: more than a piece of 64 KiB, as input and as output.
 fn long_input(alloc: Global) -> Result<String, AllocError> {
-    let mut text = String::from_str(alloc, "session,op,id,x,y,a,b\n1,put,7,3,5,,\n")?;
-    for _ in 1..ROWS {
-        text.push_str("1,where,7,,,,\n")?;
-    }
-    Ok(text)
+    let put = "session,op,id,x,y,a,b\n1,put,7,3,5,,\n";
+    repeated(alloc, put, ROWS.saturating_sub(1), "1,where,7,,,,\n")
 }
 
 fn long_output(alloc: Global) -> Result<String, AllocError> {
     let mut text = String::from_str(alloc, "row,place,answer,detail\n1,1,done,\n")?;
     for row in 2..=ROWS {
-        let line = format!(in alloc; "{row},{row},at,3:5\n")?;
-        text.push_str(&line)?;
+        add_line(alloc, &mut text, row)?;
     }
     Ok(text)
+}
+
+fn add_line(alloc: Global, text: &mut String, row: u32) -> Result<(), AllocError> {
+    let line = format!(in alloc; "{row},{row},at,3:5\n")?;
+    text.push_str(&line)
 }
 
 const PUT_7: Record = Record {

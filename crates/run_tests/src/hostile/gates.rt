@@ -1,5 +1,5 @@
 //! Lanes that wait for each other outside the lock: that they run side by side, and that a query and a split let others go on.
-use crate::hostile::records::{EMPTY_LOG, INSTALL, PUT, Record, front};
+use crate::hostile::records::{BEGIN, EMPTY_LOG, INSTALL, PUT, Record, front};
 use crate::hostile::runs::{Left, Plan, must, run_with};
 use io_edge::{Gate, GatePoint};
 use std::alloc::Global;
@@ -7,7 +7,6 @@ use std::process::Abort;
 use std::sync::Wait;
 use std::sync::atomic::{AtomicBool, AtomicU64, Ordering};
 use std::thread::{Threads, yield_now};
-use zorder::Point;
 
 // A wait gives up after so many turns.
 const TURNS: u64 = 100_000_000;
@@ -97,25 +96,60 @@ fn query_beside_put<R: Abort + Threads + Wait + Sync>(rt: &R, alloc: Global) {
     must(rt, taken == first || taken == second, "lines of lanes", 2);
 }
 
+const SPLIT: &str =
+    "session,op,id,x,y,a,b\n1,put,1,0,0,,\n1,put,2,2147483648,0,,\n1,put,3,0,2147483648,,\n\
+    1,put,4,2147483648,2147483648,,\n1,put,5,1,1,,\n2,where,9,,,,\n2,put,9,2147483648,0,,\n";
+
+// A put of id 1 at (0,0).
+const PUT_1: Record = Record {
+    kind: PUT,
+    number: 1,
+    place: 0,
+    len: 0,
+};
+
+// The records of these rows, where the put of 9 comes between the begin and the install of its leaf's split.
+const SPLIT_AROUND_A_PUT: &[Record] = &[
+    PUT_1,
+    Record {
+        number: 2,
+        place: 0x8000_0000_0000_0000,
+        ..PUT_1
+    },
+    Record {
+        number: 3,
+        place: 0x8000_0000,
+        ..PUT_1
+    },
+    Record {
+        number: 4,
+        place: 0x8000_0000_8000_0000,
+        ..PUT_1
+    },
+    Record {
+        number: 5,
+        place: 0x1_0000_0001,
+        ..PUT_1
+    },
+    Record {
+        kind: BEGIN,
+        ..PUT_1
+    },
+    Record {
+        number: 9,
+        place: 0x8000_0000_0000_0000,
+        ..PUT_1
+    },
+    Record {
+        kind: INSTALL,
+        ..PUT_1
+    },
+];
+
 // A put goes on between the begin and the install of its leaf's split.
 fn put_beside_split<R: Abort + Threads + Wait + Sync>(rt: &R, alloc: Global) {
-    const HALF: u32 = 1 << 31;
-    let input =
-        "session,op,id,x,y,a,b\n1,put,1,0,0,,\n1,put,2,2147483648,0,,\n1,put,3,0,2147483648,,\n\
-        1,put,4,2147483648,2147483648,,\n1,put,5,1,1,,\n2,where,9,,,,\n2,put,9,2147483648,0,,\n";
-    let left = meet(rt, alloc, GatePoint::Begun, input);
-    let put = |id, x, y| Record::at(PUT, id, Point { x, y });
-    let records = [
-        put(1, 0, 0),
-        put(2, HALF, 0),
-        put(3, 0, HALF),
-        put(4, HALF, HALF),
-        put(5, 1, 1),
-        Record::begin(1, 0, 0),
-        put(9, HALF, 0),
-        Record::of(INSTALL, 1),
-    ];
-    let is_whole = front(left.file.as_slice(), &records) == Some(8);
+    let left = meet(rt, alloc, GatePoint::Begun, SPLIT);
+    let is_whole = front(left.file.as_slice(), SPLIT_AROUND_A_PUT) == Some(8);
     must(rt, is_whole, "how many records are wanted:", 8);
 }
 

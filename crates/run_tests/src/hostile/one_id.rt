@@ -11,14 +11,11 @@ use std::thread::Threads;
 use zorder::Point;
 
 // Each session puts the id at a point of its own.
-fn puts(alloc: Global) -> Result<String, AllocError> {
-    let mut text = String::from_str(alloc, "session,op,id,x,y,a,b\n")?;
-    for s in 1..=16 {
-        let row = format!(in alloc; "{s},put,1,{s},0,,\n")?;
-        text.push_str(&row)?;
-    }
-    Ok(text)
-}
+const PUTS: &str = "session,op,id,x,y,a,b\n\
+    1,put,1,1,0,,\n2,put,1,2,0,,\n3,put,1,3,0,,\n4,put,1,4,0,,\n\
+    5,put,1,5,0,,\n6,put,1,6,0,,\n7,put,1,7,0,,\n8,put,1,8,0,,\n\
+    9,put,1,9,0,,\n10,put,1,10,0,,\n11,put,1,11,0,,\n12,put,1,12,0,,\n\
+    13,put,1,13,0,,\n14,put,1,14,0,,\n15,put,1,15,0,,\n16,put,1,16,0,,\n";
 
 // Each session puts, moves, drops and asks for it.
 fn changes(alloc: Global) -> Result<String, AllocError> {
@@ -231,9 +228,8 @@ fn race<R: Abort + Threads + Wait + Sync>(
 }
 
 fn race_puts<R: Abort + Threads + Wait + Sync>(rt: &R, alloc: Global) {
-    let input = puts(alloc).expect(rt, "it failed");
     for round in 0..20 {
-        let count = race(rt, alloc, &input, 1, round);
+        let count = race(rt, alloc, PUTS, 1, round);
         must(rt, count == 1, "records of round", round);
     }
 }

@@ -21,7 +21,7 @@ pub const INSTALL: u8 = 5;
 pub const ABANDON: u8 = 6;
 
 /// A record by its kind, its id or number, the eight bytes behind that (a point, or a name's bits), and the byte behind these.
-#[derive(Clone, Copy, Debug, PartialEq, Eq)]
+#[derive(Clone, Copy)]
 pub struct Record {
     pub kind: u8,
     pub number: u64,
@@ -40,22 +40,13 @@ impl Record {
         }
     }
 
-    /// A drop, an install or an abandon.
+    /// A drop.
     pub fn of(kind: u8, number: u64) -> Record {
         Record {
             kind,
             number,
             place: 0,
             len: 0,
-        }
-    }
-
-    pub fn begin(number: u64, bits: u64, len: u8) -> Record {
-        Record {
-            kind: BEGIN,
-            number,
-            place: bits,
-            len,
         }
     }
 

@@ -3,6 +3,15 @@ use std::alloc::{AllocError, Global};
 
 pub const HEADER: &str = "session,op,id,x,y,a,b\n";
 
+/// An input that begins so, with a row so many times behind that.
+pub fn repeated(alloc: Global, front: &str, count: u32, row: &str) -> Result<String, AllocError> {
+    let mut input = String::from_str(alloc, front)?;
+    for _ in 0..count {
+        input.push_str(row)?;
+    }
+    Ok(input)
+}
+
 pub fn words(alloc: Global, all: &[&str]) -> Result<Vec<String>, AllocError> {
     let mut words = Vec::new(alloc);
     for word in all {

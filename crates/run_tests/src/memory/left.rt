@@ -1,17 +1,16 @@
 //! What a run left.
-use crate::memory::noting::Attach;
 use disk_mem::MemDisk;
 use plain_list::{Entries, Entry};
 
-/// What a run left: its status, its history, what the sink took, the first drive, and the attaches of both.
+/// What a run left: its status, its history, what the sink took, the first drive, and the attaches of both, a line each.
 #[derive(Drop)]
 pub struct Left {
     pub status: u8,
     pub taken: Vec<u8>,
     pub disk: MemDisk,
     pub(crate) events: Entries,
-    pub(crate) attaches: Vec<Attach>,
-    pub(crate) others: usize,
+    pub attaches: String,
+    pub others: String,
 }
 
 impl Left {
@@ -28,15 +27,5 @@ impl Left {
     /// The bytes that the first drive holds.
     pub fn file(&self) -> &[u8] {
         self.disk.bytes()
-    }
-
-    /// The attaches of the first drive.
-    pub fn attaches(&self) -> &[Attach] {
-        self.attaches.as_slice()
-    }
-
-    /// How many attaches the second drive had.
-    pub fn others(&self) -> usize {
-        self.others
     }
 }

@@ -5,34 +5,28 @@ use disk_mem::MemDisk;
 use disk_trait::{AttachFault, DiskFault, LogDisk};
 use std::alloc::{AllocError, Global};
 
-/// The words of an attach.
-#[derive(Drop)]
-pub struct Attach {
-    pub name: String,
-    pub make: bool,
-}
-
-/// A drive in memory that notes each attach.
+/// A drive in memory that notes each attach in a line: whether it makes or opens the file, and the name.
 #[derive(Drop)]
 pub(crate) struct NotingDisk {
     pub(crate) disk: MemDisk,
-    pub(crate) attaches: Vec<Attach>,
+    pub(crate) attaches: String,
 }
 
 impl NotingDisk {
     pub(crate) fn new(alloc: Global, disk: MemDisk) -> NotingDisk {
         NotingDisk {
             disk,
-            attaches: Vec::new(alloc),
+            attaches: String::new(alloc),
         }
     }
 
-    fn note(&mut self, alloc: Global, name: &str, make: bool) -> Result<(), AllocError>
+    fn note(&mut self, name: &str, make: bool) -> Result<(), AllocError>
         ensures { self.new.disk ≡ self.old.disk }
     {
-        let name = String::from_str(alloc, name)?;
-        self.attaches.push(Attach { name, make })?;
-        Ok(())
+        let word = if make { "makes " } else { "opens " };
+        self.attaches.push_str(word)?;
+        self.attaches.push_str(name)?;
+        self.attaches.push_str("\n")
     }
 }
 
@@ -45,7 +39,7 @@ impl LogDisk for NotingDisk {
     ghost keeps_laws = { λ d. mem_laws d.disk };
 
     fn attach(&mut self, alloc: Global, name: &str, make: bool) -> Result<(), AttachFault> {
-        let Ok(()) = self.note(alloc, name, make) else {
+        let Ok(()) = self.note(name, make) else {
             return Err(AttachFault::Memory);
         };
         self.disk.attach(alloc, name, make)

@@ -159,6 +159,6 @@ fn left_of(outcome: Outcome<NotingDisk>, taken: Vec<u8>) -> Left {
         disk,
         events,
         attaches,
-        others: other.attaches.len(),
+        others: other.attaches,
     }
 }
