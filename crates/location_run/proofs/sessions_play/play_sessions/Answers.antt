@@ -1,4 +1,4 @@
-use Rattle.std.proofs.Common.{ap}
+use Rattle.std.proofs.Common.{ap, rules}
 use Rattle.book_lock.specs.Pass.{Known}
 use Rattle.location_run.proofs.PlayedOut.{played-not, played-from, answered-from, few-pass}
 use Rattle.location_run.proofs.sessions_play.play_sessions.Goals as goal
@@ -21,3 +21,6 @@ pub returns-in-Ok-clause-answered : goal.returns-in-Ok-clause-answered
 returns-in-Ok-clause-answered g c =
     answered-from g.D.LogDisk.drive g.I.Index.WIDTH c.args.rows.now c.args.book c.play_store.result.book c.events-events.ensures.book c.play_store.ensures.book c.requires.new (λ ends. ends.items)
     c.play_store.result.ends c.in-Ok.pass.origin (ap (λ (k : Known). k.origin) c.in-Ok.ensures.store) c.play_store.ensures.answered
+
+pub returns-in-Err-clause-starts : goal.returns-in-Err-clause-starts
+returns-in-Err-clause-starts g c = search rules

@@ -7,3 +7,6 @@ use Rattle.sessions.proofs.store.Store.call.Goals as goal
 pub returns-clause-pass : goal.returns-clause-pass
 returns-clause-pass g c = called-same g.I.Index.WIDTH c.args.session c.args.row c.args.op.now c.args.pass.now c.answer-answer.new.pass c.answer-answer.result
     (subst (λ (pass : Known). Called g.I.Index.WIDTH c.args.session c.args.row c.args.op.now pass c.answer-answer.new.pass c.answer-answer.result) c.will_read.ensures c.answer-answer.ensures.called)
+
+pub returns-clause-opened : goal.returns-clause-opened
+returns-clause-opened g c = c.answer-answer.ensures.opened
