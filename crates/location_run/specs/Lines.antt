@@ -10,7 +10,7 @@ use Rattle.csv_rows.specs.declared.rows.Summary.{Summary}
 use Rattle.csv_rows.specs.LogLines.{summary_text}
 use Rattle.csv_rows.specs.Lines.{line_text, title_line}
 use Rattle.lane_history.specs.SessionRows.{row_place}
-use Rattle.world_sums.specs.Sums.{sums_of}
+use Rattle.table_share.specs.Sums.{sums_of}
 use Rattle.location_run.specs.declared.reports.Report.{Report}
 use Rattle.location_run.specs.declared.reports.Report.TheVariants as reports
 

@@ -8,7 +8,7 @@
 //! played by lanes, one for each session, over one store.
 //!
 //! Not here: what words ask for (`command_words`), rows and their lines (`csv_rows`), made rows (`make_moves`), the store and its lanes
-//! (`sessions`, `lane_history`, `lane_splits`), the sum over an index (`world_sums`), how a log is opened (`recovery`), `main` (`mdloc`).
+//! (`sessions`, `lane_history`, `lane_splits`), the sum over an index (`table_share`), how a log is opened (`recovery`), `main` (`mdloc`).
 #![tactic(auto)]
 
 mod checking;

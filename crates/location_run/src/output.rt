@@ -6,7 +6,7 @@ ghost use Rattle.zorder.specs.declared.points.Placed.{Placed};
 ghost use Rattle.plain_list.specs.declared.entries.Entry.{Entry};
 ghost use Rattle.csv_rows.specs.InRows.{AreInRows};
 ghost use Rattle.plain_list.specs.History.{world_after};
-ghost use Rattle.world_sums.specs.Sums.{sums_of};
+ghost use Rattle.table_share.specs.Sums.{sums_of};
 ghost use Rattle.location_run.specs.Lines.{lines_of, text_of, summary_of};
 ghost use Rattle.location_run.specs.Status.{written_status};
 ghost use Rattle.location_run.specs.inside.Answered.{kept_of, HasLanes, HasNumbers, HasAnswers, HasObjects};
@@ -20,7 +20,7 @@ use sessions::KeptRow;
 use std::marker::Brand;
 use std::sync::ledger::{Blank, Ledger};
 use step_count::Steps;
-use world_sums::{Sums, sum_up};
+use table_share::{Sums, sum_up};
 
 // One more than the highest number of a session.
 const SLOTS: usize = 17;

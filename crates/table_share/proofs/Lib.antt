@@ -6,3 +6,4 @@ pub mod LeafRows
 pub mod Subtrees
 pub mod SharedKeys
 pub mod Narrowings
+pub mod SumsFacts

@@ -4,3 +4,5 @@ pub mod Objects
 pub mod Worlds
 pub mod KeysUnder
 pub mod Subtree
+pub mod Sums
+pub mod Examples

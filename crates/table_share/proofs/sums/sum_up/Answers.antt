@@ -1,6 +1,6 @@
 use Rattle.std.proofs.Common.{rules}
-use Rattle.world_sums.proofs.SumsFacts.{summed, sums-of_world}
-use Rattle.world_sums.proofs.sums.sum_up.Goals as goal
+use Rattle.table_share.proofs.SumsFacts.{summed, sums-of_world}
+use Rattle.table_share.proofs.sums.sum_up.Goals as goal
 
 pub returns-clause-sums : goal.returns-clause-sums
 returns-clause-sums g c world names is_world stands =

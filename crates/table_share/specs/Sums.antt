@@ -4,7 +4,7 @@ use Rattle.std.specs.List.{sum_by}
 use Rattle.zorder.specs.Key.{key_of}
 use Rattle.zorder.specs.declared.points.Placed.{Placed}
 use Rattle.bucket_versions.specs.declared.row.Row.{Row}
-use Rattle.world_sums.specs.declared.sums.Sums.{Sums}
+use Rattle.table_share.specs.declared.sums.Sums.{Sums}
 
 -- the sum of the keys of the points
 abbrev pub key_sum : List Placed → ℕ

@@ -15,8 +15,8 @@ use Rattle.plain_list.specs.World.{IsWorld}
 use Rattle.table_share.specs.Objects.{objects_of, placed_of}
 use Rattle.table_share.proofs.RowObjects.{objects-permutation}
 use Rattle.table_share.proofs.TableRows.{keys_fit, table_of}
-use Rattle.world_sums.specs.declared.sums.Sums.{Sums}
-use Rattle.world_sums.specs.Sums.{key_sum, sums_of, with_row}
+use Rattle.table_share.specs.declared.sums.Sums.{Sums}
+use Rattle.table_share.specs.Sums.{key_sum, sums_of, with_row}
 
 abbrev row_sum : List Row → ℕ
 row_sum rows = sum_by (λ (r : Row). r.key) rows

@@ -1,13 +1,13 @@
 //! Numbers of all objects.
 ghost use Rattle.std.specs.Prelude.{◌≡◌, ◌+◌, length};
 ghost use Rattle.table_share.specs.Worlds.{OfEachWorld};
-ghost use Rattle.world_sums.specs.Sums.{sums_of, with_row};
+ghost use Rattle.table_share.specs.Sums.{sums_of, with_row};
 
+use crate::folds::for_rows;
 use bucket_versions::Row;
 use index_layer::Index;
 use std::sync::ledger::Ledger;
 use step_count::Steps;
-use table_share::for_rows;
 
 /// How many objects there are, and the sum of the keys of their points modulo 2^64.
 #[derive(Clone, Copy, Debug, PartialEq, Eq)]
