@@ -1,4 +1,4 @@
-use Rattle.std.proofs.Common.{◌≡◌, ◌∙◌, ◌+◌, ◌≤◌, List, Some, length, map, sym, ap, subst}
+use Rattle.std.proofs.Common.{◌≡◌, ◌∙◌, ◌+◌, ◌≤◌, List, Some, length, map, sym, ap, subst, rules}
 use Rattle.std.specs.Arc.{arc_value}
 use Rattle.std.specs.List.{AllByRecursion}
 use Rattle.std.proofs.lemmas.List.{length-map}
@@ -64,3 +64,20 @@ invariant_of-self-2 g c =
           ∙ crowded_of-divided w size name rows leaves short (g.met.I.Index.are_leaves inside.index).tile tiled (named_has name leaves leaf named)
           ∙ ap (crowded_of w size) (sym after);
     }
+
+pub returns-clause-divides : goal.returns-clause-divides
+returns-clause-divides g c =
+    let w = g.I.Index.WIDTH in
+    let leaves = g.I.Index.leaves c.self.inside.index in
+    let name = c.args.name.now in
+    let leaf : Leaf = record { name = name; bucket = arc_value c.in-Some.bucket.now } in
+    let named : leaf_named name leaves ≡ Some leaf = rw (← c.self.view_is) at c.in-Some.ensures in
+    let are_cut = c.in_ok-children.ensures ∙ (λ i. cut (c.WIDTH.ensures i) name (c.deref.ensures i).rows) in
+    let after = c.in_ok-divide.ensures.ok ∙ ap (λ (b : List Rows). split w name b leaves) (ap (map arc_value) c.deref-3.ensures.value ∙ are_cut) in
+    rw (← c.self.view_is) (record { leaf = leaf; named = named; short = c.requires.leaf.short; leaves = after })
+
+pub returns-clause-rest : goal.returns-clause-rest
+returns-clause-rest g c = search rules
+
+pub returns-clause-told : goal.returns-clause-told
+returns-clause-told g c = c.in_ok-divide.ensures.told
