@@ -1,4 +1,4 @@
-use Rattle.std.proofs.Common.{◌≡◌, ◌∙◌, Some, sym, ap, subst}
+use Rattle.std.proofs.Common.{◌≡◌, ◌∙◌, Some, sym, ap, subst, rules}
 use Rattle.std.specs.Arc.{arc_value}
 use Rattle.std.specs.List.{AllByRecursion}
 use Rattle.bucket_versions.specs.Rows.{Rows, as_base}
@@ -48,3 +48,9 @@ returns-clause-folds g c =
     let folded : arc_value c.in_ok-folded.folded ≡ as_base leaf.bucket.rows = c.in_ok-folded.ensures ∙ ap (λ (b : Rows). as_base b.rows) c.deref.ensures in
     let after = c.in_ok-replace.ensures.ok ∙ ap (λ (b : Rows). replaced name b leaves) (c.in_ok-shared.ensures ∙ folded) in
     rw (← c.self.view_is) (record { leaf = leaf; named = named; bucket_is = folded; leaves = after })
+
+pub returns-clause-rest : goal.returns-clause-rest
+returns-clause-rest g c = search rules
+
+pub returns-clause-told : goal.returns-clause-told
+returns-clause-told g c = c.in_ok-replace.ensures.told

@@ -1,14 +1,16 @@
-use Rattle.std.proofs.Common.{◌≡◌, true, false, List, Some, None, refl, sym, ap, ◌∙◌, subst, if◌then◌else◌}
+use Rattle.std.proofs.Common.{◌≡◌, true, false, List, Some, None, Ok, Err, refl, sym, ap, ◌∙◌, subst, if◌then◌else◌}
 use Rattle.std.specs.Option.{option_map_or}
 use Rattle.std.specs.List.{AllByRecursion}
 use Rattle.zorder.specs.Key.{key_of}
 use Rattle.zorder.specs.declared.points.Placed.{Placed}
 use Rattle.index_layer.specs.Stands.{HasRowsOf}
 use Rattle.plain_list.specs.declared.ops.Op.TheVariants.{Put}
+use Rattle.plain_list.specs.declared.ops.Answer.{Answer}
 use Rattle.plain_list.specs.declared.ops.Answer.TheVariants.{Done, Present, Full}
 use Rattle.plain_list.specs.World.{place_of, is_full}
 use Rattle.plain_list.specs.Answer.{with_member, with_moved, without, is_change}
 use Rattle.point_table.specs.Splits.{splits_of}
+use Rattle.point_table.specs.Updates.{TellsIf}
 use Rattle.point_table.proofs.TableSteps.{row_absent}
 use Rattle.point_table.proofs.RowSteps.{if_some, put_after}
 use Rattle.point_table.proofs.MemberSteps.{without-with_member, with_moved-back}
@@ -107,3 +109,32 @@ returns-in-Ok-clause-ok g c =
     rw (← c.self.view_is)
     (updates_some (splits_of c.args.begun.now) _ _ (Put id c.args.at) Done (put-done inside.members id c.args.at none (rw (← c.self.view_is) at room)) refl
     (record { world = added; bases = it.bases; settled = it.settled; size = refl }))
+
+pub returns-in-Ok-clause-told : goal.returns-in-Ok-clause-told
+returns-in-Ok-clause-told g c =
+    let inside = c.self.inside in
+    let none : place_of inside.members c.args.id ≡ None = sym c.in_ok-place.ensures.found ∙ c.in_default.is in
+    let room : is_full c.args.self.now.world ≡ false = sym c.is_full.ensures ∙ c.if-is_full.false in
+    let is = put-done inside.members c.args.id c.args.at none (rw (← c.self.view_is) at room) in
+    rw (← c.self.view_is)
+    (subst (λ (a : Answer). TellsIf {A = Answer} g.C.Commit.done g.C.Commit.lost (is_change a) c.args.commit.now c.put_row.new.commit (Ok Done)) is c.in-Ok.ensures.told)
+
+pub returns-in-Err-clause-told : goal.returns-in-Err-clause-told
+returns-in-Err-clause-told g c =
+    let inside = c.self.inside in
+    let none : place_of inside.members c.args.id ≡ None = sym c.in_ok-place.ensures.found ∙ c.in_default.is in
+    let room : is_full c.args.self.now.world ≡ false = sym c.is_full.ensures ∙ c.if-is_full.false in
+    let is = put-done inside.members c.args.id c.args.at none (rw (← c.self.view_is) at room) in
+    rw (← c.self.view_is)
+    (subst (λ (a : Answer). TellsIf {A = Answer} g.C.Commit.done g.C.Commit.lost (is_change a) c.args.commit.now c.put_row.new.commit (Err c.in-Err.undone)) is c.in-Err.ensures.told)
+
+pub returns-in-Some-clause-told : goal.returns-in-Some-clause-told
+returns-in-Some-clause-told g c =
+    let there : place_of c.self.inside.members c.args.id ≡ Some c.in-Some.place = sym c.in_ok-place.ensures.found ∙ c.in-Some.is in
+    rw (← c.self.view_is, there) refl
+
+pub returns-then-is_full-clause-told : goal.returns-then-is_full-clause-told
+returns-then-is_full-clause-told g c =
+    let world = c.args.self.now.world in
+    let full : is_full world ≡ true = sym c.is_full.ensures ∙ c.if-is_full.true in
+    rw (put-full world c.args.id c.args.at full) refl

@@ -1,9 +1,11 @@
-use Rattle.std.proofs.Common.{◌≡◌, ◌∙◌, ℕ, zero, suc, ◌+◌, ◌++◌, List, [], ◌∷◌, Some, slice_get, map, take, add-one, sym, ap}
-use Rattle.std.proofs.lemmas.List.{map-append}
+use Rattle.std.proofs.Common.{◌≡◌, ◌∙◌, ℕ, zero, suc, ◌+◌, ◌++◌, List, [], ◌∷◌, Some, slice_get, get_or, length, map, option_map, take, add-one, sym, ap, arith}
+use Rattle.std.proofs.lemmas.List.{map-append, take_all}
+use Rattle.std.proofs.lemmas.Option.{slice_get-map, get_or_from_slice_get}
 use Rattle.std.specs.Arc.{arc_value}
 use Rattle.zorder.specs.Tile.{children}
 use Rattle.bucket_versions.specs.Rows.{Rows}
 use Rattle.split_prepare.specs.Cut.{cut, cut_out}
+use Rattle.point_table.proofs.Dividing.{length-cut}
 use Rattle.point_table.proofs.table.splits.caught_up.Goals as goal
 
 -- one item more, of those that a function gives
@@ -25,3 +27,22 @@ loop-place-preserved c =
     ∙ map-append arc_value c.loop-place.buckets.items (c.in_ok-child_now.field-0 ∷ [])
     ∙ (λ i. c.loop-place.invariant i ++ c.in_ok-child_now.ensures i ∷ [])
     ∙ sym more
+
+pub returns : goal.returns
+returns c =
+    let w = c.args.width in
+    let name = c.args.name.now in
+    let all = cut w name c.args.from.now.rows in
+    let count = length-cut w name c.args.from.now.rows in
+    let parts = ap length c.requires.cut ∙ length-cut w name c.args.from.now.base in
+    c.loop-place.invariant ∙ take_all c.loop-place.place all (omega arith)
+
+pub child_now-requires : goal.child_now-requires
+child_now-requires c =
+    let f = cut_out c.args.from.now.base in
+    let place : ℕ = c.loop-place.place in
+    let part = c.index-parts-place.result in
+    let there = slice_get-map f (children c.args.width c.args.name.now) place ∙ ap (option_map f) c.child_at-child.ensures in
+    c.index-parts-place.is
+    ∙ ap (λ (all : List Rows). get_or all place part) c.requires.cut
+    ∙ get_or_from_slice_get (map f (children c.args.width c.args.name.now)) place (f c.child_at-child.result) part there
