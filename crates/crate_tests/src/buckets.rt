@@ -1,6 +1,7 @@
 //! Worked values of a bucket's calls.
 ghost use Rattle.std.specs.Prelude.{◌≡◌, [], ◌∷◌};
 
+use crate::checks::same_rows;
 use bucket_versions::{Bucket, BucketFault, Row};
 use std::alloc::Global;
 use std::marker::Brand;
@@ -54,9 +55,9 @@ fn three_rows(rt: &impl Abort, alloc: Global) -> Bucket {
         .expect(rt, "it failed")
 }
 
-// How many rows a bucket has, how long its delta is, and whether it has this row.
-fn tells(bucket: &Bucket, row: &Row) -> (u64, u64, bool) {
-    (bucket.count(), bucket.delta_len(), bucket.holds(row))
+// Fails unless a bucket has so many rows and so long a delta, and this row or not.
+fn expect_told(rt: &impl Abort, bucket: &Bucket, row: Row, wanted: (u64, u64, bool)) {
+    assert_same!(rt; (bucket.count(), bucket.delta_len(), bucket.holds(&row)), wanted);
 }
 
 // How long the delta is behind a put or a removal.
@@ -67,17 +68,25 @@ fn delta_behind(bucket: Result<Bucket, BucketFault>) -> Result<u64, BucketFault>
     }
 }
 
+fn expect_delta(
+    rt: &impl Abort,
+    bucket: Result<Bucket, BucketFault>,
+    wanted: Result<u64, BucketFault>,
+) {
+    assert_same!(rt; delta_behind(bucket), wanted);
+}
+
 fn expect_folded(rt: &impl Abort, bucket: &Bucket, rows: &[Row]) {
     let folded = bucket.folded().expect(rt, "it failed");
-    assert_same!(rt; folded.base_rows(), rows);
+    same_rows(rt, folded.base_rows(), rows);
 }
 
 // `c` is `b` with a put.
 fn keeps_the_base(rt: &impl Abort, b: &Bucket, c: &Bucket) {
-    assert_same!(rt; delta_behind(b.with_put(row(27, 7))), Err(BucketFault::Present));
-    assert_same!(rt; c.base_rows(), TWO.as_slice());
-    assert_same!(rt; tells(c, &row(2, 4)), (3, 1, true));
-    assert_same!(rt; tells(b, &row(2, 4)), (2, 0, false));
+    expect_delta(rt, b.with_put(row(27, 7)), Err(BucketFault::Present));
+    same_rows(rt, c.base_rows(), &TWO);
+    expect_told(rt, c, row(2, 4), (3, 1, true));
+    expect_told(rt, b, row(2, 4), (2, 0, false));
 }
 
 fn takes_a_put(rt: &impl Abort, b: &Bucket) {
@@ -94,16 +103,16 @@ fn a_put_keeps_the_base_and_folding_moves_it(rt: HostRuntime) {
 
 // `d` is `c` without a row.
 fn keeps_the_other_rows(rt: &impl Abort, c: &Bucket, d: &Bucket) {
-    assert_same!(rt; delta_behind(c.with_gone(row(2, 4))), Ok(0));
-    assert_same!(rt; tells(d, &row(27, 7)), (2, 2, false));
-    assert_same!(rt; delta_behind(d.with_put(row(27, 7))), Ok(1));
-    assert_same!(rt; d.base_rows(), TWO.as_slice());
+    expect_delta(rt, c.with_gone(row(2, 4)), Ok(0));
+    expect_told(rt, d, row(27, 7), (2, 2, false));
+    expect_delta(rt, d.with_put(row(27, 7)), Ok(1));
+    same_rows(rt, d.base_rows(), &TWO);
     expect_folded(rt, d, &THREE[..2]);
 }
 
 fn refuses_an_absent_row(rt: &impl Abort, alloc: Global) {
     let b = two_rows(rt, alloc);
-    assert_same!(rt; delta_behind(b.with_gone(row(2, 1))), Err(BucketFault::Absent));
+    expect_delta(rt, b.with_gone(row(2, 1)), Err(BucketFault::Absent));
 }
 
 fn takes_a_removal(rt: &impl Abort, c: &Bucket) {
@@ -126,7 +135,8 @@ fn caught_up(rt: &impl Abort, alloc: Global) -> Bucket {
 }
 
 fn expect_late(rt: &impl Abort, late: &Bucket) {
-    assert_same!(rt; (late.base_rows(), late.count()), (&THREE[1..], 2));
+    same_rows(rt, late.base_rows(), &THREE[1..]);
+    assert_same!(rt; late.count(), 2);
 }
 
 #[test]

@@ -1,6 +1,7 @@
 //! The format's worked spellings, and what spells nothing.
 ghost use Rattle.std.specs.Prelude.{◌≤◌, length};
 
+use crate::checks::same_bytes;
 use cell_format::{Cell, CellFault, decode, encode, header};
 use std::process::Abort;
 use zorder::{Name, Point};
@@ -16,7 +17,7 @@ fn padded(front: &[u8]) -> [u8; 32]
 
 #[test]
 fn a_header_is_the_word_the_version_and_the_width(rt: HostRuntime) {
-    assert_same!(rt; header(1), *b"MDLOCLOG\x01\x01\0\0\0\0\0\0");
+    same_bytes(&rt, &header(1), b"MDLOCLOG\x01\x01\0\0\0\0\0\0");
 }
 
 // What these bytes and zeros behind them spell.
@@ -27,10 +28,14 @@ fn decoded(rt: &impl Abort, front: &[u8]) -> Result<Cell, CellFault> {
     decode(&bytes)
 }
 
+fn expect_decoded(rt: &impl Abort, front: &[u8], wanted: Result<Cell, CellFault>) {
+    assert_same!(rt; decoded(rt, front), wanted);
+}
+
 fn expect_spelling(rt: &impl Abort, cell: &Cell, front: &[u8]) {
     assert!(rt; front.len() <= 32);
-    assert_same!(rt; encode(cell), padded(front));
-    assert_same!(rt; decoded(rt, front), Ok(*cell));
+    same_bytes(rt, &encode(cell), &padded(front));
+    expect_decoded(rt, front, Ok(*cell));
 }
 
 const AT: Point = Point { x: 3, y: 5 };
@@ -102,6 +107,6 @@ const FAULTS: &[(&[u8], CellFault)] = &[
 #[test]
 fn the_first_fault_is_answered(rt: HostRuntime) {
     for (front, fault) in FAULTS {
-        assert_same!(rt; decoded(&rt, front), Err(*fault));
+        expect_decoded(&rt, front, Err(*fault));
     }
 }

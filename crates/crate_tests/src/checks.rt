@@ -1,4 +1,5 @@
 //! Assertions as calls, for shorter proofs of the tests that make them.
+use bucket_versions::Row;
 use std::fmt::Debug;
 use std::process::Abort;
 
@@ -14,7 +15,12 @@ pub fn same<T: PartialEq + Debug>(rt: &impl Abort, left: &T, right: &T, compared
     assert_eq!(rt; left, right, "{compared}");
 }
 
+/// Ends the test unless these are the same rows.
+pub fn same_rows(rt: &impl Abort, left: &[Row], right: &[Row]) {
+    same(rt, &left, &right, "the rows");
+}
+
 /// Ends the test unless these are the same bytes.
 pub fn same_bytes(rt: &impl Abort, left: &[u8], right: &[u8]) {
-    assert_eq!(rt; left, right);
+    same(rt, &left, &right, "the bytes");
 }

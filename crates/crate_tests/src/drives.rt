@@ -3,13 +3,12 @@ use disk_mem::{DiskCall, Fail as Failing, MemDisk, PickFault};
 use disk_trait::{AttachFault, DiskFault, LogDisk};
 use std::alloc::Global;
 use std::process::Abort;
-use zorder::Memory;
 
 // A drive with the bytes 5 and 6, room for 8 bytes and for 8 calls, where these fail.
-fn two_bytes(alloc: Global, failing: &[Failing]) -> Result<MemDisk, Memory> {
-    let bytes = Vec::from_slice(alloc, &[5, 6])?;
-    let failing = Vec::from_slice(alloc, failing)?;
-    MemDisk::new(alloc, bytes, 8, 8, failing)
+fn two_bytes(rt: &impl Abort, alloc: Global, failing: &[Failing]) -> MemDisk {
+    let bytes = Vec::from_slice(alloc, &[5, 6]).expect(rt, "no memory");
+    let failing = Vec::from_slice(alloc, failing).expect(rt, "no memory");
+    MemDisk::new(alloc, bytes, 8, 8, failing).expect(rt, "no drive")
 }
 
 fn may_be_sent<T: Send>() {}
@@ -49,13 +48,17 @@ const IMAGES: &[Image] = &[
     (3, 0, 1, &[1, 1]),
 ];
 
-#[test]
-fn bytes_of_a_write_are_any_until_its_sync(rt: HostRuntime) {
-    let mut disk = two_bytes(rt.alloc(), &[]).expect(&rt, "it failed");
-    assert_same!(rt; write_twice(&mut disk), Ok(()));
-    expect_images(&rt, &disk, IMAGES);
+fn is_not_picked_above_the_clock(rt: &impl Abort, disk: &MemDisk) {
     let behind = PickFault::NoMoment { moments: 3 };
     assert_same!(rt; disk.pick(4, 9, &[0]).err(), Some(behind));
+}
+
+#[test]
+fn bytes_of_a_write_are_any_until_its_sync(rt: HostRuntime) {
+    let mut disk = two_bytes(&rt, rt.alloc(), &[]);
+    write_twice(&mut disk).expect(&rt, "it failed");
+    expect_images(&rt, &disk, IMAGES);
+    is_not_picked_above_the_clock(&rt, &disk);
 }
 
 fn cut<D: LogDisk>(disk: &mut D) -> Result<(), DiskFault> {
@@ -66,8 +69,8 @@ const LENGTHS: &[Image] = &[(1, 0, 9, &[]), (1, 1, 9, &[9]), (1, 9, 9, &[9, 9])]
 
 #[test]
 fn a_cut_may_leave_each_length(rt: HostRuntime) {
-    let mut disk = two_bytes(rt.alloc(), &[]).expect(&rt, "it failed");
-    assert_same!(rt; cut(&mut disk), Ok(()));
+    let mut disk = two_bytes(&rt, rt.alloc(), &[]);
+    cut(&mut disk).expect(&rt, "it failed");
     expect_images(&rt, &disk, LENGTHS);
 }
 
@@ -152,7 +155,7 @@ fn fails_by_kind_and_number<D: LogDisk>(rt: &impl Abort, disk: &mut D, alloc: Gl
 
 #[test]
 fn calls_fail_by_kind_and_number(rt: HostRuntime) {
-    let mut disk = two_bytes(rt.alloc(), FAILING).expect(&rt, "it failed");
+    let mut disk = two_bytes(&rt, rt.alloc(), FAILING);
     fails_by_kind_and_number(&rt, &mut disk, rt.alloc());
     expect_image(&rt, &disk, 5, 8, 3, &[3; 8]);
 }

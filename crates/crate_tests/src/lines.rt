@@ -59,9 +59,14 @@ fn how_many(alloc: Global, text: &[u8]) -> Result<usize, RowsFault> {
     Ok(rows.as_slice().len())
 }
 
-// How many rows there are behind the header.
-fn how_many_behind(rt: &impl Abort, alloc: Global, rows: &[u8]) -> Result<usize, RowsFault> {
-    how_many(alloc, with_header(rt, alloc, rows).as_slice())
+fn expect_many(rt: &impl Abort, alloc: Global, text: &[u8], wanted: Result<usize, RowsFault>) {
+    assert_same!(rt; how_many(alloc, text), wanted);
+}
+
+// Fails unless the rows behind the header are refused for this.
+fn expect_refused(rt: &impl Abort, alloc: Global, rows: &[u8], fault: RowsFault) {
+    let text = with_header(rt, alloc, rows);
+    expect_many(rt, alloc, text.as_slice(), Err(fault));
 }
 
 fn with_header(rt: &impl Abort, alloc: Global, rows: &[u8]) -> Vec<u8> {
@@ -159,9 +164,9 @@ const NO_HEADERS: &[&[u8]] = &[
 #[test]
 fn the_header_is_the_first_record_behind_one_mark(rt: HostRuntime) {
     for text in NO_HEADERS {
-        assert_same!(rt; how_many(rt.alloc(), text), Err(RowsFault::Header));
+        expect_many(&rt, rt.alloc(), text, Err(RowsFault::Header));
     }
-    assert_same!(rt; how_many(rt.alloc(), b"session,op,id,x,y,a,b"), Ok(0));
+    expect_many(&rt, rt.alloc(), b"session,op,id,x,y,a,b", Ok(0));
 }
 
 const FAULTS: &[(&[u8], u32, u8)] = &[
@@ -191,7 +196,7 @@ const FAULTS: &[(&[u8], u32, u8)] = &[
 fn the_leftmost_column_of_the_first_row_at_fault_is_named(rt: HostRuntime) {
     for (rows, row, column) in FAULTS {
         let (row, column) = (*row, *column);
-        assert_same!(rt; how_many_behind(&rt, rt.alloc(), rows), Err(RowsFault::Field { row, column }));
+        expect_refused(&rt, rt.alloc(), rows, RowsFault::Field { row, column });
     }
 }
 
@@ -203,7 +208,7 @@ const LENGTHS: &[(&[u8], u32)] = &[
 #[test]
 fn a_row_of_six_or_eight_fields_is_named(rt: HostRuntime) {
     for (rows, row) in LENGTHS {
-        assert_same!(rt; how_many_behind(&rt, rt.alloc(), rows), Err(RowsFault::Csv { row: *row }));
+        expect_refused(&rt, rt.alloc(), rows, RowsFault::Csv { row: *row });
     }
 }
 
@@ -219,9 +224,9 @@ fn many_rows(rt: &impl Abort, alloc: Global) -> Vec<u8> {
 #[test]
 fn the_record_behind_65536_rows_is_one_too_many(rt: HostRuntime) {
     let mut text = many_rows(&rt, rt.alloc());
-    assert_same!(rt; how_many(rt.alloc(), text.as_slice()), Ok(65_536));
+    expect_many(&rt, rt.alloc(), text.as_slice(), Ok(65_536));
     add(&rt, &mut text, b"x\n");
-    assert_same!(rt; how_many(rt.alloc(), text.as_slice()), Err(RowsFault::TooMany));
+    expect_many(&rt, rt.alloc(), text.as_slice(), Err(RowsFault::TooMany));
 }
 
 const NUMBERS: &[(&[u8], u64, Option<u64>)] = &[

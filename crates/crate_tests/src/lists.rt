@@ -67,9 +67,9 @@ fn calls_of(rt: &impl Abort, alloc: Global, rows: &[Row]) -> Vec<Call> {
 }
 
 // Whether these calls are legal, in this order.
-fn are_legal(rt: &impl Abort, alloc: Global, rows: &[Row]) -> Result<bool, Memory> {
+fn are_legal(rt: &impl Abort, alloc: Global, rows: &[Row]) -> bool {
     let calls = calls_of(rt, alloc, rows);
-    is_legal(alloc, &World::empty(alloc), calls.as_slice())
+    is_legal(alloc, &World::empty(alloc), calls.as_slice()).expect(rt, "no memory")
 }
 
 const WORKED: &[Row] = &[
@@ -85,7 +85,7 @@ const WORKED: &[Row] = &[
 
 #[test]
 fn the_worked_calls_have_their_answers(rt: HostRuntime) {
-    assert_same!(rt; are_legal(&rt, rt.alloc(), WORKED), Ok(true));
+    assert_is!(rt; are_legal(&rt, rt.alloc(), WORKED));
 }
 
 const TIES: &[Row] = &[
@@ -113,7 +113,7 @@ const TIES: &[Row] = &[
 
 #[test]
 fn ties_go_to_the_lesser_id_and_boxes_have_both_corners(rt: HostRuntime) {
-    assert_same!(rt; are_legal(&rt, rt.alloc(), TIES), Ok(true));
+    assert_is!(rt; are_legal(&rt, rt.alloc(), TIES));
 }
 
 // A put of session 1, and a find of session 2 that isn't told of it.
@@ -124,7 +124,7 @@ const UNTOLD: &[Row] = &[
 
 #[test]
 fn absent_after_a_put_is_not_legal(rt: HostRuntime) {
-    assert_same!(rt; are_legal(&rt, rt.alloc(), UNTOLD), Ok(false));
+    assert_is!(rt; !are_legal(&rt, rt.alloc(), UNTOLD));
 }
 
 fn count_of(answer: &Answer) -> (usize, u64) {
@@ -137,10 +137,10 @@ fn count_of(answer: &Answer) -> (usize, u64) {
 
 const BOX: Op = within!(ORIGIN, Point { x: 9, y: 9 });
 
-// What a box answers of a world whose objects are all in it.
-fn count_in_a_box(alloc: Global, world: &World) -> Result<(usize, u64), Memory> {
-    let answer = answer(alloc, world, &BOX)?;
-    Ok(count_of(&answer))
+// Fails unless a box lists and counts so many of a world whose objects are all in it.
+fn expect_in_a_box(rt: &impl Abort, alloc: Global, world: &World, wanted: (usize, u64)) {
+    let answer = answer(alloc, world, &BOX).expect(rt, "no memory");
+    assert_same!(rt; count_of(&answer), wanted);
 }
 
 // So many objects at one point.
@@ -159,7 +159,7 @@ fn expect_last(rt: &impl Abort, world: &World) {
 
 fn lists_and_counts(rt: &impl Abort, alloc: Global) {
     let world = world_of(alloc, 2048).expect(rt, "it failed");
-    assert_same!(rt; count_in_a_box(alloc, &world), Ok((2048, 0)));
+    expect_in_a_box(rt, alloc, &world, (2048, 0));
     let world = next(
         world,
         &Op::Put {
@@ -168,7 +168,7 @@ fn lists_and_counts(rt: &impl Abort, alloc: Global) {
         },
     )
     .expect(rt, "it failed");
-    assert_same!(rt; count_in_a_box(alloc, &world), Ok((0, 2049)));
+    expect_in_a_box(rt, alloc, &world, (0, 2049));
     expect_last(rt, &world);
 }
 

@@ -3,6 +3,7 @@ ghost use Rattle.std.specs.Prelude.{◌≡◌, [], IfOk};
 ghost use Rattle.std.specs.Arc.{arc_value};
 ghost use Rattle.bucket_versions.specs.Under.{AreUnder};
 
+use crate::checks::same_rows;
 use bucket_versions::{Bucket, Row};
 use split_prepare::{Prepared, SplitTicket, prepare};
 use std::alloc::Global;
@@ -48,19 +49,15 @@ fn expect_children(rt: &impl Abort, prepared: &Prepared, wanted: &[&[Row]]) {
 }
 
 fn expect_child(rt: &impl Abort, child: &Bucket, rows: &[Row]) {
-    expect_rows(rt, child.base_rows(), rows);
+    same_rows(rt, child.base_rows(), rows);
     assert_same!(rt; child.count(), rows.len() as u64);
-}
-
-fn expect_rows(rt: &impl Abort, rows: &[Row], wanted: &[Row]) {
-    assert_same!(rt; rows, wanted);
 }
 
 const BASE: &[Row] = &[Row { key: 1, id: 9 }, Row { key: 27, id: 7 }];
 
 fn expect_head(rt: &impl Abort, prepared: &Prepared) {
     assert_same!(rt; (prepared.number(), prepared.name()), (5, Name::whole()));
-    expect_rows(rt, prepared.base_rows(), BASE);
+    same_rows(rt, prepared.base_rows(), BASE);
 }
 
 // A split into two, of a bucket that has a row behind its base.

@@ -66,22 +66,32 @@ fn is_too_long<S: Source>(alloc: Global, source: &mut S, most: usize) -> Option<
     }
 }
 
-// How many bytes a read gives, where it doesn't fail.
-fn read<S: Source>(source: &mut S, into: &mut [u8]) -> Option<usize> {
-    source.read(into).ok()
+fn expect_fault<S: Source>(
+    rt: &impl Abort,
+    alloc: Global,
+    source: &mut S,
+    most: usize,
+    too_long: bool,
+) {
+    assert_same!(rt; is_too_long(alloc, source, most), Some(too_long));
+}
+
+// Fails unless a read gives so many bytes, or fails where it is to.
+fn expect_read<S: Source>(rt: &impl Abort, source: &mut S, into: &mut [u8], wanted: Option<usize>) {
+    assert_same!(rt; source.read(into).ok(), wanted);
 }
 
 #[test]
 fn a_source_in_memory_is_read_to_its_end(rt: HostRuntime) {
     let mut source = source_of(&rt, rt.alloc(), b"id,x,y", &[]);
     expect_all(&rt, rt.alloc(), &mut source, 6, b"id,x,y");
-    assert_same!(rt; read(&mut source, &mut [0; 4]), Some(0));
+    expect_read(&rt, &mut source, &mut [0; 4], Some(0));
 }
 
 fn is_longer_than_4<S: Source>(rt: &impl Abort, alloc: Global, source: &mut S) {
-    assert_same!(rt; is_too_long(alloc, source, 4), Some(true));
+    expect_fault(rt, alloc, source, 4, true);
     let mut rest = [0; 4];
-    assert_same!(rt; read(source, &mut rest), Some(2));
+    expect_read(rt, source, &mut rest, Some(2));
     same_bytes(rt, &rest, b"67\0\0");
 }
 
@@ -97,10 +107,10 @@ fn one_byte_above_the_bound_is_too_long(rt: HostRuntime) {
 fn fails_at_2_and_4<S: Source>(rt: &impl Abort, alloc: Global, source: &mut S) {
     let mut into = [0; 2];
     for told in [Some(2), None, Some(1)] {
-        assert_same!(rt; read(source, &mut into), told);
+        expect_read(rt, source, &mut into, told);
     }
     same_bytes(rt, &into, b"cb");
-    assert_same!(rt; is_too_long(alloc, source, usize::MAX), Some(false));
+    expect_fault(rt, alloc, source, usize::MAX, false);
 }
 
 #[test]
@@ -158,8 +168,8 @@ fn a_reader_of_short_reads_is_read_whole(rt: HostRuntime) {
 #[test]
 fn a_reader_that_fails_in_mid_stream_is_a_source_fault(rt: HostRuntime) {
     let mut source = counting_down(2);
-    assert_same!(rt; is_too_long(rt.alloc(), &mut source, 100), Some(false));
-    assert_same!(rt; read(&mut source, &mut [0; 4]), None);
+    expect_fault(&rt, rt.alloc(), &mut source, 100, false);
+    expect_read(&rt, &mut source, &mut [0; 4], None);
 }
 
 #[test]

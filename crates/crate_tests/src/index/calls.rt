@@ -9,7 +9,7 @@ use index_layer::{Index, IndexFault, Part};
 use kd_trie::KdTrie;
 use std::alloc::Global;
 use std::process::Abort;
-use zorder::{Memory, Name, child};
+use zorder::{Name, child};
 
 fn halves<I: Index>(rt: &impl Abort, alloc: Global) -> I
     requires { I.WIDTH ≡ 1 }
@@ -38,11 +38,12 @@ fn has_their_parts<I: Index>(rt: &impl Abort, index: &I) {
     assert_is!(rt; matches!(index.part(&quarter), Part::Outside));
 }
 
-// Whether no bucket is put where no leaf has the name.
-fn refuses_a_quarter<I: Index>(alloc: Global, index: &I) -> Result<bool, Memory> {
+// No bucket is put where no leaf has the name.
+fn refuses_a_quarter<I: Index>(rt: &impl Abort, alloc: Global, index: &I) {
     let quarter = child(&child(&Name::whole(), false), false);
-    let refused = index.replaced(&quarter, empty(alloc)?);
-    Ok(matches!(refused.err(), Some(IndexFault::NoLeaf { name: _ })))
+    let bucket = empty(alloc).expect(rt, "no rows");
+    let refused = index.replaced(&quarter, bucket).err();
+    assert_is!(rt; matches!(refused, Some(IndexFault::NoLeaf { name: _ })));
 }
 
 // How many rows the leaf of a key has, and its base.
@@ -69,14 +70,17 @@ fn answers_the_worked_calls<I: Index>(rt: &impl Abort, alloc: Global)
     let index = halves::<I>(rt, alloc);
     has_two_leaves(rt, &index);
     has_their_parts(rt, &index);
-    assert_same!(rt; refuses_a_quarter(alloc, &index), Ok(true));
+    refuses_a_quarter(rt, alloc, &index);
     has_three_rows(rt, &index, &filled(rt, alloc, &index));
 }
 
 fn keeps_what_is_shared<I: Index>(rt: &impl Abort, alloc: Global) {
     let mut index = one_empty_leaf::<I>(alloc).expect(rt, "it failed");
     let before = index.share().expect(rt, "it failed");
-    assert_same!(rt; index.put_row(change(27, 7, false), &mut AtOnce), Ok(1));
+    let rows = index
+        .put_row(change(27, 7, false), &mut AtOnce)
+        .expect(rt, "it failed");
+    assert_same!(rt; rows, 1);
     assert_same!(rt; (sizes(&index, 27).0, sizes(&before, 27).0), (1, 0));
 }
 

@@ -97,7 +97,7 @@ const CHANGED: &[(Change, (u64, u64))] = &[
 
 fn expect_changed<I: Index>(rt: &impl Abort, index: &mut I) {
     for (change, sizes) in CHANGED {
-        assert_same!(rt; make(index, *change), Ok(true));
+        assert_is!(rt; make(index, *change).expect(rt, "it failed"));
         assert_same!(rt; first_leaf(index), *sizes);
     }
 }
@@ -190,7 +190,8 @@ fn keeps_its_rows_through_many_changes<I: Index>(rt: &impl Abort, alloc: Global)
     let mut index = halves::<I>(alloc).expect(rt, "it failed");
     put_all(&mut index).expect(rt, "it failed");
     let before = index.share().expect(rt, "it failed");
-    assert_same!(rt; move_many(&mut index), Ok(CHANGES));
+    let moved = move_many(&mut index).expect(rt, "it failed");
+    assert_same!(rt; moved, CHANGES);
     expect_rows(rt, &before, &index);
 }
 

@@ -1,6 +1,7 @@
 //! Queries of an index through the trait's bound.
 ghost use Rattle.std.specs.Prelude.{◌≡◌};
 
+use crate::checks::same_rows;
 use crate::index::asks::{expect_box, expect_near};
 use crate::index::buckets::{halves, three_rows};
 use crate::index::spread::{finds_each_corner, ranks_by_id_where_all_are_as_far};
@@ -39,10 +40,6 @@ const BOX: Region = Region {
 
 const LATER_ROWS: &[Row] = &[Row { key: 2, id: 4 }, Row { key: 27, id: 7 }];
 
-fn expect_rows(rt: &impl Abort, rows: &Vec<Row>) {
-    assert_same!(rt; rows.as_slice(), LATER_ROWS);
-}
-
 fn answers_rows<I: Index, L: Ledger>(
     rt: &impl Abort,
     alloc: Global,
@@ -51,7 +48,7 @@ fn answers_rows<I: Index, L: Ledger>(
 ) {
     assert_same!(rt; last_id(index, steps), 7);
     let rows = scan(alloc, index, 2, 27, steps).expect(rt, "a scan");
-    expect_rows(rt, &rows);
+    same_rows(rt, rows.as_slice(), LATER_ROWS);
 }
 
 fn last_id<I: Index, L: Ledger>(index: &I, steps: &mut Steps<L>) -> u64 {

@@ -1,7 +1,7 @@
 //! Logs over a file of the machine, and behind a tail that was cut off.
 use crate::folder::expect_taken_away;
 use crate::logs::appends::{append_in, append_to};
-use crate::logs::fixtures::{Found, ONE_CELL, PUT_7, found, log_of};
+use crate::logs::fixtures::{Found, ONE_CELL, PUT_7, expect_said, log_of};
 use cell_format::Cell;
 use disk_trait::LogDisk;
 use recovery::init;
@@ -45,7 +45,7 @@ fn goes_on(rt: &impl Abort, alloc: Global) {
 
 fn expect_two(rt: &impl Abort, alloc: Global, bytes: &[u8]) {
     assert_same!(rt; (bytes.len(), bytes.get(80).copied()), (81, Some(0)));
-    assert_same!(rt; found(rt, alloc, bytes, 16), Ok(TWO_CELLS));
+    expect_said(rt, alloc, bytes, 16, Ok(TWO_CELLS));
 }
 
 #[test]

@@ -36,11 +36,6 @@ pub type Found = ([u64; 3], (usize, bool), (usize, Option<Placed>));
 /// What a log of no cells says.
 pub const NOTHING: Found = ([0, 0, 0], (1, true), (0, None));
 
-/// What is found in a file with these bytes that is to hold a log of at most `most` cells.
-pub fn found(rt: &impl Abort, alloc: Global, bytes: &[u8], most: u64) -> Result<Found, OpenFault> {
-    found_on(alloc, &mut disk_of(rt, alloc, bytes, &[]), most)
-}
-
 fn found_on<D: LogDisk>(alloc: Global, disk: &mut D, most: u64) -> Result<Found, OpenFault> {
     match inspect(alloc, disk, 1, most) {
         Ok(seen) => Ok(said(&seen)),
@@ -58,6 +53,18 @@ fn said(seen: &Seen) -> Found {
     )
 }
 
+/// Fails unless this is found in a file with these bytes that is to hold a log of at most `most` cells.
+pub fn expect_said(
+    rt: &impl Abort,
+    alloc: Global,
+    bytes: &[u8],
+    most: u64,
+    wanted: Result<Found, OpenFault>,
+) {
+    let mut disk = disk_of(rt, alloc, bytes, &[]);
+    assert_same!(rt; found_on(alloc, &mut disk, most), wanted);
+}
+
 /// Fails unless this is found in a log of these cells with these bytes behind them.
 pub fn expect_found(
     rt: &impl Abort,
@@ -68,5 +75,5 @@ pub fn expect_found(
     wanted: Result<Found, OpenFault>,
 ) {
     let bytes = log_of(rt, alloc, cells, tail);
-    assert_same!(rt; found(rt, alloc, bytes.as_slice(), most), wanted);
+    expect_said(rt, alloc, bytes.as_slice(), most, wanted);
 }

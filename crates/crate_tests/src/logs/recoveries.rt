@@ -1,6 +1,6 @@
 //! What a log recovers to, and what is no log.
 use crate::checks::same_bytes;
-use crate::logs::fixtures::{AT, Found, NOTHING, PUT_7, expect_found, found, log_of};
+use crate::logs::fixtures::{AT, Found, NOTHING, PUT_7, expect_found, expect_said, log_of};
 use crate::memory::{EMPTY_LOG, disk_of};
 use cell_format::{Cause, Cell};
 use disk_trait::LogDisk;
@@ -33,7 +33,7 @@ fn expect_made(
 #[test]
 fn a_new_log_is_a_header_and_a_clear_commit_byte(rt: HostRuntime) {
     expect_made(&rt, rt.alloc(), b"MDLOC", None, EMPTY_LOG);
-    assert_same!(rt; found(&rt, rt.alloc(), EMPTY_LOG, 0), Ok(NOTHING));
+    expect_said(&rt, rt.alloc(), EMPTY_LOG, 0, Ok(NOTHING));
 }
 
 #[test]
@@ -51,11 +51,11 @@ fn opened_on<D: LogDisk>(rt: &impl Abort, alloc: Global, disk: D) -> (u64, u64, 
     (opened.seen.cells, cells, opened.log.give_back())
 }
 
-// How many cells are found in a file and how many its log has, how long the file is then, and its last byte.
-fn opened_in(rt: &impl Abort, alloc: Global, bytes: &[u8]) -> (u64, u64, usize, Option<u8>) {
+// Fails unless one cell is found in a file, its log has one, and the file is 49 bytes long then, of which the last is 77.
+fn expect_opened(rt: &impl Abort, alloc: Global, bytes: &[u8]) {
     let (found, cells, disk) = opened_on(rt, alloc, disk_of(rt, alloc, bytes, &[]));
     let held = disk.bytes();
-    (found, cells, held.len(), held.last().copied())
+    assert_same!(rt; (found, cells, held.len(), held.last().copied()), (1, 1, 49, Some(77)));
 }
 
 const ONE_PUT: Found = ([1, 0, 0], (1, true), (1, Some(Placed { id: 7, at: AT })));
@@ -69,9 +69,8 @@ fn torn_log(rt: &impl Abort, alloc: Global) -> Vec<u8> {
 
 fn cuts_the_tail_off(rt: &impl Abort, alloc: Global) {
     let torn = torn_log(rt, alloc);
-    assert_same!(rt; found(rt, alloc, torn.as_slice(), 1), Ok(ONE_PUT));
-    let opened = opened_in(rt, alloc, torn.as_slice());
-    assert_same!(rt; opened, (1, 1, 49, Some(77)));
+    expect_said(rt, alloc, torn.as_slice(), 1, Ok(ONE_PUT));
+    expect_opened(rt, alloc, torn.as_slice());
 }
 
 #[test]
@@ -102,11 +101,6 @@ const FAULTS: &[(&[u8], OpenFault)] = &[
     (&[], OpenFault::NotLog),
 ];
 
-// Fails unless such cells alone are refused for this cause.
-fn expect_refused(rt: &impl Abort, alloc: Global, cells: &[Cell], fault: OpenFault) {
-    expect_found(rt, alloc, cells, &[0], 1, Err(fault));
-}
-
 const OLD: OpenFault = OpenFault::OldLog {
     version: 3,
     width: 1,
@@ -119,14 +113,15 @@ fn the_first_place_at_fault_is_told(rt: HostRuntime) {
     for (tail, fault) in FAULTS {
         expect_found(&rt, rt.alloc(), &[], tail, 1, Err(*fault));
     }
-    assert_same!(rt; found(&rt, rt.alloc(), OLD_LOG, 1), Err(OLD));
+    expect_said(&rt, rt.alloc(), OLD_LOG, 1, Err(OLD));
 }
 
 #[test]
 fn a_drop_of_nothing_is_impossible_and_a_second_cell_one_too_many(rt: HostRuntime) {
     let too_long = OpenFault::TooLong { most: 1 };
-    expect_refused(&rt, rt.alloc(), &[DROP_7], damaged!(Cause::Impossible));
-    expect_refused(&rt, rt.alloc(), &[PUT_7, DROP_7], too_long);
+    let impossible = damaged!(Cause::Impossible);
+    expect_found(&rt, rt.alloc(), &[DROP_7], &[0], 1, Err(impossible));
+    expect_found(&rt, rt.alloc(), &[PUT_7, DROP_7], &[0], 1, Err(too_long));
 }
 
 // A split that was begun, and one that was installed.
