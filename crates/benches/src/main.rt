@@ -18,13 +18,14 @@ mod rows;
 mod tally;
 
 use kd_trie::KdTrie;
-use points::Plan;
+use points::{Done, Plan};
 use std::alloc::Global;
+use std::env::{self, Args};
+use std::io;
 use std::rt::Clock;
 use std::sync::Wait;
 use std::thread::Threads;
 use std::time::Duration;
-use std::{env, io};
 
 fn number(word: Option<String>, otherwise: u64) -> u64 {
     match word {
@@ -37,12 +38,16 @@ fn tell_trie(rt: &impl Print, alloc: Global, plan: &Plan) -> io::Result<()>
     requires { plan.now.depth ≤ 64 }
 {
     match points::play::<KdTrie>(alloc, plan) {
-        Ok(done) => println!(rt;
-            "points {}\nmoved {}\nchecked {}\nshared {}\nthere {}\nin the kept share {}",
-            done.points, done.moved, done.checked, done.shared, done.there, done.kept
-        ),
+        Ok(done) => tell_done(rt, &done),
         Err(_) => println!(rt; "no memory"),
     }
+}
+
+fn tell_done(rt: &impl Print, done: &Done) -> io::Result<()> {
+    println!(rt;
+        "points {}\nmoved {}\nchecked {}\nshared {}\nthere {}\nin the kept share {}",
+        done.points, done.moved, done.checked, done.shared, done.there, done.kept
+    )
 }
 
 fn tell_lock<R: Print + Threads + Wait + Clock + Sync>(
@@ -60,17 +65,24 @@ fn tell_lock<R: Print + Threads + Wait + Clock + Sync>(
     }
 }
 
-fn main(rt: HostRuntime) -> io::Result<()> {
-    let mut words = env::args(&rt)?;
-    words.next();
-    let plan = Plan {
+// What the first six words ask of the trie.
+fn plan_of(words: &mut Args) -> Plan
+    ensures { result.depth ≤ 64 }
+{
+    Plan {
         depth: number(words.next(), 34).clamp(9, 60) as u8,
         points: number(words.next(), 2000),
         moves: number(words.next(), 4000),
         checks: number(words.next(), 1000),
         shares: number(words.next(), 1000),
         keeps: number(words.next(), 1) != 0,
-    };
+    }
+}
+
+fn main(rt: HostRuntime) -> io::Result<()> {
+    let mut words = env::args(&rt)?;
+    words.next();
+    let plan = plan_of(&mut words);
     let threads = number(words.next(), 4).clamp(1, 64) as u8;
     let rounds = number(words.next(), 4000) / u64::from(threads);
     let asleep = Duration::from_micros(number(words.next(), 0));

@@ -50,10 +50,18 @@ fn leaves<I: Index>(alloc: Global, depth: u8) -> Result<I, Undone>
     requires most { depth ≤ 64 }
 {
     let mut index: I = one_leaf(alloc)?;
-    for leaf in 0..512_u64 {
-        deepen(alloc, &mut index, key_in(leaf << 55, depth), depth)?;
-    }
+    deepen_all(alloc, &mut index, depth)?;
     Ok(index)
+}
+
+fn deepen_all<I: Index>(alloc: Global, index: &mut I, depth: u8) -> Result<(), Undone>
+    requires width { I.WIDTH ≡ 1 }
+    requires most { depth ≤ 64 }
+{
+    for leaf in 0..512_u64 {
+        deepen(alloc, index, key_in(leaf << 55, depth), depth)?;
+    }
+    Ok(())
 }
 
 fn keep(at: &mut Vec<u64>, key: u64) -> Result<(), Memory> {
@@ -152,6 +160,19 @@ fn count<I: Index>(index: &I, at: &[u64]) -> u64 {
     there
 }
 
+// A share, which is let go at once where none is to be kept.
+fn kept_share<I: Index>(index: &I, keeps: bool) -> Option<I> {
+    let share = index.share().ok()?;
+    if keeps { Some(share) } else { None }
+}
+
+fn count_kept<I: Index>(kept: &Option<I>, at: &[u64]) -> u64 {
+    match kept {
+        Some(share) => count(share, at),
+        None => 0,
+    }
+}
+
 /// Does what the plan says.
 pub(crate) fn play<I: Index>(alloc: Global, plan: &Plan) -> Result<Done, Undone>
     requires width { I.WIDTH ≡ 1 }
@@ -160,19 +181,27 @@ pub(crate) fn play<I: Index>(alloc: Global, plan: &Plan) -> Result<Done, Undone>
     let mut index: I = leaves(alloc, plan.depth)?;
     let mut at = Vec::new(alloc);
     let points = fill(&mut index, &mut at, plan)?;
-    let first = Vec::from_slice(alloc, &at)?;
-    let mut kept = index.share().ok();
-    if !plan.keeps {
-        kept = None;
-    }
-    let moved = move_all(&mut index, &mut at, plan.moves)?;
-    let shared = share_all(&index, plan.shares)?;
+    play_over(alloc, plan, points, &mut index, &mut at)
+}
+
+// Does what the plan says of an index with so many points, which are at these keys.
+fn play_over<I: Index>(
+    alloc: Global,
+    plan: &Plan,
+    points: u64,
+    index: &mut I,
+    at: &mut [u64],
+) -> Result<Done, Undone> {
+    let first = Vec::from_slice(alloc, at)?;
+    let kept = kept_share(index, plan.keeps);
+    let moved = move_all(index, at, plan.moves)?;
+    let shared = share_all(index, plan.shares)?;
     Ok(Done {
         points,
         moved,
-        checked: check_all(&index, &at, plan.checks),
+        checked: check_all(index, at, plan.checks),
         shared,
-        there: count(&index, &at),
-        kept: kept.as_ref().map_or(0, |share| count(share, &first)),
+        there: count(index, at),
+        kept: count_kept(&kept, &first),
     })
 }
