@@ -5,9 +5,9 @@ ghost use Rattle.dispatch.specs.Callers.{IsFree, KeepsPass};
 
 use crate::town::{is_good, op_of};
 use book_lock::Pass;
-use disk_mem::MemDisk;
+use disk_trait::LogDisk;
+use index_layer::Index;
 use io_edge::OpenGate;
-use kd_trie::KdTrie;
 use plain_list::{Answer, Op};
 use sessions::{CallFault, SharedBook, Store};
 use std::alloc::Global;
@@ -17,24 +17,24 @@ use std::sync::ledger::{Blank, Ledger};
 use step_count::Steps;
 use zorder::Name;
 
-/// The company's store: its index, and a drive for a log, of which it has none.
-pub type Taxis = Store<KdTrie, MemDisk, Brand>;
+/// The company's store, over any index, and any drive for a log.
+pub type Taxis<I, D> = Store<I, D, Brand>;
 
 /// A pass of it.
-pub type TaxiPass = Pass<SharedBook<KdTrie, MemDisk, Brand>>;
+pub type TaxiPass<I, D> = Pass<SharedBook<I, D, Brand>>;
 
 // How many calls a session makes.
 const ROWS: u32 = 100;
 
 /// A session, and how many of its answers were as they should be.
-pub struct Caller {
+pub struct Caller<I: Index, D: LogDisk> {
     pub session: u8,
-    pub pass: TaxiPass,
+    pub pass: TaxiPass<I, D>,
     pub good: u32,
 }
 
-impl Caller {
-    pub fn new(session: u8, pass: TaxiPass) -> Caller
+impl<I: Index, D: LogDisk> Caller<I, D> {
+    pub fn new(session: u8, pass: TaxiPass<I, D>) -> Caller<I, D>
         ensures { result.pass ≡ pass }
     {
         Caller {
@@ -55,11 +55,11 @@ impl Caller {
 }
 
 /// Answers one call. Where the answer tells that a leaf has too many taxis, that leaf is split, if nobody else is about to.
-pub fn call<R: Wait, L: Ledger>(
+pub fn call<I: Index, D: LogDisk, R: Wait, L: Ledger>(
     rt: &R,
     alloc: Global,
-    taxis: &Taxis,
-    pass: &mut TaxiPass,
+    taxis: &Taxis<I, D>,
+    pass: &mut TaxiPass<I, D>,
     session: u8,
     row: u32,
     op: &Op,
@@ -80,11 +80,11 @@ pub fn call<R: Wait, L: Ledger>(
 }
 
 // Tries to split a leaf, where there is one to be split.
-fn split<R: Wait>(
+fn split<I: Index, D: LogDisk, R: Wait>(
     rt: &R,
     alloc: Global,
-    taxis: &Taxis,
-    pass: &mut TaxiPass,
+    taxis: &Taxis<I, D>,
+    pass: &mut TaxiPass<I, D>,
     session: u8,
     full: Option<Name>,
 )
@@ -101,18 +101,23 @@ fn split<R: Wait>(
 }
 
 /// Makes the calls of a session, one after another.
-pub fn work<R: Wait>(rt: &R, alloc: Global, taxis: &Taxis, caller: &mut Caller)
+pub fn work<I: Index, D: LogDisk, R: Wait>(
+    rt: &R,
+    alloc: Global,
+    taxis: &Taxis<I, D>,
+    caller: &mut Caller<I, D>,
+)
     requires { IsFree taxis.now caller.old.pass }
     ensures { KeepsPass caller.old.pass caller.new.pass }
 {
-    make_calls::<R, Brand>(rt, alloc, taxis, caller, Blank::new(1));
+    make_calls::<I, D, R, Brand>(rt, alloc, taxis, caller, Blank::new(1));
 }
 
-fn make_calls<R: Wait, L: Ledger>(
+fn make_calls<I: Index, D: LogDisk, R: Wait, L: Ledger>(
     rt: &R,
     alloc: Global,
-    taxis: &Taxis,
-    caller: &mut Caller,
+    taxis: &Taxis<I, D>,
+    caller: &mut Caller<I, D>,
     blank: Blank,
 )
     requires name { blank.name ≡ L.name }

@@ -6,15 +6,12 @@ ghost use Rattle.dispatch.specs.Callers.{IsFree, KeepsPass};
 
 use crate::callers::{Caller, TaxiPass, Taxis, call, work};
 use crate::town::{DISPATCHER, STATION, WAITING};
-use book_lock::Pass;
 use commit_book::Book;
-use disk_mem::MemDisk;
 use disk_trait::LogDisk;
 use index_layer::Index;
 use io_edge::OpenGate;
-use kd_trie::KdTrie;
 use plain_list::{Answer, Entries, Entry, Op, PlacedList};
-use sessions::{CallFault, SharedBook, Store};
+use sessions::{CallFault, Store};
 use std::alloc::Global;
 use std::marker::Brand;
 use std::sync::Wait;
@@ -33,9 +30,14 @@ pub struct Day {
 }
 
 // All of a team at once, each in a thread of its own.
-fn all_at_once<R: Threads + Wait + Sync>(rt: &R, alloc: Global, taxis: &Taxis, team: &mut [Caller])
-    requires { (i : ℕ) (d : _) → i < length team.old → IsFree taxis.now (slice_index_or team.old i d).pass }
-    ensures { (i : ℕ) (d : _) → i < length team.old → KeepsPass (slice_index_or team.old i d).pass (slice_index_or team.new i d).pass }
+fn all_at_once<I: Index + Send, D: LogDisk + Send, R: Threads + Wait + Sync>(
+    rt: &R,
+    alloc: Global,
+    taxis: &Taxis<I, D>,
+    team: &mut [Caller<I, D>],
+)
+    requires { (i : ℕ) (d : Caller I D I.Place) → i < length team.old → IsFree taxis.now (slice_index_or team.old i d).pass }
+    ensures { (i : ℕ) (d : Caller I D I.Place) → i < length team.old → KeepsPass (slice_index_or team.old i d).pass (slice_index_or team.new i d).pass }
 {
     let threads = team.len().max(1);
     thread::for_each_mut(
@@ -50,10 +52,10 @@ fn all_at_once<R: Threads + Wait + Sync>(rt: &R, alloc: Global, taxis: &Taxis, t
 }
 
 /// A day over an empty store.
-pub fn play_day<R: Threads + Wait + Sync, L: Ledger>(
+pub fn play_day<I: Index + Send, D: LogDisk + Send, R: Threads + Wait + Sync, L: Ledger>(
     rt: &R,
     alloc: Global,
-    book: Book<KdTrie, MemDisk>,
+    book: Book<I, D>,
     blank: Blank,
 ) -> Option<Day>
     requires entries { book.entries ≡ [] }
@@ -79,7 +81,7 @@ pub fn play_day<R: Threads + Wait + Sync, L: Ledger>(
 fn open_store<I: Index, D: LogDisk>(
     alloc: Global,
     book: Book<I, D>,
-) -> Option<(Store<I, D, Brand>, Pass<SharedBook<I, D, Brand>>)>
+) -> Option<(Taxis<I, D>, TaxiPass<I, D>)>
     requires entries { book.entries ≡ [] }
     requires world { IsWorld book.opening.world }
     ensures { IfSome result (λ opened. IsFree opened.0 opened.1 × (opened.1.parts ≡ all_parts)) }
@@ -101,11 +103,11 @@ fn found(answer: Result<Answer, CallFault>) -> Option<PlacedList> {
 }
 
 // Three drivers and the dispatcher at once, and then the dispatcher's last question.
-fn call_all_day<R: Threads + Wait + Sync, L: Ledger>(
+fn call_all_day<I: Index + Send, D: LogDisk + Send, R: Threads + Wait + Sync, L: Ledger>(
     rt: &R,
     alloc: Global,
-    taxis: &Taxis,
-    pass: &mut TaxiPass,
+    taxis: &Taxis<I, D>,
+    pass: &mut TaxiPass<I, D>,
     steps: &mut Steps<L>,
 ) -> ([u32; 4], Result<Answer, CallFault>)
     requires free { IsFree taxis.now pass.old }
@@ -133,11 +135,11 @@ fn call_all_day<R: Threads + Wait + Sync, L: Ledger>(
     (good, nearest)
 }
 
-fn put_waiting<R: Wait, L: Ledger>(
+fn put_waiting<I: Index, D: LogDisk, R: Wait, L: Ledger>(
     rt: &R,
     alloc: Global,
-    taxis: &Taxis,
-    pass: &mut TaxiPass,
+    taxis: &Taxis<I, D>,
+    pass: &mut TaxiPass<I, D>,
     steps: &mut Steps<L>,
 )
     requires { IsFree taxis.now pass.old }
@@ -150,11 +152,11 @@ fn put_waiting<R: Wait, L: Ledger>(
     let _ = call(rt, alloc, taxis, pass, DISPATCHER, 0, &waits, steps);
 }
 
-fn ask_nearest<R: Wait, L: Ledger>(
+fn ask_nearest<I: Index, D: LogDisk, R: Wait, L: Ledger>(
     rt: &R,
     alloc: Global,
-    taxis: &Taxis,
-    pass: &mut TaxiPass,
+    taxis: &Taxis<I, D>,
+    pass: &mut TaxiPass<I, D>,
     steps: &mut Steps<L>,
 ) -> Result<Answer, CallFault>
     requires { IsFree taxis.now pass.old }
@@ -165,7 +167,11 @@ fn ask_nearest<R: Wait, L: Ledger>(
 }
 
 // Joins a caller's pass to another, and gives how many answers were as they should be.
-fn go_home(taxis: &Taxis, pass: &mut TaxiPass, caller: Caller) -> u32
+fn go_home<I: Index, D: LogDisk>(
+    taxis: &Taxis<I, D>,
+    pass: &mut TaxiPass<I, D>,
+    caller: Caller<I, D>,
+) -> u32
     requires lock { IsFree taxis.now pass.old × IsFree taxis.now caller.pass }
     ensures same { IsFree taxis.now pass.new }
     ensures parts { pass.new.parts ≡ pass.old.parts + caller.pass.parts }

@@ -17,16 +17,26 @@ use std::io;
 use std::io::Print;
 use std::marker::Brand;
 use std::sync::ledger::Blank;
+use zorder::Placed;
 
 // How many taxis a leaf should have.
 const BUCKET: u32 = 4;
 
 fn tell(rt: &impl Print, day: &Day) -> io::Result<()> {
-    for (i, good) in day.good.iter().enumerate() {
+    tell_good(rt, &day.good)?;
+    println!(rt; "calls {}, splits {}", day.calls(), day.splits())?;
+    tell_nearest(rt, day.nearest.as_slice())
+}
+
+fn tell_good(rt: &impl Print, good: &[u32; 4]) -> io::Result<()> {
+    for (i, good) in good.iter().enumerate() {
         println!(rt; "session {}: {good} answers as they should be", i + 1)?;
     }
-    println!(rt; "calls {}, splits {}", day.calls(), day.splits())?;
-    for taxi in day.nearest.as_slice() {
+    Ok(())
+}
+
+fn tell_nearest(rt: &impl Print, taxis: &[Placed]) -> io::Result<()> {
+    for taxi in taxis {
         println!(rt;
             "near the station: taxi {} at {}:{}",
             taxi.id, taxi.at.x, taxi.at.y
@@ -39,7 +49,7 @@ fn main(rt: HostRuntime) -> io::Result<()> {
     let Ok(book) = Book::<KdTrie, MemDisk>::fresh(rt.alloc(), BUCKET) else {
         return println!(rt; "no memory");
     };
-    match play_day::<HostRuntime, Brand>(&rt, rt.alloc(), book, Blank::new(1)) {
+    match play_day::<KdTrie, MemDisk, HostRuntime, Brand>(&rt, rt.alloc(), book, Blank::new(1)) {
         Some(day) => tell(&rt, &day),
         None => println!(rt; "no memory"),
     }
