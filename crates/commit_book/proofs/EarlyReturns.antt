@@ -1,7 +1,9 @@
 -- What a call that comes back early leaves.
 use Rattle.std.proofs.Common.{◌≡◌, ℕ, ◌+◌, Bool, true, false, cond, not, List, length, Option, None, Some, Result, Ok, Err, refl, sym, subst}
-use Rattle.std.specs.Prelude.{IsErrAnd, IfErr, ◌==◌, ◌&&◌, nat_lt, is_some, ⊤}
+use Rattle.std.specs.Result.{IsErr}
+use Rattle.std.specs.Prelude.{IsErrAnd, IfErr, IfOk, ◌==◌, ◌&&◌, nat_lt, is_some, ⊤}
 use Rattle.std.specs.Option.{option_map}
+use mathlib.Core.Bool.{true≢false}
 use Rattle.bucket_versions.specs.declared.row.Row.{Row}
 use Rattle.plain_list.specs.declared.entries.Entry.{Entry}
 use Rattle.plain_list.specs.declared.entries.Lost.{Lost}
@@ -31,6 +33,11 @@ same_books drive w old new same is =
 pub if_any : {B : Type 0} (r : Result B BookFault) (P : Type 0) → P → IfErr r (λ _. P)
 if_any (Ok x) P p = tt
 if_any (Err e) P p = p
+
+-- a call that failed has handed out nothing
+pub never_ok : {A : Type 0} (r : Result A BookFault) (P : A → Type 0) → IsErr r → IfOk r P
+never_ok (Ok x) P is = absurd (true≢false (sym is))
+never_ok (Err e) P is = tt
 
 -- the refusal of a check, handed on
 pub hands_on : (A : Type 0) {B : Type 0} (IsFree : BookFault → Type 0) (o : Option BookFault) (fault : BookFault) (r : Result B BookFault) → IsRefusedBy {A = A} IsNoFault o (Err fault) → IsErrAnd r (λ e. e ≡ fault)

@@ -14,7 +14,7 @@ use Rattle.plain_list.specs.declared.entries.Lost.{Lost}
 use Rattle.plain_list.specs.declared.entries.Lost.TheVariants as lost
 use Rattle.plain_list.specs.Answer.{answer_of, is_change}
 use Rattle.plain_list.specs.History.{world_after, failed_cell}
-use Rattle.plain_list.specs.State.{State, IsLegal}
+use Rattle.plain_list.specs.State.{State, OpenSplit, IsLegal}
 use Rattle.disk_trait.specs.Drive.{Drive, KeepsLaws}
 use Rattle.log_state.specs.Changes.{lost_cells}
 use Rattle.kept_log.specs.KeptView.{KeptView}
@@ -35,6 +35,24 @@ use Rattle.commit_book.proofs.BookStates.{inside-fail}
 use Rattle.commit_book.proofs.EarlyReturns.{since-same}
 use Rattle.commit_book.proofs.OnLog.{in-most, in-failed}
 use Rattle.commit_book.proofs.UpdateCalls.{fewer_cells}
+
+-- a book that took memory, or had none, with room for an entry of each open split
+pub inside-reserved : {I D P : Type 0} (drive : D → Drive) (w : ℕ) (o : State) (b : Inside I D P) (splits : SplitsView) (history : Events) (n : ℕ) → IsInside drive w o b
+    → splits.splits ≡ b.splits.splits → splits.begun ≡ b.splits.begun → history ≡ record { entries = b.history.entries; room = n } → (failed_cell b.history.entries ≡ None → length b.splits.splits ≤ n)
+    → IsInside {I = I} {P = P} drive w o (record { table = b.table; splits = splits; history = history; journal = b.journal; opening = b.opening })
+inside-reserved {I = I} {P = P} drive w o b splits history n inside opens begun same enough =
+    subst (λ (v : Events). IsInside {I = I} {P = P} drive w o (record { table = b.table; splits = splits; history = v; journal = b.journal; opening = b.opening })) (sym same) (record {
+      opening = inside.opening;
+      legal = inside.legal;
+      world = inside.world;
+      names = inside.names;
+      splits = opens ∙ inside.splits;
+      begun = begun ∙ inside.begun;
+      bases = inside.bases;
+      few = inside.few;
+      room = λ none. subst (λ (os : List OpenSplit). length os ≤ n) (sym opens) (enough none);
+      on_log = inside.on_log;
+    })
 
 -- a step with a cell may be tried at a book that is going on and has room for it
 pub can_step : {I D P : Type 0} (drive : D → Drive) (w : ℕ) (o : State) (b : Inside I D P) (events : Events) (step : Lost) (cell : Cell) → lost_cells step ≡ cell ∷ [] → IsInside drive w o b
@@ -178,4 +196,11 @@ pub since-undone : {D : Type 0} (drive : D → Drive) (A : Type 0) (log : Option
     → IsSinceIn log b.journal.now
 since-undone drive A log undone.Lost a b before told = subst (λ (l : Option (KeptView _)). IsSinceIn l b.journal.now) before told.ends.since
 since-undone drive A log undone.Memory a b before told =
+    subst (λ (l : Option (KeptView _)). IsSinceIn log l) (sym (ap (λ (s : Step _). s.journal.now) told ∙ before)) (since-same log)
+
+-- and so does an update that was made
+pub since-told : {D A : Type 0} (drive : D → Drive) (change : Bool) (log : Option (KeptView D)) (answer : A) (a b : Step D) → a.journal.now ≡ log → TellsIf (Takes drive) (Loses drive) change a b (Ok answer)
+    → IsSinceIn log b.journal.now
+since-told drive true log answer a b before told = subst (λ (l : Option (KeptView _)). IsSinceIn l b.journal.now) before told.ends.since
+since-told drive false log answer a b before told =
     subst (λ (l : Option (KeptView _)). IsSinceIn log l) (sym (ap (λ (s : Step _). s.journal.now) told ∙ before)) (since-same log)

@@ -10,7 +10,7 @@ use Rattle.commit_book.proofs.BookStates.{inside-abandon}
 use Rattle.commit_book.proofs.RefusalLemmas.{MayAbandon, may_abandon, passed, some_of}
 use Rattle.commit_book.proofs.SplitCells.{abandon_step, some_open}
 use Rattle.commit_book.proofs.Undone.{can_step, inside-undone, moments-undone, refused-undone, taken}
-use Rattle.commit_book.proofs.EarlyReturns.{same_books, hands_on, done_freely, lost_freely, calm-abandon, leaves-checked}
+use Rattle.commit_book.proofs.EarlyReturns.{never_ok, same_books, hands_on, done_freely, lost_freely, calm-abandon, leaves-checked}
 use Rattle.commit_book.proofs.book.Book.abandon.Goals as goal
 
 pub returns-in_err-check_abandon-clause-any_moment : goal.returns-in_err-check_abandon-clause-any_moment
@@ -135,3 +135,6 @@ returns-clause-book g c =
       after = c.keep-2.ensures;
       origin = rw (← c.self.view_is) (record { opening = refl; bucket = refl; log = (c.if-not-commit.ensures.done refl).ends.since });
     }
+
+pub returns-in_err-check_abandon-clause-ok : goal.returns-in_err-check_abandon-clause-ok
+returns-in_err-check_abandon-clause-ok g c = never_ok c.from_residual.result _ c.from_residual.ensures.0

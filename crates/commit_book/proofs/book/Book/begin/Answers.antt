@@ -20,8 +20,8 @@ use Rattle.commit_book.proofs.KeptLemmas.{folded-under}
 use Rattle.commit_book.proofs.RefusalLemmas.{MayBegin, may_begin, passed, is_leaf-names_of}
 use Rattle.commit_book.proofs.SplitCells.{begin_step, few_cells}
 use Rattle.plain_list.proofs.SplitHistories.{open-le, begun-le}
-use Rattle.commit_book.proofs.Undone.{can_step, inside-undone, moments-undone, refused-undone, refused_freely, since-undone, taken}
-use Rattle.commit_book.proofs.EarlyReturns.{same_books, hands_on, no_memory, done_freely, calm-begin, leaves-checked, leaves-memory}
+use Rattle.commit_book.proofs.Undone.{can_step, inside-reserved, inside-undone, moments-undone, refused-undone, refused_freely, since-undone, taken}
+use Rattle.commit_book.proofs.EarlyReturns.{never_ok, same_books, hands_on, no_memory, done_freely, calm-begin, leaves-checked, leaves-memory}
 use Rattle.commit_book.proofs.book.Book.begin.Goals as goal
 
 pub returns-in_err-check_begin-clause-any_moment : goal.returns-in_err-check_begin-clause-any_moment
@@ -243,3 +243,30 @@ returns-clause-any_moment g c =
     let step = begin_step w o h c.self.invariant.legal may.going (cells_in b.journal) number name may next in
     let it = taken g.D.LogDisk.drive w o b c.self.invariant may.going (c.len.result + 2) _ c.fold.new.commit step c.in_ok-reserve-2.ensures.ok refl c.in-Ok.ensures.told in
     rw (← c.self.view_is) (λ none. subst (λ n. LeavesEither g.D.LogDisk.drive w o h (Begin n name) b.journal c.fold.new.commit.journal.now) next it.moments)
+
+pub invariant_of-self : goal.invariant_of-self
+invariant_of-self g c = inside-reserved g.D.LogDisk.drive g.I.Index.WIDTH _ c.self.inside c.reserve.new.self _ _ c.self.invariant c.in_err-reserve.ensures.splits c.in_err-reserve.ensures.begun refl c.self.invariant.room
+
+pub invariant_of-self-in_err-reserve-2 : goal.invariant_of-self-in_err-reserve-2
+invariant_of-self-in_err-reserve-2 g c = inside-reserved g.D.LogDisk.drive g.I.Index.WIDTH _ c.self.inside c.reserve.new.self c.reserve-2.new.self _ c.self.invariant c.in_ok-reserve.ensures.splits c.in_ok-reserve.ensures.begun c.in_err-reserve-2.ensures.err c.self.invariant.room
+
+pub push-requires-clause-room : goal.push-requires-clause-room
+push-requires-clause-room g c = omega (arith, c.in_ok-reserve.ensures.ok)
+
+pub returns-in_err-check_begin-clause-ok : goal.returns-in_err-check_begin-clause-ok
+returns-in_err-check_begin-clause-ok g c = never_ok c.from_residual.result _ c.from_residual.ensures.0
+
+pub returns-in_err-check_begin-clause-ticket : goal.returns-in_err-check_begin-clause-ticket
+returns-in_err-check_begin-clause-ticket g c = never_ok c.from_residual.result _ c.from_residual.ensures.0
+
+pub returns-in_err-reserve-clause-ok : goal.returns-in_err-reserve-clause-ok
+returns-in_err-reserve-clause-ok g c = never_ok c.from_residual-in_err-reserve.result _ c.from_residual-in_err-reserve.ensures.0
+
+pub returns-in_err-reserve-clause-ticket : goal.returns-in_err-reserve-clause-ticket
+returns-in_err-reserve-clause-ticket g c = never_ok c.from_residual-in_err-reserve.result _ c.from_residual-in_err-reserve.ensures.0
+
+pub returns-in_err-reserve-2-clause-ok : goal.returns-in_err-reserve-2-clause-ok
+returns-in_err-reserve-2-clause-ok g c = never_ok c.from_residual-in_err-reserve-2.result _ c.from_residual-in_err-reserve-2.ensures.0
+
+pub returns-in_err-reserve-2-clause-ticket : goal.returns-in_err-reserve-2-clause-ticket
+returns-in_err-reserve-2-clause-ticket g c = never_ok c.from_residual-in_err-reserve-2.result _ c.from_residual-in_err-reserve-2.ensures.0

@@ -16,7 +16,7 @@ use Rattle.commit_book.proofs.KeptLemmas.{names_of-divided}
 use Rattle.commit_book.proofs.RefusalLemmas.{MayInstall, may_install, Based, has_base-leaf, is_open-name, passed}
 use Rattle.commit_book.proofs.SplitCells.{install_step, some_open}
 use Rattle.commit_book.proofs.Undone.{can_step, inside-undone, moments-undone, refused-undone, refused_freely, since-undone, taken}
-use Rattle.commit_book.proofs.EarlyReturns.{same_books, hands_on, done_freely, calm-install, leaves-checked}
+use Rattle.commit_book.proofs.EarlyReturns.{never_ok, same_books, hands_on, done_freely, calm-install, leaves-checked}
 use Rattle.commit_book.proofs.book.Book.install.Goals as goal
 
 pub returns-in_err-check_install-clause-any_moment : goal.returns-in_err-check_install-clause-any_moment
@@ -182,3 +182,6 @@ returns-clause-any_moment g c =
     let step = install_step w o h c.self.invariant.legal may.may.going c.number-number.result p.name found in
     let it = taken g.D.LogDisk.drive w o b c.self.invariant may.may.going b.history.room _ c.divide.new.commit step refl refl c.in_default.ensures.told in
     rw (← c.self.view_is) (λ none. subst (λ n. LeavesEither g.D.LogDisk.drive w o h (Install n) b.journal c.divide.new.commit.journal.now) number it.moments)
+
+pub returns-in_err-check_install-clause-ok : goal.returns-in_err-check_install-clause-ok
+returns-in_err-check_install-clause-ok g c = never_ok c.from_residual.result _ c.from_residual.ensures.0

@@ -9,9 +9,10 @@ use Rattle.commit_book.proofs.BookStates.{inside-call, steps_on}
 use Rattle.commit_book.proofs.BookSteps.{query_keeps, stands_again}
 use Rattle.commit_book.proofs.RefusalLemmas.{MayCall, may_call, passed}
 use Rattle.plain_list.proofs.SplitHistories.{open-le}
+use Rattle.commit_book.proofs.Undone.{inside-reserved}
 use Rattle.commit_book.proofs.UpdateCalls.{keeps-query}
 use Rattle.commit_book.specs.Refusals.{IsMemory}
-use Rattle.commit_book.proofs.EarlyReturns.{since-same, same_books, if_any, hands_on, no_memory, done_freely}
+use Rattle.commit_book.proofs.EarlyReturns.{never_ok, since-same, same_books, if_any, hands_on, no_memory, done_freely}
 use Rattle.commit_book.proofs.book.Book.snapshot.Goals as goal
 
 pub overflow_add-len : goal.overflow_add-len
@@ -108,3 +109,42 @@ returns-clause-book g c =
       after = c.keep-2.ensures;
       origin = rw (← c.self.view_is) (record { opening = refl; bucket = refl; log = since-same c.self.inside.journal });
     }
+
+pub invariant_of-self : goal.invariant_of-self
+invariant_of-self g c = inside-reserved g.D.LogDisk.drive g.I.Index.WIDTH _ c.self.inside _ c.reserve.new.self _ c.self.invariant refl refl c.in_err-reserve.ensures.err c.self.invariant.room
+
+pub invariant_of-self-in_err-index : goal.invariant_of-self-in_err-index
+invariant_of-self-in_err-index g c = inside-reserved g.D.LogDisk.drive g.I.Index.WIDTH _ c.self.inside _ c.reserve.new.self _ c.self.invariant refl refl c.in_ok-reserve.ensures.ok (λ _. omega (arith, c.len.ensures))
+
+pub push-requires-clause-few : goal.push-requires-clause-few
+push-requires-clause-few g c = omega (arith, ap (λ (v : Events). length v.entries) c.in_ok-reserve.ensures.ok, c.self.invariant.few)
+
+pub push-requires-clause-room : goal.push-requires-clause-room
+push-requires-clause-room g c = omega (arith, ap (λ (v : Events). v.room) c.in_ok-reserve.ensures.ok)
+
+pub returns-in_err-check_call-clause-ok : goal.returns-in_err-check_call-clause-ok
+returns-in_err-check_call-clause-ok g c = never_ok c.from_residual.result _ c.from_residual.ensures.0
+
+pub returns-in_err-check_call-clause-index : goal.returns-in_err-check_call-clause-index
+returns-in_err-check_call-clause-index g c = never_ok c.from_residual.result _ c.from_residual.ensures.0
+
+pub returns-in_err-check_call-clause-leaves : goal.returns-in_err-check_call-clause-leaves
+returns-in_err-check_call-clause-leaves g c = never_ok c.from_residual.result _ c.from_residual.ensures.0
+
+pub returns-in_err-reserve-clause-ok : goal.returns-in_err-reserve-clause-ok
+returns-in_err-reserve-clause-ok g c = never_ok c.from_residual-in_err-reserve.result _ c.from_residual-in_err-reserve.ensures.0
+
+pub returns-in_err-reserve-clause-index : goal.returns-in_err-reserve-clause-index
+returns-in_err-reserve-clause-index g c = never_ok c.from_residual-in_err-reserve.result _ c.from_residual-in_err-reserve.ensures.0
+
+pub returns-in_err-reserve-clause-leaves : goal.returns-in_err-reserve-clause-leaves
+returns-in_err-reserve-clause-leaves g c = never_ok c.from_residual-in_err-reserve.result _ c.from_residual-in_err-reserve.ensures.0
+
+pub returns-in_err-index-clause-ok : goal.returns-in_err-index-clause-ok
+returns-in_err-index-clause-ok g c = never_ok c.from_residual-in_err-index.result _ c.from_residual-in_err-index.ensures.0
+
+pub returns-in_err-index-clause-index : goal.returns-in_err-index-clause-index
+returns-in_err-index-clause-index g c = never_ok c.from_residual-in_err-index.result _ c.from_residual-in_err-index.ensures.0
+
+pub returns-in_err-index-clause-leaves : goal.returns-in_err-index-clause-leaves
+returns-in_err-index-clause-leaves g c = never_ok c.from_residual-in_err-index.result _ c.from_residual-in_err-index.ensures.0

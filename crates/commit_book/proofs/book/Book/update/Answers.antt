@@ -19,8 +19,8 @@ use Rattle.commit_book.proofs.BookStates.{inside-call, steps_on}
 use Rattle.commit_book.proofs.RefusalLemmas.{passed}
 use Rattle.commit_book.proofs.SplitCells.{call_step, cell_there}
 use Rattle.plain_list.proofs.SplitHistories.{open-le}
-use Rattle.commit_book.proofs.Undone.{can_step, inside-undone, moments-undone, refused-undone, refused_freely, would_change, quiet_told, noted, since-undone}
-use Rattle.commit_book.proofs.EarlyReturns.{same_books, hands_on, no_memory, done_freely, calm-update, leaves-checked, leaves-memory}
+use Rattle.commit_book.proofs.Undone.{can_step, inside-reserved, inside-undone, moments-undone, refused-undone, refused_freely, would_change, quiet_told, noted, since-undone, since-told}
+use Rattle.commit_book.proofs.EarlyReturns.{never_ok, same_books, hands_on, no_memory, done_freely, calm-update, leaves-checked, leaves-memory}
 use Rattle.commit_book.proofs.UpdateCalls.{may_update}
 use Rattle.commit_book.proofs.book.Book.update.Goals as goal
 
@@ -198,3 +198,28 @@ returns-in-Err-clause-book g c =
 
 pub returns-clause-refused : goal.returns-clause-refused
 returns-clause-refused g c = done_freely IsMemoryOrDisk _ _ (passed _ _ c.in_ok-check_update.ensures)
+
+pub invariant_of-self : goal.invariant_of-self
+invariant_of-self g c = inside-reserved g.D.LogDisk.drive g.I.Index.WIDTH _ c.self.inside _ c.reserve.new.self _ c.self.invariant refl refl c.in_err-reserve.ensures.err c.self.invariant.room
+
+pub update-requires-clause-update : goal.update-requires-clause-update
+update-requires-clause-update g c = c.requires
+
+pub returns-in_err-check_update-clause-ok : goal.returns-in_err-check_update-clause-ok
+returns-in_err-check_update-clause-ok g c = never_ok c.from_residual.result _ c.from_residual.ensures.0
+
+pub returns-in_err-reserve-clause-ok : goal.returns-in_err-reserve-clause-ok
+returns-in_err-reserve-clause-ok g c = never_ok c.from_residual-in_err-reserve.result _ c.from_residual-in_err-reserve.ensures.0
+
+pub returns-clause-book : goal.returns-clause-book
+returns-clause-book g c =
+    let b = c.self.inside in
+    record {
+      before = c.keep.ensures;
+      after = c.full.ensures.book;
+      origin = rw (← c.self.view_is) (record {
+        opening = refl;
+        bucket = c.in-Ok.ensures.ok.changes.size;
+        log = since-told g.D.LogDisk.drive (is_change (answer_of b.table.world c.args.op.now)) _ c.in-Ok.answer _ c.update.new.commit refl c.in-Ok.ensures.told;
+      });
+    }
