@@ -35,7 +35,7 @@ if_any (Ok x) P p = tt
 if_any (Err e) P p = p
 
 -- a call that failed has handed out nothing
-pub never_ok : {A : Type 0} (r : Result A BookFault) (P : A → Type 0) → IsErr r → IfOk r P
+pub never_ok : {A E : Type 0} (r : Result A E) (P : A → Type 0) → IsErr r → IfOk r P
 never_ok (Ok x) P is = absurd (true≢false (sym is))
 never_ok (Err e) P is = tt
 
@@ -45,6 +45,13 @@ pub hands_on : (A : Type 0) {B : Type 0} (IsFree : BookFault → Type 0) (o : Op
 hands_on A IsFree o fault (Ok x) is err = absurd err
 hands_on A IsFree (Some cause) fault (Err e) is err = cc (err, is)
 hands_on A IsFree None fault (Err e) is err = absurd is
+
+-- the refusal of the first of two checks, handed on
+pub hands_first : (A : Type 0) {B : Type 0} (first later : Option BookFault) (fault : BookFault) (r : Result B BookFault) → IsRefusedBy {A = A} IsNoFault first (Err fault) → IsErrAnd r (λ e. e ≡ fault)
+    → IsRefusedBy IsNoFault (first_of first later) r
+hands_first A first later fault (Ok x) is err = absurd err
+hands_first A (Some cause) later fault (Err e) is err = cc (err, is)
+hands_first A None later fault (Err e) is err = absurd is
 
 -- want of memory, where nothing else comes in the way
 pub no_memory : {B : Type 0} (IsFree : BookFault → Type 0) (o : Option BookFault) (r : Result B BookFault) → IsFree Memory → o ≡ None → IsErrAnd r (λ e. e ≡ Memory) → IsRefusedBy IsFree o r
