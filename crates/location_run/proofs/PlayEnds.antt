@@ -30,7 +30,7 @@ use Rattle.location_run.specs.Playing.{EndsRows}
 use Rattle.location_run.specs.Answers.{AnswersAsOneList}
 use Rattle.location_run.specs.declared.lanes.LaneEnd.{LaneEnd}
 use Rattle.location_run.specs.inside.Books.{BeginsAs, IsNewBook, StopsBook, LeavesLog, count_in}
-use Rattle.location_run.specs.inside.Answered.{IsPlayedBook, IsAnsweredBook, HasObjects, WritesText, EndsPlay}
+use Rattle.location_run.specs.inside.Answered.{HasNumbers, IsPlayedBook, IsAnsweredBook, HasObjects, WritesText, EndsPlay}
 use Rattle.location_run.specs.inside.Ended.{EndsBook}
 use Rattle.location_run.proofs.Ends.{no-lines}
 use Rattle.location_run.proofs.Objects.{played-world}
@@ -44,6 +44,11 @@ ends-writing text before after (Err e) bytes cause = inr (refl, cause.failed, (b
 pub if-mapped : {A B : Type 0} (f : A → B) (P : B → Type 0) (o : Option A) → IfSome o (λ a. P (f a)) → IfSome (option_map f o) P
 if-mapped f P None holds = holds
 if-mapped f P (Some a) holds = holds
+
+-- the lanes of rows that were all answered kept as many, with their numbers
+pub answered-numbers : {A D : Type 0} (f : A → List LaneEnd) (w : ℕ) (rows : List InRow) (old new : BookView D) (o : Option A) → IfSome o (λ a. IsAnsweredBook w rows old new (f a)) → IfSome o (λ a. HasNumbers rows (f a))
+answered-numbers f w rows old new None holds = tt
+answered-numbers f w rows old new (Some a) holds = λ s. (holds.answers s).numbers
 
 module _ {D : Type 0} (drive : D → Drive) (report : Report) (rows : List InRow) (old new : BookView D) (ends : Option (List LaneEnd)) (status : ℕ) (before after : Output) (are : AreInRows rows) (begins : IsNewBook old)
     (played : IsPlayedBook width rows old new) (answered : IfSome ends (λ e. IsAnsweredBook width rows old new e)) (book : IsBook drive width new) (end : EndsPlay report rows (failed_cell new.entries) new.leaves ends status before after) where

@@ -63,6 +63,23 @@ pub(crate) fn play_book<R: Threads + Wait + Sync, K: Sink, D: LogDisk + Send, G:
     let mut book = book;
     book.make_room(rows.len() + rows.len() / ROWS_A_STEP);
     let played = play_sessions::<R, StoreIndex, D, Brand, G>(rt, alloc, rows, book, gate);
+    end_book(report, rows, played, sink)
+}
+
+// Tells what a report tells of rows that were played over a book, and gives what the book held.
+fn end_book<I: Index, K: Sink, D: LogDisk>(
+    report: Report,
+    rows: &[InRow],
+    played: Played<I, D>,
+    sink: &mut K,
+) -> BookEnd<D>
+    requires rows { AreInRows rows.now }
+    requires numbers { IfSome played.ends (λ ends. HasNumbers rows.now ends.items) }
+    ensures ends { EndsPlay report rows.now (failed_cell played.book.entries) played.book.leaves (option_map (λ ends. ends.items) played.ends)
+        result.status (K.output sink.old) (K.output sink.new) }
+    ensures events { result.events ≡ played.book.entries }
+    ensures disk { result.disk ≡ disk_in played.book.log }
+{
     let closed = close(played);
     let status = write_end(report, rows, &closed, sink);
     BookEnd {
