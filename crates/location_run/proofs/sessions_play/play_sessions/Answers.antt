@@ -1,5 +1,6 @@
-use Rattle.std.proofs.Common.{ap, rules}
+use Rattle.std.proofs.Common.{ap, sym, ◌∙◌, rules}
 use Rattle.book_lock.specs.Pass.{Known}
+use Rattle.location_run.specs.inside.Dealt.{fresh_pass}
 use Rattle.location_run.proofs.PlayedOut.{played-not, played-from, answered-from, few-pass}
 use Rattle.location_run.proofs.sessions_play.play_sessions.Goals as goal
 
@@ -24,3 +25,8 @@ returns-in-Ok-clause-answered g c =
 
 pub returns-in-Err-clause-starts : goal.returns-in-Err-clause-starts
 returns-in-Err-clause-starts g c = search rules
+
+pub play_store-requires-clause-pass : goal.play_store-requires-clause-pass
+play_store-requires-clause-pass g c κs within =
+    let made = c.in-Ok.ensures.store in
+    made ∙ ap (λ o. fresh_pass c.in-Ok.store o 65536) (sym (ap (λ (k : Known). k.origin) made))
