@@ -1,81 +1,118 @@
 //! Lists of runs, and what each leaves. Functions over a runtime alone: a test's proof then holds no drive.
-use crate::memory::{EMPTY_LOG, Faults, HEADER, Left, NO_FAULTS, PUT_LOG, run_apart, run_on};
+use crate::memory::{EMPTY_LOG, Left, PUT_LOG, Plan, run_plan};
+use disk_mem::Fail;
 use std::alloc::Global;
 use std::process::Abort;
 use std::sync::Wait;
 use std::thread::Threads;
 
-/// `play` over no log.
-pub const PLAY_NO_LOG: &[&str] = &["play", "-"];
-
-/// `play` over the file `log`.
-pub const PLAY: &[&str] = &["play", "log"];
-
-/// The same with buckets of 4.
+/// `play` over the file `log` with buckets of 4.
 pub const PLAY_BY_4: &[&str] = &["play", "log", "--bucket", "4"];
-
-/// `check` of the file `log`.
-pub const CHECK: &[&str] = &["check", "log"];
-
-/// `init` of the file `log`.
-pub const INIT: &[&str] = &["init", "log"];
 
 /// A run, and what it is to leave.
 #[derive(Clone, Copy)]
-pub struct Case {
+pub struct Case<'a> {
     /// What fails a test, if the run doesn't leave that.
-    pub name: &'static str,
-    pub words: &'static [&'static str],
-    pub input: &'static str,
+    pub name: &'a str,
+    pub words: &'a [&'a str],
+    pub input: &'a str,
     /// The bytes of the file. Where there are none, there is a drive that fails at each call.
-    pub file: Option<&'static [u8]>,
-    pub faults: Faults<'static>,
+    pub file: Option<&'a [u8]>,
+    /// The calls of each end that fail.
+    pub reads: &'a [u64],
+    pub puts: &'a [u64],
+    pub calls: &'a [Fail],
     pub status: u8,
     /// What the sink takes.
-    pub text: &'static str,
+    pub text: &'a str,
     /// The bytes of the file then.
-    pub held: &'static [u8],
+    pub held: &'a [u8],
     /// How many entries the history has.
     pub entries: usize,
+    /// The attaches of the first drive, a line each. The second one has none.
+    pub attaches: &'a str,
+}
+
+impl<'a> Case<'a> {
+    /// The same over these bytes, which it is to leave.
+    pub fn over(&self, file: &'a [u8]) -> Case<'a> {
+        Case {
+            file: Some(file),
+            held: file,
+            ..*self
+        }
+    }
+
+    /// What goes into the run.
+    fn plan(&self) -> Plan<'a> {
+        Plan {
+            words: self.words,
+            input: self.input,
+            file: self.file,
+            reads: self.reads,
+            puts: self.puts,
+            calls: self.calls,
+        }
+    }
+
+    /// Whether a run has left what it should.
+    pub fn is_left(&self, left: &Left) -> bool {
+        left.tells(self.status, self.text)
+            && left.file() == self.held
+            && left.history().len() == self.entries
+            && left.has_attached(self.attaches)
+    }
 }
 
 /// Where all goes well, over no log and with no rows.
-pub const NO_LOG: Case = Case {
+pub const NO_LOG: Case<'static> = Case {
     name: "a run over no log",
-    words: PLAY_NO_LOG,
+    words: &["play", "-"],
     input: "session,op,id,x,y,a,b\n",
     file: None,
-    faults: NO_FAULTS,
+    reads: &[],
+    puts: &[],
+    calls: &[],
     status: 0,
     text: "row,place,answer,detail\n",
     held: &[],
     entries: 0,
+    attaches: "",
 };
 
 /// The same over a log of no cells.
-pub const EMPTY: Case = Case {
+pub const EMPTY: Case<'static> = Case {
     name: "a run over a log of no cells",
-    words: PLAY,
-    input: "session,op,id,x,y,a,b\n",
+    words: &["play", "log"],
     file: Some(EMPTY_LOG),
-    faults: NO_FAULTS,
-    status: 0,
-    text: "row,place,answer,detail\n",
     held: EMPTY_LOG,
-    entries: 0,
+    attaches: "opens log\n",
+    ..NO_LOG
 };
 
 /// The same over a log of one put.
-pub const ONE_PUT: Case = Case {
+pub const ONE_PUT: Case<'static> = Case {
     name: "a run over a log of one put",
-    words: PLAY,
-    input: "session,op,id,x,y,a,b\n",
     file: Some(PUT_LOG),
-    faults: NO_FAULTS,
-    status: 0,
-    text: "row,place,answer,detail\n",
     held: PUT_LOG,
-    entries: 0,
+    ..EMPTY
+};
+
+/// `init` over a log of no cells.
+pub const INIT: Case<'static> = Case {
+    name: "init over a log of no cells",
+    words: &["init", "log"],
+    text: "made\n",
+    attaches: "makes log\n",
+    ..EMPTY
+};
+
+/// `check` of a log of no cells.
+pub const CHECK: Case<'static> = Case {
+    name: "check of a log of no cells",
+    words: &["check", "log"],
+    text: "cells 0\npoints 0\nleaves 1\nunfinished 0\n",
+    ..EMPTY
 };
 
 /// Ends the test with this message unless it is so.
@@ -85,41 +122,39 @@ pub fn holds<R: Abort>(rt: &R, is_so: bool, message: &str) {
     }
 }
 
-/// Fails at the first run that doesn't leave what it should.
-pub fn each_is_left<R: Abort + Threads + Wait + Sync>(rt: &R, alloc: Global, cases: &[Case]) {
-    for case in cases {
-        holds(rt, is_as_wanted(rt, alloc, case), case.name);
-    }
+/// Runs it.
+pub fn run_case<R: Abort + Threads + Wait + Sync>(rt: &R, alloc: Global, case: &Case<'_>) -> Left {
+    run_plan(rt, alloc, &case.plan())
 }
 
-fn is_as_wanted<R: Abort + Threads + Wait + Sync>(rt: &R, alloc: Global, case: &Case) -> bool {
+/// Fails unless the run leaves what it should.
+pub fn is_left<R: Abort + Threads + Wait + Sync>(rt: &R, alloc: Global, case: &Case<'_>) {
     let left = run_case(rt, alloc, case);
-    has_left(&left, case)
+    holds(rt, case.is_left(&left), case.name);
 }
 
-fn run_case<R: Abort + Threads + Wait + Sync>(rt: &R, alloc: Global, case: &Case) -> Left {
-    match case.file {
-        Some(file) => run_on(rt, alloc, case.words, case.input, file, &case.faults),
-        None => run_apart(rt, alloc, case.words, case.input, &case.faults),
+/// Fails unless the run leaves what it should, and changes and syncs nothing on the way.
+pub fn is_untouched<R: Abort + Threads + Wait + Sync>(rt: &R, alloc: Global, case: &Case<'_>) {
+    let left = run_case(rt, alloc, case);
+    let is_untouched = left.disk.moments() == 0;
+    holds(rt, is_untouched && case.is_left(&left), case.name);
+}
+
+/// Fails at the first run that doesn't leave what it should.
+pub fn each_is_left<R: Abort + Threads + Wait + Sync>(rt: &R, alloc: Global, cases: &[Case<'_>]) {
+    for case in cases {
+        is_left(rt, alloc, case);
     }
 }
 
-fn has_left(left: &Left, case: &Case) -> bool {
-    is_left(left, case.status, case.text, case.held) && left.history().len() == case.entries
-}
-
-/// Whether a run ended with this status, the sink took this text, and the file has these bytes.
-pub fn is_left(left: &Left, status: u8, text: &str, file: &[u8]) -> bool {
-    left.tells(status, text) && left.file() == file
-}
-
-/// Whether `check` writes this of a file.
-pub fn is_checked<R: Abort + Threads + Wait + Sync>(
+/// The same of a run with each of these words.
+pub fn each_words_are_left<R: Abort + Threads + Wait + Sync>(
     rt: &R,
     alloc: Global,
-    file: &[u8],
-    counts: &str,
-) -> bool {
-    let left = run_on(rt, alloc, CHECK, HEADER, file, &NO_FAULTS);
-    left.tells(0, counts)
+    case: &Case<'_>,
+    all: &[&[&str]],
+) {
+    for words in all {
+        is_left(rt, alloc, &Case { words, ..*case });
+    }
 }

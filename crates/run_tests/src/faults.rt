@@ -1,6 +1,6 @@
 //! Plays over a log where an end fails, or the log isn't opened.
-use crate::checks::{Case, EMPTY, PLAY, each_is_left, is_checked};
-use crate::memory::{EMPTY_LOG, Faults, Left, NO_FAULTS, PUT_LOG, run_on};
+use crate::checks::{CHECK, Case, EMPTY, each_is_left, holds, is_left, run_case};
+use crate::memory::{Left, PUT_LOG};
 use disk_mem::{DiskCall, Fail, MemDisk};
 use plain_list::{Entry, Lost, Op};
 use std::alloc::Global;
@@ -50,34 +50,39 @@ fn image_of(disk: &MemDisk, commit_byte: u8) -> Result<Vec<u8>, Memory> {
     }
 }
 
-const THREE_PUTS: &str = rows!("1,put,7,3,5,,\n1,put,8,4,5,,\n1,put,9,5,5,,\n");
+// A run of three puts where these calls fail.
+fn three_puts(calls: &[Fail]) -> Case<'_> {
+    Case {
+        input: rows!("1,put,7,3,5,,\n1,put,8,4,5,,\n1,put,9,5,5,,\n"),
+        calls,
+        ..EMPTY
+    }
+}
 
 const TWO_CELLS: &str = "cells 2\npoints 2\nleaves 1\nunfinished 0\n";
 
 const THREE_CELLS: &str = "cells 3\npoints 3\nleaves 1\nunfinished 0\n";
 
-// A run of three puts where a sync of this number fails.
+// A run of three puts where the sync of this number fails.
 fn run_failing<R: Abort + Threads + Wait + Sync>(rt: &R, alloc: Global, number: u64) -> Left {
     let call = DiskCall::Sync;
-    let faults = Faults {
-        calls: &[Fail { call, number }],
-        ..NO_FAULTS
-    };
-    run_on(rt, alloc, PLAY, THREE_PUTS, EMPTY_LOG, &faults)
+    run_case(rt, alloc, &three_puts(&[Fail { call, number }]))
 }
 
-// Whether such a run ends at the third put, the file then holds so much, and a crash leaves two puts or so much.
+// Fails unless such a run ends at the third put, the file then holds so much, and a crash leaves two puts or so much.
 fn ends_at_the_third<R: Abort + Threads + Wait + Sync>(
     rt: &R,
     alloc: Global,
     number: u64,
     held: &str,
-) -> bool {
+) {
     let left = run_failing(rt, alloc, number);
-    if !has_lost_the_third(&left) {
-        return false;
-    }
-    holds_so_much(rt, alloc, &left.disk, held)
+    holds(rt, has_lost_the_third(&left), "no put was lost");
+    holds_so_much(rt, alloc, &left.disk, held);
+}
+
+fn has_lost_the_third(left: &Left) -> bool {
+    left.tells(7, "refused disk cell 2\n") && is_third_put_lost(left.history())
 }
 
 fn holds_so_much<R: Abort + Threads + Wait + Sync>(
@@ -85,57 +90,65 @@ fn holds_so_much<R: Abort + Threads + Wait + Sync>(
     alloc: Global,
     disk: &MemDisk,
     held: &str,
-) -> bool {
-    is_checked(rt, alloc, disk.bytes(), held)
-        && is_image_checked(rt, alloc, disk, 0, TWO_CELLS)
-        && is_image_checked(rt, alloc, disk, 1, held)
+) {
+    is_checked(rt, alloc, disk.bytes(), held);
+    is_image_checked(rt, alloc, disk, 0, TWO_CELLS);
+    is_image_checked(rt, alloc, disk, 1, held);
 }
 
-fn has_lost_the_third(left: &Left) -> bool {
-    left.tells(7, "refused disk cell 2\n") && is_third_put_lost(left.history())
-}
-
-// Whether `check` writes this of the crash image with this commit byte.
+// Fails unless `check` writes this of the crash image with this commit byte.
 fn is_image_checked<R: Abort + Threads + Wait + Sync>(
     rt: &R,
     alloc: Global,
     disk: &MemDisk,
     commit_byte: u8,
     counts: &str,
-) -> bool {
+) {
     let image = image_of(disk, commit_byte).expect(rt, "it failed");
-    is_checked(rt, alloc, image.as_slice(), counts)
+    is_checked(rt, alloc, image.as_slice(), counts);
+}
+
+fn checking<'a>(file: &'a [u8], counts: &'a str) -> Case<'a> {
+    Case {
+        file: Some(file),
+        text: counts,
+        held: file,
+        ..CHECK
+    }
+}
+
+// Fails unless `check` writes this of a file.
+fn is_checked<R: Abort + Threads + Wait + Sync>(rt: &R, alloc: Global, file: &[u8], counts: &str) {
+    is_left(rt, alloc, &checking(file, counts));
 }
 
 // Of each image that a crash may leave the commit byte of the third cell is clear, or it is set behind a synced cell.
 #[test]
 fn a_failed_sync_ends_a_run_at_its_cell(rt: HostRuntime) {
-    assert_so!(rt; ends_at_the_third(&rt, rt.alloc(), 6, TWO_CELLS));
-    assert_so!(rt; ends_at_the_third(&rt, rt.alloc(), 7, THREE_CELLS));
+    ends_at_the_third(&rt, rt.alloc(), 6, TWO_CELLS);
+    ends_at_the_third(&rt, rt.alloc(), 7, THREE_CELLS);
 }
 
-const PUTS: Case = Case {
+const PUTS: Case<'static> = Case {
     input: ROW,
     ..EMPTY
 };
 
-const NO_LOG: Case = Case { status: 4, ..PUTS };
+const NO_LOG: Case<'static> = Case { status: 4, ..PUTS };
 
-const REFUSED: Case = Case {
+const REFUSED: Case<'static> = Case {
     status: 7,
     text: "refused disk\n",
     ..PUTS
 };
 
-macro_rules! failing {
+// The first call of a kind.
+macro_rules! first {
     ($call:expr) => {
-        Faults {
-            calls: &[Fail {
-                call: $call,
-                number: 1,
-            }],
-            ..NO_FAULTS
-        }
+        &[Fail {
+            call: $call,
+            number: 1,
+        }]
     };
 }
 
@@ -146,7 +159,7 @@ const OLD: &[u8] = b"MDLOCLOG\x03\x01\0\0\0\0\0\0\0";
 const HEADER_ALONE: &[u8] = b"MDLOCLOG\x01\x01\0\0\0\0\0\0";
 
 // A put that calls nothing and leaves the file.
-const UNOPENED: &[Case] = &[
+const UNOPENED: &[Case<'static>] = &[
     Case {
         name: "a put over a set commit byte alone",
         file: Some(SHORT),
@@ -177,22 +190,22 @@ const UNOPENED: &[Case] = &[
     },
     Case {
         name: "a put where the attach fails",
-        faults: failing!(DiskCall::Attach),
+        calls: first!(DiskCall::Attach),
         ..REFUSED
     },
     Case {
         name: "a put where the first sync fails",
-        faults: failing!(DiskCall::Sync),
+        calls: first!(DiskCall::Sync),
         ..REFUSED
     },
     Case {
         name: "a put where the length fails",
-        faults: failing!(DiskCall::Len),
+        calls: first!(DiskCall::Len),
         ..REFUSED
     },
     Case {
         name: "a put where the first read fails",
-        faults: failing!(DiskCall::Read),
+        calls: first!(DiskCall::Read),
         ..REFUSED
     },
 ];
@@ -202,33 +215,28 @@ fn a_log_that_is_not_opened_stays_as_it_was(rt: HostRuntime) {
     each_is_left(&rt, rt.alloc(), UNOPENED);
 }
 
-const ATTACHED: Faults<'static> = failing!(DiskCall::Attach);
-
-const IN_ORDER: &[Case] = &[
+const IN_ORDER: &[Case<'static>] = &[
     Case {
         name: "neither the source nor the drive",
-        faults: Faults {
-            reads: &[1],
-            ..ATTACHED
-        },
+        reads: &[1],
+        calls: first!(DiskCall::Attach),
         status: 5,
         text: "refused source\n",
+        attaches: "",
         ..PUTS
     },
     Case {
         name: "a row at fault, and no drive",
         input: rows!("1,put,7,-3,5,,\n"),
-        faults: ATTACHED,
+        calls: first!(DiskCall::Attach),
         status: 3,
         text: "refused row 1 column 4\n",
+        attaches: "",
         ..PUTS
     },
     Case {
         name: "a put, and no sink",
-        faults: Faults {
-            puts: &[1],
-            ..NO_FAULTS
-        },
+        puts: &[1],
         status: 6,
         text: "",
         held: PUT_LOG,

@@ -1,6 +1,8 @@
 //! A world of all the objects that it may have, through a log of their puts.
-use crate::memory::{NO_FAULTS, run_over};
+use crate::checks::holds;
+use crate::memory::{Plan, run_over};
 use disk_mem::MemDisk;
+use io_edge::OpenGate;
 use std::alloc::{AllocError, Global};
 use std::process::Abort;
 use std::sync::Wait;
@@ -36,14 +38,18 @@ const BEHIND: &[u8] = b"\
     \x01\x05\0\0\0\0\0\0\0\x03\0\0\0\0\0\0\0\0\0\0\0\0\0\0\0\0\0\0\0\0\0\0\
     \x01\x01\0\0\0\0\0\x10\0\0\0\0\0\x03\0\0\0\x05\0\0\0\0\0\0\0\0\0\0\0\0\0\0";
 
-const LINES: &str =
-    "row,place,answer,detail\n1,1,full,\n2,2,present,2147483648:0\n3,3,gone,1073741824:0\n4,4,done,\n";
+const CHANGES: Plan<'static> = Plan {
+    words: &["play", "log", "--bucket", "4096"],
+    input: rows!("1,put,1048576,3,5,,\n1,put,1,3,5,,\n1,drop,2,,,,\n1,put,1048576,3,5,,\n"),
+    file: None,
+    reads: &[],
+    puts: &[],
+    calls: &[],
+};
 
-const INPUT: &str = rows!(
-    "1,put,1048576,3,5,,\n1,put,1,3,5,,\n1,drop,2,,,,\n1,put,1048576,3,5,,\n"
+const LINES: &str = lines!(
+    "1,1,full,\n2,2,present,2147483648:0\n3,3,gone,1073741824:0\n4,4,done,\n"
 );
-
-const WORDS: &[&str] = &["play", "log", "--bucket", "4096"];
 
 fn full_disk(alloc: Global) -> Result<MemDisk, Memory> {
     MemDisk::new(alloc, full_log(alloc)?, 34_000_000, 20_000, Vec::new(alloc))
@@ -52,16 +58,11 @@ fn full_disk(alloc: Global) -> Result<MemDisk, Memory> {
 // A put that finds the world full, and one of an object that is there, leave no record of their own. Behind each row the first full leaf is
 // split before the next one. With those at the end there are 511 splits, of two records each: 509 to have 4,096 objects in each leaf, and
 // two where (3,5) is one more.
-fn keeps_changes_and_splits_alone<R: Abort + Threads + Wait + Sync>(rt: &R, alloc: Global) -> bool {
-    let left = run_over(
-        rt,
-        alloc,
-        WORDS,
-        INPUT,
-        full_disk(alloc).expect(rt, "it failed"),
-        &NO_FAULTS,
-    );
-    is_kept(left.file()) && left.tells(0, LINES)
+fn keeps_changes_and_splits_alone<R: Abort + Threads + Wait + Sync>(rt: &R, alloc: Global) {
+    let disk = full_disk(alloc).expect(rt, "it failed");
+    let left = run_over(rt, alloc, &CHANGES, disk, &OpenGate);
+    let is_left = is_kept(left.file()) && left.tells(0, LINES);
+    holds(rt, is_left, "a full world");
 }
 
 fn is_kept(file: &[u8]) -> bool {
@@ -71,5 +72,5 @@ fn is_kept(file: &[u8]) -> bool {
 
 #[test]
 fn a_world_of_1048576_objects_takes_no_other(rt: HostRuntime) {
-    assert_so!(rt; keeps_changes_and_splits_alone(&rt, rt.alloc()));
+    keeps_changes_and_splits_alone(&rt, rt.alloc());
 }

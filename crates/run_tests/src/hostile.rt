@@ -8,5 +8,5 @@ mod ends;
 mod gates;
 mod moments;
 mod one_id;
-mod records;
+pub mod records;
 mod runs;

@@ -7,15 +7,6 @@
 //! as long.
 #![tactic(auto)]
 
-// `assert!` of what a function tells, with the branch in a function of its own: the proof of a function with several of them is much shorter
-// so.
-#[cfg(test)]
-macro_rules! assert_so {
-    ($rt:expr; $told:expr $(,)?) => {
-        crate::checks::holds(&$rt, $told, concat!("assertion failed: ", stringify!($told)))
-    };
-}
-
 // An input of these rows.
 #[cfg(test)]
 macro_rules! rows {
@@ -32,8 +23,6 @@ macro_rules! lines {
     };
 }
 
-#[cfg(test)]
-mod attaches;
 #[cfg(test)]
 mod checks;
 #[cfg(test)]
@@ -54,7 +43,5 @@ mod shows;
 mod tests;
 #[cfg(test)]
 mod trials;
-#[cfg(test)]
-mod words;
 #[cfg(test)]
 mod worked;

@@ -1,37 +1,22 @@
 //! The commands over a log, with worked files and faults of the drive and the sink. The source fails at once.
-use crate::checks::{CHECK, Case, EMPTY, INIT, ONE_PUT, each_is_left};
-use crate::memory::{Faults, NO_FAULTS};
+use crate::checks::{CHECK, Case, EMPTY, INIT, NO_LOG, each_is_left};
+use crate::memory::{EMPTY_LOG, PUT_LOG};
 use disk_mem::{DiskCall, Fail};
 
-const UNREAD: Faults<'static> = Faults {
-    reads: &[1],
-    ..NO_FAULTS
-};
+const ATTACH: &[Fail] = &[Fail {
+    call: DiskCall::Attach,
+    number: 1,
+}];
 
-const UNATTACHED: Faults<'static> = Faults {
-    calls: &[Fail {
-        call: DiskCall::Attach,
-        number: 1,
-    }],
-    ..UNREAD
-};
-
-const UNWRITTEN: Faults<'static> = Faults {
-    puts: &[1],
-    ..UNREAD
-};
-
-const INITS: Case = Case {
-    words: INIT,
+const INITS: Case<'static> = Case {
     input: "",
-    faults: UNREAD,
-    text: "made\n",
-    ..EMPTY
+    reads: &[1],
+    ..INIT
 };
 
 const SHORT: &[u8] = b"MDLOCLOG\x01\x01\0\0\0\0\0\0\x01";
 
-const MADE: &[Case] = &[
+const MADE: &[Case<'static>] = &[
     Case {
         name: "init of an empty file",
         file: Some(&[]),
@@ -52,14 +37,14 @@ const MADE: &[Case] = &[
     },
     Case {
         name: "init of a drive that can't be attached",
-        faults: UNATTACHED,
+        calls: ATTACH,
         status: 7,
         text: "refused disk\n",
         ..INITS
     },
     Case {
         name: "init with a sink that fails",
-        faults: UNWRITTEN,
+        puts: &[1],
         status: 6,
         text: "",
         ..INITS
@@ -71,14 +56,13 @@ fn init_makes_a_log_of_no_cells(rt: HostRuntime) {
     each_is_left(&rt, rt.alloc(), MADE);
 }
 
-const CHECKS: Case = Case {
-    words: CHECK,
+const CHECKS: Case<'static> = Case {
     input: "",
-    faults: UNREAD,
-    ..EMPTY
+    reads: &[1],
+    ..CHECK
 };
 
-const DAMAGED: Case = Case {
+const DAMAGED: Case<'static> = Case {
     status: 4,
     ..CHECKS
 };
@@ -95,19 +79,17 @@ const OLD: &[u8] = b"MDLOCLOG\x03\x01\0\0\0\0\0\0\0";
 
 const HEADER_ALONE: &[u8] = b"MDLOCLOG\x01\x01\0\0\0\0\0\0";
 
-const CHECKED: &[Case] = &[
+const CHECKED: &[Case<'static>] = &[
     Case {
         name: "check of no cells",
-        text: "cells 0\npoints 0\nleaves 1\nunfinished 0\n",
         ..CHECKS
     },
     Case {
         name: "check of a put",
-        words: CHECK,
-        input: "",
-        faults: UNREAD,
+        file: Some(PUT_LOG),
         text: "cells 1\npoints 1\nleaves 1\nunfinished 0\n",
-        ..ONE_PUT
+        held: PUT_LOG,
+        ..CHECKS
     },
     Case {
         name: "check of a kind that isn't there",
@@ -146,14 +128,14 @@ const CHECKED: &[Case] = &[
     },
     Case {
         name: "check of a drive that can't be attached",
-        faults: UNATTACHED,
+        calls: ATTACH,
         status: 7,
         text: "refused disk\n",
         ..CHECKS
     },
     Case {
         name: "check with a sink that fails",
-        faults: UNWRITTEN,
+        puts: &[1],
         status: 6,
         text: "",
         ..CHECKS
@@ -163,4 +145,36 @@ const CHECKED: &[Case] = &[
 #[test]
 fn check_tells_four_lines_or_what_is_wrong(rt: HostRuntime) {
     each_is_left(&rt, rt.alloc(), CHECKED);
+}
+
+const ATTACHES: &[Case<'static>] = &[
+    Case {
+        name: "init of a",
+        words: &["init", "a"],
+        attaches: "makes a\n",
+        ..INIT
+    },
+    Case {
+        name: "check of a",
+        words: &["check", "a"],
+        attaches: "opens a\n",
+        ..CHECK
+    },
+    Case {
+        name: "play over a",
+        words: &["play", "a"],
+        attaches: "opens a\n",
+        ..EMPTY
+    },
+    Case {
+        name: "play over no log beside a file",
+        file: Some(EMPTY_LOG),
+        held: EMPTY_LOG,
+        ..NO_LOG
+    },
+];
+
+#[test]
+fn a_command_over_a_log_attaches_its_file_once(rt: HostRuntime) {
+    each_is_left(&rt, rt.alloc(), ATTACHES);
 }

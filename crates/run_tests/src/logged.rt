@@ -1,9 +1,8 @@
 //! Rows that are played over a log: what is kept, what a later run finds, and splits.
-use crate::checks::{
-    CHECK, Case, EMPTY, INIT, ONE_PUT, PLAY_BY_4, each_is_left, holds, is_checked, is_left,
-};
-use crate::memory::{EMPTY_LOG, Left, NO_FAULTS, PUT_LOG, run_on};
-use std::alloc::Global;
+use crate::checks::{CHECK, Case, EMPTY, INIT, ONE_PUT, PLAY_BY_4, each_is_left, is_left};
+use crate::hostile::records::{BEGIN, INSTALL, PUT, Record, log_of};
+use crate::memory::{PUT_LOG, TWO_LEAVES_LOG};
+use std::alloc::{AllocError, Global};
 use std::process::Abort;
 use std::sync::Wait;
 use std::thread::Threads;
@@ -13,14 +12,14 @@ const BEGUN_LOG: &[u8] = b"MDLOCLOG\x01\x01\0\0\0\0\0\0\
     \x01\x04\0\0\0\0\0\0\0\x01\0\0\0\0\0\0\0\0\0\0\0\0\0\0\0\0\0\0\0\0\0\0\
     \0";
 
-// Begin 1 of the empty name, install 1, and a clear commit byte.
-const SPLIT_1: &[u8] = b"\
+// A log of begin 1 of the empty name, the five puts below, begin 2 of the empty name, and install 2.
+const BEGUN_ANEW_LOG: &[u8] = b"MDLOCLOG\x01\x01\0\0\0\0\0\0\
     \x01\x04\0\0\0\0\0\0\0\x01\0\0\0\0\0\0\0\0\0\0\0\0\0\0\0\0\0\0\0\0\0\0\
-    \x01\x05\0\0\0\0\0\0\0\x01\0\0\0\0\0\0\0\0\0\0\0\0\0\0\0\0\0\0\0\0\0\0\
-    \0";
-
-// Begin 2 of the empty name, install 2, and a clear commit byte.
-const SPLIT_2: &[u8] = b"\
+    \x01\x01\0\0\0\0\0\0\0\x01\0\0\0\0\0\0\0\0\0\0\0\0\0\0\0\0\0\0\0\0\0\0\
+    \x01\x01\0\0\0\0\0\0\0\x02\x80\0\0\0\0\0\0\0\0\0\0\0\0\0\0\0\0\0\0\0\0\0\
+    \x01\x01\0\0\0\0\0\0\0\x03\0\0\0\0\x80\0\0\0\0\0\0\0\0\0\0\0\0\0\0\0\0\0\
+    \x01\x01\0\0\0\0\0\0\0\x04\x80\0\0\0\x80\0\0\0\0\0\0\0\0\0\0\0\0\0\0\0\0\0\
+    \x01\x01\0\0\0\0\0\0\0\x05\0\0\0\x01\0\0\0\x01\0\0\0\0\0\0\0\0\0\0\0\0\0\0\
     \x01\x04\0\0\0\0\0\0\0\x02\0\0\0\0\0\0\0\0\0\0\0\0\0\0\0\0\0\0\0\0\0\0\
     \x01\x05\0\0\0\0\0\0\0\x02\0\0\0\0\0\0\0\0\0\0\0\0\0\0\0\0\0\0\0\0\0\0\
     \0";
@@ -41,7 +40,7 @@ const LONG_LOG: &[u8] = b"MDLOCLOG\x01\x01\0\0\0\0\0\0\
     \x05\x05\x05\x05\x05\x05\x05\x05\x05\x05\x05\x05\x05\x05\x05\x05\x05\x05\x05\x05";
 
 // A put is found again, what stands behind a log is cut off, and a split that was begun is unfinished.
-const FOUND: &[Case] = &[
+const FOUND: &[Case<'static>] = &[
     Case {
         name: "a put",
         input: rows!("1,put,7,3,5,,\n"),
@@ -52,7 +51,7 @@ const FOUND: &[Case] = &[
     },
     Case {
         name: "check behind the put",
-        words: CHECK,
+        words: &["check", "log"],
         text: ONE_CELL,
         ..ONE_PUT
     },
@@ -65,18 +64,18 @@ const FOUND: &[Case] = &[
     },
     Case {
         name: "init behind the put",
-        words: INIT,
+        file: Some(PUT_LOG),
         status: 10,
         text: "refused in use 49\n",
-        ..ONE_PUT
+        held: PUT_LOG,
+        ..INIT
     },
     Case {
         name: "check of a log with bytes behind it",
-        words: CHECK,
         file: Some(LONG_LOG),
         text: ONE_CELL,
         held: LONG_LOG,
-        ..EMPTY
+        ..CHECK
     },
     Case {
         name: "a play over a log with bytes behind it",
@@ -89,11 +88,10 @@ const FOUND: &[Case] = &[
     },
     Case {
         name: "check of a split that was begun",
-        words: CHECK,
         file: Some(BEGUN_LOG),
         text: "cells 1\npoints 0\nleaves 1\nunfinished 1\n",
         held: BEGUN_LOG,
-        ..EMPTY
+        ..CHECK
     },
 ];
 
@@ -102,96 +100,133 @@ fn a_later_run_finds_what_a_log_keeps(rt: HostRuntime) {
     each_is_left(&rt, rt.alloc(), FOUND);
 }
 
-// Whether these rows with buckets of 4, over a file with the bytes `before`, leave so many bytes with this end and so many entries,
-// `check` tells these counts of them, and a box over them finds this.
-fn splits<R: Abort + Threads + Wait + Sync>(
-    rt: &R,
-    alloc: Global,
-    rows: &str,
-    before: &[u8],
-    left: SplitLog<'_>,
-) -> bool {
-    let played = run_on(rt, alloc, PLAY_BY_4, rows, before, &NO_FAULTS);
-    if !is_split(&played, left) {
-        return false;
-    }
-    is_found_again(rt, alloc, played.file(), left)
-}
+const FIVE_LINES: &str = lines!("1,1,done,\n2,2,done,\n3,3,done,\n4,4,done,\n5,5,done,\n");
 
-fn is_split(played: &Left, left: SplitLog<'_>) -> bool {
-    let entries = played.history().len();
-    played.status == 0 && entries == left.entries && is_end(played.file(), left)
-}
-
-fn is_end(file: &[u8], left: SplitLog<'_>) -> bool {
-    file.len() == left.len && file.ends_with(left.end)
-}
-
-// Whether `check` and a later box tell of a file what they should, and leave it.
-fn is_found_again<R: Abort + Threads + Wait + Sync>(
-    rt: &R,
-    alloc: Global,
-    file: &[u8],
-    left: SplitLog<'_>,
-) -> bool {
-    if !is_checked(rt, alloc, file, left.counts) {
-        return false;
-    }
-    let again = run_on(rt, alloc, PLAY_BY_4, BOX, file, &NO_FAULTS);
-    is_left(&again, 0, left.found, file)
-}
-
-// What is wanted of a log with splits.
-#[derive(Clone, Copy)]
-struct SplitLog<'a> {
-    len: usize,
-    end: &'a [u8],
-    entries: usize,
-    counts: &'a str,
-    found: &'a str,
-}
-
-const TWO_LEAVES: SplitLog<'static> = SplitLog {
-    len: 241,
-    end: SPLIT_1,
+const PUTS_BY_4: Case<'static> = Case {
+    name: "five puts with buckets of 4",
+    words: PLAY_BY_4,
+    input: CORNERS,
+    text: FIVE_LINES,
+    held: TWO_LEAVES_LOG,
     entries: 7,
-    counts: "cells 7\npoints 5\nleaves 2\nunfinished 0\n",
-    found: lines!("1,1,found,1:0:0;5:1:1\n"),
+    ..EMPTY
 };
 
-const ONE_POINT: &str = rows!(
-    "1,put,1,3,5,,\n1,put,2,3,5,,\n1,put,3,3,5,,\n1,put,4,3,5,,\n1,put,5,3,5,,\n"
-);
-
-const MANY_LEAVES: SplitLog<'static> = SplitLog {
-    len: 4_273,
-    end: &[0],
-    entries: 133,
-    counts: "cells 133\npoints 5\nleaves 65\nunfinished 0\n",
-    found: lines!("1,1,found,1:3:5;2:3:5;3:3:5;4:3:5;5:3:5\n"),
+const BOX_BY_4: Case<'static> = Case {
+    name: "a box of two of five points",
+    words: PLAY_BY_4,
+    input: BOX,
+    file: Some(TWO_LEAVES_LOG),
+    text: lines!("1,1,found,1:0:0;5:1:1\n"),
+    held: TWO_LEAVES_LOG,
+    entries: 1,
+    ..EMPTY
 };
 
-const BEGUN_ANEW: SplitLog<'static> = SplitLog {
-    len: 273,
-    end: SPLIT_2,
-    counts: "cells 8\npoints 5\nleaves 2\nunfinished 0\n",
-    ..TWO_LEAVES
-};
-
-// Rows, and the log that they are played over. A split that it left open is begun anew.
-const SPLITS: &[(&str, &[u8], SplitLog<'static>)] = &[
-    (CORNERS, EMPTY_LOG, TWO_LEAVES),
-    (ONE_POINT, EMPTY_LOG, MANY_LEAVES),
-    (CORNERS, BEGUN_LOG, BEGUN_ANEW),
+// What the puts leave is found again. A split that the log left open is begun anew.
+const SPLITS: &[Case<'static>] = &[
+    PUTS_BY_4,
+    Case {
+        name: "check of a split",
+        file: Some(TWO_LEAVES_LOG),
+        text: "cells 7\npoints 5\nleaves 2\nunfinished 0\n",
+        held: TWO_LEAVES_LOG,
+        ..CHECK
+    },
+    BOX_BY_4,
+    Case {
+        name: "five puts over a split that was begun",
+        file: Some(BEGUN_LOG),
+        held: BEGUN_ANEW_LOG,
+        ..PUTS_BY_4
+    },
+    Case {
+        name: "check of a split that was begun anew",
+        file: Some(BEGUN_ANEW_LOG),
+        text: "cells 8\npoints 5\nleaves 2\nunfinished 0\n",
+        held: BEGUN_ANEW_LOG,
+        ..CHECK
+    },
+    Case {
+        name: "a box over a split that was begun anew",
+        file: Some(BEGUN_ANEW_LOG),
+        held: BEGUN_ANEW_LOG,
+        ..BOX_BY_4
+    },
 ];
 
-fn each_split<R: Abort + Threads + Wait + Sync>(rt: &R, alloc: Global) {
-    for (rows, before, left) in SPLITS {
-        holds(rt, splits(rt, alloc, rows, before, *left), left.counts);
+// The key of (3,5), whose first bits are the names of the leaves that have it.
+const KEY: u64 = 0b11011;
+
+// A log of puts 1 to 5 at (3,5), and 64 splits, each of the leaf that has them.
+fn many_leaves_log(alloc: Global) -> Result<Vec<u8>, AllocError> {
+    let mut records = Vec::new(alloc);
+    for number in 1..=5 {
+        records.push(Record {
+            kind: PUT,
+            number,
+            place: 0x3_0000_0005,
+            len: 0,
+        })?;
     }
+    for len in 0..64u8 {
+        add_split(&mut records, len)?;
+    }
+    log_of(alloc, records.as_slice(), &[0])
+}
+
+// Adds the begin and the install of the split of the leaf whose name has so many bits.
+fn add_split(records: &mut Vec<Record>, len: u8) -> Result<(), AllocError> {
+    let begin = Record {
+        kind: BEGIN,
+        number: (len as u64).saturating_add(1),
+        place: KEY & !u64::MAX.checked_shr(len as u32).unwrap_or(0),
+        len,
+    };
+    records.push(begin)?;
+    records.push(Record {
+        kind: INSTALL,
+        place: 0,
+        len: 0,
+        ..begin
+    })?;
+    Ok(())
+}
+
+const CHECK_65: Case<'static> = Case {
+    name: "check of 65 leaves",
+    text: "cells 133\npoints 5\nleaves 65\nunfinished 0\n",
+    ..CHECK
+};
+
+const BOX_65: Case<'static> = Case {
+    name: "a box over 65 leaves",
+    text: lines!("1,1,found,1:3:5;2:3:5;3:3:5;4:3:5;5:3:5\n"),
+    ..BOX_BY_4
+};
+
+// Five puts at one point, and the log that they leave.
+fn five_puts(held: &[u8]) -> Case<'_> {
+    Case {
+        name: "five puts at one point",
+        input: rows!("1,put,1,3,5,,\n1,put,2,3,5,,\n1,put,3,3,5,,\n1,put,4,3,5,,\n1,put,5,3,5,,\n"),
+        held,
+        entries: 133,
+        ..PUTS_BY_4
+    }
+}
+
+// Five puts at one point make as many splits as a name may have bits, and are found again.
+fn splits_of_one_point<R: Abort + Threads + Wait + Sync>(rt: &R, alloc: Global) {
+    let log = many_leaves_log(alloc).expect(rt, "it failed");
+    let log = log.as_slice();
+    is_left(rt, alloc, &five_puts(log));
+    is_left(rt, alloc, &CHECK_65.over(log));
+    is_left(rt, alloc, &BOX_65.over(log));
 }
 
 #[test]
 fn splits_are_kept_and_found_again(rt: HostRuntime) {
-    each_split(&rt, rt.alloc());
+    each_is_left(&rt, rt.alloc(), SPLITS);
+    splits_of_one_point(&rt, rt.alloc());
 }

@@ -2,15 +2,15 @@
 //!
 //! Here is the one place where tests call `run`. It says nothing of what the run left, so that the proof of a test knows nothing of the
 //! promise that it tries: what a run left is compared while the test runs.
-mod faults;
 mod inputs;
 mod left;
 mod logs;
 mod noting;
+mod plan;
 mod runs;
 
-pub use faults::{Faults, NO_FAULTS};
-pub use inputs::{HEADER, repeated};
+pub use inputs::repeated;
 pub use left::Left;
-pub use logs::{EMPTY_LOG, PUT_LOG};
-pub use runs::{run_apart, run_gated, run_on, run_over};
+pub use logs::{EMPTY_LOG, PUT_LOG, TWO_LEAVES_LOG};
+pub use plan::Plan;
+pub use runs::{run_gated, run_over, run_plan};

@@ -1,12 +1,14 @@
 //! Runs over no log: worked inputs, each refusal's line, and faults of both ends. Each call of a drive fails.
-use crate::checks::{Case, NO_LOG, PLAY_NO_LOG, each_is_left, holds};
-use crate::memory::{Faults, HEADER, Left, NO_FAULTS, repeated, run_apart};
+use crate::checks::{
+    Case, NO_LOG, ONE_PUT, each_is_left, each_words_are_left, holds, is_left, run_case,
+};
+use crate::memory::repeated;
 use std::alloc::Global;
 use std::process::Abort;
 use std::sync::Wait;
 use std::thread::Threads;
 
-const ROWS: &[Case] = &[
+const ROWS: &[Case<'static>] = &[
     Case {
         name: "two rows",
         input: rows!("1,put,7,3,5,,\n1,where,7,,,,\n"),
@@ -42,52 +44,45 @@ fn each_row_has_its_line(rt: HostRuntime) {
     each_is_left(&rt, rt.alloc(), ROWS);
 }
 
-// Where the lines of the rows below have their places.
-const PLACES: &[usize] = &[26, 36, 46, 58, 69];
+const SEVERAL: Case<'static> = Case {
+    input: rows!("3,put,7,3,5,,\n1,put,8,4,6,,\n16,where,9,,,,\n3,where,7,,,,\n1,move,8,4,7,,\n"),
+    ..NO_LOG
+};
 
-fn without_places(mut lines: Vec<u8>) -> Vec<u8> {
-    for at in PLACES {
-        if let Some(place) = lines.get_mut(*at) {
-            *place = b'?';
-        }
-    }
-    lines
-}
-
-const SEVERAL: &str = rows!(
-    "3,put,7,3,5,,\n1,put,8,4,6,,\n16,where,9,,,,\n3,where,7,,,,\n1,move,8,4,7,,\n"
-);
-
+// For `?` there may be any place.
 const IN_ORDER: &str = lines!("1,?,done,\n2,?,done,\n3,?,absent,\n4,?,at,3:5\n5,?,moved,4:6\n");
 
-// The places are those of one history, whichever thread came first.
-fn keeps_the_order_of_rows<R: Abort + Threads + Wait + Sync>(rt: &R, alloc: Global) -> bool {
-    let left = run_apart(rt, alloc, PLAY_NO_LOG, SEVERAL, &NO_FAULTS);
-    left.status == 0 && is_in_order(left.taken)
+fn are_but_for_places(lines: &[u8], wanted: &[u8]) -> bool {
+    for (byte, wanted) in lines.iter().zip(wanted) {
+        if *wanted != b'?' && byte != wanted {
+            return false;
+        }
+    }
+    lines.len() == wanted.len()
 }
 
-fn is_in_order(taken: Vec<u8>) -> bool {
-    let lines = without_places(taken);
-    lines.as_slice() == IN_ORDER.as_bytes()
+// The places are those of one history, whichever thread came first.
+fn keeps_the_order_of_rows<R: Abort + Threads + Wait + Sync>(rt: &R, alloc: Global) {
+    let left = run_case(rt, alloc, &SEVERAL);
+    let is_in_order = are_but_for_places(left.taken.as_slice(), IN_ORDER.as_bytes());
+    holds(
+        rt,
+        left.status == 0 && is_in_order,
+        "lines of several sessions",
+    );
 }
 
 #[test]
 fn rows_of_several_sessions_have_their_lines_in_order(rt: HostRuntime) {
-    assert_so!(rt; keeps_the_order_of_rows(&rt, rt.alloc()));
+    keeps_the_order_of_rows(&rt, rt.alloc());
 }
 
-const REFUSED: Case = Case {
+const REFUSED: Case<'static> = Case {
     status: 3,
     ..NO_LOG
 };
 
-const USAGE: Case = Case {
-    status: 2,
-    text: "refused usage\n",
-    ..NO_LOG
-};
-
-const NOT_PLAYED: &[Case] = &[
+const NOT_PLAYED: &[Case<'static>] = &[
     Case {
         name: "no input",
         input: "",
@@ -115,10 +110,7 @@ const NOT_PLAYED: &[Case] = &[
     Case {
         name: "a source that fails",
         input: rows!("1,put,7,3,5,,\n"),
-        faults: Faults {
-            reads: &[1],
-            ..NO_FAULTS
-        },
+        reads: &[1],
         status: 5,
         text: "refused source\n",
         ..NO_LOG
@@ -126,72 +118,70 @@ const NOT_PLAYED: &[Case] = &[
     Case {
         name: "a sink that fails",
         input: rows!("1,put,7,3,5,,\n"),
-        faults: Faults {
-            puts: &[1],
-            ..NO_FAULTS
-        },
+        puts: &[1],
         status: 6,
         text: "",
         entries: 1,
         ..NO_LOG
     },
-    Case {
-        name: "play with no log",
-        words: &["play"],
-        ..USAGE
-    },
-    Case {
-        name: "init of no log",
-        words: &["init", "-"],
-        ..USAGE
-    },
-    Case {
-        name: "check of a log with no name",
-        words: &["check", ""],
-        ..USAGE
-    },
-    Case {
-        name: "play over a log that begins like a flag",
-        words: &["play", "-log"],
-        ..USAGE
-    },
-    Case {
-        name: "play over a log with no name",
-        words: &["play", "", "--bucket", "4"],
-        ..USAGE
-    },
-    Case {
-        name: "buckets below the least",
-        words: &["play", "-", "--bucket", "3"],
-        ..USAGE
-    },
-    Case {
-        name: "buckets above the largest",
-        words: &["play", "-", "--bucket", "4097"],
-        ..USAGE
-    },
-    Case {
-        name: "buckets before the log",
-        words: &["play", "--bucket", "4", "-"],
-        ..USAGE
-    },
 ];
 
 #[test]
-fn words_rows_and_ends_at_fault_have_their_line_and_status(rt: HostRuntime) {
+fn rows_and_ends_at_fault_have_their_line_and_status(rt: HostRuntime) {
     each_is_left(&rt, rt.alloc(), NOT_PLAYED);
 }
 
-// Whether an input of so many rows is refused with this line.
-fn is_over_a_limit<R: Abort + Threads + Wait + Sync>(
-    rt: &R,
-    alloc: Global,
-    count: u32,
-    line: &str,
-) -> bool {
-    let input = repeated(alloc, HEADER, count, "1,where,7,,,,\n").expect(rt, "it failed");
-    let left = run_apart(rt, alloc, PLAY_NO_LOG, &input, &NO_FAULTS);
-    left.tells(8, line)
+const USAGE: Case<'static> = Case {
+    name: "words that ask for no command",
+    status: 2,
+    text: "refused usage\n",
+    ..NO_LOG
+};
+
+const NO_WORDS_OF_A_COMMAND: &[&[&str]] = &[
+    &["play"],
+    &["init", "-"],
+    &["check", ""],
+    &["play", "-log"],
+    &["play", "", "--bucket", "4"],
+    &["play", "-", "--bucket", "3"],
+    &["play", "-", "--bucket", "4097"],
+    &["play", "--bucket", "4", "-"],
+];
+
+// Nothing is attached, called or written, and the source, which would fail, isn't read.
+const UNTOUCHED: Case<'static> = Case {
+    name: "words that ask for no command, beside a log",
+    reads: &[1],
+    status: 2,
+    text: "refused usage\n",
+    attaches: "",
+    ..ONE_PUT
+};
+
+const OTHER_WORDS: &[&[&str]] = &[
+    &[],
+    &["play"],
+    &["play", "log", "--bucket", "3"],
+    &["play", "log", "--bucket"],
+    &["init", "-"],
+    &["init", "log", "log"],
+    &["show", "log", "5", "0", "4", "0"],
+    &["show", "log", "0", "1", "0", "0"],
+    &["show", "log", "0", "0", "0", "4294967296"],
+    &["show", "-", "0", "0", "1", "1"],
+    &["--help"],
+    &["trial", "-", "0", "1"],
+    &["trial", "-", "65537", "1"],
+    &["trial", "log", "1", "18446744073709551616"],
+    &["trial", "log", "1"],
+    &["trial", "log", "1", "1", "--bucket", "4"],
+];
+
+#[test]
+fn other_words_are_usage_and_touch_nothing(rt: HostRuntime) {
+    each_words_are_left(&rt, rt.alloc(), &USAGE, NO_WORDS_OF_A_COMMAND);
+    each_words_are_left(&rt, rt.alloc(), &UNTOUCHED, OTHER_WORDS);
 }
 
 const LIMITS: &[(u32, &str)] = &[
@@ -199,13 +189,34 @@ const LIMITS: &[(u32, &str)] = &[
     (1_198_373, "refused limit bytes\n"),
 ];
 
-fn has_limits<R: Abort + Threads + Wait + Sync>(rt: &R, alloc: Global) {
+fn over_a_limit<'a>(input: &'a str, line: &'a str) -> Case<'a> {
+    Case {
+        name: line,
+        input,
+        status: 8,
+        text: line,
+        ..NO_LOG
+    }
+}
+
+// Fails unless an input of so many rows is refused with this line.
+fn is_over_a_limit<R: Abort + Threads + Wait + Sync>(
+    rt: &R,
+    alloc: Global,
+    count: u32,
+    line: &str,
+) {
+    let input = repeated(alloc, NO_LOG.input, count, "1,where,7,,,,\n").expect(rt, "it failed");
+    is_left(rt, alloc, &over_a_limit(&input, line));
+}
+
+fn each_limit<R: Abort + Threads + Wait + Sync>(rt: &R, alloc: Global) {
     for (count, line) in LIMITS {
-        holds(rt, is_over_a_limit(rt, alloc, *count, line), line);
+        is_over_a_limit(rt, alloc, *count, line);
     }
 }
 
 #[test]
 fn the_65537th_row_and_too_many_bytes_are_over_a_limit(rt: HostRuntime) {
-    has_limits(&rt, rt.alloc());
+    each_limit(&rt, rt.alloc());
 }

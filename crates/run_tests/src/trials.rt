@@ -1,8 +1,7 @@
 //! `trial` over no log and over one.
 ghost use Rattle.std.specs.Prelude.{◌≤◌};
 
-use crate::checks::{CHECK, Case, EMPTY, NO_LOG, each_is_left};
-use crate::memory::{HEADER, NO_FAULTS, run_apart};
+use crate::checks::{Case, EMPTY, NO_LOG, each_is_left, holds, run_case};
 use make_moves::make;
 use plain_list::{Op, World, WorldBack, after};
 use std::alloc::{AllocError, Global};
@@ -11,7 +10,7 @@ use std::sync::Wait;
 use std::thread::Threads;
 use zorder::{Memory, key};
 
-const TRIAL: Case = Case {
+const TRIAL: Case<'static> = Case {
     name: "a trial of seed 2",
     words: &["trial", "-", "1", "2"],
     text: "rows 1\npoints 1\nsum 17116200679316071202\n",
@@ -25,7 +24,7 @@ const MADE_LOG: &[u8] = b"MDLOCLOG\x01\x01\0\0\0\0\0\0\
     \0";
 
 // A trial of seed 2 over a log.
-const OVER: Case = Case {
+const OVER: Case<'static> = Case {
     name: "a trial over a log of no cells",
     words: &["trial", "log", "1", "2"],
     held: MADE_LOG,
@@ -34,14 +33,14 @@ const OVER: Case = Case {
     ..EMPTY
 };
 
-const AGAIN: Case = Case {
+const AGAIN: Case<'static> = Case {
     name: "the trial again",
     file: Some(MADE_LOG),
     ..OVER
 };
 
 // Seed 2 makes a put of 1717 at (3938983765, 2969520912), seed 1 a box, and seed 0 a move.
-const ONE_ROW: &[Case] = &[
+const ONE_ROW: &[Case<'static>] = &[
     TRIAL,
     Case {
         name: "a trial of seed 1",
@@ -59,7 +58,7 @@ const ONE_ROW: &[Case] = &[
     AGAIN,
     Case {
         name: "check behind the trial",
-        words: CHECK,
+        words: &["check", "log"],
         text: "cells 1\npoints 1\nleaves 1\nunfinished 0\n",
         entries: 0,
         ..AGAIN
@@ -117,19 +116,27 @@ fn wanted(alloc: Global) -> Result<String, Memory> {
     Ok(text_of(alloc, 20_000, &world)?)
 }
 
-const LONG_TRIAL: &[&str] = &["trial", "-", "20000", "3"];
+const LONG_TRIAL: Case<'static> = Case {
+    name: "a trial of 20,000 rows",
+    words: &["trial", "-", "20000", "3"],
+    ..NO_LOG
+};
 
-// Whether such a trial over no log tells this.
-fn tells<R: Abort + Threads + Wait + Sync>(rt: &R, alloc: Global, told: &str) -> bool {
-    let left = run_apart(rt, alloc, LONG_TRIAL, HEADER, &NO_FAULTS);
-    left.tells(0, told)
+// Fails unless such a trial over no log tells this.
+fn tells<R: Abort + Threads + Wait + Sync>(rt: &R, alloc: Global, told: &str) {
+    let left = run_case(rt, alloc, &LONG_TRIAL);
+    holds(rt, left.tells(0, told), "a trial of 20,000 rows");
+}
+
+fn tells_twice<R: Abort + Threads + Wait + Sync>(rt: &R, alloc: Global) {
+    let wanted = wanted(alloc).expect(rt, "it failed");
+    for _ in 0..2 {
+        tells(rt, alloc, &wanted);
+    }
 }
 
 // However the sessions' threads run, the objects of one session are its own.
 #[test]
 fn a_trial_tells_twice_what_one_plain_list_has(rt: HostRuntime) {
-    let wanted = wanted(rt.alloc()).expect(&rt, "it failed");
-    for _ in 0..2 {
-        assert_so!(rt; tells(&rt, rt.alloc(), &wanted));
-    }
+    tells_twice(&rt, rt.alloc());
 }

@@ -1,6 +1,6 @@
 //! Worked rows and their lines, and the bytes that rows leave in a log.
-use crate::checks::{Case, EMPTY, NO_LOG, PLAY_BY_4, PLAY_NO_LOG, each_is_left, holds};
-use crate::memory::{HEADER, Left, NO_FAULTS, run_on};
+use crate::checks::{Case, EMPTY, NO_LOG, PLAY_BY_4, each_is_left, holds, run_case};
+use crate::memory::Left;
 use std::alloc::{AllocError, Global};
 use std::process::Abort;
 use std::sync::Wait;
@@ -32,7 +32,7 @@ const SPLIT_LOG: &[u8] = b"MDLOCLOG\x01\x01\0\0\0\0\0\0\
     \0";
 
 // Ties go to the lesser id, a box has both its corners, and a change tells where the object was.
-const ROWS: &[Case] = &[
+const ROWS: &[Case<'static>] = &[
     Case {
         name: "the nearest of two that are as near",
         input: rows!("1,put,9,0,1,,\n1,put,3,1,0,,\n1,near,,0,0,1,\n"),
@@ -88,7 +88,7 @@ fn ties_boxes_and_changes_have_their_lines(rt: HostRuntime) {
 
 // An input of puts of ids from 0 on at (id,0), and these rows.
 fn puts_and(alloc: Global, count: u32, rows: &str) -> Result<String, AllocError> {
-    let mut all = String::from_str(alloc, HEADER)?;
+    let mut all = String::from_str(alloc, NO_LOG.input)?;
     for id in 0..count {
         add_put(alloc, &mut all, id)?;
     }
@@ -101,17 +101,25 @@ fn add_put(alloc: Global, all: &mut String, id: u32) -> Result<(), AllocError> {
     all.push_str(&row)
 }
 
-// Whether the lines of so many puts and this query end in this.
+fn playing(input: &str) -> Case<'_> {
+    Case {
+        input,
+        file: Some(&[]),
+        ..NO_LOG
+    }
+}
+
+// Fails unless the lines of so many puts and this query end in this.
 fn ends_in<R: Abort + Threads + Wait + Sync>(
     rt: &R,
     alloc: Global,
     count: u32,
     query: &str,
     end: &str,
-) -> bool {
+) {
     let input = puts_and(alloc, count, query).expect(rt, "it failed");
-    let left = run_on(rt, alloc, PLAY_NO_LOG, &input, &[], &NO_FAULTS);
-    has_end(&left, end)
+    let left = run_case(rt, alloc, &playing(&input));
+    holds(rt, has_end(&left, end), query);
 }
 
 fn has_end(left: &Left, end: &str) -> bool {
@@ -126,7 +134,7 @@ const MANY: &[(u32, &str, &str)] = &[
 
 fn lists_and_counts<R: Abort + Threads + Wait + Sync>(rt: &R, alloc: Global) {
     for (count, query, end) in MANY {
-        holds(rt, ends_in(rt, alloc, *count, query, end), query);
+        ends_in(rt, alloc, *count, query, end);
     }
 }
 
@@ -140,7 +148,7 @@ const TORN_LOG: &[u8] = b"MDLOCLOG\x01\x01\0\0\0\0\0\0\
     \x01\x01\0\0\0\0\0\0\0\x07\0\0\0\x03\0\0\0\x05\0\0\0\0\0\0\0\0\0\0\0\0\0\0\
     MMMMMMMMMMMMMMMMMMMMMMMMMMMMMMMMMMMMMMMMM";
 
-const CHANGES: &[Case] = &[
+const CHANGES: &[Case<'static>] = &[
     Case {
         name: "three changes",
         input: rows!("1,put,7,3,5,,\n1,move,7,4,5,,\n1,drop,7,,,,\n"),

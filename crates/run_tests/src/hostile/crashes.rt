@@ -1,9 +1,11 @@
 //! Each device call of a run failing in turn, and what a crash leaves at each moment of such runs.
+use crate::checks::{Case, INIT, is_left, run_case};
 use crate::hostile::moments::{Trial, judge_images};
-use crate::hostile::records::{BEGIN, EMPTY_LOG, INSTALL, MOVE, PUT, Record, front, log_of};
-use crate::hostile::runs::{Found, Left, Plan, found_in, must, run_plan};
+use crate::hostile::records::{BEGIN, INSTALL, MOVE, PUT, Record, front};
+use crate::hostile::runs::{found_in, images_of, is_log_of, is_refused, must, playing};
+use crate::memory::{EMPTY_LOG, Left, run_plan};
 use disk_mem::{DiskCall, Fail as Failing};
-use std::alloc::{AllocError, Global};
+use std::alloc::Global;
 use std::process::Abort;
 use std::sync::Wait;
 use std::thread::Threads;
@@ -128,27 +130,46 @@ fn records_over(first: usize) -> &'static [Record] {
     }
 }
 
-fn push_lines(
-    text: &mut String,
-    first: usize,
-    fresh: &[&str; 6],
-    again: &[&str; 6],
-) -> Result<(), AllocError> {
-    for (row, (fresh, again)) in fresh.iter().zip(again).enumerate() {
-        text.push_str(if row < first { again } else { fresh })?;
+// What stands behind these lines.
+fn behind<'a>(text: &'a [u8], lines: &[&str]) -> Option<&'a [u8]> {
+    let mut rest = text;
+    for line in lines {
+        rest = rest.strip_prefix(line.as_bytes())?;
     }
-    Ok(())
+    Some(rest)
 }
 
-// The lines of the rows over a log of the first records of them.
-fn output(alloc: Global, first: usize) -> Result<String, AllocError> {
-    let mut text = String::from_str(alloc, "row,place,answer,detail\n")?;
+// Whether these are the lines of the rows over a log of the first records of them.
+fn is_output(text: &[u8], first: usize) -> bool {
     let again = if first == 8 { &AGAIN_MOVED } else { &AGAIN };
-    push_lines(&mut text, first, &FRESH, again)?;
-    Ok(text)
+    let (again, _) = again.split_at(first.min(6));
+    let (_, fresh) = FRESH.split_at(first.min(6));
+    let rest = behind(text, &["row,place,answer,detail\n"]);
+    let rest = rest.and_then(|rest| behind(rest, again));
+    rest.and_then(|rest| behind(rest, fresh)) == Some(&[])
 }
 
 const HALF: u32 = 1 << 31;
+
+const OBJECT_2: Placed = Placed {
+    id: 2,
+    at: Point { x: HALF, y: 0 },
+};
+
+const OBJECT_3: Placed = Placed {
+    id: 3,
+    at: Point { x: 0, y: HALF },
+};
+
+const OBJECT_4: Placed = Placed {
+    id: 4,
+    at: Point { x: HALF, y: HALF },
+};
+
+const OBJECT_5: Placed = Placed {
+    id: 5,
+    at: Point { x: 1, y: 1 },
+};
 
 // The objects in the order of their ids, before the move.
 const OBJECTS: [Placed; 5] = [
@@ -156,77 +177,53 @@ const OBJECTS: [Placed; 5] = [
         id: 1,
         at: Point { x: 0, y: 0 },
     },
-    Placed {
-        id: 2,
-        at: Point { x: HALF, y: 0 },
-    },
-    Placed {
-        id: 3,
-        at: Point { x: 0, y: HALF },
-    },
-    Placed {
-        id: 4,
-        at: Point { x: HALF, y: HALF },
-    },
-    Placed {
-        id: 5,
-        at: Point { x: 1, y: 1 },
-    },
+    OBJECT_2,
+    OBJECT_3,
+    OBJECT_4,
+    OBJECT_5,
 ];
 
-const MOVED_OBJECT: Placed = Placed {
-    id: 1,
-    at: Point { x: 0, y: 1 },
-};
+const MOVED_OBJECTS: [Placed; 5] = [
+    Placed {
+        id: 1,
+        at: Point { x: 0, y: 1 },
+    },
+    OBJECT_2,
+    OBJECT_3,
+    OBJECT_4,
+    OBJECT_5,
+];
 
 // Whether these are the objects of the first so many records.
 fn are_objects(objects: &[Placed], count: usize) -> bool {
-    let (first, others) = OBJECTS.split_at(count.min(1));
-    let (others, _) = others.split_at(count.saturating_sub(1).min(4));
-    match objects.split_first() {
-        Some((one, rest)) if count == 8 => *one == MOVED_OBJECT && rest == others,
-        Some((one, rest)) => first.first() == Some(one) && rest == others,
-        None => count == 0,
-    }
+    let all = if count == 8 { &MOVED_OBJECTS } else { &OBJECTS };
+    let (wanted, _) = all.split_at(count.min(5));
+    objects == wanted
 }
 
-// The splits begun, those of them that haven't ended, and the leaves, behind each number of records.
-const SPLITS: [(u64, u64, usize); 9] = [
-    (0, 0, 1),
-    (0, 0, 1),
-    (0, 0, 1),
-    (0, 0, 1),
-    (0, 0, 1),
-    (0, 0, 1),
-    (1, 1, 1),
-    (1, 0, 2),
-    (1, 0, 2),
+// How many cells, points, leaves, unfinished splits, and splits that were begun, behind each number of records.
+const COUNTS: [[u64; 5]; 9] = [
+    [0, 0, 1, 0, 0],
+    [1, 1, 1, 0, 0],
+    [2, 2, 1, 0, 0],
+    [3, 3, 1, 0, 0],
+    [4, 4, 1, 0, 0],
+    [5, 5, 1, 0, 0],
+    [6, 5, 1, 1, 1],
+    [7, 5, 2, 0, 1],
+    [8, 5, 2, 0, 1],
 ];
 
 // Whether a file is found to be a log of the first so many records.
 fn is_found<R: Abort>(rt: &R, alloc: Global, file: &[u8], count: usize) -> bool {
-    has_found(&found_in(rt, alloc, file), count)
-}
-
-fn has_found(found: &Found, count: usize) -> bool {
-    let Found::State {
-        cells,
-        begun,
-        unfinished,
-        leaves,
-        objects,
-    } = found
-    else {
-        return false;
-    };
-    let is_split = SPLITS.get(count) == Some(&(*begun, *unfinished, *leaves));
-    is_split && *cells == count as u64 && are_objects(objects.as_slice(), count)
+    let found = found_in(rt, alloc, file).expect(rt, "a log is refused");
+    COUNTS.get(count) == Some(&found.counts) && are_objects(found.objects.as_slice(), count)
 }
 
 // Fails unless `inspect` finds in each image of a run over a log of no records what the records in it say.
 fn inspect_images<R: Abort>(rt: &R, alloc: Global, left: &Left) {
     let mut last: &[u8] = &[];
-    for image in left.images.iter() {
+    for image in images_of(rt, alloc, left).iter() {
         let bytes = image.bytes.as_slice();
         if bytes != last {
             let count = front(bytes, WHOLE).unwrap_or(9);
@@ -244,41 +241,36 @@ fn play<R: Abort + Threads + Wait + Sync>(
     file: &[u8],
     calls: &[Failing],
 ) -> Left {
-    let plan = Plan {
-        words: &["play", "log", "--bucket", "4"],
-        input: INPUT,
-        file,
-        reads: &[],
-        puts: &[],
-        calls,
-    };
-    run_plan(rt, alloc, &plan)
+    run_plan(rt, alloc, &playing(INPUT, file, calls))
 }
 
 // Plays the rows over a file that has the first so many records, where no call fails.
 fn play_over<R: Abort + Threads + Wait + Sync>(rt: &R, alloc: Global, file: &[u8], first: usize) {
     let left = play(rt, alloc, file, &[]);
+    let is_told = left.status == 0 && is_output(left.taken.as_slice(), first);
+    must(rt, is_told, "lines over", first as u64);
     let records = records_over(first);
-    let output = output(alloc, first).expect(rt, "it failed");
-    let log = log_of(alloc, records, &[0]).expect(rt, "it failed");
-    let is_whole = left.file.as_slice() == log.as_slice();
-    must(rt, left.tells(0, &output), "lines over", first as u64);
-    must(rt, is_whole, "file over", first as u64);
+    must(
+        rt,
+        is_log_of(rt, alloc, left.file(), records),
+        "file over",
+        first as u64,
+    );
     let trial = Trial {
         file,
         first,
         records,
         is_closed: false,
     };
-    judge_images(rt, &trial, &left);
+    judge_images(rt, alloc, &trial, &left);
 }
 
 // Plays the rows again over each image that a crash may leave at the end of a run.
 fn play_again<R: Abort + Threads + Wait + Sync>(rt: &R, alloc: Global, left: &Left) {
     let mut last: &[u8] = &[];
-    for image in left.images.iter() {
+    for image in images_of(rt, alloc, left).iter() {
         let bytes = image.bytes.as_slice();
-        if image.moment == left.moments && bytes != last {
+        if image.moment == left.disk.moments() && bytes != last {
             let first = front(bytes, WHOLE).unwrap_or(9);
             play_over(rt, alloc, bytes, first);
             last = bytes;
@@ -287,56 +279,53 @@ fn play_again<R: Abort + Threads + Wait + Sync>(rt: &R, alloc: Global, left: &Le
 }
 
 // The cell of the append that a failing call belongs to: an append has two writes and two syncs, and opening one sync.
-fn cell_of(call: DiskCall, number: u64) -> Option<u64> {
-    match call {
-        DiskCall::Write => Some(number.saturating_sub(1) / 2),
-        DiskCall::Sync if number > 1 => Some(number.saturating_sub(2) / 2),
+fn cell_of(failing: Failing) -> Option<u64> {
+    match failing.call {
+        DiskCall::Write => Some(failing.number.saturating_sub(1) / 2),
+        DiskCall::Sync if failing.number > 1 => Some(failing.number.saturating_sub(2) / 2),
         _ => None,
     }
 }
 
-fn line_of(alloc: Global, cell: Option<u64>) -> Result<String, AllocError> {
-    match cell {
-        Some(cell) => format!(in alloc; "refused disk cell {cell}\n"),
-        None => String::from_str(alloc, "refused disk\n"),
-    }
-}
-
 // Judges a run whose call failed by the cell of its append, if it has one.
-fn judge_failed<R: Abort>(rt: &R, alloc: Global, left: &Left, cell: Option<u64>, number: u64) {
-    let line = line_of(alloc, cell).expect(rt, "it failed");
-    must(rt, left.tells(7, &line), "line of call", number);
-    let is_opened = cell.is_some() || left.events.is_empty();
-    must(rt, is_opened, "history of call", number);
+fn judge_failed<R: Abort + Threads + Wait + Sync>(rt: &R, alloc: Global, failing: Failing) {
+    let left = play(rt, alloc, EMPTY_LOG, &[failing]);
+    let cell = cell_of(failing);
+    must(
+        rt,
+        is_refused(rt, alloc, &left, cell),
+        "line of call",
+        failing.number,
+    );
+    let is_opened = cell.is_some() || left.history().is_empty();
+    must(rt, is_opened, "history of call", failing.number);
     let trial = Trial {
         file: EMPTY_LOG,
         first: 0,
         records: WHOLE,
         is_closed: cell.is_some(),
     };
-    judge_images(rt, &trial, left);
+    judge_images(rt, alloc, &trial, &left);
+    judge_last(rt, alloc, &left);
+}
+
+// What a crash leaves of a run is found to be what it is, and can be played over.
+fn judge_last<R: Abort + Threads + Wait + Sync>(rt: &R, alloc: Global, left: &Left) {
     inspect_images(rt, alloc, left);
+    play_again(rt, alloc, left);
 }
 
-// Lets each call of a kind fail in turn, until a run of that kind has nothing that fails. It gives how many failed.
-fn fail_each<R: Abort + Threads + Wait + Sync>(rt: &R, alloc: Global, call: DiskCall) -> u64 {
-    for number in 1..100 {
-        let left = play(rt, alloc, EMPTY_LOG, &[Failing { call, number }]);
-        if left.status == 0 {
-            return number.saturating_sub(1);
-        }
-        judge_failed(rt, alloc, &left, cell_of(call, number), number);
-        play_again(rt, alloc, &left);
-    }
-    rt.panic("a run fails for ever")
-}
-
-// Where no call fails, the lines, the file and each image are as they are over a log of no records; and again over each image of the end.
-fn fail_none<R: Abort + Threads + Wait + Sync>(rt: &R, alloc: Global) {
-    play_over(rt, alloc, EMPTY_LOG, 0);
-    let left = play(rt, alloc, EMPTY_LOG, &[]);
-    inspect_images(rt, alloc, &left);
-    play_again(rt, alloc, &left);
+// A play where no call fails, or where one would that it doesn't make. The lines, the file and each image are as they are over a log of no
+// records.
+fn judge_whole<R: Abort + Threads + Wait + Sync>(rt: &R, alloc: Global, calls: &[Failing]) {
+    let left = play(rt, alloc, EMPTY_LOG, calls);
+    must(
+        rt,
+        left.status == 0,
+        "status where nothing fails",
+        left.status as u64,
+    );
+    judge_last(rt, alloc, &left);
 }
 
 // How many calls a play makes. An append has two writes and two syncs, and there are eight; opening has one sync, and cuts nothing where
@@ -350,11 +339,20 @@ const PLAY_CALLS: &[(DiskCall, u64)] = &[
     (DiskCall::Sync, 17),
 ];
 
+// Lets each call of a kind fail in turn, and then one more than there are.
+fn fail_each<R: Abort + Threads + Wait + Sync>(rt: &R, alloc: Global, call: DiskCall, count: u64) {
+    for number in 1..=count {
+        judge_failed(rt, alloc, Failing { call, number });
+    }
+    let number = count.saturating_add(1);
+    judge_whole(rt, alloc, &[Failing { call, number }]);
+}
+
 fn every_call<R: Abort + Threads + Wait + Sync>(rt: &R, alloc: Global) {
-    fail_none(rt, alloc);
+    play_over(rt, alloc, EMPTY_LOG, 0);
+    judge_whole(rt, alloc, &[]);
     for (call, count) in PLAY_CALLS {
-        let failed = fail_each(rt, alloc, *call);
-        must(rt, failed == *count, "how many calls failed", failed);
+        fail_each(rt, alloc, *call, *count);
     }
 }
 
@@ -363,59 +361,27 @@ fn each_call_of_a_play_fails_in_turn_and_nothing_is_lost(rt: HostRuntime) {
     every_call(&rt, rt.alloc());
 }
 
-// Makes a log over a file with these calls failing.
-fn init<R: Abort + Threads + Wait + Sync>(
-    rt: &R,
-    alloc: Global,
-    file: &[u8],
-    calls: &[Failing],
-) -> Left {
-    let plan = Plan {
-        words: &["init", "log"],
-        input: "",
-        file,
-        reads: &[],
-        puts: &[],
-        calls,
-    };
-    run_plan(rt, alloc, &plan)
-}
-
-fn is_made(left: &Left) -> bool {
-    left.tells(0, "made\n") && left.file.as_slice() == EMPTY_LOG
-}
-
 // Makes a log anew over each image of an init: it has at most 17 bytes, so that takes it.
 fn make_again<R: Abort + Threads + Wait + Sync>(rt: &R, alloc: Global, left: &Left) {
     let mut last: &[u8] = &[0; 18];
-    for image in left.images.iter() {
+    for image in images_of(rt, alloc, left).iter() {
         let bytes = image.bytes.as_slice();
         if bytes != last {
-            let again = init(rt, alloc, bytes, &[]);
-            let is_made = bytes.len() <= 17 && is_made(&again);
-            must(rt, is_made, "made again at", image.moment);
+            must(rt, bytes.len() <= 17, "how long at moment", image.moment);
+            is_left(rt, alloc, &making(bytes, &[]));
         }
         last = bytes;
     }
 }
 
-// Lets each call of a kind fail in turn in an init, as above.
-fn fail_each_of_init<R: Abort + Threads + Wait + Sync>(
-    rt: &R,
-    alloc: Global,
-    call: DiskCall,
-    file: &[u8],
-) -> u64 {
-    for number in 1..10 {
-        let left = init(rt, alloc, file, &[Failing { call, number }]);
-        make_again(rt, alloc, &left);
-        if left.status == 0 {
-            must(rt, is_made(&left), "made without call", number);
-            return number.saturating_sub(1);
-        }
-        must(rt, left.tells(7, "refused disk\n"), "init, call", number);
+// Makes a log over a file with these calls failing.
+fn making<'a>(file: &'a [u8], calls: &'a [Failing]) -> Case<'a> {
+    Case {
+        input: "",
+        file: Some(file),
+        calls,
+        ..INIT
     }
-    rt.panic("an init fails for ever")
 }
 
 const INIT_CALLS: &[(DiskCall, u64)] = &[
@@ -427,15 +393,31 @@ const INIT_CALLS: &[(DiskCall, u64)] = &[
     (DiskCall::Sync, 1),
 ];
 
+// Lets each call of a kind fail in turn in an init, and then one more than there are.
+fn fail_each_of_init<R: Abort + Threads + Wait + Sync>(
+    rt: &R,
+    alloc: Global,
+    file: &[u8],
+    call: DiskCall,
+    count: u64,
+) {
+    for number in 1..=count.saturating_add(1) {
+        let calls = [Failing { call, number }];
+        let making = making(file, &calls);
+        let left = run_case(rt, alloc, &making);
+        let is_as_wanted = if number > count {
+            making.is_left(&left)
+        } else {
+            left.tells(7, "refused disk\n")
+        };
+        must(rt, is_as_wanted, "init, call", number);
+        make_again(rt, alloc, &left);
+    }
+}
+
 fn every_call_of_init<R: Abort + Threads + Wait + Sync>(rt: &R, alloc: Global, file: &[u8]) {
     for (call, count) in INIT_CALLS {
-        let failed = fail_each_of_init(rt, alloc, *call, file);
-        must(
-            rt,
-            failed == *count,
-            "how many calls of init failed",
-            failed,
-        );
+        fail_each_of_init(rt, alloc, file, *call, *count);
     }
 }
 

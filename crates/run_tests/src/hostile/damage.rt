@@ -1,25 +1,28 @@
 //! Damaged logs: what is found in them, and what each command makes of them.
+use crate::checks::{Case, EMPTY, is_untouched, run_case};
 use crate::hostile::records::{ABANDON, BEGIN, DROP, INSTALL, MOVE, PUT, Record, log_of};
-use crate::hostile::runs::{Found, Left, Plan, found_in, must, run_plan};
+use crate::hostile::runs::{found_in, images_of, must};
+use crate::memory::Left;
+use cell_format::Cause;
+use recovery::OpenFault;
 use std::alloc::{AllocError, Global};
 use std::process::Abort;
 use std::sync::Wait;
 use std::thread::Threads;
 
-// What is to be found: a line that refuses the file, or four counts with the splits begun and the objects listed.
+// What is to be found in a file.
 #[derive(Clone, Copy)]
-enum Want {
-    Refused(&'static str),
-    Found {
-        counts: &'static str,
-        begun: u64,
-        objects: &'static str,
-    },
+struct Want {
+    // How many cells, points, leaves, unfinished splits, and splits that were begun.
+    found: Result<[u64; 5], OpenFault>,
+    status: u8,
+    // What `check`, `show` and `play` write.
+    texts: [&'static str; 3],
 }
 
-// A file: a log of these records, with these bytes put in at their places, and then so many taken off its end.
+// A file: a log of these records, with this byte put in at its place, and then so many taken off its end.
 #[derive(Clone, Copy)]
-struct Damage(&'static [Record], &'static [(usize, u8)], usize, Want);
+struct Damage(&'static [Record], Option<(usize, u8)>, usize);
 
 const PUT_7: Record = Record {
     kind: PUT,
@@ -93,286 +96,317 @@ const ABANDON_1: Record = Record {
     ..BEGIN_1
 };
 
-const NOT_LOG: Want = Want::Refused("refused not a log\n");
-
-const VERSION_0: Want = Want::Refused("refused log version 0 width 1\n");
-
-const WIDTH_2: Want = Want::Refused("refused log version 1 width 2\n");
-
-const SHORT: Want = Want::Refused("refused cell 0 short\n");
-
-const KIND: Want = Want::Refused("refused cell 0 kind\n");
-
-const RESERVED: Want = Want::Refused("refused cell 0 reserved\n");
-
-const NAME: Want = Want::Refused("refused cell 0 name\n");
-
-const IMPOSSIBLE_0: Want = Want::Refused("refused cell 0 impossible\n");
-
-const IMPOSSIBLE_1: Want = Want::Refused("refused cell 1 impossible\n");
-
-const IMPOSSIBLE_2: Want = Want::Refused("refused cell 2 impossible\n");
-
-const NOTHING: Want = Want::Found {
-    counts: "cells 0\npoints 0\nleaves 1\nunfinished 0\n",
-    begun: 0,
-    objects: "",
+const NOT_LOG: Want = Want {
+    found: Err(OpenFault::NotLog),
+    status: 4,
+    texts: ["refused not a log\n"; 3],
 };
 
-const ONE_PUT: Want = Want::Found {
-    counts: "cells 1\npoints 1\nleaves 1\nunfinished 0\n",
-    begun: 0,
-    objects: "7,3,5\n",
+const VERSION_0: Want = Want {
+    found: Err(OpenFault::OldLog {
+        version: 0,
+        width: 1,
+    }),
+    texts: ["refused log version 0 width 1\n"; 3],
+    ..NOT_LOG
 };
 
-const SECOND_BEGIN_INSTALLED: Want = Want::Found {
-    counts: "cells 3\npoints 0\nleaves 2\nunfinished 0\n",
-    begun: 2,
-    objects: "",
+const WIDTH_2: Want = Want {
+    found: Err(OpenFault::OldLog {
+        version: 1,
+        width: 2,
+    }),
+    texts: ["refused log version 1 width 2\n"; 3],
+    ..NOT_LOG
 };
 
-const SECOND_BEGIN_OPEN: Want = Want::Found {
-    counts: "cells 3\npoints 0\nleaves 1\nunfinished 1\n",
-    begun: 2,
-    objects: "",
+const SHORT: Want = Want {
+    found: Err(OpenFault::Damaged {
+        cell: 0,
+        cause: Cause::ShortCell,
+    }),
+    texts: ["refused cell 0 short\n"; 3],
+    ..NOT_LOG
 };
 
-// Bytes 0 to 15 are the header, and record n stands at byte 16 + 32 n.
-const FILES: &[Damage] = &[
-    // Headers.
-    Damage(&[], &[], 0, NOTHING),
-    Damage(&[], &[], 1, NOT_LOG),
-    Damage(&[], &[], 17, NOT_LOG),
-    Damage(&[], &[(7, b'H')], 0, NOT_LOG),
-    Damage(&[], &[(10, 1)], 0, NOT_LOG),
-    Damage(&[], &[(15, 1)], 0, NOT_LOG),
-    Damage(&[], &[(8, 0)], 0, VERSION_0),
-    Damage(&[], &[(9, 2)], 0, WIDTH_2),
-    // Commit bytes.
-    Damage(&[PUT_7], &[], 0, ONE_PUT),
-    Damage(&[PUT_7], &[], 1, SHORT),
-    Damage(&[PUT_7], &[], 32, SHORT),
-    Damage(&[], &[(16, 1)], 0, SHORT),
-    Damage(&[], &[(16, 255)], 0, NOTHING),
-    Damage(&[PUT_7], &[(16, 0)], 0, NOTHING),
-    Damage(&[PUT_7, PUT_7], &[(48, 2)], 7, ONE_PUT),
-    // Spellings.
-    Damage(&[KIND_0], &[], 0, KIND),
-    Damage(&[KIND_7], &[], 0, KIND),
-    Damage(&[KIND_9], &[(47, 1)], 0, KIND),
-    Damage(&[PUT_WITH_LEN], &[], 0, RESERVED),
-    Damage(&[PUT_7], &[(47, 1)], 0, RESERVED),
-    Damage(&[DROP_AT_A_PLACE], &[], 0, RESERVED),
-    Damage(&[BEGIN_OF_65_BITS], &[(35, 1)], 0, RESERVED),
-    Damage(&[BEGIN_OF_65_BITS], &[], 0, NAME),
-    Damage(&[BEGIN_WITH_A_STRAY_BIT], &[], 0, NAME),
-    // Records that can't follow those before them.
-    Damage(&[BEGIN_2], &[], 0, IMPOSSIBLE_0),
-    Damage(&[BEGIN_OF_0], &[], 0, IMPOSSIBLE_0),
-    Damage(&[BEGIN_OF_64_BITS], &[], 0, IMPOSSIBLE_0),
-    Damage(&[INSTALL_1], &[], 0, IMPOSSIBLE_0),
-    Damage(&[ABANDON_1], &[], 0, IMPOSSIBLE_0),
-    Damage(&[MOVE_7], &[], 0, IMPOSSIBLE_0),
-    Damage(&[DROP_7], &[], 0, IMPOSSIBLE_0),
-    Damage(&[PUT_7, PUT_7], &[], 0, IMPOSSIBLE_1),
-    Damage(&[BEGIN_1, BEGIN_2, INSTALL_1], &[], 0, IMPOSSIBLE_2),
-    Damage(&[BEGIN_1, INSTALL_1, BEGIN_2], &[], 0, IMPOSSIBLE_2),
-    Damage(&[BEGIN_1, INSTALL_1, INSTALL_1], &[], 0, IMPOSSIBLE_2),
-    Damage(
-        &[BEGIN_1, BEGIN_2, INSTALL_2],
-        &[],
-        0,
-        SECOND_BEGIN_INSTALLED,
+const KIND: Want = Want {
+    found: Err(OpenFault::Damaged {
+        cell: 0,
+        cause: Cause::Kind,
+    }),
+    texts: ["refused cell 0 kind\n"; 3],
+    ..NOT_LOG
+};
+
+const RESERVED: Want = Want {
+    found: Err(OpenFault::Damaged {
+        cell: 0,
+        cause: Cause::Reserved,
+    }),
+    texts: ["refused cell 0 reserved\n"; 3],
+    ..NOT_LOG
+};
+
+const NAME: Want = Want {
+    found: Err(OpenFault::Damaged {
+        cell: 0,
+        cause: Cause::BadName,
+    }),
+    texts: ["refused cell 0 name\n"; 3],
+    ..NOT_LOG
+};
+
+const IMPOSSIBLE_0: Want = Want {
+    found: Err(OpenFault::Damaged {
+        cell: 0,
+        cause: Cause::Impossible,
+    }),
+    texts: ["refused cell 0 impossible\n"; 3],
+    ..NOT_LOG
+};
+
+const IMPOSSIBLE_1: Want = Want {
+    found: Err(OpenFault::Damaged {
+        cell: 1,
+        cause: Cause::Impossible,
+    }),
+    texts: ["refused cell 1 impossible\n"; 3],
+    ..NOT_LOG
+};
+
+const IMPOSSIBLE_2: Want = Want {
+    found: Err(OpenFault::Damaged {
+        cell: 2,
+        cause: Cause::Impossible,
+    }),
+    texts: ["refused cell 2 impossible\n"; 3],
+    ..NOT_LOG
+};
+
+const NOTHING: Want = Want {
+    found: Ok([0, 0, 1, 0, 0]),
+    status: 0,
+    texts: [
+        "cells 0\npoints 0\nleaves 1\nunfinished 0\n",
+        "id,x,y\n",
+        lines!("1,1,absent,\n"),
+    ],
+};
+
+const ONE_PUT: Want = Want {
+    found: Ok([1, 1, 1, 0, 0]),
+    status: 0,
+    texts: [
+        "cells 1\npoints 1\nleaves 1\nunfinished 0\n",
+        "id,x,y\n7,3,5\n",
+        lines!("1,1,at,3:5\n"),
+    ],
+};
+
+const SECOND_BEGIN_INSTALLED: Want = Want {
+    found: Ok([3, 0, 2, 0, 2]),
+    status: 0,
+    texts: [
+        "cells 3\npoints 0\nleaves 2\nunfinished 0\n",
+        "id,x,y\n",
+        lines!("1,1,absent,\n"),
+    ],
+};
+
+const SECOND_BEGIN_OPEN: Want = Want {
+    found: Ok([3, 0, 1, 1, 2]),
+    status: 0,
+    texts: [
+        "cells 3\npoints 0\nleaves 1\nunfinished 1\n",
+        "id,x,y\n",
+        lines!("1,1,absent,\n"),
+    ],
+};
+
+// The files in which each is to be found. Bytes 0 to 15 are the header, and record n stands at byte 16 + 32 n.
+const FILES: &[(Want, &[Damage])] = &[
+    (
+        NOT_LOG,
+        &[
+            Damage(&[], None, 1),
+            Damage(&[], None, 17),
+            Damage(&[], Some((7, b'H')), 0),
+            Damage(&[], Some((10, 1)), 0),
+            Damage(&[], Some((15, 1)), 0),
+        ],
     ),
-    Damage(&[BEGIN_1, ABANDON_1, BEGIN_2], &[], 0, SECOND_BEGIN_OPEN),
+    (VERSION_0, &[Damage(&[], Some((8, 0)), 0)]),
+    (WIDTH_2, &[Damage(&[], Some((9, 2)), 0)]),
+    // Commit bytes.
+    (
+        NOTHING,
+        &[
+            Damage(&[], None, 0),
+            Damage(&[], Some((16, 255)), 0),
+            Damage(&[PUT_7], Some((16, 0)), 0),
+        ],
+    ),
+    (
+        ONE_PUT,
+        &[
+            Damage(&[PUT_7], None, 0),
+            Damage(&[PUT_7, PUT_7], Some((48, 2)), 7),
+        ],
+    ),
+    (
+        SHORT,
+        &[
+            Damage(&[PUT_7], None, 1),
+            Damage(&[PUT_7], None, 32),
+            Damage(&[], Some((16, 1)), 0),
+        ],
+    ),
+    // Spellings.
+    (
+        KIND,
+        &[
+            Damage(&[KIND_0], None, 0),
+            Damage(&[KIND_7], None, 0),
+            Damage(&[KIND_9], Some((47, 1)), 0),
+        ],
+    ),
+    (
+        RESERVED,
+        &[
+            Damage(&[PUT_WITH_LEN], None, 0),
+            Damage(&[PUT_7], Some((47, 1)), 0),
+            Damage(&[DROP_AT_A_PLACE], None, 0),
+            Damage(&[BEGIN_OF_65_BITS], Some((35, 1)), 0),
+        ],
+    ),
+    (
+        NAME,
+        &[
+            Damage(&[BEGIN_OF_65_BITS], None, 0),
+            Damage(&[BEGIN_WITH_A_STRAY_BIT], None, 0),
+        ],
+    ),
+    // Records that can't follow those before them.
+    (
+        IMPOSSIBLE_0,
+        &[
+            Damage(&[BEGIN_2], None, 0),
+            Damage(&[BEGIN_OF_0], None, 0),
+            Damage(&[BEGIN_OF_64_BITS], None, 0),
+            Damage(&[INSTALL_1], None, 0),
+            Damage(&[ABANDON_1], None, 0),
+            Damage(&[MOVE_7], None, 0),
+            Damage(&[DROP_7], None, 0),
+        ],
+    ),
+    (IMPOSSIBLE_1, &[Damage(&[PUT_7, PUT_7], None, 0)]),
+    (
+        IMPOSSIBLE_2,
+        &[
+            Damage(&[BEGIN_1, BEGIN_2, INSTALL_1], None, 0),
+            Damage(&[BEGIN_1, INSTALL_1, BEGIN_2], None, 0),
+            Damage(&[BEGIN_1, INSTALL_1, INSTALL_1], None, 0),
+        ],
+    ),
+    (
+        SECOND_BEGIN_INSTALLED,
+        &[Damage(&[BEGIN_1, BEGIN_2, INSTALL_2], None, 0)],
+    ),
+    (
+        SECOND_BEGIN_OPEN,
+        &[Damage(&[BEGIN_1, ABANDON_1, BEGIN_2], None, 0)],
+    ),
 ];
 
 fn file_of(alloc: Global, damage: &Damage) -> Result<Vec<u8>, AllocError> {
-    let Damage(records, edits, cut, _) = *damage;
+    let Damage(records, edit, cut) = *damage;
     let mut file = log_of(alloc, records, &[0])?;
-    for (at, byte) in edits {
-        if let Some(slot) = file.get_mut(*at) {
-            *slot = *byte;
+    if let Some((at, byte)) = edit {
+        if let Some(slot) = file.get_mut(at) {
+            *slot = byte;
         }
     }
     file.truncate(file.len().saturating_sub(cut));
     Ok(file)
 }
 
-fn is_found<R: Abort>(rt: &R, alloc: Global, file: &[u8], want: Want) -> bool {
-    let found = found_in(rt, alloc, file);
-    match &found {
-        Found::Refused(line) => is_line(want, line),
-        Found::State { begun, .. } => {
-            let counts = counts_of(alloc, &found).expect(rt, "it failed");
-            has_counts(want, *begun, &counts)
-        }
+fn is_found<R: Abort>(rt: &R, alloc: Global, file: &[u8], want: &Want) -> bool {
+    match found_in(rt, alloc, file) {
+        Ok(found) => want.found == Ok(found.counts),
+        Err(fault) => want.found == Err(fault),
     }
 }
 
-fn is_line(want: Want, line: &str) -> bool {
-    match want {
-        Want::Refused(wanted) => line.as_bytes() == wanted.as_bytes(),
-        Want::Found { .. } => false,
+// A run over a file that is not to change it, where `play` asks for object 7.
+fn asking<'a>(file: &'a [u8], want: &Want) -> Case<'a> {
+    Case {
+        input: rows!("1,where,7,,,,\n"),
+        file: Some(file),
+        status: want.status,
+        held: file,
+        ..EMPTY
     }
 }
 
-fn has_counts(want: Want, found_begun: u64, found_counts: &str) -> bool {
-    match want {
-        Want::Refused(_) => false,
-        Want::Found { counts, begun, .. } => {
-            found_begun == begun && found_counts.as_bytes() == counts.as_bytes()
-        }
-    }
-}
-
-// The four counts, as `check` writes them.
-fn counts_of(alloc: Global, found: &Found) -> Result<String, AllocError> {
-    match found {
-        Found::Refused(_) => Ok(String::new(alloc)),
-        Found::State {
-            cells,
-            unfinished,
-            leaves,
-            objects,
-            ..
-        } => {
-            let points = objects.len();
-            format!(in alloc;
-                "cells {cells}\npoints {points}\nleaves {leaves}\nunfinished {unfinished}\n"
-            )
-        }
-    }
-}
-
-fn ask<R: Abort + Threads + Wait + Sync>(
-    rt: &R,
-    alloc: Global,
-    words: &[&str],
-    file: &[u8],
-) -> Left {
-    let plan = Plan {
-        words,
-        input: "session,op,id,x,y,a,b\n1,where,7,,,,\n",
-        file,
-        reads: &[],
-        puts: &[],
-        calls: &[],
+fn judge_reads<R: Abort + Threads + Wait + Sync>(rt: &R, alloc: Global, file: &[u8], want: &Want) {
+    let [checked, shown, _] = want.texts;
+    let asking = asking(file, want);
+    let check = Case {
+        name: "check of a damaged log",
+        words: &["check", "log"],
+        text: checked,
+        ..asking
     };
-    run_plan(rt, alloc, &plan)
-}
-
-// Whether a run wrote the line of a refusal, or else these two texts.
-fn wrote(left: &Left, want: Want, title: &str, rest: &str) -> bool {
-    let taken = left.taken.as_slice();
-    match want {
-        Want::Refused(line) => left.status == 4 && taken == line.as_bytes(),
-        Want::Found { .. } => match taken.strip_prefix(title.as_bytes()) {
-            Some(behind) => left.status == 0 && behind == rest.as_bytes(),
-            None => false,
-        },
-    }
-}
-
-// Whether a run left the file, and made no change of it on the way.
-fn is_untouched(left: &Left, file: &[u8]) -> bool {
-    left.file.as_slice() == file && left.moments == 0
-}
-
-// A command that only reads the file, and the title of what it lists.
-struct Reading {
-    words: &'static [&'static str],
-    title: &'static str,
-    what: &'static str,
-}
-
-const CHECK: Reading = Reading {
-    words: &["check", "log"],
-    title: "",
-    what: "check of file",
-};
-
-const SHOW: Reading = Reading {
-    words: &["show", "log", "0", "0", "3", "5"],
-    title: "id,x,y\n",
-    what: "show of file",
-};
-
-fn judge_read<R: Abort + Threads + Wait + Sync>(
-    rt: &R,
-    alloc: Global,
-    number: u64,
-    file: &[u8],
-    reading: &Reading,
-    want: Want,
-    rest: &str,
-) {
-    let left = ask(rt, alloc, reading.words, file);
-    let is_written = wrote(&left, want, reading.title, rest);
-    must(rt, is_written, reading.what, number);
-    must(
-        rt,
-        is_untouched(&left, file),
-        "bytes behind a read of file",
-        number,
-    );
-}
-
-fn judge_reads<R: Abort + Threads + Wait + Sync>(
-    rt: &R,
-    alloc: Global,
-    number: u64,
-    file: &[u8],
-    want: Want,
-) {
-    let (counts, objects) = match want {
-        Want::Refused(_) => ("", ""),
-        Want::Found {
-            counts,
-            objects,
-            ..
-        } => (counts, objects),
+    is_untouched(rt, alloc, &check);
+    let show = Case {
+        name: "show of a damaged log",
+        words: &["show", "log", "0", "0", "3", "5"],
+        text: shown,
+        ..asking
     };
-    must(rt, is_found(rt, alloc, file, want), "found of file", number);
-    judge_read(rt, alloc, number, file, &CHECK, want, counts);
-    judge_read(rt, alloc, number, file, &SHOW, want, objects);
+    is_untouched(rt, alloc, &show);
 }
 
 // A refused play leaves the file and no history, and a crash leaves the file at each moment.
-fn judge_kept<R: Abort>(rt: &R, number: u64, left: &Left, file: &[u8]) {
-    for image in left.images.iter() {
+fn judge_kept<R: Abort>(rt: &R, alloc: Global, left: &Left, file: &[u8]) {
+    for image in images_of(rt, alloc, left).iter() {
         let is_same = image.bytes.as_slice() == file;
-        must(rt, is_same, "crash in a play of file", number);
+        must(rt, is_same, "crash in a play at moment", image.moment);
     }
-    let is_kept = left.events.is_empty() && left.file.as_slice() == file;
-    must(rt, is_kept, "play of file", number);
+    let is_kept = left.history().is_empty() && left.file() == file;
+    must(rt, is_kept, "play of a file of length", file.len() as u64);
 }
 
-fn judge_play<R: Abort + Threads + Wait + Sync>(
+fn judge_play<R: Abort + Threads + Wait + Sync>(rt: &R, alloc: Global, file: &[u8], want: &Want) {
+    let [_, _, played] = want.texts;
+    let left = run_case(rt, alloc, &asking(file, want));
+    must(rt, left.tells(want.status, played), played, 0);
+    if want.status != 0 {
+        judge_kept(rt, alloc, &left, file);
+    }
+}
+
+fn judge<R: Abort + Threads + Wait + Sync>(
     rt: &R,
     alloc: Global,
-    number: u64,
-    file: &[u8],
-    want: Want,
+    number: usize,
+    damage: &Damage,
+    want: &Want,
 ) {
-    let answer = match want {
-        Want::Found { objects, .. } if !objects.is_empty() => "1,1,at,3:5\n",
-        _ => "1,1,absent,\n",
-    };
-    let left = ask(rt, alloc, &["play", "log"], file);
-    let is_written = wrote(&left, want, "row,place,answer,detail\n", answer);
-    must(rt, is_written, "lines of a play of file", number);
-    if let Want::Refused(_) = want {
-        judge_kept(rt, number, &left, file);
-    }
+    let file = file_of(alloc, damage).expect(rt, "it failed");
+    let file = file.as_slice();
+    let [checked, _, _] = want.texts;
+    let is_found = is_found(rt, alloc, file, want);
+    must(rt, is_found, checked, number as u64);
+    judge_reads(rt, alloc, file, want);
+    judge_play(rt, alloc, file, want);
 }
 
 fn each_file<R: Abort + Threads + Wait + Sync>(rt: &R, alloc: Global) {
-    for (number, damage) in FILES.iter().enumerate() {
-        let file = file_of(alloc, damage).expect(rt, "it failed");
-        let Damage(_, _, _, want) = *damage;
-        judge_reads(rt, alloc, number as u64, file.as_slice(), want);
-        judge_play(rt, alloc, number as u64, file.as_slice(), want);
+    for (want, files) in FILES {
+        for (number, damage) in files.iter().enumerate() {
+            judge(rt, alloc, number, damage, want);
+        }
     }
 }
 

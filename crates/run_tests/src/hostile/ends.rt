@@ -1,7 +1,7 @@
 //! Sources that fail at each read, and sinks that fail at each put, also at the line of a refusal.
-use crate::hostile::records::{EMPTY_LOG, PUT, Record, log_of};
-use crate::hostile::runs::{Left, Plan, must, run_plan};
-use crate::memory::repeated;
+use crate::checks::{Case, EMPTY, is_left, is_untouched, run_case};
+use crate::hostile::runs::must;
+use crate::memory::{PUT_LOG, repeated};
 use disk_mem::{DiskCall, Fail as Failing};
 use std::alloc::{AllocError, Global};
 use std::process::Abort;
@@ -29,184 +29,182 @@ fn add_line(alloc: Global, text: &mut String, row: u32) -> Result<(), AllocError
     text.push_str(&line)
 }
 
-const PUT_7: Record = Record {
-    kind: PUT,
-    number: 7,
-    place: 0x3_0000_0005,
-    len: 0,
-};
+// A long run with these reads and puts failing, where none of them is reached.
+fn long_run<'a>(input: &'a str, output: &'a str, reads: &'a [u64], puts: &'a [u64]) -> Case<'a> {
+    Case {
+        name: "a run of 9,000 rows",
+        input,
+        reads,
+        puts,
+        text: output,
+        held: PUT_LOG,
+        entries: ROWS as usize,
+        ..EMPTY
+    }
+}
 
-const PLAY: &[&str] = &["play", "log"];
+fn unread<'a>(input: &'a str, reads: &'a [u64]) -> Case<'a> {
+    Case {
+        name: "a source that fails",
+        input,
+        reads,
+        status: 5,
+        text: "refused source\n",
+        attaches: "",
+        ..EMPTY
+    }
+}
 
-// Plays rows with these reads and puts failing.
-fn play<R: Abort + Threads + Wait + Sync>(
+// The source fails at each of two pieces, and at the end of the input.
+fn each_read<R: Abort + Threads + Wait + Sync>(rt: &R, alloc: Global, input: &str) {
+    for number in 1..=3 {
+        is_untouched(rt, alloc, &unread(input, &[number]));
+    }
+}
+
+// Fails unless a run whose sink fails at this put keeps all, and writes a front of these lines. It gives how long that is.
+fn front_of_put<R: Abort + Threads + Wait + Sync>(
     rt: &R,
     alloc: Global,
     input: &str,
-    reads: &[u64],
-    puts: &[u64],
-) -> Left {
-    let plan = Plan {
-        words: PLAY,
-        input,
-        file: EMPTY_LOG,
-        reads,
-        puts,
-        calls: &[],
-    };
-    run_plan(rt, alloc, &plan)
+    output: &str,
+    number: u64,
+) -> usize {
+    let left = run_case(rt, alloc, &long_run(input, output, &[], &[number]));
+    let taken = left.taken.as_slice();
+    let is_front = left.status == 6 && output.as_bytes().starts_with(taken);
+    must(rt, is_front, "lines of put", number);
+    let is_kept = left.file() == PUT_LOG && left.history().len() == ROWS as usize;
+    must(rt, is_kept, "put", number);
+    taken.len()
 }
 
-fn each_read<R: Abort + Threads + Wait + Sync>(rt: &R, alloc: Global) -> u64 {
-    let input = long_input(alloc).expect(rt, "it failed");
-    for number in 1..20 {
-        let left = play(rt, alloc, &input, &[number], &[]);
-        if left.status == 0 {
-            return number.saturating_sub(1);
-        }
-        let is_told = left.tells(5, "refused source\n");
-        let is_untouched = left.events.is_empty() && left.moments == 0;
-        must(rt, is_told && is_untouched, "read", number);
+// The sink fails at each of three pieces.
+fn each_put<R: Abort + Threads + Wait + Sync>(rt: &R, alloc: Global, input: &str, output: &str) {
+    let mut least = 0;
+    for number in 1..=3 {
+        let len = front_of_put(rt, alloc, input, output, number);
+        must(rt, len >= least, "how many lines of put", number);
+        least = len.saturating_add(1);
     }
-    rt.panic("a source fails for ever")
 }
 
-fn each_put<R: Abort + Threads + Wait + Sync>(rt: &R, alloc: Global) -> u64 {
+// Behind three reads and three puts there are no others.
+fn each_call<R: Abort + Threads + Wait + Sync>(rt: &R, alloc: Global) {
     let input = long_input(alloc).expect(rt, "it failed");
     let output = long_output(alloc).expect(rt, "it failed");
-    let log = log_of(alloc, &[PUT_7], &[0]).expect(rt, "it failed");
-    let mut least = 0;
-    for number in 1..20 {
-        let left = play(rt, alloc, &input, &[], &[number]);
-        let taken = left.taken.as_slice();
-        let is_kept = left.file.as_slice() == log.as_slice() && left.events.len() == ROWS as usize;
-        must(rt, is_kept, "put", number);
-        if left.status == 0 {
-            must(rt, taken == output.as_bytes(), "all lines of put", number);
-            return number.saturating_sub(1);
-        }
-        let is_front = output.as_bytes().starts_with(taken) && taken.len() >= least;
-        must(rt, left.status == 6 && is_front, "lines of put", number);
-        least = taken.len().saturating_add(1);
-    }
-    rt.panic("a sink fails for ever")
+    is_left(rt, alloc, &long_run(&input, &output, &[4], &[4]));
+    each_read(rt, alloc, &input);
+    each_put(rt, alloc, &input, &output);
 }
 
 #[test]
 fn a_failing_source_is_status_5_and_a_failing_sink_6_at_each_call(rt: HostRuntime) {
-    // Two pieces and the end of the input; three pieces of output.
-    assert_eq!(rt; each_read(&rt, rt.alloc()), 3);
-    assert_eq!(rt; each_put(&rt, rt.alloc()), 3);
+    each_call(&rt, rt.alloc());
 }
 
-// What is refused, by its status and its line.
-#[derive(Clone, Copy)]
-struct Refused {
-    words: &'static [&'static str],
-    input: &'static str,
-    file: &'static [u8],
-    reads: &'static [u64],
-    calls: &'static [Failing],
-    status: u8,
-    line: &'static str,
-}
-
-const NO_INPUT: Refused = Refused {
-    words: PLAY,
+const NO_INPUT: Case<'static> = Case {
+    name: "no input",
     input: "",
-    file: EMPTY_LOG,
-    reads: &[],
-    calls: &[],
     status: 3,
-    line: "refused header\n",
+    text: "refused header\n",
+    attaches: "",
+    ..EMPTY
 };
 
-const ONE_ROW: Refused = Refused {
-    input: "session,op,id,x,y,a,b\n1,put,7,3,5,,\n",
-    ..NO_INPUT
+const ONE_ROW: Case<'static> = Case {
+    input: rows!("1,put,7,3,5,,\n"),
+    ..EMPTY
 };
 
-const REFUSED: &[Refused] = &[
+// A log of no records, with the bytes of put 7 at (3,5) behind its clear commit byte, and a clear one behind that.
+const UNSET_PUT_LOG: &[u8] = b"MDLOCLOG\x01\x01\0\0\0\0\0\0\
+    \0\x01\0\0\0\0\0\0\0\x07\0\0\0\x03\0\0\0\x05\0\0\0\0\0\0\0\0\0\0\0\0\0\0\
+    \0";
+
+const REFUSED: &[Case<'static>] = &[
     NO_INPUT,
-    Refused {
+    Case {
+        name: "play of no file",
         words: &["play"],
         status: 2,
-        line: "refused usage\n",
+        text: "refused usage\n",
+        attaches: "",
         ..ONE_ROW
     },
-    Refused {
-        input: "session,op,id,x,y,a,b\n1,put,7,3,5,\n",
-        line: "refused row 1 length\n",
+    Case {
+        name: "a row of six fields",
+        input: rows!("1,put,7,3,5,\n"),
+        text: "refused row 1 length\n",
         ..NO_INPUT
     },
-    Refused {
-        input: "session,op,id,x,y,a,b\n1,put,7,-3,5,,\n",
-        line: "refused row 1 column 4\n",
+    Case {
+        name: "a sign in column 4",
+        input: rows!("1,put,7,-3,5,,\n"),
+        text: "refused row 1 column 4\n",
         ..NO_INPUT
     },
-    Refused {
-        file: &[0; 17],
+    Case {
+        name: "17 zeros in place of a log",
+        file: Some(&[0; 17]),
         status: 4,
-        line: "refused not a log\n",
+        text: "refused not a log\n",
+        held: &[0; 17],
         ..ONE_ROW
     },
-    Refused {
+    Case {
+        name: "a source that fails",
         reads: &[1],
         status: 5,
-        line: "refused source\n",
+        text: "refused source\n",
+        attaches: "",
         ..ONE_ROW
     },
-    Refused {
+    Case {
+        name: "a drive that can't be attached",
         calls: &[Failing {
             call: DiskCall::Attach,
             number: 1,
         }],
         status: 7,
-        line: "refused disk\n",
+        text: "refused disk\n",
         ..ONE_ROW
     },
-    Refused {
+    Case {
+        name: "an append that fails at its first sync",
         calls: &[Failing {
             call: DiskCall::Sync,
             number: 2,
         }],
         status: 7,
-        line: "refused disk cell 0\n",
+        text: "refused disk cell 0\n",
+        held: UNSET_PUT_LOG,
+        entries: 1,
         ..ONE_ROW
     },
-    Refused {
+    Case {
+        name: "init of 18 bytes",
         words: &["init", "log"],
-        file: &[0; 18],
+        input: "",
+        file: Some(&[0; 18]),
         status: 10,
-        line: "refused in use 18\n",
-        ..NO_INPUT
+        text: "refused in use 18\n",
+        held: &[0; 18],
+        attaches: "makes log\n",
+        ..EMPTY
     },
 ];
 
-fn run_refused<R: Abort + Threads + Wait + Sync>(
-    rt: &R,
-    alloc: Global,
-    refused: &Refused,
-    puts: &[u64],
-) -> Left {
-    let plan = Plan {
-        words: refused.words,
-        input: refused.input,
-        file: refused.file,
-        reads: refused.reads,
-        puts,
-        calls: refused.calls,
-    };
-    run_plan(rt, alloc, &plan)
-}
-
+// With a sink, and with one that doesn't take the line.
 fn each_refusal<R: Abort + Threads + Wait + Sync>(rt: &R, alloc: Global) {
-    for refused in REFUSED {
-        let (status, line) = (refused.status, refused.line);
-        let left = run_refused(rt, alloc, refused, &[]);
-        must(rt, left.tells(status, line), line, 0);
-        let left = run_refused(rt, alloc, refused, &[1]);
-        must(rt, left.tells(status, ""), line, 1);
+    for case in REFUSED {
+        is_left(rt, alloc, case);
+        let untold = Case {
+            puts: &[1],
+            text: "",
+            ..*case
+        };
+        is_left(rt, alloc, &untold);
     }
 }
 

@@ -1,6 +1,7 @@
 //! Lanes that wait for each other outside the lock: that they run side by side, and that a query and a split let others go on.
-use crate::hostile::records::{BEGIN, EMPTY_LOG, INSTALL, PUT, Record, front};
-use crate::hostile::runs::{Left, Plan, must, run_with};
+use crate::hostile::records::{BEGIN, INSTALL, PUT, Record, front};
+use crate::hostile::runs::{must, playing};
+use crate::memory::{EMPTY_LOG, Left, Plan, run_gated};
 use io_edge::{Gate, GatePoint};
 use std::alloc::Global;
 use std::process::Abort;
@@ -68,15 +69,8 @@ fn meet<R: Abort + Threads + Wait + Sync>(
     input: &str,
 ) -> Left {
     let meeting = Meeting::at(point);
-    let plan = Plan {
-        words: &["play", "log", "--bucket", "4"],
-        input,
-        file: EMPTY_LOG,
-        reads: &[],
-        puts: &[],
-        calls: &[],
-    };
-    let left = run_with(rt, alloc, &plan, &meeting);
+    let plan = playing(input, EMPTY_LOG, &[]);
+    let left = run_gated(rt, alloc, &plan, &meeting);
     let status = left.status as u64;
     let gave_up = meeting.gave_up.load(Ordering::SeqCst);
     must(rt, !gave_up, "a lane gave up, with status", status);
@@ -149,7 +143,7 @@ const SPLIT_AROUND_A_PUT: &[Record] = &[
 // A put goes on between the begin and the install of its leaf's split.
 fn put_beside_split<R: Abort + Threads + Wait + Sync>(rt: &R, alloc: Global) {
     let left = meet(rt, alloc, GatePoint::Begun, SPLIT);
-    let is_whole = front(left.file.as_slice(), SPLIT_AROUND_A_PUT) == Some(8);
+    let is_whole = front(left.file(), SPLIT_AROUND_A_PUT) == Some(8);
     must(rt, is_whole, "how many records are wanted:", 8);
 }
 
@@ -184,21 +178,22 @@ impl Gate for Greeting {
     }
 }
 
+const TWO_PUTS: Plan<'static> = Plan {
+    words: &["play", "-"],
+    input: rows!("1,put,1,0,0,,\n2,put,2,1,1,,\n"),
+    file: Some(&[]),
+    reads: &[],
+    puts: &[],
+    calls: &[],
+};
+
 fn greet<R: Abort + Threads + Wait + Sync>(rt: &R, alloc: Global) {
     let greeting = Greeting {
         first: AtomicU64::new(0),
         second: AtomicU64::new(0),
         gave_up: AtomicBool::new(false),
     };
-    let plan = Plan {
-        words: &["play", "-"],
-        input: "session,op,id,x,y,a,b\n1,put,1,0,0,,\n2,put,2,1,1,,\n",
-        file: &[],
-        reads: &[],
-        puts: &[],
-        calls: &[],
-    };
-    let left = run_with(rt, alloc, &plan, &greeting);
+    let left = run_gated(rt, alloc, &TWO_PUTS, &greeting);
     let status = left.status as u64;
     must(rt, status == 0, "status", status);
     let gave_up = greeting.gave_up.load(Ordering::SeqCst);

@@ -1,6 +1,8 @@
 //! How many records a crash leaves at each moment of a run of `play` over a log.
 use crate::hostile::records::{Record, front};
-use crate::hostile::runs::{Left, must};
+use crate::hostile::runs::{images_of, must};
+use crate::memory::Left;
+use std::alloc::Global;
 use std::process::Abort;
 
 /// A run over a file that had the first so many of these records, and whether its last call failed in an append.
@@ -36,9 +38,10 @@ impl Trial<'_> {
 }
 
 /// Compares what a crash leaves at each moment of a run with the records that are there at it.
-pub fn judge_images<R: Abort>(rt: &R, trial: &Trial<'_>, left: &Left) {
-    for image in left.images.iter() {
-        let count = trial.records_at(image.moment, left.moments, image.fill);
+pub fn judge_images<R: Abort>(rt: &R, alloc: Global, trial: &Trial<'_>, left: &Left) {
+    let last = left.disk.moments();
+    for image in images_of(rt, alloc, left).iter() {
+        let count = trial.records_at(image.moment, last, image.fill);
         let is_front = front(image.bytes.as_slice(), trial.records) == Some(count);
         must(rt, is_front, "records at moment", image.moment);
     }

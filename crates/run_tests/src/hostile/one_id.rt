@@ -1,7 +1,8 @@
 //! One id for all sessions: each line is the one that a single object, changed row by row in the order of the history, gives.
 use crate::hostile::moments::{Trial, judge_images};
-use crate::hostile::records::{DROP, EMPTY_LOG, MOVE, PUT, Record, log_of};
-use crate::hostile::runs::{Left, Plan, must, run_plan};
+use crate::hostile::records::{DROP, MOVE, PUT, Record};
+use crate::hostile::runs::{is_log_of, is_refused, must, playing};
+use crate::memory::{EMPTY_LOG, Left, run_plan};
 use disk_mem::{DiskCall, Fail as Failing};
 use plain_list::{Entry, Lost, Op};
 use std::alloc::{AllocError, Global};
@@ -18,16 +19,23 @@ const PUTS: &str = "session,op,id,x,y,a,b\n\
     13,put,1,13,0,,\n14,put,1,14,0,,\n15,put,1,15,0,,\n16,put,1,16,0,,\n";
 
 // Each session puts, moves, drops and asks for it.
-fn changes(alloc: Global) -> Result<String, AllocError> {
-    let mut text = String::from_str(alloc, "session,op,id,x,y,a,b\n")?;
-    for s in 1..=16 {
-        let rows = format!(in alloc;
-            "{s},put,1,{s},0,,\n{s},move,1,{s},1,,\n{s},drop,1,,,,\n{s},where,1,,,,\n"
-        )?;
-        text.push_str(&rows)?;
-    }
-    Ok(text)
-}
+const CHANGES: &str = "session,op,id,x,y,a,b\n\
+    1,put,1,1,0,,\n1,move,1,1,1,,\n1,drop,1,,,,\n1,where,1,,,,\n\
+    2,put,1,2,0,,\n2,move,1,2,1,,\n2,drop,1,,,,\n2,where,1,,,,\n\
+    3,put,1,3,0,,\n3,move,1,3,1,,\n3,drop,1,,,,\n3,where,1,,,,\n\
+    4,put,1,4,0,,\n4,move,1,4,1,,\n4,drop,1,,,,\n4,where,1,,,,\n\
+    5,put,1,5,0,,\n5,move,1,5,1,,\n5,drop,1,,,,\n5,where,1,,,,\n\
+    6,put,1,6,0,,\n6,move,1,6,1,,\n6,drop,1,,,,\n6,where,1,,,,\n\
+    7,put,1,7,0,,\n7,move,1,7,1,,\n7,drop,1,,,,\n7,where,1,,,,\n\
+    8,put,1,8,0,,\n8,move,1,8,1,,\n8,drop,1,,,,\n8,where,1,,,,\n\
+    9,put,1,9,0,,\n9,move,1,9,1,,\n9,drop,1,,,,\n9,where,1,,,,\n\
+    10,put,1,10,0,,\n10,move,1,10,1,,\n10,drop,1,,,,\n10,where,1,,,,\n\
+    11,put,1,11,0,,\n11,move,1,11,1,,\n11,drop,1,,,,\n11,where,1,,,,\n\
+    12,put,1,12,0,,\n12,move,1,12,1,,\n12,drop,1,,,,\n12,where,1,,,,\n\
+    13,put,1,13,0,,\n13,move,1,13,1,,\n13,drop,1,,,,\n13,where,1,,,,\n\
+    14,put,1,14,0,,\n14,move,1,14,1,,\n14,drop,1,,,,\n14,where,1,,,,\n\
+    15,put,1,15,0,,\n15,move,1,15,1,,\n15,drop,1,,,,\n15,where,1,,,,\n\
+    16,put,1,16,0,,\n16,move,1,16,1,,\n16,drop,1,,,,\n16,where,1,,,,\n";
 
 // The row of a session with this number, from 0.
 fn op_of(session: u8, number: u32) -> Op {
@@ -181,25 +189,22 @@ fn play<R: Abort + Threads + Wait + Sync>(
     input: &str,
     calls: &[Failing],
 ) -> Left {
-    let plan = Plan {
-        words: &["play", "log", "--bucket", "4"],
-        input,
-        file: EMPTY_LOG,
-        reads: &[],
-        puts: &[],
-        calls,
-    };
-    run_plan(rt, alloc, &plan)
+    run_plan(rt, alloc, &playing(input, EMPTY_LOG, calls))
 }
 
-fn judge<R: Abort>(rt: &R, tale: &Tale, left: &Left, is_closed: bool) {
+fn judge<R: Abort>(rt: &R, alloc: Global, tale: &Tale, left: &Left, is_closed: bool) {
     let trial = Trial {
         file: EMPTY_LOG,
         first: 0,
         records: tale.records.as_slice(),
         is_closed,
     };
-    judge_images(rt, &trial, left);
+    judge_images(rt, alloc, &trial, left);
+}
+
+fn has_told<R: Abort>(rt: &R, alloc: Global, tale: &Tale, left: &Left) -> bool {
+    let output = tale.output(alloc).expect(rt, "it failed");
+    tale.place == tale.lines.len() as u64 && left.tells(0, &output)
 }
 
 // A run of so many rows of each session, where nothing fails. It gives how many records it left.
@@ -211,20 +216,22 @@ fn race<R: Abort + Threads + Wait + Sync>(
     round: u64,
 ) -> usize {
     let left = play(rt, alloc, input, &[]);
-    let tale = told(rt, alloc, each, left.events.as_slice());
-    let output = tale.output(alloc).expect(rt, "it failed");
-    let log = log_of(alloc, tale.records.as_slice(), &[0]).expect(rt, "it failed");
+    let tale = told(rt, alloc, each, left.history());
     must(
         rt,
-        tale.place == tale.lines.len() as u64,
-        "rows of round",
+        has_told(rt, alloc, &tale, &left),
+        "lines of round",
         round,
     );
-    must(rt, left.tells(0, &output), "lines of round", round);
-    let is_held = left.file.as_slice() == log.as_slice();
-    must(rt, is_held, "file of round", round);
-    judge(rt, &tale, &left, false);
-    tale.records.len()
+    let records = tale.records.as_slice();
+    must(
+        rt,
+        is_log_of(rt, alloc, left.file(), records),
+        "file of round",
+        round,
+    );
+    judge(rt, alloc, &tale, &left, false);
+    records.len()
 }
 
 fn race_puts<R: Abort + Threads + Wait + Sync>(rt: &R, alloc: Global) {
@@ -240,9 +247,8 @@ fn one_put_of_one_id_is_done_of_16_sessions(rt: HostRuntime) {
 }
 
 fn race_changes<R: Abort + Threads + Wait + Sync>(rt: &R, alloc: Global) {
-    let input = changes(alloc).expect(rt, "it failed");
     for round in 0..20 {
-        race(rt, alloc, &input, 4, round);
+        race(rt, alloc, CHANGES, 4, round);
     }
 }
 
@@ -253,25 +259,28 @@ fn sixteen_sessions_on_one_id_have_one_history(rt: HostRuntime) {
 
 // A run where a sync fails. Whichever session drops the id first has moved it before, behind a put: at least three appends, each with two
 // syncs, behind the one of opening.
-fn race_and_fail<R: Abort + Threads + Wait + Sync>(rt: &R, alloc: Global, input: &str, round: u64) {
+fn race_and_fail<R: Abort + Threads + Wait + Sync>(rt: &R, alloc: Global, round: u64) {
     let cell = round % 6 / 2;
     let failing = Failing {
         call: DiskCall::Sync,
         number: (round % 6).saturating_add(2),
     };
-    let left = play(rt, alloc, input, &[failing]);
-    let tale = told(rt, alloc, 4, left.events.as_slice());
-    let line = format!(in alloc; "refused disk cell {cell}\n").expect(rt, "it failed");
-    must(rt, left.tells(7, &line), "line of round", round);
+    let left = play(rt, alloc, CHANGES, &[failing]);
+    let tale = told(rt, alloc, 4, left.history());
+    must(
+        rt,
+        is_refused(rt, alloc, &left, Some(cell)),
+        "line of round",
+        round,
+    );
     let is_counted = tale.records.len() as u64 == cell.saturating_add(1);
     must(rt, is_counted, "records of round", round);
-    judge(rt, &tale, &left, true);
+    judge(rt, alloc, &tale, &left, true);
 }
 
 fn fail_each<R: Abort + Threads + Wait + Sync>(rt: &R, alloc: Global) {
-    let input = changes(alloc).expect(rt, "it failed");
     for round in 0..60 {
-        race_and_fail(rt, alloc, &input, round);
+        race_and_fail(rt, alloc, round);
     }
 }
 

@@ -5,9 +5,6 @@ use zorder::Point;
 /// The header of a log whose splits make two children.
 pub const HEADER: &[u8] = b"MDLOCLOG\x01\x01\0\0\0\0\0\0";
 
-/// A log of no records.
-pub const EMPTY_LOG: &[u8] = b"MDLOCLOG\x01\x01\0\0\0\0\0\0\0";
-
 pub const PUT: u8 = 1;
 
 pub const MOVE: u8 = 2;

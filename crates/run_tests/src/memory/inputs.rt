@@ -1,8 +1,6 @@
 //! Words and rows.
 use std::alloc::{AllocError, Global};
 
-pub const HEADER: &str = "session,op,id,x,y,a,b\n";
-
 /// An input that begins so, with a row so many times behind that.
 pub fn repeated(alloc: Global, front: &str, count: u32, row: &str) -> Result<String, AllocError> {
     let mut input = String::from_str(alloc, front)?;

@@ -19,6 +19,11 @@ impl Left {
         self.status == status && self.taken.as_slice() == text.as_bytes()
     }
 
+    /// Whether these attaches reached the first drive, and none the other.
+    pub fn has_attached(&self, attaches: &str) -> bool {
+        self.others.is_empty() && self.attaches.as_str() == attaches
+    }
+
     /// The history.
     pub fn history(&self) -> &[Entry] {
         self.events.as_slice()

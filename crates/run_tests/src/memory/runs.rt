@@ -1,8 +1,8 @@
 //! Runs over ends in memory.
-use crate::memory::faults::Faults;
 use crate::memory::inputs::words;
 use crate::memory::left::Left;
 use crate::memory::noting::NotingDisk;
+use crate::memory::plan::Plan;
 use disk_mem::MemDisk;
 use disk_trait::LogDisk;
 use io_edge::{Gate, MemSink, MemSource, OpenGate, Sink, Source};
@@ -21,50 +21,28 @@ const CALLS: usize = 1 << 14;
 
 const OUTPUT: usize = 1 << 18;
 
-/// A run of these words and this input over a file with these bytes.
-pub fn run_on<R: Abort + Threads + Wait + Sync>(
-    rt: &R,
-    alloc: Global,
-    all: &[&str],
-    input: &str,
-    file: &[u8],
-    faults: &Faults<'_>,
-) -> Left {
-    run_gated(rt, alloc, all, input, file, faults, &OpenGate)
+/// A run as planned.
+pub fn run_plan<R: Abort + Threads + Wait + Sync>(rt: &R, alloc: Global, plan: &Plan<'_>) -> Left {
+    run_gated(rt, alloc, plan, &OpenGate)
 }
 
 /// The same with this hook.
 pub fn run_gated<R: Abort + Threads + Wait + Sync, G: Gate + Sync>(
     rt: &R,
     alloc: Global,
-    all: &[&str],
-    input: &str,
-    file: &[u8],
-    faults: &Faults<'_>,
+    plan: &Plan<'_>,
     gate: &G,
 ) -> Left {
-    let calls = faults.calls.to_vec(alloc).expect(rt, "it failed");
-    let disk = MemDisk::new(
-        alloc,
-        file.to_vec(alloc).expect(rt, "it failed"),
-        ROOM,
-        CALLS,
-        calls,
-    )
-    .expect(rt, "it failed");
-    run_disk(rt, alloc, all, input, disk, faults, gate)
+    let disk = disk_of(alloc, plan).expect(rt, "it failed");
+    run_over(rt, alloc, plan, disk, gate)
 }
 
-/// The same over drives that fail at each call.
-pub fn run_apart<R: Abort + Threads + Wait + Sync>(
-    rt: &R,
-    alloc: Global,
-    all: &[&str],
-    input: &str,
-    faults: &Faults<'_>,
-) -> Left {
-    let disk = failing_disk(alloc).expect(rt, "it failed");
-    run_over(rt, alloc, all, input, disk, faults)
+fn disk_of(alloc: Global, plan: &Plan<'_>) -> Result<MemDisk, Memory> {
+    let Some(file) = plan.file else {
+        return failing_disk(alloc);
+    };
+    let calls = plan.calls.to_vec(alloc)?;
+    MemDisk::new(alloc, file.to_vec(alloc)?, ROOM, CALLS, calls)
 }
 
 // A drive that fails at each call.
@@ -72,42 +50,29 @@ fn failing_disk(alloc: Global) -> Result<MemDisk, Memory> {
     MemDisk::new(alloc, Vec::new(alloc), 0, 0, Vec::new(alloc))
 }
 
-/// The same over a drive.
-pub fn run_over<R: Abort + Threads + Wait + Sync>(
+/// The same over this drive, in place of the planned one.
+pub fn run_over<R: Abort + Threads + Wait + Sync, G: Gate + Sync>(
     rt: &R,
     alloc: Global,
-    all: &[&str],
-    input: &str,
+    plan: &Plan<'_>,
     disk: MemDisk,
-    faults: &Faults<'_>,
-) -> Left {
-    run_disk(rt, alloc, all, input, disk, faults, &OpenGate)
-}
-
-fn run_disk<R: Abort + Threads + Wait + Sync, G: Gate + Sync>(
-    rt: &R,
-    alloc: Global,
-    all: &[&str],
-    input: &str,
-    disk: MemDisk,
-    faults: &Faults<'_>,
     gate: &G,
 ) -> Left {
-    let words = words(alloc, all).expect(rt, "it failed");
-    let source = source_of(alloc, input, faults.reads).expect(rt, "it failed");
-    let sink = sink_of(alloc, faults.puts).expect(rt, "it failed");
+    let words = words(alloc, plan.words).expect(rt, "it failed");
+    let source = source_of(alloc, plan).expect(rt, "it failed");
+    let sink = sink_of(alloc, plan).expect(rt, "it failed");
     let other = NotingDisk::new(alloc, failing_disk(alloc).expect(rt, "it failed"));
     let disk = NotingDisk::new(alloc, disk);
     run_all(rt, alloc, words.as_slice(), source, sink, disk, other, gate)
 }
 
-fn source_of(alloc: Global, input: &str, failing: &[u64]) -> Result<MemSource, Memory> {
-    let bytes = input.as_bytes().to_vec(alloc)?;
-    Ok(MemSource::new(bytes, failing.to_vec(alloc)?))
+fn source_of(alloc: Global, plan: &Plan<'_>) -> Result<MemSource, Memory> {
+    let bytes = plan.input.as_bytes().to_vec(alloc)?;
+    Ok(MemSource::new(bytes, plan.reads.to_vec(alloc)?))
 }
 
-fn sink_of(alloc: Global, failing: &[u64]) -> Result<MemSink, Memory> {
-    MemSink::new(alloc, OUTPUT, failing.to_vec(alloc)?)
+fn sink_of(alloc: Global, plan: &Plan<'_>) -> Result<MemSink, Memory> {
+    MemSink::new(alloc, OUTPUT, plan.puts.to_vec(alloc)?)
 }
 
 // The one call of `run`, over any ends.
