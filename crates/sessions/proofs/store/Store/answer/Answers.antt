@@ -1,10 +1,13 @@
-use Rattle.std.proofs.Common.{◌≡◌, ℕ, refl}
+use Rattle.commit_book.specs.declared.faults.BookFault.{BookFault}
+use Rattle.commit_book.specs.declared.book.Done.{Done}
+use Rattle.sessions.specs.Calls.{Updates}
+use Rattle.std.proofs.Common.{◌≡◌, ℕ, refl, sym, subst, Result}
 use Rattle.zorder.specs.declared.points.Point.{Point}
 use Rattle.zorder.specs.declared.points.Region.{Region}
 use Rattle.plain_list.specs.declared.ops.Op.{Op}
 use Rattle.plain_list.specs.declared.ops.Op.TheVariants.{Put, Move, Remove, Find, Within, Near}
-use Rattle.commit_book.specs.Answers.{IsUpdate}
-use Rattle.sessions.proofs.CallLemmas.{change-answers}
+use Rattle.commit_book.specs.Answers.{IsUpdate, IsQuery}
+use Rattle.sessions.proofs.CallLemmas.{change-answers, change-fault}
 use Rattle.sessions.proofs.OpenLemmas.{opens-still}
 use Rattle.sessions.proofs.store.Store.answer.Goals as goal
 
@@ -33,3 +36,14 @@ returns-in_default g c =
       called = change-answers g.I.Index.WIDTH c.args.session c.args.row c.args.op.now c.args.pass.now c.update.new.pass c.update.result c.map_err.result is c.update.ensures c.map_err.ensures.cases;
       opened = opens-still c.args.op.now _ _ _ c.args.steps.now is;
     }
+
+pub query-requires-clause-query : goal.query-requires-clause-query
+query-requires-clause-query g c = subst IsQuery (sym c.in-Within.is) tt
+
+pub query-requires-in-Near-clause-query : goal.query-requires-in-Near-clause-query
+query-requires-in-Near-clause-query g c = subst IsQuery (sym c.in-Near.is) tt
+
+pub map_err-requires : goal.map_err-requires
+map_err-requires g c = λ fault is.
+    change-fault g.I.Index.WIDTH c.args.session c.args.row c.args.op.now c.args.pass.now c.update.new.pass fault
+    (subst (λ (r : Result Done BookFault). Updates g.I.Index.WIDTH c.args.session c.args.row c.args.op.now c.args.pass.now c.update.new.pass r) is c.update.ensures)

@@ -1,4 +1,5 @@
-use Rattle.std.proofs.Common.{◌≡◌, [], ◌∷◌, ◌++◌, Some, inl, inr, refl, sym, subst, ◌∙◌}
+use Rattle.commit_book.specs.Refusals.{closed_refusal}
+use Rattle.std.proofs.Common.{◌≡◌, [], ◌∷◌, ◌++◌, Some, inl, inr, refl, sym, subst, ◌∙◌, ap, None}
 use Rattle.commit_book.specs.declared.faults.BookFault.{BookFault}
 use Rattle.commit_book.specs.declared.faults.BookFault.TheVariants as book
 use Rattle.book_lock.specs.Pass.{Known}
@@ -102,3 +103,18 @@ returns-in-NotSplit-Room-clause-pass g c =
     let mid = c.loop.pass in
     let new = c.split_next.new.pass in
     same-later c.args.pass.now mid new c.loop.invariant.pass (subst (λ (k : Known). SamePass k new) c.next-in-loop.ensures.pass c.in-NotSplit-Room.ensures.pass)
+
+pub split_next-requires-clause-lock : goal.split_next-requires-clause-lock
+split_next-requires-clause-lock g c = ap (λ (k : Known). k.lock) c.next-in-loop.ensures.pass ∙ ap (λ (k : Known). k.lock) c.loop.invariant.pass.1 ∙ c.requires.lock
+
+pub split_next-requires-clause-off : goal.split_next-requires-clause-off
+split_next-requires-clause-off g c = ap (λ (k : Known). k.holds) c.next-in-loop.ensures.pass ∙ ap (λ (k : Known). k.holds) c.loop.invariant.pass.1 ∙ c.requires.off
+
+pub split_next-requires-clause-all : goal.split_next-requires-clause-all
+split_next-requires-clause-all g c = ap (λ (k : Known). k.parts) c.next-in-loop.ensures.pass ∙ same-parts c.args.pass.now c.loop.pass c.loop.invariant.pass ∙ c.requires.all
+
+pub split_next-requires-clause-unclosed : goal.split_next-requires-clause-unclosed
+split_next-requires-clause-unclosed g c = subst (λ (k : Known). closed_refusal k.seen ≡ None) (sym c.next-in-loop.ensures.pass) c.in-Ok-Some.ensures.next.0
+
+pub split_next-requires-clause-full : goal.split_next-requires-clause-full
+split_next-requires-clause-full g c = ap (next_full g.I.Index.WIDTH) c.next-in-loop.ensures.pass ∙ sym c.in-Ok-Some.ensures.next.1 ∙ c.in-Ok-Some.field-0-is

@@ -1,4 +1,6 @@
-use Rattle.std.proofs.Common.{inl}
+use Rattle.sessions.specs.Splits.{HasBegun}
+use Rattle.std.specs.Arc.{arc_value}
+use Rattle.std.proofs.Common.{inl, sym, subst, Bool, List}
 use Rattle.sessions.specs.declared.faults.Split.TheVariants.{NotSplit}
 use Rattle.sessions.proofs.SplitLemmas.{begun-ends, split-same}
 use Rattle.sessions.proofs.store.Store.split_once.Goals as goal
@@ -15,3 +17,12 @@ returns-clause-pass g c =
     let split = c.carry_out.result in
     split-same g.I.Index.WIDTH c.args.name.now c.args.pass.now new split
     (begun-ends g.I.Index.WIDTH c.in-Ok.ticket.number c.args.name.now c.args.pass.now c.begin.new.pass new split c.in-Ok.ensures.step c.carry_out.ensures)
+
+pub returns-in-Err-clause-ends : goal.returns-in-Err-clause-ends
+returns-in-Err-clause-ends g c = inl c.in-Err.ensures.step
+
+pub carry_out-requires-clause-ticket : goal.carry_out-requires-clause-ticket
+carry_out-requires-clause-ticket g c = c.in-Ok.ensures.ticket
+
+pub carry_out-requires-clause-begun : goal.carry_out-requires-clause-begun
+carry_out-requires-clause-begun g c = subst (λ (name : List Bool). HasBegun c.begin.new.pass c.in-Ok.ticket.number name (arc_value c.in-Ok.ticket.bucket).base) (sym c.in-Ok.ensures.name) c.in-Ok.ensures.begun
