@@ -47,10 +47,15 @@ fn fields_of(session: u32, row: u32) -> (&'static str, [Option<u32>; 5]) {
 fn add_row(text: &mut String, session: u32, row: u32) -> Result<(), AllocError> {
     let (operation, fields) = fields_of(session, row);
     write!(text, "{session},{operation}")?;
-    for field in fields {
-        add_field(text, field)?;
-    }
+    add_fields(text, &fields)?;
     text.push('\n')
+}
+
+fn add_fields(text: &mut String, fields: &[Option<u32>]) -> Result<(), AllocError> {
+    for field in fields {
+        add_field(text, *field)?;
+    }
+    Ok(())
 }
 
 fn add_field(text: &mut String, field: Option<u32>) -> Result<(), AllocError> {
@@ -64,11 +69,15 @@ fn add_field(text: &mut String, field: Option<u32>) -> Result<(), AllocError> {
 fn crowd_text(rt: &impl Abort, alloc: Global, rows: u32) -> Vec<u8> {
     let mut text = String::from_str(alloc, HEADER).expect(rt, "no memory");
     for row in 0..rows {
-        for session in 1..SESSIONS + 1 {
-            add_row(&mut text, session, row).expect(rt, "no memory");
-        }
+        add_rows(rt, &mut text, row);
     }
     text.into_bytes()
+}
+
+fn add_rows(rt: &impl Abort, text: &mut String, row: u32) {
+    for session in 1..SESSIONS + 1 {
+        add_row(text, session, row).expect(rt, "no memory");
+    }
 }
 
 fn lines(left: &Left) -> usize {
