@@ -144,43 +144,6 @@ fn ask_beside<R: Threads + Wait + Sync, G: Gate + Sync>(
     answer
 }
 
-// The same, with the puts after the answer.
-fn ask_before<I: Index, D: LogDisk, R: Wait, G: Gate>(
-    rt: &R,
-    alloc: Global,
-    store: &Store<I, D, Brand>,
-    gate: &G,
-    one: &mut Pass<SharedBook<I, D, Brand>>,
-    two: &mut Pass<SharedBook<I, D, Brand>>,
-) -> Result<Done, CallFault>
-    requires { IsFree store.now one.old × IsFree store.now two.old }
-    ensures { KeepsPass one.old one.new × KeepsPass two.old two.new }
-{
-    let answer = ask(rt, alloc, store, gate, one);
-    puts(rt, alloc, store, gate, two);
-    answer
-}
-
-// The answer to the box, with the puts beside it or after it.
-fn ask_with<R: Threads + Wait + Sync, G: Gate + Sync>(
-    rt: &R,
-    alloc: Global,
-    store: &NumberedStore,
-    gate: &G,
-    beside: bool,
-    one: &mut NumberedPass,
-    two: &mut NumberedPass,
-) -> Result<Done, CallFault>
-    requires { IsFree store.now one.old × IsFree store.now two.old }
-    ensures { KeepsPass one.old one.new × KeepsPass two.old two.new }
-{
-    if beside {
-        ask_beside(rt, alloc, store, gate, one, two)
-    } else {
-        ask_before(rt, alloc, store, gate, one, two)
-    }
-}
-
 // A store where session 1 has put an object, and a pass for each of two sessions.
 fn opened<I: Index, D: LogDisk, R: Wait + Abort, G: Gate>(
     rt: &R,
@@ -213,15 +176,27 @@ fn closed<I: Index, D: LogDisk>(
     index_of(store.close(one))
 }
 
-// The answer to the box, and the index in the end.
-fn asked<R: Threads + Wait + Abort + Sync, G: Gate + Sync>(
+// The answer to the box with the puts beside it, and the index in the end.
+fn asked_beside<R: Threads + Wait + Abort + Sync, G: Gate + Sync>(
     rt: &R,
     alloc: Global,
-    beside: bool,
     gate: &G,
 ) -> (Answer, Numbered<FlatIndex>) {
     let (store, mut one, mut two) = opened(rt, alloc, gate);
-    let answer = ask_with(rt, alloc, &store, gate, beside, &mut one, &mut two);
+    let answer = ask_beside(rt, alloc, &store, gate, &mut one, &mut two);
+    let index = closed(store, one, two);
+    (answer.expect(rt, "the call failed").answer, index)
+}
+
+// The same, with the puts after the answer.
+fn asked_before<I: Index, D: LogDisk, R: Wait + Abort, G: Gate>(
+    rt: &R,
+    alloc: Global,
+    gate: &G,
+) -> (Answer, I) {
+    let (store, mut one, mut two) = opened::<I, D, R, G>(rt, alloc, gate);
+    let answer = ask(rt, alloc, &store, gate, &mut one);
+    puts(rt, alloc, &store, gate, &mut two);
     let index = closed(store, one, two);
     (answer.expect(rt, "the call failed").answer, index)
 }
@@ -234,14 +209,8 @@ fn lists_the_first(answer: &Answer) -> bool {
 }
 
 // How many reads of older versions there were, where the box lists what stood at its place.
-fn late_reads<R: Threads + Wait + Abort + Sync, G: Gate + Sync>(
-    rt: &R,
-    alloc: Global,
-    beside: bool,
-    gate: &G,
-) -> u64 {
-    let (answer, index) = asked(rt, alloc, beside, gate);
-    assert_is!(rt; lists_the_first(&answer));
+fn late_reads<I: Index>(rt: &impl Abort, answer: &Answer, index: &Numbered<I>) -> u64 {
+    assert_is!(rt; lists_the_first(answer));
     index.late_reads()
 }
 
@@ -260,9 +229,16 @@ fn puts_overtake_a_box<R: Threads + Wait + Abort + Sync>(rt: &R, alloc: Global) 
     let second = Turn { until: 0, ..first };
     let list = [first, taken, second];
     let turns = Turns::new(&list);
-    let late_reads = late_reads(rt, alloc, true, &turns);
+    let (answer, index) = asked_beside(rt, alloc, &turns);
+    let late_reads = late_reads(rt, &answer, &index);
     holds(rt, turns.are_over(), "a lane waited for what didn't come");
     assert_is!(rt; late_reads > 0);
+}
+
+fn asks_by_itself<I: Index, D: LogDisk, R: Wait + Abort>(rt: &R, alloc: Global) {
+    let (answer, index) = asked_before::<Numbered<I>, D, R, OpenGate>(rt, alloc, &OpenGate);
+    let late_reads = late_reads(rt, &answer, &index);
+    assert_same!(rt; late_reads, 0);
 }
 
 #[test]
@@ -272,6 +248,5 @@ fn a_query_that_is_held_reads_an_older_version(rt: HostRuntime) {
 
 #[test]
 fn a_query_by_itself_reads_the_newest_version(rt: HostRuntime) {
-    let late_reads = late_reads(&rt, rt.alloc(), false, &OpenGate);
-    assert_same!(rt; late_reads, 0);
+    asks_by_itself::<FlatIndex, MemDisk, HostRuntime>(&rt, rt.alloc());
 }
