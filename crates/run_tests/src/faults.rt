@@ -50,12 +50,16 @@ fn image_of(disk: &MemDisk, commit_byte: u8) -> Result<Vec<u8>, Memory> {
     }
 }
 
+const THREE_PUTS: &Case<'static> = &Case {
+    input: rows!("1,put,7,3,5,,\n1,put,8,4,5,,\n1,put,9,5,5,,\n"),
+    ..EMPTY
+};
+
 // A run of three puts where these calls fail.
 fn three_puts(calls: &[Fail]) -> Case<'_> {
     Case {
-        input: rows!("1,put,7,3,5,,\n1,put,8,4,5,,\n1,put,9,5,5,,\n"),
         calls,
-        ..EMPTY
+        ..*THREE_PUTS
     }
 }
 
@@ -108,12 +112,14 @@ fn is_image_checked<R: Abort + Threads + Wait + Sync>(
     is_checked(rt, alloc, image.as_slice(), counts);
 }
 
+const CHECKED: &Case<'static> = &CHECK;
+
 fn checking<'a>(file: &'a [u8], counts: &'a str) -> Case<'a> {
     Case {
         file: Some(file),
         text: counts,
         held: file,
-        ..CHECK
+        ..*CHECKED
     }
 }
 

@@ -38,7 +38,7 @@ const BEHIND: &[u8] = b"\
     \x01\x05\0\0\0\0\0\0\0\x03\0\0\0\0\0\0\0\0\0\0\0\0\0\0\0\0\0\0\0\0\0\0\
     \x01\x01\0\0\0\0\0\x10\0\0\0\0\0\x03\0\0\0\x05\0\0\0\0\0\0\0\0\0\0\0\0\0\0";
 
-const CHANGES: Plan<'static> = Plan {
+const CHANGES: &Plan<'static> = &Plan {
     words: &["play", "log", "--bucket", "4096"],
     input: rows!("1,put,1048576,3,5,,\n1,put,1,3,5,,\n1,drop,2,,,,\n1,put,1048576,3,5,,\n"),
     file: None,
@@ -60,7 +60,7 @@ fn full_disk(alloc: Global) -> Result<MemDisk, Memory> {
 // two where (3,5) is one more.
 fn keeps_changes_and_splits_alone<R: Abort + Threads + Wait + Sync>(rt: &R, alloc: Global) {
     let disk = full_disk(alloc).expect(rt, "it failed");
-    let left = run_over(rt, alloc, &CHANGES, disk, &OpenGate);
+    let left = run_over(rt, alloc, CHANGES, disk, &OpenGate);
     let is_left = is_kept(left.file()) && left.tells(0, LINES);
     holds(rt, is_left, "a full world");
 }

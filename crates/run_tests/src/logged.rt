@@ -193,26 +193,32 @@ fn add_split(records: &mut Vec<Record>, len: u8) -> Result<(), AllocError> {
     Ok(())
 }
 
-const CHECK_65: Case<'static> = Case {
-    name: "check of 65 leaves",
-    text: "cells 133\npoints 5\nleaves 65\nunfinished 0\n",
-    ..CHECK
+// Five puts at one point, over a log of no cells.
+const AT_ONE_POINT: &Case<'static> = &Case {
+    name: "five puts at one point",
+    input: rows!("1,put,1,3,5,,\n1,put,2,3,5,,\n1,put,3,3,5,,\n1,put,4,3,5,,\n1,put,5,3,5,,\n"),
+    entries: 133,
+    ..PUTS_BY_4
 };
 
-const BOX_65: Case<'static> = Case {
-    name: "a box over 65 leaves",
-    text: lines!("1,1,found,1:3:5;2:3:5;3:3:5;4:3:5;5:3:5\n"),
-    ..BOX_BY_4
-};
-
-// Five puts at one point, and the log that they leave.
-fn five_puts(held: &[u8]) -> Case<'_> {
+// What is found in the log that they leave.
+const FOUND_AT_ONE_POINT: &[Case<'static>] = &[
     Case {
-        name: "five puts at one point",
-        input: rows!("1,put,1,3,5,,\n1,put,2,3,5,,\n1,put,3,3,5,,\n1,put,4,3,5,,\n1,put,5,3,5,,\n"),
+        name: "check of 65 leaves",
+        text: "cells 133\npoints 5\nleaves 65\nunfinished 0\n",
+        ..CHECK
+    },
+    Case {
+        name: "a box over 65 leaves",
+        text: lines!("1,1,found,1:3:5;2:3:5;3:3:5;4:3:5;5:3:5\n"),
+        ..BOX_BY_4
+    },
+];
+
+fn leaving(held: &[u8]) -> Case<'_> {
+    Case {
         held,
-        entries: 133,
-        ..PUTS_BY_4
+        ..*AT_ONE_POINT
     }
 }
 
@@ -220,9 +226,10 @@ fn five_puts(held: &[u8]) -> Case<'_> {
 fn splits_of_one_point<R: Abort + Threads + Wait + Sync>(rt: &R, alloc: Global) {
     let log = many_leaves_log(alloc).expect(rt, "it failed");
     let log = log.as_slice();
-    is_left(rt, alloc, &five_puts(log));
-    is_left(rt, alloc, &CHECK_65.over(log));
-    is_left(rt, alloc, &BOX_65.over(log));
+    is_left(rt, alloc, &leaving(log));
+    for case in FOUND_AT_ONE_POINT {
+        is_left(rt, alloc, &case.over(log));
+    }
 }
 
 #[test]

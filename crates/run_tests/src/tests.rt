@@ -44,7 +44,7 @@ fn each_row_has_its_line(rt: HostRuntime) {
     each_is_left(&rt, rt.alloc(), ROWS);
 }
 
-const SEVERAL: Case<'static> = Case {
+const SEVERAL: &Case<'static> = &Case {
     input: rows!("3,put,7,3,5,,\n1,put,8,4,6,,\n16,where,9,,,,\n3,where,7,,,,\n1,move,8,4,7,,\n"),
     ..NO_LOG
 };
@@ -63,7 +63,7 @@ fn are_but_for_places(lines: &[u8], wanted: &[u8]) -> bool {
 
 // The places are those of one history, whichever thread came first.
 fn keeps_the_order_of_rows<R: Abort + Threads + Wait + Sync>(rt: &R, alloc: Global) {
-    let left = run_case(rt, alloc, &SEVERAL);
+    let left = run_case(rt, alloc, SEVERAL);
     let is_in_order = are_but_for_places(left.taken.as_slice(), IN_ORDER.as_bytes());
     holds(
         rt,
@@ -131,7 +131,7 @@ fn rows_and_ends_at_fault_have_their_line_and_status(rt: HostRuntime) {
     each_is_left(&rt, rt.alloc(), NOT_PLAYED);
 }
 
-const USAGE: Case<'static> = Case {
+const USAGE: &Case<'static> = &Case {
     name: "words that ask for no command",
     status: 2,
     text: "refused usage\n",
@@ -150,7 +150,7 @@ const NO_WORDS_OF_A_COMMAND: &[&[&str]] = &[
 ];
 
 // Nothing is attached, called or written, and the source, which would fail, isn't read.
-const UNTOUCHED: Case<'static> = Case {
+const UNTOUCHED: &Case<'static> = &Case {
     name: "words that ask for no command, beside a log",
     reads: &[1],
     status: 2,
@@ -180,8 +180,8 @@ const OTHER_WORDS: &[&[&str]] = &[
 
 #[test]
 fn other_words_are_usage_and_touch_nothing(rt: HostRuntime) {
-    each_words_are_left(&rt, rt.alloc(), &USAGE, NO_WORDS_OF_A_COMMAND);
-    each_words_are_left(&rt, rt.alloc(), &UNTOUCHED, OTHER_WORDS);
+    each_words_are_left(&rt, rt.alloc(), USAGE, NO_WORDS_OF_A_COMMAND);
+    each_words_are_left(&rt, rt.alloc(), UNTOUCHED, OTHER_WORDS);
 }
 
 const LIMITS: &[(u32, &str)] = &[
@@ -189,13 +189,17 @@ const LIMITS: &[(u32, &str)] = &[
     (1_198_373, "refused limit bytes\n"),
 ];
 
+const OVER_A_LIMIT: &Case<'static> = &Case {
+    name: "an input over a limit",
+    status: 8,
+    ..NO_LOG
+};
+
 fn over_a_limit<'a>(input: &'a str, line: &'a str) -> Case<'a> {
     Case {
-        name: line,
         input,
-        status: 8,
         text: line,
-        ..NO_LOG
+        ..*OVER_A_LIMIT
     }
 }
 

@@ -116,7 +116,7 @@ fn wanted(alloc: Global) -> Result<String, Memory> {
     Ok(text_of(alloc, 20_000, &world)?)
 }
 
-const LONG_TRIAL: Case<'static> = Case {
+const LONG_TRIAL: &Case<'static> = &Case {
     name: "a trial of 20,000 rows",
     words: &["trial", "-", "20000", "3"],
     ..NO_LOG
@@ -124,7 +124,7 @@ const LONG_TRIAL: Case<'static> = Case {
 
 // Fails unless such a trial over no log tells this.
 fn tells<R: Abort + Threads + Wait + Sync>(rt: &R, alloc: Global, told: &str) {
-    let left = run_case(rt, alloc, &LONG_TRIAL);
+    let left = run_case(rt, alloc, LONG_TRIAL);
     holds(rt, left.tells(0, told), "a trial of 20,000 rows");
 }
 

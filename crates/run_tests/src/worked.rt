@@ -101,11 +101,15 @@ fn add_put(alloc: Global, all: &mut String, id: u32) -> Result<(), AllocError> {
     all.push_str(&row)
 }
 
+const BESIDE_A_FILE: &Case<'static> = &Case {
+    file: Some(&[]),
+    ..NO_LOG
+};
+
 fn playing(input: &str) -> Case<'_> {
     Case {
         input,
-        file: Some(&[]),
-        ..NO_LOG
+        ..*BESIDE_A_FILE
     }
 }
 

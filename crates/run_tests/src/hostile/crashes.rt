@@ -17,7 +17,7 @@ const INPUT: &str =
     1,put,4,2147483648,2147483648,,\n1,put,5,1,1,,\n1,move,1,0,1,,\n";
 
 // Their lines over a log of no records.
-const FRESH: [&str; 6] = [
+const FRESH: &[&str; 6] = &[
     "1,1,done,\n",
     "2,2,done,\n",
     "3,3,done,\n",
@@ -27,7 +27,7 @@ const FRESH: [&str; 6] = [
 ];
 
 // Their lines over a log that has the puts.
-const AGAIN: [&str; 6] = [
+const AGAIN: &[&str; 6] = &[
     "1,1,present,0:0\n",
     "2,2,present,2147483648:0\n",
     "3,3,present,0:2147483648\n",
@@ -37,7 +37,7 @@ const AGAIN: [&str; 6] = [
 ];
 
 // Their lines over a log that has the move too.
-const AGAIN_MOVED: [&str; 6] = [
+const AGAIN_MOVED: &[&str; 6] = &[
     "1,1,present,0:1\n",
     "2,2,present,2147483648:0\n",
     "3,3,present,0:2147483648\n",
@@ -141,7 +141,7 @@ fn behind<'a>(text: &'a [u8], lines: &[&str]) -> Option<&'a [u8]> {
 
 // Whether these are the lines of the rows over a log of the first records of them.
 fn is_output(text: &[u8], first: usize) -> bool {
-    let again = if first == 8 { &AGAIN_MOVED } else { &AGAIN };
+    let again = if first == 8 { AGAIN_MOVED } else { AGAIN };
     let (again, _) = again.split_at(first.min(6));
     let (_, fresh) = FRESH.split_at(first.min(6));
     let rest = behind(text, &["row,place,answer,detail\n"]);
@@ -172,7 +172,7 @@ const OBJECT_5: Placed = Placed {
 };
 
 // The objects in the order of their ids, before the move.
-const OBJECTS: [Placed; 5] = [
+const OBJECTS: &[Placed; 5] = &[
     Placed {
         id: 1,
         at: Point { x: 0, y: 0 },
@@ -183,7 +183,7 @@ const OBJECTS: [Placed; 5] = [
     OBJECT_5,
 ];
 
-const MOVED_OBJECTS: [Placed; 5] = [
+const MOVED_OBJECTS: &[Placed; 5] = &[
     Placed {
         id: 1,
         at: Point { x: 0, y: 1 },
@@ -196,13 +196,13 @@ const MOVED_OBJECTS: [Placed; 5] = [
 
 // Whether these are the objects of the first so many records.
 fn are_objects(objects: &[Placed], count: usize) -> bool {
-    let all = if count == 8 { &MOVED_OBJECTS } else { &OBJECTS };
+    let all = if count == 8 { MOVED_OBJECTS } else { OBJECTS };
     let (wanted, _) = all.split_at(count.min(5));
     objects == wanted
 }
 
 // How many cells, points, leaves, unfinished splits, and splits that were begun, behind each number of records.
-const COUNTS: [[u64; 5]; 9] = [
+const COUNTS: &[[u64; 5]] = &[
     [0, 0, 1, 0, 0],
     [1, 1, 1, 0, 0],
     [2, 2, 1, 0, 0],
@@ -374,15 +374,18 @@ fn make_again<R: Abort + Threads + Wait + Sync>(rt: &R, alloc: Global, left: &Le
     }
 }
 
+const MAKING: &Case<'static> = &Case { input: "", ..INIT };
+
 // Makes a log over a file with these calls failing.
 fn making<'a>(file: &'a [u8], calls: &'a [Failing]) -> Case<'a> {
     Case {
-        input: "",
         file: Some(file),
         calls,
-        ..INIT
+        ..*MAKING
     }
 }
+
+const SHORT_FILES: &[&[u8]] = &[b"", b"MDLOC", EMPTY_LOG, &[1; 17]];
 
 const INIT_CALLS: &[(DiskCall, u64)] = &[
     (DiskCall::Attach, 1),
@@ -423,8 +426,7 @@ fn every_call_of_init<R: Abort + Threads + Wait + Sync>(rt: &R, alloc: Global, f
 
 #[test]
 fn each_call_of_an_init_fails_in_turn_and_it_can_be_run_again(rt: HostRuntime) {
-    let files: [&[u8]; 4] = [b"", b"MDLOC", EMPTY_LOG, &[1; 17]];
-    for file in files {
+    for file in SHORT_FILES {
         every_call_of_init(&rt, rt.alloc(), file);
     }
 }

@@ -337,14 +337,19 @@ fn is_found<R: Abort>(rt: &R, alloc: Global, file: &[u8], want: &Want) -> bool {
     }
 }
 
-// A run over a file that is not to change it, where `play` asks for object 7.
+// A run where `play` asks for object 7.
+const ASKING: &Case<'static> = &Case {
+    input: rows!("1,where,7,,,,\n"),
+    ..EMPTY
+};
+
+// The same over a file that is not to change.
 fn asking<'a>(file: &'a [u8], want: &Want) -> Case<'a> {
     Case {
-        input: rows!("1,where,7,,,,\n"),
         file: Some(file),
         status: want.status,
         held: file,
-        ..EMPTY
+        ..*ASKING
     }
 }
 

@@ -29,29 +29,37 @@ fn add_line(alloc: Global, text: &mut String, row: u32) -> Result<(), AllocError
     text.push_str(&line)
 }
 
-// A long run with these reads and puts failing, where none of them is reached.
+const LONG_RUN: &Case<'static> = &Case {
+    name: "a run of 9,000 rows",
+    held: PUT_LOG,
+    entries: ROWS as usize,
+    ..EMPTY
+};
+
+// A long run where these reads and puts would fail.
 fn long_run<'a>(input: &'a str, output: &'a str, reads: &'a [u64], puts: &'a [u64]) -> Case<'a> {
     Case {
-        name: "a run of 9,000 rows",
         input,
         reads,
         puts,
         text: output,
-        held: PUT_LOG,
-        entries: ROWS as usize,
-        ..EMPTY
+        ..*LONG_RUN
     }
 }
 
+const UNREAD: &Case<'static> = &Case {
+    name: "a source that fails",
+    status: 5,
+    text: "refused source\n",
+    attaches: "",
+    ..EMPTY
+};
+
 fn unread<'a>(input: &'a str, reads: &'a [u64]) -> Case<'a> {
     Case {
-        name: "a source that fails",
         input,
         reads,
-        status: 5,
-        text: "refused source\n",
-        attaches: "",
-        ..EMPTY
+        ..*UNREAD
     }
 }
 

@@ -80,14 +80,21 @@ fn meet<R: Abort + Threads + Wait + Sync>(
     left
 }
 
+const QUERY: &str = rows!("1,box,,0,0,10,10\n2,where,9,,,,\n2,put,9,3,5,,\n");
+
+const BOX_FIRST: &str = lines!("1,1,found,\n2,2,absent,\n3,3,done,\n");
+
+const BOX_SECOND: &str = lines!("1,2,found,\n2,1,absent,\n3,3,done,\n");
+
+fn is_one_history(taken: &[u8]) -> bool {
+    taken == BOX_FIRST.as_bytes() || taken == BOX_SECOND.as_bytes()
+}
+
 // A query holds no lock while it is answered, and its answer is the one at its place.
 fn query_beside_put<R: Abort + Threads + Wait + Sync>(rt: &R, alloc: Global) {
-    let input = "session,op,id,x,y,a,b\n1,box,,0,0,10,10\n2,where,9,,,,\n2,put,9,3,5,,\n";
-    let left = meet(rt, alloc, GatePoint::Taken, input);
-    let taken = left.taken.as_slice();
-    let first = b"row,place,answer,detail\n1,1,found,\n2,2,absent,\n3,3,done,\n".as_slice();
-    let second = b"row,place,answer,detail\n1,2,found,\n2,1,absent,\n3,3,done,\n".as_slice();
-    must(rt, taken == first || taken == second, "lines of lanes", 2);
+    let left = meet(rt, alloc, GatePoint::Taken, QUERY);
+    let is_one_history = is_one_history(left.taken.as_slice());
+    must(rt, is_one_history, "lines of lanes", 2);
 }
 
 const SPLIT: &str =
@@ -178,7 +185,7 @@ impl Gate for Greeting {
     }
 }
 
-const TWO_PUTS: Plan<'static> = Plan {
+const TWO_PUTS: &Plan<'static> = &Plan {
     words: &["play", "-"],
     input: rows!("1,put,1,0,0,,\n2,put,2,1,1,,\n"),
     file: Some(&[]),
@@ -193,7 +200,7 @@ fn greet<R: Abort + Threads + Wait + Sync>(rt: &R, alloc: Global) {
         second: AtomicU64::new(0),
         gave_up: AtomicBool::new(false),
     };
-    let left = run_gated(rt, alloc, &TWO_PUTS, &greeting);
+    let left = run_gated(rt, alloc, TWO_PUTS, &greeting);
     let status = left.status as u64;
     must(rt, status == 0, "status", status);
     let gave_up = greeting.gave_up.load(Ordering::SeqCst);

@@ -259,13 +259,13 @@ fn sixteen_sessions_on_one_id_have_one_history(rt: HostRuntime) {
 
 // A run where a sync fails. Whichever session drops the id first has moved it before, behind a put: at least three appends, each with two
 // syncs, behind the one of opening.
-fn race_and_fail<R: Abort + Threads + Wait + Sync>(rt: &R, alloc: Global, round: u64) {
+fn race_and_fail<R: Abort + Threads + Wait + Sync>(rt: &R, alloc: Global, input: &str, round: u64) {
     let cell = round % 6 / 2;
     let failing = Failing {
         call: DiskCall::Sync,
         number: (round % 6).saturating_add(2),
     };
-    let left = play(rt, alloc, CHANGES, &[failing]);
+    let left = play(rt, alloc, input, &[failing]);
     let tale = told(rt, alloc, 4, left.history());
     must(
         rt,
@@ -280,7 +280,7 @@ fn race_and_fail<R: Abort + Threads + Wait + Sync>(rt: &R, alloc: Global, round:
 
 fn fail_each<R: Abort + Threads + Wait + Sync>(rt: &R, alloc: Global) {
     for round in 0..60 {
-        race_and_fail(rt, alloc, round);
+        race_and_fail(rt, alloc, CHANGES, round);
     }
 }
 
