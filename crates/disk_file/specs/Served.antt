@@ -12,7 +12,7 @@ pub record FileView : Type 0 where
 
 -- Nothing is known of the content: no bytes, and any image at any moment. Whatever its name is, the file attached is the one that it has.
 abbrev pub untold : Bool → ℕ → Drive
-untold attached faults = record { bytes = None; images = λ c. Unit {0}; moment = 0; since = λ t c. Unit {0}; faults = faults; calls = None; attached = λ name make. IsTrue attached }
+untold attached faults = record { bytes = None; images = λ c. Unit {0}; clock = 0; since = λ t c. Unit {0}; faults = faults; calls = None; attached = λ name make. IsTrue attached }
 
 abbrev pub file_drive : FileView → Drive
 file_drive d = untold d.attached d.faults

@@ -34,7 +34,7 @@ abbrev pub drive_by : List ℕ → List Change → ℕ × Option (List Bool) →
 drive_by first changes counts = record {
   bytes = Some (changed_by (started first) changes).held;
   images = IsImage (changed_by (started first) changes).pending;
-  moment = length changes;
+  clock = length changes;
   since = λ t c. (m : ℕ) × (t ≤ m) × (m ≤ length changes) × IsImage (changed_by (started first) (take m changes)).pending c;
   faults = counts.0;
   calls = counts.1;

@@ -13,7 +13,7 @@ use Rattle.disk_trait.specs.declared.disk.DiskFault.{DiskFault}
 pub record Drive : Type 1 where
   pub bytes : Option (List ℕ)
   pub images : List ℕ → Type 0
-  pub moment : ℕ
+  pub clock : ℕ
   pub since : ℕ → List ℕ → Type 0
   pub faults : ℕ
   pub calls : Option (List Bool)
@@ -46,9 +46,9 @@ Only bytes images = (c : List ℕ) → images c → c ≡ bytes
 
 -- Time goes on: a crash since t might have left what it might have left before, or what it may leave now.
 pub record Elapses (old new : Drive) : Type 0 where
-  pub later : old.moment ≤ new.moment
-  pub nothing_else : (t : ℕ) (c : List ℕ) → t ≤ old.moment → new.since t c → old.since t c ⊎ new.images c
-  pub keeps : (t : ℕ) (c : List ℕ) → t ≤ old.moment → old.since t c → new.since t c
+  pub later : old.clock ≤ new.clock
+  pub nothing_else : (t : ℕ) (c : List ℕ) → t ≤ old.clock → new.since t c → old.since t c ⊎ new.images c
+  pub keeps : (t : ℕ) (c : List ℕ) → t ≤ old.clock → old.since t c → new.since t c
 
 -- The writes, cuts and syncs since answered so. A drive may keep its list no longer, and then nothing is said of what follows.
 abbrev pub Made : List Bool → Drive → Drive → Type 0
@@ -62,7 +62,7 @@ MadeOne old new result = Made (is_ok result ∷ []) old new
 pub record Stays (old new : Drive) : Type 0 where
   pub bytes : new.bytes ≡ old.bytes
   pub images : (c : List ℕ) → new.images c → old.images c
-  pub moment : new.moment ≡ old.moment
+  pub clock : new.clock ≡ old.clock
   pub since : (t : ℕ) (c : List ℕ) → new.since t c → old.since t c
   pub keeps : (t : ℕ) (c : List ℕ) → old.since t c → new.since t c
   pub calls : (all : List Bool) → new.calls ≡ Some all → old.calls ≡ Some all
@@ -124,11 +124,11 @@ pub record Syncs {T : Type 0} (old new : Drive) (result : Result T DiskFault) : 
 -- what holds of each drive: this moment is one of those since an earlier one, since this moment there is no other, a longer stretch
 -- has the images of a shorter one, and the bytes that a read gives are an image
 pub record KeepsLaws (drive : Drive) : Type 0 where
-  pub counts_now : (t : ℕ) (c : List ℕ) → t ≤ drive.moment → drive.images c → drive.since t c
-  pub only_now : (c : List ℕ) → drive.since drive.moment c → drive.images c
+  pub counts_now : (t : ℕ) (c : List ℕ) → t ≤ drive.clock → drive.images c → drive.since t c
+  pub only_now : (c : List ℕ) → drive.since drive.clock c → drive.images c
   pub longer : (s t : ℕ) (c : List ℕ) → s ≤ t → drive.since t c → drive.since s c
   pub held : (xs : List ℕ) → drive.bytes ≡ Some xs → drive.images xs
 
 -- nothing is pending: where the bytes are known, a crash leaves them
-abbrev pub IsSettled : Drive → Type 0
-IsSettled drive = (xs : List ℕ) → drive.bytes ≡ Some xs → Only xs drive.images
+abbrev pub IsSynced : Drive → Type 0
+IsSynced drive = (xs : List ℕ) → drive.bytes ≡ Some xs → Only xs drive.images

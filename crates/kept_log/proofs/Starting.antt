@@ -3,7 +3,7 @@ use Rattle.std.proofs.Common.{◌≡◌, ℕ, List, [], ◌++◌, Some, sym, ◌
 use Rattle.std.proofs.lemmas.List.{append-nil}
 use Rattle.cell_format.specs.declared.cell.Cell.{Cell}
 use Rattle.plain_list.specs.State.{State, at_rest}
-use Rattle.disk_trait.specs.Drive.{Drive, IsSettled}
+use Rattle.disk_trait.specs.Drive.{Drive, IsSynced}
 use Rattle.disk_trait.specs.Moments.{LeavesNow}
 use Rattle.split_log.specs.LogText.{IsLog, HoldsCells}
 use Rattle.split_log.proofs.Unique.{holds-same}
@@ -15,7 +15,7 @@ use Rattle.kept_log.specs.KeptView.{KeptView}
 use Rattle.kept_log.specs.Kept.{StartsWith, KeepsSince, Keeps, IsOpened, found_state}
 
 -- where nothing is pending, a crash leaves what the bytes recover to
-pub starts-settled : (w : ℕ) (first : List Cell) (drive : Drive) (bytes : List ℕ) → IsSettled drive → drive.bytes ≡ Some bytes
+pub starts-settled : (w : ℕ) (first : List Cell) (drive : Drive) (bytes : List ℕ) → IsSynced drive → drive.bytes ≡ Some bytes
     → Recovers w first bytes → StartsWith w first drive
 starts-settled w first drive bytes settled told recovers = record {
   bytes = bytes;

@@ -23,8 +23,8 @@ pub record StartsWith (w : ℕ) (first : List Cell) (drive : Drive) : Type 0 whe
 -- these cells left this state, with no split open, and behind them the history is kept
 pub record KeepsSince (w : ℕ) (first : List Cell) (s : State) (h : List Entry) (start now : Drive) (failed : Option ℕ) : Type 0 where
   pub opening : at_rest (state_of w first) ≡ s
-  pub later : start.moment ≤ now.moment
-  pub history : KeepsHistory w first s.world h start.moment now failed
+  pub later : start.clock ≤ now.clock
+  pub history : KeepsHistory w first s.world h start.clock now failed
 
 -- The log keeps the history since it was opened at a state: it has the history's cells behind its first ones, and where it is known what these
 -- were, each crash since left them and some of the history's, in order.

@@ -7,7 +7,7 @@ use Rattle.cell_format.specs.declared.cell.Cell.{Cell}
 use Rattle.plain_list.specs.declared.entries.Entry.{Entry}
 use Rattle.plain_list.specs.State.{State}
 use Rattle.plain_list.specs.History.{failed_cell}
-use Rattle.disk_trait.specs.Drive.{Drive, Stays, IsSettled}
+use Rattle.disk_trait.specs.Drive.{Drive, Stays, IsSynced}
 use Rattle.log_state.specs.Recovers.{Recovers}
 use Rattle.log_state.specs.Changes.{cells_of, failed_cells, IsPrefixRecovered}
 use Rattle.log_state.specs.Keeps.{KeepsHistory}
@@ -32,7 +32,7 @@ all-placed first world h image none (inr more) =
     subst (λ (l : List Cell). Recovers width (first ++ l) image) (ap (λ (l : List Cell). cells_of world h ++ l) (failed_cells-none h none) ∙ append-nil (cells_of world h)) more
 
 -- what a log keeps of a history, at the drive on which it was opened
-kept-all : (first : List Cell) (world : List Placed) (h : List Entry) (old start now : Drive) (failed : Option ℕ) (status : ℕ) → start.moment ≡ old.moment → KeepsHistory width first world h start.moment now failed
+kept-all : (first : List Cell) (world : List Placed) (h : List Entry) (old start now : Drive) (failed : Option ℕ) (status : ℕ) → start.clock ≡ old.clock → KeepsHistory width first world h start.clock now failed
     → (status ≢ 7 → failed_cell h ≡ None) → KeepsAll width first world h old now status
 kept-all first world h old start now failed status moment kept going = record {
   any_moment = λ c left. to-prefix first world h c (kept.any_moment c (subst (λ (t : ℕ). now.since t c) (sym moment) left));
@@ -41,7 +41,7 @@ kept-all first world h old start now failed status moment kept going = record {
 }
 
 -- a drive on which nothing is pending goes on so
-settled-stays : (a b : Drive) → Stays a b → IsSettled a → IsSettled b
+settled-stays : (a b : Drive) → Stays a b → IsSynced a → IsSynced b
 settled-stays a b stays settled xs told c left = settled xs (sym stays.bytes ∙ told) c (stays.images c left)
 
 -- the cells of an origin over a log are those that its drive's bytes recover to
@@ -58,7 +58,7 @@ module _ {D : Type 0} (drive : D → Drive) (old : Drive) (log : KeptView D) (fr
       let recovers : Recovers width first bytes = first-recovers old from bytes first found told is in
       let start = starts-settled width first (drive log.start) bytes (settled-stays old (drive log.start) here settled) (here.bytes ∙ told) recovers in
       let behind = kept.keeps.since first start in
-      let all : KeepsAll width first s.world h old (drive log.disk) status = kept-all first s.world h old (drive log.start) (drive log.disk) log.failed status here.moment behind.history going in
+      let all : KeepsAll width first s.world h old (drive log.disk) status = kept-all first s.world h old (drive log.start) (drive log.disk) log.failed status here.clock behind.history going in
       let at : width ≡ from.width = ap (λ (o : Origin). o.width) (sym found.origin_is) in
       subst (λ (w : ℕ). KeepsAll w first from.state.world h old (drive log.disk) status) at
       (subst (λ (o : State). KeepsAll width first o.world h old (drive log.disk) status) state all)

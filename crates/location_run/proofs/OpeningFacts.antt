@@ -29,7 +29,7 @@ untouched-after : (a b c : Drive) → Stays a b → IsUntouched b c → IsUntouc
 untouched-after a b c stays left = record {
   bytes = left.bytes ∙ stays.bytes;
   images = λ x now. stays.images x (left.images x now);
-  since = λ t x le now. by_moment t x (left.since t x (subst (λ (m : ℕ). t ≤ m) (sym stays.moment) le) now);
+  since = λ t x le now. by_moment t x (left.since t x (subst (λ (m : ℕ). t ≤ m) (sym stays.clock) le) now);
 }
   where
     by_moment : (t : ℕ) (x : List ℕ) → b.since t x ⊎ b.images x → a.since t x ⊎ a.images x

@@ -32,7 +32,7 @@ widened w first world h g more c same (m, recovers) =
     let (k, e) = more_taken (cells_of world h ++ failed_cells h) more m in
     (k, subst (λ l. Recovers w (first ++ l) c) (e ∙ ap (take k) (sym same)) recovers)
 
-module _ (w : ℕ) (first : List Cell) (world : List Placed) (h : List Entry) (e : Entry) (cell : Cell) (t : ℕ) (d0 d1 : Drive) (earlier : t ≤ d0.moment)
+module _ (w : ℕ) (first : List Cell) (world : List Placed) (h : List Entry) (e : Entry) (cell : Cell) (t : ℕ) (d0 d1 : Drive) (earlier : t ≤ d0.clock)
     (sound : failed_cells h ≡ [])
     (legal : IsLegalCells w (first ++ (cells_of world h ++ cell ∷ [])))
     (kept : KeepsHistory w first world h t d0 None)

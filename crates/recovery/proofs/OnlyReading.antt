@@ -18,7 +18,7 @@ pub stays-trans : (a b c : Drive) → Stays a b → Stays b c → Stays a c
 stays-trans a b c first second = record {
   bytes = second.bytes ∙ first.bytes;
   images = λ x left. first.images x (second.images x left);
-  moment = second.moment ∙ first.moment;
+  clock = second.clock ∙ first.clock;
   since = λ t x left. first.since t x (second.since t x left);
   keeps = λ t x left. second.keeps t x (first.keeps t x left);
   calls = λ all told. first.calls all (second.calls all told);

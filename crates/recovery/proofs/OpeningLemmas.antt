@@ -24,15 +24,15 @@ use Rattle.recovery.specs.Reading.{IsFoundIn}
 pub leaves-trans : (a b c : Drive) (P : List ℕ → Type 0) → LeavesOnly a b P → LeavesOnly b c P → LeavesOnly a c P
 leaves-trans a b c P first second = record {
   later = omega (arith, first.later, second.later);
-  each = λ x left. ⊎_elim (λ before. first.each x before) (λ holds. holds) (second.before a.moment x first.later left);
+  each = λ x left. ⊎_elim (λ before. first.each x before) (λ holds. holds) (second.before a.clock x first.later left);
   before = λ t x le left. ⊎_elim (λ before. first.before t x le before) (λ holds. inr holds) (second.before t x (omega (arith, le, first.later)) left);
 }
 
 -- a call that only reads
 pub leaves-stays : (a b : Drive) (P : List ℕ → Type 0) → KeepsLaws a → LeavesNow a P → Stays a b → LeavesOnly a b P
 leaves-stays a b P laws now stays = record {
-  later = omega (arith, stays.moment);
-  each = λ x left. now x (laws.only_now x (stays.since a.moment x left));
+  later = omega (arith, stays.clock);
+  each = λ x left. now x (laws.only_now x (stays.since a.clock x left));
   before = λ t x le left. inl (stays.since t x left);
 }
 

@@ -36,7 +36,7 @@ bytes_in drive (Some log) = (drive log.start).bytes
 
 abbrev pub moment_in : {D : Type 0} → (D → Drive) → Option (KeptView D) → ℕ
 moment_in drive None = 0
-moment_in drive (Some log) = (drive log.start).moment
+moment_in drive (Some log) = (drive log.start).clock
 
 abbrev pub faults_in : {D : Type 0} → (D → Drive) → Option (KeptView D) → ℕ
 faults_in drive None = 0
