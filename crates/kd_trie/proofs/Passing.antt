@@ -11,10 +11,10 @@ use Rattle.index_layer.specs.Part.{goes_on, is_inner}
 use Rattle.index_layer.proofs.LeafKeys.{false_if}
 use Rattle.index_layer.proofs.LeafNames.{front-test, front-from_test}
 use Rattle.kd_trie.specs.declared.stem.Side.{Side}
-use Rattle.kd_trie.specs.Tries.{Trie, leaves_under, reach}
+use Rattle.bit_trie.specs.Tries.{Trie, halves, leaves_under, reach}
 use Rattle.kd_trie.specs.Nodes.{seen}
-use Rattle.kd_trie.specs.Stems.{way_of, halves, stem_over, GoesPast, Passing}
-use Rattle.kd_trie.proofs.Reaching.{reach-half, below-fork}
+use Rattle.kd_trie.specs.Stems.{way_of, stem_over, GoesPast, Passing}
+use Rattle.bit_trie.proofs.Reaching.{reach-half, reach-halves, below-fork}
 
 -- a name that another one goes on from is told by the test
 pub on-test : (name stem : List Bool) → GoesPast name stem → goes_on name stem ≡ true
@@ -39,10 +39,6 @@ passing-at (b ∷ name) rest (r ∷ sides) s e lt at =
 
     tail_same : (a b : Bool) (xs ys : List Bool) → a ∷ xs ≡ b ∷ ys → xs ≡ ys
     tail_same a b xs ys e = cc e
-
-pub reach-halves : (b : Bool) (path : List Bool) (a t : Trie) → reach (b ∷ path) (halves b a t) ≡ reach path t
-reach-halves true path a t = refl
-reach-halves false path a t = refl
 
 reach-front : (front back : List Side) (s : Side) (t : Trie) → reach (way_of front) (stem_over (front ++ s ∷ back) t) ≡ Some (halves s.bit (seen s.node) (stem_over back t))
 reach-front [] back s t = refl

@@ -8,10 +8,10 @@ use Rattle.zorder.specs.Key.{is_under, key_bits}
 use Rattle.kd_trie.specs.declared.node.Node.{Node}
 use Rattle.bucket_versions.specs.Rows.{Rows}
 use Rattle.kd_trie.specs.declared.stem.Side.{Side}
-use Rattle.kd_trie.specs.Tries.{Trie, height, name_at, bucket_at, graft, changed_at, rows_at}
+use Rattle.bit_trie.specs.Tries.{Trie, halves, height, name_at, bucket_at, graft, changed_at, rows_at}
 use Rattle.kd_trie.specs.Nodes.{seen}
-use Rattle.kd_trie.specs.Ways.{Fits}
-use Rattle.kd_trie.specs.Stems.{way_of, halves, stem_over}
+use Rattle.bit_trie.specs.Ways.{Fits}
+use Rattle.kd_trie.specs.Stems.{way_of, stem_over}
 
 drop-low : (n w k : ℕ) → drop n (low_bits w k) ≡ low_bits (w - n) k
 drop-low zero w k =

@@ -8,11 +8,11 @@ use Rattle.bucket_versions.specs.declared.row.RowChange.{RowChange}
 use Rattle.bucket_versions.specs.Rows.{Rows, has_row, after_gone}
 use Rattle.kd_trie.specs.declared.node.Node.{Node}
 use Rattle.kd_trie.specs.declared.node.Pair.{Pair}
-use Rattle.kd_trie.specs.Tries.{Trie, fork, height, changed_at, rows_at, graft}
+use Rattle.bit_trie.specs.Tries.{Trie, fork, height, changed_at, rows_at, graft}
 use Rattle.kd_trie.specs.Nodes.{seen}
 use Rattle.kd_trie.specs.Halves.{half_of, with_half}
-use Rattle.kd_trie.specs.Ways.{Fits, count_under, gone_under, MayMove}
-use Rattle.kd_trie.proofs.Halves.{changed_one, changed_zero, graft_one, graft_zero, rows_one, rows_zero}
+use Rattle.bit_trie.specs.Ways.{Fits, count_under, gone_under, MayMove}
+use Rattle.bit_trie.proofs.Halves.{changed_one, changed_zero, graft_one, graft_zero, rows_one, rows_zero}
 
 -- a pair that holds a trie, the bit that a key goes on with there, and what the half under it holds
 pub record Step (left key : ℕ) (t : Trie) (p : Pair) (bit : Bool) (u : Trie) : Type 0 where

@@ -3,7 +3,7 @@ use Rattle.std.specs.Prelude.{Bool, if◌then◌else◌}
 use Rattle.std.specs.Borrow.{Lends, MutBor, Fml}
 use Rattle.kd_trie.specs.declared.node.Node.{Node}
 use Rattle.kd_trie.specs.declared.node.Pair.{Pair}
-use Rattle.kd_trie.specs.Tries.{Trie}
+use Rattle.bit_trie.specs.Tries.{Trie}
 use Rattle.kd_trie.specs.Nodes.{seen}
 use Rattle.kd_trie.specs.contracts.node.Node as node
 use Rattle.kd_trie.specs.contracts.node.Pair as pair

@@ -1,6 +1,6 @@
 -- What a node holds.
 use Rattle.kd_trie.specs.declared.node.Node.{Node, Leaf, Inner'}
-use Rattle.kd_trie.specs.Tries.{Trie, tip, fork}
+use Rattle.bit_trie.specs.Tries.{Trie, tip, fork}
 
 abbrev pub seen : Node → Trie
 seen (Leaf b) = tip b.value

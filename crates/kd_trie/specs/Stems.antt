@@ -1,17 +1,13 @@
 -- A way from the top of a trie, and what stands beside it.
-use Rattle.std.specs.Prelude.{◌≡◌, Bool, List, [], ◌∷◌, ◌++◌, map, if◌then◌else◌}
+use Rattle.std.specs.Prelude.{◌≡◌, Bool, List, [], ◌∷◌, ◌++◌, map}
 use Rattle.kd_trie.specs.declared.stem.Side.{Side}
 use Rattle.std.specs.List.{list_all}
-use Rattle.kd_trie.specs.Tries.{Trie, fork, is_bare}
+use Rattle.bit_trie.specs.Tries.{Trie, halves, is_bare}
 use Rattle.kd_trie.specs.Nodes.{seen}
 
 -- the bits of the way
 abbrev pub way_of : List Side → List Bool
 way_of sides = map (λ (s : Side). s.bit) sides
-
--- two halves, of which the second one given is under this bit
-abbrev pub halves : Bool → Trie → Trie → Trie
-halves bit beside on = if bit then fork beside on else fork on beside
 
 -- the trie in which the way past these sides leads to this trie
 abbrev pub stem_over : List Side → Trie → Trie

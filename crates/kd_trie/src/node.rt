@@ -4,11 +4,11 @@ ghost use Rattle.std.specs.Arc.{arc_value};
 ghost use Rattle.std.specs.Borrow.{sem};
 ghost use Rattle.std.specs.Int.{bit_at};
 ghost use Rattle.zorder.specs.Bits.{low_bits};
-ghost use Rattle.kd_trie.specs.Tries.{name_at, bucket_at, graft, twins};
+ghost use Rattle.bit_trie.specs.Tries.{name_at, bucket_at, graft, twins};
 ghost use Rattle.kd_trie.specs.Nodes.{seen};
 ghost use Rattle.kd_trie.specs.Halves.{LendsHalf, half_of};
-ghost use Rattle.kd_trie.specs.Ways.{Fits};
-ghost use Rattle.kd_trie.specs.Walks.{Agrees};
+ghost use Rattle.bit_trie.specs.Ways.{Fits};
+ghost use Rattle.bit_trie.specs.Walks.{Agrees};
 ghost use Rattle.bucket_versions.specs.Told.{Told};
 
 use bucket_versions::{Bucket, Commit, Undone, own};

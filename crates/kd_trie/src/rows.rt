@@ -4,7 +4,7 @@ ghost use Rattle.std.specs.Arc.{arc_value};
 ghost use Rattle.bucket_versions.specs.Rows.{has_row, without_row, after_put, after_gone};
 ghost use Rattle.bucket_versions.specs.Told.{Told};
 ghost use Rattle.kd_trie.specs.Nodes.{seen};
-ghost use Rattle.kd_trie.specs.Ways.{Fits, has_under, put_under, gone_under, count_under, MayMove};
+ghost use Rattle.bit_trie.specs.Ways.{Fits, has_under, put_under, gone_under, count_under, MayMove};
 
 use crate::node::{Node, Pair, half, next_bit};
 use bucket_versions::{Bucket, Commit, RowChange, Undone, own, pass, put, shift, take};

@@ -2,10 +2,10 @@
 ghost use Rattle.std.specs.Prelude.{◌≡◌, ◌≤◌, ◌+◌, [], Some, None, true, length, IfOk, IfSome};
 ghost use Rattle.std.specs.Arc.{arc_value};
 ghost use Rattle.zorder.specs.Bits.{low_bits};
-ghost use Rattle.kd_trie.specs.Tries.{Trie, height, name_at, bucket_at, is_bare};
+ghost use Rattle.bit_trie.specs.Tries.{Trie, halves, height, name_at, bucket_at, is_bare};
 ghost use Rattle.kd_trie.specs.Nodes.{seen};
-ghost use Rattle.kd_trie.specs.Stems.{GoesPast, Passing, way_of, halves, stem_over, all_bare};
-ghost use Rattle.kd_trie.specs.Walks.{Narrows};
+ghost use Rattle.kd_trie.specs.Stems.{GoesPast, Passing, way_of, stem_over, all_bare};
+ghost use Rattle.bit_trie.specs.Walks.{Narrows};
 ghost use Rattle.index_layer.specs.Part.{goes_on};
 
 use crate::node::{Node, Pair, leaf_of, next_bit};

@@ -4,7 +4,7 @@ ghost use Rattle.std.specs.Arc.{arc_value};
 ghost use Rattle.bucket_versions.specs.Rows.{IsRows};
 ghost use Rattle.index_layer.specs.Leaves.{AreLeaves, has_name};
 ghost use Rattle.index_layer.specs.LeavesProp.{AreLeaves-prop};
-ghost use Rattle.kd_trie.specs.Tries.{height, leaves_under, reach};
+ghost use Rattle.bit_trie.specs.Tries.{height, leaves_under, reach};
 ghost use Rattle.kd_trie.specs.Nodes.{seen};
 ghost use Rattle.kd_trie.specs.Stems.{GoesPast};
 ghost use Rattle.kd_trie.specs.Wholes.{whole};

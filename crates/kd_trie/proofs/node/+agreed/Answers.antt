@@ -1,9 +1,9 @@
 use Rattle.std.proofs.Common.{◌≡◌, ◌-◌, ◌==◌, ◌∙◌, ℕ, suc, true, false, sym, ap, subst, arith}
 use Rattle.std.specs.Int.{bit_at}
-use Rattle.kd_trie.specs.Tries.{Trie, fork, height}
+use Rattle.bit_trie.specs.Tries.{Trie, fork, height}
 use Rattle.kd_trie.specs.Nodes.{seen}
-use Rattle.kd_trie.specs.Walks.{Agrees}
-use Rattle.kd_trie.proofs.Walking.{agrees-half}
+use Rattle.bit_trie.specs.Walks.{Agrees}
+use Rattle.bit_trie.proofs.Walking.{agrees-half}
 use Rattle.kd_trie.proofs.node.+agreed.Goals as goal
 
 pub returns-then-next_bit-2-clause-agrees : goal.returns-then-next_bit-2-clause-agrees

@@ -1,8 +1,8 @@
 use Rattle.std.proofs.Common.{◌∙◌, refl, sym, ap, rules}
 use Rattle.bucket_versions.specs.Rows.{has_row, after_gone}
 use Rattle.kd_trie.specs.Nodes.{seen}
-use Rattle.kd_trie.specs.Tries.{tip}
-use Rattle.kd_trie.specs.Ways.{has_under, gone_under}
+use Rattle.bit_trie.specs.Tries.{tip}
+use Rattle.bit_trie.specs.Ways.{has_under, gone_under}
 use Rattle.kd_trie.proofs.Steps.{held, step, changed-step, kept-step, rows-step, kept-default, on_ok, on_err}
 use Rattle.kd_trie.proofs.rows.+pass_row.Goals as goal
 

@@ -3,8 +3,8 @@ use Rattle.zorder.specs.Bits.{low_bits}
 use Rattle.bucket_versions.specs.Rows.{has_row, after_put, after_gone}
 use Rattle.kd_trie.specs.Nodes.{seen}
 use Rattle.kd_trie.specs.Halves.{half_of}
-use Rattle.kd_trie.specs.Tries.{tip, rows_at}
-use Rattle.kd_trie.specs.Ways.{has_under, gone_under, put_under}
+use Rattle.bit_trie.specs.Tries.{tip, rows_at}
+use Rattle.bit_trie.specs.Ways.{has_under, gone_under, put_under}
 use Rattle.kd_trie.proofs.Steps.{held, step, moves-step, changed-twice, counted-step, kept-step, alike, parts-one, parts-zero, changed-parts-one, changed-parts-zero, kept-default, kept-parts, counted-zero, counted-one, unlike-one, unlike-zero, on_ok, on_err}
 use Rattle.kd_trie.proofs.rows.+shift_row.Goals as goal
 

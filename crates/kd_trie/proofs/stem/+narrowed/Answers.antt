@@ -1,7 +1,7 @@
 use Rattle.std.proofs.Common.{List, Bool, subst}
 use Rattle.kd_trie.specs.Nodes.{seen}
-use Rattle.kd_trie.specs.Walks.{Narrows}
-use Rattle.kd_trie.proofs.Walking.{narrows-here, narrows-half}
+use Rattle.bit_trie.specs.Walks.{Narrows}
+use Rattle.bit_trie.proofs.Walking.{narrows-here, narrows-half}
 use Rattle.kd_trie.proofs.stem.+narrowed.Goals as goal
 
 pub returns-then-len-eq64 : goal.returns-then-len-eq64

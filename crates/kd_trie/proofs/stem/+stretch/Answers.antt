@@ -1,8 +1,8 @@
 use Rattle.std.proofs.Common.{◌≡◌, ◌+◌, ◌++◌, ◌∷◌, ◌∙◌, [], Bool, List, length, length-append, sym, ap, arith}
 use Rattle.kd_trie.specs.declared.stem.Side.{Side}
-use Rattle.kd_trie.specs.Tries.{Trie}
+use Rattle.bit_trie.specs.Tries.{Trie, halves}
 use Rattle.kd_trie.specs.Nodes.{seen}
-use Rattle.kd_trie.specs.Stems.{halves, way_of}
+use Rattle.kd_trie.specs.Stems.{way_of}
 use Rattle.kd_trie.proofs.StemLemmas.{stretched, way-append}
 use Rattle.kd_trie.proofs.stem.+stretch.Goals as goal
 

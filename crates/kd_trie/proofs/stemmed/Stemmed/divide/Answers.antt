@@ -2,7 +2,7 @@ use Rattle.std.proofs.Common.{◌≡◌, ◌≤◌, ◌∙◌, ◌-◌, ◌++◌
 use Rattle.std.specs.Arc.{arc_value}
 use Rattle.zorder.specs.Bits.{low_bits}
 use Rattle.kd_trie.specs.declared.stem.Side.{Side}
-use Rattle.kd_trie.specs.Tries.{Trie, height, graft, twins}
+use Rattle.bit_trie.specs.Tries.{Trie, height, graft, twins}
 use Rattle.kd_trie.specs.Nodes.{seen}
 use Rattle.kd_trie.specs.Stems.{way_of, stem_over}
 use Rattle.kd_trie.specs.Wholes.{sides_of, whole}

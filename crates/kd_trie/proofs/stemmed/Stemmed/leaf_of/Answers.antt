@@ -1,7 +1,7 @@
 use Rattle.std.proofs.Common.{◌≡◌, ◌∙◌, ◌+◌, ◌-◌, ◌≤◌, ℕ, List, length, sym, ap, subst, arith}
 use Rattle.zorder.specs.Bits.{low_bits}
 use Rattle.kd_trie.specs.declared.stem.Side.{Side}
-use Rattle.kd_trie.specs.Tries.{height, bucket_at, name_at}
+use Rattle.bit_trie.specs.Tries.{height, bucket_at, name_at}
 use Rattle.kd_trie.specs.Nodes.{seen}
 use Rattle.kd_trie.specs.Stems.{way_of, stem_over}
 use Rattle.kd_trie.specs.Wholes.{sides_of}

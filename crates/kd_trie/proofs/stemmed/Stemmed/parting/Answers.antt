@@ -2,7 +2,7 @@ use Rattle.std.proofs.Common.{◌-◌, ℕ, sym, ap, ◌∙◌}
 use Rattle.kd_trie.specs.Nodes.{seen}
 use Rattle.kd_trie.specs.Wholes.{sides_of}
 use Rattle.kd_trie.proofs.StemLemmas.{fits-under}
-use Rattle.kd_trie.proofs.Walking.{agrees-stem}
+use Rattle.kd_trie.proofs.StemWalks.{agrees-stem}
 use Rattle.kd_trie.proofs.stemmed.Stemmed.parting.Goals as goal
 
 pub agreed-requires : goal.agreed-requires

@@ -2,7 +2,7 @@ use Rattle.std.proofs.Common.{◌≡◌, ◌≤◌, ◌∙◌, ◌-◌, ◌++◌
 use Rattle.zorder.specs.Bits.{low_bits}
 use Rattle.bucket_versions.specs.Rows.{has_row, after_put}
 use Rattle.kd_trie.specs.declared.stem.Side.{Side}
-use Rattle.kd_trie.specs.Tries.{Trie, height, changed_at, rows_at}
+use Rattle.bit_trie.specs.Tries.{Trie, height, changed_at, rows_at}
 use Rattle.kd_trie.specs.Nodes.{seen}
 use Rattle.kd_trie.specs.Stems.{way_of}
 use Rattle.kd_trie.specs.Wholes.{sides_of, whole}

@@ -3,7 +3,7 @@ use Rattle.std.specs.Arc.{arc_value}
 use Rattle.index_layer.specs.Leaves.{leaf_under}
 use Rattle.index_layer.proofs.LeafChanges.{leaf_at}
 use Rattle.index_layer.proofs.LeafNames.{has_name-first}
-use Rattle.kd_trie.specs.Tries.{leaves_under}
+use Rattle.bit_trie.specs.Tries.{leaves_under}
 use Rattle.kd_trie.specs.Wholes.{whole}
 use Rattle.kd_trie.proofs.trie.KdTrie.has_leaf.Goals as goal
 

@@ -1,10 +1,10 @@
 use Rattle.std.proofs.Common.{◌≡◌, ◌∙◌, Some, true, false, sym, ap, inr, refl}
 use Rattle.std.specs.Arc.{arc_value}
 use Rattle.kd_trie.specs.declared.node.Node.{Node}
-use Rattle.kd_trie.specs.Tries.{Trie, fork, reach}
+use Rattle.bit_trie.specs.Tries.{Trie, fork, reach}
 use Rattle.kd_trie.specs.Nodes.{seen}
 use Rattle.kd_trie.specs.Wholes.{sides_of, whole}
-use Rattle.kd_trie.proofs.Reaching.{below-leaf, below-fork, reach-half}
+use Rattle.bit_trie.proofs.Reaching.{below-leaf, below-fork, reach-half}
 use Rattle.kd_trie.proofs.Passing.{passed-at, not-past}
 use Rattle.kd_trie.proofs.trie.KdTrieIndex.below.Goals as goal
 

@@ -4,9 +4,9 @@ use Rattle.zorder.specs.Bits.{low_bits}
 use Rattle.bucket_versions.specs.Rows.{Rows}
 use Rattle.index_layer.specs.Leaves.{AreAllUnder, split}
 use Rattle.index_layer.proofs.Children.{two_items}
-use Rattle.kd_trie.specs.Tries.{graft, twins, leaves_under}
+use Rattle.bit_trie.specs.Tries.{graft, twins, leaves_under}
 use Rattle.kd_trie.specs.Wholes.{whole}
-use Rattle.kd_trie.proofs.TrieLeaves.{divides-graft, short-kept, are_leaves-kept, leaves-made}
+use Rattle.bit_trie.proofs.TrieLeaves.{divides-graft, short-kept, are_leaves-kept, leaves-made}
 use Rattle.kd_trie.proofs.trie.KdTrieIndex.divide.Goals as goal
 
 pub invariant_of-self : goal.invariant_of-self

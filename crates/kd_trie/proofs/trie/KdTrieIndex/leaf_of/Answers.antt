@@ -3,9 +3,9 @@ use Rattle.std.specs.Arc.{arc_value}
 use Rattle.zorder.specs.Bits.{low_bits}
 use Rattle.zorder.specs.Key.{key_bits}
 use Rattle.index_layer.proofs.LeafChanges.{leaf_at}
-use Rattle.kd_trie.specs.Tries.{name_at}
+use Rattle.bit_trie.specs.Tries.{name_at}
 use Rattle.kd_trie.specs.Wholes.{whole}
-use Rattle.kd_trie.proofs.TrieLeaves.{leaf-at_key, name-front}
+use Rattle.bit_trie.proofs.TrieLeaves.{leaf-at_key, name-front}
 use Rattle.kd_trie.proofs.trie.KdTrieIndex.leaf_of.Goals as goal
 
 pub returns : goal.returns

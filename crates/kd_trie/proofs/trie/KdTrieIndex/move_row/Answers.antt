@@ -1,11 +1,11 @@
 use Rattle.std.proofs.Common.{[], ◌≡◌, true, false, refl}
 use Rattle.zorder.specs.Bits.{low_bits}
 use Rattle.bucket_versions.specs.Rows.{has_row, after_put, after_gone}
-use Rattle.kd_trie.specs.Tries.{leaves_under, changed_at, rows_at}
+use Rattle.bit_trie.specs.Tries.{leaves_under, changed_at, rows_at}
 use Rattle.kd_trie.specs.Wholes.{whole}
-use Rattle.kd_trie.proofs.TrieLeaves.{short-kept, are_leaves-kept}
-use Rattle.kd_trie.proofs.TrieRows.{absent-after}
-use Rattle.kd_trie.proofs.RowLeaves.{puts, takes, rows-found, moves-made, counts-made}
+use Rattle.bit_trie.proofs.TrieLeaves.{short-kept, are_leaves-kept}
+use Rattle.bit_trie.proofs.TrieRows.{absent-after}
+use Rattle.bit_trie.proofs.RowLeaves.{puts, takes, rows-found, moves-made, counts-made}
 use Rattle.kd_trie.proofs.trie.KdTrieIndex.move_row.Goals as goal
 
 pub shift_row-requires-clause-rows : goal.shift_row-requires-clause-rows

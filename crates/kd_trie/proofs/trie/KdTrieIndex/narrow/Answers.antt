@@ -3,7 +3,8 @@ use mathlib.Core.Bool.{true≢false}
 use Rattle.kd_trie.specs.Nodes.{seen}
 use Rattle.kd_trie.specs.Wholes.{sides_of, whole}
 use Rattle.kd_trie.proofs.Passing.{going, on-test, not-past}
-use Rattle.kd_trie.proofs.Walking.{Narrowed, narrowed-place, narrowed-stem}
+use Rattle.bit_trie.proofs.Walking.{Narrowed, narrowed-place}
+use Rattle.kd_trie.proofs.StemWalks.{narrowed-stem}
 use Rattle.kd_trie.proofs.trie.KdTrieIndex.narrow.Goals as goal
 
 along : (c : goal.After-narrowed) → Narrowed c.args.name c.narrowed.result.0 (whole c.args.self.now.tree) (seen c.narrowed.result.1.now)

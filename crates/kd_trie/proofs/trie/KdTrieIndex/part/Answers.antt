@@ -9,7 +9,7 @@ use Rattle.zorder.specs.SameName.{same_name-decides}
 use Rattle.index_layer.specs.Leaves.{leaf_under}
 use Rattle.index_layer.proofs.LeafChanges.{leaf_at}
 use Rattle.index_layer.proofs.LeafNames.{has_name-first, leaf_named-first, is_inner-first, goes_on-test}
-use Rattle.kd_trie.specs.Tries.{leaves_under}
+use Rattle.bit_trie.specs.Tries.{leaves_under}
 use Rattle.kd_trie.specs.Wholes.{whole}
 use Rattle.kd_trie.proofs.trie.KdTrieIndex.part.Goals as goal
 use Rattle.kd_trie.proofs.trie.KdTrieIndex.part.Goals.{else-len-via-then-len+else-begins, else-len-via-else-len}

@@ -1,10 +1,10 @@
 use Rattle.std.proofs.Common.{[], false, refl}
 use Rattle.zorder.specs.Bits.{low_bits}
 use Rattle.bucket_versions.specs.Rows.{after_put}
-use Rattle.kd_trie.specs.Tries.{leaves_under, changed_at}
+use Rattle.bit_trie.specs.Tries.{leaves_under, changed_at}
 use Rattle.kd_trie.specs.Wholes.{whole}
-use Rattle.kd_trie.proofs.TrieLeaves.{short-kept, are_leaves-kept}
-use Rattle.kd_trie.proofs.RowLeaves.{puts, rows-found, changes-made, counts-made}
+use Rattle.bit_trie.proofs.TrieLeaves.{short-kept, are_leaves-kept}
+use Rattle.bit_trie.proofs.RowLeaves.{puts, rows-found, changes-made, counts-made}
 use Rattle.kd_trie.proofs.trie.KdTrieIndex.put_row.Goals as goal
 
 pub put_row-requires-clause-absent : goal.put_row-requires-clause-absent

@@ -2,12 +2,12 @@ use Rattle.std.proofs.Common.{◌≡◌, ◌∙◌, ◌⊎◌, Bool, List, [], S
 use Rattle.zorder.specs.Key.{is_under}
 use Rattle.index_layer.specs.Below.{begins_some}
 use Rattle.index_layer.proofs.Narrowing.{under-none, some-whole}
-use Rattle.kd_trie.specs.Tries.{leaves_under, reach}
+use Rattle.bit_trie.specs.Tries.{leaves_under, reach}
 use Rattle.kd_trie.specs.Nodes.{seen}
 use Rattle.kd_trie.specs.Stems.{GoesPast}
 use Rattle.kd_trie.specs.Wholes.{sides_of, whole}
 use Rattle.kd_trie.proofs.Passing.{top-at}
-use Rattle.kd_trie.proofs.Walking.{path-is, over-from, over-to, begun}
+use Rattle.bit_trie.proofs.Walking.{path-is, over-from, over-to, begun}
 use Rattle.kd_trie.proofs.trie.KdTrieIndex.reach.Goals as goal
 
 named : (c : goal.After-first_bits) → c.first_bits.result ≡ c.in-Some.ensures.agrees.path

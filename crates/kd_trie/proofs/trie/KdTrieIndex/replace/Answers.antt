@@ -2,9 +2,9 @@ use Rattle.std.proofs.Common.{[]}
 use Rattle.zorder.specs.Bits.{low_bits}
 use Rattle.std.specs.Arc.{arc_value}
 use Rattle.index_layer.specs.Leaves.{replaced}
-use Rattle.kd_trie.specs.Tries.{leaves_under, tip, graft}
+use Rattle.bit_trie.specs.Tries.{leaves_under, tip, graft}
 use Rattle.kd_trie.specs.Wholes.{whole}
-use Rattle.kd_trie.proofs.TrieLeaves.{differs-put, short-kept, are_leaves-kept, leaves-made}
+use Rattle.bit_trie.proofs.TrieLeaves.{differs-put, short-kept, are_leaves-kept, leaves-made}
 use Rattle.kd_trie.proofs.trie.KdTrieIndex.replace.Goals as goal
 
 pub invariant_of-self : goal.invariant_of-self

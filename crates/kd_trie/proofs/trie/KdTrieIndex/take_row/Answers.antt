@@ -1,10 +1,10 @@
 use Rattle.std.proofs.Common.{[], true, refl}
 use Rattle.zorder.specs.Bits.{low_bits}
 use Rattle.bucket_versions.specs.Rows.{after_gone}
-use Rattle.kd_trie.specs.Tries.{leaves_under, changed_at}
+use Rattle.bit_trie.specs.Tries.{leaves_under, changed_at}
 use Rattle.kd_trie.specs.Wholes.{whole}
-use Rattle.kd_trie.proofs.TrieLeaves.{short-kept, are_leaves-kept}
-use Rattle.kd_trie.proofs.RowLeaves.{takes, rows-found, changes-made}
+use Rattle.bit_trie.proofs.TrieLeaves.{short-kept, are_leaves-kept}
+use Rattle.bit_trie.proofs.RowLeaves.{takes, rows-found, changes-made}
 use Rattle.kd_trie.proofs.trie.KdTrieIndex.take_row.Goals as goal
 
 pub take_row-requires-clause-present : goal.take_row-requires-clause-present

@@ -1,7 +1,7 @@
 use Rattle.std.proofs.Common.{[], arith, sym, subst, ◌≤◌}
 use Rattle.index_layer.specs.Leaves.{AreLeaves}
 use Rattle.index_layer.proofs.LeafChanges.{AreLeaves-one_leaf}
-use Rattle.kd_trie.specs.Tries.{Trie, height, leaves_under}
+use Rattle.bit_trie.specs.Tries.{Trie, height, leaves_under}
 use Rattle.kd_trie.proofs.trie.KdTrieIndex.whole.Goals as goal
 
 pub invariant_of-result : goal.invariant_of-result

@@ -4,7 +4,7 @@ use Rattle.bucket_versions.specs.declared.row.Row.{Row}
 use Rattle.bucket_versions.specs.declared.row.RowChange.{RowChange}
 use Rattle.bucket_versions.specs.Rows.{Rows, has_row, same_row, without_row, after_gone}
 use Rattle.bucket_versions.proofs.RowOrder.{not_first}
-use Rattle.kd_trie.specs.Tries.{Trie, tip, fork, height, bucket_at, rows_at, changed_at}
+use Rattle.bit_trie.specs.Tries.{Trie, tip, fork, height, bucket_at, rows_at, changed_at}
 
 pub rows-bucket : (path : List Bool) (t : Trie) (b : Rows) → bucket_at path t ≡ Some b → rows_at path t ≡ b.rows
 rows-bucket path (tip a) b e = ap (λ (r : Rows). r.rows) (some a b e)

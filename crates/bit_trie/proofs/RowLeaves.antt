@@ -11,10 +11,10 @@ use Rattle.index_layer.specs.Leaves.{Leaf, AreLeaves, AreUnder, replaced, leaf_u
 use Rattle.index_layer.proofs.LeafKeys.{all_at}
 use Rattle.index_layer.proofs.FoundLeaves.{AreUnder-with_row, AreUnder-without_row}
 use Rattle.index_layer.proofs.LeafChanges.{leaf_at, AreLeaves-replaced}
-use Rattle.kd_trie.specs.Tries.{Trie, tip, fork, height, leaves_under, name_at, bucket_at, rows_at, changed_at, graft}
+use Rattle.bit_trie.specs.Tries.{Trie, tip, fork, height, leaves_under, name_at, bucket_at, rows_at, changed_at, graft}
 use Rattle.index_layer.specs.RowChanges.{ChangesAt, CountAt, Moves}
-use Rattle.kd_trie.proofs.TrieLeaves.{hole, within, name-under, leaves-put, leaf-at_key}
-use Rattle.kd_trie.proofs.TrieRows.{height-changed, rows-bucket}
+use Rattle.bit_trie.proofs.TrieLeaves.{hole, within, name-under, leaves-put, leaf-at_key}
+use Rattle.bit_trie.proofs.TrieRows.{height-changed, rows-bucket}
 
 changed-put : (path : List Bool) (change : Rows → Rows) (t : Trie) (a : Rows) → bucket_at path t ≡ Some a → changed_at path change t ≡ graft path (tip (change a)) t
 changed-put path change (tip b) a e = ap (λ (r : Rows). tip (change r)) (some b a e)

@@ -4,7 +4,7 @@ use Rattle.zorder.specs.Bits.{low_bits}
 use Rattle.bucket_versions.specs.declared.row.Row.{Row}
 use Rattle.bucket_versions.specs.declared.row.RowChange.{RowChange}
 use Rattle.bucket_versions.specs.Rows.{has_row, after_put, after_gone}
-use Rattle.kd_trie.specs.Tries.{Trie, height, changed_at, rows_at}
+use Rattle.bit_trie.specs.Tries.{Trie, height, changed_at, rows_at}
 
 -- so many bits of a key lead to a leaf
 pub record Fits (left : ℕ) (t : Trie) : Type 0 where

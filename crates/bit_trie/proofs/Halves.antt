@@ -3,7 +3,7 @@ use Rattle.std.proofs.Common.{◌≡◌, ◌-◌, ◌==◌, ◌<◌, ◌∙◌, 
 use Rattle.std.specs.Int.{bit_at}
 use Rattle.zorder.specs.Bits.{low_bits}
 use Rattle.bucket_versions.specs.Rows.{Rows}
-use Rattle.kd_trie.specs.Tries.{Trie, fork, graft, changed_at, rows_at}
+use Rattle.bit_trie.specs.Tries.{Trie, fork, graft, changed_at, rows_at}
 
 again : (left : ℕ) → 0 < left → left ≡ suc (left - 1)
 again left some = omega (arith, some)

@@ -1,6 +1,5 @@
 -- Where walks down a trie may begin, and what they may pass by.
 use Rattle.std.proofs.Common.{◌≡◌, ◌-◌, ◌==◌, ℕ, suc, Bool, true, false, cond, List, [], ◌∷◌, ◌++◌, length, take, Some, refl, sym, ◌∙◌, ap, arith, subst, append_assoc, append-nil, length-append}
-use Rattle.std.specs.Cmp.{first_so, second_so}
 use Rattle.std.specs.Int.{bit_at}
 use Rattle.std.specs.List.{starts_with, AllByRecursion}
 use Rattle.std.proofs.lemmas.Bool.{eqb-true}
@@ -13,19 +12,9 @@ use Rattle.index_layer.specs.Leaves.{Leaf}
 use Rattle.index_layer.specs.Below.{begins_some}
 use Rattle.index_layer.specs.Narrowed.{PassesBare}
 use Rattle.index_layer.proofs.LeafNames.{IsFront, front-test, front-from_test, front-trans, among-any}
-use Rattle.kd_trie.specs.declared.stem.Side.{Side}
-use Rattle.kd_trie.specs.Tries.{Trie, tip, fork, leaves_under, reach, is_bare}
-use Rattle.kd_trie.specs.Nodes.{seen}
-use Rattle.kd_trie.specs.Stems.{way_of, halves, stem_over, all_bare, GoesPast}
-use Rattle.kd_trie.specs.Walks.{Agrees, AreBareBeside, Narrows}
-use Rattle.kd_trie.proofs.Reaching.{reached, first}
-use Rattle.kd_trie.proofs.Passing.{reach-halves}
-use Rattle.kd_trie.proofs.StemLemmas.{under-stem}
-
--- below a stem
-pub reach-stem : (sides : List Side) (path : List Bool) (t : Trie) → reach (way_of sides ++ path) (stem_over sides t) ≡ reach path t
-reach-stem [] path t = refl
-reach-stem (s ∷ sides) path t = reach-halves s.bit (way_of sides ++ path) (seen s.node) (stem_over sides t) ∙ reach-stem sides path t
+use Rattle.bit_trie.specs.Tries.{Trie, tip, fork, halves, leaves_under, reach, is_bare}
+use Rattle.bit_trie.specs.Walks.{Agrees, AreBareBeside, Narrows}
+use Rattle.bit_trie.proofs.Reaching.{reached, first, reach-halves}
 
 -- one path after the other
 pub reach-on : (name path : List Bool) (w t u : Trie) → reach name w ≡ Some t → reach path t ≡ Some u → reach (name ++ path) w ≡ Some u
@@ -41,18 +30,6 @@ reach-on (false ∷ name) path (fork z o) t u e f = reach-on name path z t u e f
 pub agrees-half : (from to n rest : ℕ) (b : Bool) (z o u : Trie) → (bit_at from n == 1) ≡ b → (bit_at to n == 1) ≡ b → Agrees from to n rest (cond b o z) u → Agrees from to (suc n) rest (fork z o) u
 agrees-half from to n rest true z o u e f a = record { path = true ∷ a.path; from_is = λ i. e i ∷ a.from_is i; to_is = λ i. f i ∷ a.to_is i; at = a.at }
 agrees-half from to n rest false z o u e f a = record { path = false ∷ a.path; from_is = λ i. e i ∷ a.from_is i; to_is = λ i. f i ∷ a.to_is i; at = a.at }
-
-pub agrees-stem : (name : List Bool) (sides : List Side) (from to left rest : ℕ) (t u : Trie) → name ≡ way_of sides → is_under name from ≡ true → is_under name to ≡ true → left ≡ 64 - length name
-    → Agrees from to left rest t u → Agrees from to 64 rest (stem_over sides t) u
-agrees-stem name sides from to left rest t u named over_from over_to fits a = record {
-  path = way_of sides ++ a.path;
-  from_is = whole from over_from a.from_is;
-  to_is = whole to over_to a.to_is;
-  at = reach-stem sides a.path t ∙ a.at;
-}
-  where
-    whole : (key : ℕ) → is_under name key ≡ true → low_bits left key ≡ a.path ++ low_bits rest key → low_bits 64 key ≡ (way_of sides ++ a.path) ++ low_bits rest key
-    whole key over e = under-stem name sides key left named over fits ∙ ap (λ (p : List Bool). way_of sides ++ p) e ∙ sym (append_assoc (way_of sides) a.path (low_bits rest key))
 
 take-front : (n : ℕ) (front rest : List Bool) → n ≡ length front → take n (front ++ rest) ≡ front
 take-front n front rest e = ap (λ m. take m (front ++ rest)) e ∙ by_front front
@@ -128,39 +105,8 @@ narrows-half name below b a on t u is e n = record {
   bare = subst (λ (v : Trie). AreBareBeside below (leaves_under name v)) (sym is) (half-bare name below b a on e n.bare);
 }
 
-pub narrows-stem : (name below : List Bool) (sides : List Side) (t u : Trie) → all_bare sides ≡ true → Narrows (name ++ way_of sides) below t u → Narrows name below (stem_over sides t) u
-narrows-stem name below [] t u e n = subst (λ (m : List Bool). Narrows m below t u) (append-nil name) n
-narrows-stem name below (s ∷ sides) t u e n =
-    narrows-half name below s.bit (seen s.node) (stem_over sides t) (stem_over (s ∷ sides) t) u refl (first_so (is_bare (seen s.node)) (all_bare sides) e)
-    (narrows-stem (name ++ s.bit ∷ []) below sides t u (second_so (is_bare (seen s.node)) (all_bare sides) e)
-    (subst (λ (m : List Bool). Narrows m below t u) (sym (append_assoc name (s.bit ∷ []) (way_of sides))) n))
-
--- a way in two parts
-pub record Parts (name rest : List Bool) (sides : List Side) : Type 0 where
-  pub front : List Side
-  pub back : List Side
-  pub is : sides ≡ front ++ back
-  pub named : name ≡ way_of front
-  pub rest_is : rest ≡ way_of back
-
-heads : (a b : Bool) (xs ys : List Bool) → a ∷ xs ≡ b ∷ ys → (a ≡ b) × (xs ≡ ys)
+pub heads : (a b : Bool) (xs ys : List Bool) → a ∷ xs ≡ b ∷ ys → (a ≡ b) × (xs ≡ ys)
 heads a b xs ys e = (cc e, cc e)
-
-parts_of : (name rest : List Bool) (sides : List Side) → way_of sides ≡ name ++ rest → Parts name rest sides
-parts_of [] rest sides e = record { front = []; back = sides; is = refl; named = refl; rest_is = sym e }
-parts_of (b ∷ name) rest [] e = absurd (cc e)
-parts_of (b ∷ name) rest (s ∷ sides) e =
-    let h = heads s.bit b (way_of sides) (name ++ rest) e in
-    let p = parts_of name rest sides h.1 in
-    record { front = s ∷ p.front; back = p.back; is = ap (λ (l : List Side). s ∷ l) p.is; named = λ i. sym h.0 i ∷ p.named i; rest_is = p.rest_is }
-
-reach-way : (front back : List Side) (t : Trie) → reach (way_of front) (stem_over (front ++ back) t) ≡ Some (stem_over back t)
-reach-way [] back t = refl
-reach-way (s ∷ front) back t = reach-halves s.bit (way_of front) (seen s.node) (stem_over (front ++ back) t) ∙ reach-way front back t
-
-bare-back : (front back : List Side) → all_bare (front ++ back) ≡ true → all_bare back ≡ true
-bare-back [] back e = e
-bare-back (s ∷ front) back e = bare-back front back (second_so (is_bare (seen s.node)) (all_bare (front ++ back)) e)
 
 -- leaves beside what a path leads to, by the name there
 same_bit : (name a b : List Bool) (x y : Bool) → (name ++ x ∷ []) ++ a ≡ (name ++ y ∷ []) ++ b → x ≡ y
@@ -195,7 +141,7 @@ module _ (below : List Bool) where
       (passed-on (pre ++ false ∷ []) path z t e (subst (λ (m : List Bool). AreBareBeside below (leaves_under m t)) (sym (append_assoc pre (false ∷ []) path)) bare)))
       (all-from (λ (l : Leaf). IsFront (pre ++ true ∷ []) l.name) (IsPassed (pre ++ false ∷ path)) (λ l f. apart pre path true false l true≢false f) (leaves_under (pre ++ true ∷ []) o) (fronts (pre ++ true ∷ []) o))
 
--- a place that is narrowed, below the top or along the stem
+-- a place that is narrowed
 pub record Narrowed (name below : List Bool) (w u : Trie) : Type 0 where
   pub at : reach below w ≡ Some u
   pub passed : PassesBare name below (leaves_under [] w)
@@ -205,11 +151,3 @@ narrowed-place name below w t u e n = record {
   at = ap (λ (m : List Bool). reach m w) n.named ∙ reach-on name n.path w t u e n.at;
   passed = record { on = front-test name below (n.path, n.named); bare = passed-on below [] name w t e n.bare };
 }
-
-pub narrowed-stem : (name stem below : List Bool) (sides : List Side) (t u : Trie) → stem ≡ way_of sides → all_bare sides ≡ true → GoesPast name stem → Narrows stem below t u → Narrowed name below (stem_over sides t) u
-narrowed-stem name stem below sides t u named e past n =
-    let p = parts_of name (past.0 ∷ past.1) sides (sym named ∙ past.2) in
-    let back : all_bare p.back ≡ true = bare-back p.front p.back (ap all_bare (sym p.is) ∙ e) in
-    let here : stem ≡ name ++ way_of p.back = past.2 ∙ ap (λ (r : List Bool). name ++ r) p.rest_is in
-    narrowed-place name below (stem_over sides t) (stem_over p.back t) u ((λ i. reach (p.named i) (stem_over (p.is i) t)) ∙ reach-way p.front p.back t)
-    (narrows-stem name below p.back t u back (subst (λ (m : List Bool). Narrows m below t u) here n))

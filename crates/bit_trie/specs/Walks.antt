@@ -4,7 +4,7 @@ use Rattle.std.specs.List.{starts_with, AllByRecursion}
 use mathlib.Core.Bool.{beq}
 use Rattle.zorder.specs.Bits.{low_bits}
 use Rattle.index_layer.specs.Leaves.{Leaf}
-use Rattle.kd_trie.specs.Tries.{Trie, leaves_under, reach}
+use Rattle.bit_trie.specs.Tries.{Trie, leaves_under, reach}
 
 -- a path that the last bits of two keys both take, what it leads to, and how many of their bits are left there
 pub record Agrees (from to left rest : ℕ) (t u : Trie) : Type 0 where

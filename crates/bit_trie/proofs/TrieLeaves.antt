@@ -12,7 +12,7 @@ use Rattle.index_layer.specs.Leaves.{Leaf, AreLeaves, AreUnder, AreAllUnder, nam
 use Rattle.index_layer.proofs.LeafChanges.{leaf_at, replaced-at, split-at, AreLeaves-replaced, AreLeaves-split}
 use Rattle.index_layer.proofs.LeafKeys.{leaf_under-at, first_key-fits, first_key-under}
 use Rattle.index_layer.proofs.LeafNames.{any-among, one-leaf, short-among}
-use Rattle.kd_trie.specs.Tries.{Trie, tip, fork, height, leaves_under, name_at, bucket_at, graft, twins}
+use Rattle.bit_trie.specs.Tries.{Trie, tip, fork, height, leaves_under, name_at, bucket_at, graft, twins}
 
 -- the leaves in front of the one on this path, those behind it, and its bucket
 pub record Hole (name path : List Bool) (b : Rows) (t : Trie) : Type 0 where

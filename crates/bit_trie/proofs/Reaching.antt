@@ -7,7 +7,7 @@ use Rattle.index_layer.specs.Part.{is_inner}
 use Rattle.index_layer.proofs.LeafChanges.{leaf_at}
 use Rattle.index_layer.proofs.LeafNames.{IsFront, front-trans, front-length}
 use Rattle.index_layer.proofs.Places.{named-among, inner-among}
-use Rattle.kd_trie.specs.Tries.{Trie, tip, fork, leaves_under, reach}
+use Rattle.bit_trie.specs.Tries.{Trie, tip, fork, halves, leaves_under, reach}
 
 same_trie : (t u : Trie) → Some t ≡ Some u → t ≡ u
 same_trie t u e = cc e
@@ -22,6 +22,10 @@ reach-half [] b t z o e = ap (reach (b ∷ [])) (same_trie t (fork z o) e) ∙ b
 reach-half (x ∷ path) b (tip a) z o e = absurd (cc e)
 reach-half (true ∷ path) b (fork y w) z o e = reach-half path b w z o e
 reach-half (false ∷ path) b (fork y w) z o e = reach-half path b y z o e
+
+pub reach-halves : (b : Bool) (path : List Bool) (a t : Trie) → reach (b ∷ path) (halves b a t) ≡ reach path t
+reach-halves true path a t = refl
+reach-halves false path a t = refl
 
 -- the leaves in front of those that a path leads to, and those behind them
 pub record Reached (name path : List Bool) (t u : Trie) : Type 0 where

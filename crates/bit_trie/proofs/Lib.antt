@@ -1,0 +1,6 @@
+pub mod Halves
+pub mod TrieLeaves
+pub mod TrieRows
+pub mod RowLeaves
+pub mod Reaching
+pub mod Walking

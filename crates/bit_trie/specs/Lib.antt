@@ -1,0 +1,3 @@
+pub mod Tries
+pub mod Ways
+pub mod Walks
