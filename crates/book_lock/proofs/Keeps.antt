@@ -2,7 +2,7 @@
 use Rattle.std.proofs.lemmas.Bool.Decides.{nat_tests}
 use lib.Seq.{set-get_or}
 use Rattle.std.proofs.Math.Nat.{mod-eq_of_lt}
-use Rattle.std.proofs.Common.{◌≡◌, ◌≢◌, ℕ, zero, suc, ◌+◌, ◌-◌, ◌%◌, ◌^◌, ◌<◌, ◌≤◌, List, [], ◌∷◌, ◌++◌, length, set, Bool, true, false, cond, refl, sym, ap, ◌∙◌, subst, ⊎_elim, arith, eqb, length-append, length-set, get_or-set_other, get_or-set_same}
+use Rattle.std.proofs.Common.{◌≡◌, ◌≢◌, ℕ, zero, suc, ◌+◌, ◌-◌, ◌%◌, ◌^◌, ◌<◌, ◌≤◌, List, [], ◌∷◌, ◌++◌, length, set, Bool, true, false, cond, refl, sym, ap, ◌∙◌, subst, inl, inr, ⊎_elim, arith, eqb, length-append, length-set, get_or-set_other, get_or-set_same}
 use Rattle.std.specs.Prelude.{Option, Some, slice_get, slice_index}
 use mathlib.Core.Option.{some, none, some-injective, some-ne-none}
 use mathlib.Core.Option as opt
@@ -18,7 +18,7 @@ use Rattle.book_lock.specs.Origin.{Origin}
 use Rattle.book_lock.specs.declared.view.View.{View}
 use Rattle.book_lock.specs.Own.{times, once_below, Owns, IsBelow}
 use Rattle.book_lock.specs.Ends.{IsEnd, Ends, OwnsEnds, MayNote}
-use Rattle.book_lock.specs.Rule.{seat_view, total, hold_of, parts_of, times_of, newcomer, Fits, HasEnder, LockRule, without_part, part_of, note_of, both, spent}
+use Rattle.book_lock.specs.Rule.{seat_view, total, hold_of, parts_of, times_of, newcomer, Fits, HasEnder, LockRule, without_part, part_of, note_of, both, spent, untold}
 use Rattle.book_lock.specs.Steps.{Sat, holder, taken, noted, released, compared}
 use Rattle.book_lock.proofs.Positions.{once_below-one, once_below-in, once_below-suc, times-append, times-merge, Rises-snoc, IsBelow-snoc, Rises-merge, one_if, one_same}
 use Rattle.book_lock.proofs.Histories.{prefix_refl, prefix_longer, prefix_length, prefix_whole, prefix_of_two, get_prefix, get_below, get_snoc, longer_begins, longer_length}
@@ -44,6 +44,10 @@ fits_set log start views id w mine others j u e = ⊎_elim
     (λ (t : (j ≡ id) × (w ≡ u)). subst (Fits log start) t.1 mine)
     (λ (t : (j ≢ id) × (get_elem? views j ≡ some u)). others j u t.0 t.1)
     (at_set views id j w u e)
+
+-- a seat with a part was taken in by no other, so it is of the origin
+pub has_origin : (log : List Entry) (start : Origin) (v : View) → Fits log start v → 0 < v.parts → v.origin ≡ start
+has_origin log start v f some_part = ⊎_elim (λ (is : v ≡ spent). let none : v.parts ≡ 0 = ap parts_of is in absurd (omega arith)) (λ (is : v.origin ≡ start). is) f.same
 
 module _ {V : Type 0} (entries : V → List Entry) (origin : V → Origin) (start : Origin) where
   abbrev St : Type 0
@@ -72,7 +76,7 @@ module _ {V : Type 0} (entries : V → List Entry) (origin : V → Origin) (star
         told = ([], refl);
         rises = tt;
         below = λ p h. absurd (omega arith);
-        same = λ _. refl;
+        same = inr refl;
         whole = λ e. absurd (cc);
         idle = λ e. absurd (omega arith);
       }
@@ -179,7 +183,7 @@ module _ {V : Type 0} (entries : V → List Entry) (origin : V → Origin) (star
               told = f.told;
               rises = f.rises;
               below = below;
-              same = f.same;
+              same = inr (has_origin k.log start v f some_part);
               whole = λ _. h.2;
               idle = λ e. absurd (omega arith);
             }
@@ -190,7 +194,7 @@ module _ {V : Type 0} (entries : V → List Entry) (origin : V → Origin) (star
           (λ _. (
             x,
             (λ i. (w, (0, Some x) ∷ free i)),
-            h.3 ∙ sym (f.same some_part),
+            h.3 ∙ sym (has_origin k.log start v f some_part),
             subst (IsPrefix v.seen) (sym h.2) f.seen,
             subst (λ (l : List Entry). OwnsEnds l v.own) (sym h.2) (owns_ends s k id v at),
             f.rises,
@@ -273,12 +277,12 @@ module _ {V : Type 0} (entries : V → List Entry) (origin : V → Origin) (star
               told = f.told;
               rises = f.rises;
               below = f.below;
-              same = f.same;
+              same = inr (has_origin k.log start v f some_part);
               whole = λ e. absurd (cc);
               idle = λ e. absurd (omega arith);
             }
             (λ j u _ e. k.each j u e)
-            (λ _. (x, one_item _ s.homes (some (Some x)) (wide ∙ single), is_seen ∙ whole, is_origin ∙ f.same some_part))
+            (λ _. (x, one_item _ s.homes (some (Some x)) (wide ∙ single), is_seen ∙ whole, is_origin ∙ has_origin k.log start v f some_part))
             (λ p n e. ender_stays s.views k.log p n id v w at (inside_of s.views id v at) (λ _ o. o) (k.ended p n e)),
         refl,
       )
@@ -321,7 +325,7 @@ module _ {V : Type 0} (entries : V → List Entry) (origin : V → Origin) (star
               told = prefix_longer v.told k.log (e ∷ []) f.told;
               rises = Rises-snoc v.own n f.rises f.below;
               below = subst (λ (m : ℕ). IsBelow m w.own) (sym one_more) (IsBelow-snoc v.own n f.below);
-              same = f.same;
+              same = inr (has_origin k.log start v f some_part);
               whole = λ _. ap (λ (l : List Entry). l ++ e ∷ []) whole;
               idle = λ z. absurd (omega arith);
             }
@@ -369,7 +373,7 @@ module _ {V : Type 0} (entries : V → List Entry) (origin : V → Origin) (star
         told = f.told;
         rises = f.rises;
         below = f.below;
-        same = λ _. f.same (omega arith);
+        same = inr (has_origin k.log start v f (omega arith));
         whole = f.whole;
         idle = λ e. absurd (omega arith);
       } in
@@ -378,7 +382,7 @@ module _ {V : Type 0} (entries : V → List Entry) (origin : V → Origin) (star
         told = (k.log, refl);
         rises = tt;
         below = λ p h. absurd (omega arith);
-        same = λ _. f.same (omega arith);
+        same = inr (has_origin k.log start v f (omega arith));
         whole = λ e. absurd (cc);
         idle = λ _. (refl, refl);
       } in
@@ -407,7 +411,7 @@ module _ {V : Type 0} (entries : V → List Entry) (origin : V → Origin) (star
     told = (log, refl);
     rises = tt;
     below = λ p h. absurd (omega arith);
-    same = λ z. absurd (omega arith);
+    same = inl refl;
     whole = λ e. absurd (cc);
     idle = λ _. (refl, refl);
   }
@@ -433,7 +437,7 @@ module _ {V : Type 0} (entries : V → List Entry) (origin : V → Origin) (star
             dite (ℕ_discrete n 0)
             (λ (z : n ≡ 0). let x = f.below p (omega arith) in omega arith)
             (λ (z : n ≢ 0). let x = h.below p (omega arith) in omega arith);
-        same = λ _. f.same some_part;
+        same = inr (has_origin k.log start v f some_part);
         whole = λ on. let no : true ≡ false = sym on ∙ off in absurd (cc);
         idle = λ e. absurd (omega arith);
       } in
@@ -499,7 +503,7 @@ module _ {V : Type 0} (entries : V → List Entry) (origin : V → Origin) (star
               told = (k.log, refl);
               rises = f.rises;
               below = f.below;
-              same = f.same;
+              same = ⊎_elim (λ (is : v ≡ spent). inl (ap untold is)) (λ (is : v.origin ≡ start). inr is) f.same;
               whole = f.whole;
               idle = f.idle;
             }
@@ -525,6 +529,6 @@ module _ {V : Type 0} (entries : V → List Entry) (origin : V → Origin) (star
         x,
         values 0 (Some x) (ap (λ (l : List (opt.Option (Option V))). get_elem? l 0) home.1),
         home.2 ∙ sym whole,
-        home.3 ∙ sym (f.same (omega arith)),
+        home.3 ∙ sym (has_origin k.log start v f (omega arith)),
         λ p. own p ∙ ap (once_below p) (ap length (sym whole)),
       )

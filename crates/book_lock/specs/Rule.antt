@@ -1,6 +1,6 @@
 -- The rule of the lock. Word 0 is only loaded, word 1 is 1 while a seat holds the lock and else 0, and word 2 counts the entries of the
 -- history. Slot 0 has the value.
-use Rattle.std.specs.Prelude.{◌≡◌, ℕ, ◌+◌, ◌-◌, ◌<◌, ◌≤◌, List, [], ◌∷◌, length, slice_index, Option, Some, None, Bool, true, false, if◌then◌else◌}
+use Rattle.std.specs.Prelude.{◌≡◌, ◌⊎◌, ℕ, ◌+◌, ◌-◌, ◌<◌, ◌≤◌, List, [], ◌∷◌, length, slice_index, Option, Some, None, Bool, true, false, if◌then◌else◌}
 use mathlib.Core.Option.{some}
 use mathlib.Core.List.{IsPrefix}
 use lib.ListN.{get_elem?}
@@ -33,15 +33,23 @@ times_of p v = times p v.own
 abbrev pub newcomer : Origin → View
 newcomer origin = seat_view [] [] [] origin 65536 false
 
+-- of no value
+abbrev pub no_origin : Origin
+no_origin = record { world = []; leaves = []; begun = 0; cells = 0; bytes = None; moment = 0; faults = 0; bucket = 0 }
+
+-- a seat that another took in
+abbrev pub spent : View
+spent = seat_view [] [] [] no_origin 0 false
+
 -- what the rule says of one view of a history and an origin: what it has seen and was told are beginnings of the history; its own
--- positions rise and were seen; unless it is spent it is of the origin; who holds the lock has seen the whole history; who has no part
+-- positions rise and were seen; it is of the origin, unless another took it in; who holds the lock has seen the whole history; who has no part
 -- owns nothing and doesn't hold the lock
 pub record Fits (log : List Entry) (start : Origin) (v : View) : Type 0 where
   pub seen : IsPrefix v.seen log
   pub told : IsPrefix v.told log
   pub rises : Rises v.own
   pub below : IsBelow (length v.seen) v.own
-  pub same : 0 < v.parts → v.origin ≡ start
+  pub same : (v ≡ spent) ⊎ (v.origin ≡ start)
   pub whole : v.holds ≡ true → v.seen ≡ log
   pub idle : v.parts ≡ 0 → (v.own ≡ []) × (v.holds ≡ false)
 
@@ -77,13 +85,6 @@ note_of v = seat_view v.seen [] [] v.origin 0 false
 -- what a seat knows that takes in another: the longer of what both have seen, and the shorter as told
 abbrev pub both : View → View → View
 both v w = seat_view (longer v.seen w.seen) (shorter v.seen w.seen) (merge w.own v.own) v.origin (v.parts + w.parts) v.holds
-
-abbrev pub no_origin : Origin
-no_origin = record { world = []; leaves = []; begun = 0; cells = 0; bytes = None; moment = 0; faults = 0; bucket = 0 }
-
--- a seat that another took in
-abbrev pub spent : View
-spent = seat_view [] [] [] no_origin 0 false
 
 abbrev pub untold : View → View
 untold v = seat_view v.seen [] v.own v.origin v.parts v.holds
