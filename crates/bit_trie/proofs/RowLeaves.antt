@@ -13,7 +13,7 @@ use Rattle.index_layer.proofs.FoundLeaves.{AreUnder-with_row, AreUnder-without_r
 use Rattle.index_layer.proofs.LeafChanges.{leaf_at, AreLeaves-replaced}
 use Rattle.bit_trie.specs.Tries.{Trie, tip, fork, height, leaves_under, name_at, bucket_at, rows_at, changed_at, graft}
 use Rattle.index_layer.specs.RowChanges.{ChangesAt, CountAt, Moves}
-use Rattle.bit_trie.proofs.TrieLeaves.{hole, within, name-under, leaves-put, leaf-at_key}
+use Rattle.bit_trie.proofs.TrieLeaves.{gap, within, name-under, leaves-put, leaf-at_key}
 use Rattle.bit_trie.proofs.TrieRows.{height-changed, rows-bucket}
 
 changed-put : (path : List Bool) (change : Rows → Rows) (t : Trie) (a : Rows) → bucket_at path t ≡ Some a → changed_at path change t ≡ graft path (tip (change a)) t
@@ -38,8 +38,7 @@ pub record Found (key : ℕ) (t : Trie) : Type 0 where
 
 pub find-leaf : (key : ℕ) (t : Trie) → key < 2 ^ 64 → height t ≤ 64 → AreLeaves (leaves_under [] t) → Found key t
 find-leaf key t lt h are =
-    let none : Rows = record { base = []; rows = [] } in
-    let r = hole [] (low_bits 64 key) none t (within key t h) in
+    let r = gap [] (low_bits 64 key) t (within key t h) in
     let name : List Bool = name_at (low_bits 64 key) t in
     let l : Leaf = leaf_at name r.old in
     record {

@@ -1,28 +1,27 @@
 -- A trie with another bucket on a path has the leaves with another bucket under one name.
 use Rattle.std.proofs.Common.{◌≡◌, ℕ, zero, suc, ◌+◌, ◌<◌, ◌≤◌, Bool, true, false, List, [], ◌∷◌, ◌++◌, length, take, Some, Ok, Err, max, refl, sym, ◌∙◌, ap, subst, arith, append_assoc, append-nil, ◌^◌, Result, OnOk, OnErr}
-use Rattle.std.specs.List.{starts_with}
+use Rattle.std.specs.List.{starts_with, AllByRecursion}
 use mathlib.Core.Bool.{beq}
 use Rattle.zorder.specs.Bits.{low_bits}
 use Rattle.zorder.specs.Name.{first_key, length-low_bits}
 use Rattle.zorder.specs.Key.{key_bits, is_under}
 use Rattle.zorder.specs.SameName.{same_name, same_name-decides}
-use Rattle.zorder.specs.Tile.{tiles_from}
+use Rattle.zorder.specs.Tile.{tiles_from, children}
 use Rattle.bucket_versions.specs.Rows.{Rows, IsRows}
-use Rattle.index_layer.specs.Leaves.{Leaf, AreLeaves, AreUnder, AreAllUnder, names_of, has_name, replaced, split, leaf_under}
+use Rattle.index_layer.specs.Leaves.{Leaf, AreLeaves, AreUnder, AreAllUnder, names_of, has_name, replaced, leaves_of, split, leaf_under}
 use Rattle.index_layer.proofs.LeafChanges.{leaf_at, replaced-at, split-at, AreLeaves-replaced, AreLeaves-split}
 use Rattle.index_layer.proofs.LeafKeys.{leaf_under-at, first_key-fits, first_key-under}
 use Rattle.index_layer.proofs.LeafNames.{any-among, one-leaf, short-among}
-use Rattle.bit_trie.specs.Tries.{Trie, tip, fork, height, leaves_under, name_at, bucket_at, graft, twins}
+use Rattle.bit_trie.specs.Tries.{Trie, tip, fork, height, leaves_under, name_at, bucket_at, graft}
 
 -- the leaves in front of the one on this path, those behind it, and its bucket
-pub record Hole (name path : List Bool) (b : Rows) (t : Trie) : Type 0 where
+pub record Gap (name path : List Bool) (t : Trie) : Type 0 where
   pub front : List Leaf
   pub back : List Leaf
   pub old : Rows
-  pub before : leaves_under name t ≡ front ++ leaf_at (name ++ name_at path t) old ∷ back
-  pub after : leaves_under name (graft path (tip b) t) ≡ front ++ leaf_at (name ++ name_at path t) b ∷ back
   pub held : bucket_at path t ≡ Some old
-  pub cut : (a c : Rows) → leaves_under name (graft path (twins a c) t) ≡ front ++ leaf_at ((name ++ name_at path t) ++ false ∷ []) a ∷ leaf_at ((name ++ name_at path t) ++ true ∷ []) c ∷ back
+  pub before : leaves_under name t ≡ front ++ leaf_at (name ++ name_at path t) old ∷ back
+  pub filled : (s : Trie) → leaves_under name (graft path s t) ≡ front ++ (leaves_under (name ++ name_at path t) s ++ back)
 
 height_zero : (z o : Trie) (n : ℕ) → height (fork z o) ≤ suc n → height z ≤ n
 height_zero z o n h = omega (arith, h)
@@ -30,50 +29,47 @@ height_zero z o n h = omega (arith, h)
 height_one : (z o : Trie) (n : ℕ) → height (fork z o) ≤ suc n → height o ≤ n
 height_one z o n h = omega (arith, h)
 
-pub hole : (name path : List Bool) (b : Rows) (t : Trie) → height t ≤ length path → Hole name path b t
-hole name path b (tip a) h = record {
+pub gap : (name path : List Bool) (t : Trie) → height t ≤ length path → Gap name path t
+gap name path (tip a) h = record {
   front = [];
   back = [];
   old = a;
-  before = λ i. leaf_at (sym (append-nil name) i) a ∷ [];
-  after = λ i. leaf_at (sym (append-nil name) i) b ∷ [];
   held = refl;
-  cut = λ a c i. leaf_at (sym (append-nil name) i ++ false ∷ []) a ∷ leaf_at (sym (append-nil name) i ++ true ∷ []) c ∷ [];
+  before = λ i. leaf_at (sym (append-nil name) i) a ∷ [];
+  filled = λ s. (λ i. leaves_under (sym (append-nil name) i) s) ∙ sym (append-nil (leaves_under (name ++ []) s));
 }
-hole name [] b (fork z o) h = absurd (omega (arith, h))
-hole name (true ∷ path) b (fork z o) h =
-    let r = hole (name ++ true ∷ []) path b o (height_one z o (length path) h) in
+gap name [] (fork z o) h = absurd (omega (arith, h))
+gap name (true ∷ path) (fork z o) h =
+    let r = gap (name ++ true ∷ []) path o (height_one z o (length path) h) in
     let first : List Leaf = leaves_under (name ++ false ∷ []) z in
     let named : (name ++ true ∷ []) ++ name_at path o ≡ name ++ true ∷ name_at path o = append_assoc name (true ∷ []) (name_at path o) in
-    let place : (c : Rows) → first ++ (r.front ++ leaf_at ((name ++ true ∷ []) ++ name_at path o) c ∷ r.back) ≡ (first ++ r.front) ++ leaf_at (name ++ true ∷ name_at path o) c ∷ r.back =
-    λ c. (λ i. first ++ (r.front ++ leaf_at (named i) c ∷ r.back)) ∙ sym (append_assoc first r.front (leaf_at (name ++ true ∷ name_at path o) c ∷ r.back)) in
     record {
       front = first ++ r.front;
       back = r.back;
       old = r.old;
-      before = ap (λ (l : List Leaf). first ++ l) r.before ∙ place r.old;
-      after = ap (λ (l : List Leaf). first ++ l) r.after ∙ place b;
       held = r.held;
-      cut = λ a c. ap (λ (l : List Leaf). first ++ l) (r.cut a c)
-          ∙ (λ i. first ++ (r.front ++ leaf_at (named i ++ false ∷ []) a ∷ leaf_at (named i ++ true ∷ []) c ∷ r.back))
-          ∙ sym (append_assoc first r.front (leaf_at ((name ++ true ∷ name_at path o) ++ false ∷ []) a ∷ leaf_at ((name ++ true ∷ name_at path o) ++ true ∷ []) c ∷ r.back));
+      before = ap (λ (l : List Leaf). first ++ l) r.before
+          ∙ (λ i. first ++ (r.front ++ leaf_at (named i) r.old ∷ r.back))
+          ∙ sym (append_assoc first r.front (leaf_at (name ++ true ∷ name_at path o) r.old ∷ r.back));
+      filled = λ s. ap (λ (l : List Leaf). first ++ l) (r.filled s)
+          ∙ (λ i. first ++ (r.front ++ (leaves_under (named i) s ++ r.back)))
+          ∙ sym (append_assoc first r.front (leaves_under (name ++ true ∷ name_at path o) s ++ r.back));
     }
-hole name (false ∷ path) b (fork z o) h =
-    let r = hole (name ++ false ∷ []) path b z (height_zero z o (length path) h) in
+gap name (false ∷ path) (fork z o) h =
+    let r = gap (name ++ false ∷ []) path z (height_zero z o (length path) h) in
     let last : List Leaf = leaves_under (name ++ true ∷ []) o in
     let named : (name ++ false ∷ []) ++ name_at path z ≡ name ++ false ∷ name_at path z = append_assoc name (false ∷ []) (name_at path z) in
-    let place : (c : Rows) → (r.front ++ leaf_at ((name ++ false ∷ []) ++ name_at path z) c ∷ r.back) ++ last ≡ r.front ++ leaf_at (name ++ false ∷ name_at path z) c ∷ (r.back ++ last) =
-    λ c. append_assoc r.front (leaf_at ((name ++ false ∷ []) ++ name_at path z) c ∷ r.back) last ∙ (λ i. r.front ++ leaf_at (named i) c ∷ (r.back ++ last)) in
     record {
       front = r.front;
       back = r.back ++ last;
       old = r.old;
-      before = ap (λ (l : List Leaf). l ++ last) r.before ∙ place r.old;
-      after = ap (λ (l : List Leaf). l ++ last) r.after ∙ place b;
       held = r.held;
-      cut = λ a c. ap (λ (l : List Leaf). l ++ last) (r.cut a c)
-          ∙ append_assoc r.front (leaf_at (((name ++ false ∷ []) ++ name_at path z) ++ false ∷ []) a ∷ leaf_at (((name ++ false ∷ []) ++ name_at path z) ++ true ∷ []) c ∷ r.back) last
-          ∙ (λ i. r.front ++ leaf_at (named i ++ false ∷ []) a ∷ leaf_at (named i ++ true ∷ []) c ∷ (r.back ++ last));
+      before = ap (λ (l : List Leaf). l ++ last) r.before
+          ∙ append_assoc r.front (leaf_at ((name ++ false ∷ []) ++ name_at path z) r.old ∷ r.back) last
+          ∙ (λ i. r.front ++ leaf_at (named i) r.old ∷ (r.back ++ last));
+      filled = λ s. ap (λ (l : List Leaf). l ++ last) (r.filled s)
+          ∙ append_assoc r.front (leaves_under ((name ++ false ∷ []) ++ name_at path z) s ++ r.back) last
+          ∙ (λ i. r.front ++ append_assoc (leaves_under (named i) s) r.back last i);
     }
 
 -- the name on a path begins the path
@@ -101,9 +97,9 @@ name-under key t = name_begins (low_bits 64 key) t
 pub leaves-put : (key : ℕ) (b : Rows) (t : Trie) → height t ≤ 64 → tiles_from 0 (names_of (leaves_under [] t)) ≡ true
     → leaves_under [] (graft (low_bits 64 key) (tip b) t) ≡ replaced (name_at (low_bits 64 key) t) b (leaves_under [] t)
 leaves-put key b t h tile =
-    let r = hole [] (low_bits 64 key) b t (within key t h) in
+    let r = gap [] (low_bits 64 key) t (within key t h) in
     let tiled : tiles_from 0 (names_of (r.front ++ leaf_at (name_at (low_bits 64 key) t) r.old ∷ r.back)) ≡ true = ap (λ (l : List Leaf). tiles_from 0 (names_of l)) (sym r.before) ∙ tile in
-    r.after
+    r.filled (tip b)
     ∙ sym (replaced-at 0 (name_at (low_bits 64 key) t) b r.front (leaf_at (name_at (low_bits 64 key) t) r.old) r.back tiled refl)
     ∙ ap (replaced (name_at (low_bits 64 key) t) b) (sym r.before)
 
@@ -111,7 +107,7 @@ leaves-put key b t h tile =
 pub leaf-at_key : (key : ℕ) (a : Rows) (t : Trie) → height t ≤ 64 → tiles_from 0 (names_of (leaves_under [] t)) ≡ true → key < 2 ^ 64 → bucket_at (low_bits 64 key) t ≡ Some a
     → leaf_under key (leaves_under [] t) ≡ Some (leaf_at (name_at (low_bits 64 key) t) a)
 leaf-at_key key a t h tile lt held =
-    let r = hole [] (low_bits 64 key) a t (within key t h) in
+    let r = gap [] (low_bits 64 key) t (within key t h) in
     let same : r.old ≡ a = some_same (sym r.held ∙ held) in
     let tiled : tiles_from 0 (names_of (r.front ++ leaf_at (name_at (low_bits 64 key) t) r.old ∷ r.back)) ≡ true = ap (λ (l : List Leaf). tiles_from 0 (names_of l)) (sym r.before) ∙ tile in
     ap (leaf_under key) r.before
@@ -126,8 +122,7 @@ pub name-found : (name : List Bool) (t : Trie) → height t ≤ 64 → tiles_fro
     → name_at (low_bits 64 (first_key name)) t ≡ name
 name-found name t h tile there =
     let key : ℕ = first_key name in
-    let none : Rows = record { base = []; rows = [] } in
-    let r = hole [] (low_bits 64 key) none t (within key t h) in
+    let r = gap [] (low_bits 64 key) t (within key t h) in
     let l : Leaf = leaf_at (name_at (low_bits 64 key) t) r.old in
     let m = any-among (λ (n : Leaf). same_name n.name name) (leaves_under [] t) there in
     let named : m.0.name ≡ name = (same_name-decides m.0.name name).0 m.2 in
@@ -175,40 +170,47 @@ name-front [] (fork z o) = refl
 name-front (true ∷ path) (fork z o) = ap (λ (n : List Bool). true ∷ n) (name-front path o)
 name-front (false ∷ path) (fork z o) = ap (λ (n : List Bool). false ∷ n) (name-front path z)
 
--- two leaves in the place of one make the name one bit longer, and no other
-pub height-graft : (path : List Bool) (a c : Rows) (t : Trie) (n : ℕ) → height t ≤ n → length (name_at path t) + 1 ≤ n → height (graft path (twins a c) t) ≤ n
-height-graft path a c (tip b) n h short = short
-height-graft [] a c (fork z o) n h short = h
-height-graft (true ∷ path) a c (fork z o) zero h short = absurd (omega (arith, h))
-height-graft (true ∷ path) a c (fork z o) (suc n) h short =
-    let rest : height (graft path (twins a c) o) ≤ n = height-graft path a c o n (height_one z o n h) (omega (arith, short)) in
+-- a part in the place of a leaf makes names longer by its own height, and no other
+pub height-part : (path : List Bool) (s t : Trie) (n : ℕ) → height t ≤ n → length (name_at path t) + height s ≤ n → height (graft path s t) ≤ n
+height-part path s (tip b) n h short = omega (arith, short)
+height-part [] s (fork z o) n h short = h
+height-part (true ∷ path) s (fork z o) zero h short = absurd (omega (arith, h))
+height-part (true ∷ path) s (fork z o) (suc n) h short =
+    let rest : height (graft path s o) ≤ n = height-part path s o n (height_one z o n h) (omega (arith, short)) in
     omega (arith, height_zero z o n h, rest)
-height-graft (false ∷ path) a c (fork z o) zero h short = absurd (omega (arith, h))
-height-graft (false ∷ path) a c (fork z o) (suc n) h short =
-    let rest : height (graft path (twins a c) z) ≤ n = height-graft path a c z n (height_zero z o n h) (omega (arith, short)) in
+height-part (false ∷ path) s (fork z o) zero h short = absurd (omega (arith, h))
+height-part (false ∷ path) s (fork z o) (suc n) h short =
+    let rest : height (graft path s z) ≤ n = height-part path s z n (height_zero z o n h) (omega (arith, short)) in
     omega (arith, height_one z o n h, rest)
 
 -- a trie that has a leaf's children in its place
-pub record Divides (name : List Bool) (a c : Rows) (old new : Trie) : Type 0 where
+pub record Divides (w : ℕ) (name : List Bool) (buckets : List Rows) (old new : Trie) : Type 0 where
   pub short : height new ≤ 64
   pub are_leaves : AreLeaves (leaves_under [] new)
-  pub leaves : leaves_under [] new ≡ split 1 name (a ∷ c ∷ []) (leaves_under [] old)
+  pub leaves : leaves_under [] new ≡ split w name buckets (leaves_under [] old)
 
-pub divides-graft : (name : List Bool) (key : ℕ) (a c : Rows) (t : Trie) → key ≡ first_key name → height t ≤ 64 → AreLeaves (leaves_under [] t) → IsRows a.rows → IsRows c.rows
-    → length name + 1 ≤ 64 → AreAllUnder 1 name (a ∷ c ∷ []) → has_name name (leaves_under [] t) ≡ true → Divides name a c t (graft (low_bits 64 key) (twins a c) t)
-divides-graft name key a c t first h are rising_a rising_c short under there =
+-- the part that has these children of a leaf
+pub record HasChildren (w : ℕ) (name : List Bool) (buckets : List Rows) (s : Trie) : Type 0 where
+  pub low : height s ≤ w
+  pub count : length buckets ≡ 2 ^ w
+  pub are : leaves_under name s ≡ leaves_of (children w name) buckets
+
+pub divides-part : (w : ℕ) (name : List Bool) (buckets : List Rows) (s : Trie) (key : ℕ) (t : Trie) → HasChildren w name buckets s → key ≡ first_key name → height t ≤ 64 → AreLeaves (leaves_under [] t)
+    → AllByRecursion (λ (b : Rows). IsRows b.rows) buckets → length name + w ≤ 64 → AreAllUnder w name buckets → has_name name (leaves_under [] t) ≡ true → Divides w name buckets t (graft (low_bits 64 key) s t)
+divides-part w name buckets s key t part first h are rising short under there =
     let path : List Bool = low_bits 64 key in
     let found : name_at path t ≡ name = ap (λ k. name_at (low_bits 64 k) t) first ∙ name-found name t h are.tile there in
-    let r = hole [] path a t (within key t h) in
+    let r = gap [] path t (within key t h) in
     let l : Leaf = leaf_at (name_at path t) r.old in
     let tiled : tiles_from 0 (names_of (r.front ++ l ∷ r.back)) ≡ true = ap (λ (ls : List Leaf). tiles_from 0 (names_of ls)) (sym r.before) ∙ are.tile in
-    let leaves : leaves_under [] (graft path (twins a c) t) ≡ split 1 name (a ∷ c ∷ []) (leaves_under [] t) =
-    r.cut a c
-    ∙ (λ i. r.front ++ leaf_at (found i ++ false ∷ []) a ∷ leaf_at (found i ++ true ∷ []) c ∷ r.back)
-    ∙ sym (split-at 0 1 name (a ∷ c ∷ []) r.front l r.back tiled found)
-    ∙ ap (split 1 name (a ∷ c ∷ [])) (sym r.before) in
+    let leaves : leaves_under [] (graft path s t) ≡ split w name buckets (leaves_under [] t) =
+    r.filled s
+    ∙ (λ i. r.front ++ (leaves_under (found i) s ++ r.back))
+    ∙ ap (λ (ls : List Leaf). r.front ++ (ls ++ r.back)) part.are
+    ∙ sym (split-at 0 w name buckets r.front l r.back tiled found)
+    ∙ ap (split w name buckets) (sym r.before) in
     record {
-      short = height-graft path a c t 64 h (subst (λ (n : List Bool). length n + 1 ≤ 64) (sym found) short);
-      are_leaves = subst AreLeaves (sym leaves) (AreLeaves-split 1 name (a ∷ c ∷ []) short refl (leaves_under [] t) are (rising_a, (rising_c, tt)) under);
+      short = height-part path s t 64 h (omega (arith, part.low, subst (λ (n : List Bool). length n + w ≤ 64) (sym found) short));
+      are_leaves = subst AreLeaves (sym leaves) (AreLeaves-split w name buckets short part.count (leaves_under [] t) are rising under);
       leaves = leaves;
     }

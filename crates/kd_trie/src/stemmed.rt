@@ -4,10 +4,10 @@ ghost use Rattle.std.specs.Arc.{arc_value};
 ghost use Rattle.zorder.specs.Bits.{low_bits};
 ghost use Rattle.zorder.specs.Key.{is_under};
 ghost use Rattle.bucket_versions.specs.Told.{Told};
-ghost use Rattle.bit_trie.specs.Tries.{height, name_at, bucket_at, graft, twins, tip};
+ghost use Rattle.bit_trie.specs.Tries.{height, name_at, bucket_at, graft, tip};
 ghost use Rattle.bit_trie.specs.Ways.{has_under, put_under, gone_under, count_under, MayMove};
 ghost use Rattle.kd_trie.specs.Wholes.{whole};
-ghost use Rattle.kd_trie.specs.Nodes.{seen};
+ghost use Rattle.kd_trie.specs.Nodes.{seen, twins};
 ghost use Rattle.bit_trie.specs.Walks.{Agrees};
 
 use crate::node::{Node, agreed, graft, leaf_of, twins};

@@ -2,8 +2,8 @@ use Rattle.std.proofs.Common.{◌≡◌, ◌≤◌, ◌∙◌, ◌-◌, ◌++◌
 use Rattle.std.specs.Arc.{arc_value}
 use Rattle.zorder.specs.Bits.{low_bits}
 use Rattle.kd_trie.specs.declared.stem.Side.{Side}
-use Rattle.bit_trie.specs.Tries.{Trie, height, graft, twins}
-use Rattle.kd_trie.specs.Nodes.{seen}
+use Rattle.bit_trie.specs.Tries.{Trie, height, graft}
+use Rattle.kd_trie.specs.Nodes.{seen, twins}
 use Rattle.kd_trie.specs.Stems.{way_of, stem_over}
 use Rattle.kd_trie.specs.Wholes.{sides_of, whole}
 use Rattle.kd_trie.proofs.StemLemmas.{fits-under, under-stem, made-under, graft-under}
