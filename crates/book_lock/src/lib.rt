@@ -11,6 +11,7 @@
 mod held;
 mod kinds;
 mod lock;
+mod manner;
 mod origin;
 mod pass;
 mod view;

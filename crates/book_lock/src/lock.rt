@@ -4,16 +4,20 @@ ghost use Rattle.book_lock.specs.Own.{times, once_below};
 
 use crate::held::Held;
 use crate::kinds::Law;
+use crate::manner::Manner;
 use crate::pass::Pass;
 use crate::view::View;
 use atomic_table::{Refused, Table};
 use std::alloc::{AllocFailed, Global};
 use std::marker::Model;
 use std::snapshot::Snapshot;
-use std::sync::atomic::AtomicU64;
 
 mod holding;
 mod shares;
+mod waiters;
+mod waiting;
+
+use waiters::Waiters;
 
 /// Guards one value. Contracts see which lock it is, so that a pass can be known to be of it.
 ///
@@ -21,8 +25,8 @@ mod shares;
 /// and the one slot has the value.
 pub struct BookLock<V: Held> {
     table: Table<Option<V>, View, Snapshot<V>, Law, Global>,
-    /// How many callers sleep until they are woken, or are about to.
-    sleepers: AtomicU64,
+    /// Who waits for it.
+    waiters: Waiters,
     /// Whether a step may take long.
     is_slow: bool,
 }
@@ -85,12 +89,12 @@ impl<V: Held> BookLock<V> {
             Ok((table, seat)) => Ok((
                 BookLock {
                     table,
-                    sleepers: AtomicU64::new(0),
+                    waiters: Waiters::new(),
                     is_slow,
                 },
                 Pass {
                     seat,
-                    is_reader: false,
+                    manner: Manner::new(),
                 },
             )),
             Err(Refused { slots }) => Err(unshelf(slots)),
@@ -107,10 +111,10 @@ impl<V: Held> BookLock<V> {
     {
         let BookLock {
             table,
-            sleepers: _,
+            waiters: _,
             is_slow: _,
         } = self;
-        let Pass { seat, is_reader: _ } = pass;
+        let Pass { seat, manner: _ } = pass;
         let mut closed = table.close_with(seat);
         let slot = closed.take(0);
         closed.free();

@@ -1,6 +1,7 @@
 //! A caller's pass.
 ghost use Rattle.std.specs.Prelude.{◌≡◌};
 
+use crate::manner::Manner;
 use crate::view::View;
 use atomic_table::Seat;
 use std::marker::Model;
@@ -9,8 +10,8 @@ use std::marker::Model;
 /// its entries are its own. It has to be joined to another or closed with the lock, and can't be dropped.
 pub struct Pass<V> {
     pub(crate) seat: Seat<Option<V>, View>,
-    /// Whether its owner only looks at the value next.
-    pub(crate) is_reader: bool,
+    /// How its owner waits.
+    pub(crate) manner: Manner,
 }
 
 impl<V> Model for Pass<V> {
@@ -25,11 +26,19 @@ impl<V> Model for Pass<V> {
 }
 
 impl<V> Pass<V> {
-    /// Says whether the next caller only looks at the value. Where it has to wait for long, a caller that changes the value waits longer
-    /// before it tries again, since each processor that changes it has to fetch it first.
+    /// Says whether the next caller only looks at the value. Of a batch, one that is to change it waits longer before it tries again,
+    /// since each processor that changes the value has to fetch it first.
     pub fn will_read(&mut self, is_reader: bool)
         ensures { self.new ≡ self.old }
     {
-        self.is_reader = is_reader;
+        self.manner.is_reader = is_reader;
+    }
+
+    /// Says whether its owner is one of a batch. Such a one naps where the lock is taken, for some milliseconds at a time, so that the
+    /// value stays with the processor that has it. Others, as a new pass, are prompt: they sleep until they are woken, and are let in.
+    pub fn in_batch(&mut self, is_batch: bool)
+        ensures { self.new ≡ self.old }
+    {
+        self.manner.is_batch = is_batch;
     }
 }

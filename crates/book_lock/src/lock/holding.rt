@@ -11,72 +11,8 @@ use crate::kinds::{Compare, Note, Noting, Release, Take};
 use crate::pass::Pass;
 use std::marker::Brand;
 use std::sync::Wait;
-use std::sync::atomic::Ordering;
-use std::thread;
-use std::time::Duration;
-
-/// How often a caller that finds the lock taken lets others run before it sleeps.
-const YIELDS: u32 = 8;
-
-/// How many milliseconds it naps, where steps are quick: a caller that is to change the value so many for each that naps. So mostly one
-/// of these wakes in that time, and meanwhile some thousand steps are taken by whoever has the value in its processor's cache.
-const NAP: u64 = 4;
-
-/// Callers that nap, beyond which a nap isn't longer.
-const MOST_NAPPERS: u64 = 16;
 
 impl<V: Held> BookLock<V> {
-    // Lets others run, and sleeps where that has not helped so many times. Gives the new number of times.
-    fn pause<R: Wait>(&self, rt: &R, misses: u32, is_reader: bool) -> u32 {
-        if misses < YIELDS {
-            thread::yield_now();
-            misses + 1
-        } else {
-            self.sleep(rt, is_reader);
-            0
-        }
-    }
-
-    fn sleep<R: Wait>(&self, rt: &R, is_reader: bool) {
-        if self.is_slow {
-            self.sleep_until_woken(rt);
-        } else {
-            self.nap(rt, is_reader);
-        }
-    }
-
-    fn nap<R: Wait>(&self, rt: &R, is_reader: bool) {
-        let others = self.sleepers.fetch_add(1, Ordering::SeqCst);
-        let turns = if is_reader {
-            1
-        } else {
-            others.min(MOST_NAPPERS - 1) + 1
-        };
-        let nap = Duration::from_millis(NAP * turns);
-        self.table.shared.park_timeout(rt, 1, 1, nap);
-        self.sleepers.fetch_sub(1, Ordering::SeqCst);
-    }
-
-    // Counted before it sleeps: a holder that frees the lock either sees the count and wakes one, or freed it before
-    // the count rose, and then the word isn't 1 any more and the sleep ends at once.
-    fn sleep_until_woken<R: Wait>(&self, rt: &R) {
-        self.sleepers.fetch_add(1, Ordering::SeqCst);
-        self.table.shared.park(rt, 1, 1);
-        self.sleepers.fetch_sub(1, Ordering::SeqCst);
-    }
-
-    // Wakes one who sleeps until it is woken, if there is one. Without one it makes no system call.
-    fn wake(&self) {
-        if self.is_slow && self.sleepers.load(Ordering::SeqCst) > 0 {
-            self.table.shared.wake_one(1);
-        }
-    }
-
-    /// Wakes one who sleeps or naps, if there is one: for a caller that won't come back soon.
-    pub fn rouse(&self) {
-        self.table.shared.wake_one(1);
-    }
-
     /// Waits until the lock is free, and takes it with the value. Nobody else can add to the history until the lock is
     /// given back.
     pub fn take<R: Wait>(&self, rt: &R, pass: &mut Pass<V>) -> V
@@ -89,7 +25,7 @@ impl<V: Held> BookLock<V> {
         ensures rises { Rises pass.new.own × IsBelow (length pass.new.seen) pass.new.own }
         ensures alone { pass.old.parts ≡ 65536 → pass.new.seen ≡ pass.old.seen }
     {
-        let is_reader = pass.is_reader;
+        let manner = self.give_way(pass.manner);
         let seat = &mut pass.seat;
         let shared = &self.table.shared;
         let mut misses = 0;
@@ -97,12 +33,13 @@ impl<V: Held> BookLock<V> {
             if shared.compare_exchange::<Take>(seat, 1, 0, 1) == 0 {
                 let slot = shared.exchange(seat, 0, None);
                 shared.load::<Compare>(seat, 2);
+                pass.manner = self.arrive(manner, misses);
                 match slot {
                     Some(value) => return value,
                     None => unreachable!(),
                 }
             }
-            misses = self.pause(rt, misses, is_reader);
+            misses = self.pause(rt, misses, manner);
         }
         unreachable!()
     }

@@ -8,6 +8,7 @@ ghost use Rattle.book_lock.specs.Rule.{both, untold};
 use super::BookLock;
 use crate::held::Held;
 use crate::kinds::{Both, Compare, Copy, Cut};
+use crate::manner::Manner;
 use crate::pass::Pass;
 use crate::view::View;
 use atomic_table::Seat;
@@ -35,7 +36,7 @@ impl<V: Held> BookLock<V> {
     {
         Pass {
             seat: self.table.shared.split_seat::<Cut>(&mut pass.seat),
-            is_reader: false,
+            manner: Manner::new(),
         }
     }
 
@@ -48,7 +49,7 @@ impl<V: Held> BookLock<V> {
         ensures begins { IsPrefix into.old.seen into.new.seen × IsPrefix other.seen into.new.seen }
         ensures counts { (p : ℕ) → times p into.new.own ≡ times p into.old.own + times p other.own }
     {
-        let Pass { seat, is_reader: _ } = other;
+        let Pass { seat, manner: _ } = other;
         self.absorb(&mut into.seat, seat);
     }
 
