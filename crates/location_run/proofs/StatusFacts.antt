@@ -6,18 +6,19 @@ use Rattle.csv_rows.specs.declared.rows.Refusal.{Refusal}
 use Rattle.csv_rows.specs.declared.rows.Refusal.TheVariants as refusal
 use Rattle.io_edge.specs.Streams.{Output}
 use Rattle.make_moves.specs.Moves.{made_rows}
-use Rattle.location_run.specs.declared.reports.Report.{Report}
-use Rattle.location_run.specs.declared.reports.Report.TheVariants as reports
-use Rattle.location_run.specs.Limits.{trial_bucket}
-use Rattle.location_run.specs.Ends.{Ends, Targets}
+use Rattle.play_run.specs.declared.reports.Report.{Report}
+use Rattle.play_run.specs.declared.reports.Report.TheVariants as reports
+use Rattle.run_ends.specs.Limits.{trial_bucket}
+use Rattle.run_ends.specs.Ends.{Ends, Targets}
 use Rattle.command_words.specs.Words.{Command, Init, Check, Play, Show, Trial, AsksFor}
-use Rattle.location_run.specs.Status.{status_of}
-use Rattle.location_run.specs.Ending.{EndsWriting, EndsRefused}
-use Rattle.location_run.specs.Making.{IsMakingCause, MakesOrRefuses}
+use Rattle.run_ends.specs.Status.{status_of}
+use Rattle.run_ends.specs.Ending.{EndsWriting, EndsRefused}
+use Rattle.log_run.specs.Making.{IsMakingCause, MakesOrRefuses}
 use Rattle.cell_format.specs.declared.cell.Cell.{Cell}
-use Rattle.location_run.specs.Checking.{EndsTelling, IsCheckingCause, TellsCells}
-use Rattle.location_run.specs.Playing.{IsInputCause, HasNoBook, IsStop, EndsRows, PlaysRows, IsUnread, IsRead}
-use Rattle.location_run.specs.Trying.{PlaysMade}
+use Rattle.log_run.specs.Checking.{EndsTelling, IsCheckingCause, TellsCells}
+use Rattle.run_ends.specs.Inputs.{IsInputCause}
+use Rattle.play_run.specs.Playing.{HasNoBook, IsStop, EndsRows, PlaysRows, IsUnread, IsRead}
+use Rattle.play_run.specs.Trying.{PlaysMade}
 use Rattle.location_run.specs.Run.{Keeps, AnswersUsage}
 
 -- a refusal whose cause isn't the words has another status than 2

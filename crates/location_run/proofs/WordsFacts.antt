@@ -8,12 +8,12 @@ use Rattle.command_words.specs.declared.parsing.Command.TheVariants as declared_
 use Rattle.command_words.specs.declared.trials.Made.{Made}
 use Rattle.command_words.proofs.WordsFacts.{one-command}
 use Rattle.command_words.proofs.TrialFacts.{trial-few}
-use Rattle.location_run.specs.Ends.{Ends}
-use Rattle.location_run.specs.Playing.{Goes}
+use Rattle.run_ends.specs.Ends.{Ends}
+use Rattle.play_run.specs.Playing.{Goes}
 use Rattle.location_run.specs.Run.{Keeps, KeepsAsked}
-use Rattle.location_run.specs.Trying.{PlaysMade}
-use Rattle.location_run.proofs.PlayFacts.{plays-of}
-use Rattle.location_run.proofs.TrialEnds.{tries-of}
+use Rattle.play_run.specs.Trying.{PlaysMade}
+use Rattle.play_run.proofs.PlayFacts.{plays-of}
+use Rattle.play_run.proofs.TrialEnds.{tries-of}
 
 -- the command that was asked for keeps its promise
 pub keeps-asked : {S D : Type 0} (words : List (List ℕ)) (a : Command) (old new : Ends S D) (status : ℕ) (h : List Entry) → AsksFor words a → Keeps a old new status h → KeepsAsked words old new status h

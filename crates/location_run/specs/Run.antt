@@ -3,13 +3,13 @@ use Rattle.std.specs.Prelude.{◌≡◌, ◌↔◌, ℕ, List, []}
 use Rattle.plain_list.specs.declared.entries.Entry.{Entry}
 use Rattle.csv_rows.specs.declared.rows.Refusal.TheVariants as refusal
 use Rattle.command_words.specs.Words.{Command, Init, Check, Play, Show, Trial, AsksFor, IsAccepted}
-use Rattle.location_run.specs.Ends.{Ends}
-use Rattle.location_run.specs.Taking.{Refuses}
-use Rattle.location_run.specs.Making.{Inits}
-use Rattle.location_run.specs.Checking.{Checks}
-use Rattle.location_run.specs.Playing.{Plays}
-use Rattle.location_run.specs.Showing.{Shows}
-use Rattle.location_run.specs.Trying.{Tries}
+use Rattle.run_ends.specs.Ends.{Ends}
+use Rattle.run_ends.specs.Taking.{Refuses}
+use Rattle.log_run.specs.Making.{Inits}
+use Rattle.log_run.specs.Checking.{Checks}
+use Rattle.play_run.specs.Playing.{Plays}
+use Rattle.log_run.specs.Showing.{Shows}
+use Rattle.play_run.specs.Trying.{Tries}
 
 -- what each command promises, of what its ends were and are, its status and its history
 abbrev pub Keeps : {S D : Type 0} → Command → Ends S D → Ends S D → ℕ → List Entry → Type 0

@@ -1,21 +1,18 @@
 //! The top call.
 ghost use Rattle.std.specs.Prelude.{◌≡◌, [], map};
 ghost use Rattle.std.specs.String.{string_bytes};
-ghost use Rattle.location_run.specs.Ends.{ends};
+ghost use Rattle.run_ends.specs.Ends.{ends};
 ghost use Rattle.location_run.specs.Run.{KeepsAsked, AnswersUsage};
 
-use crate::checking::check_log;
-use crate::making::make_log;
 use crate::outcome::Outcome;
-use crate::playing::{Played, play};
-use crate::refusals::put_refusal;
-use crate::showing::show_log;
-use crate::trying::play_made;
 use command_words::{Command, command_in};
 use csv_rows::Refusal;
 use disk_trait::LogDisk;
 use io_edge::{Gate, Sink, Source};
+use log_run::{check_log, make_log, show_log};
 use plain_list::Entries;
+use play_run::{Played, play, play_made};
+use run_ends::put_refusal;
 use std::alloc::Global;
 use std::sync::Wait;
 use std::thread::Threads;

@@ -1,6 +1,6 @@
 use Rattle.std.proofs.Common.{map, refl}
 use Rattle.std.specs.String.{string_bytes}
-use Rattle.location_run.specs.Ends.{ends}
+use Rattle.run_ends.specs.Ends.{ends}
 use Rattle.command_words.specs.Words.{AsksFor}
 use Rattle.command_words.specs.Asked.{command_of}
 use Rattle.command_words.specs.declared.parsing.Command.TheVariants.{Init, Check, Play, Show, Trial}

@@ -1,0 +1,24 @@
+-- How `check` ends.
+use Rattle.std.proofs.Common.{◌≡◌, ◌⊎◌, inl, inr, ◌∙◌, ℕ, Err, ap, subst}
+use Rattle.disk_trait.specs.Drive.{Drive}
+use Rattle.recovery.specs.declared.seen.Seen.{Seen}
+use Rattle.recovery.specs.declared.seen.OpenFault.{OpenFault}
+use Rattle.csv_rows.specs.declared.rows.Refusal.{Refusal}
+use Rattle.csv_rows.specs.declared.rows.Refusal.TheVariants as refusal
+use Rattle.run_ends.specs.Limits.{most_cells}
+use Rattle.io_edge.specs.Streams.{Output}
+use Rattle.run_ends.specs.Status.{status_of}
+use Rattle.run_ends.specs.Taking.{Refuses}
+use Rattle.run_ends.specs.LogFaults.{log_refusal}
+use Rattle.log_run.specs.Checking.{IsDecided, IsDecidedBy}
+
+-- the line of a refusal is put
+pub decided-refused : (old new : Drive) (why : Refusal) (status : ℕ) (before after : Output) → IsDecidedBy {T = Seen} most_cells old new (Err why) → Refuses why status before after → IsDecided old new status before after
+decided-refused old new why status before after by refuses = record {
+  exact = λ bytes fault told shown wrong calm. named fault (by.exact bytes fault told shown wrong calm);
+  whole = λ bytes cells told text few calm quiet. inr (refuses.status_is ∙ ap status_of (by.whole bytes cells told text few calm));
+}
+  where
+    named : (fault : OpenFault) → (why ≡ log_refusal fault) ⊎ (why ≡ refusal.Memory) → Refuses (log_refusal fault) status before after ⊎ (status ≡ 9)
+    named fault (inl e) = inl (subst (λ (r : Refusal). Refuses r status before after) e refuses)
+    named fault (inr e) = inr (refuses.status_is ∙ ap status_of e)

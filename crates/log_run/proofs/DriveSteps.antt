@@ -1,0 +1,103 @@
+-- What an attach and what follows it come to.
+use Rattle.std.proofs.Common.{◌≡◌, ◌⊎◌, inl, inr, ◌∙◌, ℕ, ◌≤◌, Bool, List, length, Some, Result, Err, refl, ap, subst, arith}
+use Rattle.std.specs.Prelude.{IfErr, ◌≢◌}
+use Rattle.std.specs.Result.{IsErrAnd}
+use Rattle.causes.specs.Causes.{Rose}
+use Rattle.disk_trait.specs.declared.disk.AttachFault.{AttachFault}
+use Rattle.disk_trait.specs.declared.disk.AttachFault.TheVariants as attach_fault
+use Rattle.disk_trait.specs.Drive.{Drive, Stays, CountsAttach, KeepsLaws}
+use Rattle.cell_format.specs.declared.cell.Cell.{Cell}
+use Rattle.recovery.specs.Making.{Makes, IsSmall, KeepsSmall, RefusesInit}
+use Rattle.log_state.specs.Recovers.{Recovers}
+use Rattle.recovery.specs.Faults.{IsFault, IsInBytes}
+use Rattle.recovery.specs.Found.{IsFree, IsFound}
+use Rattle.recovery.specs.Reading.{OnlyReads}
+use Rattle.recovery.specs.declared.seen.Seen.{Seen}
+use Rattle.recovery.specs.declared.seen.InitFault.{InitFault}
+use Rattle.recovery.specs.declared.seen.InitFault.TheVariants as init_fault
+use Rattle.recovery.specs.declared.seen.OpenFault.{OpenFault}
+use Rattle.recovery.specs.declared.seen.OpenFault.TheVariants as open_fault
+use Rattle.recovery.proofs.OnlyReading.{rose-earlier, stays-trans}
+use Rattle.recovery.proofs.OpeningLemmas.{leaves-trans, leaves-stays}
+use Rattle.csv_rows.specs.declared.rows.Refusal.TheVariants as refusal
+use Rattle.run_ends.specs.Limits.{most_cells}
+use Rattle.run_ends.specs.LogFaults.{IsReadingCause, attach_refusal, log_refusal}
+use Rattle.log_run.specs.Checking.{IsCheckingCause, IsDecidedBy}
+use Rattle.log_run.specs.Making.{IsMakingCause, LeavesFile, making_refusal}
+use Rattle.run_ends.specs.Status.{status_of}
+use Rattle.run_ends.proofs.LogFaults.{reading-after, calm-free, calm-named}
+
+pub makes-after : (a b c : Drive) → Stays a b → b.faults ≡ a.faults → Makes 1 b c → Makes 1 a c
+makes-after a b c stays calm makes = record { log = λ bytes told. makes.log bytes (stays.bytes ∙ told); same = makes.same ∙ calm }
+
+-- a log in which something is at fault
+pub checking-after : (a b c : Drive) (result : Result Seen OpenFault) (fault : OpenFault) → result ≡ Err fault → Stays a b → a.faults ≤ b.faults
+    → ((bytes : List ℕ) → b.bytes ≡ Some bytes → IsFault 1 most_cells bytes fault) → OnlyReads b c result → IsCheckingCause a c (log_refusal fault)
+checking-after a b c result fault is stays later wrong reads = reading-after most_cells a b c fault stays later wrong (λ disk. reads.failed (is ∙ ap (λ (e : OpenFault). Err e) disk))
+
+pub decided-err : (a b c : Drive) (why : OpenFault) (result : Result Seen OpenFault) → result ≡ Err why → Stays a b → a.faults ≤ b.faults
+    → ((bytes : List ℕ) (fault : OpenFault) → b.bytes ≡ Some bytes → IsInBytes fault → IsFault 1 most_cells bytes fault → IsErrAnd result (λ e. (e ≡ fault) ⊎ IsFree b c e))
+    → ((bytes : List ℕ) (cells : List Cell) → b.bytes ≡ Some bytes → Recovers 1 cells bytes → length cells ≤ most_cells → IfErr result (IsFree b c)) → IsDecidedBy {T = Seen} most_cells a c (Err (log_refusal why))
+decided-err a b c why result is stays later exact whole = record {
+  exact = λ bytes fault told shown wrong calm.
+      calm-named a b c why fault later calm (subst (λ (r : Result Seen OpenFault). IsErrAnd r (λ e. (e ≡ fault) ⊎ IsFree b c e)) is (exact bytes fault (stays.bytes ∙ told) shown wrong));
+  whole = λ bytes cells told text few calm. calm-free a b c why later calm (subst (λ (r : Result Seen OpenFault). IfErr r (IsFree b c)) is (whole bytes cells (stays.bytes ∙ told) text few));
+}
+
+-- what an attach leaves of a file, and what the making behind it does
+pub leaves-attached : (a b : Drive) → KeepsLaws a → Stays a b → a.faults ≤ b.faults → LeavesFile a b
+leaves-attached a b laws stays later = record { small = λ now. leaves-stays a b IsSmall laws now stays; in_use = λ bytes told long. stays; later = later }
+
+pub leaves-made : (a b c : Drive) → KeepsLaws a → Stays a b → a.faults ≤ b.faults → KeepsSmall b c → LeavesFile a c
+leaves-made a b c laws stays later keeps = record {
+  small = λ now. leaves-trans a b c IsSmall (leaves-stays a b IsSmall laws now stays) (keeps.small (λ bytes is. now bytes (stays.images bytes is)));
+  in_use = λ bytes told long. stays-trans a b c stays (keeps.in_use bytes (stays.bytes ∙ told) long);
+  later = omega (arith, later, keeps.later);
+}
+
+-- why no log is made of the attached file
+pub cause-made : (a b c : Drive) (cause : InitFault) → Stays a b → a.faults ≤ b.faults → RefusesInit b c cause → IsMakingCause a c (making_refusal cause)
+cause-made a b c (init_fault.InUse len) stays later refuses = (refuses.0, (λ bytes told. refuses.1 bytes (stays.bytes ∙ told)), stays-trans a b c stays refuses.2)
+cause-made a b c init_fault.Disk stays later rose = rose-earlier a.faults b.faults c.faults later rose
+
+pub calm-made : (a b c : Drive) (cause : InitFault) → b.faults ≡ a.faults → RefusesInit b c cause → status_of (making_refusal cause) ≢ 7 → c.faults ≡ a.faults
+calm-made a b c (init_fault.InUse len) same refuses other = refuses.3 ∙ same
+calm-made a b c init_fault.Disk same refuses other = absurd (other refl)
+
+-- why a file isn't attached
+module _ {T : Type 0} (name : List ℕ) (make : Bool) (a b : Drive) where
+  pub cause-attached : (fault : AttachFault) → CountsAttach {T = T} name make a b (Err fault) → IsMakingCause a b (attach_refusal fault)
+  cause-attached attach_fault.Disk counts = counts.failed refl
+  cause-attached attach_fault.Memory counts = tt
+
+  pub calm-attached : (fault : AttachFault) → CountsAttach {T = T} name make a b (Err fault) → status_of (attach_refusal fault) ≢ 7 → b.faults ≡ a.faults
+  calm-attached attach_fault.Disk counts other = absurd (other refl)
+  calm-attached attach_fault.Memory counts other = counts.memory refl
+
+  pub checking-attached : (fault : AttachFault) → CountsAttach {T = T} name make a b (Err fault) → IsCheckingCause a b (attach_refusal fault)
+  checking-attached attach_fault.Disk counts = counts.failed refl
+  checking-attached attach_fault.Memory counts = tt
+
+  pub decided-attached : (fault : AttachFault) → CountsAttach {T = T} name make a b (Err fault) → IsDecidedBy {T = Seen} most_cells a b (Err (attach_refusal fault))
+  decided-attached attach_fault.Disk counts =
+      record { exact = λ bytes what told shown wrong calm. absurd (calm (counts.failed refl)); whole = λ bytes cells told text few calm. absurd (calm (counts.failed refl)) }
+  decided-attached attach_fault.Memory counts = record { exact = λ bytes what told shown wrong calm. inr refl; whole = λ bytes cells told text few calm. refl }
+
+-- a file that isn't attached has status 7 or 9
+pub not-attached : (P : Type 0) (fault : AttachFault) → status_of (attach_refusal fault) ≢ 7 → status_of (attach_refusal fault) ≢ 9 → P
+not-attached P attach_fault.Disk drive memory = absurd (drive refl)
+not-attached P attach_fault.Memory drive memory = absurd (memory refl)
+
+-- what was found behind an attach
+pub found-after : (most : ℕ) (a b : Drive) (seen : Seen) → Stays a b → IsFound 1 most b seen → IsFound 1 most a seen
+found-after most a b seen stays found =
+    record { cells = found.cells; legal = found.legal; few = found.few; finds = found.finds; recovers = λ bytes told. found.recovers bytes (stays.bytes ∙ told) }
+
+-- the count stays where the drive isn't told to have failed
+pub calm-read : (a b c : ℕ) (fault : OpenFault) → b ≡ a → (fault ≢ open_fault.Disk → c ≡ b) → status_of (log_refusal fault) ≢ 7 → c ≡ a
+calm-read a b c open_fault.NotLog same calm other = calm (λ e. cc e) ∙ same
+calm-read a b c (open_fault.OldLog version width) same calm other = calm (λ e. cc e) ∙ same
+calm-read a b c (open_fault.Damaged cell cause) same calm other = calm (λ e. cc e) ∙ same
+calm-read a b c open_fault.Disk same calm other = absurd (other refl)
+calm-read a b c open_fault.Memory same calm other = calm (λ e. cc e) ∙ same
+calm-read a b c (open_fault.TooLong limit) same calm other = calm (λ e. cc e) ∙ same

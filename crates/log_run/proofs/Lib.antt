@@ -1,0 +1,3 @@
+pub mod DriveSteps
+pub mod MakingEnds
+pub mod CheckingFacts

@@ -1,0 +1,16 @@
+use Rattle.std.proofs.Common.{inr, ◌∙◌}
+use Rattle.log_run.proofs.CheckingFacts.{decided-refused}
+use Rattle.log_run.proofs.showing.show_log.Goals as goal
+
+pub returns-in-Err : goal.returns-in-Err
+returns-in-Err g c =
+    let told = c.put_refusal.ensures in
+    record {
+      ends = record {
+        ends = inr (c.in-Err.why, c.in-Err.ensures.cause, told.refused);
+        decided = decided-refused _ _ c.in-Err.why _ _ _ c.in-Err.ensures.decided told.refused;
+        stays = c.in-Err.ensures.stays;
+        calm = λ seven. c.in-Err.ensures.read.calm (λ e. seven (told.refused.status_is ∙ e));
+        attached = λ seven nine. c.in-Err.ensures.read.attached (λ e. seven (told.refused.status_is ∙ e)) (λ e. nine (told.refused.status_is ∙ e));
+      };
+    }

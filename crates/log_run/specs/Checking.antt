@@ -1,0 +1,94 @@
+-- The command `check`.
+use Rattle.std.specs.Prelude.{◌≡◌, ◌≢◌, ◌⊎◌, ◌≤◌, ℕ, List, [], length, Some, None, false, ⊤, Result, IfErr}
+use Rattle.std.specs.Result.{IsErrAnd}
+use Rattle.causes.specs.Causes.{Rose}
+use Rattle.disk_trait.specs.Drive.{Drive, Stays}
+use Rattle.disk_trait.specs.declared.disk.AttachFault.{AttachFault}
+use Rattle.disk_trait.specs.declared.disk.AttachFault.TheVariants as attach_fault
+use Rattle.plain_list.specs.declared.entries.Entry.{Entry}
+use Rattle.cell_format.specs.declared.cell.Cell.{Cell}
+use Rattle.log_state.specs.Recovers.{IsLegalCells, Recovers, state_of}
+use Rattle.recovery.specs.Faults.{IsFault, IsInBytes, IsNotLog, IsOldLog, IsDamaged, IsTooLong}
+use Rattle.recovery.specs.declared.seen.Seen.{Seen}
+use Rattle.recovery.specs.declared.seen.OpenFault.{OpenFault}
+use Rattle.recovery.specs.declared.seen.OpenFault.TheVariants as open_fault
+use Rattle.csv_rows.specs.declared.rows.LogCounts.{LogCounts}
+use Rattle.csv_rows.specs.declared.rows.Refusal.{Refusal}
+use Rattle.csv_rows.specs.declared.rows.Refusal.TheVariants as refusal
+use Rattle.csv_rows.specs.LogLines.{counts_text}
+use Rattle.run_ends.specs.Limits.{width, most_cells}
+use Rattle.run_ends.specs.Status.{status_of}
+use Rattle.io_edge.specs.Streams.{Output}
+use Rattle.run_ends.specs.Ends.{Ends, Targets}
+use Rattle.run_ends.specs.Taking.{Refuses}
+use Rattle.run_ends.specs.Ending.{EndsWriting, EndsRefused}
+
+-- why a log isn't told
+abbrev pub IsCheckingCause : Drive → Drive → Refusal → Type 0
+IsCheckingCause old new why = IsReadingCause most_cells old new why
+
+-- legal cells, few enough; where the drive's content is known, its bytes recover to them
+pub record FindsCells (old : Drive) (cells : List Cell) : Type 0 where
+  pub legal : IsLegalCells width cells
+  pub few : length cells ≤ most_cells
+  pub recovers : (bytes : List ℕ) → old.bytes ≡ Some bytes → Recovers width cells bytes
+
+-- how many cells there are, and objects, leaves and open splits in the state after them
+abbrev pub counts_after : List Cell → LogCounts
+counts_after cells =
+    record { cells = length cells; points = length (state_of width cells).world; leaves = length (state_of width cells).leaves; unfinished = length (state_of width cells).splits }
+
+-- how many of each were found
+abbrev pub counts_of : Seen → LogCounts
+counts_of seen = record { cells = seen.cells; points = length seen.world; leaves = length seen.leaves; unfinished = seen.unfinished }
+
+-- the four lines of cells
+abbrev pub checked_text : List Cell → List ℕ
+checked_text cells = counts_text (counts_after cells)
+
+-- a log was read: this file is attached, and no call of its drive has failed
+pub record HasRead (file : List ℕ) (old new : Drive) : Type 0 where
+  pub attached : new.attached file false
+  pub calm : new.faults ≡ old.faults
+
+-- the same where a log isn't told, unless the drive is told to have failed, or of the file, that memory ran out
+pub record HasReadUnless (file : List ℕ) (old new : Drive) (why : Refusal) : Type 0 where
+  pub attached : status_of why ≢ 7 → status_of why ≢ 9 → new.attached file false
+  pub calm : status_of why ≢ 7 → new.faults ≡ old.faults
+
+-- the text of the cells that were found
+abbrev pub TellsCells : (List Cell → List ℕ) → Drive → ℕ → Output → Output → Type 0
+TellsCells text old status before after = (cells : List Cell) × FindsCells old cells × EndsWriting (text cells) status before after
+
+-- a fault that the bytes show is told, and bytes that recover to cells have their text, unless the count rose or memory ran out
+pub record IsDecided (old new : Drive) (status : ℕ) (before after : Output) : Type 0 where
+  pub exact : (bytes : List ℕ) (fault : OpenFault) → old.bytes ≡ Some bytes → IsInBytes fault → IsFault width most_cells bytes fault → (Rose old.faults new.faults → ⊥)
+      → Refuses (log_refusal fault) status before after ⊎ (status ≡ 9)
+  pub whole : (bytes : List ℕ) (cells : List Cell) → old.bytes ≡ Some bytes → Recovers width cells bytes → length cells ≤ most_cells → (Rose old.faults new.faults → ⊥) → (Rose before.faults after.faults → ⊥)
+      → (status ≡ 0) ⊎ (status ≡ 9)
+
+-- the same of the answer, where at most so many cells are read
+pub record IsDecidedBy {T : Type 0} (most : ℕ) (old new : Drive) (result : Result T Refusal) : Type 0 where
+  pub exact : (bytes : List ℕ) (fault : OpenFault) → old.bytes ≡ Some bytes → IsInBytes fault → IsFault width most bytes fault → (Rose old.faults new.faults → ⊥)
+      → IsErrAnd result (λ why. (why ≡ log_refusal fault) ⊎ (why ≡ refusal.Memory))
+  pub whole : (bytes : List ℕ) (cells : List Cell) → old.bytes ≡ Some bytes → Recovers width cells bytes → length cells ≤ most → (Rose old.faults new.faults → ⊥) → IfErr result (λ why. why ≡ refusal.Memory)
+
+-- the text of the cells or the line of a refusal; the drive's bytes and images stay
+pub record EndsTelling {D : Type 0} (text : List Cell → List ℕ) (file : List ℕ) (old new : Targets D) (status : ℕ) : Type 0 where
+  pub ends : TellsCells text old.drive status old.output new.output ⊎ EndsRefused (IsCheckingCause old.drive new.drive) status old.output new.output
+  pub decided : IsDecided old.drive new.drive status old.output new.output
+  pub stays : Stays old.drive new.drive
+  -- the drive's count is as it was, but where it is what is told to have failed
+  pub calm : status ≢ 7 → new.drive.faults ≡ old.drive.faults
+  -- this file is attached, and none is made
+  pub attached : status ≢ 7 → status ≢ 9 → new.drive.attached file false
+
+-- the four lines or the line of a refusal
+abbrev pub EndsChecking : {D : Type 0} → List ℕ → Targets D → Targets D → ℕ → Type 0
+EndsChecking file old new status = EndsTelling checked_text file old new status
+
+-- what `check` promises: no row is read or called
+pub record Checks {S D : Type 0} (file : List ℕ) (old new : Ends S D) (status : ℕ) (h : List Entry) : Type 0 where
+  pub tells : EndsChecking file old.to new.to status
+  pub unread : new.source ≡ old.source
+  pub none : h ≡ []

@@ -1,0 +1,58 @@
+-- The command `init`.
+use Rattle.std.specs.Prelude.{◌≡◌, ◌≢◌, ◌⊎◌, ◌<◌, ◌≤◌, ℕ, List, [], length, Some, None, true, ⊤}
+use Rattle.causes.specs.Causes.{Rose}
+use Rattle.disk_trait.specs.Drive.{Drive, Stays}
+use Rattle.plain_list.specs.declared.entries.Entry.{Entry}
+use Rattle.disk_trait.specs.Moments.{LeavesNow, LeavesOnly}
+use Rattle.recovery.specs.Making.{Makes, IsSmall}
+use Rattle.recovery.specs.declared.seen.InitFault.{InitFault}
+use Rattle.recovery.specs.declared.seen.InitFault.TheVariants as init_fault
+use Rattle.csv_rows.specs.declared.rows.Refusal.{Refusal}
+use Rattle.csv_rows.specs.declared.rows.Refusal.TheVariants as refusal
+use Rattle.csv_rows.specs.LogLines.{made_line}
+use Rattle.run_ends.specs.Limits.{width}
+use Rattle.io_edge.specs.Streams.{Output}
+use Rattle.run_ends.specs.Ends.{Ends, Targets}
+use Rattle.run_ends.specs.Ending.{EndsWriting, EndsRefused}
+
+-- the refusal of a fault of making
+abbrev pub making_refusal : InitFault → Refusal
+making_refusal (init_fault.InUse len) = refusal.InUse len
+making_refusal init_fault.Disk = refusal.Disk None
+
+-- why no log was made: the drive's count rose, memory ran out, or the file has more than 17 bytes, and nothing was done to it
+abbrev pub IsMakingCause : Drive → Drive → Refusal → Type 0
+IsMakingCause old new (refusal.Disk None) = Rose old.faults new.faults
+IsMakingCause old new refusal.Memory = ⊤
+IsMakingCause old new (refusal.InUse len) = (17 < len) × ((bytes : List ℕ) → old.bytes ≡ Some bytes → len ≡ length bytes) × Stays old new
+IsMakingCause old new _ = ⊥
+
+-- how `init` ends
+abbrev pub MakesOrRefuses : Drive → Drive → ℕ → Output → Output → Type 0
+MakesOrRefuses old new status before after = (Makes width old new × EndsWriting made_line status before after) ⊎ EndsRefused (IsMakingCause old new) status before after
+
+-- At each moment a crash leaves a small file, if it did before, and a file that isn't small is left as it was.
+pub record LeavesFile (old new : Drive) : Type 0 where
+  pub small : LeavesNow old IsSmall → LeavesOnly old new IsSmall
+  pub in_use : (bytes : List ℕ) → old.bytes ≡ Some bytes → 17 < length bytes → Stays old new
+  pub later : old.faults ≤ new.faults
+
+-- A log of no cells was made and the line put, or the line of a refusal. Status 10 comes exactly where the file has more than 17 bytes, and a
+-- smaller one is made a log, unless a count rose or memory ran out. A file in use is left as it was, whatever the answer is.
+pub record EndsMaking {D : Type 0} (file : List ℕ) (old new : Targets D) (status : ℕ) : Type 0 where
+  pub ends : MakesOrRefuses old.drive new.drive status old.output new.output
+  pub in_use : status ≡ 10 → (bytes : List ℕ) → old.drive.bytes ≡ Some bytes → 17 < length bytes
+  pub exact : (bytes : List ℕ) → old.drive.bytes ≡ Some bytes → 17 < length bytes → (Rose old.drive.faults new.drive.faults → ⊥) → (status ≡ 10) ⊎ (status ≡ 9)
+  pub whole : (bytes : List ℕ) → old.drive.bytes ≡ Some bytes → length bytes ≤ 17 → (Rose old.drive.faults new.drive.faults → ⊥) → (Rose old.output.faults new.output.faults → ⊥)
+      → (status ≡ 0) ⊎ (status ≡ 9)
+  pub leaves : LeavesFile old.drive new.drive
+  -- the drive's count is as it was, but where it is what is told to have failed
+  pub calm : status ≢ 7 → new.drive.faults ≡ old.drive.faults
+  -- this file is attached, and made where it isn't there
+  pub attached : status ≢ 7 → status ≢ 9 → new.drive.attached file true
+
+-- what `init` promises: no row is read or called
+pub record Inits {S D : Type 0} (file : List ℕ) (old new : Ends S D) (status : ℕ) (h : List Entry) : Type 0 where
+  pub makes : EndsMaking file old.to new.to status
+  pub unread : new.source ≡ old.source
+  pub none : h ≡ []

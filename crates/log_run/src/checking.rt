@@ -1,0 +1,54 @@
+//! The command `check`: tells what the log in a file says, and reads alone.
+ghost use Rattle.std.specs.Prelude.{◌≡◌, ◌≤◌, IfOk, IfErr, MatchResult, length};
+ghost use Rattle.disk_trait.specs.Drive.{Stays};
+ghost use Rattle.recovery.specs.Found.{IsFound};
+ghost use Rattle.run_ends.specs.Limits.{width, most_cells};
+ghost use Rattle.run_ends.specs.Ends.{targets};
+ghost use Rattle.log_run.specs.Checking.{HasRead, HasReadUnless, IsCheckingCause, IsDecidedBy, EndsChecking, counts_of};
+
+use csv_rows::{LogCounts, Refusal, write_counts};
+use disk_trait::LogDisk;
+use io_edge::Sink;
+use recovery::{Seen, inspect};
+use run_ends::{MOST_CELLS, WIDTH, attach_refusal, log_refusal, put_refusal, written};
+use std::alloc::Global;
+
+/// Tells what the log in a file of this name says, and gives the status.
+pub fn check_log<K: Sink, D: LogDisk>(alloc: Global, file: &str, sink: &mut K, disk: &mut D) -> u8
+    ensures ends { EndsChecking file.now (targets K.output D.drive sink.old disk.old) (targets K.output D.drive sink.new disk.new) result }
+{
+    match find(alloc, file, disk) {
+        Ok(seen) => written(write_counts(sink, &counts_of(&seen))),
+        Err(why) => put_refusal(&why, sink),
+    }
+}
+
+/// What the log in a file of this name says.
+pub(crate) fn find<D: LogDisk>(alloc: Global, file: &str, disk: &mut D) -> Result<Seen, Refusal>
+    ensures found { IfOk result (IsFound width most_cells (D.drive disk.old)) }
+    ensures cause { IfErr result (IsCheckingCause (D.drive disk.old) (D.drive disk.new)) }
+    ensures decided { IsDecidedBy most_cells (D.drive disk.old) (D.drive disk.new) result }
+    ensures read { MatchResult result (λ _. HasRead file.now (D.drive disk.old) (D.drive disk.new))
+        (HasReadUnless file.now (D.drive disk.old) (D.drive disk.new)) }
+    ensures stays { Stays (D.drive disk.old) (D.drive disk.new) }
+    ensures later { (D.drive disk.old).faults ≤ (D.drive disk.new).faults }
+{
+    if let Err(fault) = disk.attach(alloc, file, false) {
+        return Err(attach_refusal(fault));
+    }
+    match inspect(alloc, disk, WIDTH, MOST_CELLS) {
+        Ok(seen) => Ok(seen),
+        Err(fault) => Err(log_refusal(fault)),
+    }
+}
+
+fn counts_of(seen: &Seen) -> LogCounts
+    ensures { result ≡ counts_of seen.now }
+{
+    LogCounts {
+        cells: seen.cells,
+        points: seen.world.as_slice().len() as u64,
+        leaves: seen.leaves.as_slice().len() as u64,
+        unfinished: seen.unfinished,
+    }
+}

@@ -1,0 +1,68 @@
+//! The command `init`: makes a log in a file.
+ghost use Rattle.std.specs.Prelude.{◌≡◌, ◌≢◌, true, IfOk, IfErr, MatchResult};
+ghost use Rattle.recovery.specs.Making.{Makes};
+ghost use Rattle.run_ends.specs.Limits.{width};
+ghost use Rattle.run_ends.specs.Ends.{targets};
+ghost use Rattle.run_ends.specs.Status.{status_of};
+ghost use Rattle.log_run.specs.Making.{IsMakingCause, LeavesFile, EndsMaking, making_refusal};
+
+use csv_rows::{Refusal, write_made};
+use disk_trait::LogDisk;
+use io_edge::Sink;
+use recovery::{InitFault, InitRefused, init};
+use run_ends::{Unmade, WIDTH, attach_refusal, put_refusal, written};
+use std::alloc::Global;
+
+/// How a command ends that takes a drive: a status, and the drive back.
+#[derive(Drop)]
+pub struct Drove<D: Drop> {
+    pub status: u8,
+    pub disk: D,
+}
+
+/// Makes a log in a file of this name, and says so.
+pub fn make_log<K: Sink, D: LogDisk>(alloc: Global, file: &str, sink: &mut K, disk: D) -> Drove<D>
+    ensures ends { EndsMaking file.now (targets K.output D.drive sink.old disk)
+        (targets K.output D.drive sink.new result.disk) result.status }
+{
+    match make_in(alloc, file, disk) {
+        Ok(disk) => {
+            let status = written(write_made(sink));
+            Drove { status, disk }
+        }
+        Err(Unmade { disk, why }) => {
+            let status = put_refusal(&why, sink);
+            Drove { status, disk }
+        }
+    }
+}
+
+fn make_in<D: LogDisk>(alloc: Global, file: &str, mut disk: D) -> Result<D, Unmade<D>>
+    ensures made { IfOk result (λ new. Makes width (D.drive disk) (D.drive new)) }
+    ensures cause { IfErr result (λ e. IsMakingCause (D.drive disk) (D.drive e.disk) e.why) }
+    ensures attached { MatchResult result (λ new. (D.drive new).attached file.now true)
+        (λ e. status_of e.why ≢ 7 → status_of e.why ≢ 9 → (D.drive e.disk).attached file.now true) }
+    ensures calm { IfErr result (λ e. status_of e.why ≢ 7 → (D.drive e.disk).faults ≡ (D.drive disk).faults) }
+    ensures leaves { MatchResult result (λ new. LeavesFile (D.drive disk) (D.drive new)) (λ e. LeavesFile (D.drive disk) (D.drive e.disk)) }
+{
+    if let Err(fault) = disk.attach(alloc, file, true) {
+        let why = attach_refusal(fault);
+        return Err(Unmade { disk, why });
+    }
+    match init(disk, WIDTH) {
+        Ok(disk) => Ok(disk),
+        Err(InitRefused { disk, cause }) => {
+            let why = making_refusal(cause);
+            Err(Unmade { disk, why })
+        }
+    }
+}
+
+fn making_refusal(fault: InitFault) -> Refusal
+    ensures { result ≡ making_refusal fault }
+{
+    match fault {
+        InitFault::InUse { len } => Refusal::InUse { len },
+        InitFault::Disk => Refusal::Disk { cell: None },
+    }
+}

@@ -1,0 +1,14 @@
+pub mod OpeningFacts
+pub mod CrashFacts
+pub mod BookEnds
+pub mod LogEnds
+pub mod PlayFacts
+pub mod TrialEnds
+pub mod Dealing
+pub mod Parting
+pub mod Joining
+pub mod Answering
+pub mod Objects
+pub mod PlayEnds
+pub mod LineOrder
+pub mod PlayedOut

@@ -1,0 +1,143 @@
+-- How rows end that were played over a book.
+use Rattle.std.proofs.Common.{◌≡◌, inl, inr, ℕ, List, take, Option, Some, None, Result, Ok, Err, refl, subst, arith}
+use Rattle.std.specs.Prelude.{IfSome}
+use Rattle.std.specs.Option.{option_map}
+use Rattle.std.specs.Io.KnownBytes.{Appends}
+use Rattle.causes.specs.Causes.{Counts}
+use Rattle.disk_trait.specs.Drive.{Drive}
+use Rattle.plain_list.specs.declared.entries.Entry.{Entry}
+use Rattle.plain_list.specs.State.{State, IsLegal, state_after}
+use Rattle.plain_list.specs.History.{world_after, failed_cell}
+use Rattle.index_layer.specs.Stands.{Stands}
+use Rattle.kept_log.specs.Journal.{disk_in, KeepsIn}
+use Rattle.commit_book.specs.BookView.{BookView}
+use Rattle.commit_book.specs.IsBook.{IsBook}
+use Rattle.csv_rows.specs.declared.rows.InRow.{InRow}
+use Rattle.csv_rows.specs.InRows.{AreInRows}
+use Rattle.csv_rows.specs.declared.rows.Refusal.{Refusal}
+use Rattle.csv_rows.specs.declared.rows.Refusal.TheVariants as refusal
+use Rattle.io_edge.specs.Streams.{Output}
+use Rattle.io_edge.specs.Puts.{Puts}
+use Rattle.lane_history.specs.LostSteps.{IsNextStep}
+use Rattle.lane_splits.specs.Settled.{IsSettled}
+use Rattle.run_ends.specs.Limits.{width}
+use Rattle.play_run.specs.declared.reports.Report.{Report}
+use Rattle.play_run.specs.Lines.{text_of}
+use Rattle.run_ends.specs.Status.{WritesLines, written_status}
+use Rattle.run_ends.specs.Ending.{EndsWriting}
+use Rattle.run_ends.specs.Taking.{Refuses}
+use Rattle.play_run.specs.Playing.{EndsRows}
+use Rattle.play_run.specs.Answers.{AnswersAsOneList}
+use Rattle.play_run.specs.declared.lanes.LaneEnd.{LaneEnd}
+use Rattle.play_run.specs.inside.Books.{BeginsAs, IsNewBook, StopsBook, LeavesLog, count_in}
+use Rattle.play_run.specs.inside.Answered.{HasNumbers, IsPlayedBook, IsAnsweredBook, HasObjects, WritesText, EndsPlay}
+use Rattle.play_run.specs.inside.Ended.{EndsBook}
+use Rattle.run_ends.proofs.Ends.{no-lines}
+use Rattle.play_run.proofs.Objects.{played-world}
+
+-- the status of a text that was written, or not
+pub ends-writing : {T E : Type 0} (text : List ℕ) (before after : Output) (result : Result T E) → Puts before.taken after.taken text result → Counts before.faults after.faults result → EndsWriting text (written_status result) before after
+ends-writing text before after (Ok x) bytes cause = inl (refl, bytes, cause.same)
+ends-writing text before after (Err e) bytes cause = inr (refl, cause.failed, (bytes.0, bytes.2))
+
+-- what holds of a list, from what holds of a value that has it
+pub if-mapped : {A B : Type 0} (f : A → B) (P : B → Type 0) (o : Option A) → IfSome o (λ a. P (f a)) → IfSome (option_map f o) P
+if-mapped f P None holds = holds
+if-mapped f P (Some a) holds = holds
+
+-- the lanes of rows that were all answered kept as many, with their numbers
+pub answered-numbers : {A D : Type 0} (f : A → List LaneEnd) (w : ℕ) (rows : List InRow) (old new : BookView D) (o : Option A) → IfSome o (λ a. IsAnsweredBook w rows old new (f a)) → IfSome o (λ a. HasNumbers rows (f a))
+answered-numbers f w rows old new None holds = tt
+answered-numbers f w rows old new (Some a) holds = λ s. (holds.answers s).numbers
+
+module _ {D : Type 0} (drive : D → Drive) (report : Report) (rows : List InRow) (old new : BookView D) (ends : Option (List LaneEnd)) (status : ℕ) (before after : Output) (are : AreInRows rows) (begins : IsNewBook old)
+    (played : IsPlayedBook width rows old new) (answered : IfSome ends (λ e. IsAnsweredBook width rows old new e)) (book : IsBook drive width new) (end : EndsPlay report rows (failed_cell new.entries) new.leaves ends status before after) where
+  abbrev h : List Entry
+  h = new.entries
+
+  abbrev text : List ℕ
+  text = text_of report rows old.opening.world h
+
+  legal : IsLegal width old.opening h
+  legal = subst (λ (s : State). IsLegal width s h) played.opening book.legal
+
+  -- the index stands for the objects at the end
+  objects : HasObjects new.leaves (world_after old.opening.world h)
+  objects = record {
+    is_world = played-world rows old.opening.world h are played.played begins.world;
+    names = (state_after width new.opening h).leaves;
+    stands = subst (λ (s : State). Stands new.leaves (world_after s.world h) (state_after width new.opening h).leaves) played.opening book.stands;
+  }
+
+  -- what the answers say, where the text is written
+  some-answered : (e : List LaneEnd) → ends ≡ Some e → IsAnsweredBook width rows old new e
+  some-answered e is = subst (λ (o : Option (List LaneEnd)). IfSome o (λ x. IsAnsweredBook width rows old new x)) is answered
+
+  no-text : (why : Refusal) → Refuses why status before after → WritesLines status → ⊥
+  no-text why refuses = no-lines why status refuses.status_is
+
+  writes : WritesText report rows new.leaves ends status before after → EndsWriting text status before after
+  writes wrote = wrote.writes old.opening.world h (some-answered wrote.some wrote.ends_are).answers objects
+
+  all-lines : EndsWriting text status before after → status ≡ 0 → Appends before.taken after.taken text
+  all-lines (inl (zero, all, same)) e = all
+  all-lines (inr (six, rose, part)) e = absurd (omega (arith, six, e))
+
+  some-lines : EndsWriting text status before after → status ≡ 6 → (n : ℕ) × Appends before.taken after.taken (take n text)
+  some-lines (inl (zero, all, same)) e = absurd (omega (arith, zero, e))
+  some-lines (inr (six, rose, part)) e = part
+
+  end-answers : AnswersAsOneList report width old.opening rows h status before after
+  end-answers = by_end end
+    where
+      refused : (why : Refusal) → Refuses why status before after → AnswersAsOneList report width old.opening rows h status before after
+      refused why refuses = record {
+        legal = legal;
+        played = played.played;
+        whole = λ written. absurd (no-text why refuses written);
+        lines = λ e. absurd (no-text why refuses (inl e));
+        part = λ e. absurd (no-text why refuses (inr e));
+      }
+
+      by_end : EndsPlay report rows (failed_cell h) new.leaves ends status before after → AnswersAsOneList report width old.opening rows h status before after
+      by_end (inl (cell, failed, refuses)) = refused (refusal.Disk (Some cell)) refuses
+      by_end (inr (inl (none, refuses))) = refused refusal.Memory refuses
+      by_end (inr (inr (none, wrote))) = record {
+        legal = legal;
+        played = played.played;
+        whole = λ written. (some-answered wrote.some wrote.ends_are).whole;
+        lines = all-lines (writes wrote);
+        part = some-lines (writes wrote);
+      }
+
+  end-rows : EndsRows (StopsBook (IsNextStep width old.opening rows) h) status before after
+  end-rows = by_end end
+    where
+      by_writing : EndsWriting text status before after → EndsRows (StopsBook (IsNextStep width old.opening rows) h) status before after
+      by_writing (inl (zero, all, same)) = inl (zero, same)
+      by_writing (inr (six, rose, part)) = inr (inl (six, rose))
+
+      by_end : EndsPlay report rows (failed_cell h) new.leaves ends status before after → EndsRows (StopsBook (IsNextStep width old.opening rows) h) status before after
+      by_end (inl (cell, failed, refuses)) = inr (inr (refusal.Disk (Some cell), inr (cell, refl, played.loses cell failed), refuses))
+      by_end (inr (inl (none, refuses))) = inr (inr (refusal.Memory, inl (refl, none), refuses))
+      by_end (inr (inr (none, wrote))) = by_writing (writes wrote)
+
+  end-splits : WritesLines status → IsSettled width old.bucket old.opening (count_in old.log) h
+  end-splits written = by_end end
+    where
+      by_end : EndsPlay report rows (failed_cell h) new.leaves ends status before after → IsSettled width old.bucket old.opening (count_in old.log) h
+      by_end (inl (cell, failed, refuses)) = absurd (no-text (refusal.Disk (Some cell)) refuses written)
+      by_end (inr (inl (none, refuses))) = absurd (no-text refusal.Memory refuses written)
+      by_end (inr (inr (none, wrote))) = (some-answered wrote.some wrote.ends_are).settled none
+
+  end-log : BeginsAs drive old.log new.log → LeavesLog drive old.opening h old.log (disk_in new.log)
+  end-log starts = record {
+    log = new.log;
+    begins = starts;
+    first = played.first;
+    keeps = subst (λ (s : State). KeepsIn drive width s h new.log) played.opening book.on_log;
+    disk_is = refl;
+  }
+
+  pub ends-book : BeginsAs drive old.log new.log → EndsBook drive report rows old h status (disk_in new.log) before after
+  ends-book starts = record { one_list = end-answers; ends = end-rows; splits = end-splits; log = end-log starts }

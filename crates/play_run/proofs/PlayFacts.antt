@@ -1,0 +1,139 @@
+-- What the ways that a play goes tell of its status.
+use Rattle.std.proofs.Common.{◌≡◌, ◌⊎◌, inl, inr, ◌∙◌, ℕ, List, Option, Some, None, Result, Ok, Err, refl, ap}
+use Rattle.causes.specs.Causes.{Rose}
+use Rattle.disk_trait.specs.Drive.{Drive}
+use Rattle.plain_list.specs.declared.entries.Entry.{Entry}
+use Rattle.csv_rows.specs.declared.rows.InRow.{InRow}
+use Rattle.csv_rows.specs.declared.rows.Refusal.{Refusal}
+use Rattle.csv_rows.specs.declared.rows.Refusal.TheVariants as refusal
+use Rattle.io_edge.specs.Streams.{Input}
+use Rattle.play_run.specs.declared.reports.Report.{Report}
+use Rattle.play_run.specs.declared.reports.Report.TheVariants as reports
+use Rattle.run_ends.specs.Ends.{Ends, Targets}
+use Rattle.play_run.specs.Origin.{Origin}
+use Rattle.run_ends.specs.Judged.{judged}
+use Rattle.run_ends.specs.Status.{status_of}
+use Rattle.run_ends.specs.Ending.{EndsRefused}
+use Rattle.run_ends.specs.LogFaults.{log_refusal}
+use Rattle.run_ends.specs.Inputs.{IsInputCause}
+use Rattle.play_run.specs.Playing.{IsGood, FollowsLog, HasNoBook, IsStop, EndsRows, PlaysRows, IsRead, Goes, Plays}
+
+err-same : (rows : Result (List InRow) Refusal) (a b : Refusal) → rows ≡ Err a → rows ≡ Err b → a ≡ b
+err-same rows a b first second = cc (first, second)
+
+ok-err : (rows : Result (List InRow) Refusal) (l : List InRow) (a : Refusal) → rows ≡ Ok l → rows ≡ Err a → ⊥
+ok-err rows l a first second = cc (first, second)
+
+-- why no rows are read: the count rose, memory ran out, or what the bytes give
+input-status : (old new : Input) (why : Refusal) (bytes : List ℕ) → old.left ≡ Some bytes → IsInputCause old new why
+    → ((status_of why ≡ 5) × Rose old.faults new.faults) ⊎ ((status_of why ≡ 9) ⊎ (judged bytes ≡ Err why))
+input-status old new refusal.Source bytes told c = inl (refl, c)
+input-status old new refusal.Memory bytes told c = inr (inl refl)
+input-status old new refusal.Header bytes told c = inr (inr (c bytes told))
+input-status old new (refusal.Csv row) bytes told c = inr (inr (c bytes told))
+input-status old new (refusal.Field row column) bytes told c = inr (inr (c bytes told))
+input-status old new refusal.LongInput bytes told c = inr (inr (c bytes told))
+input-status old new refusal.ManyRows bytes told c = inr (inr (c bytes told))
+input-status old new refusal.Usage bytes told c = absurd c
+input-status old new refusal.NotLog bytes told c = absurd c
+input-status old new (refusal.OldLog version w) bytes told c = absurd c
+input-status old new (refusal.Damaged cell cause) bytes told c = absurd c
+input-status old new (refusal.Disk cell) bytes told c = absurd c
+input-status old new refusal.LongLog bytes told c = absurd c
+input-status old new (refusal.InUse len) bytes told c = absurd c
+
+plays-input : {S D : Type 0} (log : Option (List ℕ)) (size : ℕ) (old new : Ends S D) (status : ℕ) (h : List Entry) → Goes log size old new status h → (bytes : List ℕ) (why : Refusal) → old.input.left ≡ Some bytes → judged bytes ≡ Err why
+    → (status ≡ status_of why) ⊎ ((status ≡ 5) ⊎ (status ≡ 9))
+plays-input log size old new status h (inr read) bytes why told bad = absurd (ok-err (judged bytes) read.rows why (read.read.rows_are bytes told) bad)
+plays-input log size old new status h (inl unread) bytes why told bad = by_why unread.refused
+  where
+    by_why : EndsRefused (IsInputCause old.input new.input) status old.to.output new.to.output → (status ≡ status_of why) ⊎ ((status ≡ 5) ⊎ (status ≡ 9))
+    by_why (r, cause, refuses) = by_status (input-status old.input new.input r bytes told cause)
+      where
+        by_status : ((status_of r ≡ 5) × Rose old.input.faults new.input.faults) ⊎ ((status_of r ≡ 9) ⊎ (judged bytes ≡ Err r)) → (status ≡ status_of why) ⊎ ((status ≡ 5) ⊎ (status ≡ 9))
+        by_status (inl (five, rose)) = inr (inl (refuses.status_is ∙ five))
+        by_status (inr (inl nine)) = inr (inr (refuses.status_is ∙ nine))
+        by_status (inr (inr gives)) = inl (refuses.status_is ∙ ap status_of (err-same (judged bytes) r why gives bad))
+
+-- good input and no fault of the source: rows are read, or memory ran out
+read-or-memory : {S D : Type 0} (log : Option (List ℕ)) (size : ℕ) (old new : Ends S D) (status : ℕ) (h : List Entry) → Goes log size old new status h → (bytes : List ℕ) (rows : List InRow) → old.input.left ≡ Some bytes → judged bytes ≡ Ok rows
+    → (Rose old.input.faults new.input.faults → ⊥) → IsRead log size old new status h ⊎ (status ≡ 9)
+read-or-memory log size old new status h (inr read) bytes rows told good calm = inl read
+read-or-memory log size old new status h (inl unread) bytes rows told good calm = by_why unread.refused
+  where
+    by_why : EndsRefused (IsInputCause old.input new.input) status old.to.output new.to.output → IsRead log size old new status h ⊎ (status ≡ 9)
+    by_why (r, cause, refuses) = by_status (input-status old.input new.input r bytes told cause)
+      where
+        by_status : ((status_of r ≡ 5) × Rose old.input.faults new.input.faults) ⊎ ((status_of r ≡ 9) ⊎ (judged bytes ≡ Err r)) → IsRead log size old new status h ⊎ (status ≡ 9)
+        by_status (inl (five, rose)) = absurd (calm rose)
+        by_status (inr (inl nine)) = inr (refuses.status_is ∙ nine)
+        by_status (inr (inr gives)) = absurd (ok-err (judged bytes) rows r good gives)
+
+-- over a log
+module _ {D : Type 0} (report : Report) (size : ℕ) (rows : List InRow) (old new : Targets D) (status : ℕ) (h : List Entry) where
+  no-book-memory : (log : Option (List ℕ)) → IsGood log old.drive new.drive → (why : Refusal) → HasNoBook log old new why → why ≡ refusal.Memory
+  no-book-memory None good why none = none.0
+  no-book-memory (Some file) good why none = none.whole good
+
+  stop-status : (log : Option (List ℕ)) (from : Origin) → IsGood log old.drive new.drive → (why : Refusal) → IsStop log from rows old.drive new.drive h why → status_of why ≡ 9
+  stop-status log from good refusal.Memory stop = refl
+  stop-status None from good (refusal.Disk (Some cell)) stop = absurd stop
+  stop-status (Some file) from good (refusal.Disk (Some cell)) stop = absurd (good.calm stop.rose)
+  stop-status log from good (refusal.Disk None) stop = absurd stop
+  stop-status log from good refusal.Usage stop = absurd stop
+  stop-status log from good refusal.Header stop = absurd stop
+  stop-status log from good (refusal.Csv row) stop = absurd stop
+  stop-status log from good (refusal.Field row column) stop = absurd stop
+  stop-status log from good refusal.NotLog stop = absurd stop
+  stop-status log from good (refusal.OldLog version w) stop = absurd stop
+  stop-status log from good (refusal.Damaged cell cause) stop = absurd stop
+  stop-status log from good refusal.Source stop = absurd stop
+  stop-status log from good refusal.LongInput stop = absurd stop
+  stop-status log from good refusal.ManyRows stop = absurd stop
+  stop-status log from good refusal.LongLog stop = absurd stop
+  stop-status log from good (refusal.InUse len) stop = absurd stop
+
+  pub rows-done : (log : Option (List ℕ)) → PlaysRows report log size rows old new status h → (Rose old.output.faults new.output.faults → ⊥) → IsGood log old.drive new.drive → (status ≡ 0) ⊎ (status ≡ 9)
+  rows-done log (inl unopened) quiet good = by_why unopened.refused
+    where
+      by_why : EndsRefused (HasNoBook log old new) status old.output new.output → (status ≡ 0) ⊎ (status ≡ 9)
+      by_why (why, none, refuses) = inr (refuses.status_is ∙ ap status_of (no-book-memory log good why none))
+  rows-done log (inr answered) quiet good = by_end answered.ends
+    where
+      by_end : EndsRows (IsStop log answered.from rows old.drive new.drive h) status old.output new.output → (status ≡ 0) ⊎ (status ≡ 9)
+      by_end (inl (all, same)) = inl all
+      by_end (inr (inl (six, rose))) = absurd (quiet rose)
+      by_end (inr (inr (why, stop, refuses))) = inr (refuses.status_is ∙ stop-status log answered.from good why stop)
+
+  pub rows-log : (log : Option (List ℕ)) → PlaysRows report log size rows old new status h → FollowsLog log old.drive new.drive status
+  rows-log None plays = tt
+  rows-log (Some file) (inl unopened) = by_why unopened.refused
+    where
+      by_why : EndsRefused (HasNoBook (Some file) old new) status old.output new.output → FollowsLog (Some file) old.drive new.drive status
+      by_why (why, none, refuses) bytes fault told shown at calm = named (none.exact bytes fault told shown at calm)
+        where
+          named : (why ≡ log_refusal fault) ⊎ (why ≡ refusal.Memory) → (status ≡ status_of (log_refusal fault)) ⊎ (status ≡ 9)
+          named (inl is) = inl (refuses.status_is ∙ ap status_of is)
+          named (inr memory) = inr (refuses.status_is ∙ ap status_of memory)
+  rows-log (Some file) (inr answered) = λ bytes fault told shown at calm. absurd (answered.book bytes fault told shown at)
+
+pub nine-log : (log : Option (List ℕ)) (old new : Drive) (status : ℕ) → status ≡ 9 → FollowsLog log old new status
+nine-log None old new status nine = tt
+nine-log (Some file) old new status nine = λ bytes fault told shown at calm. inr nine
+
+-- what is promised of a play
+pub plays-of : {S D : Type 0} (log : Option (List ℕ)) (size : ℕ) (old new : Ends S D) (status : ℕ) (h : List Entry) → Goes log size old new status h → Plays log size old new status h
+plays-of log size old new status h goes = record {
+  goes = goes;
+  input = plays-input log size old new status h goes;
+  follows = λ bytes rows told good calm. followed (read-or-memory log size old new status h goes bytes rows told good calm);
+  complete = λ bytes rows told good calm quiet sound. done (read-or-memory log size old new status h goes bytes rows told good calm) quiet sound;
+}
+  where
+    followed : IsRead log size old new status h ⊎ (status ≡ 9) → FollowsLog log old.to.drive new.to.drive status
+    followed (inl read) = rows-log reports.Lines size read.rows old.to new.to status h log read.plays
+    followed (inr nine) = nine-log log old.to.drive new.to.drive status nine
+
+    done : IsRead log size old new status h ⊎ (status ≡ 9) → (Rose old.to.output.faults new.to.output.faults → ⊥) → IsGood log old.to.drive new.to.drive → (status ≡ 0) ⊎ (status ≡ 9)
+    done (inl read) quiet good = rows-done reports.Lines size read.rows old.to new.to status h log read.plays quiet good
+    done (inr nine) quiet good = inr nine

@@ -1,0 +1,33 @@
+-- What a crash leaves of the log of a run.
+use Rattle.std.specs.Prelude.{◌≡◌, ◌≢◌, ℕ, List, ◌++◌, take, Some}
+use Rattle.zorder.specs.Tile.{Tile}
+use Rattle.zorder.specs.declared.points.Placed.{Placed}
+use Rattle.cell_format.specs.declared.cell.Cell.{Cell}
+use Rattle.plain_list.specs.declared.entries.Entry.{Entry}
+use Rattle.disk_trait.specs.Drive.{Drive, IsSynced}
+use Rattle.disk_trait.specs.Moments.{LeavesNow, LeavesSince}
+use Rattle.log_state.specs.Recovers.{Recovers, state_of}
+use Rattle.log_state.specs.Changes.{cells_of, failed_cells, IsWhollyRecovered}
+use Rattle.play_run.specs.Origin.{Origin}
+
+-- an image that recovers to these cells, whose leaves tile the key space
+pub record RecoversTo (w : ℕ) (cells : List Cell) (image : List ℕ) : Type 0 where
+  pub recovers : Recovers w cells image
+  pub tile : Tile (state_of w cells).leaves
+
+-- An image that recovers to the cells that stood first and some of the history's, in order and none skipped. The cell of a failed append may
+-- stand after them.
+abbrev pub RecoversToPrefix : ℕ → List Cell → List Placed → List Entry → List ℕ → Type 0
+RecoversToPrefix w first world h image = (m : ℕ) × RecoversTo w (first ++ take m (cells_of world h ++ failed_cells h)) image
+
+-- A crash at any moment of the run leaves the cells that stood first and some of the history's. A crash after it leaves all of them, and where
+-- the drive didn't fail nothing else.
+pub record KeepsAll (w : ℕ) (first : List Cell) (world : List Placed) (h : List Entry) (old new : Drive) (status : ℕ) : Type 0 where
+  pub any_moment : LeavesSince new old.clock (RecoversToPrefix w first world h)
+  pub at_end : LeavesNow new (IsWhollyRecovered w first world h)
+  pub all : status ≢ 7 → LeavesNow new (Recovers w (first ++ cells_of world h))
+
+-- the same from an origin over a log, where the drive's content is known, and nothing was pending
+abbrev pub KeepsPlayed : Origin → Drive → Drive → ℕ → List Entry → Type 0
+KeepsPlayed from old new status h = (bytes : List ℕ) (first : List Cell) → old.bytes ≡ Some bytes → from.first ≡ Some first → IsSynced old
+    → KeepsAll from.width first from.state.world h old new status

@@ -1,0 +1,12 @@
+pub mod Lines
+pub mod Origin
+pub mod Answers
+pub mod Crash
+pub mod Playing
+pub mod Trying
+pub mod Examples
+pub mod inside
+pub use Rattle.log_state.specs.Recovers
+pub use Rattle.run_ends.specs.Ends
+pub use Rattle.run_ends.specs.Inputs
+pub use Rattle.run_ends.specs.LogFaults

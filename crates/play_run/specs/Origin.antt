@@ -1,0 +1,34 @@
+-- Where a play begins.
+use Rattle.std.specs.Prelude.{◌≡◌, ℕ, ◌≤◌, List, length, Option, Some, None}
+use Rattle.cell_format.specs.declared.cell.Cell.{Cell}
+use Rattle.plain_list.specs.State.{State, empty_state, at_rest}
+use Rattle.disk_trait.specs.Drive.{Drive}
+use Rattle.log_state.specs.Recovers.{IsLegalCells, Recovers, state_of}
+use Rattle.run_ends.specs.Limits.{width, most_played}
+
+-- the width of splits, the state at the beginning, and the cells of the log then, where there is one
+pub record Origin : Type 0 where
+  pub width : ℕ
+  pub state : State
+  pub first : Option (List Cell)
+
+-- without a log there is nothing at first
+abbrev pub new_origin : Origin
+new_origin = record { width = width; state = empty_state; first = None }
+
+-- what cells leave, with no split open
+abbrev pub origin_of : ℕ → List Cell → Origin
+origin_of w first = record { width = w; state = at_rest (state_of w first); first = Some first }
+
+-- the origin is what legal cells leave, few enough; where the drive's content is known, its bytes recover to them
+pub record IsFoundOrigin (drive : Drive) (o : Origin) : Type 0 where
+  pub first : List Cell
+  pub legal : IsLegalCells width first
+  pub few : length first ≤ most_played
+  pub origin_is : o ≡ origin_of width first
+  pub recovers : (bytes : List ℕ) → drive.bytes ≡ Some bytes → Recovers width first bytes
+
+-- the origin of a play over no log, or over the log in a file
+abbrev pub IsOrigin : Option (List ℕ) → Drive → Origin → Type 0
+IsOrigin None drive o = o ≡ new_origin
+IsOrigin (Some file) drive o = IsFoundOrigin drive o

@@ -1,0 +1,145 @@
+-- The command `play`, and how rows go that are played.
+use Rattle.std.specs.Prelude.{◌≡◌, ◌≢◌, ◌⊎◌, ℕ, ◌≤◌, false, List, [], length, Option, Some, None, Ok, Err, ⊤}
+use Rattle.std.specs.Option.{option_map}
+use Rattle.causes.specs.Causes.{Rose}
+use Rattle.disk_trait.specs.Drive.{Drive}
+use Rattle.plain_list.specs.declared.entries.Entry.{Entry}
+use Rattle.plain_list.specs.History.{failed_cell}
+use Rattle.cell_format.specs.declared.cell.Cell.{Cell}
+use Rattle.recovery.specs.declared.seen.OpenFault.{OpenFault}
+use Rattle.log_state.specs.Recovers.{Recovers}
+use Rattle.recovery.specs.Faults.{IsFault, IsInBytes}
+use Rattle.recovery.specs.Opening.{KeepsCells, IsUntouched}
+use Rattle.csv_rows.specs.declared.rows.InRow.{InRow}
+use Rattle.csv_rows.specs.declared.rows.Refusal.{Refusal}
+use Rattle.csv_rows.specs.declared.rows.Refusal.TheVariants as refusal
+use Rattle.run_ends.specs.Limits.{width, most_played}
+use Rattle.io_edge.specs.Streams.{Input, Output}
+use Rattle.run_ends.specs.Ends.{Ends, Targets}
+use Rattle.run_ends.specs.Judged.{judged}
+use Rattle.run_ends.specs.Status.{status_of, WritesLines}
+use Rattle.run_ends.specs.Ending.{EndsRefused}
+use Rattle.run_ends.specs.LogFaults.{IsReadingCause, log_refusal}
+use Rattle.play_run.specs.Origin.{Origin, IsOrigin}
+use Rattle.lane_history.specs.LostSteps.{IsNextStep, LosesStep}
+use Rattle.play_run.specs.declared.reports.Report.{Report}
+use Rattle.play_run.specs.declared.reports.Report.TheVariants as reports
+use Rattle.play_run.specs.Answers.{AnswersAsOneList}
+use Rattle.lane_splits.specs.Settled.{IsSettled, cells_now}
+use Rattle.play_run.specs.Crash.{KeepsPlayed}
+
+-- the drive's bytes recover to cells, few enough, and its count didn't rise
+pub record IsGoodLog (old new : Drive) : Type 0 where
+  pub bytes : List ℕ
+  pub told : old.bytes ≡ Some bytes
+  pub first : List Cell
+  pub recovers : Recovers width first bytes
+  pub few : length first ≤ most_played
+  pub calm : Rose old.faults new.faults → ⊥
+
+-- why no log is opened: what the bytes show is told, and a good log is opened, unless the count rose or memory ran out. A file that is no such
+-- log is left as it was, at every moment. The count is as it was, unless the drive is what is told to have failed.
+pub record IsNotOpened (old new : Drive) (why : Refusal) : Type 0 where
+  pub cause : IsReadingCause most_played old new why
+  pub exact : (bytes : List ℕ) (fault : OpenFault) → old.bytes ≡ Some bytes → IsInBytes fault → IsFault width most_played bytes fault → (Rose old.faults new.faults → ⊥)
+      → (why ≡ log_refusal fault) ⊎ (why ≡ refusal.Memory)
+  pub whole : IsGoodLog old new → why ≡ refusal.Memory
+  pub keeps : KeepsCells width old new
+  pub untouched : (bytes : List ℕ) → old.bytes ≡ Some bytes → ((first : List Cell) → Recovers width first bytes → length first ≤ most_played → ⊥) → IsUntouched old new
+  pub calm : why ≢ refusal.Disk None → new.faults ≡ old.faults
+
+-- why there is no book for rows: without a log memory ran out, and the drive is left as it was
+abbrev pub HasNoBook : {D : Type 0} → Option (List ℕ) → Targets D → Targets D → Refusal → Type 0
+HasNoBook None old new why = (why ≡ refusal.Memory) × (new.disk ≡ old.disk)
+HasNoBook (Some file) old new why = IsNotOpened old.drive new.drive why
+
+-- there is no book for the rows: none is called
+pub record IsUnopened {D : Type 0} (log : Option (List ℕ)) (old new : Targets D) (status : ℕ) (h : List Entry) : Type 0 where
+  pub none : h ≡ []
+  pub refused : EndsRefused (HasNoBook log old new) status old.output new.output
+
+-- The append of a cell failed: the history ends with that and the step that was lost, the cell's number is the log's number of cells, and the
+-- drive's count rose.
+pub record AppendFailed (from : Origin) (rows : List InRow) (old new : Drive) (h : List Entry) (cell : ℕ) : Type 0 where
+  pub loses : LosesStep (IsNextStep from.width from.state rows) h cell
+  pub number : cell ≡ cells_now (option_map length from.first) from.state h
+  pub rose : Rose old.faults new.faults
+
+-- without a log no append fails
+abbrev pub FailsAt : Option (List ℕ) → Origin → List InRow → Drive → Drive → List Entry → ℕ → Type 0
+FailsAt None from rows old new h cell = ⊥
+FailsAt (Some file) from rows old new h cell = AppendFailed from rows old new h cell
+
+-- why rows stop: memory ran out, and no append failed, or an append failed
+abbrev pub IsStop : Option (List ℕ) → Origin → List InRow → Drive → Drive → List Entry → Refusal → Type 0
+IsStop log from rows old new h refusal.Memory = failed_cell h ≡ None
+IsStop log from rows old new h (refusal.Disk (Some cell)) = FailsAt log from rows old new h cell
+IsStop log from rows old new h _ = ⊥
+
+-- how rows end: with all lines, with a fault of the sink, or with the line of a refusal
+abbrev pub EndsRows : (Refusal → Type 0) → ℕ → Output → Output → Type 0
+EndsRows Cause status old new = ((status ≡ 0) × (new.faults ≡ old.faults)) ⊎ (((status ≡ 6) × Rose old.faults new.faults) ⊎ EndsRefused Cause status old new)
+
+-- the drive of a play over no log is left as it was; over a log its bytes showed no fault
+abbrev pub HasBook : {D : Type 0} → Option (List ℕ) → Targets D → Targets D → Type 0
+HasBook None old new = new.disk ≡ old.disk
+HasBook (Some file) old new = (bytes : List ℕ) (fault : OpenFault) → old.drive.bytes ≡ Some bytes → IsInBytes fault → IsFault width most_played bytes fault → ⊥
+
+-- over a log its file is attached, and none is made
+abbrev pub IsAttached : Option (List ℕ) → Drive → Type 0
+IsAttached None new = ⊤
+IsAttached (Some file) new = new.attached file false
+
+-- The rows are answered from one origin on. The drive's count rises with status 7 alone.
+pub record IsAnswered {D : Type 0} (report : Report) (log : Option (List ℕ)) (size : ℕ) (rows : List InRow) (old new : Targets D) (status : ℕ) (h : List Entry) : Type 0 where
+  pub from : Origin
+  pub begins : IsOrigin log old.drive from
+  pub book : HasBook log old new
+  pub one_list : AnswersAsOneList report from.width from.state rows h status old.output new.output
+  pub ends : EndsRows (IsStop log from rows old.drive new.drive h) status old.output new.output
+  pub splits : WritesLines status → IsSettled from.width size from.state (option_map length from.first) h
+  pub crash : KeepsPlayed from old.drive new.drive status h
+  pub calm : status ≢ 7 → new.drive.faults ≡ old.drive.faults
+  pub attached : IsAttached log new.drive
+
+-- how rows go that were read: there is no book for them, or they are answered
+abbrev pub PlaysRows : {D : Type 0} → Report → Option (List ℕ) → ℕ → List InRow → Targets D → Targets D → ℕ → List Entry → Type 0
+PlaysRows report log size rows old new status h = IsUnopened log old new status h ⊎ IsAnswered report log size rows old new status h
+
+-- the source gave no rows: none is called, the drive is left as it was, and the source's count where it didn't fail
+pub record IsUnread {S D : Type 0} (old new : Ends S D) (status : ℕ) (h : List Entry) : Type 0 where
+  pub none : h ≡ []
+  pub disk : new.to.disk ≡ old.to.disk
+  pub calm : status ≢ 5 → new.input.faults ≡ old.input.faults
+  pub refused : EndsRefused (IsInputCause old.input new.input) status old.to.output new.to.output
+
+-- all that the source had was read, and its rows were played
+pub record IsRead {S D : Type 0} (log : Option (List ℕ)) (size : ℕ) (old new : Ends S D) (status : ℕ) (h : List Entry) : Type 0 where
+  pub rows : List InRow
+  pub read : Reads old.input new.input rows
+  pub plays : PlaysRows reports.Lines log size rows old.to new.to status h
+
+-- how a play goes
+abbrev pub Goes : {S D : Type 0} → Option (List ℕ) → ℕ → Ends S D → Ends S D → ℕ → List Entry → Type 0
+Goes log size old new status h = IsUnread old new status h ⊎ IsRead log size old new status h
+
+-- over a log a fault that its bytes show gives its refusal's status, unless the drive's count rose or memory ran out
+abbrev pub FollowsLog : Option (List ℕ) → Drive → Drive → ℕ → Type 0
+FollowsLog None old new status = ⊤
+FollowsLog (Some file) old new status = (bytes : List ℕ) (fault : OpenFault) → old.bytes ≡ Some bytes → IsInBytes fault → IsFault width most_played bytes fault → (Rose old.faults new.faults → ⊥)
+    → (status ≡ status_of (log_refusal fault)) ⊎ (status ≡ 9)
+
+-- there is no log, or a good one
+abbrev pub IsGood : Option (List ℕ) → Drive → Drive → Type 0
+IsGood None old new = ⊤
+IsGood (Some file) old new = IsGoodLog old new
+
+-- What `play` promises. Bad input gives its refusal's status, and good input over a bad log that log's, unless a count rose or memory ran out.
+-- Good input, a good log where there is one, and no fault give all lines, unless memory ran out.
+pub record Plays {S D : Type 0} (log : Option (List ℕ)) (size : ℕ) (old new : Ends S D) (status : ℕ) (h : List Entry) : Type 0 where
+  pub goes : Goes log size old new status h
+  pub input : (bytes : List ℕ) (why : Refusal) → old.input.left ≡ Some bytes → judged bytes ≡ Err why → (status ≡ status_of why) ⊎ ((status ≡ 5) ⊎ (status ≡ 9))
+  pub follows : (bytes : List ℕ) (rows : List InRow) → old.input.left ≡ Some bytes → judged bytes ≡ Ok rows → (Rose old.input.faults new.input.faults → ⊥)
+      → FollowsLog log old.to.drive new.to.drive status
+  pub complete : (bytes : List ℕ) (rows : List InRow) → old.input.left ≡ Some bytes → judged bytes ≡ Ok rows → (Rose old.input.faults new.input.faults → ⊥)
+      → (Rose old.to.output.faults new.to.output.faults → ⊥) → IsGood log old.to.drive new.to.drive → (status ≡ 0) ⊎ (status ≡ 9)

@@ -1,0 +1,93 @@
+-- What lanes kept for the rows of their sessions, and books whose rows were played.
+use Rattle.std.specs.Prelude.{◌≡◌, ◌⊎◌, ℕ, ◌<◌, length, get_or, ◌==◌, Bool, List, [], ◌∷◌, map, if◌then◌else◌, Option, Some, None}
+use Rattle.zorder.specs.declared.points.Placed.{Placed}
+use Rattle.plain_list.specs.declared.ops.Op.{Op}
+use Rattle.plain_list.specs.declared.entries.Entry.{Entry}
+use Rattle.plain_list.specs.Played.{IsPlayed, IsPlayedWhole}
+use Rattle.plain_list.specs.World.{IsWorld}
+use Rattle.plain_list.specs.History.{world_after, failed_cell}
+use Rattle.index_layer.specs.Leaves.{Leaf}
+use Rattle.index_layer.specs.Stands.{Stands}
+use Rattle.csv_rows.specs.declared.rows.InRow.{InRow}
+use Rattle.commit_book.specs.BookView.{BookView}
+use Rattle.book_lock.specs.declared.origin.Origin.{Origin}
+use Rattle.sessions.specs.Shared.{first_in, start_of}
+use Rattle.sessions.specs.declared.store.lanes.KeptRow.{KeptRow}
+use Rattle.lane_history.specs.SessionRows.{session_rows}
+use Rattle.lane_history.specs.Kept.{AreRight}
+use Rattle.lane_history.specs.LostSteps.{IsNextStep, LosesStep}
+use Rattle.lane_splits.specs.Settled.{IsSettled, first_cells}
+use Rattle.csv_rows.specs.declared.rows.Refusal.TheVariants as refusal
+use Rattle.io_edge.specs.Streams.{Output}
+use Rattle.play_run.specs.declared.reports.Report.{Report}
+use Rattle.play_run.specs.Lines.{text_of}
+use Rattle.run_ends.specs.Taking.{Refuses}
+use Rattle.run_ends.specs.Ending.{EndsWriting}
+use Rattle.play_run.specs.declared.lanes.LaneEnd.{LaneEnd}
+use Rattle.play_run.specs.inside.Books.{count_in}
+
+-- what the first lane of a session kept
+abbrev pub kept_of : ℕ → List LaneEnd → List KeptRow
+kept_of s [] = []
+kept_of s (end ∷ ends) = if end.session == s then end.kept.items else kept_of s ends
+
+-- what the lanes of the sessions below this number kept stands at the places of their numbers
+pub record HasLanes {V : Type 0} (kept : V → List KeptRow) (ends : List LaneEnd) (n : ℕ) (lanes : List V) : Type 0 where
+  pub size : length lanes ≡ 17
+  pub each : (s : ℕ) (d : V) → s < n → kept (get_or lanes s d) ≡ kept_of s ends
+
+-- rows that were kept have the numbers of a session's rows, and their places and answers are those of the history
+pub record AreAnswers (world : List Placed) (h : List Entry) (rows : List (ℕ × Op)) (kept : List KeptRow) : Type 0 where
+  pub numbers : map (λ (k : KeptRow). k.row) kept ≡ map (λ (r : ℕ × Op). r.0) rows
+  pub right : AreRight world h kept
+
+-- the lane of each session that has rows kept as many, with their numbers
+abbrev pub HasNumbers : List InRow → List LaneEnd → Type 0
+HasNumbers rows ends = (s : ℕ) → map (λ (k : KeptRow). k.row) (kept_of s ends) ≡ map (λ (r : ℕ × Op). r.0) (session_rows rows s)
+
+-- the kept rows of each session are the answers to its rows
+abbrev pub HasAnswers : List Placed → List Entry → List InRow → List LaneEnd → Type 0
+HasAnswers world h rows ends = (s : ℕ) → AreAnswers world h (session_rows rows s) (kept_of s ends)
+
+-- rows were played over a store of this origin
+pub record ArePlayed (w : ℕ) (origin : Origin) (rows : List InRow) (h : List Entry) : Type 0 where
+  pub played : IsPlayed (session_rows rows) h
+  pub loses : (cell : ℕ) → failed_cell h ≡ Some cell → LosesStep (IsNextStep w (start_of origin) rows) h cell
+
+-- each row was answered, and the splits at the end were settled
+pub record AreAnswered (w : ℕ) (origin : Origin) (rows : List InRow) (h : List Entry) (ends : List LaneEnd) : Type 0 where
+  pub whole : IsPlayedWhole (session_rows rows) h
+  pub answers : HasAnswers origin.world h rows ends
+  pub settled : (first : Option ℕ) → first_cells first ≡ origin.cells → failed_cell h ≡ None → IsSettled w origin.bucket (start_of origin) first h
+
+-- rows were played over a book
+pub record IsPlayedBook {D : Type 0} (w : ℕ) (rows : List InRow) (old new : BookView D) : Type 0 where
+  pub opening : new.opening ≡ old.opening
+  pub first : first_in new.log ≡ first_in old.log
+  pub played : IsPlayed (session_rows rows) new.entries
+  pub loses : (cell : ℕ) → failed_cell new.entries ≡ Some cell → LosesStep (IsNextStep w old.opening rows) new.entries cell
+
+-- each row was answered, and the splits at the end were settled
+pub record IsAnsweredBook {D : Type 0} (w : ℕ) (rows : List InRow) (old new : BookView D) (ends : List LaneEnd) : Type 0 where
+  pub whole : IsPlayedWhole (session_rows rows) new.entries
+  pub answers : HasAnswers old.opening.world new.entries rows ends
+  pub settled : failed_cell new.entries ≡ None → IsSettled w old.bucket old.opening (count_in old.log) new.entries
+
+-- leaves stand for these objects
+pub record HasObjects (leaves : List Leaf) (world : List Placed) : Type 0 where
+  pub is_world : IsWorld world
+  pub names : List (List Bool)
+  pub stands : Stands leaves world names
+
+-- the text is that of a history that gives the ends their answers, and for whose objects at the end the leaves stand
+pub record WritesText (report : Report) (rows : List InRow) (leaves : List Leaf) (ends : Option (List LaneEnd)) (status : ℕ) (old new : Output) : Type 0 where
+  pub some : List LaneEnd
+  pub ends_are : ends ≡ Some some
+  pub writes : (world : List Placed) (h : List Entry) → HasAnswers world h rows some → HasObjects leaves (world_after world h) → EndsWriting (text_of report rows world h) status old new
+
+-- how rows end that were played: an append failed, memory ran out, or the text is written
+abbrev pub EndsPlay : Report → List InRow → Option ℕ → List Leaf → Option (List LaneEnd) → ℕ → Output → Output → Type 0
+EndsPlay report rows failed leaves ends status old new =
+    ((cell : ℕ) × (failed ≡ Some cell) × Refuses (refusal.Disk (Some cell)) status old new)
+    ⊎ (((failed ≡ None) × Refuses refusal.Memory status old new)
+    ⊎ ((failed ≡ None) × WritesText report rows leaves ends status old new))

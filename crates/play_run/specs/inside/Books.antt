@@ -1,0 +1,76 @@
+-- Books over which rows are played, and what they leave.
+use Rattle.std.specs.Prelude.{◌≡◌, ◌⊎◌, ℕ, ◌≤◌, Bool, false, List, [], length, Option, Some, None, ⊤}
+use Rattle.std.specs.Option.{option_map}
+use Rattle.disk_trait.specs.Drive.{Drive, Stays}
+use Rattle.plain_list.specs.declared.entries.Entry.{Entry}
+use Rattle.plain_list.specs.State.{State}
+use Rattle.plain_list.specs.World.{IsWorld}
+use Rattle.recovery.specs.declared.seen.OpenFault.{OpenFault}
+use Rattle.recovery.specs.Faults.{IsFault, IsInBytes}
+use Rattle.kept_log.specs.KeptView.{KeptView}
+use Rattle.kept_log.specs.Journal.{cells_in, disk_in, KeepsIn}
+use Rattle.commit_book.specs.BookView.{BookView}
+use Rattle.sessions.specs.Shared.{first_in, StartsAs}
+use Rattle.csv_rows.specs.declared.rows.Refusal.{Refusal}
+use Rattle.csv_rows.specs.declared.rows.Refusal.TheVariants as refusal
+use Rattle.run_ends.specs.Limits.{width, most_played}
+use Rattle.plain_list.specs.declared.entries.Lost.{Lost}
+use Rattle.plain_list.specs.History.{failed_cell}
+use Rattle.lane_history.specs.LostSteps.{LosesStep}
+use Rattle.play_run.specs.Origin.{Origin, IsFoundOrigin}
+
+-- why rows over a book stop: memory ran out, or the append of a cell failed
+abbrev pub StopsBook : (List Entry → Lost → Type 0) → List Entry → Refusal → Type 0
+StopsBook Step h why = ((why ≡ refusal.Memory) × (failed_cell h ≡ None)) ⊎ ((cell : ℕ) × (why ≡ refusal.Disk (Some cell)) × LosesStep Step h cell)
+
+-- a book without entries, where there is room for rows, over a world
+pub record IsNewBook {D : Type 0} (b : BookView D) : Type 0 where
+  pub entries : b.entries ≡ []
+  pub few : cells_in b.log ≤ most_played
+  pub world : IsWorld b.opening.world
+
+-- a drive over which a log was opened is like this one: its bytes, images, moment, count and file
+pub record IsLike (old new : Drive) : Type 0 where
+  pub stays : Stays old new
+  pub calm : new.faults ≡ old.faults
+  pub attached : (file : List ℕ) (make : Bool) → old.attached file make → new.attached file make
+
+-- what is known of the opening of a log, or where there is none, who knows that of another
+abbrev pub is_unlogged : {D : Type 0} → Option (KeptView D) → Type 0
+is_unlogged None = ⊤
+is_unlogged (Some log) = ⊥
+
+abbrev pub is_opened : {D : Type 0} → (D → Drive) → Option (KeptView D) → Drive → Type 0
+is_opened drive None start = ⊥
+is_opened drive (Some log) start = IsLike (drive log.start) start
+
+-- neither has a log, or the drives over which they were opened are alike
+abbrev pub BeginsAs : {D : Type 0} → (D → Drive) → Option (KeptView D) → Option (KeptView D) → Type 0
+BeginsAs drive old new = StartsAs drive (is_unlogged old) (is_opened drive old) new
+
+-- the log that a book leaves keeps the history since the book began, and this is its drive
+pub record LeavesLog {D : Type 0} (drive : D → Drive) (s : State) (h : List Entry) (old : Option (KeptView D)) (disk : Option D) : Type 0 where
+  pub log : Option (KeptView D)
+  pub begins : BeginsAs drive old log
+  pub first : first_in log ≡ first_in old
+  pub keeps : KeepsIn drive width s h log
+  pub disk_is : disk ≡ disk_in log
+
+-- how many cells a book's log has, where there is one
+abbrev pub count_in : {D : Type 0} → Option (KeptView D) → Option ℕ
+count_in {D = D} log = option_map (λ (l : KeptView D). l.cells) log
+
+-- a book over the log that stood on a drive, whose bytes show no fault
+pub record OpensBook {D : Type 0} (drive : D → Drive) (file : List ℕ) (old : Drive) (size : ℕ) (b : BookView D) : Type 0 where
+  pub bucket : b.bucket ≡ size
+  pub log : KeptView D
+  pub log_is : b.log ≡ Some log
+  pub from : Origin
+  pub found : IsFoundOrigin old from
+  pub state : b.opening ≡ from.state
+  pub count : count_in b.log ≡ option_map length from.first
+  pub first : log.first ≡ log.cells
+  pub stays : Stays old (drive log.start)
+  pub calm : (drive log.start).faults ≡ old.faults
+  pub attached : (drive log.start).attached file false
+  pub shows : (bytes : List ℕ) (fault : OpenFault) → old.bytes ≡ Some bytes → IsInBytes fault → IsFault width most_played bytes fault → ⊥

@@ -1,0 +1,134 @@
+//! Rows that are played over a book, and how that ends.
+ghost use Rattle.std.specs.Prelude.{◌≡◌, IfSome};
+ghost use Rattle.std.specs.Option.{option_map};
+ghost use Rattle.csv_rows.specs.InRows.{AreInRows};
+ghost use Rattle.kept_log.specs.Journal.{disk_in, failed_cell};
+ghost use Rattle.play_run.specs.inside.Books.{IsNewBook};
+ghost use Rattle.play_run.specs.inside.Answered.{HasNumbers, EndsPlay};
+ghost use Rattle.play_run.specs.inside.Ended.{EndsBook};
+
+use crate::index::StoreIndex;
+use crate::lanes::LaneEnd;
+use crate::output::write_report;
+use crate::reports::Report;
+use crate::sessions_play::{Played, play_sessions};
+use commit_book::Book;
+use csv_rows::{InRow, Refusal};
+use disk_trait::LogDisk;
+use index_layer::Index;
+use io_edge::{Gate, Sink};
+use plain_list::Entries;
+use run_ends::{put_refusal, written};
+use std::alloc::Global;
+use std::marker::Brand;
+use std::sync::Wait;
+use std::thread::Threads;
+
+// In buckets of 64 a split has its two steps after some 32 puts.
+const ROWS_A_STEP: usize = 16;
+
+/// How rows end that are played over a book: a status, a history, and the drive of the log where there is one.
+#[derive(Drop)]
+pub(crate) struct BookEnd<D: LogDisk> {
+    pub(crate) status: u8,
+    pub(crate) events: Entries,
+    pub(crate) disk: Option<D>,
+}
+
+// What is left of a book whose rows were played: the cell whose append failed, what the lanes left where each row was answered, and what
+// the book held.
+#[derive(Drop)]
+struct Closed<I: Index, D: LogDisk> {
+    failed: Option<u64>,
+    ends: Option<Vec<LaneEnd>>,
+    index: I,
+    events: Entries,
+    disk: Option<D>,
+}
+
+/// Plays rows over a book with no entries so far, and tells what a report tells of them.
+pub(crate) fn play_book<R: Threads + Wait + Sync, K: Sink, D: LogDisk + Send, G: Gate + Sync>(
+    rt: &R,
+    alloc: Global,
+    rows: &[InRow],
+    report: Report,
+    book: Book<StoreIndex, D>,
+    sink: &mut K,
+    gate: &G,
+) -> BookEnd<D>
+    requires rows { AreInRows rows.now }
+    requires new { IsNewBook book }
+    ensures { EndsBook D.drive report rows.now book result.events result.status result.disk (K.output sink.old) (K.output sink.new) }
+{
+    let mut book = book;
+    book.make_room(rows.len() + rows.len() / ROWS_A_STEP);
+    let played = play_sessions::<R, StoreIndex, D, Brand, G>(rt, alloc, rows, book, gate);
+    end_book(report, rows, played, sink)
+}
+
+// Tells what a report tells of rows that were played over a book, and gives what the book held.
+fn end_book<I: Index, K: Sink, D: LogDisk>(
+    report: Report,
+    rows: &[InRow],
+    played: Played<I, D>,
+    sink: &mut K,
+) -> BookEnd<D>
+    requires rows { AreInRows rows.now }
+    requires numbers { IfSome played.ends (λ ends. HasNumbers rows.now ends.items) }
+    ensures ends { EndsPlay report rows.now (failed_cell played.book.entries) played.book.leaves (option_map (λ ends. ends.items) played.ends)
+        result.status (K.output sink.old) (K.output sink.new) }
+    ensures events { result.events ≡ played.book.entries }
+    ensures disk { result.disk ≡ disk_in played.book.log }
+{
+    let closed = close(played);
+    let status = write_end(report, rows, &closed, sink);
+    BookEnd {
+        status,
+        events: closed.events,
+        disk: closed.disk,
+    }
+}
+
+// Closes a book whose rows were played.
+fn close<I: Index, D: LogDisk>(played: Played<I, D>) -> Closed<I, D>
+    ensures failed { result.failed ≡ failed_cell played.book.entries }
+    ensures ends { result.ends ≡ played.ends }
+    ensures leaves { I.leaves result.index ≡ played.book.leaves }
+    ensures events { result.events ≡ played.book.entries }
+    ensures disk { result.disk ≡ disk_in played.book.log }
+{
+    let Played { book, ends } = played;
+    let failed = book.closed();
+    let parts = book.into_parts();
+    Closed {
+        failed,
+        ends,
+        index: parts.index,
+        events: parts.entries,
+        disk: parts.disk,
+    }
+}
+
+// Writes what a report tells of rows that were all answered, or the line of a refusal.
+fn write_end<I: Index, K: Sink, D: LogDisk>(
+    report: Report,
+    rows: &[InRow],
+    closed: &Closed<I, D>,
+    sink: &mut K,
+) -> u8
+    requires rows { AreInRows rows.now }
+    requires numbers { IfSome closed.now.ends (λ ends. HasNumbers rows.now ends.items) }
+    ensures { EndsPlay report rows.now closed.now.failed (I.leaves closed.now.index) (option_map (λ ends. ends.items) closed.now.ends)
+        result (K.output sink.old) (K.output sink.new) }
+{
+    if let Some(cell) = closed.failed {
+        return put_refusal(&Refusal::Disk { cell: Some(cell) }, sink);
+    }
+    match &closed.ends {
+        Some(ends) => {
+            let ends = ends.as_slice();
+            written(write_report(sink, report, rows, ends, &closed.index))
+        }
+        None => put_refusal(&Refusal::Memory, sink),
+    }
+}

@@ -1,0 +1,167 @@
+//! The command `play`: answers the rows of a source, and over a log keeps what they change.
+ghost use Rattle.std.specs.Prelude.{◌≡◌, true, [], Some, None, is_some};
+ghost use Rattle.csv_rows.specs.InRows.{AreInRows};
+ghost use Rattle.run_ends.specs.Ends.{ends, targets};
+ghost use Rattle.run_ends.specs.Taking.{Refuses};
+ghost use Rattle.command_words.specs.Asked.{file_of};
+ghost use Rattle.play_run.specs.Playing.{Goes, PlaysRows};
+
+use crate::index::StoreIndex;
+use crate::log_book::open_book;
+use crate::play_book::{BookEnd, play_book};
+use crate::reports::Report;
+use command_words::Command;
+use commit_book::Book;
+use csv_rows::{InRow, Refusal};
+use disk_trait::LogDisk;
+use io_edge::{Gate, Sink, Source};
+use plain_list::Entries;
+use run_ends::{Unmade, put_refusal, read_judged};
+use std::alloc::Global;
+use std::sync::Wait;
+use std::thread::Threads;
+
+/// How a play ends: a status, a history, and the drive back.
+#[derive(Drop)]
+pub struct Played<D: Drop> {
+    pub status: u8,
+    pub events: Entries,
+    pub disk: D,
+}
+
+/// Plays the rows of a source, over the log in a file of this name or over none, with buckets of this size.
+pub fn play<R: Threads + Wait + Sync, S: Source, K: Sink, D: LogDisk + Send, G: Gate + Sync>(
+    rt: &R,
+    alloc: Global,
+    log: Option<&str>,
+    size: u32,
+    source: &mut S,
+    sink: &mut K,
+    disk: D,
+    gate: &G,
+) -> Played<D>
+    ensures goes { Goes (file_of (Command.Play log.entry size)) size (ends S.input K.output D.drive source.old sink.old disk)
+        (ends S.input K.output D.drive source.new sink.new result.disk) result.status result.events }
+{
+    match read_judged(alloc, source) {
+        Ok(rows) => {
+            let rows = rows.as_slice();
+            play_rows(rt, alloc, rows, Report::Lines, log, size, sink, disk, gate)
+        }
+        Err(why) => refuse_on(alloc, &why, sink, disk),
+    }
+}
+
+/// Plays rows, over the log in a file of this name or over none, and tells what a report tells of them.
+pub(crate) fn play_rows<R: Threads + Wait + Sync, K: Sink, D: LogDisk + Send, G: Gate + Sync>(
+    rt: &R,
+    alloc: Global,
+    rows: &[InRow],
+    report: Report,
+    log: Option<&str>,
+    size: u32,
+    sink: &mut K,
+    disk: D,
+    gate: &G,
+) -> Played<D>
+    requires { AreInRows rows.now }
+    ensures plays { PlaysRows report (file_of (Command.Play log.entry size)) size rows.now (targets K.output D.drive sink.old disk)
+        (targets K.output D.drive sink.new result.disk) result.status result.events }
+{
+    match log {
+        Some(file) => play_over(rt, alloc, rows, report, file, size, sink, disk, gate),
+        None => play_new(rt, alloc, rows, report, size, sink, disk, gate),
+    }
+}
+
+// Plays rows over no log.
+fn play_new<R: Threads + Wait + Sync, K: Sink, D: LogDisk + Send, G: Gate + Sync>(
+    rt: &R,
+    alloc: Global,
+    rows: &[InRow],
+    report: Report,
+    size: u32,
+    sink: &mut K,
+    disk: D,
+    gate: &G,
+) -> Played<D>
+    requires { AreInRows rows.now }
+    ensures plays { PlaysRows report None size rows.now (targets K.output D.drive sink.old disk)
+        (targets K.output D.drive sink.new result.disk) result.status result.events }
+{
+    match Book::<StoreIndex, D>::fresh(alloc, size) {
+        Ok(book) => {
+            let end = play_book(rt, alloc, rows, report, book, sink, gate);
+            Played {
+                status: end.status,
+                events: end.events,
+                disk,
+            }
+        }
+        Err(_) => refuse_on(alloc, &Refusal::Memory, sink, disk),
+    }
+}
+
+// Plays rows over the log in a file.
+fn play_over<R: Threads + Wait + Sync, K: Sink, D: LogDisk + Send, G: Gate + Sync>(
+    rt: &R,
+    alloc: Global,
+    rows: &[InRow],
+    report: Report,
+    file: &str,
+    size: u32,
+    sink: &mut K,
+    disk: D,
+    gate: &G,
+) -> Played<D>
+    requires { AreInRows rows.now }
+    ensures plays { PlaysRows report (Some file.now) size rows.now (targets K.output D.drive sink.old disk)
+        (targets K.output D.drive sink.new result.disk) result.status result.events }
+{
+    match open_book(alloc, file, size, disk) {
+        Ok(book) => {
+            let end = play_book(rt, alloc, rows, report, book, sink, gate);
+            with_drive(end)
+        }
+        Err(Unmade { disk, why }) => refuse_on(alloc, &why, sink, disk),
+    }
+}
+
+// The drive, which a book over a log has.
+fn with_drive<D: LogDisk>(end: BookEnd<D>) -> Played<D>
+    requires { is_some end.disk ≡ true }
+    ensures { end ≡ record { status = result.status; events = result.events; disk = Some result.disk } }
+{
+    let BookEnd {
+        status,
+        events,
+        disk,
+    } = end;
+    match disk {
+        Some(disk) => Played {
+            status,
+            events,
+            disk,
+        },
+        None => unreachable!(),
+    }
+}
+
+/// Ends a play with a refusal, where no row was answered.
+pub(crate) fn refuse_on<K: Sink, D: LogDisk>(
+    alloc: Global,
+    why: &Refusal,
+    sink: &mut K,
+    disk: D,
+) -> Played<D>
+    ensures none { result.events ≡ [] }
+    ensures disk { result.disk ≡ disk }
+    ensures refused { Refuses why.now result.status (K.output sink.old) (K.output sink.new) }
+{
+    let status = put_refusal(why, sink);
+    Played {
+        status,
+        events: Entries::empty(alloc),
+        disk,
+    }
+}

@@ -1,0 +1,50 @@
+//! The command `trial`: plays rows that are made, and tells what they come to.
+ghost use Rattle.std.specs.Prelude.{◌≤◌};
+ghost use Rattle.run_ends.specs.Ends.{targets};
+ghost use Rattle.command_words.specs.Asked.{file_of};
+ghost use Rattle.play_run.specs.Trying.{PlaysMade};
+
+use crate::playing::{Played, play_rows, refuse_on};
+use crate::reports::Report;
+use command_words::{Command, Made};
+use csv_rows::Refusal;
+use disk_trait::LogDisk;
+use io_edge::{Gate, Sink};
+use make_moves::make;
+use run_ends::TRIAL_BUCKET;
+use std::alloc::Global;
+use std::sync::Wait;
+use std::thread::Threads;
+
+/// Plays made rows, over the log in a file of this name or over none.
+pub fn play_made<R: Threads + Wait + Sync, K: Sink, D: LogDisk + Send, G: Gate + Sync>(
+    rt: &R,
+    alloc: Global,
+    log: Option<&str>,
+    made: Made,
+    sink: &mut K,
+    disk: D,
+    gate: &G,
+) -> Played<D>
+    requires few { made.rows ≤ 65536 }
+    ensures goes { PlaysMade (file_of (Command.Trial log.entry made)) made (targets K.output D.drive sink.old disk)
+        (targets K.output D.drive sink.new result.disk) result.status result.events }
+{
+    match make(alloc, made.rows, made.seed) {
+        Ok(rows) => {
+            let rows = rows.as_slice();
+            play_rows(
+                rt,
+                alloc,
+                rows,
+                Report::Summary,
+                log,
+                TRIAL_BUCKET,
+                sink,
+                disk,
+                gate,
+            )
+        }
+        Err(_) => refuse_on(alloc, &Refusal::Memory, sink, disk),
+    }
+}

@@ -1,0 +1,58 @@
+-- How a run ends.
+use Rattle.std.proofs.Common.{◌≡◌, inl, inr, ℕ, List, Result, Ok, Err, sym, ◌∙◌, arith}
+use Rattle.std.specs.Result.{IsErr}
+use Rattle.causes.specs.Causes.{Counts}
+use Rattle.io_edge.specs.Puts.{Puts}
+use Rattle.csv_rows.specs.declared.rows.Refusal.{Refusal}
+use Rattle.csv_rows.specs.declared.rows.Refusal.TheVariants as refusal
+use Rattle.run_ends.specs.Status.{status_of, WritesLines}
+use Rattle.run_ends.specs.Taking.{TakesLine}
+use Rattle.run_ends.specs.Limits.{width}
+use Rattle.io_edge.specs.Streams.{Output}
+
+pub takes-from_puts : {T E : Type 0} (old new : Output) (text : List ℕ) (result : Result T E) → Puts old.taken new.taken text result → Counts old.faults new.faults result → TakesLine text old new
+takes-from_puts old new text (Ok x) bytes cause = inl bytes
+takes-from_puts old new text (Err e) bytes cause = inr (cause.failed, (bytes.0, bytes.2))
+
+-- a fault, handed on
+pub counts-lost : {T U E F : Type 0} (before now : ℕ) (e : E) (result : Result U F) → Counts {T = T} before now (Err e) → IsErr result → Counts before now result
+counts-lost before now e (Ok x) counts is = cc is
+counts-lost before now e (Err f) counts is = record { later = counts.later; same = tt; failed = counts.failed }
+
+-- a refusal's status is none of a run that writes lines
+pub no-lines : (why : Refusal) (status : ℕ) → status ≡ status_of why → WritesLines status → ⊥
+no-lines why status is writes = by_case why (by_line writes)
+  where
+    by_line : WritesLines status → WritesLines (status_of why)
+    by_line (inl e) = inl (sym is ∙ e)
+    by_line (inr e) = inr (sym is ∙ e)
+
+    by_case : (r : Refusal) → WritesLines (status_of r) → ⊥
+    by_case refusal.Usage (inl e) = omega (arith, e)
+    by_case refusal.Usage (inr e) = omega (arith, e)
+    by_case refusal.Header (inl e) = omega (arith, e)
+    by_case refusal.Header (inr e) = omega (arith, e)
+    by_case (refusal.Csv row) (inl e) = omega (arith, e)
+    by_case (refusal.Csv row) (inr e) = omega (arith, e)
+    by_case (refusal.Field row column) (inl e) = omega (arith, e)
+    by_case (refusal.Field row column) (inr e) = omega (arith, e)
+    by_case refusal.Source (inl e) = omega (arith, e)
+    by_case refusal.Source (inr e) = omega (arith, e)
+    by_case refusal.LongInput (inl e) = omega (arith, e)
+    by_case refusal.LongInput (inr e) = omega (arith, e)
+    by_case refusal.ManyRows (inl e) = omega (arith, e)
+    by_case refusal.ManyRows (inr e) = omega (arith, e)
+    by_case refusal.Memory (inl e) = omega (arith, e)
+    by_case refusal.Memory (inr e) = omega (arith, e)
+    by_case refusal.NotLog (inl e) = omega (arith, e)
+    by_case refusal.NotLog (inr e) = omega (arith, e)
+    by_case (refusal.OldLog version width) (inl e) = omega (arith, e)
+    by_case (refusal.OldLog version width) (inr e) = omega (arith, e)
+    by_case (refusal.Damaged cell cause) (inl e) = omega (arith, e)
+    by_case (refusal.Damaged cell cause) (inr e) = omega (arith, e)
+    by_case (refusal.Disk cell) (inl e) = omega (arith, e)
+    by_case (refusal.Disk cell) (inr e) = omega (arith, e)
+    by_case refusal.LongLog (inl e) = omega (arith, e)
+    by_case refusal.LongLog (inr e) = omega (arith, e)
+    by_case (refusal.InUse len) (inl e) = omega (arith, e)
+    by_case (refusal.InUse len) (inr e) = omega (arith, e)

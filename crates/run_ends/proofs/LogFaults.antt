@@ -1,0 +1,30 @@
+-- Why a log isn't read that was attached first.
+use Rattle.std.proofs.Common.{◌≡◌, ◌⊎◌, inl, inr, ◌∙◌, ℕ, ◌≤◌, List, Some, refl, ap}
+use Rattle.causes.specs.Causes.{Rose}
+use Rattle.disk_trait.specs.Drive.{Drive, Stays}
+use Rattle.recovery.specs.Faults.{IsFault}
+use Rattle.recovery.specs.Found.{IsFree}
+use Rattle.recovery.specs.declared.seen.OpenFault.{OpenFault}
+use Rattle.recovery.specs.declared.seen.OpenFault.TheVariants as open_fault
+use Rattle.recovery.proofs.OnlyReading.{rose-earlier}
+use Rattle.csv_rows.specs.declared.rows.Refusal.TheVariants as refusal
+use Rattle.run_ends.specs.LogFaults.{IsReadingCause, log_refusal}
+
+-- why a log isn't read
+pub reading-after : (most : ℕ) (a b c : Drive) (cause : OpenFault) → Stays a b → a.faults ≤ b.faults → ((bytes : List ℕ) → b.bytes ≡ Some bytes → IsFault 1 most bytes cause)
+    → (cause ≡ open_fault.Disk → Rose b.faults c.faults) → IsReadingCause most a c (log_refusal cause)
+reading-after most a b c open_fault.NotLog stays later wrong rose = λ bytes told. wrong bytes (stays.bytes ∙ told)
+reading-after most a b c (open_fault.OldLog version width) stays later wrong rose = λ bytes told. wrong bytes (stays.bytes ∙ told)
+reading-after most a b c (open_fault.Damaged cell cause) stays later wrong rose = λ bytes told. wrong bytes (stays.bytes ∙ told)
+reading-after most a b c open_fault.Disk stays later wrong rose = rose-earlier a.faults b.faults c.faults later (rose refl)
+reading-after most a b c open_fault.Memory stays later wrong rose = tt
+reading-after most a b c (open_fault.TooLong limit) stays later wrong rose = λ bytes told. (wrong bytes (stays.bytes ∙ told)).1
+
+-- an answer that the bytes don't decide is want of memory where the count didn't rise
+pub calm-free : (a b c : Drive) (fault : OpenFault) → a.faults ≤ b.faults → (Rose a.faults c.faults → ⊥) → IsFree b c fault → log_refusal fault ≡ refusal.Memory
+calm-free a b c fault later calm (inl e) = ap log_refusal e
+calm-free a b c fault later calm (inr rose) = absurd (calm (rose-earlier a.faults b.faults c.faults later rose))
+
+pub calm-named : (a b c : Drive) (why fault : OpenFault) → a.faults ≤ b.faults → (Rose a.faults c.faults → ⊥) → (why ≡ fault) ⊎ IsFree b c why → (log_refusal why ≡ log_refusal fault) ⊎ (log_refusal why ≡ refusal.Memory)
+calm-named a b c why fault later calm (inl e) = inl (ap log_refusal e)
+calm-named a b c why fault later calm (inr free) = inr (calm-free a b c why later calm free)

@@ -1,0 +1,29 @@
+-- What a source gives: the rows of all its bytes, or why there are none.
+use Rattle.std.specs.Prelude.{◌≡◌, ℕ, List, [], Some, Ok, Err, ⊤}
+use Rattle.causes.specs.Causes.{Rose}
+use Rattle.io_edge.specs.Streams.{Input}
+use Rattle.csv_rows.specs.declared.rows.InRow.{InRow}
+use Rattle.csv_rows.specs.declared.rows.Refusal.{Refusal}
+use Rattle.csv_rows.specs.declared.rows.Refusal.TheVariants as refusal
+use Rattle.run_ends.specs.Judged.{judged}
+
+-- where the bytes that a source had are known, this is what they give
+abbrev pub Gives : Input → Refusal → Type 0
+Gives old why = (bytes : List ℕ) → old.left ≡ Some bytes → judged bytes ≡ Err why
+
+-- why no rows are read: the source's count rose, memory ran out, or this is what is wrong first with its bytes
+abbrev pub IsInputCause : Input → Input → Refusal → Type 0
+IsInputCause old new refusal.Source = Rose old.faults new.faults
+IsInputCause old new refusal.Memory = ⊤
+IsInputCause old new refusal.Header = Gives old refusal.Header
+IsInputCause old new (refusal.Csv row) = Gives old (refusal.Csv row)
+IsInputCause old new (refusal.Field row column) = Gives old (refusal.Field row column)
+IsInputCause old new refusal.LongInput = Gives old refusal.LongInput
+IsInputCause old new refusal.ManyRows = Gives old refusal.ManyRows
+IsInputCause old new _ = ⊥
+
+-- all bytes that the source had were read; where they are known, these are their rows
+pub record Reads (old new : Input) (rows : List InRow) : Type 0 where
+  pub rows_are : (bytes : List ℕ) → old.left ≡ Some bytes → judged bytes ≡ Ok rows
+  pub all : (bytes : List ℕ) → old.left ≡ Some bytes → new.left ≡ Some []
+  pub calm : new.faults ≡ old.faults

@@ -1,0 +1,25 @@
+-- What an input gives: rows to play, or why there are none.
+use Rattle.std.specs.Prelude.{ℕ, nat_lt, List, length, if◌then◌else◌, Result, Ok, Err}
+use Rattle.csv_rows.specs.declared.rows.InRow.{InRow}
+use Rattle.csv_rows.specs.declared.rows.RowsFault.{RowsFault}
+use Rattle.csv_rows.specs.declared.rows.RowsFault.TheVariants as fault
+use Rattle.csv_rows.specs.declared.rows.Refusal.{Refusal}
+use Rattle.csv_rows.specs.declared.rows.Refusal.TheVariants as refusal
+use Rattle.csv_rows.specs.Rows.{rows_of}
+use Rattle.run_ends.specs.Limits.{most_bytes}
+
+-- the refusal of what is wrong with rows
+abbrev pub refusal_of : RowsFault → Refusal
+refusal_of fault.Header = refusal.Header
+refusal_of (fault.Csv row) = refusal.Csv row
+refusal_of (fault.Field row column) = refusal.Field row column
+refusal_of fault.TooMany = refusal.ManyRows
+refusal_of fault.Memory = refusal.Memory
+
+abbrev pub judged_rows : Result (List InRow) RowsFault → Result (List InRow) Refusal
+judged_rows (Ok rows) = Ok rows
+judged_rows (Err e) = Err (refusal_of e)
+
+-- the rows of an input that isn't too long, or the first thing that is wrong
+abbrev pub judged : List ℕ → Result (List InRow) Refusal
+judged input = if nat_lt most_bytes (length input) then Err refusal.LongInput else judged_rows (rows_of input)

@@ -1,0 +1,12 @@
+pub mod Limits
+pub mod Ends
+pub mod Judged
+pub mod Status
+pub mod Taking
+pub mod Ending
+pub mod LogFaults
+pub mod Inputs
+pub use Rattle.causes.specs.Causes
+pub use Rattle.disk_trait.specs.Drive
+pub use Rattle.io_edge.specs.Streams
+pub use Rattle.recovery.specs.Faults

@@ -1,0 +1,36 @@
+-- What goes wrong with a log: the refusal of each fault, and why a log isn't read.
+use Rattle.std.specs.Prelude.{◌≡◌, ℕ, List, Some, None, ⊤}
+use Rattle.causes.specs.Causes.{Rose}
+use Rattle.disk_trait.specs.Drive.{Drive}
+use Rattle.disk_trait.specs.declared.disk.AttachFault.{AttachFault}
+use Rattle.disk_trait.specs.declared.disk.AttachFault.TheVariants as attach_fault
+use Rattle.recovery.specs.Faults.{IsNotLog, IsOldLog, IsDamaged, IsTooLong}
+use Rattle.recovery.specs.declared.seen.OpenFault.{OpenFault}
+use Rattle.recovery.specs.declared.seen.OpenFault.TheVariants as open_fault
+use Rattle.csv_rows.specs.declared.rows.Refusal.{Refusal}
+use Rattle.csv_rows.specs.declared.rows.Refusal.TheVariants as refusal
+use Rattle.run_ends.specs.Limits.{width}
+
+-- the refusal where a file wasn't attached
+abbrev pub attach_refusal : AttachFault → Refusal
+attach_refusal attach_fault.Disk = refusal.Disk None
+attach_refusal attach_fault.Memory = refusal.Memory
+
+-- the refusal of a fault of a log
+abbrev pub log_refusal : OpenFault → Refusal
+log_refusal open_fault.NotLog = refusal.NotLog
+log_refusal (open_fault.OldLog version width) = refusal.OldLog version width
+log_refusal (open_fault.Damaged cell cause) = refusal.Damaged cell cause
+log_refusal open_fault.Disk = refusal.Disk None
+log_refusal open_fault.Memory = refusal.Memory
+log_refusal (open_fault.TooLong most) = refusal.LongLog
+
+-- why a log of at most so many cells isn't read: what is first at fault in its bytes, the drive's count rose, or memory ran out
+abbrev pub IsReadingCause : ℕ → Drive → Drive → Refusal → Type 0
+IsReadingCause most old new refusal.NotLog = (bytes : List ℕ) → old.bytes ≡ Some bytes → IsNotLog bytes
+IsReadingCause most old new (refusal.OldLog version w) = (bytes : List ℕ) → old.bytes ≡ Some bytes → IsOldLog width bytes version w
+IsReadingCause most old new (refusal.Damaged cell cause) = (bytes : List ℕ) → old.bytes ≡ Some bytes → IsDamaged width most bytes cell cause
+IsReadingCause most old new (refusal.Disk None) = Rose old.faults new.faults
+IsReadingCause most old new refusal.LongLog = (bytes : List ℕ) → old.bytes ≡ Some bytes → IsTooLong width most bytes
+IsReadingCause most old new refusal.Memory = ⊤
+IsReadingCause most old new _ = ⊥

@@ -1,0 +1,45 @@
+//! The rows of a source, or why there is nothing to play.
+ghost use Rattle.std.specs.Prelude.{◌≡◌, ◌≢◌, ◌≤◌, List, [], ℕ, Some, Ok, Err, IfOk, IfErr, length};
+ghost use Rattle.run_ends.specs.Limits.{most_bytes};
+ghost use Rattle.run_ends.specs.Judged.{judged, refusal_of};
+ghost use Rattle.run_ends.specs.Inputs.{IsInputCause, Reads};
+
+use crate::limits::MOST_BYTES;
+use csv_rows::{Refusal, Rows, RowsFault, read_rows};
+use io_edge::{ReadFault, Source, read_all};
+use std::alloc::Global;
+
+/// The rows of the source. The order of refusals: source, length of the input, rows.
+pub fn read_judged<S: Source>(alloc: Global, source: &mut S) -> Result<Rows, Refusal>
+    ensures rows { IfOk result (Reads (S.input source.old) (S.input source.new)) }
+    ensures cause { IfErr result (IsInputCause (S.input source.old) (S.input source.new)) }
+    ensures calm { IfErr result (λ why. why ≢ Refusal.Source → (S.input source.new).faults ≡ (S.input source.old).faults) }
+{
+    match read_all(alloc, source, MOST_BYTES) {
+        Ok(bytes) => judge(alloc, bytes.as_slice()),
+        Err(ReadFault::Source) => Err(Refusal::Source),
+        Err(ReadFault::TooLong) => Err(Refusal::LongInput),
+        Err(ReadFault::Memory) => Err(Refusal::Memory),
+    }
+}
+
+// The rows of an input that isn't too long.
+fn judge(alloc: Global, bytes: &[u8]) -> Result<Rows, Refusal>
+    requires { length bytes.now ≤ most_bytes }
+    ensures rows { IfOk result (λ rows. judged bytes.now ≡ Ok rows) }
+    ensures cause { IfErr result (λ why. why ≢ Refusal.Memory → judged bytes.now ≡ Err why) }
+{
+    read_rows(alloc, bytes).map_err(refusal_of)
+}
+
+fn refusal_of(fault: RowsFault) -> Refusal
+    ensures { result ≡ refusal_of fault }
+{
+    match fault {
+        RowsFault::Header => Refusal::Header,
+        RowsFault::Csv { row } => Refusal::Csv { row },
+        RowsFault::Field { row, column } => Refusal::Field { row, column },
+        RowsFault::TooMany => Refusal::ManyRows,
+        RowsFault::Memory => Refusal::Memory,
+    }
+}

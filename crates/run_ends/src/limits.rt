@@ -1,0 +1,16 @@
+//! The limits of a run, and the width of its splits.
+
+/// How many bits a leaf's children have more in their names.
+pub const WIDTH: u8 = 1;
+
+/// How many bytes an input may have.
+pub(crate) const MOST_BYTES: usize = 16_777_216;
+
+/// How many cells a log may have that is inspected.
+pub const MOST_CELLS: u64 = 16_777_216;
+
+/// How many points a bucket should have where made rows are played.
+pub const TRIAL_BUCKET: u32 = 64;
+
+/// How many cells a log may have over which rows are played.
+pub const MOST_PLAYED: u64 = 16_000_000;

@@ -1,0 +1,38 @@
+//! The refusals of what goes wrong with a log.
+ghost use Rattle.std.specs.Prelude.{◌≡◌};
+ghost use Rattle.run_ends.specs.LogFaults.{attach_refusal, log_refusal};
+
+use csv_rows::Refusal;
+use disk_trait::AttachFault;
+use recovery::OpenFault;
+
+/// The drive back, and why there is no log on it.
+#[derive(Drop)]
+pub struct Unmade<D: Drop> {
+    pub disk: D,
+    pub why: Refusal,
+}
+
+/// The refusal where a file wasn't attached.
+pub fn attach_refusal(fault: AttachFault) -> Refusal
+    ensures { result ≡ attach_refusal fault }
+{
+    match fault {
+        AttachFault::Disk => Refusal::Disk { cell: None },
+        AttachFault::Memory => Refusal::Memory,
+    }
+}
+
+/// The refusal of a fault of a log.
+pub fn log_refusal(fault: OpenFault) -> Refusal
+    ensures { result ≡ log_refusal fault }
+{
+    match fault {
+        OpenFault::NotLog => Refusal::NotLog,
+        OpenFault::OldLog { version, width } => Refusal::OldLog { version, width },
+        OpenFault::Damaged { cell, cause } => Refusal::Damaged { cell, cause },
+        OpenFault::Disk => Refusal::Disk { cell: None },
+        OpenFault::Memory => Refusal::Memory,
+        OpenFault::TooLong { most: _ } => Refusal::LongLog,
+    }
+}
