@@ -1,5 +1,6 @@
 pub mod RecordsFacts
 pub mod RowsFacts
+pub mod ColumnsFacts
 pub mod FieldsFacts
 pub mod NumbersFacts
 pub mod PiecesFacts

@@ -20,7 +20,8 @@ use Rattle.csv_rows.specs.Fields.{row_of}
 use Rattle.csv_rows.specs.InRows.{AreInRows, IsInRow}
 use Rattle.csv_rows.specs.Numbers.{is_between, is_number, number}
 use Rattle.csv_rows.specs.RowLines.{fields_line, header_line, op_fields, row_fields, row_line, rows_text}
-use Rattle.csv_rows.specs.Rows.{header_fields, rows_behind_header, rows_from, rows_of}
+use Rattle.csv_rows.specs.Columns.{header_fields}
+use Rattle.csv_rows.specs.Rows.{rows_behind_header, rows_from, rows_of}
 use Rattle.csv_rows.proofs.NumbersFacts.{is_between-yes, is_number-digits, numerals}
 use Rattle.csv_rows.proofs.RecordsFacts.{all_records}
 

@@ -10,17 +10,12 @@ use Rattle.std.proofs.Math.Seq.{take-length}
 use Rattle.plain_list.specs.declared.ops.Op.{Op}
 use Rattle.csv_rows.specs.declared.rows.InRow.{InRow}
 use Rattle.csv_rows.specs.InRows.{AreInRows, IsInRow}
-use Rattle.csv_rows.specs.RowLines.{header_line, op_fields, op_tail, row_line, rows_text}
+use Rattle.csv_rows.specs.RowLines.{header_line, line_then, op_fields, op_tail, row_line, rows_text}
 use Rattle.csv_rows.specs.Records.{rows_in}
 use Rattle.csv_rows.specs.Rows.{behind_mark, has_mark, rows_of}
 use Rattle.csv_rows.proofs.NumbersFacts.{numerals}
 use Rattle.csv_rows.proofs.RoundTrip.{rows_of-rows_text}
 use Rattle.csv_rows.proofs.RowsFacts.{all_by_recursion-push, rows_of-unmarked}
-
--- fields, each behind a comma, then the end of the line, and what stands behind it
-abbrev line_then : List (List ℕ) → List ℕ → List ℕ
-line_then [] rest = codes "\n" ++ rest
-line_then (field ∷ fields) rest = codes "," ++ (field ++ line_then fields rest)
 
 fields-then : (fields : List (List ℕ)) (rest : List ℕ) → (flat_map (λ (field : List ℕ). codes "," ++ field) fields ++ codes "\n") ++ rest ≡ line_then fields rest
 fields-then [] rest = refl
@@ -31,6 +26,10 @@ fields-then (field ∷ fields) rest =
 -- a text of an operation's fields is what is written of it
 pub op-written : (op : Op) (text rest : List ℕ) → text ≡ line_then (op_fields op) rest → text ≡ op_tail op ++ rest
 op-written op text rest e = e ∙ sym (fields-then (op_fields op) rest)
+
+-- what is written of an operation is its fields, each behind a comma, and the end of the line
+pub op_tail-line : (op : Op) → op_tail op ≡ line_then (op_fields op) []
+op_tail-line op = sym (append-nil (op_tail op)) ∙ fields-then (op_fields op) []
 
 first-taken : (text : List ℕ) (len : ℕ) → 0 < len → get_or (take len text) 0 0 ≡ get_or text 0 0
 first-taken text len some = grind (arith, some)

@@ -1,4 +1,5 @@
 pub mod Numbers
+pub mod Columns
 pub mod Fields
 pub mod Rows
 pub mod InRows

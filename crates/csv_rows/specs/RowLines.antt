@@ -3,17 +3,12 @@ use Rattle.std.specs.Prelude.{ℕ, List, [], ◌∷◌, ◌++◌, codes}
 use Rattle.std.specs.List.{flat_map, join_by}
 use Rattle.std.specs.Fmt.{decimal}
 use Rattle.plain_list.specs.declared.ops.Op.{Op}
-use Rattle.plain_list.specs.declared.ops.Op.TheVariants as op
+use Rattle.csv_rows.specs.Columns.{column_texts, columns_of, header_fields, word_by, word_text}
 use Rattle.csv_rows.specs.declared.rows.InRow.{InRow}
 
 -- columns 2 to 7 of an operation
 abbrev pub op_fields : Op → List (List ℕ)
-op_fields (op.Put id at) = codes "put" ∷ decimal id ∷ decimal at.x ∷ decimal at.y ∷ [] ∷ [] ∷ []
-op_fields (op.Move id at) = codes "move" ∷ decimal id ∷ decimal at.x ∷ decimal at.y ∷ [] ∷ [] ∷ []
-op_fields (op.Remove id) = codes "drop" ∷ decimal id ∷ [] ∷ [] ∷ [] ∷ [] ∷ []
-op_fields (op.Find id) = codes "where" ∷ decimal id ∷ [] ∷ [] ∷ [] ∷ [] ∷ []
-op_fields (op.Within region) = codes "box" ∷ [] ∷ decimal region.lo.x ∷ decimal region.lo.y ∷ decimal region.hi.x ∷ decimal region.hi.y ∷ []
-op_fields (op.Near at k) = codes "near" ∷ [] ∷ decimal at.x ∷ decimal at.y ∷ decimal k ∷ [] ∷ []
+op_fields op = word_text (word_by op) ∷ column_texts (word_by op) (columns_of op)
 
 -- the seven columns of a row
 abbrev pub row_fields : InRow → List (List ℕ)
@@ -23,15 +18,22 @@ row_fields row = decimal row.session ∷ op_fields row.op
 abbrev pub fields_line : List (List ℕ) → List ℕ
 fields_line fields = join_by (λ field. field) (codes ",") fields ++ codes "\n"
 
+-- fields, each behind a comma, then the end of the line, and what stands behind it
+abbrev pub line_then : List (List ℕ) → List ℕ → List ℕ
+line_then [] rest = codes "\n" ++ rest
+line_then (field ∷ fields) rest = codes "," ++ (field ++ line_then fields rest)
+
 -- what stands behind the session in the line of a row
 abbrev pub op_tail : Op → List ℕ
 op_tail op = flat_map (λ (field : List ℕ). codes "," ++ field) (op_fields op) ++ codes "\n"
 
+-- the line of a row
 abbrev pub row_line : InRow → List ℕ
 row_line row = fields_line (row_fields row)
 
+-- the first line
 abbrev pub header_line : List ℕ
-header_line = codes "session,op,id,x,y,a,b\n"
+header_line = fields_line header_fields
 
 -- the header and the rows
 unfoldable pub rows_text : List InRow → List ℕ

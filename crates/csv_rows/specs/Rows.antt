@@ -1,5 +1,5 @@
 -- The rows of a text of CSV.
-use Rattle.std.specs.Prelude.{ℕ, ◌+◌, nat_lt, Bool, List, [], ◌∷◌, drop, if◌then◌else◌, Result, Ok, Err, codes, nat_eq}
+use Rattle.std.specs.Prelude.{ℕ, ◌+◌, nat_lt, Bool, List, [], ◌∷◌, drop, if◌then◌else◌, Result, Ok, Err, nat_eq}
 use Rattle.std.specs.List.{starts_with}
 use Rattle.std.specs.Cmp.Lexicographic.{pointwise}
 use Rattle.csv.specs.Reading.{default_config, records}
@@ -8,6 +8,7 @@ use Rattle.csv_rows.specs.declared.rows.RowsFault.{RowsFault}
 use Rattle.csv_rows.specs.declared.rows.RowsFault.TheVariants.{Header, Csv, Field, TooMany}
 use Rattle.csv_rows.specs.declared.rows.Wrong.{Wrong}
 use Rattle.csv_rows.specs.declared.rows.Wrong.TheVariants.{Length, Column}
+use Rattle.csv_rows.specs.Columns.{header_fields}
 use Rattle.csv_rows.specs.Fields.{row_of, is_text}
 
 -- whether a text begins with the byte order mark
@@ -17,10 +18,6 @@ has_mark bytes = starts_with nat_eq bytes (0xEF ∷ 0xBB ∷ 0xBF ∷ [])
 -- a text behind its mark, if it has one
 abbrev pub behind_mark : List ℕ → List ℕ
 behind_mark bytes = if has_mark bytes then drop 3 bytes else bytes
-
--- the fields of the first record
-abbrev pub header_fields : List (List ℕ)
-header_fields = codes "session" ∷ codes "op" ∷ codes "id" ∷ codes "x" ∷ codes "y" ∷ codes "a" ∷ codes "b" ∷ []
 
 abbrev pub is_header : List (List ℕ) → Bool
 is_header fields = pointwise is_text fields header_fields

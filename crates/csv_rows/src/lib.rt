@@ -10,6 +10,7 @@
 //! Not here: what an operation answers (`plain_list`), which refusal comes when (`location_run`).
 #![tactic(auto)]
 
+mod columns;
 mod fields;
 mod gathering;
 mod lines;

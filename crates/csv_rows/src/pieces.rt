@@ -40,7 +40,8 @@ pub(crate) fn push_str(piece: &mut Piece, text: &str)
     push_bytes(piece, text.as_bytes());
 }
 
-fn push_bytes(piece: &mut Piece, bytes: &[u8])
+/// Adds bytes, for which there is room.
+pub(crate) fn push_bytes(piece: &mut Piece, bytes: &[u8])
     requires { array_vec_len piece.old + length bytes.now ≤ 65536 }
     ensures bytes { piece.new.items ≡ piece.old.items ++ bytes.now }
     ensures len { array_vec_len piece.new ≡ array_vec_len piece.old + length bytes.now }

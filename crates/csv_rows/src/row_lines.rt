@@ -5,13 +5,15 @@ ghost use Rattle.arrayvec.specs.ArrayVec.{array_vec_len};
 ghost use Rattle.causes.specs.Causes.{Counts};
 ghost use Rattle.io_edge.specs.Puts.{Puts};
 ghost use Rattle.csv_rows.specs.Rows.{rows_of};
-ghost use Rattle.csv_rows.specs.RowLines.{row_line, rows_text};
+ghost use Rattle.csv_rows.specs.Columns.{text_by};
+ghost use Rattle.csv_rows.specs.RowLines.{header_line, op_tail, row_line, rows_text};
 
-use crate::pieces::{Piece, add_number, add_point, make_room, push_str};
+use crate::columns::{Rule, columns_of, rules_of, text_of, word_by};
+use crate::fields::HEADER;
+use crate::pieces::{Piece, add_number, make_room, push_bytes, push_str};
 use crate::rows::{InRow, Rows};
 use io_edge::{Sink, SinkFault};
 use plain_list::Op;
-use zorder::{Point, Region};
 
 /// Writes the header and the rows, in pieces of up to 64 KiB.
 pub fn write_rows<K: Sink>(sink: &mut K, rows: &Rows) -> Result<(), SinkFault>
@@ -20,12 +22,37 @@ pub fn write_rows<K: Sink>(sink: &mut K, rows: &Rows) -> Result<(), SinkFault>
     ensures again { rows_of (rows_text rows.now) ≡ Ok rows.now }
 {
     let mut piece = Piece::new();
-    push_str(&mut piece, "session,op,id,x,y,a,b\n");
+    add_header(&mut piece);
     for row in rows.as_slice() {
         make_room(sink, &mut piece)?;
         add_row(&mut piece, row);
     }
     sink.put(piece.as_slice())
+}
+
+/// Adds the first line.
+pub(crate) fn add_header(piece: &mut Piece)
+    requires { array_vec_len piece.old ≤ 65408 }
+    ensures { piece.new.items ≡ piece.old.items ++ header_line }
+{
+    push_bytes(piece, HEADER.session);
+    add_field(piece, HEADER.op);
+    add_field(piece, HEADER.columns.id);
+    add_field(piece, HEADER.columns.x);
+    add_field(piece, HEADER.columns.y);
+    add_field(piece, HEADER.columns.a);
+    add_field(piece, HEADER.columns.b);
+    push_str(piece, "\n");
+}
+
+// Adds a comma and a field.
+fn add_field(piece: &mut Piece, field: &[u8])
+    requires { array_vec_len piece.old + length field.now ≤ 65535 }
+    ensures bytes { piece.new.items ≡ piece.old.items ++ (codes "," ++ field.now) }
+    ensures len { array_vec_len piece.new ≡ array_vec_len piece.old + (1 + length field.now) }
+{
+    push_str(piece, ",");
+    push_bytes(piece, field);
 }
 
 fn add_row(piece: &mut Piece, row: &InRow)
@@ -34,63 +61,37 @@ fn add_row(piece: &mut Piece, row: &InRow)
     ensures len { array_vec_len piece.new ≤ array_vec_len piece.old + 120 }
 {
     add_number(piece, u64::from(row.session));
-    match row.op {
-        Op::Put { id, at } => add_placed_op(piece, ",put,", id, at),
-        Op::Move { id, at } => add_placed_op(piece, ",move,", id, at),
-        Op::Remove { id } => add_id_op(piece, ",drop,", id),
-        Op::Find { id } => add_id_op(piece, ",where,", id),
-        Op::Within { region } => add_box(piece, region),
-        Op::Near { at, k } => add_near(piece, at, k),
-    }
+    add_op(piece, &row.op);
 }
 
-fn add_placed_op(piece: &mut Piece, word: &str, id: u64, at: Point)
-    requires room { array_vec_len piece.old ≤ 65428 }
-    requires word { length word.now ≤ 7 }
-    ensures bytes { piece.new.items
-        ≡ piece.old.items ++ word.now ++ decimal id ++ codes "," ++ decimal at.x ++ codes "," ++ decimal at.y ++ codes ",,\n" }
-    ensures len { array_vec_len piece.new ≤ array_vec_len piece.old + 100 }
+// Adds what stands behind the session.
+fn add_op(piece: &mut Piece, op: &Op)
+    requires { array_vec_len piece.old ≤ 65424 }
+    ensures bytes { piece.new.items ≡ piece.old.items ++ op_tail op.now }
+    ensures len { array_vec_len piece.new ≤ array_vec_len piece.old + 112 }
 {
-    push_str(piece, word);
-    add_number(piece, id);
+    let word = word_by(op);
+    let columns = columns_of(op);
+    let rules = rules_of(word, columns.x, columns.y);
     push_str(piece, ",");
-    add_point(piece, at, b',');
-    push_str(piece, ",,\n");
-}
-
-fn add_id_op(piece: &mut Piece, word: &str, id: u64)
-    requires room { array_vec_len piece.old ≤ 65428 }
-    requires word { length word.now ≤ 7 }
-    ensures bytes { piece.new.items ≡ piece.old.items ++ word.now ++ decimal id ++ codes ",,,,\n" }
-    ensures len { array_vec_len piece.new ≤ array_vec_len piece.old + 100 }
-{
-    push_str(piece, word);
-    add_number(piece, id);
-    push_str(piece, ",,,,\n");
-}
-
-fn add_box(piece: &mut Piece, region: Region)
-    requires { array_vec_len piece.old ≤ 65428 }
-    ensures bytes { piece.new.items ≡ piece.old.items ++ codes ",box,," ++ decimal region.lo.x ++ codes "," ++ decimal region.lo.y
-        ++ codes "," ++ decimal region.hi.x ++ codes "," ++ decimal region.hi.y ++ codes "\n" }
-    ensures len { array_vec_len piece.new ≤ array_vec_len piece.old + 100 }
-{
-    push_str(piece, ",box,,");
-    add_point(piece, region.lo, b',');
-    push_str(piece, ",");
-    add_point(piece, region.hi, b',');
+    push_str(piece, text_of(word));
+    add_column(piece, rules.id, columns.id);
+    add_column(piece, rules.x, columns.x);
+    add_column(piece, rules.y, columns.y);
+    add_column(piece, rules.a, columns.a);
+    add_column(piece, rules.b, columns.b);
     push_str(piece, "\n");
 }
 
-fn add_near(piece: &mut Piece, at: Point, k: u32)
-    requires { array_vec_len piece.old ≤ 65428 }
-    ensures bytes { piece.new.items
-        ≡ piece.old.items ++ codes ",near,," ++ decimal at.x ++ codes "," ++ decimal at.y ++ codes "," ++ decimal k ++ codes ",\n" }
-    ensures len { array_vec_len piece.new ≤ array_vec_len piece.old + 100 }
+// Adds a comma and a column with this rule.
+fn add_column(piece: &mut Piece, rule: Rule, number: u64)
+    requires { array_vec_len piece.old ≤ 65515 }
+    ensures bytes { piece.new.items ≡ piece.old.items ++ (codes "," ++ text_by rule number) }
+    ensures len { array_vec_len piece.new ≤ array_vec_len piece.old + 21 }
 {
-    push_str(piece, ",near,,");
-    add_point(piece, at, b',');
     push_str(piece, ",");
-    add_number(piece, u64::from(k));
-    push_str(piece, ",\n");
+    match rule {
+        Rule::Empty => {}
+        Rule::Between { .. } => add_number(piece, number),
+    }
 }

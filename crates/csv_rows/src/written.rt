@@ -4,25 +4,24 @@
 //! text, and of one with a fault, nothing is said here: `read` has `csv` decide.
 //!
 //! A function here is left by `let else`, not by `?`, which takes twice the proof where a part is an `Option`.
-ghost use Rattle.std.specs.Prelude.{◌≡◌, ◌≤◌, ◌<◌, ◌^◌, ◌∷◌, ◌++◌, codes, IfOk, IfErr, IfSome};
+ghost use Rattle.std.specs.Prelude.{◌≡◌, ◌≢◌, ◌≤◌, ◌<◌, ◌^◌, ℕ, List, ◌++◌, codes, IfOk, IfErr, IfSome, MatchOption};
 ghost use Rattle.std.specs.Fmt.{decimal};
 ghost use Rattle.plain_list.specs.Answer.{IsValid, FitsOp};
-ghost use Rattle.zorder.specs.Key.{IsPoint};
 ghost use Rattle.csv_rows.specs.InRows.{AreInRows, IsInRow};
-ghost use Rattle.csv_rows.specs.RowLines.{header_line, op_tail, row_line, rows_text};
+ghost use Rattle.csv_rows.specs.Columns.{AreKept, Fits, column_texts, text_by};
+ghost use Rattle.csv_rows.specs.RowLines.{header_line, line_then, op_tail, row_line, rows_text};
 
-use crate::fields::COORDINATE_MAX;
+use crate::columns::{Columns, Rule, Word, op_of, rules_of, text_of};
 use crate::numbers::front_number;
+use crate::pieces::Piece;
 use crate::read::MOST_ROWS;
+use crate::row_lines::add_header;
 use crate::rows::{InRow, Rows, RowsFault};
 use plain_list::Op;
 use std::alloc::Global;
-use zorder::{Point, Region};
 
 // Room is taken at once for the rows that a text of this many bytes a row has.
 const BYTES_A_ROW: usize = 32;
-
-const ORIGIN: Point = Point { x: 0, y: 0 };
 
 /// The rows of a text that `write_rows` writes of them; none where it is another text.
 pub(crate) fn written_rows(alloc: Global, text: &[u8]) -> Result<Option<Rows>, RowsFault>
@@ -54,7 +53,16 @@ pub(crate) fn written_rows(alloc: Global, text: &[u8]) -> Result<Option<Rows>, R
 fn behind_header(text: &[u8]) -> Option<&[u8]>
     ensures { IfSome result (λ lines. text.now ≡ header_line ++ lines.now) }
 {
-    text.strip_prefix(b"session,op,id,x,y,a,b\n".as_slice())
+    let mut header = Piece::new();
+    add_header(&mut header);
+    behind_front(text, header.as_slice())
+}
+
+#[inline(always)]
+fn behind_front<'a>(text: &'a [u8], front: &[u8]) -> Option<&'a [u8]>
+    ensures { MatchOption result ((rest : List ℕ) → text.now ≢ front.now ++ rest) (λ rest. text.now ≡ front.now ++ rest.now) }
+{
+    text.strip_prefix(front)
 }
 
 // A row, and what stands behind its line.
@@ -75,177 +83,86 @@ fn take_row(text: &[u8]) -> Option<(InRow, &[u8])>
     Some((row, rest))
 }
 
+// What the fields behind the session say, and what stands behind their line.
 fn take_op(text: &[u8]) -> Option<(Op, &[u8])>
     ensures tail { IfSome result (λ p. text.now ≡ op_tail p.0 ++ p.1.now) }
     ensures rules { IfSome result (λ p. IsValid p.0 × FitsOp p.0) }
 {
-    let [b',', first, rest @ ..] = text else {
+    let [b',', rest @ ..] = text else {
         return None;
     };
+    let [first, ..] = rest else {
+        return None;
+    };
+    // Each word is taken by code of its own, in which its rules are constants.
     match *first {
-        b'p' => take_put(rest),
-        b'm' => take_move(rest),
-        b'd' => take_remove(rest),
-        b'w' => take_find(rest),
-        b'b' => take_box(rest),
-        b'n' => take_near(rest),
+        b'p' => take_as(Word::Put, rest),
+        b'm' => take_as(Word::Move, rest),
+        b'd' => take_as(Word::Drop, rest),
+        b'w' => take_as(Word::Where, rest),
+        b'b' => take_as(Word::Box, rest),
+        b'n' => take_as(Word::Near, rest),
         _ => None,
     }
 }
 
-fn take_put(text: &[u8]) -> Option<(Op, &[u8])>
-    ensures tail { IfSome result (λ p. codes ",p" ++ text.now ≡ op_tail p.0 ++ p.1.now) }
+// The same of a text that begins with this word.
+#[inline(always)]
+fn take_as(word: Word, text: &[u8]) -> Option<(Op, &[u8])>
+    ensures tail { IfSome result (λ p. codes "," ++ text.now ≡ op_tail p.0 ++ p.1.now) }
     ensures rules { IfSome result (λ p. IsValid p.0 × FitsOp p.0) }
 {
-    let [b'u', b't', b',', rest @ ..] = text else {
+    let Some(rest) = behind_front(text, text_of(word).as_bytes()) else {
         return None;
     };
-    let Some((id, at, rest)) = take_placed(rest) else {
+    let Some((columns, rest)) = take_columns(word, rest) else {
         return None;
     };
-    Some((Op::Put { id, at }, rest))
+    Some((op_of(word, columns), rest))
 }
 
-fn take_move(text: &[u8]) -> Option<(Op, &[u8])>
-    ensures tail { IfSome result (λ p. codes ",m" ++ text.now ≡ op_tail p.0 ++ p.1.now) }
-    ensures rules { IfSome result (λ p. IsValid p.0 × FitsOp p.0) }
+// The columns behind a word, and what stands behind their line.
+#[inline(always)]
+fn take_columns(word: Word, text: &[u8]) -> Option<(Columns<u64>, &[u8])>
+    ensures texts { IfSome result (λ p. text.now ≡ line_then (column_texts word p.0) p.1.now) }
+    ensures kept { IfSome result (λ p. AreKept word p.0) }
 {
-    let [b'o', b'v', b'e', b',', rest @ ..] = text else {
+    let rules = rules_of(word, 0, 0);
+    let Some((id, rest)) = take_column(rules.id, text) else {
         return None;
     };
-    let Some((id, at, rest)) = take_placed(rest) else {
+    let Some((x, rest)) = take_column(rules.x, rest) else {
         return None;
     };
-    Some((Op::Move { id, at }, rest))
-}
-
-fn take_remove(text: &[u8]) -> Option<(Op, &[u8])>
-    ensures tail { IfSome result (λ p. codes ",d" ++ text.now ≡ op_tail p.0 ++ p.1.now) }
-    ensures rules { IfSome result (λ p. IsValid p.0 × FitsOp p.0) }
-{
-    let [b'r', b'o', b'p', b',', rest @ ..] = text else {
+    let Some((y, rest)) = take_column(rules.y, rest) else {
         return None;
     };
-    let Some((id, rest)) = take_id(rest) else {
+    let rules = rules_of(word, x, y);
+    let Some((a, rest)) = take_column(rules.a, rest) else {
         return None;
     };
-    Some((Op::Remove { id }, rest))
-}
-
-fn take_find(text: &[u8]) -> Option<(Op, &[u8])>
-    ensures tail { IfSome result (λ p. codes ",w" ++ text.now ≡ op_tail p.0 ++ p.1.now) }
-    ensures rules { IfSome result (λ p. IsValid p.0 × FitsOp p.0) }
-{
-    let [b'h', b'e', b'r', b'e', b',', rest @ ..] = text else {
-        return None;
-    };
-    let Some((id, rest)) = take_id(rest) else {
-        return None;
-    };
-    Some((Op::Find { id }, rest))
-}
-
-fn take_box(text: &[u8]) -> Option<(Op, &[u8])>
-    ensures tail { IfSome result (λ p. codes ",b" ++ text.now ≡ op_tail p.0 ++ p.1.now) }
-    ensures rules { IfSome result (λ p. IsValid p.0 × FitsOp p.0) }
-{
-    let [b'o', b'x', b',', b',', rest @ ..] = text else {
-        return None;
-    };
-    let Some((lo, rest)) = take_point(rest, ORIGIN, b',') else {
-        return None;
-    };
-    let Some((hi, rest)) = take_point(rest, lo, b'\n') else {
-        return None;
-    };
-    let region = Region { lo, hi };
-    Some((Op::Within { region }, rest))
-}
-
-fn take_near(text: &[u8]) -> Option<(Op, &[u8])>
-    ensures tail { IfSome result (λ p. codes ",n" ++ text.now ≡ op_tail p.0 ++ p.1.now) }
-    ensures rules { IfSome result (λ p. IsValid p.0 × FitsOp p.0) }
-{
-    let [b'e', b'a', b'r', b',', b',', rest @ ..] = text else {
-        return None;
-    };
-    let Some((at, rest)) = take_point(rest, ORIGIN, b',') else {
-        return None;
-    };
-    let Some((k, rest)) = take_column(rest, 1, 2048, b',') else {
+    let Some((b, rest)) = take_column(rules.b, rest) else {
         return None;
     };
     let [b'\n', rest @ ..] = rest else {
         return None;
     };
-    Some((Op::Near { at, k: k as u32 }, rest))
+    Some((Columns { id, x, y, a, b }, rest))
 }
 
-// An id and a point, and nothing else: what put and move say.
-fn take_placed(text: &[u8]) -> Option<(u64, Point, &[u8])>
-    ensures text { IfSome result (λ p. text.now ≡ decimal p.0 ++ (codes "," ++ (decimal p.1.x ++ (codes "," ++ (decimal p.1.y ++ (codes ",,\n" ++ p.2.now)))))) }
-    ensures fits { IfSome result (λ p. (p.0 < 2 ^ 64) × IsPoint p.1) }
+// A comma and a column that keeps a rule, and what stands behind it.
+#[inline(always)]
+fn take_column(rule: Rule, text: &[u8]) -> Option<(u64, &[u8])>
+    ensures text { IfSome result (λ p. text.now ≡ codes "," ++ (text_by rule p.0 ++ p.1.now)) }
+    ensures fits { IfSome result (λ p. Fits rule p.0) }
 {
-    let Some((id, rest)) = take_column(text, 0, u64::MAX, b',') else {
+    let [b',', rest @ ..] = text else {
         return None;
     };
-    let Some((at, rest)) = take_point(rest, ORIGIN, b',') else {
-        return None;
-    };
-    let [b',', b'\n', rest @ ..] = rest else {
-        return None;
-    };
-    Some((id, at, rest))
-}
-
-// An id alone: what drop and where say.
-fn take_id(text: &[u8]) -> Option<(u64, &[u8])>
-    ensures text { IfSome result (λ p. text.now ≡ decimal p.0 ++ (codes ",,,,\n" ++ p.1.now)) }
-    ensures fits { IfSome result (λ p. p.0 < 2 ^ 64) }
-{
-    let Some((id, rest)) = take_column(text, 0, u64::MAX, b',') else {
-        return None;
-    };
-    let [b',', b',', b',', b'\n', rest @ ..] = rest else {
-        return None;
-    };
-    Some((id, rest))
-}
-
-// A point that isn't below another, and what stands behind it and this mark.
-fn take_point(text: &[u8], low: Point, mark: u8) -> Option<(Point, &[u8])>
-    ensures text { IfSome result (λ p. text.now ≡ decimal p.0.x ++ (codes "," ++ (decimal p.0.y ++ (mark ∷ p.1.now)))) }
-    ensures fits { IfSome result (λ p. IsPoint p.0) }
-    ensures above { IfSome result (λ p. (low.x ≤ p.0.x) × (low.y ≤ p.0.y)) }
-{
-    let Some((x, rest)) = take_column(text, u64::from(low.x), COORDINATE_MAX, b',') else {
-        return None;
-    };
-    let Some((y, rest)) = take_column(rest, u64::from(low.y), COORDINATE_MAX, mark) else {
-        return None;
-    };
-    let at = Point {
-        x: x as u32,
-        y: y as u32,
-    };
-    Some((at, rest))
-}
-
-// A number between these two, and what stands behind it and this mark.
-fn take_column(text: &[u8], low: u64, high: u64, mark: u8) -> Option<(u64, &[u8])>
-    ensures text { IfSome result (λ p. text.now ≡ decimal p.0 ++ (mark ∷ p.1.now)) }
-    ensures between { IfSome result (λ p. (low ≤ p.0) × (p.0 ≤ high)) }
-{
-    let Some((number, rest)) = take_number(text, low, high) else {
-        return None;
-    };
-    let [first, rest @ ..] = rest else {
-        return None;
-    };
-    if *first != mark {
-        return None;
+    match rule {
+        Rule::Empty => Some((0, rest)),
+        Rule::Between { low, high } => take_number(rest, low, high),
     }
-    Some((number, rest))
 }
 
 // A number between these two, and what stands behind it. It has no leading zero, and at most nineteen digits.

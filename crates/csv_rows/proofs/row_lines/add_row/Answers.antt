@@ -1,14 +1,20 @@
-use Rattle.csv_rows.proofs.LinesFacts.{box-line, move-line, near-line, put-line}
+use Rattle.std.proofs.Common.{◌≡◌, ◌∙◌, ◌+◌, ◌≤◌, ◌<◌, ◌++◌, ℕ, List, length, ap, arith, length-append}
+use Rattle.std.specs.Fmt.{decimal}
+use Rattle.std.proofs.lemmas.Fmt.{length-decimal-le}
 use Rattle.csv_rows.proofs.row_lines.add_row.Goals as goal
 
-pub returns-in-Put-clause-bytes : goal.returns-in-Put-clause-bytes
-returns-in-Put-clause-bytes c = rw (c.add_placed_op.ensures.bytes, c.add_number.ensures.bytes, c.from.ensures, c.in-Put.is) (put-line _ _ _ _ _)
+-- a session has three digits at most
+session-short : (old new : List ℕ) (session : ℕ) → session < 256 → new ≡ old ++ decimal session → length new ≤ length old + 3
+session-short old new session few is =
+    let digits : length (decimal session) ≤ 3 = length-decimal-le 3 session (omega arith) (omega arith) (omega arith) in
+    omega (arith, ap length is ∙ length-append old (decimal session))
 
-pub returns-in-Move-clause-bytes : goal.returns-in-Move-clause-bytes
-returns-in-Move-clause-bytes c = rw (c.add_placed_op-in-Move.ensures.bytes, c.add_number.ensures.bytes, c.from.ensures, c.in-Move.is) (move-line _ _ _ _ _)
+pub add_op-requires : goal.add_op-requires
+add_op-requires c =
+    let short = session-short _ _ c.from.result (omega (arith, c.from.ensures)) c.add_number.ensures.bytes in
+    omega (arith, short, c.requires)
 
-pub returns-in-Within-clause-bytes : goal.returns-in-Within-clause-bytes
-returns-in-Within-clause-bytes c = rw (c.add_box.ensures.bytes, c.add_number.ensures.bytes, c.from.ensures, c.in-Within.is) (box-line _ _ _ _ _ _)
-
-pub returns-in-Near-clause-bytes : goal.returns-in-Near-clause-bytes
-returns-in-Near-clause-bytes c = rw (c.add_near.ensures.bytes, c.add_number.ensures.bytes, c.from.ensures, c.in-Near.is) (near-line _ _ _ _ _)
+pub returns-clause-len : goal.returns-clause-len
+returns-clause-len c =
+    let short = session-short _ _ c.from.result (omega (arith, c.from.ensures)) c.add_number.ensures.bytes in
+    omega (arith, short, c.add_op.ensures.len)
