@@ -10,14 +10,14 @@ use Rattle.plain_list.specs.declared.ops.Op.{Op}
 use Rattle.plain_list.specs.declared.ops.Op.TheVariants as op
 use Rattle.plain_list.specs.Answer.{IsValid, FitsOp}
 use Rattle.csv_rows.specs.InRows.{IsInRow, AreInRows}
-use Rattle.make_moves.specs.Draws.{next_state, state_after, drawn, draw_at}
-use Rattle.make_moves.specs.Moves.{made_id, reach, box_from, op_by, session_at, row_of, made_row, made_rows}
+use Rattle.make_moves.specs.Draws.{next_state, after_draws, drawn, draw_at}
+use Rattle.make_moves.specs.Moves.{made_id, reach, box_from, op_by, session_at, row_drawn, made_row, made_rows}
 
 drawn-fits : (state : ℕ) → drawn (next_state state) < 2 ^ 32
 drawn-fits state = omega arith
 
 at_drawn : (state : ℕ) → IsPoint (record { x = draw_at state 1; y = draw_at state 2 })
-at_drawn state = record { x = drawn-fits (state_after 1 state); y = drawn-fits (state_after 2 state) }
+at_drawn state = record { x = drawn-fits (after_draws 1 state); y = drawn-fits (after_draws 2 state) }
 
 reach-fits : (x : ℕ) → reach x < 2 ^ 32
 reach-fits x = omega arith
@@ -51,21 +51,21 @@ session-few i = omega arith
 id-fits : (session u : ℕ) → session ≤ 16 → made_id session u < 2 ^ 64
 id-fits session u few = omega arith
 
-IsInRow-row_of : (i state : ℕ) → IsInRow (row_of i state)
-IsInRow-row_of i state =
+IsInRow-row_drawn : (i state : ℕ) → IsInRow (row_drawn i state)
+IsInRow-row_drawn i state =
     let u = draw_at state 0 in
     let rules = op-rules (u % 10) (made_id (session_at i) u) (1 + u / 16 % 8) (record { x = draw_at state 1; y = draw_at state 2 }) (id-fits (session_at i) u (session-few i)) (omega arith) (omega arith) (at_drawn state) in
     record { first = omega arith; last = session-few i; valid = rules.valid; fits = rules.fits }
 
 each : (seed first n : ℕ) → AllByRecursion IsInRow (map (made_row seed) (range_with_len first n))
 each seed first zero = tt
-each seed first (suc n) = (IsInRow-row_of first (state_after (3 * first) seed), each seed (first + 1) n)
+each seed first (suc n) = (IsInRow-row_drawn first (after_draws (3 * first) seed), each seed (first + 1) n)
 
 pub AreInRows-made_rows : (n seed : ℕ) → n ≤ 65536 → AreInRows (made_rows n seed)
 AreInRows-made_rows n seed few = record { each = each seed 0 n; most = omega (arith, length-map-range_with_len (made_row seed) 0 n, few) }
 
 -- a row takes three draws
-pub state_after-row : (i seed : ℕ) → state_after (3 * (i + 1)) seed ≡ state_after 3 (state_after (3 * i) seed)
-state_after-row i seed =
+pub after_draws-row : (i seed : ℕ) → after_draws (3 * (i + 1)) seed ≡ after_draws 3 (after_draws (3 * i) seed)
+after_draws-row i seed =
     let more : suc (suc (suc (3 * i))) ≡ 3 * (i + 1) = omega arith in
-    subst (λ n. state_after n seed ≡ state_after 3 (state_after (3 * i) seed)) more refl
+    subst (λ n. after_draws n seed ≡ after_draws 3 (after_draws (3 * i) seed)) more refl

@@ -6,7 +6,7 @@ use Rattle.zorder.specs.declared.points.Region.{Region}
 use Rattle.plain_list.specs.declared.ops.Op.{Op}
 use Rattle.plain_list.specs.declared.ops.Op.TheVariants as op
 use Rattle.csv_rows.specs.declared.rows.InRow.{InRow}
-use Rattle.make_moves.specs.Draws.{state_after, draw_at}
+use Rattle.make_moves.specs.Draws.{after_draws, draw_at}
 
 -- the session of the row behind so many others: 1 to 16 in turn
 abbrev pub session_at : ℕ → ℕ
@@ -34,12 +34,12 @@ abbrev pub made_op : ℕ → ℕ → Point → Op
 made_op session u at = op_by (u % 10) (made_id session u) (1 + u / 16 % 8) at
 
 -- the row behind so many others, from the three draws that begin at a state
-abbrev pub row_of : ℕ → ℕ → InRow
-row_of i state = record { session = session_at i; op = made_op (session_at i) (draw_at state 0) (record { x = draw_at state 1; y = draw_at state 2 }) }
+abbrev pub row_drawn : ℕ → ℕ → InRow
+row_drawn i state = record { session = session_at i; op = made_op (session_at i) (draw_at state 0) (record { x = draw_at state 1; y = draw_at state 2 }) }
 
 -- the row behind so many others: each of them has taken three draws
 abbrev pub made_row : ℕ → ℕ → InRow
-made_row seed i = row_of i (state_after (3 * i) seed)
+made_row seed i = row_drawn i (after_draws (3 * i) seed)
 
 -- the first rows, so many, that a seed makes
 abbrev pub made_rows : ℕ → ℕ → List InRow

@@ -1,7 +1,7 @@
 //! Rows from draws.
 ghost use Rattle.std.specs.Prelude.{◌≡◌, ◌≤◌, ◌<◌, IfOk};
-ghost use Rattle.make_moves.specs.Draws.{state_after};
-ghost use Rattle.make_moves.specs.Moves.{made_rows, made_row, made_op, row_of, box_from};
+ghost use Rattle.make_moves.specs.Draws.{after_draws};
+ghost use Rattle.make_moves.specs.Moves.{made_rows, made_row, made_op, row_drawn, box_from};
 
 use crate::draws::Draws;
 use csv_rows::{InRow, Rows};
@@ -27,8 +27,8 @@ pub fn make(alloc: Global, n: u32, seed: u64) -> Result<Rows, Memory>
 
 // Each row takes three draws, whatever it uses of them.
 fn next_row(draws: &mut Draws, i: u32) -> InRow
-    ensures row { result ≡ row_of i draws.old.state }
-    ensures state { draws.new.state ≡ state_after 3 draws.old.state }
+    ensures row { result ≡ row_drawn i draws.old.state }
+    ensures state { draws.new.state ≡ after_draws 3 draws.old.state }
 {
     let session = 1 + (i % 16) as u8;
     let u = draws.draw();

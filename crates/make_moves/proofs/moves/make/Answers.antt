@@ -2,23 +2,23 @@ use Rattle.std.proofs.Common.{rules, ◌≡◌, ◌∙◌, ◌∷◌, [], ◌++�
 use Rattle.std.proofs.lemmas.List.FromFn.{map-range_with_len_more}
 use Rattle.csv_rows.specs.declared.rows.InRow.{InRow}
 use Rattle.csv_rows.specs.InRows.{AreInRows}
-use Rattle.make_moves.specs.Draws.{state_after}
-use Rattle.make_moves.specs.Moves.{made_rows, made_row, row_of}
-use Rattle.make_moves.proofs.MadeRows.{AreInRows-made_rows, state_after-row}
+use Rattle.make_moves.specs.Draws.{after_draws}
+use Rattle.make_moves.specs.Moves.{made_rows, made_row, row_drawn}
+use Rattle.make_moves.proofs.MadeRows.{AreInRows-made_rows, after_draws-row}
 use Rattle.make_moves.proofs.moves.make.Goals as goal
 
 pub loop-i-preserved : goal.loop-i-preserved
 loop-i-preserved c =
     let i = c.loop-i.i in
     let seed = c.args.seed in
-    let row : c.next_row.result ≡ made_row seed i = c.next_row.ensures.row ∙ ap (row_of i) c.loop-i.invariant.state in
+    let row : c.next_row.result ≡ made_row seed i = c.next_row.ensures.row ∙ ap (row_drawn i) c.loop-i.invariant.state in
     record {
       rows =
           c.in_ok-push.ensures.items
           ∙ ap (λ (l : List InRow). l ++ c.next_row.result ∷ []) c.loop-i.invariant.rows
           ∙ ap (λ (r : InRow). made_rows i seed ++ r ∷ []) row
           ∙ sym (map-range_with_len_more (made_row seed) 0 i i (omega arith));
-      state = c.next_row.ensures.state ∙ ap (state_after 3) c.loop-i.invariant.state ∙ sym (state_after-row i seed);
+      state = c.next_row.ensures.state ∙ ap (after_draws 3) c.loop-i.invariant.state ∙ sym (after_draws-row i seed);
     }
 
 pub from_vec-requires : goal.from_vec-requires
