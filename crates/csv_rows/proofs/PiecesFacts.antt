@@ -81,7 +81,7 @@ puts-is a b bytes text result e h = subst (λ (l : List ℕ). Puts a b l result)
 -- a put of all that was held back
 pub holds-put : {T E : Type 0} (a b : Option (List ℕ)) (bytes held rest : List ℕ) (result : Result T E) → bytes ≡ held → rest ≡ [] → Puts a b bytes result → HoldsBack a b held rest result
 holds-put a b bytes held rest (Ok x) e none h = rw none (moves-all a b held (subst (λ (l : List ℕ). Appends a b l) e h))
-holds-put a b bytes held rest (Err f) e none h = (drop h.0 held, subst (λ (l : List ℕ). Moves a b l (drop h.0 l)) e (moves-lost a b bytes h.0 h.1 h.2))
+holds-put a b bytes held rest (Err f) e none h = (drop h.0 held, subst (λ (l : List ℕ). Moves a b l (drop h.0 l)) e (moves-lost a b bytes h.0 h.1 h.2), none)
 
 -- a fault behind calls that went well
 pub counts-lost : {T E : Type 0} (a b c : ℕ) (result : Result T E) → IsErr result → b ≡ a → b ≤ c → Rose b c → Counts a c result
@@ -89,8 +89,8 @@ counts-lost {T = T} {E = E} a b c (Ok x) err same later rose = absurd (true≢fa
 counts-lost {T = T} {E = E} a b c (Err e) err same later rose = subst (λ n. Counts {T = T} {E = E} n c (Err e)) same (record { later = later; same = tt; failed = rose })
 
 -- a fault, with the texts at which it came
-pub holds-lost : {T E : Type 0} (a b : Option (List ℕ)) (text rest lost : List ℕ) (result : Result T E) → IsErr result → Moves a b text lost → HoldsBack a b text rest result
-holds-lost a b text rest lost result err h = MatchResult-from_err result (λ _. Moves a b text rest) (λ _. (l : List ℕ) × Moves a b text l) err (λ _. (lost, h))
+pub holds-lost : {T E : Type 0} (a b : Option (List ℕ)) (text rest lost : List ℕ) (result : Result T E) → IsErr result → Moves a b text lost → rest ≡ [] → HoldsBack a b text rest result
+holds-lost a b text rest lost result err h none = MatchResult-from_err result (λ _. Moves a b text rest) (λ _. (l : List ℕ) × Moves a b text l × (rest ≡ [])) err (λ _. (lost, h, none))
 
 pub puts-fault : {T E : Type 0} (a b : Option (List ℕ)) (text lost more : List ℕ) (result : Result T E) → IsErr result → Moves a b text lost → Puts a b (text ++ more) result
 puts-fault a b text lost more result err h =

@@ -1,5 +1,5 @@
 -- What a sink takes of a text that goes to it in pieces.
-use Rattle.std.specs.Prelude.{◌≡◌, ℕ, List, ◌++◌, Option, Result, MatchResult}
+use Rattle.std.specs.Prelude.{◌≡◌, ℕ, List, [], ◌++◌, Option, Result, MatchResult}
 use Rattle.std.specs.Io.KnownBytes.{Appends}
 use Rattle.io_edge.specs.Streams.{Output}
 
@@ -9,9 +9,9 @@ pub record Moves (old new : Option (List ℕ)) (text rest : List ℕ) : Type 0 w
   pub grew : Appends old new front
   pub whole : front ++ rest ≡ text
 
--- the same, or at a fault, where what was held back is lost, any front
+-- the same, or at a fault any front: the others are lost, and nothing is held back
 abbrev pub HoldsBack : {T E : Type 0} → Option (List ℕ) → Option (List ℕ) → List ℕ → List ℕ → Result T E → Type 0
-HoldsBack old new text rest result = MatchResult result (λ _. Moves old new text rest) (λ _. (lost : List ℕ) × Moves old new text lost)
+HoldsBack old new text rest result = MatchResult result (λ _. Moves old new text rest) (λ _. (lost : List ℕ) × Moves old new text lost × (rest ≡ []))
 
 -- a sink after a text that goes to it behind what was held back
 abbrev pub Adds : {T E : Type 0} → Output → Output → List ℕ → List ℕ → List ℕ → Result T E → Type 0

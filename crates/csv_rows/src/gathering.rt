@@ -12,7 +12,7 @@ use plain_list::Answer;
 use std::marker::Model;
 
 /// Lines on their way to one sink, in pieces of up to 64 KiB, which lie in the value itself: it takes no memory. Contracts see the bytes
-/// that are held back. They go out by `finish`, and without it never. After a fault they are lost.
+/// that are held back. They go out by `finish`, and without it never. After a fault they are lost, and none are held back.
 #[derive(Drop)]
 pub struct Gathered {
     piece: Piece,

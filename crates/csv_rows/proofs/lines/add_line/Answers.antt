@@ -16,13 +16,13 @@ line-moves a b d row place answer old kept begun held more is ends first second 
 pub returns-in_err-make_room-clause-bytes : goal.returns-in_err-make_room-clause-bytes
 returns-in_err-make_room-clause-bytes g c =
     let lost = c.in_err-make_room.ensures.bytes in
-    holds-lost _ _ _ _ _ c.from_residual.result c.from_residual.ensures.0 (moves-more _ _ _ lost.0 (line_text c.args.row c.args.place c.args.answer.now) lost.1)
+    holds-lost _ _ _ _ _ c.from_residual.result c.from_residual.ensures.0 (moves-more _ _ _ lost.0 (line_text c.args.row c.args.place c.args.answer.now) lost.1) lost.2
 
 pub returns-in_err-add_detail-clause-bytes : goal.returns-in_err-add_detail-clause-bytes
 returns-in_err-add_detail-clause-bytes g c =
     let lost = c.in_err-add_detail.ensures.bytes in
     holds-lost _ _ _ _ _ c.from_residual-in_err-add_detail.result c.from_residual-in_err-add_detail.ensures.0
-    (line-moves _ _ _ c.args.row c.args.place c.args.answer.now _ _ _ lost.0 _ c.add_front.ensures.bytes refl c.in_ok-make_room.ensures.bytes lost.1)
+    (line-moves _ _ _ c.args.row c.args.place c.args.answer.now _ _ _ lost.0 _ c.add_front.ensures.bytes refl c.in_ok-make_room.ensures.bytes lost.1) lost.2
 
 pub returns-clause-bytes : goal.returns-clause-bytes
 returns-clause-bytes g c =

@@ -33,7 +33,7 @@ returns-in_err-make_room-clause-bytes g c =
     let lost = c.in_err-make_room.ensures.bytes in
     let moved = added-lost entry _ _ _ c.in-Some.rest.now _ _ _ _ _ _ c.loop-placed.invariant.0 lost.1 in
     holds-lost _ _ _ _ _ c.from_residual.result c.from_residual.ensures.0
-    (moves-is _ _ _ _ _ (list-text c.args.piece.now.items c.add_placed.new.piece.items c.args.list.now c.in-Some.first.now c.in-Some.rest.now c.in-Some.ensures.cases.0 c.add_placed.ensures.bytes) moved)
+    (moves-is _ _ _ _ _ (list-text c.args.piece.now.items c.add_placed.new.piece.items c.args.list.now c.in-Some.first.now c.in-Some.rest.now c.in-Some.ensures.cases.0 c.add_placed.ensures.bytes) moved) lost.2
 
 pub returns-in_err-make_room-clause-cause : goal.returns-in_err-make_room-clause-cause
 returns-in_err-make_room-clause-cause g c = counts-lost _ _ _ c.from_residual.result c.from_residual.ensures.0 c.loop-placed.invariant.0.same c.in_err-make_room.ensures.cause.later c.in_err-make_room.ensures.cause.failed

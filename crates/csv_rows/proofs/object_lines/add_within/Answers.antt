@@ -7,7 +7,7 @@ use Rattle.csv_rows.proofs.object_lines.add_within.Goals as goal
 pub returns-in_err-make_room-clause-bytes : goal.returns-in_err-make_room-clause-bytes
 returns-in_err-make_room-clause-bytes g c =
     let lost = c.in_err-make_room.ensures.bytes in
-    holds-lost _ _ _ _ _ c.from_residual.result c.from_residual.ensures.0 (moves-more _ _ _ lost.0 (line_in c.args.region.now c.args.object.now) lost.1)
+    holds-lost _ _ _ _ _ c.from_residual.result c.from_residual.ensures.0 (moves-more _ _ _ lost.0 (line_in c.args.region.now c.args.object.now) lost.1) lost.2
 
 pub returns-clause-bytes : goal.returns-clause-bytes
 returns-clause-bytes g c =
