@@ -16,6 +16,7 @@ use Rattle.csv_rows.specs.declared.rows.LogCounts.{LogCounts}
 use Rattle.csv_rows.specs.declared.rows.Refusal.{Refusal}
 use Rattle.csv_rows.specs.declared.rows.Refusal.TheVariants as refusal
 use Rattle.csv_rows.specs.LogLines.{counts_text}
+use Rattle.run_ends.specs.LogFaults.{IsReadingCause, log_refusal}
 use Rattle.run_ends.specs.Limits.{width, most_cells}
 use Rattle.run_ends.specs.Status.{status_of}
 use Rattle.io_edge.specs.Streams.{Output}

@@ -20,6 +20,7 @@ use Rattle.run_ends.specs.Judged.{judged}
 use Rattle.run_ends.specs.Status.{status_of, WritesLines}
 use Rattle.run_ends.specs.Ending.{EndsRefused}
 use Rattle.run_ends.specs.LogFaults.{IsReadingCause, log_refusal}
+use Rattle.run_ends.specs.Inputs.{IsInputCause, Reads}
 use Rattle.play_run.specs.Origin.{Origin, IsOrigin}
 use Rattle.lane_history.specs.LostSteps.{IsNextStep, LosesStep}
 use Rattle.play_run.specs.declared.reports.Report.{Report}
