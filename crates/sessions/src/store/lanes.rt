@@ -140,7 +140,9 @@ impl<I: Index, D: LogDisk, O: Start> Store<I, D, O> {
         requires ready { IsReady self.now lane.old }
         ensures { Plays I.WIDTH lane.old lane.new }
     {
+        lane.pass.in_batch(true);
         self.play_rows::<R, G, Brand>(rt, alloc, lane, gate, Blank::new(1));
+        lane.pass.in_batch(false);
         self.lock.rouse();
     }
 }
