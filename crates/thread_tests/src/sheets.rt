@@ -1,5 +1,5 @@
-//! A lock around a sheet of entries: what one pass adds comes back, what another is told, and threads at once, also such as sleep at the
-//! lock. One that isn't woken would sleep for ever, and its test be stopped.
+//! A lock around a sheet of entries: what one pass adds comes back, what another is told, and threads at once, prompt ones and ones of a
+//! batch, also such as sleep at the lock. One that isn't woken would sleep for ever, and its test be stopped.
 ghost use Rattle.std.specs.Prelude.{◌≡◌, ℕ, ◌+◌, ◌<◌, ◌≤◌, ◌++◌, [], ◌∷◌, false, MatchBool};
 ghost use Rattle.std.specs.Thread.{IsSync};
 ghost use Rattle.plain_list.specs.declared.entries.Entry.{Entry};
@@ -15,11 +15,21 @@ use std::sync::Wait;
 use std::thread::{self, Threads, join_mut};
 use std::time::Duration;
 
-// A slow value, since `is_slow` says so where nothing else is said: who waits for it sleeps until it is woken.
 #[derive(Drop)]
 struct Sheet {
     entries: Vec<Entry>,
     bucket: u64,
+    is_slow: bool,
+}
+
+// What sessions do at once: each adds so many rows, and each time is asleep so long with the lock held. The first so many are of a batch.
+#[derive(Clone, Copy)]
+struct Plan {
+    sessions: u8,
+    of_batch: u8,
+    rows: u32,
+    asleep: Duration,
+    is_slow: bool,
 }
 
 impl Held for Sheet {
@@ -32,6 +42,10 @@ impl Held for Sheet {
 
     fn events(&self) -> u64 {
         self.entries.len() as u64
+    }
+
+    fn is_slow(&self) -> bool {
+        self.is_slow
     }
 }
 
@@ -46,13 +60,14 @@ impl Sheet {
     }
 }
 
-fn new_lock(rt: &impl Abort, alloc: Global) -> (BookLock<Sheet>, Pass<Sheet>)
+fn new_lock(rt: &impl Abort, alloc: Global, is_slow: bool) -> (BookLock<Sheet>, Pass<Sheet>)
     ensures lock { (result.1.lock ≡ result.0) × (result.1.holds ≡ false) }
     ensures pass { (result.1.seen ≡ []) × (result.1.own ≡ []) × (result.1.parts ≡ 65536) }
 {
     let sheet = Sheet {
         entries: Vec::new(alloc),
         bucket: 4,
+        is_slow,
     };
     let Ok(made) = BookLock::new(alloc, sheet) else {
         rt.panic("no lock is made")
@@ -140,7 +155,7 @@ fn is_the_fail(entries: &[Entry]) -> bool {
 }
 
 fn comes_back<R: Wait + Clock + Abort>(rt: &R, alloc: Global) {
-    let (lock, mut pass) = new_lock(rt, alloc);
+    let (lock, mut pass) = new_lock(rt, alloc, true);
     let added = add(rt, &lock, &mut pass, find(1, 1), Duration::ZERO);
     let sheet = lock.close(pass);
     assert_is!(rt; added);
@@ -154,7 +169,7 @@ fn one_find_comes_back(rt: HostRuntime) {
 }
 
 fn is_told_to_the_first<R: Wait + Clock + Abort>(rt: &R, alloc: Global) {
-    let (lock, mut first) = new_lock(rt, alloc);
+    let (lock, mut first) = new_lock(rt, alloc, true);
     let mut second = lock.split_pass(&mut first);
     let added = add(rt, &lock, &mut second, failed(), Duration::ZERO);
     lock.meet(&mut second, &mut first);
@@ -169,20 +184,20 @@ fn a_fail_of_a_second_pass_is_told_to_the_first(rt: HostRuntime) {
     is_told_to_the_first(&rt, rt.alloc());
 }
 
-// Adds so many entries of one session.
+// Adds the entries of one session.
 fn add_rows<R: Wait + Clock>(
     rt: &R,
     lock: &BookLock<Sheet>,
     pass: &mut Pass<Sheet>,
     session: u8,
-    rows: u32,
-    asleep: Duration,
+    plan: Plan,
 )
     requires { IsFree lock.now pass.old }
     ensures { KeepsPass pass.old pass.new }
 {
-    for row in 0..rows {
-        add(rt, lock, pass, find(session, row), asleep);
+    pass.in_batch(session < plan.of_batch);
+    for row in 0..plan.rows {
+        add(rt, lock, pass, find(session, row), plan.asleep);
     }
 }
 
@@ -192,15 +207,14 @@ fn add_all<R: Threads + Wait + Clock + Sync>(
     lock: &BookLock<Sheet>,
     pass: &mut Pass<Sheet>,
     session: u8,
-    rows: u32,
-    asleep: Duration,
+    plan: Plan,
 )
     requires pass { IsFree lock.now pass.old }
     requires parts { session + 1 ≤ pass.old.parts }
     ensures { KeepsPass pass.old pass.new }
 {
     if session == 0 {
-        add_rows(rt, lock, pass, 0, rows, asleep);
+        add_rows(rt, lock, pass, 0, plan);
         return;
     }
     let mut mine = lock.split_pass(pass);
@@ -209,11 +223,11 @@ fn add_all<R: Threads + Wait + Clock + Sync>(
         &mut ||
             requires { IsSync R.row × (0 < session) × IsFree lock.now pass.now × (session ≤ pass.now.parts) }
             ensures { KeepsPass pass.entry.now pass.exit.now }
-        { add_all(rt, lock, pass, session - 1, rows, asleep) },
+        { add_all(rt, lock, pass, session - 1, plan) },
         &mut ||
             requires { IsSync R.row × IsFree lock.now mine }
             ensures { KeepsPass mine.entry mine.exit }
-        { add_rows(rt, lock, &mut mine, session, rows, asleep) },
+        { add_rows(rt, lock, &mut mine, session, plan) },
     );
     lock.join_pass(pass, mine);
 }
@@ -240,33 +254,84 @@ fn are_in_order(entries: &[Entry], sessions: usize, rows: u32) -> bool {
         && entries.len() == sessions.saturating_mul(rows as usize)
 }
 
-// So many sessions add their rows at once, each time asleep so long while the others wait: all stand in one history.
-fn each_entry_comes<R: Threads + Wait + Clock + Abort + Sync>(
-    rt: &R,
-    alloc: Global,
-    sessions: u8,
-    rows: u32,
-    asleep: Duration,
-)
-    requires { 1 ≤ sessions }
+// The sessions add their rows at once: all stand in one history, and the lock is closed.
+fn each_entry_comes<R: Threads + Wait + Clock + Abort + Sync>(rt: &R, alloc: Global, plan: Plan)
+    requires { 1 ≤ plan.sessions }
 {
-    let (lock, mut pass) = new_lock(rt, alloc);
-    add_all(rt, &lock, &mut pass, sessions - 1, rows, asleep);
+    let (lock, mut pass) = new_lock(rt, alloc, plan.is_slow);
+    add_all(rt, &lock, &mut pass, plan.sessions - 1, plan);
     let sheet = lock.close(pass);
-    assert_is!(rt; are_in_order(sheet.entries.as_slice(), sessions as usize, rows));
+    assert_is!(rt; are_in_order(sheet.entries.as_slice(), plan.sessions as usize, plan.rows));
+}
+
+// Sessions that take a quick value, all of them prompt.
+fn prompt(sessions: u8, rows: u32, asleep: Duration) -> Plan
+    ensures { result.sessions ≡ sessions }
+{
+    Plan {
+        sessions,
+        of_batch: 0,
+        rows,
+        asleep,
+        is_slow: false,
+    }
+}
+
+// Sessions that take a slow value.
+fn slow(sessions: u8, rows: u32, asleep: Duration) -> Plan
+    ensures { result.sessions ≡ sessions }
+{
+    Plan {
+        is_slow: true,
+        ..prompt(sessions, rows, asleep)
+    }
+}
+
+// Sessions that take a quick value, of which so many, the first, are of a batch.
+fn mixed(sessions: u8, of_batch: u8, rows: u32, asleep: Duration) -> Plan
+    ensures { result.sessions ≡ sessions }
+{
+    Plan {
+        of_batch,
+        ..prompt(sessions, rows, asleep)
+    }
 }
 
 #[test]
 fn eight_threads_add_to_one_history(rt: HostRuntime) {
-    each_entry_comes(&rt, rt.alloc(), 8, 1_000, Duration::ZERO);
+    each_entry_comes(&rt, rt.alloc(), slow(8, 1_000, Duration::ZERO));
 }
 
 #[test]
 fn a_thread_sleeps_while_another_holds_the_lock(rt: HostRuntime) {
-    each_entry_comes(&rt, rt.alloc(), 2, 500, Duration::from_millis(1));
+    each_entry_comes(&rt, rt.alloc(), slow(2, 500, Duration::from_millis(1)));
 }
 
 #[test]
 fn eight_threads_sleep_while_a_ninth_holds_the_lock(rt: HostRuntime) {
-    each_entry_comes(&rt, rt.alloc(), 9, 1_000, Duration::from_millis(1));
+    each_entry_comes(&rt, rt.alloc(), slow(9, 1_000, Duration::from_millis(1)));
+}
+
+#[test]
+fn prompt_callers_that_sleep_are_woken_by_holders_that_call_no_more(rt: HostRuntime) {
+    for _ in 0..20 {
+        each_entry_comes(&rt, rt.alloc(), prompt(9, 1, Duration::from_millis(1)));
+    }
+}
+
+#[test]
+fn a_prompt_caller_that_sleeps_is_woken_by_one_of_a_batch(rt: HostRuntime) {
+    for _ in 0..50 {
+        each_entry_comes(&rt, rt.alloc(), mixed(2, 1, 1, Duration::from_millis(1)));
+    }
+}
+
+#[test]
+fn prompt_callers_and_ones_of_a_batch_add_to_one_history(rt: HostRuntime) {
+    each_entry_comes(&rt, rt.alloc(), mixed(8, 4, 1_250, Duration::ZERO));
+}
+
+#[test]
+fn a_lock_is_closed_after_all_have_slept(rt: HostRuntime) {
+    each_entry_comes(&rt, rt.alloc(), prompt(8, 50, Duration::from_micros(200)));
 }
