@@ -13,7 +13,7 @@ use bucket_versions::Bucket;
 use index_layer::{Below, Index, IndexFault, Part};
 use std::alloc::{AllocError, Global};
 use std::sync::Arc;
-use zorder::{Memory, Name, begins, child};
+use zorder::{Memory, Name, child};
 
 /// A list of leaves, in the order of their keys.
 #[derive(Drop)]
@@ -57,17 +57,6 @@ impl Index for FlatIndex {
     fn leaf_of(&self, key: u64) -> (Name, &Arc<Bucket>) {
         let leaf = &self.leaves[place_of(&self.leaves, key)];
         (leaf.name, &leaf.bucket)
-    }
-
-    fn part(&self, name: &Name) -> Part<'_> {
-        let leaf = &self.leaves[place_of(&self.leaves, name.bits())];
-        if leaf.name == *name {
-            Part::Leaf(&leaf.bucket)
-        } else if name.len() < leaf.name.len() && begins(name, leaf.name.bits()) {
-            Part::Inner
-        } else {
-            Part::Outside
-        }
     }
 
     fn top(&self) -> &Vec<FlatLeaf> {

@@ -10,6 +10,7 @@ ghost use Rattle.zorder.specs.Key.{is_under};
 ghost use Rattle.index_layer.specs.RowChanges.{ChangesAt, CountAt, Moves, Holds};
 ghost use Rattle.bucket_versions.specs.Rows.{after_put, after_gone};
 
+use crate::names::goes_on;
 use bucket_versions::{Bucket, Commit, RowChange, Undone};
 use std::alloc::{AllocError, Global};
 use std::sync::Arc;
@@ -120,7 +121,17 @@ pub trait Index: Sized + Drop {
 
     /// What stands at a name.
     fn part(&self, name: &Name) -> Part<'_>
-        ensures { IsPart (leaves self.now) name.now result };
+        ensures { IsPart (leaves self.now) name.now result }
+    {
+        let (found, bucket) = self.leaf_of(name.bits());
+        if found == *name {
+            Part::Leaf(bucket)
+        } else if goes_on(name, &found) {
+            Part::Inner
+        } else {
+            Part::Outside
+        }
+    }
 
     /// The place of the empty name.
     fn top(&self) -> &Self::Place

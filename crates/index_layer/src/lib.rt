@@ -10,5 +10,7 @@
 #![tactic(auto)]
 
 mod index;
+mod names;
 
 pub use index::{Below, Index, IndexFault, Part};
+pub use names::goes_on;

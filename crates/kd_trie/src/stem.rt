@@ -6,13 +6,13 @@ ghost use Rattle.bit_trie.specs.Tries.{Trie, halves, height, name_at, bucket_at,
 ghost use Rattle.kd_trie.specs.Nodes.{seen};
 ghost use Rattle.kd_trie.specs.Stems.{GoesPast, Passing, way_of, stem_over, all_bare};
 ghost use Rattle.bit_trie.specs.Walks.{Narrows};
-ghost use Rattle.index_layer.specs.Part.{goes_on};
 
 use crate::node::{Node, Pair, leaf_of, next_bit};
 use bucket_versions::Bucket;
+use index_layer::goes_on;
 use std::alloc::{AllocError, Global};
 use std::sync::Arc;
-use zorder::{Name, begins, child};
+use zorder::{Name, child};
 
 /// What stands beside one step of a way.
 #[derive(Drop)]
@@ -67,13 +67,6 @@ impl Stem {
             None
         }
     }
-}
-
-/// Whether a name begins another one that is longer.
-pub(crate) fn goes_on(name: &Name, long: &Name) -> bool
-    ensures { result ≡ goes_on name.now long.now }
-{
-    name.len() < long.len() && begins(name, long.bits())
 }
 
 /// The bucket that the last `left` bits of a key lead to where these sides begin, and how many bits are left there.

@@ -10,13 +10,13 @@ ghost use Rattle.kd_trie.specs.Stems.{GoesPast};
 ghost use Rattle.kd_trie.specs.Wholes.{whole};
 
 use crate::node::Node;
-use crate::stem::{goes_on, narrowed};
+use crate::stem::narrowed;
 use crate::stemmed::Stemmed;
 use bucket_versions::{AtOnce, Bucket, Commit, RowChange, Undone};
-use index_layer::{Below, Index, IndexFault, Part};
+use index_layer::{Below, Index, IndexFault, goes_on};
 use std::alloc::Global;
 use std::sync::Arc;
-use zorder::{Memory, Name, begins, first_bits};
+use zorder::{Memory, Name, first_bits};
 
 /// Leaves whose names tile the key space, under nodes that tries share.
 ///
@@ -69,17 +69,6 @@ impl Index for KdTrie {
     fn leaf_of(&self, key: u64) -> (Name, &Arc<Bucket>) {
         let (left, bucket) = self.tree.leaf_of(key);
         (first_bits(key, 64 - left), bucket)
-    }
-
-    fn part(&self, name: &Name) -> Part<'_> {
-        let (found, bucket) = self.leaf_of(name.bits());
-        if found == *name {
-            Part::Leaf(bucket)
-        } else if name.len() < found.len() && begins(name, found.bits()) {
-            Part::Inner
-        } else {
-            Part::Outside
-        }
     }
 
     fn top(&self) -> &Node {

@@ -1,0 +1,12 @@
+//! How two names stand to each other.
+ghost use Rattle.std.specs.Prelude.{◌≡◌};
+ghost use Rattle.index_layer.specs.Part.{goes_on};
+
+use zorder::{Name, begins};
+
+/// Whether a name begins another one that is longer.
+pub fn goes_on(name: &Name, long: &Name) -> bool
+    ensures { result ≡ goes_on name.now long.now }
+{
+    name.len() < long.len() && begins(name, long.bits())
+}
