@@ -21,7 +21,7 @@ keeps-asked words a old new status h asks keeps c asked = subst (λ (k : Command
 
 -- what is promised of a command that plays rows
 abbrev pub PlaysIf : {S D : Type 0} → declared.Command → Ends S D → Ends S D → ℕ → List Entry → Type 0
-PlaysIf (declared_command.Play log size) old new status h = Goes (file_of (declared_command.Play log size)) size old new status h
+PlaysIf (declared_command.Play log size) old new status h = (new.other ≡ old.other) × Goes (file_of (declared_command.Play log size)) size old.input new.input old.to new.to status h
 PlaysIf _ old new status h = ⊥
 
 pub keeps-play : {S D : Type 0} (a : declared.Command) (old new : Ends S D) (status : ℕ) (h : List Entry) → PlaysIf a old new status h → Keeps (command_of a) old new status h
@@ -29,12 +29,12 @@ keeps-play (declared_command.Init file) old new status h plays = absurd plays
 keeps-play (declared_command.Check file) old new status h plays = absurd plays
 keeps-play (declared_command.Show file region) old new status h plays = absurd plays
 keeps-play (declared_command.Trial log made) old new status h plays = absurd plays
-keeps-play (declared_command.Play (Some log) size) old new status h plays = plays-of (Some log.now) size old new status h plays
-keeps-play (declared_command.Play None size) old new status h plays = plays-of None size old new status h plays
+keeps-play (declared_command.Play (Some log) size) old new status h plays = plays-of (Some log.now) size old new status h plays.0 plays.1
+keeps-play (declared_command.Play None size) old new status h plays = plays-of None size old new status h plays.0 plays.1
 
 -- what is promised of a command that plays made rows
 abbrev pub TriesIf : {S D : Type 0} → declared.Command → Ends S D → Ends S D → ℕ → List Entry → Type 0
-TriesIf (declared_command.Trial log made) old new status h = (new.source ≡ old.source) × PlaysMade (file_of (declared_command.Trial log made)) made old.to new.to status h
+TriesIf (declared_command.Trial log made) old new status h = (new.source ≡ old.source) × (new.other ≡ old.other) × PlaysMade (file_of (declared_command.Trial log made)) made old.to new.to status h
 TriesIf _ old new status h = ⊥
 
 pub keeps-trial : {S D : Type 0} (a : declared.Command) (old new : Ends S D) (status : ℕ) (h : List Entry) → TriesIf a old new status h → Keeps (command_of a) old new status h
@@ -42,8 +42,8 @@ keeps-trial (declared_command.Init file) old new status h tries = absurd tries
 keeps-trial (declared_command.Check file) old new status h tries = absurd tries
 keeps-trial (declared_command.Show file region) old new status h tries = absurd tries
 keeps-trial (declared_command.Play log size) old new status h tries = absurd tries
-keeps-trial (declared_command.Trial (Some log) made) old new status h tries = tries-of (Some log.now) made old new status h tries.0 tries.1
-keeps-trial (declared_command.Trial None made) old new status h tries = tries-of None made old new status h tries.0 tries.1
+keeps-trial (declared_command.Trial (Some log) made) old new status h tries = tries-of (Some log.now) made old new status h tries.0 tries.1 tries.2
+keeps-trial (declared_command.Trial None made) old new status h tries = tries-of None made old new status h tries.0 tries.1 tries.2
 
 abbrev pub IsTrialOf : Made → declared.Command → Type 0
 IsTrialOf made (declared_command.Trial log other) = other ≡ made

@@ -1,9 +1,9 @@
 -- What a run promises.
-use Rattle.std.specs.Prelude.{◌≡◌, ◌↔◌, ℕ, List, []}
+use Rattle.std.specs.Prelude.{◌≡◌, ◌↔◌, ℕ, List}
 use Rattle.plain_list.specs.declared.entries.Entry.{Entry}
 use Rattle.csv_rows.specs.declared.rows.Refusal.TheVariants as refusal
 use Rattle.command_words.specs.Words.{Command, Init, Check, Play, Show, Trial, AsksFor, IsAccepted}
-use Rattle.run_ends.specs.Ends.{Ends}
+use Rattle.run_ends.specs.Ends.{Ends, Targets, IsQuiet}
 use Rattle.run_ends.specs.Taking.{Refuses}
 use Rattle.log_run.specs.Making.{Inits}
 use Rattle.log_run.specs.Checking.{Checks}
@@ -23,12 +23,14 @@ Keeps (Trial log made) old new status h = Tries log made old new status h
 abbrev pub KeepsAsked : {S D : Type 0} → List (List ℕ) → Ends S D → Ends S D → ℕ → List Entry → Type 0
 KeepsAsked words old new status h = (c : Command) → AsksFor words c → Keeps c old new status h
 
--- the line of words that aren't accepted is put, and nothing is read, called or touched
-pub record RefusesWords {S D : Type 0} (old new : Ends S D) (status : ℕ) (h : List Entry) : Type 0 where
-  pub refused : Refuses refusal.Usage status old.to.output new.to.output
-  pub unread : new.source ≡ old.source
-  pub none : h ≡ []
-  pub disk : new.to.disk ≡ old.to.disk
+-- the line of words that aren't accepted is put, and the drive is left as it was
+pub record RefusesUsage {D : Type 0} (old new : Targets D) (status : ℕ) : Type 0 where
+  pub refused : Refuses refusal.Usage status old.output new.output
+  pub disk : new.disk ≡ old.disk
+
+-- nothing is read, called or touched but for that
+abbrev pub RefusesWords : {S D : Type 0} → Ends S D → Ends S D → ℕ → List Entry → Type 0
+RefusesWords old new status h = IsQuiet RefusesUsage old new status h
 
 -- status 2 comes exactly where the words aren't accepted
 pub record AnswersUsage {S D : Type 0} (words : List (List ℕ)) (old new : Ends S D) (status : ℕ) (h : List Entry) : Type 0 where

@@ -1,5 +1,5 @@
 //! The top call.
-ghost use Rattle.std.specs.Prelude.{◌≡◌, [], map};
+ghost use Rattle.std.specs.Prelude.{◌≡◌, map};
 ghost use Rattle.std.specs.String.{string_bytes};
 ghost use Rattle.run_ends.specs.Ends.{ends};
 ghost use Rattle.location_run.specs.Run.{KeepsAsked, AnswersUsage};
@@ -10,9 +10,8 @@ use csv_rows::Refusal;
 use disk_trait::LogDisk;
 use io_edge::{Gate, Sink, Source};
 use log_run::{check_log, make_log, show_log};
-use plain_list::Entries;
-use play_run::{Played, play, play_made};
-use run_ends::put_refusal;
+use play_run::{play, play_made};
+use run_ends::{Ended, refuse_on};
 use std::alloc::Global;
 use std::sync::Wait;
 use std::thread::Threads;
@@ -34,48 +33,43 @@ pub fn run<R: Threads + Wait + Sync, S: Source, K: Sink, D: LogDisk + Send, G: G
     gate: &G,
 ) -> Outcome<D>
     // Words that ask for no command get status 2, and no others do.
-    ensures usage { AnswersUsage (map string_bytes words.now) (ends S.input K.output D.drive source.old sink.old disk)
-        (ends S.input K.output D.drive source.new sink.new result.disk) result.status result.events }
+    ensures usage { AnswersUsage (map string_bytes words.now) (ends S.input K.output D.drive source.old sink.old disk other)
+        (ends S.input K.output D.drive source.new sink.new result.disk result.other) result.status result.events }
 
     // The command that they ask for keeps its promise.
-    ensures keeps { KeepsAsked (map string_bytes words.now) (ends S.input K.output D.drive source.old sink.old disk)
-        (ends S.input K.output D.drive source.new sink.new result.disk) result.status result.events }
-
-    // The second drive isn't touched.
-    ensures other { result.other ≡ other }
+    ensures keeps { KeepsAsked (map string_bytes words.now) (ends S.input K.output D.drive source.old sink.old disk other)
+        (ends S.input K.output D.drive source.new sink.new result.disk result.other) result.status result.events }
 {
     match command_in(words) {
         Some(Command::Init(file)) => {
             let end = make_log(alloc, file, sink, disk);
-            without_rows(alloc, end.status, end.disk, other)
+            outcome_of(end, other)
         }
         Some(Command::Check(file)) => {
-            let mut disk = disk;
-            let status = check_log(alloc, file, sink, &mut disk);
-            without_rows(alloc, status, disk, other)
+            let end = check_log(alloc, file, sink, disk);
+            outcome_of(end, other)
         }
         Some(Command::Show(file, region)) => {
-            let mut disk = disk;
-            let status = show_log(alloc, file, &region, sink, &mut disk);
-            without_rows(alloc, status, disk, other)
+            let end = show_log(alloc, file, &region, sink, disk);
+            outcome_of(end, other)
         }
         Some(Command::Play(log, size)) => {
             let end = play(rt, alloc, log, size, source, sink, disk, gate);
-            with_rows(end, other)
+            outcome_of(end, other)
         }
         Some(Command::Trial(log, made)) => {
             let end = play_made(rt, alloc, log, made, sink, disk, gate);
-            with_rows(end, other)
+            outcome_of(end, other)
         }
         None => {
-            let status = put_refusal(&Refusal::Usage, sink);
-            without_rows(alloc, status, disk, other)
+            let end = refuse_on(alloc, &Refusal::Usage, sink, disk);
+            outcome_of(end, other)
         }
     }
 }
 
-// What a run leaves that played rows.
-fn with_rows<D: LogDisk>(end: Played<D>, other: D) -> Outcome<D>
+// What a run leaves whose command leaves the second drive alone.
+fn outcome_of<D: LogDisk>(end: Ended<D>, other: D) -> Outcome<D>
     ensures { result ≡ record { status = end.status; disk = end.disk; other = other; events = end.events } }
 {
     Outcome {
@@ -83,17 +77,5 @@ fn with_rows<D: LogDisk>(end: Played<D>, other: D) -> Outcome<D>
         disk: end.disk,
         other,
         events: end.events,
-    }
-}
-
-// What a run leaves that played no rows.
-fn without_rows<D: LogDisk>(alloc: Global, status: u8, disk: D, other: D) -> Outcome<D>
-    ensures { result ≡ record { status = status; disk = disk; other = other; events = [] } }
-{
-    Outcome {
-        status,
-        disk,
-        other,
-        events: Entries::empty(alloc),
     }
 }

@@ -1,3 +1,4 @@
 pub mod DriveSteps
 pub mod MakingEnds
 pub mod CheckingFacts
+pub mod StatusFacts

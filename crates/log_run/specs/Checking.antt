@@ -20,7 +20,7 @@ use Rattle.run_ends.specs.LogFaults.{IsReadingCause, log_refusal}
 use Rattle.run_ends.specs.Limits.{width, most_cells}
 use Rattle.run_ends.specs.Status.{status_of}
 use Rattle.io_edge.specs.Streams.{Output}
-use Rattle.run_ends.specs.Ends.{Ends, Targets}
+use Rattle.run_ends.specs.Ends.{Ends, Targets, IsQuiet}
 use Rattle.run_ends.specs.Taking.{Refuses}
 use Rattle.run_ends.specs.Ending.{EndsWriting, EndsRefused}
 
@@ -88,8 +88,6 @@ pub record EndsTelling {D : Type 0} (text : List Cell → List ℕ) (file : List
 abbrev pub EndsChecking : {D : Type 0} → List ℕ → Targets D → Targets D → ℕ → Type 0
 EndsChecking file old new status = EndsTelling checked_text file old new status
 
--- what `check` promises: no row is read or called
-pub record Checks {S D : Type 0} (file : List ℕ) (old new : Ends S D) (status : ℕ) (h : List Entry) : Type 0 where
-  pub tells : EndsChecking file old.to new.to status
-  pub unread : new.source ≡ old.source
-  pub none : h ≡ []
+-- what `check` promises
+abbrev pub Checks : {S D : Type 0} → List ℕ → Ends S D → Ends S D → ℕ → List Entry → Type 0
+Checks file old new status h = IsQuiet (EndsChecking file) old new status h

@@ -12,7 +12,7 @@ use Rattle.csv_rows.specs.declared.rows.Refusal.TheVariants as refusal
 use Rattle.csv_rows.specs.LogLines.{made_line}
 use Rattle.run_ends.specs.Limits.{width}
 use Rattle.io_edge.specs.Streams.{Output}
-use Rattle.run_ends.specs.Ends.{Ends, Targets}
+use Rattle.run_ends.specs.Ends.{Ends, Targets, IsQuiet}
 use Rattle.run_ends.specs.Ending.{EndsWriting, EndsRefused}
 
 -- the refusal of a fault of making
@@ -51,8 +51,6 @@ pub record EndsMaking {D : Type 0} (file : List ℕ) (old new : Targets D) (stat
   -- this file is attached, and made where it isn't there
   pub attached : status ≢ 7 → status ≢ 9 → new.drive.attached file true
 
--- what `init` promises: no row is read or called
-pub record Inits {S D : Type 0} (file : List ℕ) (old new : Ends S D) (status : ℕ) (h : List Entry) : Type 0 where
-  pub makes : EndsMaking file old.to new.to status
-  pub unread : new.source ≡ old.source
-  pub none : h ≡ []
+-- what `init` promises
+abbrev pub Inits : {S D : Type 0} → List ℕ → Ends S D → Ends S D → ℕ → List Entry → Type 0
+Inits file old new status h = IsQuiet (EndsMaking file) old new status h

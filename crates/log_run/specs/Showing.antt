@@ -6,7 +6,7 @@ use Rattle.cell_format.specs.declared.cell.Cell.{Cell}
 use Rattle.log_state.specs.Recovers.{state_of}
 use Rattle.csv_rows.specs.ObjectLines.{objects_text}
 use Rattle.run_ends.specs.Limits.{width}
-use Rattle.run_ends.specs.Ends.{Ends, Targets}
+use Rattle.run_ends.specs.Ends.{Ends, Targets, IsQuiet}
 use Rattle.log_run.specs.Checking.{EndsTelling}
 
 -- a title, and a line for each object in the box, in the order of their ids, of the state after cells
@@ -17,8 +17,6 @@ shown_text region cells = objects_text region (state_of width cells).world
 abbrev pub EndsShowing : {D : Type 0} → List ℕ → Region → Targets D → Targets D → ℕ → Type 0
 EndsShowing file region old new status = EndsTelling (shown_text region) file old new status
 
--- what `show` promises: no row is read or called
-pub record Shows {S D : Type 0} (file : List ℕ) (region : Region) (old new : Ends S D) (status : ℕ) (h : List Entry) : Type 0 where
-  pub tells : EndsShowing file region old.to new.to status
-  pub unread : new.source ≡ old.source
-  pub none : h ≡ []
+-- what `show` promises
+abbrev pub Shows : {S D : Type 0} → List ℕ → Region → Ends S D → Ends S D → ℕ → List Entry → Type 0
+Shows file region old new status h = IsQuiet (EndsShowing file region) old new status h

@@ -1,5 +1,5 @@
 //! The command `check`: tells what the log in a file says, and reads alone.
-ghost use Rattle.std.specs.Prelude.{◌≡◌, ◌≤◌, IfOk, IfErr, MatchResult, length};
+ghost use Rattle.std.specs.Prelude.{◌≡◌, ◌≤◌, [], IfOk, IfErr, MatchResult, length};
 ghost use Rattle.disk_trait.specs.Drive.{Stays};
 ghost use Rattle.recovery.specs.Found.{IsFound};
 ghost use Rattle.run_ends.specs.Limits.{width, most_cells};
@@ -10,11 +10,24 @@ use csv_rows::{LogCounts, Refusal, write_counts};
 use disk_trait::LogDisk;
 use io_edge::Sink;
 use recovery::{Seen, inspect};
-use run_ends::{MOST_CELLS, WIDTH, attach_refusal, log_refusal, put_refusal, written};
+use run_ends::{
+    Ended, MOST_CELLS, WIDTH, attach_refusal, log_refusal, put_refusal, without_rows, written,
+};
 use std::alloc::Global;
 
-/// Tells what the log in a file of this name says, and gives the status.
-pub fn check_log<K: Sink, D: LogDisk>(alloc: Global, file: &str, sink: &mut K, disk: &mut D) -> u8
+/// Tells what the log in a file of this name says.
+pub fn check_log<K: Sink, D: LogDisk>(alloc: Global, file: &str, sink: &mut K, disk: D) -> Ended<D>
+    ensures ends { EndsChecking file.now (targets K.output D.drive sink.old disk)
+        (targets K.output D.drive sink.new result.disk) result.status }
+    ensures none { result.events ≡ [] }
+{
+    let mut disk = disk;
+    let status = tell_counts(alloc, file, sink, &mut disk);
+    without_rows(alloc, status, disk)
+}
+
+// The same over a drive that stays where it is, and its status.
+fn tell_counts<K: Sink, D: LogDisk>(alloc: Global, file: &str, sink: &mut K, disk: &mut D) -> u8
     ensures ends { EndsChecking file.now (targets K.output D.drive sink.old disk.old) (targets K.output D.drive sink.new disk.new) result }
 {
     match find(alloc, file, disk) {

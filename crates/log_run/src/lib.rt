@@ -13,5 +13,5 @@ mod making;
 mod showing;
 
 pub use checking::check_log;
-pub use making::{Drove, make_log};
+pub use making::make_log;
 pub use showing::show_log;

@@ -1,5 +1,5 @@
 //! The command `init`: makes a log in a file.
-ghost use Rattle.std.specs.Prelude.{◌≡◌, ◌≢◌, true, IfOk, IfErr, MatchResult};
+ghost use Rattle.std.specs.Prelude.{◌≡◌, ◌≢◌, [], true, IfOk, IfErr, MatchResult};
 ghost use Rattle.recovery.specs.Making.{Makes};
 ghost use Rattle.run_ends.specs.Limits.{width};
 ghost use Rattle.run_ends.specs.Ends.{targets};
@@ -10,30 +10,21 @@ use csv_rows::{Refusal, write_made};
 use disk_trait::LogDisk;
 use io_edge::Sink;
 use recovery::{InitFault, InitRefused, init};
-use run_ends::{Unmade, WIDTH, attach_refusal, put_refusal, written};
+use run_ends::{Ended, Unmade, WIDTH, attach_refusal, refuse_on, without_rows, written};
 use std::alloc::Global;
 
-/// How a command ends that takes a drive: a status, and the drive back.
-#[derive(Drop)]
-pub struct Drove<D: Drop> {
-    pub status: u8,
-    pub disk: D,
-}
-
 /// Makes a log in a file of this name, and says so.
-pub fn make_log<K: Sink, D: LogDisk>(alloc: Global, file: &str, sink: &mut K, disk: D) -> Drove<D>
+pub fn make_log<K: Sink, D: LogDisk>(alloc: Global, file: &str, sink: &mut K, disk: D) -> Ended<D>
     ensures ends { EndsMaking file.now (targets K.output D.drive sink.old disk)
         (targets K.output D.drive sink.new result.disk) result.status }
+    ensures none { result.events ≡ [] }
 {
     match make_in(alloc, file, disk) {
         Ok(disk) => {
             let status = written(write_made(sink));
-            Drove { status, disk }
+            without_rows(alloc, status, disk)
         }
-        Err(Unmade { disk, why }) => {
-            let status = put_refusal(&why, sink);
-            Drove { status, disk }
-        }
+        Err(Unmade { disk, why }) => refuse_on(alloc, &why, sink, disk),
     }
 }
 

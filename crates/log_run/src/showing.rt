@@ -1,4 +1,5 @@
 //! The command `show`: lists the objects in a box of the log in a file, and reads alone.
+ghost use Rattle.std.specs.Prelude.{◌≡◌, []};
 ghost use Rattle.run_ends.specs.Ends.{targets};
 ghost use Rattle.log_run.specs.Showing.{EndsShowing};
 
@@ -6,12 +7,29 @@ use crate::checking::find;
 use csv_rows::write_objects;
 use disk_trait::LogDisk;
 use io_edge::Sink;
-use run_ends::{put_refusal, written};
+use run_ends::{Ended, put_refusal, without_rows, written};
 use std::alloc::Global;
 use zorder::Region;
 
-/// Lists the objects in the box, of the log in a file of this name, and gives the status.
+/// Lists the objects in the box, of the log in a file of this name.
 pub fn show_log<K: Sink, D: LogDisk>(
+    alloc: Global,
+    file: &str,
+    region: &Region,
+    sink: &mut K,
+    disk: D,
+) -> Ended<D>
+    ensures ends { EndsShowing file.now region.now (targets K.output D.drive sink.old disk)
+        (targets K.output D.drive sink.new result.disk) result.status }
+    ensures none { result.events ≡ [] }
+{
+    let mut disk = disk;
+    let status = tell_objects(alloc, file, region, sink, &mut disk);
+    without_rows(alloc, status, disk)
+}
+
+// The same over a drive that stays where it is, and its status.
+fn tell_objects<K: Sink, D: LogDisk>(
     alloc: Global,
     file: &str,
     region: &Region,

@@ -4,6 +4,7 @@ pub mod BookEnds
 pub mod LogEnds
 pub mod PlayFacts
 pub mod TrialEnds
+pub mod StatusFacts
 pub mod Dealing
 pub mod Parting
 pub mod Joining

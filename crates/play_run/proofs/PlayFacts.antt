@@ -42,7 +42,7 @@ input-status old new (refusal.Disk cell) bytes told c = absurd c
 input-status old new refusal.LongLog bytes told c = absurd c
 input-status old new (refusal.InUse len) bytes told c = absurd c
 
-plays-input : {S D : Type 0} (log : Option (List ℕ)) (size : ℕ) (old new : Ends S D) (status : ℕ) (h : List Entry) → Goes log size old new status h → (bytes : List ℕ) (why : Refusal) → old.input.left ≡ Some bytes → judged bytes ≡ Err why
+plays-input : {S D : Type 0} (log : Option (List ℕ)) (size : ℕ) (old new : Ends S D) (status : ℕ) (h : List Entry) → Goes log size old.input new.input old.to new.to status h → (bytes : List ℕ) (why : Refusal) → old.input.left ≡ Some bytes → judged bytes ≡ Err why
     → (status ≡ status_of why) ⊎ ((status ≡ 5) ⊎ (status ≡ 9))
 plays-input log size old new status h (inr read) bytes why told bad = absurd (ok-err (judged bytes) read.rows why (read.read.rows_are bytes told) bad)
 plays-input log size old new status h (inl unread) bytes why told bad = by_why unread.refused
@@ -56,15 +56,15 @@ plays-input log size old new status h (inl unread) bytes why told bad = by_why u
         by_status (inr (inr gives)) = inl (refuses.status_is ∙ ap status_of (err-same (judged bytes) r why gives bad))
 
 -- good input and no fault of the source: rows are read, or memory ran out
-read-or-memory : {S D : Type 0} (log : Option (List ℕ)) (size : ℕ) (old new : Ends S D) (status : ℕ) (h : List Entry) → Goes log size old new status h → (bytes : List ℕ) (rows : List InRow) → old.input.left ≡ Some bytes → judged bytes ≡ Ok rows
-    → (Rose old.input.faults new.input.faults → ⊥) → IsRead log size old new status h ⊎ (status ≡ 9)
+read-or-memory : {S D : Type 0} (log : Option (List ℕ)) (size : ℕ) (old new : Ends S D) (status : ℕ) (h : List Entry) → Goes log size old.input new.input old.to new.to status h → (bytes : List ℕ) (rows : List InRow) → old.input.left ≡ Some bytes → judged bytes ≡ Ok rows
+    → (Rose old.input.faults new.input.faults → ⊥) → IsRead log size old.input new.input old.to new.to status h ⊎ (status ≡ 9)
 read-or-memory log size old new status h (inr read) bytes rows told good calm = inl read
 read-or-memory log size old new status h (inl unread) bytes rows told good calm = by_why unread.refused
   where
-    by_why : EndsRefused (IsInputCause old.input new.input) status old.to.output new.to.output → IsRead log size old new status h ⊎ (status ≡ 9)
+    by_why : EndsRefused (IsInputCause old.input new.input) status old.to.output new.to.output → IsRead log size old.input new.input old.to new.to status h ⊎ (status ≡ 9)
     by_why (r, cause, refuses) = by_status (input-status old.input new.input r bytes told cause)
       where
-        by_status : ((status_of r ≡ 5) × Rose old.input.faults new.input.faults) ⊎ ((status_of r ≡ 9) ⊎ (judged bytes ≡ Err r)) → IsRead log size old new status h ⊎ (status ≡ 9)
+        by_status : ((status_of r ≡ 5) × Rose old.input.faults new.input.faults) ⊎ ((status_of r ≡ 9) ⊎ (judged bytes ≡ Err r)) → IsRead log size old.input new.input old.to new.to status h ⊎ (status ≡ 9)
         by_status (inl (five, rose)) = absurd (calm rose)
         by_status (inr (inl nine)) = inr (refuses.status_is ∙ nine)
         by_status (inr (inr gives)) = absurd (ok-err (judged bytes) rows r good gives)
@@ -122,18 +122,19 @@ nine-log None old new status nine = tt
 nine-log (Some file) old new status nine = λ bytes fault told shown at calm. inr nine
 
 -- what is promised of a play
-pub plays-of : {S D : Type 0} (log : Option (List ℕ)) (size : ℕ) (old new : Ends S D) (status : ℕ) (h : List Entry) → Goes log size old new status h → Plays log size old new status h
-plays-of log size old new status h goes = record {
+pub plays-of : {S D : Type 0} (log : Option (List ℕ)) (size : ℕ) (old new : Ends S D) (status : ℕ) (h : List Entry) → new.other ≡ old.other → Goes log size old.input new.input old.to new.to status h → Plays log size old new status h
+plays-of log size old new status h other goes = record {
   goes = goes;
+  other = other;
   input = plays-input log size old new status h goes;
   follows = λ bytes rows told good calm. followed (read-or-memory log size old new status h goes bytes rows told good calm);
   complete = λ bytes rows told good calm quiet sound. done (read-or-memory log size old new status h goes bytes rows told good calm) quiet sound;
 }
   where
-    followed : IsRead log size old new status h ⊎ (status ≡ 9) → FollowsLog log old.to.drive new.to.drive status
+    followed : IsRead log size old.input new.input old.to new.to status h ⊎ (status ≡ 9) → FollowsLog log old.to.drive new.to.drive status
     followed (inl read) = rows-log reports.Lines size read.rows old.to new.to status h log read.plays
     followed (inr nine) = nine-log log old.to.drive new.to.drive status nine
 
-    done : IsRead log size old new status h ⊎ (status ≡ 9) → (Rose old.to.output.faults new.to.output.faults → ⊥) → IsGood log old.to.drive new.to.drive → (status ≡ 0) ⊎ (status ≡ 9)
+    done : IsRead log size old.input new.input old.to new.to status h ⊎ (status ≡ 9) → (Rose old.to.output.faults new.to.output.faults → ⊥) → IsGood log old.to.drive new.to.drive → (status ≡ 0) ⊎ (status ≡ 9)
     done (inl read) quiet good = rows-done reports.Lines size read.rows old.to new.to status h log read.plays quiet good
     done (inr nine) quiet good = inr nine

@@ -11,8 +11,8 @@ use Rattle.play_run.specs.Playing.{FollowsLog, IsGood}
 use Rattle.play_run.specs.Trying.{PlaysMade, Tries}
 use Rattle.play_run.proofs.PlayFacts.{rows-done, rows-log, nine-log}
 
-pub tries-of : {S D : Type 0} (log : Option (List ℕ)) (made : Made) (old new : Ends S D) (status : ℕ) (h : List Entry) → new.source ≡ old.source → PlaysMade log made old.to new.to status h → Tries log made old new status h
-tries-of log made old new status h unread goes = record { goes = goes; follows = followed goes; complete = done goes; unread = unread }
+pub tries-of : {S D : Type 0} (log : Option (List ℕ)) (made : Made) (old new : Ends S D) (status : ℕ) (h : List Entry) → new.source ≡ old.source → new.other ≡ old.other → PlaysMade log made old.to new.to status h → Tries log made old new status h
+tries-of log made old new status h unread other goes = record { goes = goes; follows = followed goes; complete = done goes; unread = unread; other = other }
   where
     followed : PlaysMade log made old.to new.to status h → FollowsLog log old.to.drive new.to.drive status
     followed (inl unmade) = nine-log log old.to.drive new.to.drive status unmade.refused.status_is

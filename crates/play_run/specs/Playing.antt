@@ -108,21 +108,21 @@ abbrev pub PlaysRows : {D : Type 0} → Report → Option (List ℕ) → ℕ →
 PlaysRows report log size rows old new status h = IsUnopened log old new status h ⊎ IsAnswered report log size rows old new status h
 
 -- the source gave no rows: none is called, the drive is left as it was, and the source's count where it didn't fail
-pub record IsUnread {S D : Type 0} (old new : Ends S D) (status : ℕ) (h : List Entry) : Type 0 where
+pub record IsUnread {D : Type 0} (before after : Input) (old new : Targets D) (status : ℕ) (h : List Entry) : Type 0 where
   pub none : h ≡ []
-  pub disk : new.to.disk ≡ old.to.disk
-  pub calm : status ≢ 5 → new.input.faults ≡ old.input.faults
-  pub refused : EndsRefused (IsInputCause old.input new.input) status old.to.output new.to.output
+  pub disk : new.disk ≡ old.disk
+  pub calm : status ≢ 5 → after.faults ≡ before.faults
+  pub refused : EndsRefused (IsInputCause before after) status old.output new.output
 
 -- all that the source had was read, and its rows were played
-pub record IsRead {S D : Type 0} (log : Option (List ℕ)) (size : ℕ) (old new : Ends S D) (status : ℕ) (h : List Entry) : Type 0 where
+pub record IsRead {D : Type 0} (log : Option (List ℕ)) (size : ℕ) (before after : Input) (old new : Targets D) (status : ℕ) (h : List Entry) : Type 0 where
   pub rows : List InRow
-  pub read : Reads old.input new.input rows
-  pub plays : PlaysRows reports.Lines log size rows old.to new.to status h
+  pub read : Reads before after rows
+  pub plays : PlaysRows reports.Lines log size rows old new status h
 
--- how a play goes
-abbrev pub Goes : {S D : Type 0} → Option (List ℕ) → ℕ → Ends S D → Ends S D → ℕ → List Entry → Type 0
-Goes log size old new status h = IsUnread old new status h ⊎ IsRead log size old new status h
+-- how a play goes, of what its source gave and what it wrote to
+abbrev pub Goes : {D : Type 0} → Option (List ℕ) → ℕ → Input → Input → Targets D → Targets D → ℕ → List Entry → Type 0
+Goes log size before after old new status h = IsUnread before after old new status h ⊎ IsRead log size before after old new status h
 
 -- over a log a fault that its bytes show gives its refusal's status, unless the drive's count rose or memory ran out
 abbrev pub FollowsLog : Option (List ℕ) → Drive → Drive → ℕ → Type 0
@@ -135,10 +135,11 @@ abbrev pub IsGood : Option (List ℕ) → Drive → Drive → Type 0
 IsGood None old new = ⊤
 IsGood (Some file) old new = IsGoodLog old new
 
--- What `play` promises. Bad input gives its refusal's status, and good input over a bad log that log's, unless a count rose or memory ran out.
+-- What `play` promises. The second drive is left as it was. Bad input gives its refusal's status, and good input over a bad log that log's, unless a count rose or memory ran out.
 -- Good input, a good log where there is one, and no fault give all lines, unless memory ran out.
 pub record Plays {S D : Type 0} (log : Option (List ℕ)) (size : ℕ) (old new : Ends S D) (status : ℕ) (h : List Entry) : Type 0 where
-  pub goes : Goes log size old new status h
+  pub goes : Goes log size old.input new.input old.to new.to status h
+  pub other : new.other ≡ old.other
   pub input : (bytes : List ℕ) (why : Refusal) → old.input.left ≡ Some bytes → judged bytes ≡ Err why → (status ≡ status_of why) ⊎ ((status ≡ 5) ⊎ (status ≡ 9))
   pub follows : (bytes : List ℕ) (rows : List InRow) → old.input.left ≡ Some bytes → judged bytes ≡ Ok rows → (Rose old.input.faults new.input.faults → ⊥)
       → FollowsLog log old.to.drive new.to.drive status

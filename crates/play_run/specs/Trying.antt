@@ -22,9 +22,10 @@ abbrev pub PlaysMade : {D : Type 0} → Option (List ℕ) → Made → Targets D
 PlaysMade log made old new status h = IsUnmade old new status h ⊎ PlaysRows reports.Summary log trial_bucket (made_rows made.rows made.seed) old new status h
 
 -- What `trial` promises. A bad log gives its status, unless the drive's count rose or memory ran out. A good log where there is one, and no fault,
--- give all lines, unless memory ran out. The source isn't read.
+-- give all lines, unless memory ran out. The source isn't read, and the second drive is left as it was.
 pub record Tries {S D : Type 0} (log : Option (List ℕ)) (made : Made) (old new : Ends S D) (status : ℕ) (h : List Entry) : Type 0 where
   pub goes : PlaysMade log made old.to new.to status h
   pub follows : FollowsLog log old.to.drive new.to.drive status
   pub complete : (Rose old.to.output.faults new.to.output.faults → ⊥) → IsGood log old.to.drive new.to.drive → (status ≡ 0) ⊎ (status ≡ 9)
   pub unread : new.source ≡ old.source
+  pub other : new.other ≡ old.other

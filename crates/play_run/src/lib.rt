@@ -18,5 +18,5 @@ mod reports;
 mod sessions_play;
 mod trying;
 
-pub use playing::{Played, play};
+pub use playing::play;
 pub use trying::play_made;

@@ -12,13 +12,12 @@ use crate::lanes::LaneEnd;
 use crate::output::write_report;
 use crate::reports::Report;
 use crate::sessions_play::{Played, play_sessions};
-use commit_book::Book;
+use commit_book::{Book, BookParts};
 use csv_rows::{InRow, Refusal};
 use disk_trait::LogDisk;
 use index_layer::Index;
 use io_edge::{Gate, Sink};
-use plain_list::Entries;
-use run_ends::{put_refusal, written};
+use run_ends::{Ended, put_refusal, written};
 use std::alloc::Global;
 use std::marker::Brand;
 use std::sync::Wait;
@@ -26,25 +25,6 @@ use std::thread::Threads;
 
 // In buckets of 64 a split has its two steps after some 32 puts.
 const ROWS_A_STEP: usize = 16;
-
-/// How rows end that are played over a book: a status, a history, and the drive of the log where there is one.
-#[derive(Drop)]
-pub(crate) struct BookEnd<D: LogDisk> {
-    pub(crate) status: u8,
-    pub(crate) events: Entries,
-    pub(crate) disk: Option<D>,
-}
-
-// What is left of a book whose rows were played: the cell whose append failed, what the lanes left where each row was answered, and what
-// the book held.
-#[derive(Drop)]
-struct Closed<I: Index, D: LogDisk> {
-    failed: Option<u64>,
-    ends: Option<Vec<LaneEnd>>,
-    index: I,
-    events: Entries,
-    disk: Option<D>,
-}
 
 /// Plays rows over a book with no entries so far, and tells what a report tells of them.
 pub(crate) fn play_book<R: Threads + Wait + Sync, K: Sink, D: LogDisk + Send, G: Gate + Sync>(
@@ -55,7 +35,7 @@ pub(crate) fn play_book<R: Threads + Wait + Sync, K: Sink, D: LogDisk + Send, G:
     book: Book<StoreIndex, D>,
     sink: &mut K,
     gate: &G,
-) -> BookEnd<D>
+) -> Ended<Option<D>>
     requires rows { AreInRows rows.now }
     requires new { IsNewBook book }
     ensures { EndsBook D.drive report rows.now book result.events result.status result.disk (K.output sink.old) (K.output sink.new) }
@@ -72,7 +52,7 @@ fn end_book<I: Index, K: Sink, D: LogDisk>(
     rows: &[InRow],
     played: Played<I, D>,
     sink: &mut K,
-) -> BookEnd<D>
+) -> Ended<Option<D>>
     requires rows { AreInRows rows.now }
     requires numbers { IfSome played.ends (λ ends. HasNumbers rows.now ends.items) }
     ensures ends { EndsPlay report rows.now (failed_cell played.book.entries) played.book.leaves (option_map (λ ends. ends.items) played.ends)
@@ -80,54 +60,42 @@ fn end_book<I: Index, K: Sink, D: LogDisk>(
     ensures events { result.events ≡ played.book.entries }
     ensures disk { result.disk ≡ disk_in played.book.log }
 {
-    let closed = close(played);
-    let status = write_end(report, rows, &closed, sink);
-    BookEnd {
-        status,
-        events: closed.events,
-        disk: closed.disk,
-    }
-}
-
-// Closes a book whose rows were played.
-fn close<I: Index, D: LogDisk>(played: Played<I, D>) -> Closed<I, D>
-    ensures failed { result.failed ≡ failed_cell played.book.entries }
-    ensures ends { result.ends ≡ played.ends }
-    ensures leaves { I.leaves result.index ≡ played.book.leaves }
-    ensures events { result.events ≡ played.book.entries }
-    ensures disk { result.disk ≡ disk_in played.book.log }
-{
     let Played { book, ends } = played;
     let failed = book.closed();
-    let parts = book.into_parts();
-    Closed {
-        failed,
-        ends,
-        index: parts.index,
-        events: parts.entries,
-        disk: parts.disk,
+    let BookParts {
+        index,
+        disk,
+        entries,
+    } = book.into_parts();
+    let status = write_end(report, rows, failed, &ends, &index, sink);
+    Ended {
+        status,
+        events: entries,
+        disk,
     }
 }
 
 // Writes what a report tells of rows that were all answered, or the line of a refusal.
-fn write_end<I: Index, K: Sink, D: LogDisk>(
+fn write_end<I: Index, K: Sink>(
     report: Report,
     rows: &[InRow],
-    closed: &Closed<I, D>,
+    failed: Option<u64>,
+    ends: &Option<Vec<LaneEnd>>,
+    index: &I,
     sink: &mut K,
 ) -> u8
     requires rows { AreInRows rows.now }
-    requires numbers { IfSome closed.now.ends (λ ends. HasNumbers rows.now ends.items) }
-    ensures { EndsPlay report rows.now closed.now.failed (I.leaves closed.now.index) (option_map (λ ends. ends.items) closed.now.ends)
+    requires numbers { IfSome ends.now (λ ends. HasNumbers rows.now ends.items) }
+    ensures { EndsPlay report rows.now failed (I.leaves index.now) (option_map (λ ends. ends.items) ends.now)
         result (K.output sink.old) (K.output sink.new) }
 {
-    if let Some(cell) = closed.failed {
+    if let Some(cell) = failed {
         return put_refusal(&Refusal::Disk { cell: Some(cell) }, sink);
     }
-    match &closed.ends {
+    match ends {
         Some(ends) => {
             let ends = ends.as_slice();
-            written(write_report(sink, report, rows, ends, &closed.index))
+            written(write_report(sink, report, rows, ends, index))
         }
         None => put_refusal(&Refusal::Memory, sink),
     }

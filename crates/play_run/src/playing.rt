@@ -1,33 +1,23 @@
 //! The command `play`: answers the rows of a source, and over a log keeps what they change.
 ghost use Rattle.std.specs.Prelude.{◌≡◌, true, [], Some, None, is_some};
 ghost use Rattle.csv_rows.specs.InRows.{AreInRows};
-ghost use Rattle.run_ends.specs.Ends.{ends, targets};
-ghost use Rattle.run_ends.specs.Taking.{Refuses};
+ghost use Rattle.run_ends.specs.Ends.{targets};
 ghost use Rattle.command_words.specs.Asked.{file_of};
 ghost use Rattle.play_run.specs.Playing.{Goes, PlaysRows};
 
 use crate::index::StoreIndex;
 use crate::log_book::open_book;
-use crate::play_book::{BookEnd, play_book};
+use crate::play_book::play_book;
 use crate::reports::Report;
 use command_words::Command;
 use commit_book::Book;
 use csv_rows::{InRow, Refusal};
 use disk_trait::LogDisk;
 use io_edge::{Gate, Sink, Source};
-use plain_list::Entries;
-use run_ends::{Unmade, put_refusal, read_judged};
+use run_ends::{Ended, Unmade, read_judged, refuse_on};
 use std::alloc::Global;
 use std::sync::Wait;
 use std::thread::Threads;
-
-/// How a play ends: a status, a history, and the drive back.
-#[derive(Drop)]
-pub struct Played<D: Drop> {
-    pub status: u8,
-    pub events: Entries,
-    pub disk: D,
-}
 
 /// Plays the rows of a source, over the log in a file of this name or over none, with buckets of this size.
 pub fn play<R: Threads + Wait + Sync, S: Source, K: Sink, D: LogDisk + Send, G: Gate + Sync>(
@@ -39,9 +29,9 @@ pub fn play<R: Threads + Wait + Sync, S: Source, K: Sink, D: LogDisk + Send, G: 
     sink: &mut K,
     disk: D,
     gate: &G,
-) -> Played<D>
-    ensures goes { Goes (file_of (Command.Play log.entry size)) size (ends S.input K.output D.drive source.old sink.old disk)
-        (ends S.input K.output D.drive source.new sink.new result.disk) result.status result.events }
+) -> Ended<D>
+    ensures goes { Goes (file_of (Command.Play log.entry size)) size (S.input source.old) (S.input source.new)
+        (targets K.output D.drive sink.old disk) (targets K.output D.drive sink.new result.disk) result.status result.events }
 {
     match read_judged(alloc, source) {
         Ok(rows) => {
@@ -63,7 +53,7 @@ pub(crate) fn play_rows<R: Threads + Wait + Sync, K: Sink, D: LogDisk + Send, G:
     sink: &mut K,
     disk: D,
     gate: &G,
-) -> Played<D>
+) -> Ended<D>
     requires { AreInRows rows.now }
     ensures plays { PlaysRows report (file_of (Command.Play log.entry size)) size rows.now (targets K.output D.drive sink.old disk)
         (targets K.output D.drive sink.new result.disk) result.status result.events }
@@ -84,7 +74,7 @@ fn play_new<R: Threads + Wait + Sync, K: Sink, D: LogDisk + Send, G: Gate + Sync
     sink: &mut K,
     disk: D,
     gate: &G,
-) -> Played<D>
+) -> Ended<D>
     requires { AreInRows rows.now }
     ensures plays { PlaysRows report None size rows.now (targets K.output D.drive sink.old disk)
         (targets K.output D.drive sink.new result.disk) result.status result.events }
@@ -92,7 +82,7 @@ fn play_new<R: Threads + Wait + Sync, K: Sink, D: LogDisk + Send, G: Gate + Sync
     match Book::<StoreIndex, D>::fresh(alloc, size) {
         Ok(book) => {
             let end = play_book(rt, alloc, rows, report, book, sink, gate);
-            Played {
+            Ended {
                 status: end.status,
                 events: end.events,
                 disk,
@@ -113,7 +103,7 @@ fn play_over<R: Threads + Wait + Sync, K: Sink, D: LogDisk + Send, G: Gate + Syn
     sink: &mut K,
     disk: D,
     gate: &G,
-) -> Played<D>
+) -> Ended<D>
     requires { AreInRows rows.now }
     ensures plays { PlaysRows report (Some file.now) size rows.now (targets K.output D.drive sink.old disk)
         (targets K.output D.drive sink.new result.disk) result.status result.events }
@@ -128,40 +118,21 @@ fn play_over<R: Threads + Wait + Sync, K: Sink, D: LogDisk + Send, G: Gate + Syn
 }
 
 // The drive, which a book over a log has.
-fn with_drive<D: LogDisk>(end: BookEnd<D>) -> Played<D>
+fn with_drive<D: LogDisk>(end: Ended<Option<D>>) -> Ended<D>
     requires { is_some end.disk ≡ true }
     ensures { end ≡ record { status = result.status; events = result.events; disk = Some result.disk } }
 {
-    let BookEnd {
+    let Ended {
         status,
         events,
         disk,
     } = end;
     match disk {
-        Some(disk) => Played {
+        Some(disk) => Ended {
             status,
             events,
             disk,
         },
         None => unreachable!(),
-    }
-}
-
-/// Ends a play with a refusal, where no row was answered.
-pub(crate) fn refuse_on<K: Sink, D: LogDisk>(
-    alloc: Global,
-    why: &Refusal,
-    sink: &mut K,
-    disk: D,
-) -> Played<D>
-    ensures none { result.events ≡ [] }
-    ensures disk { result.disk ≡ disk }
-    ensures refused { Refuses why.now result.status (K.output sink.old) (K.output sink.new) }
-{
-    let status = put_refusal(why, sink);
-    Played {
-        status,
-        events: Entries::empty(alloc),
-        disk,
     }
 }

@@ -4,14 +4,14 @@ ghost use Rattle.run_ends.specs.Ends.{targets};
 ghost use Rattle.command_words.specs.Asked.{file_of};
 ghost use Rattle.play_run.specs.Trying.{PlaysMade};
 
-use crate::playing::{Played, play_rows, refuse_on};
+use crate::playing::play_rows;
 use crate::reports::Report;
 use command_words::{Command, Made};
 use csv_rows::Refusal;
 use disk_trait::LogDisk;
 use io_edge::{Gate, Sink};
 use make_moves::make;
-use run_ends::TRIAL_BUCKET;
+use run_ends::{Ended, TRIAL_BUCKET, refuse_on};
 use std::alloc::Global;
 use std::sync::Wait;
 use std::thread::Threads;
@@ -25,7 +25,7 @@ pub fn play_made<R: Threads + Wait + Sync, K: Sink, D: LogDisk + Send, G: Gate +
     sink: &mut K,
     disk: D,
     gate: &G,
-) -> Played<D>
+) -> Ended<D>
     requires few { made.rows ≤ 65536 }
     ensures goes { PlaysMade (file_of (Command.Trial log.entry made)) made (targets K.output D.drive sink.old disk)
         (targets K.output D.drive sink.new result.disk) result.status result.events }

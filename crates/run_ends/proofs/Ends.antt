@@ -7,6 +7,7 @@ use Rattle.csv_rows.specs.declared.rows.Refusal.{Refusal}
 use Rattle.csv_rows.specs.declared.rows.Refusal.TheVariants as refusal
 use Rattle.run_ends.specs.Status.{status_of, WritesLines}
 use Rattle.run_ends.specs.Taking.{TakesLine}
+use Rattle.run_ends.specs.Ending.{EndsWriting, EndsRefused}
 use Rattle.run_ends.specs.Limits.{width}
 use Rattle.io_edge.specs.Streams.{Output}
 
@@ -56,3 +57,27 @@ no-lines why status is writes = by_case why (by_line writes)
     by_case refusal.LongLog (inr e) = omega (arith, e)
     by_case (refusal.InUse len) (inl e) = omega (arith, e)
     by_case (refusal.InUse len) (inr e) = omega (arith, e)
+
+-- a refusal whose cause isn't the words has another status than 2
+pub not-usage : (Cause : Refusal → Type 0) (status : ℕ) (before after : Output) → (Cause refusal.Usage → ⊥) → EndsRefused Cause status before after → status ≡ 2 → ⊥
+not-usage Cause status before after never (why, cause, refuses) two = by_case why cause (sym refuses.status_is ∙ two)
+  where
+    by_case : (r : Refusal) → Cause r → status_of r ≡ 2 → ⊥
+    by_case refusal.Usage c e = never c
+    by_case refusal.Header c e = omega (arith, e)
+    by_case (refusal.Csv row) c e = omega (arith, e)
+    by_case (refusal.Field row column) c e = omega (arith, e)
+    by_case refusal.NotLog c e = omega (arith, e)
+    by_case (refusal.OldLog version width) c e = omega (arith, e)
+    by_case (refusal.Damaged cell cause) c e = omega (arith, e)
+    by_case refusal.Source c e = omega (arith, e)
+    by_case (refusal.Disk cell) c e = omega (arith, e)
+    by_case refusal.LongInput c e = omega (arith, e)
+    by_case refusal.ManyRows c e = omega (arith, e)
+    by_case refusal.LongLog c e = omega (arith, e)
+    by_case refusal.Memory c e = omega (arith, e)
+    by_case (refusal.InUse len) c e = omega (arith, e)
+
+pub not-written : (text : List ℕ) (status : ℕ) (before after : Output) → EndsWriting text status before after → status ≡ 2 → ⊥
+not-written text status before after (inl (e, all, same)) two = omega (arith, e, two)
+not-written text status before after (inr (e, rose, part)) two = omega (arith, e, two)

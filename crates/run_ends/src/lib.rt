@@ -1,18 +1,20 @@
 //! What the commands of a run share: its ends, the statuses and lines of refusals, what goes wrong with a log, and the rows of a source.
 //!
-//! Contracts see a run's ends as one value (`Ends`: source, sink, drive), before a command and after it. Each refusal has one status and
+//! Contracts see a run's ends as one value (`Ends`: source, sink, two drives), before a command and after it. Each refusal has one status and
 //! one line, which `put_refusal` puts (`Refuses`). `read_judged` promises the rows of all bytes that a source had, or the first thing that
 //! is wrong with them.
 //!
 //! Not here: what a command does (`log_run`, `play_run`), which command words ask for (`location_run`), the texts of lines (`csv_rows`).
 #![tactic(auto)]
 
+mod ended;
 mod input;
 mod limits;
 mod log_faults;
 mod refusals;
 mod writing;
 
+pub use ended::{Ended, refuse_on, without_rows};
 pub use input::read_judged;
 pub use limits::{MOST_CELLS, MOST_PLAYED, TRIAL_BUCKET, WIDTH};
 pub use log_faults::{Unmade, attach_refusal, log_refusal};

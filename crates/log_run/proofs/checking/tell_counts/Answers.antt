@@ -1,6 +1,6 @@
 use Rattle.std.proofs.Common.{inr, ◌∙◌}
 use Rattle.log_run.proofs.CheckingFacts.{decided-refused}
-use Rattle.log_run.proofs.showing.show_log.Goals as goal
+use Rattle.log_run.proofs.checking.tell_counts.Goals as goal
 
 pub returns-in-Err : goal.returns-in-Err
 returns-in-Err g c =
