@@ -1,5 +1,6 @@
 //! The rows of a source, or why there is nothing to play.
-ghost use Rattle.std.specs.Prelude.{◌≡◌, ◌≢◌, ◌≤◌, List, [], ℕ, Some, Ok, Err, IfOk, IfErr, length};
+ghost use Rattle.std.specs.Prelude.{◌≡◌, ◌≢◌, ◌≤◌, ◌+◌, List, [], ℕ, Some, Ok, Err, IfOk, IfErr, length};
+ghost use Rattle.io_edge.specs.Reads.{ConsumesUpTo};
 ghost use Rattle.run_ends.specs.Limits.{most_bytes};
 ghost use Rattle.run_ends.specs.Judged.{judged, refusal_of};
 ghost use Rattle.run_ends.specs.Inputs.{IsInputCause, Reads};
@@ -14,6 +15,7 @@ pub fn read_judged<S: Source>(alloc: Global, source: &mut S) -> Result<Rows, Ref
     ensures rows { IfOk result (Reads (S.input source.old) (S.input source.new)) }
     ensures cause { IfErr result (IsInputCause (S.input source.old) (S.input source.new)) }
     ensures calm { IfErr result (λ why. why ≢ Refusal.Source → (S.input source.new).faults ≡ (S.input source.old).faults) }
+    ensures taken { ConsumesUpTo (most_bytes + 1) (S.input source.old).left (S.input source.new).left }
 {
     match read_all(alloc, source, MOST_BYTES) {
         Ok(bytes) => judge(alloc, bytes.as_slice()),
