@@ -1,5 +1,5 @@
 -- The command `play`, and how rows go that are played.
-use Rattle.std.specs.Prelude.{◌≡◌, ◌≢◌, ◌⊎◌, ℕ, ◌≤◌, false, List, [], length, Option, Some, None, Ok, Err, ⊤}
+use Rattle.std.specs.Prelude.{◌≡◌, ◌≢◌, ◌⊎◌, ℕ, ◌+◌, ◌≤◌, false, List, [], length, Option, Some, None, Ok, Err, ⊤}
 use Rattle.std.specs.Option.{option_map}
 use Rattle.causes.specs.Causes.{Rose}
 use Rattle.disk_trait.specs.Drive.{Drive}
@@ -13,8 +13,9 @@ use Rattle.recovery.specs.Opening.{KeepsCells, IsUntouched}
 use Rattle.csv_rows.specs.declared.rows.InRow.{InRow}
 use Rattle.csv_rows.specs.declared.rows.Refusal.{Refusal}
 use Rattle.csv_rows.specs.declared.rows.Refusal.TheVariants as refusal
-use Rattle.run_ends.specs.Limits.{width, most_played}
+use Rattle.run_ends.specs.Limits.{most_bytes, width, most_played}
 use Rattle.io_edge.specs.Streams.{Input, Output}
+use Rattle.io_edge.specs.Reads.{ConsumesUpTo}
 use Rattle.run_ends.specs.Ends.{Ends, Targets}
 use Rattle.run_ends.specs.Judged.{judged}
 use Rattle.run_ends.specs.Status.{status_of, WritesLines}
@@ -107,12 +108,14 @@ pub record IsAnswered {D : Type 0} (report : Report) (log : Option (List ℕ)) (
 abbrev pub PlaysRows : {D : Type 0} → Report → Option (List ℕ) → ℕ → List InRow → Targets D → Targets D → ℕ → List Entry → Type 0
 PlaysRows report log size rows old new status h = IsUnopened log old new status h ⊎ IsAnswered report log size rows old new status h
 
--- the source gave no rows: none is called, the drive is left as it was, and the source's count where it didn't fail
+-- The source gave no rows: none is called, the drive is left as it was, and the source's count where it didn't fail. However much it has, at
+-- most one byte behind the limit was taken of it.
 pub record IsUnread {D : Type 0} (before after : Input) (old new : Targets D) (status : ℕ) (h : List Entry) : Type 0 where
   pub none : h ≡ []
   pub disk : new.disk ≡ old.disk
   pub calm : status ≢ 5 → after.faults ≡ before.faults
   pub refused : EndsRefused (IsInputCause before after) status old.output new.output
+  pub taken : ConsumesUpTo (most_bytes + 1) before.left after.left
 
 -- all that the source had was read, and its rows were played
 pub record IsRead {D : Type 0} (log : Option (List ℕ)) (size : ℕ) (before after : Input) (old new : Targets D) (status : ℕ) (h : List Entry) : Type 0 where

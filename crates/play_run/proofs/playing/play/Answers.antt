@@ -14,5 +14,6 @@ returns-in-Err g c =
         disk = told.disk;
         calm = λ other. c.in-Err.ensures.calm (λ is. other (told.refused.status_is ∙ ap status_of is));
         refused = (c.in-Err.why, c.in-Err.ensures.cause, told.refused);
+        taken = c.read_judged.ensures.taken;
       });
     }
