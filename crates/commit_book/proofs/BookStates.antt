@@ -16,6 +16,7 @@ use Rattle.plain_list.specs.declared.ops.Op.{Op}
 use Rattle.plain_list.specs.declared.entries.Entry.{Entry}
 use Rattle.plain_list.specs.declared.entries.Entry.TheVariants.{Fail, Call, Begin, Install, Abandon}
 use Rattle.plain_list.specs.declared.entries.Lost.{Lost}
+use Rattle.plain_list.specs.World.{World, places_of}
 use Rattle.plain_list.specs.Answer.{after_of}
 use Rattle.plain_list.specs.History.{world_after, failed_cell}
 use Rattle.plain_list.specs.State.{State, OpenSplit, IsLegal, state_after, step, is_possible, is_free, may_split, is_splitting, split_name, split_leaf, installed, without_number}
@@ -47,14 +48,14 @@ steps_on w o h e legal sound may = record {
 }
 
 -- what holds of a book whose table stands for its world
-pub is_book : {I D P : Type 0} (drive : D → Drive) (w : ℕ) (b : Inside I D P) → IsInside drive w b.opening b → AreLeaves b.table.leaves → AllByRecursion (HasRowsOf b.table.world) b.table.leaves → IsBook drive w (book_of b)
+pub is_book : {I D P : Type 0} (drive : D → Drive) (w : ℕ) (b : Inside I D P) → IsInside drive w b.opening b → AreLeaves b.table.leaves → AllByRecursion (HasRowsOf (places_of b.table.world)) b.table.leaves → IsBook drive w (book_of b)
 is_book drive w b inside are rows = record {
   opening = inside.opening;
   legal = inside.legal;
   stands = record {
     names_are = inside.names;
     are_leaves = are;
-    rows = subst (λ (ms : List Placed). AllByRecursion (HasRowsOf ms) b.table.leaves) (inside.world ∙ state_after-world w b.opening b.history.entries) rows;
+    rows = subst (λ (ms : World). AllByRecursion (HasRowsOf (places_of ms)) b.table.leaves) (inside.world ∙ state_after-world w b.opening b.history.entries) rows;
   };
   bases = inside.bases;
   few = inside.few;
@@ -85,7 +86,7 @@ module _ {I D P : Type 0} (drive : D → Drive) (w : ℕ) (o : State) (old new :
       record {
         opening = inside.opening;
         legal = rw entries steps.legal;
-        world = rw entries (world ∙ ap (λ (ms : List Placed). after_of ms op) inside.world ∙ sym (ap (λ (t : State). t.world) steps.after));
+        world = rw entries (world ∙ ap (λ (ms : World). after_of ms op) inside.world ∙ sym (ap (λ (t : State). t.world) steps.after));
         names = rw entries (same_names old.splits.splits _ _ bases ∙ inside.names ∙ sym (ap (λ (t : State). t.leaves) steps.after));
         splits = rw entries (ap (λ v. v.splits) splits ∙ inside.splits ∙ sym (ap (λ (t : State). t.splits) steps.after));
         begun = rw entries (ap (λ v. v.begun) splits ∙ inside.begun ∙ sym (ap (λ (t : State). t.begun) steps.after));
@@ -104,7 +105,7 @@ module _ {I D P : Type 0} (drive : D → Drive) (w : ℕ) (o : State) (old new :
       not_begin number name is = cc is
 
   -- the begin of a split
-  pub inside-begin : (name : List Bool) (bucket : Rows) → length h < most_events → AreLeaves old.table.leaves → AllByRecursion (HasRowsOf (world_after o.world h)) old.table.leaves
+  pub inside-begin : (name : List Bool) (bucket : Rows) → length h < most_events → AreLeaves old.table.leaves → AllByRecursion (HasRowsOf (places_of (world_after o.world h))) old.table.leaves
       → Folds name old.table.leaves new.table.leaves bucket → may_split w s name ≡ true → is_splitting s.splits name ≡ false
       → new.history.entries ≡ h ++ Begin (old.splits.begun + 1) name ∷ [] → length old.splits.splits + 1 ≤ new.history.room → new.table.world ≡ old.table.world
       → new.splits.splits ≡ old.splits.splits ++ record { number = old.splits.begun + 1; name = name } ∷ [] → new.splits.begun ≡ old.splits.begun + 1 → IsInside drive w o new
@@ -123,7 +124,7 @@ module _ {I D P : Type 0} (drive : D → Drive) (w : ℕ) (o : State) (old new :
         splits = rw entries (splits ∙ ap (λ (os : List OpenSplit). os ++ record { number = number; name = name } ∷ []) inside.splits ∙ sym now);
         begun = rw entries (begun ∙ next ∙ sym (ap (λ (t : State). t.begun) steps.after));
         bases = rw entries (KeepsBases-push w o h e old.table.leaves new.table.leaves (record {
-          begun = λ n nm is. subst (λ (nm : List Bool). KeepsBase new.table.leaves (world_after o.world h) nm) (sym (same_begin n nm is)) begun_base;
+          begun = λ n nm is. subst (λ (nm : List Bool). KeepsBase new.table.leaves (places_of (world_after o.world h)) nm) (sym (same_begin n nm is)) begun_base;
           was = λ before after n nm there open_now. by_split before after n nm there (found-push s.splits (record { number = number; name = name }) n nm (ap (λ (os : List OpenSplit). split_name os n) (sym now) ∙ open_now));
           keeps = λ n nm was open_now ms kept.
               subst (λ (ls : List Leaf). KeepsBase ls ms nm) (sym folds.leaves) (KeepsBase-replaced old.table.leaves ms nm name (as_base folds.leaf.bucket.rows) (other nm (splitting-found s.splits n nm was)) kept);
@@ -136,9 +137,9 @@ module _ {I D P : Type 0} (drive : D → Drive) (w : ℕ) (o : State) (old new :
       same_begin : (n : ℕ) (nm : List Bool) → Begin n nm ≡ Begin (old.splits.begun + 1) name → nm ≡ name
       same_begin n nm is = cc is
 
-      begun_base : KeepsBase new.table.leaves (world_after o.world h) name
+      begun_base : KeepsBase new.table.leaves (places_of (world_after o.world h)) name
       begun_base =
-          subst (λ (ls : List Leaf). KeepsBase ls (world_after o.world h) name) (sym folds.leaves)
+          subst (λ (ls : List Leaf). KeepsBase ls (places_of (world_after o.world h)) name) (sym folds.leaves)
           (KeepsBase-begun old.table.leaves (world_after o.world h) name folds.leaf are rows folds.named)
 
       other : (nm : List Bool) → is_splitting s.splits nm ≡ true → same_name nm name ≡ false

@@ -4,7 +4,9 @@ use Rattle.std.specs.List.{AllByRecursion}
 use Rattle.zorder.specs.declared.points.Placed.{Placed}
 use Rattle.plain_list.specs.declared.ops.Op.{Op}
 use Rattle.plain_list.specs.declared.ops.Op.TheVariants.{Put, Move, Remove, Find, Within, Near}
-use Rattle.plain_list.specs.Answer.{after_of, is_change, listed, members_in}
+use Rattle.plain_list.specs.World.{World, places_of}
+use Rattle.plain_list.specs.Queries.{listed, members_in}
+use Rattle.plain_list.specs.Answer.{after_of, is_change}
 use Rattle.index_layer.specs.Leaves.{Leaf, AreLeaves, names_of}
 use Rattle.index_layer.specs.Stands.{Stands, HasRowsOf}
 use Rattle.plain_list.specs.State.{OpenSplit}
@@ -20,25 +22,25 @@ pub same_names : (splits : List OpenSplit) (old new : List Leaf) → bases_of sp
 same_names splits old new same = sym (names_from_bases splits new) ∙ ap (map (λ (b : LeafBase). b.name)) same ∙ names_from_bases splits old
 
 -- a query leaves the world
-pub query_keeps : (op : Op) (world : List Placed) → IsQuery op → after_of world op ≡ world
+pub query_keeps : (op : Op) (world : World) → IsQuery op → after_of world op ≡ world
 query_keeps (Put id at) world is = absurd is
 query_keeps (Move id at) world is = absurd is
 query_keeps (Remove id) world is = absurd is
 query_keeps (Find id) world is = absurd is
-query_keeps (Within region) world is = within_keeps (members_in region world) world
+query_keeps (Within region) world is = within_keeps (members_in region (places_of world)) world
   where
-    within_keeps : (ms world : List Placed) → cond (is_change (listed ms)) world world ≡ world
+    within_keeps : (ms : List Placed) (world : World) → cond (is_change (listed ms)) world world ≡ world
     within_keeps ms world = both (is_change (listed ms)) world
       where
-        both : (b : Bool) (world : List Placed) → cond b world world ≡ world
+        both : (b : Bool) (world : World) → cond b world world ≡ world
         both true world = refl
         both false world = refl
 query_keeps (Near at k) world is = refl
 
 -- an index with the leaves of one that stands for a world stands for it too
-pub stands_again : (old new : List Leaf) (before after : List Placed) (now : List (List Bool)) → new ≡ old → AreLeaves new → before ≡ after → AllByRecursion (HasRowsOf before) old → names_of old ≡ now → Stands new after now
+pub stands_again : (old new : List Leaf) (before after : World) (now : List (List Bool)) → new ≡ old → AreLeaves new → before ≡ after → AllByRecursion (HasRowsOf (places_of before)) old → names_of old ≡ now → Stands new (places_of after) now
 stands_again old new before after now same laws world rows are = record {
   names_are = ap names_of same ∙ are;
   are_leaves = laws;
-  rows = subst (λ (ls : List Leaf). AllByRecursion (HasRowsOf after) ls) (sym same) (subst (λ (ms : List Placed). AllByRecursion (HasRowsOf ms) old) world rows);
+  rows = subst (λ (ls : List Leaf). AllByRecursion (HasRowsOf (places_of after)) ls) (sym same) (subst (λ (ms : World). AllByRecursion (HasRowsOf (places_of ms)) old) world rows);
 }

@@ -14,7 +14,7 @@ use Rattle.index_layer.proofs.LeafChanges.{length-children, names_of-leaves_of}
 use Rattle.split_prepare.specs.Cut.{cut}
 use Rattle.point_table.proofs.Dividing.{length-cut}
 use Rattle.bucket_versions.specs.declared.row.Row.{Row}
-use Rattle.index_layer.specs.Stands.{HasRowsOf, world_has}
+use Rattle.index_layer.specs.Stands.{HasRowsOf, places_have}
 use Rattle.index_layer.proofs.LeafKeys.{false_if, first_key-under, first_key-fits}
 use Rattle.index_layer.proofs.LeafNames.{IsAmong, later_leaf, find-among, among-any, some_found, short-among, one-leaf}
 use Rattle.plain_list.specs.declared.entries.Entry.{Entry}
@@ -62,7 +62,7 @@ pub record KeepsOn (w : ℕ) (o : State) (h : List Entry) (e : Entry) (old new :
   pub was : (before after : List Entry) (number : ℕ) (name : List Bool) → h ≡ before ++ Begin number name ∷ after → split_name (state_after w o (h ++ e ∷ [])).splits number ≡ Some name
       → split_name (state_after w o h).splits number ≡ Some name
   pub keeps : (number : ℕ) (name : List Bool) → split_name (state_after w o h).splits number ≡ Some name → split_name (state_after w o (h ++ e ∷ [])).splits number ≡ Some name
-      → (world : List Placed) → KeepsBase old world name → KeepsBase new world name
+      → (places : List Placed) → KeepsBase old places name → KeepsBase new places name
 
 pub KeepsBases-push : (w : ℕ) (o : State) (h : List Entry) (e : Entry) (old new : List Leaf) → KeepsOn w o h e old new → KeepsBases w o old h → KeepsBases w o new (h ++ e ∷ [])
 KeepsBases-push w o h e old new on kept before after number name same now = by_place (last_or_earlier h before after e (Begin number name) same)
@@ -119,9 +119,9 @@ some_rows : (a b : List Row) → Some a ≡ Some b → a ≡ b
 some_rows a b e = cc e
 
 -- the names, and the bases of open splits, say what the base of an open split is
-pub KeepsBase-bases : (splits : List OpenSplit) (old new : List Leaf) (world : List Placed) (name : List Bool) → bases_of splits new ≡ bases_of splits old → is_splitting splits name ≡ true
-    → KeepsBase old world name → KeepsBase new world name
-KeepsBase-bases splits old new world name same open_one kept =
+pub KeepsBase-bases : (splits : List OpenSplit) (old new : List Leaf) (places : List Placed) (name : List Bool) → bases_of splits new ≡ bases_of splits old → is_splitting splits name ≡ true
+    → KeepsBase old places name → KeepsBase new places name
+KeepsBase-bases splits old new places name same open_one kept =
     let found = leaf_named-bases splits name old new kept.leaf same kept.named in
     let name_is : found.leaf.name ≡ kept.leaf.name = ap (λ (b : LeafBase). b.name) found.same in
     let was : is_splitting splits kept.leaf.name ≡ true = ap (is_splitting splits) (named_is name old kept.leaf kept.named).1 ∙ open_one in
@@ -135,7 +135,7 @@ KeepsBase-bases splits old new world name same open_one kept =
       named = found.named;
       base = record {
         in_order = subst IsRows (sym base_is) kept.base.in_order;
-        rows = λ r. ap (has_row r) base_is ∙ kept.base.rows r ∙ ap (λ (n : List Bool). world_has world r && is_under n r.key) (sym name_is);
+        rows = λ r. ap (has_row r) base_is ∙ kept.base.rows r ∙ ap (λ (n : List Bool). places_have places r && is_under n r.key) (sym name_is);
       };
     }
 
@@ -196,20 +196,20 @@ folded-under name old new bucket are folds =
     subst (λ (b : Rows). AreUnder name b.base) (sym folds.bucket_is) (subst (λ (n : List Bool). AreUnder n folds.leaf.bucket.rows) under.1 under.0)
 
 -- a leaf that was folded has the rows of the world as its base
-pub KeepsBase-begun : (leaves : List Leaf) (world : List Placed) (name : List Bool) (leaf : Leaf) → AreLeaves leaves → AllByRecursion (HasRowsOf world) leaves → leaf_named name leaves ≡ Some leaf
-    → KeepsBase (replaced name (as_base leaf.bucket.rows) leaves) world name
-KeepsBase-begun leaves world name leaf are rows named = record {
+pub KeepsBase-begun : (leaves : List Leaf) (places : List Placed) (name : List Bool) (leaf : Leaf) → AreLeaves leaves → AllByRecursion (HasRowsOf places) leaves → leaf_named name leaves ≡ Some leaf
+    → KeepsBase (replaced name (as_base leaf.bucket.rows) leaves) places name
+KeepsBase-begun leaves places name leaf are rows named = record {
   leaf = record { name = leaf.name; bucket = as_base leaf.bucket.rows };
   named = leaf_named-replaced name (as_base leaf.bucket.rows) leaves leaf named;
   base = record {
     in_order = (named_has (λ (l : Leaf). IsRows l.bucket.rows) name leaves leaf named are.rows).0;
-    rows = (named_has (HasRowsOf world) name leaves leaf named rows).0;
+    rows = (named_has (HasRowsOf places) name leaves leaf named rows).0;
   };
 }
 
 -- the leaf of another split where one is folded
-pub KeepsBase-replaced : (leaves : List Leaf) (world : List Placed) (name other : List Bool) (bucket : Rows) → same_name name other ≡ false → KeepsBase leaves world name → KeepsBase (replaced other bucket leaves) world name
-KeepsBase-replaced leaves world name other bucket apart kept = record {
+pub KeepsBase-replaced : (leaves : List Leaf) (places : List Placed) (name other : List Bool) (bucket : Rows) → same_name name other ≡ false → KeepsBase leaves places name → KeepsBase (replaced other bucket leaves) places name
+KeepsBase-replaced leaves places name other bucket apart kept = record {
   leaf = kept.leaf;
   named = leaf_named-replaced_other name other bucket leaves apart ∙ kept.named;
   base = kept.base;
@@ -225,9 +225,9 @@ among-split w other buckets (f ∷ front) l back apart = by_test (same_name f.na
     by_test false rest = later_leaf f (split w other buckets (front ++ l ∷ back)) l rest
 
 -- the leaf of another split where one gives way to its children
-pub KeepsBase-split : (w : ℕ) (leaves : List Leaf) (world : List Placed) (name other : List Bool) (buckets : List Rows) → AreLeaves (split w other buckets leaves) → same_name name other ≡ false
-    → KeepsBase leaves world name → KeepsBase (split w other buckets leaves) world name
-KeepsBase-split w leaves world name other buckets are apart kept =
+pub KeepsBase-split : (w : ℕ) (leaves : List Leaf) (places : List Placed) (name other : List Bool) (buckets : List Rows) → AreLeaves (split w other buckets leaves) → same_name name other ≡ false
+    → KeepsBase leaves places name → KeepsBase (split w other buckets leaves) places name
+KeepsBase-split w leaves places name other buckets are apart kept =
     let after = split w other buckets leaves in
     let place = find-among (λ (l : Leaf). same_name l.name name) leaves kept.leaf kept.named in
     let is : kept.leaf.name ≡ name = (same_name-decides kept.leaf.name name).0 place.1 in

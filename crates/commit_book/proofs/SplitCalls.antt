@@ -11,6 +11,7 @@ use Rattle.zorder.specs.SameName.{same_name, same_name-decides}
 use Rattle.bucket_versions.specs.Rows.{Rows, as_base}
 use Rattle.index_layer.specs.Leaves.{Leaf, leaf_named}
 use Rattle.plain_list.specs.declared.entries.Entry.TheVariants.{Begin}
+use Rattle.plain_list.specs.World.{places_of}
 use Rattle.plain_list.specs.State.{State, OpenSplit, split_name, is_splitting, is_leaf, without_name, state_after}
 use Rattle.plain_list.specs.Size.{is_over, full_leaf}
 use Rattle.plain_list.proofs.Histories.{state_after-append}
@@ -41,22 +42,22 @@ full_leaf-free w size s name full = let parts = found s.leaves full in record { 
     same : (a b : List Bool) → Some a ≡ Some b → a ≡ b
     same a b e = cc e
 
-    free_at : (n : List Bool) → (is_over w size s.world n && not (is_splitting s.splits n)) ≡ true → (length n + w ≤ 64) × (is_splitting s.splits n ≡ false)
+    free_at : (n : List Bool) → (is_over w size (places_of s.world) n && not (is_splitting s.splits n)) ≡ true → (length n + w ≤ 64) × (is_splitting s.splits n ≡ false)
     free_at n e =
-        let over = first_so (is_over w size s.world n) (not (is_splitting s.splits n)) e in
-        (leb-true (length n + w) 64 (second_so (nat_lt size _) (nat_le (length n + w) 64) over), not-true (is_splitting s.splits n) (second_so (is_over w size s.world n) (not (is_splitting s.splits n)) e))
+        let over = first_so (is_over w size (places_of s.world) n) (not (is_splitting s.splits n)) e in
+        (leb-true (length n + w) 64 (second_so (nat_lt size _) (nat_le (length n + w) 64) over), not-true (is_splitting s.splits n) (second_so (is_over w size (places_of s.world) n) (not (is_splitting s.splits n)) e))
 
     or-true : (a b : Bool) → b ≡ true → (a || b) ≡ true
     or-true true b e = refl
     or-true false b e = e
 
-    found : (names : List (List Bool)) → find (λ n. is_over w size s.world n && not (is_splitting s.splits n)) names ≡ Some name
+    found : (names : List (List Bool)) → find (λ n. is_over w size (places_of s.world) n && not (is_splitting s.splits n)) names ≡ Some name
         → (is_leaf names name ≡ true) × (length name + w ≤ 64) × (is_splitting s.splits name ≡ false)
     found [] e = cc e
-    found (n ∷ names) e = by_test (is_over w size s.world n && not (is_splitting s.splits n)) refl e (found names)
+    found (n ∷ names) e = by_test (is_over w size (places_of s.world) n && not (is_splitting s.splits n)) refl e (found names)
       where
-        by_test : (b : Bool) → (is_over w size s.world n && not (is_splitting s.splits n)) ≡ b → cond b (Some n) (find (λ m. is_over w size s.world m && not (is_splitting s.splits m)) names) ≡ Some name
-            → (find (λ m. is_over w size s.world m && not (is_splitting s.splits m)) names ≡ Some name → (is_leaf names name ≡ true) × (length name + w ≤ 64) × (is_splitting s.splits name ≡ false))
+        by_test : (b : Bool) → (is_over w size (places_of s.world) n && not (is_splitting s.splits n)) ≡ b → cond b (Some n) (find (λ m. is_over w size (places_of s.world) m && not (is_splitting s.splits m)) names) ≡ Some name
+            → (find (λ m. is_over w size (places_of s.world) m && not (is_splitting s.splits m)) names ≡ Some name → (is_leaf names name ≡ true) × (length name + w ≤ 64) × (is_splitting s.splits name ≡ false))
             → (is_leaf (n ∷ names) name ≡ true) × (length name + w ≤ 64) × (is_splitting s.splits name ≡ false)
         by_test true is here later =
             let one = same n name here in

@@ -16,8 +16,8 @@ use Rattle.plain_list.specs.declared.entries.Entry.{Entry}
 use Rattle.plain_list.specs.declared.entries.Lost.{Lost}
 use Rattle.plain_list.specs.declared.entries.Lost.TheVariants as lost
 use Rattle.plain_list.specs.declared.ops.Answer.TheVariants.{At, Absent}
+use Rattle.plain_list.specs.World.{World, position_of}
 use Rattle.plain_list.specs.Answer.{answer_of, is_change}
-use Rattle.plain_list.specs.World.{place_of}
 use Rattle.plain_list.specs.History.{world_after, failed_cell}
 use Rattle.plain_list.specs.State.{State, IsLegal, OpenSplit, state_after, is_possible, is_free, split_name}
 use Rattle.plain_list.proofs.Histories.{has_failed-none}
@@ -59,11 +59,11 @@ module _ (w : ℕ) (o : State) (h : List Entry) (legal : IsLegal w o h) (going :
   abandon_step number name found = step_next (lost.Abandon number) (both_true (ap (λ (n : Option (List Bool)). is_some n) found) refl) refl
 
 -- a call that changes the world has a cell
-pub cell_there : (op : Op) (world : List Placed) → IsUpdate op → is_change (answer_of world op) ≡ true → (c : Cell) × (change_cells op ≡ c ∷ [])
+pub cell_there : (op : Op) (world : World) → IsUpdate op → is_change (answer_of world op) ≡ true → (c : Cell) × (change_cells op ≡ c ∷ [])
 cell_there (Put id at) world is change = (cell.Put id at, refl)
 cell_there (Move id at) world is change = (cell.Move id at, refl)
 cell_there (Remove id) world is change = (cell.Remove id, refl)
-cell_there (Find id) world is change = absurd (true≢false (sym change ∙ no_change (place_of world id)))
+cell_there (Find id) world is change = absurd (true≢false (sym change ∙ no_change (position_of world id)))
   where
     no_change : (p : Option Point) → is_change (option_map_or At p Absent) ≡ false
     no_change None = refl

@@ -3,6 +3,7 @@ use Rattle.std.specs.Prelude.{ℕ, ◌+◌, List, Option, None}
 use Rattle.index_layer.specs.Leaves.{Leaf}
 use Rattle.index_layer.specs.Stands.{Stands}
 use Rattle.plain_list.specs.declared.entries.Entry.{Entry}
+use Rattle.plain_list.specs.World.{places_of}
 use Rattle.plain_list.specs.History.{world_after}
 use Rattle.plain_list.specs.State.{State, state_after}
 use Rattle.split_log.specs.LogView.{LogView}
@@ -23,7 +24,7 @@ next_number w b = (state_after w b.opening b.entries).begun + 1
 
 -- leaves stand for the world after the history, and have the names of that state
 abbrev pub StandsAfter : {D : Type 0} → ℕ → BookView D → List Leaf → Type 0
-StandsAfter w b leaves = Stands leaves (world_after b.opening.world b.entries) (state_after w b.opening b.entries).leaves
+StandsAfter w b leaves = Stands leaves (places_of (world_after b.opening.world b.entries)) (state_after w b.opening b.entries).leaves
 
 -- a log as it was opened on this drive, with no cell more
 abbrev pub first_log : {D : Type 0} → LogView D → D → KeptView D

@@ -1,5 +1,6 @@
 -- What holds of each book.
 use Rattle.std.specs.Prelude.{◌≡◌, ℕ, ◌≤◌, [], length, Some}
+use Rattle.plain_list.specs.World.{places_of}
 use Rattle.plain_list.specs.State.{State, IsLegal, state_after}
 use Rattle.plain_list.specs.History.{world_after, failed_cell}
 use Rattle.index_layer.specs.Stands.{Stands}
@@ -23,7 +24,7 @@ pub record IsOpening (s : State) : Type 0 where
 pub record IsBook {D : Type 0} (drive : D → Drive) (w : ℕ) (b : BookView D) : Type 0 where
   pub opening : IsOpening b.opening
   pub legal : IsLegal w b.opening b.entries
-  pub stands : Stands b.leaves (world_after b.opening.world b.entries) (state_after w b.opening b.entries).leaves
+  pub stands : Stands b.leaves (places_of (world_after b.opening.world b.entries)) (state_after w b.opening b.entries).leaves
   pub bases : KeepsBases w b.opening b.leaves b.entries
   pub few : length b.entries ≤ most_events
   pub on_log : KeepsIn drive w b.opening b.entries b.log

@@ -5,22 +5,22 @@ use Rattle.zorder.specs.declared.points.Placed.{Placed}
 use Rattle.bucket_versions.specs.declared.row.Row.{Row}
 use Rattle.bucket_versions.specs.Rows.{IsRows, has_row}
 use Rattle.index_layer.specs.Leaves.{Leaf, leaf_named}
-use Rattle.index_layer.specs.Stands.{world_has}
+use Rattle.index_layer.specs.Stands.{places_have}
 use Rattle.plain_list.specs.declared.entries.Entry.{Entry}
 use Rattle.plain_list.specs.declared.entries.Entry.TheVariants.{Begin}
 use Rattle.plain_list.specs.State.{State, split_name, state_after}
 use Rattle.plain_list.specs.History.{world_after}
 
 -- the base of a leaf has the rows of a world that are under its name, in order, and no others
-pub record HasBaseOf (world : List Placed) (leaf : Leaf) : Type 0 where
+pub record HasBaseOf (places : List Placed) (leaf : Leaf) : Type 0 where
   pub in_order : IsRows leaf.bucket.base
-  pub rows : (r : Row) → has_row r leaf.bucket.base ≡ (world_has world r && is_under leaf.name r.key)
+  pub rows : (r : Row) → has_row r leaf.bucket.base ≡ (places_have places r && is_under leaf.name r.key)
 
 -- the leaf of a name has the base of this world
-pub record KeepsBase (leaves : List Leaf) (world : List Placed) (name : List Bool) : Type 0 where
+pub record KeepsBase (leaves : List Leaf) (places : List Placed) (name : List Bool) : Type 0 where
   pub leaf : Leaf
   pub named : leaf_named name leaves ≡ Some leaf
-  pub base : HasBaseOf world leaf
+  pub base : HasBaseOf places leaf
 
 -- each leaf whose split is still open has the base of the world in which it was begun
 abbrev pub KeepsBases : ℕ → State → List Leaf → List Entry → Type 0

@@ -12,10 +12,10 @@ use Rattle.bucket_versions.specs.declared.row.Row.{Row}
 use Rattle.bucket_versions.specs.Rows.{Rows, has_row}
 use Rattle.bucket_versions.proofs.RowRanges.{has_row-rows_between}
 use Rattle.index_layer.specs.Leaves.{Leaf, AreLeaves, names_of, has_name, one_leaf, leaves_of, split}
-use Rattle.index_layer.specs.Stands.{Stands, HasRowsOf, world_has}
+use Rattle.index_layer.specs.Stands.{Stands, HasRowsOf, places_have}
 use Rattle.index_layer.proofs.LeafNames.{among-any}
 use Rattle.index_layer.proofs.LeafChanges.{split-at, length-children}
-use Rattle.index_layer.proofs.Worlds.{world_key-lt}
+use Rattle.index_layer.proofs.Standing.{placed_key-lt}
 use Rattle.split_prepare.specs.Cut.{cut_out, cut, last_key}
 use Rattle.split_prepare.proofs.CutLemmas.{under-between}
 use Rattle.index_build.specs.Grown.{IsGrown, IsFolded}
@@ -163,26 +163,26 @@ pub all_there : (rows : List Row) (wanted : List (List Bool)) (done : ℕ) (leav
 all_there rows wanted done leaves tile are is = is ∙ ap (leaves_for rows) (all_done wanted done tile (tile_there rows wanted done [] [] leaves is are))
 
 -- a leaf of those that are made has the rows of a world that are under its name
-module _ (world : List Placed) (rows : List Row) (has : (r : Row) → has_row r rows ≡ world_has world r) where
+module _ (places : List Placed) (rows : List Row) (has : (r : Row) → has_row r rows ≡ places_have places r) where
   same_if : (a b c : Bool) → (a ≡ true → b ≡ c) → (a && b) ≡ (a && c)
   same_if true b c e = e refl
   same_if false b c e = refl
 
-  rows_there : (name : List Bool) → length name ≤ 64 → HasRowsOf world (leaf_for rows name)
+  rows_there : (name : List Bool) → length name ≤ 64 → HasRowsOf places (leaf_for rows name)
   rows_there name short r =
       has_row-rows_between (first_key name) (last_key name) rows r
       ∙ ap (λ (b : Bool). b && (nat_le (first_key name) r.key && nat_le r.key (last_key name))) (has r)
-      ∙ same_if (world_has world r) (nat_le (first_key name) r.key && nat_le r.key (last_key name)) (is_under name r.key) (λ e. sym (under-between name r.key short (world_key-lt world r e)))
+      ∙ same_if (places_have places r) (nat_le (first_key name) r.key && nat_le r.key (last_key name)) (is_under name r.key) (λ e. sym (under-between name r.key short (placed_key-lt places r e)))
 
-  each_there : (k : ℕ) (names : List (List Bool)) → tiles_from k names ≡ true → AllByRecursion (HasRowsOf world) (leaves_for rows names)
+  each_there : (k : ℕ) (names : List (List Bool)) → tiles_from k names ≡ true → AllByRecursion (HasRowsOf places) (leaves_for rows names)
   each_there k [] tile = tt
   each_there k (n ∷ names) tile = (rows_there n (name_short k n names tile), each_there (next_key n) names (name_rest k n names tile))
 
-  pub Stands-leaves_for : (leaves : List Leaf) (names : List (List Bool)) → AreLeaves leaves → tiles_from 0 names ≡ true → leaves ≡ leaves_for rows names → Stands leaves world names
+  pub Stands-leaves_for : (leaves : List Leaf) (names : List (List Bool)) → AreLeaves leaves → tiles_from 0 names ≡ true → leaves ≡ leaves_for rows names → Stands leaves places names
   Stands-leaves_for leaves names are tile is = record {
     names_are = ap names_of is ∙ names_of-leaves_for rows names;
     are_leaves = are;
-    rows = subst (AllByRecursion (HasRowsOf world)) (sym is) (each_there 0 names tile);
+    rows = subst (AllByRecursion (HasRowsOf places)) (sym is) (each_there 0 names tile);
   }
 
 each_folded : (rows : List Row) (names : List (List Bool)) → AllByRecursion IsFolded (leaves_for rows names)

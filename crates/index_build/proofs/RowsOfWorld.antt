@@ -14,9 +14,9 @@ use Rattle.zorder.specs.Key.{key_of}
 use Rattle.bucket_versions.specs.declared.row.Row.{Row}
 use Rattle.bucket_versions.specs.Rows.{is_below, same_row, IsAbove, IsRows, has_row}
 use Rattle.bucket_versions.proofs.RowOrder.{is_below-either, same_row-refl}
-use Rattle.index_layer.specs.Stands.{world_has, is_at_key}
-use Rattle.plain_list.specs.World.{IsRising}
-use Rattle.plain_list.specs.World.{IsAbove as IsAboveId}
+use Rattle.index_layer.specs.Stands.{places_have, is_at_key}
+use Rattle.plain_list.specs.Places.{IsRising}
+use Rattle.plain_list.specs.Places.{IsAbove as IsAboveId}
 use Rattle.index_build.specs.WorldRows.{row_of}
 
 -- an object with another id has another row
@@ -31,7 +31,7 @@ none_above q id (m ∷ ms) above le =
     ap (λ b. b || has_row q (map row_of ms)) (other_id m q (omega (arith, lt, le))) ∙ none_above q id ms above.1 le
 
 -- a world has the rows of its objects, and no others
-pub has_row-row_of : (world : List Placed) → IsRising world → (q : Row) → has_row q (map row_of world) ≡ world_has world q
+pub has_row-row_of : (places : List Placed) → IsRising places → (q : Row) → has_row q (map row_of places) ≡ places_have places q
 has_row-row_of [] rising q = refl
 has_row-row_of (m ∷ ms) rising q = by_test (m.id == q.id) refl (has_row-row_of ms rising.1 q)
   where
@@ -43,7 +43,7 @@ has_row-row_of (m ∷ ms) rising q = by_test (m.id == q.id) refl (has_row-row_of
     or_and true h = refl
     or_and false h = refl
 
-    by_test : (b : Bool) → (m.id == q.id) ≡ b → has_row q (map row_of ms) ≡ world_has ms q
+    by_test : (b : Bool) → (m.id == q.id) ≡ b → has_row q (map row_of ms) ≡ places_have ms q
         → (((key_of m.at == q.key) && b) || has_row q (map row_of ms)) ≡ is_at_key q.key (option_map (λ (n : Placed). n.at) (cond b (Some m) (find (λ n. n.id == q.id) ms)))
     by_test true e rest =
         let same : m.id ≡ q.id = eqb-true m.id q.id e in
@@ -67,7 +67,7 @@ no_copy q id (m ∷ ms) above le =
     copies-cons q (row_of m) (map row_of ms) ∙ ap (λ b. one_if b + copies q (map row_of ms)) (other_id m q (omega (arith, lt, le))) ∙ omega (arith, no_copy q id ms above.1 le)
 
 -- each row of a world stands once
-one_copy : (q : Row) (world : List Placed) → IsRising world → copies q (map row_of world) ≤ 1
+one_copy : (q : Row) (places : List Placed) → IsRising places → copies q (map row_of places) ≤ 1
 one_copy q [] rising = omega arith
 one_copy q (m ∷ ms) rising = by_test (same_row (row_of m) q) refl (one_copy q ms rising.1)
   where
@@ -120,9 +120,9 @@ rows_rise (r ∷ rows) sorted once =
     one_more : (k : ℕ) → suc k + 1 ≡ suc (k + 1)
     one_more k = omega arith
 
-module _ (world : List Placed) (rows : List Row) (rising : IsRising world) (perm : IsPermutation (map row_of world) rows) where
+module _ (places : List Placed) (rows : List Row) (rising : IsRising places) (perm : IsPermutation (map row_of places) rows) where
   pub IsRows-sorted : IsSortedBy is_below rows → IsRows rows
-  IsRows-sorted sorted = rows_rise rows sorted (λ q. omega (arith, one_copy q world rising, sum_by-IsPermutation (λ x. one_if (same_row x q)) (map row_of world) rows perm))
+  IsRows-sorted sorted = rows_rise rows sorted (λ q. omega (arith, one_copy q places rising, sum_by-IsPermutation (λ x. one_if (same_row x q)) (map row_of places) rows perm))
 
-  pub has_row-sorted : (q : Row) → has_row q rows ≡ world_has world q
-  has_row-sorted q = sym (list_any-IsPermutation (λ s. same_row s q) (map row_of world) rows perm) ∙ has_row-row_of world rising q
+  pub has_row-sorted : (q : Row) → has_row q rows ≡ places_have places q
+  has_row-sorted q = sym (list_any-IsPermutation (λ s. same_row s q) (map row_of places) rows perm) ∙ has_row-row_of places rising q

@@ -1,6 +1,7 @@
 //! An index over a world.
 ghost use Rattle.std.specs.Prelude.{IfOk};
 ghost use Rattle.std.specs.List.{AllByRecursion};
+ghost use Rattle.plain_list.specs.World.{places_of};
 ghost use Rattle.index_layer.specs.Stands.{Stands};
 ghost use Rattle.index_build.specs.Grown.{IsGrown, IsFolded};
 
@@ -15,7 +16,7 @@ use zorder::{Memory, Name};
 /// An index over the objects of the world, whose leaves have these names, in key order.
 pub fn build<I: Index>(alloc: Global, world: &World, leaves: &[Name]) -> Result<I, Memory>
     requires { IsGrown I.WIDTH leaves.now }
-    ensures stands { IfOk result (λ index. Stands (I.leaves index) world.now leaves.now) }
+    ensures stands { IfOk result (λ index. Stands (I.leaves index) (places_of world.now) leaves.now) }
     ensures folded { IfOk result (λ index. AllByRecursion IsFolded (I.leaves index)) }
 {
     let rows = rows_of(alloc, world)?;

@@ -2,7 +2,8 @@
 ghost use Rattle.std.specs.Prelude.{◌≡◌, map, IfOk};
 ghost use Rattle.bucket_versions.specs.declared.row.Row.{Row};
 ghost use Rattle.bucket_versions.specs.Rows.{IsRows, has_row};
-ghost use Rattle.index_layer.specs.Stands.{world_has};
+ghost use Rattle.plain_list.specs.World.{places_of};
+ghost use Rattle.index_layer.specs.Stands.{places_have};
 ghost use Rattle.index_build.specs.WorldRows.{row_of};
 
 use bucket_versions::Row;
@@ -13,7 +14,7 @@ use zorder::{Placed, key};
 /// A row for each object, in order.
 pub(crate) fn rows_of(alloc: Global, world: &World) -> Result<Vec<Row>, AllocError>
     ensures in_order { IfOk result (λ rows. IsRows rows.items) }
-    ensures has { IfOk result (λ rows. (r : Row) → has_row r rows.items ≡ world_has world.now r) }
+    ensures has { IfOk result (λ rows. (r : Row) → has_row r rows.items ≡ places_have (places_of world.now) r) }
 {
     let mut rows = listed(alloc, world.as_slice())?;
     rows.sort_unstable_by_key(|row| (row.key, row.id));

@@ -13,7 +13,7 @@ use Rattle.index_layer.specs.Leaves.{Leaf, AreLeaves, names_of, leaf_under, repl
 use Rattle.index_layer.specs.RowChanges.{Holds, ChangesAt}
 use Rattle.index_layer.proofs.LeafKeys.{first_key-fits, first_key-under}
 use Rattle.index_layer.proofs.LeafNames.{IsAmong, find-among, short-among, one-leaf}
-use Rattle.index_layer.proofs.Worlds.{has_row-without_row}
+use Rattle.index_layer.proofs.Standing.{has_row-without_row}
 
 -- no two leaves have one name
 pub one-named : (leaves : List Leaf) (l m : Leaf) → tiles_from 0 (names_of leaves) ≡ true → IsAmong leaves l → IsAmong leaves m → l.name ≡ m.name → l ≡ m

@@ -15,7 +15,7 @@ use Rattle.bucket_versions.proofs.RowOrder.{IsRows-filter, same_row-refl}
 use Rattle.index_layer.specs.Leaves.{Leaf, AreUnder, AreLeaves, names_of, all_rows}
 use Rattle.index_layer.specs.Stands.{Stands}
 use Rattle.index_layer.proofs.LeafKeys.{tile_short, tile_first, tile_rest, first_key-next}
-use Rattle.index_layer.proofs.Worlds.{rows_of_world, world_key-lt}
+use Rattle.index_layer.proofs.Standing.{rows_of_places, placed_key-lt}
 
 -- rows below a key, and then rows from it on
 below_by_key : (k : ℕ) (x y : Row) → x.key < k → k ≤ y.key → is_below x y ≡ true
@@ -79,10 +79,10 @@ pub IsRows-between : (lo hi : ℕ) (leaves : List Leaf) → hi < 2 ^ 64 → AreL
 IsRows-between lo hi leaves fits a =
     IsRows-kept (λ r. nat_le lo r.key && nat_le r.key hi) (λ r e. let le : r.key ≤ hi = leb-true r.key hi (second_so (nat_le lo r.key) (nat_le r.key hi) e) in omega (arith, le, fits)) leaves a
 
--- all rows of an index that stands for a world are in order
-pub IsRows-all_rows : (leaves : List Leaf) (world : List Placed) (names : List (List Bool)) → Stands leaves world names → IsRows (all_rows leaves)
-IsRows-all_rows leaves world names stands =
-    subst IsRows (all_kept (all_rows leaves) (all_fit (all_rows leaves) (λ r e. lt-ltb r.key (2 ^ 64) (world_key-lt world r (sym (rows_of_world leaves world names stands r) ∙ e)))))
+-- all rows of an index that stands for places are in order
+pub IsRows-all_rows : (leaves : List Leaf) (places : List Placed) (names : List (List Bool)) → Stands leaves places names → IsRows (all_rows leaves)
+IsRows-all_rows leaves places names stands =
+    subst IsRows (all_kept (all_rows leaves) (all_fit (all_rows leaves) (λ r e. lt-ltb r.key (2 ^ 64) (placed_key-lt places r (sym (rows_of_places leaves places names stands r) ∙ e)))))
     (IsRows-kept (λ r. ltb r.key (2 ^ 64)) (λ r e. ltb-true r.key (2 ^ 64) e) leaves stands.are_leaves)
   where
     all_kept : (rows : List Row) → AllByRecursion (λ (r : Row). ltb r.key (2 ^ 64) ≡ true) rows → filter (λ (r : Row). ltb r.key (2 ^ 64)) rows ≡ rows

@@ -8,6 +8,7 @@ use Rattle.cell_format.specs.declared.cell.Cell.{Cell}
 use Rattle.plain_list.specs.declared.entries.Entry.{Entry}
 use Rattle.plain_list.specs.declared.entries.Entry.TheVariants.{Fail, Call, Begin, Install, Abandon}
 use Rattle.plain_list.specs.declared.entries.Lost.{Lost}
+use Rattle.plain_list.specs.World.{World}
 use Rattle.plain_list.specs.History.{world_after}
 use Rattle.plain_list.specs.State.{State, empty_state, step, is_possible, is_free, is_fail, is_empty, is_legal_history, IsLegal}
 use Rattle.plain_list.proofs.Histories.{has_failed}
@@ -44,7 +45,7 @@ sound-push w s (f ∷ h) e legal =
     (sound-push w (step w s f) h e)
 
 -- an entry with a cell is no failed append
-lost_none : (world : List Placed) (e : Entry) (cell : Cell) → cells_of world (e ∷ []) ≡ cell ∷ [] → failed_cells (e ∷ []) ≡ []
+lost_none : (world : World) (e : Entry) (cell : Cell) → cells_of world (e ∷ []) ≡ cell ∷ [] → failed_cells (e ∷ []) ≡ []
 lost_none world (Fail number lost) cell one = absurd (cc one)
 lost_none world (Call session row op) cell one = refl
 lost_none world (Begin number name) cell one = refl

@@ -9,6 +9,7 @@ use Rattle.plain_list.specs.declared.entries.Entry.{Entry}
 use Rattle.plain_list.specs.declared.entries.Entry.TheVariants.{Fail, Call, Begin, Install, Abandon}
 use Rattle.plain_list.specs.declared.entries.Lost.{Lost}
 use Rattle.plain_list.specs.declared.ops.Op.{Op}
+use Rattle.plain_list.specs.World.{World}
 use Rattle.plain_list.specs.Answer.{answer_of, is_change}
 use Rattle.plain_list.specs.History.{world_after, failed_cell}
 use Rattle.plain_list.specs.State.{State, is_fail, IsLegal}
@@ -47,7 +48,7 @@ going_cell (Install number) going = refl
 going_cell (Abandon number) going = refl
 
 -- nor does one that has a cell
-with_cell : (world : List Placed) (e : Entry) (cell : Cell) → cells_of world (e ∷ []) ≡ cell ∷ [] → failed_cell (e ∷ []) ≡ None
+with_cell : (world : World) (e : Entry) (cell : Cell) → cells_of world (e ∷ []) ≡ cell ∷ [] → failed_cell (e ∷ []) ≡ None
 with_cell world (Fail number lost) cell one = absurd (cc one)
 with_cell world (Call session row op) cell one = refl
 with_cell world (Begin number name) cell one = refl

@@ -7,15 +7,16 @@ use Rattle.plain_list.specs.declared.ops.Op.{Op}
 use Rattle.plain_list.specs.declared.entries.Entry.{Entry}
 use Rattle.plain_list.specs.declared.entries.Entry.TheVariants.{Fail, Call}
 use Rattle.plain_list.specs.declared.entries.Lost.{Lost}
+use Rattle.plain_list.specs.World.{World}
 use Rattle.plain_list.specs.Answer.{answer_of, is_change}
 use Rattle.log_state.specs.Changes.{cells_of, change_cells}
 use Rattle.log_state.proofs.PlacedChanges.{cells_of-append}
 
 -- another has none
-pub call-no_cells : (world : List Placed) (session row : ℕ) (op : Op) → is_change (answer_of world op) ≡ false
+pub call-no_cells : (world : World) (session row : ℕ) (op : Op) → is_change (answer_of world op) ≡ false
     → cells_of world (Call session row op ∷ []) ≡ []
 call-no_cells world session row op change = ap (λ b. cond b (change_cells op) [] ++ []) change
 
 -- a failed append has none
-pub cells-fail : (world : List Placed) (h : List Entry) (number : ℕ) (lost : Lost) → cells_of world (h ++ Fail number lost ∷ []) ≡ cells_of world h
+pub cells-fail : (world : World) (h : List Entry) (number : ℕ) (lost : Lost) → cells_of world (h ++ Fail number lost ∷ []) ≡ cells_of world h
 cells-fail world h number lost = cells_of-append world h (Fail number lost ∷ []) ∙ append-nil (cells_of world h)

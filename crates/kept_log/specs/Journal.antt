@@ -6,6 +6,7 @@ use Rattle.plain_list.specs.declared.entries.Entry.{Entry}
 use Rattle.plain_list.specs.declared.entries.Entry.TheVariants.{Fail, Call, Begin, Install, Abandon}
 use Rattle.plain_list.specs.declared.entries.Lost.{Lost}
 use Rattle.zorder.specs.declared.points.Placed.{Placed}
+use Rattle.plain_list.specs.World.{World}
 use Rattle.plain_list.specs.State.{State}
 pub use Rattle.plain_list.specs.History.{failed_cell}
 use Rattle.disk_trait.specs.Drive.{Drive, Made, SameFile}
@@ -96,7 +97,7 @@ pub record Missed {D : Type 0} (drive : D → Drive) (cell : Cell) (number : ℕ
       → KeepsIn drive w s h old → KeepsIn drive w s (h ++ Fail number lost ∷ []) new
 
 -- an image recovers to the cells of a history behind the first ones, or to these and those of one entry more
-abbrev pub RecoversWith : ℕ → List Cell → List Placed → List Entry → Entry → List ℕ → Type 0
+abbrev pub RecoversWith : ℕ → List Cell → World → List Entry → Entry → List ℕ → Type 0
 RecoversWith w first world h e image = Recovers w (first ++ cells_of world h) image ⊎ Recovers w (first ++ cells_of world (h ++ e ∷ [])) image
 
 -- At every moment of a stretch a crash leaves the cells of the history, or these and those of the entry, where it is known what stood first.

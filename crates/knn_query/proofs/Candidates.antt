@@ -10,8 +10,8 @@ use Rattle.std.proofs.lemmas.List.Sorted.{All-permutation, IsPermutation-sym, Is
 use Rattle.zorder.specs.declared.points.Point.{Point}
 use Rattle.zorder.specs.declared.points.Placed.{Placed}
 use Rattle.zorder.specs.Distance.{distance}
-use Rattle.plain_list.specs.World.{place_of}
-use Rattle.plain_list.specs.Answer.{is_before, with_ranked, ranked}
+use Rattle.plain_list.specs.Places.{place_of}
+use Rattle.plain_list.specs.Queries.{is_before, with_ranked, ranked}
 use Rattle.plain_list.specs.Nearest.{rank_of, is_below, AreOf}
 use Rattle.plain_list.proofs.Ranking.{is_before-cmp, is_below-order, ranked_once, IsPermutation-ranked, IsSortedBy-ranked}
 use Rattle.plain_list.proofs.Cuts.{IsPass, with_more, take-with_more, pass_skips, pass_adds}
@@ -19,7 +19,7 @@ use Rattle.knn_query.specs.Candidates.{object_of, candidate_cmp, IsMeasured, IsI
 use Rattle.knn_query.specs.declared.candidate.Candidate.{Candidate}
 
 abbrev IsAt : List Placed → Placed → Type 0
-IsAt world m = place_of world m.id ≡ Some m.at
+IsAt places m = place_of places m.id ≡ Some m.at
 
 fold-append : {S X : Type 0} (f : S → X → S) (s : S) (xs ys : List X) → fold f s (xs ++ ys) ≡ fold f (fold f s xs) ys
 fold-append f s [] ys = refl
@@ -81,28 +81,28 @@ module _ (p : Point) where
   pub pass_all : (k : ℕ) (list ms : List Placed) → take k (with_more p (take k (ranked p list)) ms) ≡ take k (ranked p (list ++ ms))
   pass_all k list ms = take-with_more p k ms (ranked p list) ∙ ap (take k) (ranked-more list ms)
 
-  pub ranked-shuffled : (world xs ys : List Placed) → AreOf world xs → IsPermutation xs ys → ranked p ys ≡ ranked p xs
-  ranked-shuffled world xs ys are perm = ranked_once p world xs (ranked p ys) are (IsPermutation-trans xs ys (ranked p ys) perm (IsPermutation-ranked p ys)) (IsSortedBy-ranked p ys)
+  pub ranked-shuffled : (places xs ys : List Placed) → AreOf places xs → IsPermutation xs ys → ranked p ys ≡ ranked p xs
+  ranked-shuffled places xs ys are perm = ranked_once p places xs (ranked p ys) are (IsPermutation-trans xs ys (ranked p ys) perm (IsPermutation-ranked p ys)) (IsSortedBy-ranked p ys)
 
-module _ (p : Point) (k : ℕ) (world rest : List Placed) where
+module _ (p : Point) (k : ℕ) (places rest : List Placed) where
   -- in another order
-  pub pass_shuffled : (xs ys : List Placed) → IsPermutation xs ys → IsPass p k world rest xs None → IsPass p k world rest ys None
+  pub pass_shuffled : (xs ys : List Placed) → IsPermutation xs ys → IsPass p k places rest xs None → IsPass p k places rest ys None
   pass_shuffled xs ys perm pass = record {
-    are_of = All-permutation (IsAt world) xs ys perm pass.are_of;
+    are_of = All-permutation (IsAt places) xs ys perm pass.are_of;
     is_last = tt;
-    nearest = ap (λ l. take k (with_more p (take k l) rest)) (ranked-shuffled p world xs ys pass.are_of perm) ∙ pass.nearest;
+    nearest = ap (λ l. take k (with_more p (take k l) rest)) (ranked-shuffled p places xs ys pass.are_of perm) ∙ pass.nearest;
   }
 
   -- where k are kept, one that comes before none of them is passed over
-  pub pass_over : (m : Placed) (list : List Placed) → k ≤ length list → Bounds p m list → IsPass p k world (m ∷ rest) list None → IsPass p k world rest list None
+  pub pass_over : (m : Placed) (list : List Placed) → k ≤ length list → Bounds p m list → IsPass p k places (m ∷ rest) list None → IsPass p k places rest list None
   pass_over m list long bounds pass =
       let P : Placed → Type 0 = λ n. is_below (rank_of p m) (rank_of p n) ≡ false in
-      let last : IsPass p k world (m ∷ rest) list (Some (rank_of p m)) = record {
+      let last : IsPass p k places (m ∷ rest) list (Some (rank_of p m)) = record {
         are_of = pass.are_of;
         is_last = (long, All-take P k (ranked p list) (All-permutation P list (ranked p list) (IsPermutation-ranked p list) bounds));
         nearest = pass.nearest;
       } in
-      let next = pass_skips p k world m rest list (Some (rank_of p m)) last (itself (is_below (rank_of p m) (rank_of p m)) refl) in
+      let next = pass_skips p k places m rest list (Some (rank_of p m)) last (itself (is_below (rank_of p m) (rank_of p m)) refl) in
       record { are_of = next.are_of; is_last = tt; nearest = next.nearest }
     where
       itself : (b : Bool) → is_below (rank_of p m) (rank_of p m) ≡ b → is_below (rank_of p m) (rank_of p m) ≡ false
@@ -110,18 +110,18 @@ module _ (p : Point) (k : ℕ) (world rest : List Placed) where
       itself true e = is_below-order.one_way (rank_of p m) (rank_of p m) e
 
   -- one is added
-  pub pass_adds_one : (m : Placed) (list new : List Placed) → IsAt world m → IsPermutation (m ∷ list) new → IsPass p k world (m ∷ rest) list None → IsPass p k world rest new None
+  pub pass_adds_one : (m : Placed) (list new : List Placed) → IsAt places m → IsPermutation (m ∷ list) new → IsPass p k places (m ∷ rest) list None → IsPass p k places rest new None
   pass_adds_one m list new found perm pass =
-      pass_shuffled (list ++ m ∷ []) new (IsPermutation-trans (list ++ m ∷ []) (m ∷ list) new (IsPermutation-to_front list m) perm) (pass_adds p k world m rest list None pass found refl)
+      pass_shuffled (list ++ m ∷ []) new (IsPermutation-trans (list ++ m ∷ []) (m ∷ list) new (IsPermutation-to_front list m) perm) (pass_adds p k places m rest list None pass found refl)
 
   -- one is left out that isn't among the nearest
-  pub pass_leaves : (m : Placed) (list new : List Placed) → k ≤ length new → Bounds p m new → IsPermutation list (m ∷ new) → IsPass p k world rest list None → IsPass p k world rest new None
+  pub pass_leaves : (m : Placed) (list new : List Placed) → k ≤ length new → Bounds p m new → IsPermutation list (m ∷ new) → IsPass p k places rest list None → IsPass p k places rest new None
   pass_leaves m list new long bounds perm pass =
       let ordered : IsPermutation list (new ++ m ∷ []) = IsPermutation-trans list (m ∷ new) (new ++ m ∷ []) perm (IsPermutation-sym (new ++ m ∷ []) (m ∷ new) (IsPermutation-to_front new m)) in
-      let moved : IsPass p k world rest (new ++ m ∷ []) None = pass_shuffled list (new ++ m ∷ []) ordered pass in
-      let were : AreOf world (m ∷ new) = All-permutation (IsAt world) list (m ∷ new) perm pass.are_of in
+      let moved : IsPass p k places rest (new ++ m ∷ []) None = pass_shuffled list (new ++ m ∷ []) ordered pass in
+      let were : AreOf places (m ∷ new) = All-permutation (IsAt places) list (m ∷ new) perm pass.are_of in
       pass_over m new long bounds (record {
-        are_of = All-tail (IsAt world) m new were;
+        are_of = All-tail (IsAt places) m new were;
         is_last = tt;
         nearest = pass_later new m ∙ moved.nearest;
       })
@@ -129,10 +129,10 @@ module _ (p : Point) (k : ℕ) (world rest : List Placed) where
       pass_later : (new : List Placed) (m : Placed) → take k (with_more p (take k (ranked p new)) (m ∷ rest)) ≡ take k (with_more p (take k (ranked p (new ++ m ∷ []))) rest)
       pass_later new m = pass_all p k new (m ∷ rest) ∙ ap (λ l. take k (ranked p l)) (sym (append_assoc new (m ∷ []) rest)) ∙ sym (pass_all p k (new ++ m ∷ []) rest)
 
-  module _ (m : Placed) (found : IsAt world m) where
+  module _ (m : Placed) (found : IsAt places m) where
     -- the last of k makes room for one that comes before it
     pub pass_replaces : (one : Candidate) (old new : List Candidate) → object_of one ≡ m → IsMeasured p one → All (IsMeasured p) old → k ≤ length old → IsInPlace one old new
-        → IsPass p k world (m ∷ rest) (map object_of old) None → IsPass p k world rest (map object_of new) None
+        → IsPass p k places (m ∷ rest) (map object_of old) None → IsPass p k places rest (map object_of new) None
     pass_replaces one old new is_m at_one at_old long r pass =
         let gone = object_of r.gone in
         let left = map object_of r.left in
@@ -148,7 +148,7 @@ module _ (p : Point) (k : ℕ) (world rest : List Placed) where
         All-cons P m left (subst P is_m (is_below-order.one_way (rank_of p (object_of one)) (rank_of p gone) first)) (bounds-map p r.gone r.left at_gone (All-tail (IsMeasured p) r.gone r.left at) r.bound) in
         let all : IsPermutation (m ∷ ms) (gone ∷ (m ∷ left)) =
         IsPermutation-trans (m ∷ ms) (m ∷ (gone ∷ left)) (gone ∷ (m ∷ left)) (IsPermutation-cons m ms (gone ∷ left) split) (swapped m gone left) in
-        let more : IsPass p k world rest (m ∷ ms) None = pass_adds_one m ms (m ∷ ms) found (IsPermutation-refl (m ∷ ms)) pass in
+        let more : IsPass p k places rest (m ∷ ms) None = pass_adds_one m ms (m ∷ ms) found (IsPermutation-refl (m ∷ ms)) pass in
         let enough : k ≤ length (m ∷ left) = omega (arith, long, length_permutation old (r.gone ∷ r.left) r.was, length-map r.left object_of) in
         pass_shuffled (m ∷ left) ns made (pass_leaves gone (m ∷ ms) (m ∷ left) enough bounds all more)
       where

@@ -118,9 +118,9 @@ replaced-passes m one old new is_m at_one h many from_is k_is (inl r) =
         full = omega (arith, out.full, ap length r.same, k_is);
         near = subst (λ q. All (λ (c : Candidate). c.distance < distance n.at q) (heap_items new.heap)) (sym from_is) (subst (AreNearer (distance n.at p)) (sym r.same) out.near);
       };
-      keeps = λ world rest are pass.
-          subst (λ ds. IsPass p old.k world rest (map object_of ds) None) (sym r.same)
-          (pass_over p old.k world rest m (map object_of cs) (omega (arith, many, length-map cs object_of)) (subst (λ (n : Placed). Bounds p n (map object_of cs)) is_m (bounds-map p one cs at_one h.measured r.bound)) pass);
+      keeps = λ places rest are pass.
+          subst (λ ds. IsPass p old.k places rest (map object_of ds) None) (sym r.same)
+          (pass_over p old.k places rest m (map object_of cs) (omega (arith, many, length-map cs object_of)) (subst (λ (n : Placed). Bounds p n (map object_of cs)) is_m (bounds-map p one cs at_one h.measured r.bound)) pass);
     }
 replaced-passes m one old new is_m at_one h many from_is k_is (inr r) =
     let p = old.from in
@@ -139,7 +139,7 @@ replaced-passes m one old new is_m at_one h many from_is k_is (inr r) =
         full = omega (arith, out.full, length_permutation cs (r.gone ∷ r.left) r.was, length_permutation (one ∷ r.left) ds r.is, k_is);
         near = subst (λ q. All (λ (c : Candidate). c.distance < distance n.at q) ds) (sym from_is) (nearer-replaced (distance n.at p) one cs ds r out.near);
       };
-      keeps = λ world rest are pass. pass_replaces p old.k world rest m (are 0 m (lit< tt)) one cs ds is_m at_one h.measured many r pass;
+      keeps = λ places rest are pass. pass_replaces p old.k places rest m (are 0 m (lit< tt)) one cs ds is_m at_one h.measured many r pass;
     }
 
 -- one that is too far is passed over

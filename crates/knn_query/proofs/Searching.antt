@@ -19,8 +19,8 @@ use Rattle.prefix_names.proofs.Nearest.{least_distance-le}
 use Rattle.bucket_versions.specs.declared.row.Row.{Row}
 use Rattle.index_layer.specs.Leaves.{Leaf, all_rows}
 use Rattle.index_layer.proofs.LeafNames.{IsFront, front-from_test, under-front}
-use Rattle.plain_list.specs.World.{place_of}
-use Rattle.plain_list.specs.Answer.{ranked, is_before}
+use Rattle.plain_list.specs.Places.{place_of}
+use Rattle.plain_list.specs.Queries.{ranked, is_before}
 use Rattle.plain_list.specs.Nearest.{rank_of, is_below, AreOf}
 use Rattle.plain_list.proofs.Ranking.{IsPermutation-ranked, IsSortedBy-ranked, is_before-order}
 use Rattle.table_share.specs.Objects.{placed_of, objects_of}
@@ -35,24 +35,24 @@ use Rattle.knn_query.proofs.Candidates.{Bounds, pass_all, ranked-shuffled}
 use Rattle.knn_query.proofs.Passing.{far_rows}
 
 abbrev IsAt : List Placed → Placed → Type 0
-IsAt world m = place_of world m.id ≡ Some m.at
+IsAt places m = place_of places m.id ≡ Some m.at
 
 module _ (p : Point) where
-  pub keeps_permuted : (k : ℕ) (world xs ys : List Placed) (kept : Kept) → AreOf world xs → IsPermutation xs ys → Keeps p k world xs kept → Keeps p k world ys kept
-  keeps_permuted k world xs ys kept are perm pass = record {
+  pub keeps_permuted : (k : ℕ) (places xs ys : List Placed) (kept : Kept) → AreOf places xs → IsPermutation xs ys → Keeps p k places xs kept → Keeps p k places ys kept
+  keeps_permuted k places xs ys kept are perm pass = record {
     are_of = pass.are_of;
     is_last = pass.is_last;
     nearest =
         let list : List Placed = held kept in
         pass_all p k list ys
-        ∙ ap (take k) (ranked-shuffled p world (list ++ xs) (list ++ ys) (All-append (IsAt world) list xs pass.are_of are) (IsPermutation-append_right list xs ys perm))
+        ∙ ap (take k) (ranked-shuffled p places (list ++ xs) (list ++ ys) (All-append (IsAt places) list xs pass.are_of are) (IsPermutation-append_right list xs ys perm))
         ∙ sym (pass_all p k list xs) ∙ pass.nearest;
   }
 
-  pub searches_permuted : (k : ℕ) (world xs ys : List Placed) (kept : Kept) → IsPermutation xs ys → Searches p k world xs kept → Searches p k world ys kept
-  searches_permuted k world xs ys kept perm s = record {
-    are_of = All-permutation (IsAt world) xs ys perm s.are_of;
-    keeps = keeps_permuted k world xs ys kept s.are_of perm s.keeps;
+  pub searches_permuted : (k : ℕ) (places xs ys : List Placed) (kept : Kept) → IsPermutation xs ys → Searches p k places xs kept → Searches p k places ys kept
+  searches_permuted k places xs ys kept perm s = record {
+    are_of = All-permutation (IsAt places) xs ys perm s.are_of;
+    keeps = keeps_permuted k places xs ys kept s.are_of perm s.keeps;
   }
 
   -- counts of what is nearer
@@ -114,35 +114,35 @@ module _ (p : Point) where
   pub number-ranked : (reach : ℕ) (ms : List Placed) → number_nearer p reach (ranked p ms) ≡ number_nearer p reach ms
   number-ranked reach ms = sum_by-IsPermutation (λ n. one_if (nearer reach n)) ms (ranked p ms) (IsPermutation-ranked p ms)
 
-  -- where fewer than k of those that are kept are nearer, the k-th object of the world isn't nearer
-  pub reach-within : (k reach : ℕ) (world rest : List Placed) (kept : Kept) (d : Placed) → Keeps p k world rest kept → All (λ (m : Placed). reach ≤ distance m.at p) rest
-      → number_nearer p reach (held kept) < k → k ≤ length world → reach ≤ reach_of p k world d
-  reach-within k reach world rest kept d pass far few many = by_test (nat_lt (reach_of p k world d) reach) refl
+  -- where fewer than k of those that are kept are nearer, the k-th of all objects isn't nearer
+  pub reach-within : (k reach : ℕ) (places rest : List Placed) (kept : Kept) (d : Placed) → Keeps p k places rest kept → All (λ (m : Placed). reach ≤ distance m.at p) rest
+      → number_nearer p reach (held kept) < k → k ≤ length places → reach ≤ reach_of p k places d
+  reach-within k reach places rest kept d pass far few many = by_test (nat_lt (reach_of p k places d) reach) refl
     where
       list : List Placed
       list = held kept
 
       best : List Placed
-      best = take k (ranked p world)
+      best = take k (ranked p places)
 
       long : length best ≡ k
-      long = omega (arith, length-take k (ranked p world), length-ranked world, many)
+      long = omega (arith, length-take k (ranked p places), length-ranked places, many)
 
-      near : reach_of p k world d < reach → All (λ (m : Placed). distance m.at p < reach) best
+      near : reach_of p k places d < reach → All (λ (m : Placed). distance m.at p < reach) best
       near lt i e less =
-          let here : get_or best i e ≡ get_or (ranked p world) i e = get_or-take k (ranked p world) i e (omega (arith, less, long)) in
-          let there = ranked-far world i (k - 1) e (omega (arith, less, long)) (omega (arith, length-ranked world, many, less, long)) in
-          subst (λ (m : Placed). distance m.at p < reach) (sym here) (omega (arith, there, lt, same_at (ranked p world) (k - 1) e d (omega (arith, length-ranked world, many, less, long))))
+          let here : get_or best i e ≡ get_or (ranked p places) i e = get_or-take k (ranked p places) i e (omega (arith, less, long)) in
+          let there = ranked-far places i (k - 1) e (omega (arith, less, long)) (omega (arith, length-ranked places, many, less, long)) in
+          subst (λ (m : Placed). distance m.at p < reach) (sym here) (omega (arith, there, lt, same_at (ranked p places) (k - 1) e d (omega (arith, length-ranked places, many, less, long))))
         where
           same_at : (ms : List Placed) (i : ℕ) (e d : Placed) → i < length ms → distance (get_or ms i e).at p ≡ distance (get_or ms i d).at p
           same_at [] i e d lt = absurd (omega (arith, lt))
           same_at (m ∷ ms) zero e d lt = refl
           same_at (m ∷ ms) (suc i) e d lt = same_at ms i e d (omega (arith, lt))
 
-      by_test : (b : Bool) → nat_lt (reach_of p k world d) reach ≡ b → reach ≤ reach_of p k world d
+      by_test : (b : Bool) → nat_lt (reach_of p k places d) reach ≡ b → reach ≤ reach_of p k places d
       by_test false e = grind (arith, nat_tests)
       by_test true e =
-          let lt : reach_of p k world d < reach = grind (arith, nat_tests) in
+          let lt : reach_of p k places d < reach = grind (arith, nat_tests) in
           let all : number_nearer p reach best ≡ length best = all_nearer reach best (near lt) in
           let same : best ≡ take k (ranked p (list ++ rest)) = sym (sym (pass_all p k list rest) ∙ pass.nearest) in
           let part : number_nearer p reach (take k (ranked p (list ++ rest))) ≤ number_nearer p reach (ranked p (list ++ rest)) = sum_by-take-le (λ n. one_if (nearer reach n)) (ranked p (list ++ rest)) k in

@@ -21,14 +21,14 @@ use Rattle.zorder.specs.Tile.{tiles_from}
 use Rattle.index_layer.proofs.LeafChanges.{leaf_at}
 use Rattle.index_layer.specs.Narrowed.{PassesBare}
 use Rattle.index_layer.specs.Part.{is_inner}
-use Rattle.plain_list.specs.Answer.{ranked, is_before, with_ranked}
-use Rattle.plain_list.specs.World.{place_of}
+use Rattle.plain_list.specs.Queries.{ranked, is_before, with_ranked}
+use Rattle.plain_list.specs.Places.{place_of}
 use Rattle.plain_list.specs.Nearest.{AreOf}
 use Rattle.plain_list.proofs.Ranking.{found_in}
 use Rattle.plain_list.proofs.Cuts.{IsPass, with_more, take-with_more}
 use Rattle.table_share.specs.Objects.{objects_of}
 use Rattle.table_share.specs.Subtree.{subtree, leaves_of}
-use Rattle.table_share.specs.Worlds.{OfEachWorld}
+use Rattle.table_share.specs.Standing.{OfPlaces}
 use Rattle.table_share.proofs.TableRows.{table_of}
 use Rattle.table_share.proofs.RowObjects.{objects-permutation}
 use Rattle.table_share.proofs.LeafRows.{leaves_under}
@@ -80,8 +80,8 @@ module _ (p : Point) (reach : ℕ) where
         let out : take k (with_ranked p m best) ≡ best = subst (λ j. take j (with_ranked p m best) ≡ best) long (left_out m best near (All-head (λ (m : Placed). reach ≤ distance m.at p) m rest far)) in
         sym (take-with_more p k rest (with_ranked p m best)) ∙ ap (λ l. take k (with_more p l rest)) out ∙ all_out rest (All-tail (λ (m : Placed). reach ≤ distance m.at p) m rest far)
 
-  pub keeps-closed : (k : ℕ) (world rest : List Placed) (kept : Kept) → Keeps p k world rest kept → All (λ (m : Placed). reach ≤ distance m.at p) rest → k ≤ number_nearer p reach (held kept) → Keeps p k world [] kept
-  keeps-closed k world rest kept pass far many =
+  pub keeps-closed : (k : ℕ) (places rest : List Placed) (kept : Kept) → Keeps p k places rest kept → All (λ (m : Placed). reach ≤ distance m.at p) rest → k ≤ number_nearer p reach (held kept) → Keeps p k places [] kept
+  keeps-closed k places rest kept pass far many =
       let list : List Placed = held kept in
       let best : List Placed = take k (ranked p list) in
       let counted : k ≤ number_nearer p reach (ranked p list) = omega (arith, many, number-ranked p reach list) in
@@ -140,16 +140,16 @@ module _ (p : Point) (k : ℕ) (leaves : List Leaf) (before : ℕ) where
   abbrev Counts : (List Bool → Bool) → ℕ → List Leaf → Type 0
   Counts passes now left = now + length (leaves_of passes left) ≤ before + length (leaves_of passes leaves)
 
-  -- of each world with k objects, by the distance of the k-th
+  -- of places with k objects, by the distance of the k-th
   abbrev CountsNear : ℕ → List Leaf → Type 0
-  CountsNear now left = OfEachWorld leaves (λ world. (d : Placed) → k ≤ length world → Counts (within p (reach_of p k world d)) now left)
+  CountsNear now left = OfPlaces leaves (λ places. (d : Placed) → k ≤ length places → Counts (within p (reach_of p k places d)) now left)
 
   pub record State (now : ℕ) (ahead : List Ahead) (kept : Kept) : Type 0 where
     pub from : kept.from ≡ p
     pub k_is : kept.k ≡ k
     pub is_held : IsHeld kept
     pub are : All (IsAhead p) ahead
-    pub worlds : OfEachWorld leaves (λ world. Searches p k world (objects_ahead leaves ahead) kept)
+    pub searches : OfPlaces leaves (λ places. Searches p k places (objects_ahead leaves ahead) kept)
     pub opened : Counts every now (leaves_ahead leaves ahead)
     pub near : CountsNear now (leaves_ahead leaves ahead)
     pub some : now ≡ before → held kept ≡ []
@@ -161,8 +161,8 @@ module _ (p : Point) (k : ℕ) (leaves : List Leaf) (before : ℕ) where
     pub is_held : IsHeld kept
     pub is : IsAhead p a
     pub are : All (IsAhead p) left
-    pub worlds : OfEachWorld leaves (λ world. Searches p k world (objects_of (all_rows (subtree a.name leaves)) ++ objects_ahead leaves left) kept)
-    pub far : OfEachWorld leaves (λ world. All (λ (m : Placed). a.least ≤ distance m.at p) (objects_of (all_rows (subtree a.name leaves)) ++ objects_ahead leaves left))
+    pub searches : OfPlaces leaves (λ places. Searches p k places (objects_of (all_rows (subtree a.name leaves)) ++ objects_ahead leaves left) kept)
+    pub far : OfPlaces leaves (λ places. All (λ (m : Placed). a.least ≤ distance m.at p) (objects_of (all_rows (subtree a.name leaves)) ++ objects_ahead leaves left))
     pub opened : Counts every now (subtree a.name leaves ++ leaves_ahead leaves left)
     pub near : CountsNear now (subtree a.name leaves ++ leaves_ahead leaves left)
     pub some : now ≡ before → held kept ≡ []
@@ -186,13 +186,13 @@ module _ (p : Point) (k : ℕ) (leaves : List Leaf) (before : ℕ) where
         is_held = s.is_held;
         is = All-head (IsAhead p) a new all;
         are = All-tail (IsAhead p) a new all;
-        worlds = λ world names is_world stands.
-            searches_permuted p k world (objects_ahead leaves old) (objects_of (all_rows (subtree a.name leaves)) ++ objects_ahead leaves new) kept (first-permutation leaves old new a one) (s.worlds world names is_world stands);
-        far = λ world names is_world stands.
+        searches = λ places names are_places stands.
+            searches_permuted p k places (objects_ahead leaves old) (objects_of (all_rows (subtree a.name leaves)) ++ objects_ahead leaves new) kept (first-permutation leaves old new a one) (s.searches places names are_places stands);
+        far = λ places names are_places stands.
             All-permutation (λ (m : Placed). a.least ≤ distance m.at p) (objects_ahead leaves old) (objects_of (all_rows (subtree a.name leaves)) ++ objects_ahead leaves new) (first-permutation leaves old new a one)
-            (far_ahead leaves p (leaves_under world leaves stands.rows) a.least old s.are low);
+            (far_ahead leaves p (leaves_under places leaves stands.rows) a.least old s.are low);
         opened = taken-count every now old new a one s.opened;
-        near = λ world names is_world stands d many. taken-count (within p (reach_of p k world d)) now old new a one (s.near world names is_world stands d many);
+        near = λ places names are_places stands d many. taken-count (within p (reach_of p k places d)) now old new a one (s.near places names are_places stands d many);
         some = s.some;
       }
 
@@ -208,9 +208,9 @@ module _ (p : Point) (k : ℕ) (leaves : List Leaf) (before : ℕ) where
     below = objects_of (all_rows (subtree a.name leaves))
 
     -- where k are nearer, the search ends
-    pub closed : k ≤ number_nearer p a.least (held kept) → OfEachWorld leaves (λ world. Keeps p k world [] kept)
-    closed many world names is_world stands =
-        keeps-closed p a.least k world (below ++ objects_ahead leaves left) kept (t.worlds world names is_world stands).keeps (t.far world names is_world stands) many
+    pub closed : k ≤ number_nearer p a.least (held kept) → OfPlaces leaves (λ places. Keeps p k places [] kept)
+    closed many places names are_places stands =
+        keeps-closed p a.least k places (below ++ objects_ahead leaves left) kept (t.searches places names are_places stands).keeps (t.far places names are_places stands) many
 
     module _ (b : Rows) (found : leaf_named a.name leaves ≡ Some (record { name = a.name; bucket = b })) (few : number_nearer p a.least (held kept) < k) where
       one : subtree a.name leaves ≡ leaf_at a.name b ∷ []
@@ -229,9 +229,9 @@ module _ (p : Point) (k : ℕ) (leaves : List Leaf) (before : ℕ) where
       opened-leaf = leaf-count every refl t.opened
 
       pub near-leaf : CountsNear (now + 1) (leaves_ahead leaves left)
-      near-leaf world names is_world stands d many =
-          let reach = reach-within p k a.least world (below ++ objects_ahead leaves left) kept d (t.worlds world names is_world stands).keeps (t.far world names is_world stands) few many in
-          leaf-count (within p (reach_of p k world d)) (le-leb (least_to p a.name) (reach_of p k world d) (omega (arith, reach, t.is.least_is))) (t.near world names is_world stands d many)
+      near-leaf places names are_places stands d many =
+          let reach = reach-within p k a.least places (below ++ objects_ahead leaves left) kept d (t.searches places names are_places stands).keeps (t.far places names are_places stands) few many in
+          leaf-count (within p (reach_of p k places d)) (le-leb (least_to p a.name) (reach_of p k places d) (omega (arith, reach, t.is.least_is))) (t.near places names are_places stands d many)
 
       pub leaf-state : (new : Kept) (then : ℕ) → then ≡ now + 1 → before ≤ now → Passes (objects_of b.rows) kept new → State then left new
       leaf-state new then next le passes = record {
@@ -239,17 +239,17 @@ module _ (p : Point) (k : ℕ) (leaves : List Leaf) (before : ℕ) where
         k_is = passes.k_is ∙ t.k_is;
         is_held = passes.is_held;
         are = t.are;
-        worlds = λ world names is_world stands.
-            let s = t.worlds world names is_world stands in
+        searches = λ places names are_places stands.
+            let s = t.searches places names are_places stands in
             let here : below ≡ objects_of b.rows = ap (λ (ls : List Leaf). objects_of (all_rows ls)) one ∙ ap objects_of (append-nil b.rows) in
-            let are : AreOf world (objects_of b.rows ++ objects_ahead leaves left) = subst (λ (ms : List Placed). AreOf world (ms ++ objects_ahead leaves left)) here s.are_of in
+            let are : AreOf places (objects_of b.rows ++ objects_ahead leaves left) = subst (λ (ms : List Placed). AreOf places (ms ++ objects_ahead leaves left)) here s.are_of in
             record {
-              are_of = back_of world (objects_of b.rows) (objects_ahead leaves left) are;
-              keeps = passes_on p k world (objects_of b.rows) (objects_ahead leaves left) kept new t.from t.k_is passes (front_of world (objects_of b.rows) (objects_ahead leaves left) are)
-                  (subst (λ (ms : List Placed). Keeps p k world (ms ++ objects_ahead leaves left) kept) here s.keeps);
+              are_of = back_of places (objects_of b.rows) (objects_ahead leaves left) are;
+              keeps = passes_on p k places (objects_of b.rows) (objects_ahead leaves left) kept new t.from t.k_is passes (front_of places (objects_of b.rows) (objects_ahead leaves left) are)
+                  (subst (λ (ms : List Placed). Keeps p k places (ms ++ objects_ahead leaves left) kept) here s.keeps);
             };
         opened = subst (λ n. Counts every n (leaves_ahead leaves left)) (sym next) opened-leaf;
-        near = λ world names is_world stands d many. subst (λ n. Counts (within p (reach_of p k world d)) n (leaves_ahead leaves left)) (sym next) (near-leaf world names is_world stands d many);
+        near = λ places names are_places stands d many. subst (λ n. Counts (within p (reach_of p k places d)) n (leaves_ahead leaves left)) (sym next) (near-leaf places names are_places stands d many);
         some = λ same. absurd (omega (arith, same, next, le));
       }
 
@@ -266,10 +266,10 @@ module _ (p : Point) (k : ℕ) (leaves : List Leaf) (before : ℕ) where
           k_is = t.k_is;
           is_held = t.is_held;
           are = all-put (IsAhead p) mid new hind two hind_is (all-put (IsAhead p) left mid fore one fore_is t.are);
-          worlds = λ world names is_world stands.
-              searches_permuted p k world (below ++ objects_ahead leaves left) (objects_ahead leaves new) kept (two-permutation leaves left mid new fore hind (subtree a.name leaves) one two both) (t.worlds world names is_world stands);
+          searches = λ places names are_places stands.
+              searches_permuted p k places (below ++ objects_ahead leaves left) (objects_ahead leaves new) kept (two-permutation leaves left mid new fore hind (subtree a.name leaves) one two both) (t.searches places names are_places stands);
           opened = count every t.opened;
-          near = λ world names is_world stands d many. count (within p (reach_of p k world d)) (t.near world names is_world stands d many);
+          near = λ places names are_places stands d many. count (within p (reach_of p k places d)) (t.near places names are_places stands d many);
           some = t.some;
         }
 
@@ -291,19 +291,19 @@ module _ (p : Point) (k : ℕ) (leaves : List Leaf) (before : ℕ) where
         k_is = empty.k_is;
         is_held = empty.is_held;
         are = All-cons (IsAhead p) a [] is (All-nil (IsAhead p));
-        worlds = λ world names is_world stands.
-            let table = table_of leaves world names stands in
-            let objects : IsPermutation world (objects_of (all_rows leaves)) =
-            subst (λ (l : List Placed). IsPermutation l (objects_of (all_rows leaves))) (filter-all world)
-            (subst (λ (l : List Placed). IsPermutation (filter (λ (m : Placed). true) world) l) (filter-all (objects_of (all_rows leaves)))
-            (objects-permutation (λ (m : Placed). true) world (all_rows leaves) is_world.rising is_world.points table.ordered table.has)) in
-            let rest : IsPermutation world (objects_ahead leaves (a ∷ [])) = subst (λ (rs : List Row). IsPermutation world (objects_of rs)) (sym rows) objects in
+        searches = λ places names are_places stands.
+            let table = table_of leaves places names stands in
+            let objects : IsPermutation places (objects_of (all_rows leaves)) =
+            subst (λ (l : List Placed). IsPermutation l (objects_of (all_rows leaves))) (filter-all places)
+            (subst (λ (l : List Placed). IsPermutation (filter (λ (m : Placed). true) places) l) (filter-all (objects_of (all_rows leaves)))
+            (objects-permutation (λ (m : Placed). true) places (all_rows leaves) are_places.rising are_places.points table.ordered table.has)) in
+            let rest : IsPermutation places (objects_ahead leaves (a ∷ [])) = subst (λ (rs : List Row). IsPermutation places (objects_of rs)) (sym rows) objects in
             record {
-              are_of = All-permutation (λ (m : Placed). place_of world m.id ≡ Some m.at) world (objects_ahead leaves (a ∷ [])) rest (found_in world is_world.rising);
-              keeps = subst (λ l. IsPass p k world (objects_ahead leaves (a ∷ [])) l None) (sym empty.none) (before_all p k world (objects_ahead leaves (a ∷ [])) is_world.rising rest);
+              are_of = All-permutation (λ (m : Placed). place_of places m.id ≡ Some m.at) places (objects_ahead leaves (a ∷ [])) rest (found_in places are_places.rising);
+              keeps = subst (λ l. IsPass p k places (objects_ahead leaves (a ∷ [])) l None) (sym empty.none) (before_all p k places (objects_ahead leaves (a ∷ [])) are_places.rising rest);
             };
         opened = omega (arith, fewer every);
-        near = λ world names is_world stands d many. omega (arith, fewer (within p (reach_of p k world d)));
+        near = λ places names are_places stands d many. omega (arith, fewer (within p (reach_of p k places d)));
         some = λ same. empty.none;
       }
 

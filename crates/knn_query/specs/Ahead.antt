@@ -7,7 +7,7 @@ use Rattle.zorder.specs.declared.points.Placed.{Placed}
 use Rattle.zorder.specs.Distance.{distance, least_distance}
 use Rattle.prefix_names.specs.Regions.{region_of}
 use Rattle.index_layer.specs.Leaves.{Leaf, all_rows}
-use Rattle.plain_list.specs.Answer.{ranked}
+use Rattle.plain_list.specs.Queries.{ranked}
 use Rattle.plain_list.specs.Nearest.{AreOf}
 use Rattle.table_share.specs.Objects.{objects_of}
 use Rattle.table_share.specs.Subtree.{subtree, leaves_of}
@@ -23,9 +23,9 @@ least_to p name = least_distance (region_of name) p
 abbrev pub leaves_within : Point → ℕ → List Leaf → List Leaf
 leaves_within p reach leaves = leaves_of (λ name. nat_le (least_to p name) reach) leaves
 
--- the squared distance of the k-th of a world's objects
+-- the squared distance of the k-th of the objects
 abbrev pub reach_of : Point → ℕ → List Placed → Placed → ℕ
-reach_of p k world d = distance (slice_index_or (ranked p world) (k - 1) d).at p
+reach_of p k places d = distance (slice_index_or (ranked p places) (k - 1) d).at p
 
 -- how many of a list are nearer than this
 abbrev pub number_nearer : Point → ℕ → List Placed → ℕ
@@ -44,10 +44,10 @@ leaves_ahead leaves ahead = flat_map (λ (a : Ahead). subtree a.name leaves) ahe
 abbrev pub objects_ahead : List Leaf → List Ahead → List Placed
 objects_ahead leaves ahead = objects_of (all_rows (leaves_ahead leaves ahead))
 
--- of a world that the leaves stand for, where these objects are still to come
-pub record Searches (p : Point) (k : ℕ) (world rest : List Placed) (kept : Kept) : Type 0 where
-  pub are_of : AreOf world rest
-  pub keeps : Keeps p k world rest kept
+-- of the places that the leaves stand for, where these objects are still to come
+pub record Searches (p : Point) (k : ℕ) (places rest : List Placed) (kept : Kept) : Type 0 where
+  pub are_of : AreOf places rest
+  pub keeps : Keeps p k places rest kept
 
 -- each is as far as the next, or farther
 abbrev pub IsFarFirst : List Ahead → Type 0
@@ -79,12 +79,12 @@ AreAt is_at (a ∷ ahead) (p ∷ places) = is_at p.now a.name × AreAt is_at ahe
 
 -- where there are k objects, no more was opened than the leaves of which some point may be as near as the k-th
 abbrev pub OpensNear : Point → ℕ → List Leaf → ℕ → ℕ → List Placed → Type 0
-OpensNear p k leaves before now world = (d : Placed) → k ≤ length world → now ≤ before + length (leaves_within p (reach_of p k world d) leaves)
+OpensNear p k leaves before now places = (d : Placed) → k ≤ length places → now ≤ before + length (leaves_within p (reach_of p k places d) leaves)
 
 -- the same, with those that are ahead
 abbrev pub OpensNearOf : Point → ℕ → List Leaf → List Leaf → ℕ → ℕ → List Placed → Type 0
-OpensNearOf p k leaves left before now world =
-    (d : Placed) → k ≤ length world → now + length (leaves_within p (reach_of p k world d) left) ≡ before + length (leaves_within p (reach_of p k world d) leaves)
+OpensNearOf p k leaves left before now places =
+    (d : Placed) → k ≤ length places → now + length (leaves_within p (reach_of p k places d) left) ≡ before + length (leaves_within p (reach_of p k places d) leaves)
 
 -- how much is left to do below a name
 abbrev pub weight_of : Ahead → ℕ

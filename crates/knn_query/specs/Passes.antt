@@ -34,7 +34,7 @@ pub record IsEmpty (p : Point) (k : ℕ) (kept : Kept) : Type 0 where
 
 -- the nearest of all that were seen are those that are kept, where these objects are still to come
 abbrev pub Keeps : Point → ℕ → List Placed → List Placed → Kept → Type 0
-Keeps p k world rest kept = IsPass p k world rest (held kept) None
+Keeps p k places rest kept = IsPass p k places rest (held kept) None
 
 -- k are kept, each of them nearer than this object
 pub record IsOut (kept : Kept) (m : Placed) : Type 0 where
@@ -51,4 +51,4 @@ pub record Passes (ms : List Placed) (old new : Kept) : Type 0 where
   pub k_is : new.k ≡ old.k
   pub is_held : IsHeld new
   pub out : (m : Placed) → IsOut old m → IsOut new m
-  pub keeps : (world rest : List Placed) → AreOf world ms → Keeps old.from old.k world (ms ++ rest) old → Keeps old.from old.k world rest new
+  pub keeps : (places rest : List Placed) → AreOf places ms → Keeps old.from old.k places (ms ++ rest) old → Keeps old.from old.k places rest new

@@ -2,7 +2,7 @@
 ghost use Rattle.std.specs.Prelude.{◌≡◌, ◌≤◌, ◌∷◌, nat_le, List, [], map, take, IfOk, OnOk};
 ghost use Rattle.std.specs.BinaryHeap.{heap_items, IsHeap};
 ghost use Rattle.zorder.specs.declared.points.Placed.{Placed};
-ghost use Rattle.plain_list.specs.Answer.{ranked};
+ghost use Rattle.plain_list.specs.Queries.{ranked};
 ghost use Rattle.plain_list.specs.Nearest.{AreOf};
 ghost use Rattle.knn_query.specs.Ahead.{number_nearer};
 ghost use Rattle.knn_query.specs.Candidates.{candidate_cmp, object_of, Replaces};
@@ -76,7 +76,7 @@ impl Kept {
     /// The nearest, in order.
     pub(crate) fn into_list(self, alloc: Global) -> Result<PlacedList, AllocError>
         requires { IsHeld self }
-        ensures { (world : List Placed) → AreOf world (held self) → IfOk result (λ list. list ≡ take self.k (ranked self.from (held self))) }
+        ensures { (places : List Placed) → AreOf places (held self) → IfOk result (λ list. list ≡ take self.k (ranked self.from (held self))) }
     {
         let sorted = self.heap.into_sorted_vec();
         Ok(PlacedList::from_vec(objects(alloc, &sorted)?))

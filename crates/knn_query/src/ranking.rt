@@ -1,9 +1,9 @@
 //! Objects in the order of their distance to a point.
 ghost use Rattle.std.specs.Prelude.{◌≡◌, ◌≤◌, ◌<◌, ◌+◌, ◌∷◌, [], ℕ, take, IfOk, OnOk, length};
 ghost use Rattle.std.specs.List.{insert};
-ghost use Rattle.plain_list.specs.Answer.{ranked};
+ghost use Rattle.plain_list.specs.Queries.{ranked};
 ghost use Rattle.table_share.specs.Objects.{objects_of, placed_of};
-ghost use Rattle.table_share.specs.Worlds.{OfEachWorld};
+ghost use Rattle.table_share.specs.Standing.{OfPlaces};
 ghost use Rattle.knn_query.specs.Ahead.{IsFarFirst, OpensNear};
 ghost use Rattle.knn_query.specs.Passes.{held, HasReach, IsEmpty, IsHeld, Keeps, Passes};
 
@@ -35,9 +35,9 @@ pub fn nearest<I: Index, L: Ledger>(
 ) -> Result<PlacedList, Memory>
     requires least { 1 ≤ k }
     requires most { k ≤ 2048 }
-    ensures objects { OfEachWorld (I.leaves index.now) (λ world. IfOk result (λ list. list ≡ take k (ranked from world))) }
+    ensures objects { OfPlaces (I.leaves index.now) (λ places. IfOk result (λ list. list ≡ take k (ranked from places))) }
     ensures opened { steps.new ≤ steps.old + length (I.leaves index.now) }
-    ensures near { OfEachWorld (I.leaves index.now) (OpensNear from k (I.leaves index.now) steps.old steps.new) }
+    ensures near { OfPlaces (I.leaves index.now) (OpensNear from k (I.leaves index.now) steps.old steps.new) }
     ensures some { IfOk result (λ list. 0 < length list → steps.old < steps.new) }
 {
     let none = Kept::new(alloc, from, k as usize)?;
@@ -55,9 +55,9 @@ fn keep_nearest<I: Index, L: Ledger>(
     requires empty { IsEmpty kept.from kept.k kept }
     requires least { 1 ≤ kept.k }
     ensures kept { IfOk result (λ new. (new.from ≡ kept.from) × (new.k ≡ kept.k) × IsHeld new) }
-    ensures keeps { OfEachWorld (I.leaves index.now) (λ world. IfOk result (Keeps kept.from kept.k world [])) }
+    ensures keeps { OfPlaces (I.leaves index.now) (λ places. IfOk result (Keeps kept.from kept.k places [])) }
     ensures opened { steps.new ≤ steps.old + length (I.leaves index.now) }
-    ensures near { OfEachWorld (I.leaves index.now) (OpensNear kept.from kept.k (I.leaves index.now) steps.old steps.new) }
+    ensures near { OfPlaces (I.leaves index.now) (OpensNear kept.from kept.k (I.leaves index.now) steps.old steps.new) }
     ensures some { IfOk result (λ new. (steps.old ≤ steps.new) × (steps.new ≡ steps.old → held new ≡ [])) }
 {
     let (name, place) = index.narrow(Name::whole(), index.top());

@@ -5,6 +5,7 @@ use Rattle.plain_list.specs.declared.ops.Op.{Op}
 use Rattle.plain_list.specs.declared.ops.Op.TheVariants as op
 use Rattle.plain_list.specs.declared.entries.Entry.{Entry}
 use Rattle.plain_list.specs.declared.entries.Entry.TheVariants.{Fail, Call, Begin, Install, Abandon}
+use Rattle.plain_list.specs.World.{World}
 use Rattle.plain_list.specs.Answer.{answer_of, after_of, is_change}
 use Rattle.log_state.specs.Changes.{change_cells, cells_of}
 
@@ -20,7 +21,7 @@ call-few : (b : Bool) (o : Op) → length (cond b (change_cells o) []) ≤ 1
 call-few true o = change-few o
 call-few false o = omega arith
 
-pub cells-few : (world : List Placed) (h : List Entry) → length (cells_of world h) ≤ length h
+pub cells-few : (world : World) (h : List Entry) → length (cells_of world h) ≤ length h
 cells-few world [] = omega arith
 cells-few world (Call session row o ∷ h) =
     let a = call-few (is_change (answer_of world o)) o in

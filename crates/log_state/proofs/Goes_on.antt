@@ -16,6 +16,7 @@ use Rattle.plain_list.specs.declared.ops.Op.{Op}
 use Rattle.plain_list.specs.declared.ops.Op.TheVariants as op
 use Rattle.plain_list.specs.declared.entries.Entry.{Entry}
 use Rattle.plain_list.specs.declared.entries.Entry.TheVariants as entry
+use Rattle.plain_list.specs.World.{World}
 use Rattle.plain_list.specs.Answer.{answer_of, after_of, is_change, changed}
 use Rattle.plain_list.specs.State.{State, OpenSplit, step, state_after, is_possible, is_free, is_legal_history, split_name, without_name, without_number, may_split, installed, is_leaf}
 use Rattle.log_state.specs.Recovers.{entry_of, is_possible_cell, cells_after, is_legal_cells}
@@ -100,7 +101,7 @@ abbrev Goes : ℕ → ℕ → State → State → List Cell → Type 0
 Goes w b last c cells = (is_legal_cells w c cells ≡ true) × Follows b last (cells_after w c cells)
 
 -- a call that changes nothing
-keeps : (b : ℕ) (s c : State) (world : List Placed) → world ≡ s.world → Follows b s c → Follows b (record s { world = world }) c
+keeps : (b : ℕ) (s c : State) (world : World) → world ≡ s.world → Follows b s c → Follows b (record s { world = world }) c
 keeps b s c world same f = record { world = same ∙ f.world; leaves = f.leaves; begun = f.begun; splits = f.splits; before = f.before }
 
 -- a call that changes the world

@@ -4,6 +4,7 @@ use Rattle.std.proofs.lemmas.List.{append-nil}
 use Rattle.zorder.specs.declared.points.Placed.{Placed}
 use Rattle.cell_format.specs.declared.cell.Cell.{Cell}
 use Rattle.plain_list.specs.declared.entries.Entry.{Entry}
+use Rattle.plain_list.specs.World.{World}
 use Rattle.plain_list.specs.State.{empty_state}
 use Rattle.disk_trait.specs.Drive.{Drive}
 use Rattle.disk_trait.specs.Moments.{LeavesOnly, LeavesNow, LeavesSince}
@@ -25,14 +26,14 @@ all_taken [] ys = (0, refl)
 all_taken (x ∷ xs) ys = let (k, e) = all_taken xs ys in (suc k, ap (λ l. x ∷ l) e)
 
 -- an image that recovers to a front of the cells of a history does so of a history with more of them
-widened : (w : ℕ) (first : List Cell) (world : List Placed) (h g : List Entry) (more : List Cell) (c : List ℕ)
+widened : (w : ℕ) (first : List Cell) (world : World) (h g : List Entry) (more : List Cell) (c : List ℕ)
     → cells_of world g ++ failed_cells g ≡ (cells_of world h ++ failed_cells h) ++ more
     → IsPrefixRecovered w first world h c → IsPrefixRecovered w first world g c
 widened w first world h g more c same (m, recovers) =
     let (k, e) = more_taken (cells_of world h ++ failed_cells h) more m in
     (k, subst (λ l. Recovers w (first ++ l) c) (e ∙ ap (take k) (sym same)) recovers)
 
-module _ (w : ℕ) (first : List Cell) (world : List Placed) (h : List Entry) (e : Entry) (cell : Cell) (t : ℕ) (d0 d1 : Drive) (earlier : t ≤ d0.clock)
+module _ (w : ℕ) (first : List Cell) (world : World) (h : List Entry) (e : Entry) (cell : Cell) (t : ℕ) (d0 d1 : Drive) (earlier : t ≤ d0.clock)
     (sound : failed_cells h ≡ [])
     (legal : IsLegalCells w (first ++ (cells_of world h ++ cell ∷ [])))
     (kept : KeepsHistory w first world h t d0 None)
@@ -91,7 +92,7 @@ module _ (w : ℕ) (first : List Cell) (world : List Placed) (h : List Entry) (e
     }
 
 -- an entry without a cell leaves all as it was
-pub kept_quiet : (w : ℕ) (first : List Cell) (world : List Placed) (h g : List Entry) (t : ℕ) (drive : Drive) (failed : Option ℕ)
+pub kept_quiet : (w : ℕ) (first : List Cell) (world : World) (h g : List Entry) (t : ℕ) (drive : Drive) (failed : Option ℕ)
     → cells_of world g ≡ cells_of world h → failed_cells g ≡ failed_cells h → KeepsHistory w first world h t drive failed → KeepsHistory w first world g t drive failed
 kept_quiet w first world h g t drive failed cells lost kept = record {
   any_moment = λ c left. let (m, r) = kept.any_moment c left in (m, subst (λ l. Recovers w (first ++ take m l) c) (λ i. sym cells i ++ sym lost i) r);

@@ -4,12 +4,13 @@ use Rattle.zorder.specs.declared.points.Placed.{Placed}
 use Rattle.cell_format.specs.declared.cell.Cell.TheVariants as cell
 use Rattle.plain_list.specs.declared.entries.Entry.{Entry}
 use Rattle.plain_list.specs.declared.entries.Entry.TheVariants.{Fail, Call, Begin, Install, Abandon}
+use Rattle.plain_list.specs.World.{World}
 use Rattle.plain_list.specs.Answer.{answer_of, after_of, is_change}
 use Rattle.plain_list.specs.History.{world_after}
 use Rattle.plain_list.proofs.Histories.{has_failed}
 use Rattle.log_state.specs.Changes.{cells_of, change_cells, failed_cells}
 
-pub cells_of-append : (world : List Placed) (h g : List Entry) → cells_of world (h ++ g) ≡ cells_of world h ++ cells_of (world_after world h) g
+pub cells_of-append : (world : World) (h g : List Entry) → cells_of world (h ++ g) ≡ cells_of world h ++ cells_of (world_after world h) g
 cells_of-append world [] g = refl
 cells_of-append world (Call session row op ∷ h) g =
     ap (λ l. (cond (is_change (answer_of world op)) (change_cells op) []) ++ l) (cells_of-append (after_of world op) h g)

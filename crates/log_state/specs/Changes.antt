@@ -9,6 +9,7 @@ use Rattle.plain_list.specs.declared.entries.Lost.{Lost}
 use Rattle.plain_list.specs.declared.entries.Lost.TheVariants as lost
 use Rattle.plain_list.specs.declared.entries.Entry.{Entry}
 use Rattle.plain_list.specs.declared.entries.Entry.TheVariants as entry
+use Rattle.plain_list.specs.World.{World}
 use Rattle.plain_list.specs.Answer.{answer_of, after_of, is_change}
 use Rattle.log_state.specs.Recovers.{Recovers}
 
@@ -22,7 +23,7 @@ change_cells (op.Within region) = []
 change_cells (op.Near at k) = []
 
 -- the cells of a history: those of the changes among its calls, and of its splits
-abbrev pub cells_of : List Placed → List Entry → List Cell
+abbrev pub cells_of : World → List Entry → List Cell
 cells_of world [] = []
 cells_of world (entry.Call session row op ∷ h) = (if is_change (answer_of world op) then change_cells op else []) ++ cells_of (after_of world op) h
 cells_of world (entry.Begin number name ∷ h) = cell.Begin number name ∷ cells_of world h
@@ -48,10 +49,10 @@ failed_cells (entry.Abandon number ∷ h) = failed_cells h
 
 -- an image that recovers to the cells that stood first and some of the history's, in order and none skipped; the cell of a failed
 -- append may stand after them
-abbrev pub IsPrefixRecovered : ℕ → List Cell → List Placed → List Entry → List ℕ → Type 0
+abbrev pub IsPrefixRecovered : ℕ → List Cell → World → List Entry → List ℕ → Type 0
 IsPrefixRecovered w first world h image = (m : ℕ) × Recovers w (first ++ take m (cells_of world h ++ failed_cells h)) image
 
 -- an image that recovers to all of them; the cell of a failed append may stand after them
-abbrev pub IsWhollyRecovered : ℕ → List Cell → List Placed → List Entry → List ℕ → Type 0
+abbrev pub IsWhollyRecovered : ℕ → List Cell → World → List Entry → List ℕ → Type 0
 IsWhollyRecovered w first world h image =
     Recovers w (first ++ cells_of world h) image ⊎ Recovers w (first ++ (cells_of world h ++ failed_cells h)) image

@@ -2,6 +2,7 @@
 use Rattle.std.specs.Prelude.{◌≡◌, ◌⊎◌, ℕ, List, [], ◌∷◌, ◌++◌, Option, None}
 use Rattle.zorder.specs.declared.points.Placed.{Placed}
 use Rattle.cell_format.specs.declared.cell.Cell.{Cell}
+use Rattle.plain_list.specs.World.{World}
 use Rattle.plain_list.specs.declared.entries.Entry.{Entry}
 use Rattle.disk_trait.specs.Drive.{Drive}
 use Rattle.disk_trait.specs.Moments.{LeavesNow, LeavesSince}
@@ -11,7 +12,7 @@ use Rattle.log_state.specs.Changes.{cells_of, IsPrefixRecovered, IsWhollyRecover
 
 -- A crash at any moment since a moment left the cells that stood first and some of the history's, and a crash now leaves all of them. While no
 -- append has failed the file is their text.
-pub record KeepsHistory (w : ℕ) (first : List Cell) (world : List Placed) (h : List Entry) (since : ℕ) (drive : Drive) (failed : Option ℕ) : Type 0 where
+pub record KeepsHistory (w : ℕ) (first : List Cell) (world : World) (h : List Entry) (since : ℕ) (drive : Drive) (failed : Option ℕ) : Type 0 where
   pub any_moment : LeavesSince drive since (IsPrefixRecovered w first world h)
   pub at_end : LeavesNow drive (IsWhollyRecovered w first world h)
   pub log : failed ≡ None → IsLog w (first ++ cells_of world h) drive

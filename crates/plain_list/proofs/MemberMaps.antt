@@ -9,66 +9,64 @@ use Rattle.std.proofs.lemmas.Grind.{common_steps}
 use Rattle.zorder.specs.declared.points.Point.{Point}
 use Rattle.zorder.specs.declared.points.Placed.{Placed}
 use Rattle.zorder.specs.Key.{IsPoint}
-use Rattle.plain_list.specs.World.{most_members, IsWorld, IsRising, IsAbove, place_of}
+use Rattle.plain_list.specs.Places.{IsRising, IsAbove}
+use Rattle.plain_list.specs.World.{World, places_of, position_of, IsWorld, most_members}
 use Rattle.plain_list.specs.Answer.{with_member, with_moved, without}
 use Rattle.plain_list.specs.MemberMap.{world_of}
+use Rattle.plain_list.proofs.RisingPlaces.{place_of-above}
 use Rattle.plain_list.proofs.Worlds.{IsWorld-with_member, IsWorld-with_moved}
 
-pub place_of-world_of : (es : List (ℕ × Point)) (id : ℕ) → place_of (world_of es) id ≡ lookup (is_at (nat_cmp id)) es
-place_of-world_of [] id = refl
-place_of-world_of (e ∷ es) id =
-    let rest : place_of (world_of es) id ≡ lookup (is_at (nat_cmp id)) es = place_of-world_of es id in
+pub position_of-world_of : (es : List (ℕ × Point)) (id : ℕ) → position_of (world_of es) id ≡ lookup (is_at (nat_cmp id)) es
+position_of-world_of [] id = refl
+position_of-world_of (e ∷ es) id =
+    let rest : position_of (world_of es) id ≡ lookup (is_at (nat_cmp id)) es = position_of-world_of es id in
     grind (arith, nat_tests, common_steps)
 
-pub world_of-insert_entry : (id : ℕ) (at : Point) (es : List (ℕ × Point)) → place_of (world_of es) id ≡ None → world_of (insert_entry nat_cmp es id at) ≡ with_member (record { id = id; at = at }) (world_of es)
+pub world_of-insert_entry : (id : ℕ) (at : Point) (es : List (ℕ × Point)) → position_of (world_of es) id ≡ None → world_of (insert_entry nat_cmp es id at) ≡ with_member (record { id = id; at = at }) (world_of es)
 world_of-insert_entry id at [] none = refl
 world_of-insert_entry id at (e ∷ es) none =
-    let rest : place_of (world_of es) id ≡ None → world_of (insert_entry nat_cmp es id at) ≡ with_member (record { id = id; at = at }) (world_of es) = world_of-insert_entry id at es in
+    let rest : position_of (world_of es) id ≡ None → world_of (insert_entry nat_cmp es id at) ≡ with_member (record { id = id; at = at }) (world_of es) = world_of-insert_entry id at es in
     grind (arith, nat_tests, common_steps)
 
-pub IsAbove-lower : (a b : ℕ) (ms : List Placed) → a ≤ b → IsAbove b ms → IsAbove a ms
+pub IsAbove-lower : (a b : ℕ) (ms : World) → a ≤ b → IsAbove b (places_of ms) → IsAbove a (places_of ms)
 IsAbove-lower a b [] le above = tt
 IsAbove-lower a b (m ∷ ms) le above = (omega (arith, le, above.0), IsAbove-lower a b ms le above.1)
 
-pub without-absent : (id : ℕ) (ms : List Placed) → IsAbove id ms → without id ms ≡ ms
+pub without-absent : (id : ℕ) (ms : World) → IsAbove id (places_of ms) → without id ms ≡ ms
 without-absent id [] above = refl
 without-absent id (m ∷ ms) above =
     let rest : without id ms ≡ ms = without-absent id ms above.1 in
     let lt : id < m.id = above.0 in
     grind (arith, nat_tests, common_steps)
 
-pub with_moved-absent : (id : ℕ) (at : Point) (ms : List Placed) → IsAbove id ms → with_moved id at ms ≡ ms
+pub with_moved-absent : (id : ℕ) (at : Point) (ms : World) → IsAbove id (places_of ms) → with_moved id at ms ≡ ms
 with_moved-absent id at [] above = refl
 with_moved-absent id at (m ∷ ms) above =
     let rest : with_moved id at ms ≡ ms = with_moved-absent id at ms above.1 in
     let lt : id < m.id = above.0 in
     grind (arith, nat_tests, common_steps)
 
-pub world_of-remove_entry : (id : ℕ) (es : List (ℕ × Point)) → IsRising (world_of es) → world_of (remove_entry (is_at (nat_cmp id)) es) ≡ without id (world_of es)
+pub world_of-remove_entry : (id : ℕ) (es : List (ℕ × Point)) → IsRising (places_of (world_of es)) → world_of (remove_entry (is_at (nat_cmp id)) es) ≡ without id (world_of es)
 world_of-remove_entry id [] rising = refl
 world_of-remove_entry id (e ∷ es) rising =
     let rest : world_of (remove_entry (is_at (nat_cmp id)) es) ≡ without id (world_of es) = world_of-remove_entry id es rising.1 in
     let none : e.0 ≤ id → id ≤ e.0 → without id (world_of es) ≡ world_of es = λ le ge. without-absent id (world_of es) (IsAbove-lower id e.0 (world_of es) ge rising.0) in
     grind (arith, nat_tests, common_steps)
 
-pub place_of-above : (id : ℕ) (ms : List Placed) → IsAbove id ms → place_of ms id ≡ None
-place_of-above id [] above = refl
-place_of-above id (m ∷ ms) above =
-    let rest : place_of ms id ≡ None = place_of-above id ms above.1 in
-    let lt : id < m.id = above.0 in
-    grind (arith, nat_tests, common_steps)
+pub position_of-above : (id : ℕ) (ms : World) → IsAbove id (places_of ms) → position_of ms id ≡ None
+position_of-above id ms above = place_of-above id (places_of ms) above
 
 -- an object that is found is the first one, or stands behind it with a greater id
-pub world_of-insert_entry-there : (id : ℕ) (old at : Point) (es : List (ℕ × Point)) → IsRising (world_of es) → place_of (world_of es) id ≡ Some old → world_of (insert_entry nat_cmp es id at) ≡ with_moved id at (world_of es)
+pub world_of-insert_entry-there : (id : ℕ) (old at : Point) (es : List (ℕ × Point)) → IsRising (places_of (world_of es)) → position_of (world_of es) id ≡ Some old → world_of (insert_entry nat_cmp es id at) ≡ with_moved id at (world_of es)
 world_of-insert_entry-there id old at [] rising found = cc
 world_of-insert_entry-there id old at (e ∷ es) rising found =
-    let rest : place_of (world_of es) id ≡ Some old → world_of (insert_entry nat_cmp es id at) ≡ with_moved id at (world_of es) = world_of-insert_entry-there id old at es rising.1 in
+    let rest : position_of (world_of es) id ≡ Some old → world_of (insert_entry nat_cmp es id at) ≡ with_moved id at (world_of es) = world_of-insert_entry-there id old at es rising.1 in
     let same : e.0 ≤ id → id ≤ e.0 → with_moved id at (world_of es) ≡ world_of es = λ le ge. with_moved-absent id at (world_of es) (IsAbove-lower id e.0 (world_of es) ge rising.0) in
-    let none : id < e.0 → place_of (world_of es) id ≡ None = λ lt. place_of-above id (world_of es) (IsAbove-lower id e.0 (world_of es) (omega arith) rising.0) in
+    let none : id < e.0 → position_of (world_of es) id ≡ None = λ lt. position_of-above id (world_of es) (IsAbove-lower id e.0 (world_of es) (omega arith) rising.0) in
     grind (arith, nat_tests, common_steps)
 
 -- an object is found, and moves where it stands
-pub world_of-set_value : (id : ℕ) (at : Point) (es : List (ℕ × Point)) → IsRising (world_of es) → world_of (set_value (is_at (nat_cmp id)) es at) ≡ with_moved id at (world_of es)
+pub world_of-set_value : (id : ℕ) (at : Point) (es : List (ℕ × Point)) → IsRising (places_of (world_of es)) → world_of (set_value (is_at (nat_cmp id)) es at) ≡ with_moved id at (world_of es)
 world_of-set_value id at [] rising = refl
 world_of-set_value id at (e ∷ es) rising =
     let rest : world_of (set_value (is_at (nat_cmp id)) es at) ≡ with_moved id at (world_of es) = world_of-set_value id at es rising.1 in
@@ -76,18 +74,18 @@ world_of-set_value id at (e ∷ es) rising =
     grind (arith, nat_tests, common_steps)
 
 -- an object that isn't there doesn't move
-pub with_moved-none : (id : ℕ) (at : Point) (ms : List Placed) → place_of ms id ≡ None → with_moved id at ms ≡ ms
+pub with_moved-none : (id : ℕ) (at : Point) (ms : World) → position_of ms id ≡ None → with_moved id at ms ≡ ms
 with_moved-none id at [] none = refl
 with_moved-none id at (n ∷ ns) none =
-    let rest : place_of ns id ≡ None → with_moved id at ns ≡ ns = with_moved-none id at ns in
+    let rest : position_of ns id ≡ None → with_moved id at ns ≡ ns = with_moved-none id at ns in
     grind (arith, nat_tests, common_steps)
 
 -- an insert puts an object there, or moves it
-pub record Inserts (id : ℕ) (at : Point) (there : Option Point) (old new : List Placed) : Type 0 where
+pub record Inserts (id : ℕ) (at : Point) (there : Option Point) (old new : World) : Type 0 where
   pub world : IsWorld new
   pub is : MatchOption there (new ≡ with_member (record { id = id; at = at }) old) (λ _. new ≡ with_moved id at old)
 
-pub inserts : (id : ℕ) (at : Point) (there : Option Point) (es : List (ℕ × Point)) → IsWorld (world_of es) → length (world_of es) < most_members → IsPoint at → place_of (world_of es) id ≡ there
+pub inserts : (id : ℕ) (at : Point) (there : Option Point) (es : List (ℕ × Point)) → IsWorld (world_of es) → length (world_of es) < most_members → IsPoint at → position_of (world_of es) id ≡ there
     → Inserts id at there (world_of es) (world_of (insert_entry nat_cmp es id at))
 inserts id at None es w few fits none =
     let is = world_of-insert_entry id at es none in

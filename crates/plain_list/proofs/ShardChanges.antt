@@ -7,73 +7,73 @@ use Rattle.std.proofs.lemmas.List.{length-set, set-get_or, get_or-set_other, get
 use Rattle.zorder.specs.declared.points.Point.{Point}
 use Rattle.zorder.specs.declared.points.Placed.{Placed}
 use Rattle.zorder.specs.Key.{IsPoint}
-use Rattle.plain_list.specs.World.{most_members, place_of, IsWorld}
+use Rattle.plain_list.specs.World.{World, position_of, IsWorld, most_members}
 use Rattle.plain_list.specs.Answer.{with_member, with_moved, without}
 use Rattle.plain_list.specs.MemberShards.{most_shards, shard_of, joined, IsShard, AreShards, AreMade}
 use Rattle.plain_list.proofs.Worlds.{length-with_member, length-with_moved, IsRising-with_member, IsRising-with_moved, IsRising-without, IsWorld-with_member, IsWorld-with_moved, IsWorld-without}
-use Rattle.plain_list.proofs.Members.{place_of-with_member, place_of-without}
-use Rattle.plain_list.proofs.Shards.{IsAtMostAt, IsNowhere, place_of-joined, length-joined, joined-replicate, joined-with_member, joined-with_moved, joined-with_member_back, joined-without, without-none}
+use Rattle.plain_list.proofs.Members.{position_of-with_member, position_of-without}
+use Rattle.plain_list.proofs.Shards.{IsAtMostAt, IsNowhere, position_of-joined, length-joined, joined-replicate, joined-with_member, joined-with_moved, joined-with_member_back, joined-without, without-none}
 
 -- where one shard is replaced by another that may stand there, each is one that may stand where it does
-each-set : (shards : List (List Placed)) (here : ℕ) (new : List Placed) → here < length shards → IsShard here new → ((place : ℕ) → IsShard place (get_or shards place [])) → (place : ℕ) → IsShard place (get_or (set shards here new) place [])
+each-set : (shards : List World) (here : ℕ) (new : World) → here < length shards → IsShard here new → ((place : ℕ) → IsShard place (get_or shards place [])) → (place : ℕ) → IsShard place (get_or (set shards here new) place [])
 each-set shards here new lt is each place = by_test (place == here) (Decides-eqb place here)
   where
     by_test : (b : Bool) → Decides b (place ≡ here) → IsShard place (get_or (set shards here new) place [])
     by_test true tells = subst (IsShard place) (sym (get_or-set_at shards here place new [] (tells.0 refl) lt)) (subst (λ p. IsShard p new) (sym (tells.0 refl)) is)
     by_test false tells = subst (IsShard place) (sym (get_or-set_other shards here place new [] (not_from_Decides false tells refl))) (each place)
 
-place_of-with_moved_none : (id : ℕ) (at : Point) (world : List Placed) (other : ℕ) → place_of world other ≡ None → place_of (with_moved id at world) other ≡ None
-place_of-with_moved_none id at [] other none = refl
-place_of-with_moved_none id at (n ∷ ns) other none =
-    let rest : place_of ns other ≡ None → place_of (with_moved id at ns) other ≡ None = place_of-with_moved_none id at ns other in
+position_of-with_moved_none : (id : ℕ) (at : Point) (world : World) (other : ℕ) → position_of world other ≡ None → position_of (with_moved id at world) other ≡ None
+position_of-with_moved_none id at [] other none = refl
+position_of-with_moved_none id at (n ∷ ns) other none =
+    let rest : position_of ns other ≡ None → position_of (with_moved id at ns) other ≡ None = position_of-with_moved_none id at ns other in
     grind (arith, nat_tests, common_steps)
 
-IsShard-with_member : (m : Placed) (ms : List Placed) → place_of ms m.id ≡ None → IsShard (shard_of m.id) ms → IsShard (shard_of m.id) (with_member m ms)
+IsShard-with_member : (m : Placed) (ms : World) → position_of ms m.id ≡ None → IsShard (shard_of m.id) ms → IsShard (shard_of m.id) (with_member m ms)
 IsShard-with_member m ms none is = record {
   rising = IsRising-with_member m ms none is.rising;
   others = λ id differ.
       let other : m.id ≢ id = λ same. differ (ap shard_of (sym same)) in
-      let absent : place_of ms id ≡ None = is.others id differ in
-      let found : place_of (with_member m ms) id ≡ cond (m.id == id) (Some m.at) (place_of ms id) = place_of-with_member m ms id none in
+      let absent : position_of ms id ≡ None = is.others id differ in
+      let found : position_of (with_member m ms) id ≡ cond (m.id == id) (Some m.at) (position_of ms id) = position_of-with_member m ms id none in
       grind (arith, nat_tests, common_steps);
 }
 
-IsShard-with_moved : (place id : ℕ) (at : Point) (ms : List Placed) → IsShard place ms → IsShard place (with_moved id at ms)
-IsShard-with_moved place id at ms is = record { rising = IsRising-with_moved id at ms is.rising; others = λ other differ. place_of-with_moved_none id at ms other (is.others other differ) }
+IsShard-with_moved : (place id : ℕ) (at : Point) (ms : World) → IsShard place ms → IsShard place (with_moved id at ms)
+IsShard-with_moved place id at ms is = record { rising = IsRising-with_moved id at ms is.rising; others = λ other differ. position_of-with_moved_none id at ms other (is.others other differ) }
 
-IsShard-without : (place id : ℕ) (ms : List Placed) → IsShard place ms → IsShard place (without id ms)
+IsShard-without : (place id : ℕ) (ms : World) → IsShard place ms → IsShard place (without id ms)
 IsShard-without place id ms is = record {
   rising = IsRising-without id ms is.rising;
   others = λ other differ.
-      let absent : place_of ms other ≡ None = is.others other differ in
-      let found : place_of (without id ms) other ≡ cond (id == other) None (place_of ms other) = place_of-without id ms other in
+      let absent : position_of ms other ≡ None = is.others other differ in
+      let found : position_of (without id ms) other ≡ cond (id == other) None (position_of ms other) = position_of-without id ms other in
       grind (arith, nat_tests, common_steps);
 }
 
 -- one shard is another one, and so the world is
-pub record Becomes (shards : List (List Placed)) (here : ℕ) (new world : List Placed) (size : ℕ) : Type 0 where
+pub record Becomes (shards : List World) (here : ℕ) (new world : World) (size : ℕ) : Type 0 where
   pub now : joined (set shards here new) ≡ world
   pub all : AreShards (set shards here new) size
 
-module _ (shards : List (List Placed)) (size : ℕ) (all : AreShards shards size) (id : ℕ) where
+module _ (shards : List World) (size : ℕ) (all : AreShards shards size) (id : ℕ) where
   most : IsAtMostAt (shard_of id) id shards
   most = λ place differ. (all.each place).others id (λ same. differ (sym same))
 
-  pub shard_found : place_of (get_or shards (shard_of id) []) id ≡ place_of (joined shards) id
-  shard_found = sym (place_of-joined shards (shard_of id) id (all.each (shard_of id)).rising most)
+  pub shard_found : position_of (get_or shards (shard_of id) []) id ≡ position_of (joined shards) id
+  shard_found = sym (position_of-joined shards (shard_of id) id (all.each (shard_of id)).rising most)
 
-  nowhere : place_of (get_or shards (shard_of id) []) id ≡ None → IsNowhere id shards
+  nowhere : position_of (get_or shards (shard_of id) []) id ≡ None → IsNowhere id shards
   nowhere none = λ place. by_test place (place == shard_of id) (Decides-eqb place (shard_of id))
     where
-      by_test : (place : ℕ) (b : Bool) → Decides b (place ≡ shard_of id) → place_of (get_or shards place []) id ≡ None
-      by_test place true tells = subst (λ p. place_of (get_or shards p []) id ≡ None) (sym (tells.0 refl)) none
+      by_test : (place : ℕ) (b : Bool) → Decides b (place ≡ shard_of id) → position_of (get_or shards place []) id ≡ None
+      by_test place true tells = subst (λ p. position_of (get_or shards p []) id ≡ None) (sym (tells.0 refl)) none
       by_test place false tells = most place (not_from_Decides false tells refl)
 
-  count-set : (new : List Placed) → 0 < length (set shards (shard_of id) new) → length (set shards (shard_of id) new) ≡ most_shards
+  count-set : (new : World) → 0 < length (set shards (shard_of id) new) → length (set shards (shard_of id) new) ≡ most_shards
   count-set new lt = length-set shards (shard_of id) new ∙ all.count (omega (arith, lt, length-set shards (shard_of id) new))
 
   module _ (lt : shard_of id < length shards) where
-    all-set : (new world : List Placed) (count : ℕ) → joined (set shards (shard_of id) new) ≡ world → IsWorld world → count ≡ length world → IsShard (shard_of id) new → Becomes shards (shard_of id) new world count
+    all-set : (new world : World) (count : ℕ) → joined (set shards (shard_of id) new) ≡ world → IsWorld world → count ≡ length world → IsShard (shard_of id) new → Becomes shards (shard_of id) new world count
     all-set new world count is w len shard = record {
       now = is;
       all = record { world = subst IsWorld (sym is) w; len = len ∙ ap length (sym is); count = count-set new; each = each-set shards (shard_of id) new lt shard all.each };
@@ -83,7 +83,7 @@ module _ (shards : List (List Placed)) (size : ℕ) (all : AreShards shards size
     shard_same = all-set (get_or shards (shard_of id) []) (joined shards) size (ap joined (set-get_or shards (shard_of id) [])) all.world all.len (all.each (shard_of id))
 
     module _ (at : Point) (fits : IsPoint at) where
-      pub shard_put : place_of (get_or shards (shard_of id) []) id ≡ None → length (joined shards) < most_members
+      pub shard_put : position_of (get_or shards (shard_of id) []) id ≡ None → length (joined shards) < most_members
           → Becomes shards (shard_of id) (with_member (record { id = id; at = at }) (get_or shards (shard_of id) [])) (with_member (record { id = id; at = at }) (joined shards)) (size + 1)
       shard_put none few =
           let m : Placed = record { id = id; at = at } in
@@ -99,11 +99,11 @@ module _ (shards : List (List Placed)) (size : ℕ) (all : AreShards shards size
           (omega (arith, length-with_moved id at (joined shards), all.len))
           (IsShard-with_moved (shard_of id) id at (get_or shards (shard_of id) []) (all.each (shard_of id)))
 
-    pub shard_left : (at : Point) → place_of (get_or shards (shard_of id) []) id ≡ Some at → (0 < size) × Becomes shards (shard_of id) (without id (get_or shards (shard_of id) [])) (without id (joined shards)) (size - 1)
+    pub shard_left : (at : Point) → position_of (get_or shards (shard_of id) []) id ≡ Some at → (0 < size) × Becomes shards (shard_of id) (without id (get_or shards (shard_of id) [])) (without id (joined shards)) (size - 1)
     shard_left at found =
         let m : Placed = record { id = id; at = at } in
         let rising = (all.each (shard_of id)).rising in
-        let left : List Placed = joined (set shards (shard_of id) (without id (get_or shards (shard_of id) []))) in
+        let left : World = joined (set shards (shard_of id) (without id (get_or shards (shard_of id) []))) in
         let was : length (joined shards) ≡ length (with_member m left) = ap length (joined-with_member_back m shards (shard_of id) lt rising most found) in
         let is : left ≡ without id (joined shards) = joined-without m shards (shard_of id) lt rising most found in (
           omega (arith, all.len, was, length-with_member m left),
@@ -117,59 +117,59 @@ module _ (shards : List (List Placed)) (size : ℕ) (all : AreShards shards size
     shard_room few = omega (arith, few, length-joined shards (shard_of id))
 
 -- a shard that was read is the one that an id is dealt to
-pub record Reads (shards : List (List Placed)) (id i : ℕ) (shard : List Placed) : Type 0 where
+pub record Reads (shards : List World) (id i : ℕ) (shard : World) : Type 0 where
   pub place : i ≡ shard_of id
   pub lt : i < length shards
   pub is : shard ≡ get_or shards i shard
 
 -- one shard takes an object, or moves it
-pub record Inserts (old shards : List (List Placed)) (i id : ℕ) (at : Point) (new : List Placed) (there : Option Point) (size : ℕ) : Type 0 where
-  pub found : there ≡ place_of (joined old) id
+pub record Inserts (old shards : List World) (i id : ℕ) (at : Point) (new : World) (there : Option Point) (size : ℕ) : Type 0 where
+  pub found : there ≡ position_of (joined old) id
   pub is : MatchOption there (joined (set shards i new) ≡ with_member (record { id = id; at = at }) (joined old)) (λ _. joined (set shards i new) ≡ with_moved id at (joined old))
   pub all : AreShards (set shards i new) size
 
-module _ {shards : List (List Placed)} {size : ℕ} {id i : ℕ} {shard : List Placed} (all : AreShards shards size) (reads : Reads shards id i shard) where
+module _ {shards : List World} {size : ℕ} {id i : ℕ} {shard : World} (all : AreShards shards size) (reads : Reads shards id i shard) where
   lt : shard_of id < length shards
   lt = omega (arith, reads.lt, reads.place)
 
-  as_read : (P : ℕ → List Placed → Type 0) → P (shard_of id) (get_or shards (shard_of id) []) → P i shard
+  as_read : (P : ℕ → World → Type 0) → P (shard_of id) (get_or shards (shard_of id) []) → P i shard
   as_read P p =
       let is : shard ≡ get_or shards (shard_of id) [] = reads.is ∙ (ap (λ j. get_or shards j shard) reads.place ∙ get_or_default shards (shard_of id) shard [] lt) in
       subst (λ j. P j shard) (sym reads.place) (subst (P (shard_of id)) (sym is) p)
 
-  pub found_in : place_of shard id ≡ place_of (joined shards) id
-  found_in = as_read (λ _ s. place_of s id ≡ place_of (joined shards) id) (shard_found shards size all id)
+  pub found_in : position_of shard id ≡ position_of (joined shards) id
+  found_in = as_read (λ _ s. position_of s id ≡ position_of (joined shards) id) (shard_found shards size all id)
 
   pub room_in : length (joined shards) < most_members → length shard < most_members
   room_in few = as_read (λ _ s. length s < most_members) (shard_room shards size all id lt few)
 
-  pub same_in : (new : List Placed) → new ≡ shard → Becomes shards i new (joined shards) size
+  pub same_in : (new : World) → new ≡ shard → Becomes shards i new (joined shards) size
   same_in new is = subst (λ s. Becomes shards i s (joined shards) size) (sym is) (as_read (λ j s. Becomes shards j s (joined shards) size) (shard_same shards size all id lt))
 
-  pub moved_in : (at : Point) (new : List Placed) → IsPoint at → new ≡ with_moved id at shard → Becomes shards i new (with_moved id at (joined shards)) size
+  pub moved_in : (at : Point) (new : World) → IsPoint at → new ≡ with_moved id at shard → Becomes shards i new (with_moved id at (joined shards)) size
   moved_in at new fits is =
       subst (λ s. Becomes shards i s (with_moved id at (joined shards)) size) (sym is) (as_read (λ j s. Becomes shards j (with_moved id at s) (with_moved id at (joined shards)) size) (shard_moved shards size all id lt at fits))
 
-  pub left_in : (at : Point) (new : List Placed) → place_of shard id ≡ Some at → new ≡ without id shard → (0 < size) × Becomes shards i new (without id (joined shards)) (size - 1)
+  pub left_in : (at : Point) (new : World) → position_of shard id ≡ Some at → new ≡ without id shard → (0 < size) × Becomes shards i new (without id (joined shards)) (size - 1)
   left_in at new found is =
       subst (λ s. (0 < size) × Becomes shards i s (without id (joined shards)) (size - 1)) (sym is)
-      (as_read (λ j s. place_of s id ≡ Some at → (0 < size) × Becomes shards j (without id s) (without id (joined shards)) (size - 1)) (shard_left shards size all id lt at) found)
+      (as_read (λ j s. position_of s id ≡ Some at → (0 < size) × Becomes shards j (without id s) (without id (joined shards)) (size - 1)) (shard_left shards size all id lt at) found)
 
-  pub none_in : (new : List Placed) → place_of shard id ≡ None → new ≡ without id shard → Becomes shards i new (without id (joined shards)) size
+  pub none_in : (new : World) → position_of shard id ≡ None → new ≡ without id shard → Becomes shards i new (without id (joined shards)) size
   none_in new none is =
       let there : without id shard ≡ shard = without-none id shard none in
       let nowhere : without id (joined shards) ≡ joined shards = without-none id (joined shards) (sym found_in ∙ none) in
       subst (λ w. Becomes shards i new w size) (sym nowhere) (same_in new (is ∙ there))
 
-  pub put_in : (at : Point) (new : List Placed) → IsPoint at → length (joined shards) < most_members → place_of shard id ≡ None → new ≡ with_member (record { id = id; at = at }) shard
+  pub put_in : (at : Point) (new : World) → IsPoint at → length (joined shards) < most_members → position_of shard id ≡ None → new ≡ with_member (record { id = id; at = at }) shard
       → Becomes shards i new (with_member (record { id = id; at = at }) (joined shards)) (size + 1)
   put_in at new fits few none is =
       let m : Placed = record { id = id; at = at } in
       subst (λ s. Becomes shards i s (with_member m (joined shards)) (size + 1)) (sym is)
-      (as_read (λ j s. place_of s id ≡ None → Becomes shards j (with_member m s) (with_member m (joined shards)) (size + 1)) (λ absent. shard_put shards size all id lt at fits absent few) none)
+      (as_read (λ j s. position_of s id ≡ None → Becomes shards j (with_member m s) (with_member m (joined shards)) (size + 1)) (λ absent. shard_put shards size all id lt at fits absent few) none)
 
 -- shards that were made where there were none stand for the same world
-get_or-replicate_none : (n place : ℕ) → get_or {A = List Placed} (replicate n []) place [] ≡ []
+get_or-replicate_none : (n place : ℕ) → get_or {A = World} (replicate n []) place [] ≡ []
 get_or-replicate_none zero place = refl
 get_or-replicate_none (suc n) zero = refl
 get_or-replicate_none (suc n) (suc place) = get_or-replicate_none n place
@@ -177,7 +177,7 @@ get_or-replicate_none (suc n) (suc place) = get_or-replicate_none n place
 IsShard-nil : (place : ℕ) → IsShard place []
 IsShard-nil place = record { rising = tt; others = λ id differ. refl }
 
-pub record Stand (old new : List (List Placed)) (size : ℕ) : Type 0 where
+pub record Stand (old new : List World) (size : ℕ) : Type 0 where
   pub same : joined new ≡ joined old
   pub count : length new ≡ most_shards
   pub all : AreShards new size
@@ -194,27 +194,27 @@ replicated n size is none = record {
   };
 }
 
-pub made : (old new : List (List Placed)) (size : ℕ) → AreShards old size → AreMade old new → Stand old new size
+pub made : (old new : List World) (size : ℕ) → AreShards old size → AreMade old new → Stand old new size
 made [] new size all m = subst (λ n. Stand [] n size) (sym (m.made refl)) (replicated most_shards size refl all.len)
 made (s ∷ ss) new size all m = subst (λ n. Stand (s ∷ ss) n size) (sym (m.kept (omega arith))) (record { same = refl; count = all.count (omega arith); all = all })
 
-pub below_made : {old shards : List (List Placed)} {size : ℕ} (i : ℕ) → AreShards old size → AreMade old shards → i < most_shards → i < length shards
+pub below_made : {old shards : List World} {size : ℕ} (i : ℕ) → AreShards old size → AreMade old shards → i < most_shards → i < length shards
 below_made {old} {shards} {size} i all are lt = omega (arith, (made old shards size all are).count)
 
-module _ {old shards : List (List Placed)} {size : ℕ} {id i : ℕ} {shard : List Placed} (all : AreShards old size) (are : AreMade old shards) (reads : Reads shards id i shard) where
+module _ {old shards : List World} {size : ℕ} {id i : ℕ} {shard : World} (all : AreShards old size) (are : AreMade old shards) (reads : Reads shards id i shard) where
   stand : Stand old shards size
   stand = made old shards size all are
 
-  pub found_made : place_of shard id ≡ place_of (joined old) id
-  found_made = found_in stand.all reads ∙ ap (λ (w : List Placed). place_of w id) stand.same
+  pub found_made : position_of shard id ≡ position_of (joined old) id
+  found_made = found_in stand.all reads ∙ ap (λ (w : World). position_of w id) stand.same
 
   pub room_made : length (joined old) < most_members → length shard < most_members
   room_made few = room_in stand.all reads (omega (arith, few, ap length stand.same))
 
-  pub same_made : (new : List Placed) → new ≡ shard → Becomes shards i new (joined old) size
+  pub same_made : (new : World) → new ≡ shard → Becomes shards i new (joined old) size
   same_made new is = subst (λ w. Becomes shards i new w size) stand.same (same_in stand.all reads new is)
 
-  pub inserts : (at : Point) (new : List Placed) (there : Option Point) (more : ℕ) → IsPoint at → length (joined old) < most_members → there ≡ place_of shard id
+  pub inserts : (at : Point) (new : World) (there : Option Point) (more : ℕ) → IsPoint at → length (joined old) < most_members → there ≡ position_of shard id
       → MatchOption there (new ≡ with_member (record { id = id; at = at }) shard) (λ _. new ≡ with_moved id at shard) → more ≡ (if is_none there then 1 else 0) → Inserts old shards i id at new there (size + more)
   inserts at new None more fits few none is one =
       let m : Placed = record { id = id; at = at } in

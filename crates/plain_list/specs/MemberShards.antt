@@ -1,7 +1,8 @@
 -- A world whose objects are dealt over shards by their ids.
 use Rattle.std.specs.Prelude.{◌≡◌, ◌≢◌, ℕ, ◌*◌, ◌/◌, ◌%◌, ◌^◌, ◌<◌, List, [], ◌∷◌, length, replicate, slice_index_or, None}
 use Rattle.zorder.specs.declared.points.Placed.{Placed}
-use Rattle.plain_list.specs.World.{IsWorld, IsRising, place_of}
+use Rattle.plain_list.specs.Places.{IsRising}
+use Rattle.plain_list.specs.World.{World, places_of, position_of, IsWorld}
 use Rattle.plain_list.specs.Answer.{with_member}
 
 -- how many shards there are
@@ -13,28 +14,28 @@ unfoldable pub shard_of : ℕ → ℕ
 shard_of id = ((id * 11400714819323198485) % 2 ^ 64) / 2 ^ 53
 
 -- the world with these objects more
-abbrev pub with_all : List Placed → List Placed → List Placed
+abbrev pub with_all : World → World → World
 with_all [] world = world
 with_all (m ∷ ms) world = with_member m (with_all ms world)
 
 -- the objects of all shards
-abbrev pub joined : List (List Placed) → List Placed
+abbrev pub joined : List World → World
 joined [] = []
 joined (shard ∷ shards) = with_all shard (joined shards)
 
 -- the shard at a place has objects that are dealt to it, and no others
-pub record IsShard (place : ℕ) (members : List Placed) : Type 0 where
-  pub rising : IsRising members
-  pub others : (id : ℕ) → shard_of id ≢ place → place_of members id ≡ None
+pub record IsShard (place : ℕ) (members : World) : Type 0 where
+  pub rising : IsRising (places_of members)
+  pub others : (id : ℕ) → shard_of id ≢ place → position_of members id ≡ None
 
 -- no shards yet, or all, and the count of their objects
-pub record AreShards (shards : List (List Placed)) (size : ℕ) : Type 0 where
+pub record AreShards (shards : List World) (size : ℕ) : Type 0 where
   pub world : IsWorld (joined shards)
   pub len : size ≡ length (joined shards)
   pub count : 0 < length shards → length shards ≡ most_shards
   pub each : (place : ℕ) → IsShard place (slice_index_or shards place [])
 
 -- where there were no shards, all of them are made
-pub record AreMade (old new : List (List Placed)) : Type 0 where
+pub record AreMade (old new : List World) : Type 0 where
   pub made : length old ≡ 0 → new ≡ replicate most_shards []
   pub kept : 0 < length old → new ≡ old

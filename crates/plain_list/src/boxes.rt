@@ -1,7 +1,8 @@
 //! The objects in a box.
 ghost use Rattle.std.specs.Prelude.{◌≡◌, ◌↔◌, IsTrue, IfOk};
 ghost use Rattle.zorder.specs.Region.{IsBox};
-ghost use Rattle.plain_list.specs.Answer.{members_in, listed};
+ghost use Rattle.plain_list.specs.Queries.{members_in, listed};
+ghost use Rattle.plain_list.specs.World.{places_of};
 
 use crate::lists::PlacedList;
 use crate::ops::Answer;
@@ -20,7 +21,7 @@ pub fn is_box(region: &Region) -> bool
 }
 
 pub(crate) fn within(alloc: Global, world: &World, region: &Region) -> Result<Answer, Memory>
-    ensures { IfOk result (λ a. a ≡ listed (members_in region.now world.now)) }
+    ensures { IfOk result (λ a. a ≡ listed (members_in region.now (places_of world.now))) }
 {
     let items = collect_in(alloc, world.as_slice(), region)?;
     let count = items.len();

@@ -4,7 +4,7 @@ ghost use Rattle.plain_list.specs.World.{IsWorld};
 ghost use Rattle.plain_list.specs.Answer.{after_of};
 
 use crate::ops::Op;
-use crate::searches::place_in;
+use crate::searches::index_for;
 use crate::world::MOST_MEMBERS;
 use std::alloc::AllocError;
 use zorder::{Placed, coordinates_fit};
@@ -37,12 +37,12 @@ fn put(members: &mut Vec<Placed>, member: Placed) -> Result<(), AllocError>
     ensures err { OnErr result (members.new.items ≡ members.old.items) }
     ensures world { IsWorld members.new.items }
 {
-    match place_in(members, member.id) {
+    match index_for(members, member.id) {
         Ok(_) => Ok(()),
-        Err(place) => {
+        Err(index) => {
             if members.len() < MOST_MEMBERS {
                 coordinates_fit(member.at);
-                members.insert(place, member)?;
+                members.insert(index, member)?;
             }
             Ok(())
         }
@@ -54,9 +54,9 @@ fn move_to(members: &mut Vec<Placed>, member: Placed)
     ensures after { members.new.items ≡ after_of members.old.items (Op.Move member.id member.at) }
     ensures world { IsWorld members.new.items }
 {
-    if let Ok(place) = place_in(members, member.id) {
+    if let Ok(index) = index_for(members, member.id) {
         coordinates_fit(member.at);
-        members[place] = member;
+        members[index] = member;
     }
 }
 
@@ -65,7 +65,7 @@ fn remove(members: &mut Vec<Placed>, id: u64)
     ensures after { members.new.items ≡ after_of members.old.items (Op.Remove id) }
     ensures world { IsWorld members.new.items }
 {
-    if let Ok(place) = place_in(members, id) {
-        members.remove(place);
+    if let Ok(index) = index_for(members, id) {
+        members.remove(index);
     }
 }

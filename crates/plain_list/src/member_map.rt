@@ -1,7 +1,7 @@
 //! A world as a map, for whoever changes it often.
 ghost use Rattle.std.specs.Prelude.{◌≡◌, ◌≤◌, ◌<◌, ◌+◌, [], length, None, OnErr, IfOk, MatchOption, Option};
 ghost use Rattle.zorder.specs.declared.points.Point.{Point};
-ghost use Rattle.plain_list.specs.World.{most_members, IsWorld, place_of};
+ghost use Rattle.plain_list.specs.World.{most_members, IsWorld, position_of};
 ghost use Rattle.plain_list.specs.Answer.{with_member, with_moved, without};
 
 use crate::world::World;
@@ -18,10 +18,9 @@ pub struct MemberMap {
 }
 
 impl Model for MemberMap {
-    ghost use Rattle.std.specs.Prelude.{List};
-    ghost use Rattle.zorder.specs.declared.points.Placed.{Placed};
+    ghost use Rattle.plain_list.specs.World.{World};
 
-    ghost Value = { List Placed };
+    ghost Value = { World };
 
     ghost use Rattle.plain_list.specs.MemberMap.{world_of};
     ghost use Rattle.plain_list.specs.World.{IsWorld};
@@ -48,7 +47,7 @@ impl MemberMap {
     }
 
     pub fn place(&self, id: u64) -> Option<Point>
-        ensures { result ≡ place_of self.now id }
+        ensures { result ≡ position_of self.now id }
     {
         self.points.get(&id).copied()
     }
@@ -56,10 +55,10 @@ impl MemberMap {
     /// Puts an object at a point, in place of the one of its id, and says where that was.
     pub fn insert(&mut self, id: u64, at: Point) -> Result<Option<Point>, AllocError>
         requires room { length self.old < most_members }
-        ensures found { IfOk result (λ there. there ≡ place_of self.old id) }
+        ensures found { IfOk result (λ there. there ≡ position_of self.old id) }
         ensures ok { IfOk result (λ there. MatchOption there (self.new ≡ with_member (record { id = id; at = at }) self.old) (λ _. self.new ≡ with_moved id at self.old)) }
         ensures err { OnErr result (self.new ≡ self.old) }
-        ensures absent { OnErr result (place_of self.old id ≡ None) }
+        ensures absent { OnErr result (position_of self.old id ≡ None) }
         ensures world { IsWorld self.new }
     {
         coordinates_fit(at);
@@ -68,7 +67,7 @@ impl MemberMap {
 
     /// Moves an object, if it is there, and says where it was. It takes no memory.
     pub fn replace(&mut self, id: u64, at: Point) -> Option<Point>
-        ensures found { result ≡ place_of self.old id }
+        ensures found { result ≡ position_of self.old id }
         ensures moved { self.new ≡ with_moved id at self.old }
         ensures world { IsWorld self.new }
     {
@@ -79,7 +78,7 @@ impl MemberMap {
 
     /// Takes an object out, if it is there, and says where it was.
     pub fn remove(&mut self, id: u64) -> Option<Point>
-        ensures found { result ≡ place_of self.old id }
+        ensures found { result ≡ position_of self.old id }
         ensures gone { self.new ≡ without id self.old }
     {
         self.points.remove(&id)

@@ -1,7 +1,7 @@
 //! A world as many small maps, for whoever looks up an object with each call.
 ghost use Rattle.std.specs.Prelude.{◌≡◌, ◌≤◌, ◌<◌, ◌+◌, [], length, None, OnOk, OnErr, IfOk, MatchOption, replicate};
 ghost use Rattle.zorder.specs.declared.points.Point.{Point};
-ghost use Rattle.plain_list.specs.World.{most_members, IsWorld, place_of};
+ghost use Rattle.plain_list.specs.World.{most_members, IsWorld, position_of};
 ghost use Rattle.plain_list.specs.Answer.{with_member, with_moved, without};
 ghost use Rattle.plain_list.specs.MemberShards.{most_shards, shard_of, AreMade};
 
@@ -26,10 +26,9 @@ pub struct MemberShards {
 }
 
 impl Model for MemberShards {
-    ghost use Rattle.std.specs.Prelude.{List};
-    ghost use Rattle.zorder.specs.declared.points.Placed.{Placed};
+    ghost use Rattle.plain_list.specs.World.{World};
 
-    ghost Value = { List Placed };
+    ghost Value = { World };
 
     ghost use Rattle.plain_list.specs.MemberShards.{joined, AreShards};
 
@@ -65,7 +64,7 @@ impl MemberShards {
     }
 
     pub fn place(&self, id: u64) -> Option<Point>
-        ensures { result ≡ place_of self.now id }
+        ensures { result ≡ position_of self.now id }
     {
         if self.shards.is_empty() {
             return None;
@@ -76,10 +75,10 @@ impl MemberShards {
     /// Puts an object at a point, in place of the one of its id, and says where that was.
     pub fn insert(&mut self, id: u64, at: Point) -> Result<Option<Point>, AllocError>
         requires room { length self.old < most_members }
-        ensures found { IfOk result (λ there. there ≡ place_of self.old id) }
+        ensures found { IfOk result (λ there. there ≡ position_of self.old id) }
         ensures ok { IfOk result (λ there. MatchOption there (self.new ≡ with_member (record { id = id; at = at }) self.old) (λ _. self.new ≡ with_moved id at self.old)) }
         ensures err { OnErr result (self.new ≡ self.old) }
-        ensures absent { OnErr result (place_of self.old id ≡ None) }
+        ensures absent { OnErr result (position_of self.old id ≡ None) }
         ensures world { IsWorld self.new }
     {
         coordinates_fit(at);
@@ -91,7 +90,7 @@ impl MemberShards {
 
     /// Moves an object, if it is there, and says where it was. It takes no memory.
     pub fn replace(&mut self, id: u64, at: Point) -> Option<Point>
-        ensures found { result ≡ place_of self.old id }
+        ensures found { result ≡ position_of self.old id }
         ensures moved { self.new ≡ with_moved id at self.old }
         ensures world { IsWorld self.new }
     {
@@ -104,7 +103,7 @@ impl MemberShards {
 
     /// Takes an object out, if it is there, and says where it was.
     pub fn remove(&mut self, id: u64) -> Option<Point>
-        ensures found { result ≡ place_of self.old id }
+        ensures found { result ≡ position_of self.old id }
         ensures gone { self.new ≡ without id self.old }
     {
         if self.shards.is_empty() {

@@ -18,10 +18,9 @@ pub struct World {
 }
 
 impl Model for World {
-    ghost use Rattle.std.specs.Prelude.{List};
-    ghost use Rattle.zorder.specs.declared.points.Placed.{Placed};
+    ghost use Rattle.plain_list.specs.World.{World};
 
-    ghost Value = { List Placed };
+    ghost Value = { World };
 
     ghost use Rattle.plain_list.specs.World.{IsWorld};
 

@@ -13,12 +13,12 @@ use Rattle.zorder.specs.declared.points.Placed.{Placed}
 use Rattle.zorder.specs.Key.{key_of, is_under, is_in}
 use Rattle.bucket_versions.specs.declared.row.Row.{Row}
 use Rattle.bucket_versions.specs.Rows.{IsRows, IsAbove, has_row, without_row, same_row, is_below}
-use Rattle.index_layer.specs.Stands.{world_has, is_at_key}
+use Rattle.index_layer.specs.Stands.{places_have, is_at_key}
 use Rattle.index_layer.proofs.Puts.{where_is}
-use Rattle.plain_list.specs.World.{IsRising}
-use Rattle.plain_list.specs.World.{IsAbove as IsAboveId}
+use Rattle.plain_list.specs.Places.{IsRising}
+use Rattle.plain_list.specs.Places.{IsAbove as IsAboveId}
 use Rattle.plain_list.specs.Size.{count_in_name}
-use Rattle.plain_list.proofs.MemberMaps.{place_of-above}
+use Rattle.plain_list.proofs.RisingPlaces.{place_of-above}
 use Rattle.point_table.proofs.Standing.{HasLess}
 use Rattle.point_table.proofs.StandingLess.{rows_without_gone, rows_past_gone}
 
@@ -81,17 +81,17 @@ count_in_name-cons m ms name = sum_by-cons (λ (n : Placed). cond (is_in name n.
 same_first : (r : Row) (rows : List Row) → has_row r (r ∷ rows) ≡ true
 same_first r rows = grind (arith, nat_tests, common_steps)
 
-has_first : (m : Placed) (ms : List Placed) → world_has (m ∷ ms) (record { key = key_of m.at; id = m.id }) ≡ true
+has_first : (m : Placed) (ms : List Placed) → places_have (m ∷ ms) (record { key = key_of m.at; id = m.id }) ≡ true
 has_first m ms = ap (is_at_key (key_of m.at)) (first_there m ms) ∙ eq-eqb (key_of m.at) (key_of m.at) refl
 
-pub count_in_name-rows : (world : List Placed) (name : List Bool) (rows : List Row) → IsRising world → IsRows rows → ((q : Row) → has_row q rows ≡ (world_has world q && is_under name q.key))
-    → count_in_name world name ≡ length rows
+pub count_in_name-rows : (places : List Placed) (name : List Bool) (rows : List Row) → IsRising places → IsRows rows → ((q : Row) → has_row q rows ≡ (places_have places q && is_under name q.key))
+    → count_in_name places name ≡ length rows
 count_in_name-rows [] name [] rising ordered stands = refl
 count_in_name-rows [] name (r ∷ rows) rising ordered stands = absurd (true≢false (sym (same_first r rows) ∙ stands r))
 count_in_name-rows (m ∷ ms) name rows rising ordered stands = by_test (is_under name (key_of m.at)) refl (count_in_name-rows ms name)
   where
     by_test : (b : Bool) → is_under name (key_of m.at) ≡ b
-        → ((rows : List Row) → IsRising ms → IsRows rows → ((q : Row) → has_row q rows ≡ (world_has ms q && is_under name q.key)) → count_in_name ms name ≡ length rows)
+        → ((rows : List Row) → IsRising ms → IsRows rows → ((q : Row) → has_row q rows ≡ (places_have ms q && is_under name q.key)) → count_in_name ms name ≡ length rows)
         → count_in_name (m ∷ ms) name ≡ length rows
     by_test true e rest =
         let r : Row = record { key = key_of m.at; id = m.id } in

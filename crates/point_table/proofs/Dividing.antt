@@ -16,7 +16,7 @@ use Rattle.zorder.proofs.Tiles.{tiles_from-children}
 use Rattle.bucket_versions.specs.declared.row.Row.{Row}
 use Rattle.bucket_versions.specs.Rows.{has_row}
 use Rattle.index_layer.specs.Leaves.{Leaf, names_of, has_name, leaves_of, split, EachUnder, AreAllUnder}
-use Rattle.index_layer.specs.Stands.{HasRowsOf, world_has}
+use Rattle.index_layer.specs.Stands.{HasRowsOf, places_have}
 use Rattle.index_layer.proofs.LeafKeys.{first_key-under, first_key-fits}
 use Rattle.index_layer.proofs.LeafChanges.{length-children}
 use Rattle.point_table.specs.Crowded.{AreFrom, AreRising, remarked, remarked_each, marked, unmarked}
@@ -65,24 +65,24 @@ pub length-cut : (w : ℕ) (name : List Bool) (rows : List Row) → length (cut 
 length-cut w name rows = length-map (children w name) (cut_out rows) ∙ length-children w name
 
 -- the rows of the leaves after a split
-rows_parts : (world : List Placed) (name : List Bool) (rows : List Row) (lists : List (List Bool)) → AllByRecursion (λ (n : List Bool). length n ≤ 64) (map (λ bits. name ++ bits) lists)
-    → ((q : Row) → has_row q rows ≡ (world_has world q && is_under name q.key)) → AllByRecursion (HasRowsOf world) (leaves_of (map (λ bits. name ++ bits) lists) (map (cut_out rows) (map (λ bits. name ++ bits) lists)))
-rows_parts world name rows [] short had = tt
-rows_parts world name rows (bits ∷ lists) short had = (rows_cut world name bits rows short.0 had, rows_parts world name rows lists short.1 had)
+rows_parts : (places : List Placed) (name : List Bool) (rows : List Row) (lists : List (List Bool)) → AllByRecursion (λ (n : List Bool). length n ≤ 64) (map (λ bits. name ++ bits) lists)
+    → ((q : Row) → has_row q rows ≡ (places_have places q && is_under name q.key)) → AllByRecursion (HasRowsOf places) (leaves_of (map (λ bits. name ++ bits) lists) (map (cut_out rows) (map (λ bits. name ++ bits) lists)))
+rows_parts places name rows [] short had = tt
+rows_parts places name rows (bits ∷ lists) short had = (rows_cut places name bits rows short.0 had, rows_parts places name rows lists short.1 had)
 
-pub rows_divided : (w : ℕ) (world : List Placed) (leaf : Leaf) (leaves : List Leaf) → length leaf.name + w ≤ 64 → HasRowsOf world leaf → AllByRecursion (HasRowsOf world) leaves
-    → AllByRecursion (HasRowsOf world) (split w leaf.name (cut w leaf.name leaf.bucket.rows) leaves)
-rows_divided w world leaf leaves room had rows =
-    subst (AllByRecursion (HasRowsOf world)) (sym (split-spliced w leaf.name (cut w leaf.name leaf.bucket.rows) leaves))
-    (rows_spliced (HasRowsOf world) leaf.name (leaves_of (children w leaf.name) (cut w leaf.name leaf.bucket.rows)) leaves
-    (rows_parts world leaf.name leaf.bucket.rows (bit_lists w) (short_children w leaf.name room) had) rows)
+pub rows_divided : (w : ℕ) (places : List Placed) (leaf : Leaf) (leaves : List Leaf) → length leaf.name + w ≤ 64 → HasRowsOf places leaf → AllByRecursion (HasRowsOf places) leaves
+    → AllByRecursion (HasRowsOf places) (split w leaf.name (cut w leaf.name leaf.bucket.rows) leaves)
+rows_divided w places leaf leaves room had rows =
+    subst (AllByRecursion (HasRowsOf places)) (sym (split-spliced w leaf.name (cut w leaf.name leaf.bucket.rows) leaves))
+    (rows_spliced (HasRowsOf places) leaf.name (leaves_of (children w leaf.name) (cut w leaf.name leaf.bucket.rows)) leaves
+    (rows_parts places leaf.name leaf.bucket.rows (bit_lists w) (short_children w leaf.name room) had) rows)
 
 -- the same, for a leaf that has the name
-pub rows_of-divided : (w : ℕ) (world : List Placed) (name : List Bool) (leaf : Leaf) (leaves : List Leaf) → leaf.name ≡ name → length name + w ≤ 64 → HasRowsOf world leaf → AllByRecursion (HasRowsOf world) leaves
-    → AllByRecursion (HasRowsOf world) (split w name (cut w name leaf.bucket.rows) leaves)
-rows_of-divided w world name leaf leaves is room had rows =
-    let P : List Bool → Type 0 = λ n. length n + w ≤ 64 → AllByRecursion (HasRowsOf world) (split w n (cut w n leaf.bucket.rows) leaves) in
-    subst P is (λ short. rows_divided w world leaf leaves short had rows) room
+pub rows_of-divided : (w : ℕ) (places : List Placed) (name : List Bool) (leaf : Leaf) (leaves : List Leaf) → leaf.name ≡ name → length name + w ≤ 64 → HasRowsOf places leaf → AllByRecursion (HasRowsOf places) leaves
+    → AllByRecursion (HasRowsOf places) (split w name (cut w name leaf.bucket.rows) leaves)
+rows_of-divided w places name leaf leaves is room had rows =
+    let P : List Bool → Type 0 = λ n. length n + w ≤ 64 → AllByRecursion (HasRowsOf places) (split w n (cut w n leaf.bucket.rows) leaves) in
+    subst P is (λ short. rows_divided w places leaf leaves short had rows) room
 
 -- no name has this first key
 abbrev LacksKey : ℕ → List (List Bool) → Type 0

@@ -67,11 +67,11 @@ module _ (name : List Bool) (leaf : Leaf) where
       crowded_if w size (same_name l.name name) l (crowded_of w size (replaced name (as_base leaf.bucket.rows) leaves)) only.0
       ∙ ap (λ (names : List (List Bool)). cond (is_crowded w size l) (l.name ∷ names) names) (crowded_of-folded w size leaves only.1)
 
-  rows_if : (world : List Placed) (b : Bool) (l : Leaf) → (b ≡ true → l ≡ leaf) → HasRowsOf world l → HasRowsOf world (cond b (record { name = l.name; bucket = as_base leaf.bucket.rows }) l)
-  rows_if world true l only rows = λ r. ap (λ (m : Leaf). has_row r m.bucket.rows) (sym (only refl)) ∙ rows r
-  rows_if world false l only rows = rows
+  rows_if : (places : List Placed) (b : Bool) (l : Leaf) → (b ≡ true → l ≡ leaf) → HasRowsOf places l → HasRowsOf places (cond b (record { name = l.name; bucket = as_base leaf.bucket.rows }) l)
+  rows_if places true l only rows = λ r. ap (λ (m : Leaf). has_row r m.bucket.rows) (sym (only refl)) ∙ rows r
+  rows_if places false l only rows = rows
 
-  pub rows_folded : (world : List Placed) (leaves : List Leaf) → AllByRecursion (λ (l : Leaf). same_name l.name name ≡ true → l ≡ leaf) leaves → AllByRecursion (HasRowsOf world) leaves
-      → AllByRecursion (HasRowsOf world) (replaced name (as_base leaf.bucket.rows) leaves)
-  rows_folded world [] only rows = tt
-  rows_folded world (l ∷ leaves) only rows = (rows_if world (same_name l.name name) l only.0 rows.0, rows_folded world leaves only.1 rows.1)
+  pub rows_folded : (places : List Placed) (leaves : List Leaf) → AllByRecursion (λ (l : Leaf). same_name l.name name ≡ true → l ≡ leaf) leaves → AllByRecursion (HasRowsOf places) leaves
+      → AllByRecursion (HasRowsOf places) (replaced name (as_base leaf.bucket.rows) leaves)
+  rows_folded places [] only rows = tt
+  rows_folded places (l ∷ leaves) only rows = (rows_if places (same_name l.name name) l only.0 rows.0, rows_folded places leaves only.1 rows.1)

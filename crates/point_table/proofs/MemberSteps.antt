@@ -4,30 +4,31 @@ use Rattle.std.proofs.lemmas.Bool.Decides.{nat_tests}
 use Rattle.std.proofs.lemmas.Grind.{common_steps}
 use Rattle.zorder.specs.declared.points.Point.{Point}
 use Rattle.zorder.specs.declared.points.Placed.{Placed}
-use Rattle.plain_list.specs.World.{IsRising, place_of}
+use Rattle.plain_list.specs.World.{World, places_of, position_of}
+use Rattle.plain_list.specs.Places.{IsRising}
 use Rattle.plain_list.specs.Answer.{with_member, with_moved, without}
 use Rattle.point_table.proofs.RowSteps.{with_moved-same}
 
-without-none : (id : ℕ) (ms : List Placed) → place_of ms id ≡ None → without id ms ≡ ms
+without-none : (id : ℕ) (ms : World) → position_of ms id ≡ None → without id ms ≡ ms
 without-none id [] none = refl
 without-none id (n ∷ ns) none =
-    let rest : place_of ns id ≡ None → without id ns ≡ ns = without-none id ns in
+    let rest : position_of ns id ≡ None → without id ns ≡ ns = without-none id ns in
     grind (arith, nat_tests, common_steps)
 
 -- an object that came goes
-pub without-with_member : (m : Placed) (ms : List Placed) → place_of ms m.id ≡ None → without m.id (with_member m ms) ≡ ms
+pub without-with_member : (m : Placed) (ms : World) → position_of ms m.id ≡ None → without m.id (with_member m ms) ≡ ms
 without-with_member m [] none = grind (arith, nat_tests, common_steps)
 without-with_member m (n ∷ ns) none =
-    let rest : place_of ns m.id ≡ None → without m.id (with_member m ns) ≡ ns = without-with_member m ns in
-    let same : place_of ns m.id ≡ None → without m.id ns ≡ ns = without-none m.id ns in
+    let rest : position_of ns m.id ≡ None → without m.id (with_member m ns) ≡ ns = without-with_member m ns in
+    let same : position_of ns m.id ≡ None → without m.id ns ≡ ns = without-none m.id ns in
     grind (arith, nat_tests, common_steps)
 
-with_moved-twice : (id : ℕ) (a b : Point) (ms : List Placed) → with_moved id b (with_moved id a ms) ≡ with_moved id b ms
+with_moved-twice : (id : ℕ) (a b : Point) (ms : World) → with_moved id b (with_moved id a ms) ≡ with_moved id b ms
 with_moved-twice id a b [] = refl
 with_moved-twice id a b (m ∷ ms) =
     let rest : with_moved id b (with_moved id a ms) ≡ with_moved id b ms = with_moved-twice id a b ms in
     grind (arith, nat_tests, common_steps)
 
 -- an object that moved goes back
-pub with_moved-back : (id : ℕ) (old at : Point) (ms : List Placed) → IsRising ms → place_of ms id ≡ Some old → with_moved id old (with_moved id at ms) ≡ ms
+pub with_moved-back : (id : ℕ) (old at : Point) (ms : World) → IsRising (places_of ms) → position_of ms id ≡ Some old → with_moved id old (with_moved id at ms) ≡ ms
 with_moved-back id old at ms rising there = with_moved-twice id at old ms ∙ with_moved-same id old ms rising there

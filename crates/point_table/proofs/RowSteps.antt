@@ -23,11 +23,12 @@ use Rattle.point_table.proofs.Uncrowded.{left_names}
 use Rattle.point_table.proofs.Standing.{found_has}
 use Rattle.std.proofs.lemmas.Bool.{eq-eqb}
 use mathlib.Core.Bool.{true≢false}
-use Rattle.plain_list.proofs.Members.{place_of-without}
+use Rattle.plain_list.proofs.Members.{position_of-without}
 use Rattle.point_table.proofs.CrowdLemmas.{crowded_of-replaced}
 use Rattle.std.proofs.lemmas.Bool.Decides.{nat_tests}
 use Rattle.std.proofs.lemmas.Grind.{common_steps}
-use Rattle.plain_list.specs.World.{IsWorld, IsRising, place_of}
+use Rattle.plain_list.specs.Places.{IsRising}
+use Rattle.plain_list.specs.World.{World, places_of, position_of, IsWorld}
 use Rattle.plain_list.specs.Answer.{with_member, with_moved, without}
 use Rattle.plain_list.proofs.MemberMaps.{with_moved-absent, IsAbove-lower}
 use Rattle.point_table.specs.Changes.{KeepsAt}
@@ -52,9 +53,9 @@ leaf_after key change old new at =
 abbrev pub change_of : ℕ → Point → Bool → RowChange
 change_of id at keeps = record { row = record { key = key_of at; id = id }; keeps_base = keeps }
 
-module _ (w size : ℕ) (splits : List OpenSplit) (keeps : Bool) (old new : List Leaf) (world : List Placed) (names after : List (List Bool)) (are : AreLeaves old)
-    (rows : AllByRecursion (HasRowsOf world) old) (was : names ≡ crowded_of w size old) where
-  pub put_after : (id : ℕ) (at : Point) → place_of world id ≡ None → (change : ChangesAt (key_of at) (after_put (change_of id at keeps)) old new) → KeepsAt splits old (key_of at) keeps
+module _ (w size : ℕ) (splits : List OpenSplit) (keeps : Bool) (old new : List Leaf) (world : World) (names after : List (List Bool)) (are : AreLeaves old)
+    (rows : AllByRecursion (HasRowsOf (places_of world)) old) (was : names ≡ crowded_of w size old) where
+  pub put_after : (id : ℕ) (at : Point) → position_of world id ≡ None → (change : ChangesAt (key_of at) (after_put (change_of id at keeps)) old new) → KeepsAt splits old (key_of at) keeps
       → ((l : Leaf) → leaf_under (key_of at) new ≡ Some l → after ≡ mark_under w size l names) → Steps w size splits old new (with_member (record { id = id; at = at }) world) after
   put_after id at none change keeps_is marks =
       let key = key_of at in
@@ -62,7 +63,7 @@ module _ (w size : ℕ) (splits : List OpenSplit) (keeps : Bool) (old new : List
       let steps = put_steps w size splits keeps old new world (record { id = id; at = at }) _ _ names are.tile rows none (as_leaf w size key row old new change) was (keeps_is change.leaf change.found) in
       record { rows = steps.rows; crowded = marks _ (leaf_after key row old new change) ∙ steps.crowded; bases = steps.bases; settled = steps.settled }
 
-  pub gone_after : (id : ℕ) (at : Point) → place_of world id ≡ Some at → (change : ChangesAt (key_of at) (after_gone (change_of id at keeps)) old new) → KeepsAt splits old (key_of at) keeps
+  pub gone_after : (id : ℕ) (at : Point) → position_of world id ≡ Some at → (change : ChangesAt (key_of at) (after_gone (change_of id at keeps)) old new) → KeepsAt splits old (key_of at) keeps
       → ((l : Leaf) → leaf_under (key_of at) new ≡ Some l → after ≡ left_under w size l names) → Steps w size splits old new (without id world) after
   gone_after id at there change keeps_is marks =
       let key = key_of at in
@@ -86,16 +87,16 @@ replaced-twice name a b [] = refl
 replaced-twice name a b (l ∷ leaves) = λ i. same_bucket name a b l i ∷ replaced-twice name a b leaves i
 
 -- an object that stays where it is
-pub with_moved-same : (id : ℕ) (at : Point) (ms : List Placed) → IsRising ms → place_of ms id ≡ Some at → with_moved id at ms ≡ ms
+pub with_moved-same : (id : ℕ) (at : Point) (ms : World) → IsRising (places_of ms) → position_of ms id ≡ Some at → with_moved id at ms ≡ ms
 with_moved-same id at [] rising there = refl
 with_moved-same id at (m ∷ ms) rising there =
-    let rest : place_of ms id ≡ Some at → with_moved id at ms ≡ ms = with_moved-same id at ms rising.1 in
+    let rest : position_of ms id ≡ Some at → with_moved id at ms ≡ ms = with_moved-same id at ms rising.1 in
     let kept : m.id ≤ id → id ≤ m.id → with_moved id at ms ≡ ms = λ le ge. with_moved-absent id at ms (IsAbove-lower id m.id ms ge rising.0) in
     grind (arith, nat_tests, common_steps)
 
 -- an object that has gone isn't there
-place_of-gone : (id : ℕ) (world : List Placed) → place_of (without id world) id ≡ None
-place_of-gone id world = place_of-without id world id ∙ ap (λ b. cond b None (place_of world id)) (eq-eqb id id refl)
+position_of-gone : (id : ℕ) (world : World) → position_of (without id world) id ≡ None
+position_of-gone id world = position_of-without id world id ∙ ap (λ b. cond b None (position_of world id)) (eq-eqb id id refl)
 
 -- a leaf that was changed twice may be marked twice
 twice : (w size : ℕ) (n : List Bool) (a b : Rows) (old new : List Leaf) (names : List (List Bool)) → new ≡ replaced n b (replaced n a old) → tiles_from 0 (names_of old) ≡ true → has_name n old ≡ true
@@ -117,14 +118,14 @@ once w size n a b old new names is tile has was =
     ∙ sym (crowded_of-replaced w size 0 n b old tile has)
     ∙ ap (crowded_of w size) (sym (replaced-twice n a b old) ∙ sym is)
 
-pub move_after : (w size : ℕ) (splits : List OpenSplit) (from_keeps to_keeps : Bool) (old new : List Leaf) (world : List Placed) (names after : List (List Bool)) → AreLeaves old → AllByRecursion (HasRowsOf world) old → names ≡ crowded_of w size old
-    → IsWorld world → (id : ℕ) (from at : Point) → place_of world id ≡ Some from
+pub move_after : (w size : ℕ) (splits : List OpenSplit) (from_keeps to_keeps : Bool) (old new : List Leaf) (world : World) (names after : List (List Bool)) → AreLeaves old → AllByRecursion (HasRowsOf (places_of world)) old → names ≡ crowded_of w size old
+    → IsWorld world → (id : ℕ) (from at : Point) → position_of world id ≡ Some from
     → (moves : Moves (change_of id from from_keeps) (change_of id at to_keeps) old new) → KeepsAt splits old (key_of from) from_keeps → KeepsAt splits old (key_of at) to_keeps
     → ((l m : Leaf) → leaf_under (key_of from) new ≡ Some l → leaf_under (key_of at) new ≡ Some m → after ≡ marked_two w size (key_of from) l m names)
     → Steps w size splits old new (with_moved id at world) after
 move_after w size splits from_keeps to_keeps old new world names after are rows was is_world id from at there moves from_is_open to_is_open marks =
     record {
-      rows = subst (λ (ms : List Placed). AllByRecursion (HasRowsOf ms) new) (with_member-without id from at world is_world there) put.rows;
+      rows = subst (λ (ms : World). AllByRecursion (HasRowsOf (places_of ms)) new) (with_member-without id from at world is_world there) put.rows;
       crowded = marks _ _ from_is to_is ∙ by_under (is_under to.name (key_of from)) refl;
       bases = put.bases ∙ gone.bases;
       settled = settled_then splits old between new gone.settled put.settled;
@@ -168,7 +169,7 @@ move_after w size splits from_keeps to_keeps old new world names after are rows 
 
     put : Steps w size splits between new (with_member (record { id = id; at = at }) (without id world)) (mark_under w size to (mark_under w size here names))
     put =
-        put_steps w size splits to_keeps between new (without id world) (record { id = id; at = at }) _ _ (mark_under w size here names) tile gone.rows (place_of-gone id world)
+        put_steps w size splits to_keeps between new (without id world) (record { id = id; at = at }) _ _ (mark_under w size here names) tile gone.rows (position_of-gone id world)
         (as_leaf w size (key_of at) put_it between new moves.puts) gone.crowded to_between
 
     from_is : leaf_under (key_of from) new ≡ Some (with_bucket to.name to.bucket here)
@@ -225,8 +226,8 @@ move_after w size splits from_keeps to_keeps old new world names after are rows 
         by_same false is = left_names w size (key_of from) (change_of id from from_keeps) moves.takes.leaf old names was moves.takes.found
 
 -- a row of an object that is elsewhere isn't in its leaf
-pub row_elsewhere : (world : List Placed) (leaves : List Leaf) (id : ℕ) (from at : Point) → AllByRecursion (HasRowsOf world) leaves → place_of world id ≡ Some from → (key_of from == key_of at) ≡ false
+pub row_elsewhere : (world : World) (leaves : List Leaf) (id : ℕ) (from at : Point) → AllByRecursion (HasRowsOf (places_of world)) leaves → position_of world id ≡ Some from → (key_of from == key_of at) ≡ false
     → (l : Leaf) → leaf_under (key_of at) leaves ≡ Some l → has_row (record { key = key_of at; id = id }) l.bucket.rows ≡ false
 row_elsewhere world leaves id from at rows there other l found =
-    found_has (HasRowsOf world) (key_of at) leaves l found rows (record { key = key_of at; id = id })
+    found_has (HasRowsOf (places_of world)) (key_of at) leaves l found rows (record { key = key_of at; id = id })
     ∙ ap (λ o. is_at_key (key_of at) o && is_under l.name (key_of at)) there ∙ ap (λ b. b && is_under l.name (key_of at)) other

@@ -18,7 +18,7 @@ use Rattle.bucket_versions.proofs.RowRanges.{has_row-rows_between}
 use Rattle.split_prepare.specs.Cut.{last_key, rows_under}
 use Rattle.split_prepare.proofs.CutLemmas.{under-between}
 use Rattle.index_layer.specs.Leaves.{Leaf}
-use Rattle.index_layer.specs.Stands.{world_has, is_at_key}
+use Rattle.index_layer.specs.Stands.{places_have, is_at_key}
 use Rattle.index_layer.proofs.Puts.{where_is}
 use Rattle.point_table.proofs.CrowdLemmas.{spliced}
 
@@ -33,8 +33,8 @@ pub under-front : (name bits : List Bool) (key : ℕ) → is_under (name ++ bits
 under-front name bits key under = starts_with-front name bits (key_bits key) under
 
 -- where a world has a row, its key is one of 64 bits
-has-small : (world : List Placed) (q : Row) → world_has world q ≡ true → q.key < 2 ^ 64
-has-small world q e = by_place (where_is world q.id) e
+has-small : (places : List Placed) (q : Row) → places_have places q ≡ true → q.key < 2 ^ 64
+has-small places q e = by_place (where_is places q.id) e
   where
     by_place : (o : Option Point) → is_at_key q.key o ≡ true → q.key < 2 ^ 64
     by_place None e = absurd (true≢false (sym e))
@@ -47,13 +47,13 @@ cut_if true false between true is up = up refl
 cut_if true false between false is up = refl
 
 -- the rows of a leaf that lie under a child's name
-pub rows_cut : (world : List Placed) (name bits : List Bool) (rows : List Row) → length (name ++ bits) ≤ 64 → ((q : Row) → has_row q rows ≡ (world_has world q && is_under name q.key))
-    → (q : Row) → has_row q (rows_under (name ++ bits) rows) ≡ (world_has world q && is_under (name ++ bits) q.key)
-rows_cut world name bits rows short before q =
+pub rows_cut : (places : List Placed) (name bits : List Bool) (rows : List Row) → length (name ++ bits) ≤ 64 → ((q : Row) → has_row q rows ≡ (places_have places q && is_under name q.key))
+    → (q : Row) → has_row q (rows_under (name ++ bits) rows) ≡ (places_have places q && is_under (name ++ bits) q.key)
+rows_cut places name bits rows short before q =
     has_row-rows_between (first_key (name ++ bits)) (last_key (name ++ bits)) rows q
     ∙ ap (λ b. b && (nat_le (first_key (name ++ bits)) q.key && nat_le q.key (last_key (name ++ bits)))) (before q)
-    ∙ cut_if (world_has world q) (is_under name q.key) (nat_le (first_key (name ++ bits)) q.key && nat_le q.key (last_key (name ++ bits))) (is_under (name ++ bits) q.key)
-    (λ has. under-between (name ++ bits) q.key short (has-small world q has)) (under-front name bits q.key)
+    ∙ cut_if (places_have places q) (is_under name q.key) (nat_le (first_key (name ++ bits)) q.key && nat_le q.key (last_key (name ++ bits))) (is_under (name ++ bits) q.key)
+    (λ has. under-between (name ++ bits) q.key short (has-small places q has)) (under-front name bits q.key)
 
 -- the leaves' rows after one leaf gave way to others
 pub rows_spliced : (P : Leaf → Type 0) (name : List Bool) (parts leaves : List Leaf) → AllByRecursion P parts → AllByRecursion P leaves → AllByRecursion P (spliced name parts leaves)

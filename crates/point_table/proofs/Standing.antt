@@ -12,7 +12,7 @@ use Rattle.zorder.specs.Key.{key_of, is_under}
 use Rattle.zorder.specs.SameName.{same_name, same_name-decides}
 use Rattle.bucket_versions.specs.Rows.{Rows, has_row, with_row}
 use Rattle.index_layer.specs.Leaves.{Leaf, names_of, replaced, leaf_under}
-use Rattle.index_layer.specs.Stands.{world_has, is_at_key, HasRowsOf}
+use Rattle.index_layer.specs.Stands.{places_have, is_at_key, HasRowsOf}
 use Rattle.index_layer.proofs.Puts.{where_is, HasMore, rows_with_put}
 
 -- where a world has an object at each id after one has gone
@@ -83,5 +83,5 @@ pub rows_after_put : (old new : List Placed) (m : Placed) (leaf : Leaf) (bucket 
     → AllByRecursion (HasRowsOf old) leaves → AllByRecursion (HasRowsOf new) (replaced leaf.name bucket leaves)
 rows_after_put old new m leaf bucket leaves only under none more here rows all =
     rows_replaced (HasRowsOf old) (HasRowsOf new) leaf.name bucket (key_of m.at) leaves only all
-    (λ l is q. ap (has_row q) rows ∙ rows_with_put old new m leaf.name leaf.bucket.rows none more under here q ∙ ap (λ n. world_has new q && is_under n q.key) (sym is))
+    (λ l is q. ap (has_row q) rows ∙ rows_with_put old new m leaf.name leaf.bucket.rows none more under here q ∙ ap (λ n. places_have new q && is_under n q.key) (sym is))
     (λ l other before. rows_past_put old new m l none more other before)

@@ -13,7 +13,7 @@ use Rattle.zorder.specs.SameName.{same_name}
 use Rattle.bucket_versions.specs.declared.row.Row.{Row}
 use Rattle.bucket_versions.specs.Rows.{Rows, has_row, without_row, same_row}
 use Rattle.index_layer.specs.Leaves.{Leaf, names_of, replaced}
-use Rattle.index_layer.specs.Stands.{world_has, is_at_key, HasRowsOf}
+use Rattle.index_layer.specs.Stands.{places_have, is_at_key, HasRowsOf}
 use Rattle.index_layer.proofs.Puts.{where_is}
 use Rattle.point_table.proofs.Standing.{HasLess, rows_replaced}
 
@@ -71,8 +71,8 @@ by_gone true true under key p was had k h there = and-false had
 by_gone true false under key p was had k h there = and-true had ∙ h ∙ ap (λ o. is_at_key key o && under) (there refl) ∙ ap (λ b. b && under) (sym k)
 
 pub rows_without_gone : (old new : List Placed) (id : ℕ) (p : Point) (name : List Bool) (rows : List Row) → where_is old id ≡ Some p → HasLess old new id
-    → ((q : Row) → has_row q rows ≡ (world_has old q && is_under name q.key))
-    → (q : Row) → has_row q (without_row (record { key = key_of p; id = id }) rows) ≡ (world_has new q && is_under name q.key)
+    → ((q : Row) → has_row q rows ≡ (places_have old q && is_under name q.key))
+    → (q : Row) → has_row q (without_row (record { key = key_of p; id = id }) rows) ≡ (places_have new q && is_under name q.key)
 rows_without_gone old new id p name rows there less before q =
     has_row-without_row (record { key = key_of p; id = id }) rows q
     ∙ by_gone (id == q.id) (key_of p == q.key) (is_under name q.key) q.key p (where_is old q.id) (has_row q rows) refl (before q)
@@ -101,5 +101,5 @@ pub rows_after_gone : (old new : List Placed) (id : ℕ) (p : Point) (leaf : Lea
     → AllByRecursion (HasRowsOf old) leaves → AllByRecursion (HasRowsOf new) (replaced leaf.name bucket leaves)
 rows_after_gone old new id p leaf bucket leaves only there less here rows all =
     rows_replaced (HasRowsOf old) (HasRowsOf new) leaf.name bucket (key_of p) leaves only all
-    (λ l is q. ap (has_row q) rows ∙ rows_without_gone old new id p leaf.name leaf.bucket.rows there less here q ∙ ap (λ n. world_has new q && is_under n q.key) (sym is))
+    (λ l is q. ap (has_row q) rows ∙ rows_without_gone old new id p leaf.name leaf.bucket.rows there less here q ∙ ap (λ n. places_have new q && is_under n q.key) (sym is))
     (λ l other before. rows_past_gone old new id p l there less other before)

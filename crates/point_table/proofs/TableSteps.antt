@@ -18,9 +18,10 @@ use Rattle.bucket_versions.specs.Rows.{Rows, has_row, with_row, without_row, aft
 use Rattle.index_layer.specs.Leaves.{Leaf, names_of, leaf_under, replaced}
 use Rattle.index_layer.specs.RowChanges.{ChangesAt}
 use Rattle.index_layer.specs.Stands.{HasRowsOf, is_at_key}
-use Rattle.plain_list.specs.World.{IsWorld, IsRising, IsAbove, place_of}
+use Rattle.plain_list.specs.Places.{IsRising, IsAbove}
+use Rattle.plain_list.specs.World.{World, places_of, position_of, IsWorld}
 use Rattle.plain_list.specs.Answer.{with_member, with_moved, without}
-use Rattle.plain_list.proofs.Members.{place_of-with_member, place_of-without}
+use Rattle.plain_list.proofs.Members.{position_of-with_member, position_of-without}
 use Rattle.plain_list.specs.State.{OpenSplit, is_splitting}
 use Rattle.point_table.specs.Changes.{ChangesLeaf, open_base, base_of, bases_of, AreSettled}
 use Rattle.point_table.specs.Crowded.{remarked}
@@ -28,24 +29,24 @@ use Rattle.point_table.specs.Crowds.{is_crowded, crowded_of}
 use Rattle.point_table.proofs.Covered.{Tiles, tiles, none_under, below_next, only_under}
 use Rattle.point_table.proofs.CrowdLemmas.{crowded_of-replaced}
 use Rattle.point_table.proofs.FoundLeaves.{found_named}
-use Rattle.plain_list.proofs.MemberMaps.{IsAbove-lower, without-absent, with_moved-absent, place_of-above}
+use Rattle.plain_list.proofs.MemberMaps.{IsAbove-lower, without-absent, with_moved-absent, position_of-above}
 use Rattle.point_table.proofs.Settled.{open_or_none, settled_replaced}
 use Rattle.point_table.proofs.Standing.{found_has, find-names_of, rows_after_put}
 use Rattle.point_table.proofs.StandingLess.{rows_after_gone}
 
 -- the object's row isn't in its leaf
-pub row_absent : (world : List Placed) (leaves : List Leaf) (id : ℕ) (at : Point) → AllByRecursion (HasRowsOf world) leaves → place_of world id ≡ None
+pub row_absent : (world : World) (leaves : List Leaf) (id : ℕ) (at : Point) → AllByRecursion (HasRowsOf (places_of world)) leaves → position_of world id ≡ None
     → (l : Leaf) → leaf_under (key_of at) leaves ≡ Some l → has_row (record { key = key_of at; id = id }) l.bucket.rows ≡ false
 row_absent world leaves id at rows none l found =
     let row : Row = record { key = key_of at; id = id } in
-    found_has (HasRowsOf world) (key_of at) leaves l found rows row ∙ ap (λ o. is_at_key (key_of at) o && is_under l.name (key_of at)) none
+    found_has (HasRowsOf (places_of world)) (key_of at) leaves l found rows row ∙ ap (λ o. is_at_key (key_of at) o && is_under l.name (key_of at)) none
 
 -- the object's row is in its leaf
-pub row_there : (world : List Placed) (leaves : List Leaf) (id : ℕ) (at : Point) → AllByRecursion (HasRowsOf world) leaves → place_of world id ≡ Some at
+pub row_there : (world : World) (leaves : List Leaf) (id : ℕ) (at : Point) → AllByRecursion (HasRowsOf (places_of world)) leaves → position_of world id ≡ Some at
     → (l : Leaf) → leaf_under (key_of at) leaves ≡ Some l → has_row (record { key = key_of at; id = id }) l.bucket.rows ≡ true
 row_there world leaves id at rows there l found =
     let row : Row = record { key = key_of at; id = id } in
-    found_has (HasRowsOf world) (key_of at) leaves l found rows row
+    found_has (HasRowsOf (places_of world)) (key_of at) leaves l found rows row
     ∙ ap (λ o. is_at_key (key_of at) o && is_under l.name (key_of at)) there
     ∙ ap (λ b. b && is_under l.name (key_of at)) (eq-eqb (key_of at) (key_of at) refl)
     ∙ (found_named (key_of at) leaves l found).1
@@ -100,14 +101,14 @@ only_found k key (l ∷ leaves) leaf tile small found = by_test (is_under l.name
         (λ e. absurd (true≢false (sym leaf_is ∙ ap (λ n. is_under n key) (sym ((same_name-decides l.name leaf.name).0 e)) ∙ other)), rest t.rest small there)
 
 -- the leaves stand for a world, those to be split are known, names and the bases of open splits are as before, and the other leaves are settled
-pub record Steps (w size : ℕ) (splits : List OpenSplit) (old new : List Leaf) (world : List Placed) (names : List (List Bool)) : Type 0 where
-  pub rows : AllByRecursion (HasRowsOf world) new
+pub record Steps (w size : ℕ) (splits : List OpenSplit) (old new : List Leaf) (world : World) (names : List (List Bool)) : Type 0 where
+  pub rows : AllByRecursion (HasRowsOf (places_of world)) new
   pub crowded : names ≡ crowded_of w size new
   pub bases : bases_of splits new ≡ bases_of splits old
   pub settled : AreSettled splits old new
 
-pub put_steps : (w size : ℕ) (splits : List OpenSplit) (keeps : Bool) (old new : List Leaf) (world : List Placed) (m : Placed) (name : List Bool) (crowded : Bool) (names : List (List Bool)) → tiles_from 0 (names_of old) ≡ true → AllByRecursion (HasRowsOf world) old
-    → place_of world m.id ≡ None → (change : ChangesLeaf w size (key_of m.at) (after_put (record { row = record { key = key_of m.at; id = m.id }; keeps_base = keeps })) old new name crowded) → names ≡ crowded_of w size old
+pub put_steps : (w size : ℕ) (splits : List OpenSplit) (keeps : Bool) (old new : List Leaf) (world : World) (m : Placed) (name : List Bool) (crowded : Bool) (names : List (List Bool)) → tiles_from 0 (names_of old) ≡ true → AllByRecursion (HasRowsOf (places_of world)) old
+    → position_of world m.id ≡ None → (change : ChangesLeaf w size (key_of m.at) (after_put (record { row = record { key = key_of m.at; id = m.id }; keeps_base = keeps })) old new name crowded) → names ≡ crowded_of w size old
     → keeps ≡ is_splitting splits change.leaf.name → Steps w size splits old new (with_member m world) (remarked crowded name names)
 put_steps w size splits keeps old new world m name crowded names tile rows none change was keeps_is =
     let key = key_of m.at in
@@ -117,8 +118,8 @@ put_steps w size splits keeps old new world m name crowded names tile rows none 
     let found : find (λ n. is_under n key) (names_of old) ≡ Some leaf.name = find-names_of key old ∙ ap (option_map (λ (l : Leaf). l.name)) change.found in
     let only = only_under 0 key (names_of old) leaf.name tile (key_of-lt m.at) found in
     record {
-      rows = subst (AllByRecursion (HasRowsOf (with_member m world))) (sym change.leaves)
-          (rows_after_put world (with_member m world) m leaf bucket old only.1 only.0 none (λ id. place_of-with_member m world id none) (found_has (HasRowsOf world) key old leaf change.found rows) refl rows);
+      rows = subst (AllByRecursion (HasRowsOf (places_of (with_member m world)))) (sym change.leaves)
+          (rows_after_put world (with_member m world) m leaf bucket old only.1 only.0 none (λ id. position_of-with_member m world id none) (found_has (HasRowsOf (places_of world)) key old leaf change.found rows) refl rows);
       crowded =
           ap (λ (n : List Bool). remarked crowded n names) change.name_is ∙ ap (remarked crowded leaf.name) was ∙ ap (λ b. remarked b leaf.name (crowded_of w size old)) change.crowded_is
           ∙ sym (crowded_of-replaced w size 0 leaf.name bucket old tile (found_named key old leaf change.found).0) ∙ ap (crowded_of w size) (sym change.leaves);
@@ -130,8 +131,8 @@ put_steps w size splits keeps old new world m name crowded names tile rows none 
           (settled_replaced splits leaf.name bucket old (open_or_none keeps (is_splitting splits leaf.name) leaf.bucket.base (with_row row leaf.bucket.rows) keeps_is));
     }
 
-pub gone_steps : (w size : ℕ) (splits : List OpenSplit) (keeps : Bool) (old new : List Leaf) (world : List Placed) (id : ℕ) (at : Point) (name : List Bool) (crowded : Bool) (names : List (List Bool)) → tiles_from 0 (names_of old) ≡ true → AllByRecursion (HasRowsOf world) old
-    → place_of world id ≡ Some at → (change : ChangesLeaf w size (key_of at) (after_gone (record { row = record { key = key_of at; id = id }; keeps_base = keeps })) old new name crowded) → names ≡ crowded_of w size old
+pub gone_steps : (w size : ℕ) (splits : List OpenSplit) (keeps : Bool) (old new : List Leaf) (world : World) (id : ℕ) (at : Point) (name : List Bool) (crowded : Bool) (names : List (List Bool)) → tiles_from 0 (names_of old) ≡ true → AllByRecursion (HasRowsOf (places_of world)) old
+    → position_of world id ≡ Some at → (change : ChangesLeaf w size (key_of at) (after_gone (record { row = record { key = key_of at; id = id }; keeps_base = keeps })) old new name crowded) → names ≡ crowded_of w size old
     → keeps ≡ is_splitting splits change.leaf.name → Steps w size splits old new (without id world) (remarked crowded name names)
 gone_steps w size splits keeps old new world id at name crowded names tile rows there change was keeps_is =
     let key = key_of at in
@@ -141,8 +142,8 @@ gone_steps w size splits keeps old new world id at name crowded names tile rows 
     let found : find (λ n. is_under n key) (names_of old) ≡ Some leaf.name = find-names_of key old ∙ ap (option_map (λ (l : Leaf). l.name)) change.found in
     let only = only_under 0 key (names_of old) leaf.name tile (key_of-lt at) found in
     record {
-      rows = subst (AllByRecursion (HasRowsOf (without id world))) (sym change.leaves)
-          (rows_after_gone world (without id world) id at leaf bucket old only.1 there (λ i. place_of-without id world i) (found_has (HasRowsOf world) key old leaf change.found rows) refl rows);
+      rows = subst (AllByRecursion (HasRowsOf (places_of (without id world)))) (sym change.leaves)
+          (rows_after_gone world (without id world) id at leaf bucket old only.1 there (λ i. position_of-without id world i) (found_has (HasRowsOf (places_of world)) key old leaf change.found rows) refl rows);
       crowded =
           ap (λ (n : List Bool). remarked crowded n names) change.name_is ∙ ap (remarked crowded leaf.name) was ∙ ap (λ b. remarked b leaf.name (crowded_of w size old)) change.crowded_is
           ∙ sym (crowded_of-replaced w size 0 leaf.name bucket old tile (found_named key old leaf change.found).0) ∙ ap (crowded_of w size) (sym change.leaves);
@@ -154,24 +155,24 @@ gone_steps w size splits keeps old new world id at name crowded names tile rows 
           (settled_replaced splits leaf.name bucket old (open_or_none keeps (is_splitting splits leaf.name) leaf.bucket.base (without_row row leaf.bucket.rows) keeps_is));
     }
 
-above_first : (id : ℕ) (at : Point) (ms : List Placed) → IsAbove id ms → with_member (record { id = id; at = at }) ms ≡ record { id = id; at = at } ∷ ms
+above_first : (id : ℕ) (at : Point) (ms : World) → IsAbove id (places_of ms) → with_member (record { id = id; at = at }) ms ≡ record { id = id; at = at } ∷ ms
 above_first id at [] above = refl
 above_first id at (m ∷ ms) above =
     let lt : id < m.id = above.0 in
     grind (arith, nat_tests, common_steps)
 
-moves : (id : ℕ) (old at : Point) (ms : List Placed) → IsRising ms → place_of ms id ≡ Some old → with_member (record { id = id; at = at }) (without id ms) ≡ with_moved id at ms
+moves : (id : ℕ) (old at : Point) (ms : World) → IsRising (places_of ms) → position_of ms id ≡ Some old → with_member (record { id = id; at = at }) (without id ms) ≡ with_moved id at ms
 moves id old at [] rising there = cc
 moves id old at (m ∷ ms) rising there =
-    let rest : place_of ms id ≡ Some old → with_member (record { id = id; at = at }) (without id ms) ≡ with_moved id at ms = moves id old at ms rising.1 in
+    let rest : position_of ms id ≡ Some old → with_member (record { id = id; at = at }) (without id ms) ≡ with_moved id at ms = moves id old at ms rising.1 in
     let gone : m.id ≤ id → id ≤ m.id → without id ms ≡ ms = λ le ge. without-absent id ms (IsAbove-lower id m.id ms ge rising.0) in
     let kept : m.id ≤ id → id ≤ m.id → with_moved id at ms ≡ ms = λ le ge. with_moved-absent id at ms (IsAbove-lower id m.id ms ge rising.0) in
     let first : m.id ≤ id → id ≤ m.id → with_member (record { id = id; at = at }) ms ≡ record { id = id; at = at } ∷ ms = λ le ge. above_first id at ms (IsAbove-lower id m.id ms ge rising.0) in
-    let none : id < m.id → place_of ms id ≡ None = λ lt. place_of-above id ms (IsAbove-lower id m.id ms (omega arith) rising.0) in
+    let none : id < m.id → position_of ms id ≡ None = λ lt. position_of-above id ms (IsAbove-lower id m.id ms (omega arith) rising.0) in
     grind (arith, nat_tests, common_steps)
 
 -- an object that moves is one that goes and comes
-pub with_member-without : (id : ℕ) (old at : Point) (world : List Placed) → IsWorld world → place_of world id ≡ Some old → with_member (record { id = id; at = at }) (without id world) ≡ with_moved id at world
+pub with_member-without : (id : ℕ) (old at : Point) (world : World) → IsWorld world → position_of world id ≡ Some old → with_member (record { id = id; at = at }) (without id world) ≡ with_moved id at world
 with_member-without id old at world w there = moves id old at world w.rising there
 
 -- one leaf's bucket has changed, and whether it is to be split is told by its rows

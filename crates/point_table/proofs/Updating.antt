@@ -15,7 +15,7 @@ use Rattle.plain_list.specs.declared.ops.Op.{Op}
 use Rattle.plain_list.specs.declared.ops.Op.TheVariants.{Put}
 use Rattle.plain_list.specs.declared.ops.Answer.{Answer}
 use Rattle.plain_list.specs.declared.ops.Answer.TheVariants.{Done, Present, Full}
-use Rattle.plain_list.specs.World.{IsWorld, is_full, place_of}
+use Rattle.plain_list.specs.World.{World, places_of, position_of, IsWorld, is_full}
 use Rattle.plain_list.specs.Answer.{answer_of, changed, is_change}
 use Rattle.plain_list.specs.State.{OpenSplit}
 use Rattle.index_layer.specs.Leaves.{Leaf}
@@ -55,11 +55,11 @@ full_quiet : (o : Option Point) (b : Bool) → b ≡ true → is_change (option_
 full_quiet None b is = ap (λ c. is_change (if c then Full else Done)) is
 full_quiet (Some at) b is = refl
 
-pub put-full : (world : List Placed) (id : ℕ) (at : Point) → is_full world ≡ true → is_change (answer_of world (Put id at)) ≡ false
-put-full world id at is = full_quiet (place_of world id) (is_full world) is
+pub put-full : (world : World) (id : ℕ) (at : Point) → is_full world ≡ true → is_change (answer_of world (Put id at)) ≡ false
+put-full world id at is = full_quiet (position_of world id) (is_full world) is
 
 -- a put of an object that isn't there is done where there is room
-pub put-done : (world : List Placed) (id : ℕ) (at : Point) → place_of world id ≡ None → is_full world ≡ false → Done ≡ answer_of world (Put id at)
+pub put-done : (world : World) (id : ℕ) (at : Point) → position_of world id ≡ None → is_full world ≡ false → Done ≡ answer_of world (Put id at)
 put-done world id at none room =
     sym (ap (λ o. option_map_or Present o (if is_full world then Full else Done)) none ∙ ap (λ b. if b then Full else Done) room)
 
@@ -69,7 +69,7 @@ pub same_table : {I P : Type 0} (leaves : I → List Leaf) (w : ℕ) (old new : 
 same_table leaves w old new is members index names size =
     record {
       world = subst IsWorld (sym members) is.world;
-      rows = subst (λ (ls : List Leaf). AllByRecursion (HasRowsOf new.members) ls) (sym index) (subst (λ (ms : List Placed). AllByRecursion (HasRowsOf ms) (leaves old.index)) (sym members) is.rows);
+      rows = subst (λ (ls : List Leaf). AllByRecursion (HasRowsOf (places_of new.members)) ls) (sym index) (subst (λ (ms : World). AllByRecursion (HasRowsOf (places_of ms)) (leaves old.index)) (sym members) is.rows);
       crowded = names ∙ is.crowded ∙ (λ i. crowded_of w (sym size i) (sym index i));
     }
 

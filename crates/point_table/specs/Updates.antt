@@ -6,6 +6,7 @@ use Rattle.zorder.specs.declared.points.Placed.{Placed}
 use Rattle.plain_list.specs.declared.ops.Op.{Op}
 use Rattle.plain_list.specs.declared.ops.Op.TheVariants.{Within, Near}
 use Rattle.plain_list.specs.declared.ops.Answer.{Answer}
+use Rattle.plain_list.specs.World.{World}
 use Rattle.plain_list.specs.Answer.{answer_of, after_of}
 use Rattle.plain_list.specs.State.{OpenSplit}
 use Rattle.point_table.specs.Changes.{bases_of, AreSettled}
@@ -18,7 +19,7 @@ IsUpdate (Near at k) = ⊥
 IsUpdate _ = ⊤
 
 -- the world after; the leaves keep their names, and their bases where their splits are open; else those that changed have no delta
-pub record Changes (splits : List OpenSplit) (old new : TableView) (after : List Placed) : Type 0 where
+pub record Changes (splits : List OpenSplit) (old new : TableView) (after : World) : Type 0 where
   pub world : new.world ≡ after
   pub bases : bases_of splits new.leaves ≡ bases_of splits old.leaves
   pub settled : AreSettled splits old.leaves new.leaves

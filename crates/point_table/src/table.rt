@@ -5,7 +5,7 @@ ghost use Rattle.std.specs.List.{AllByRecursion};
 ghost use Rattle.bucket_versions.specs.Told.{Told};
 ghost use Rattle.bucket_versions.specs.Rows.{after_put};
 ghost use Rattle.zorder.specs.declared.points.Point.{Point};
-ghost use Rattle.plain_list.specs.World.{IsWorld, place_of, is_full};
+ghost use Rattle.plain_list.specs.World.{places_of, position_of, IsWorld, is_full};
 ghost use Rattle.plain_list.specs.Answer.{answer_of, is_change};
 ghost use Rattle.index_layer.specs.Leaves.{AreLeaves, names_of, has_name};
 ghost use Rattle.index_layer.specs.RowChanges.{CountAt, Holds, ChangesAt, Moves};
@@ -81,14 +81,14 @@ impl<I: Index> PointTable<I> {
         ensures len { result ≡ length self.now.world }
         ensures world { IsWorld self.now.world }
         ensures leaves { AreLeaves self.now.leaves }
-        ensures rows { AllByRecursion (HasRowsOf self.now.world) self.now.leaves }
+        ensures rows { AllByRecursion (HasRowsOf (places_of self.now.world)) self.now.leaves }
     {
         self.members.len()
     }
 
     /// Where an object is.
     pub fn place(&self, id: u64) -> Option<Point>
-        ensures { result ≡ place_of self.now.world id }
+        ensures { result ≡ position_of self.now.world id }
     {
         self.members.place(id)
     }
@@ -262,7 +262,7 @@ impl<I: Index> PointTable<I> {
     pub fn share(&self) -> Result<I, Memory>
         ensures index { IfOk result (λ index. I.leaves index ≡ self.now.leaves) }
         ensures world { IsWorld self.now.world }
-        ensures rows { AllByRecursion (HasRowsOf self.now.world) self.now.leaves }
+        ensures rows { AllByRecursion (HasRowsOf (places_of self.now.world)) self.now.leaves }
     {
         let _members = self.members.len();
         self.index.share()

@@ -16,8 +16,8 @@ use Rattle.index_layer.specs.Leaves.{Leaf, all_rows}
 use Rattle.index_layer.specs.Stands.{Stands}
 use Rattle.index_layer.proofs.LeafKeys.{false_if}
 use Rattle.index_layer.proofs.LeafChanges.{leaf_at}
-use Rattle.plain_list.specs.World.{IsWorld}
-use Rattle.plain_list.specs.Answer.{members_in}
+use Rattle.plain_list.specs.Places.{ArePlaces}
+use Rattle.plain_list.specs.Queries.{members_in}
 use Rattle.table_share.specs.Objects.{placed_of, objects_of}
 use Rattle.table_share.proofs.RowObjects.{objects-permutation}
 use Rattle.table_share.proofs.TableRows.{table_of}
@@ -69,16 +69,16 @@ fewer region (m ∷ ms) = omega (arith, fewer region ms, length_if (has_point re
     at_most_one true = omega arith
     at_most_one false = omega arith
 
--- where the leaves stand for a world, they have as many rows in a box as the world has objects there
-module _ (region : Region) (leaves : List Leaf) (world : List Placed) (names : List (List Bool)) (is_world : IsWorld world) (stands : Stands leaves world names) where
-  pub number_of_world : number_in region (all_rows leaves) ≡ length (members_in region world)
-  number_of_world =
-      let table = table_of leaves world names stands in
-      length_permutation (members_in region world) (members_in region (objects_of (all_rows leaves)))
-      (objects-permutation (λ (m : Placed). has_point region m.at) world (all_rows leaves) is_world.rising is_world.points table.ordered table.has)
+-- leaves have as many rows in a box as there are objects
+module _ (region : Region) (leaves : List Leaf) (places : List Placed) (names : List (List Bool)) (are_places : ArePlaces places) (stands : Stands leaves places names) where
+  pub number_of_places : number_in region (all_rows leaves) ≡ length (members_in region places)
+  number_of_places =
+      let table = table_of leaves places names stands in
+      length_permutation (members_in region places) (members_in region (objects_of (all_rows leaves)))
+      (objects-permutation (λ (m : Placed). has_point region m.at) places (all_rows leaves) are_places.rising are_places.points table.ordered table.has)
 
   pub number-fits : number_in region (all_rows leaves) < 2 ^ 64
-  number-fits = omega (arith, number_of_world, fewer region world, is_world.size)
+  number-fits = omega (arith, number_of_places, fewer region places, are_places.size)
 
 -- counts of two halves of some leaves, and of one leaf
 module _ (region : Region) where

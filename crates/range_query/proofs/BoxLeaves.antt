@@ -21,8 +21,8 @@ use Rattle.bucket_versions.specs.Rows.{Rows}
 use Rattle.index_layer.specs.Leaves.{Leaf, names_of, all_rows, leaf_named}
 use Rattle.index_layer.proofs.LeafKeys.{false_if, tile_short, tile_rest}
 use Rattle.index_layer.proofs.LeafNames.{IsFront, under-front, front-length, find-among}
-use Rattle.index_layer.proofs.Worlds.{among-all}
-use Rattle.plain_list.specs.Answer.{members_in}
+use Rattle.index_layer.proofs.Standing.{among-all}
+use Rattle.plain_list.specs.Queries.{members_in}
 use Rattle.table_share.specs.Objects.{placed_of, objects_of}
 use Rattle.table_share.specs.KeysUnder.{AreKeysUnder, AreAllKeysUnder}
 use Rattle.table_share.proofs.Subtrees.{Narrows}

@@ -9,7 +9,7 @@ use Rattle.zorder.specs.declared.points.Region.{Region}
 use Rattle.zorder.specs.Region.{has_point}
 use Rattle.bucket_versions.specs.declared.row.Row.{Row}
 use Rattle.plain_list.specs.declared.ops.Answer.TheVariants.{Found, Many}
-use Rattle.plain_list.specs.Answer.{members_in, listed}
+use Rattle.plain_list.specs.Queries.{members_in, listed}
 use Rattle.table_share.specs.Objects.{placed_of, objects_of}
 use Rattle.range_query.specs.Cut.{number_in}
 use Rattle.range_query.specs.Listing.{IsListing}

@@ -5,7 +5,7 @@ use Rattle.zorder.specs.declared.points.Region.{Region}
 use Rattle.prefix_names.specs.Regions.{region_of, meet, lies_in}
 use Rattle.bucket_versions.specs.declared.row.Row.{Row}
 use Rattle.index_layer.specs.Leaves.{Leaf, all_rows}
-use Rattle.plain_list.specs.Answer.{members_in}
+use Rattle.plain_list.specs.Queries.{members_in}
 use Rattle.table_share.specs.Objects.{objects_of}
 use Rattle.table_share.specs.Subtree.{subtree, leaves_of}
 

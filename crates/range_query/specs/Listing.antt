@@ -2,7 +2,7 @@
 use Rattle.std.specs.Prelude.{◌≡◌, ◌≤◌, ◌<◌, ◌+◌, ◌^◌, ◌++◌, ⊤, List, length, Result, OnOk}
 use Rattle.zorder.specs.declared.points.Placed.{Placed}
 use Rattle.plain_list.specs.declared.ops.Answer.{Answer}
-use Rattle.plain_list.specs.declared.ops.Answer.TheVariants.{Done, Present, Full, Moved, Gone, At, Absent, Found, Many}
+use Rattle.plain_list.specs.declared.ops.Answer.TheVariants.{Found}
 use Rattle.range_query.specs.declared.found.Listing.{Listing}
 
 -- so many objects, and these, where they are not too many to be listed
@@ -15,12 +15,5 @@ Adds result more old new = (ms : List Placed) → length ms + length more < 2 ^ 
 
 -- it holds where objects are listed
 abbrev pub OnFound : Answer → Type 0 → Type 0
-OnFound Done P = ⊤
-OnFound (Present p) P = ⊤
-OnFound Full P = ⊤
-OnFound (Moved p) P = ⊤
-OnFound (Gone p) P = ⊤
-OnFound (At p) P = ⊤
-OnFound Absent P = ⊤
 OnFound (Found ms) P = P
-OnFound (Many n) P = ⊤
+OnFound _ P = ⊤

@@ -1,9 +1,9 @@
 //! How many objects are in a box.
 ghost use Rattle.std.specs.Prelude.{◌≡◌, ◌+◌, ◌<◌, ◌^◌, if◌then◌else◌, true, length};
 ghost use Rattle.zorder.specs.Region.{IsBox};
-ghost use Rattle.plain_list.specs.Answer.{members_in};
+ghost use Rattle.plain_list.specs.Queries.{members_in};
 ghost use Rattle.table_share.specs.Subtree.{subtree};
-ghost use Rattle.table_share.specs.Worlds.{OfEachWorld};
+ghost use Rattle.table_share.specs.Standing.{OfPlaces};
 ghost use Rattle.range_query.specs.Cut.{IsAreaOf, is_met, is_cut, leaves_cut, IsNumberIn, IsNumberBelow};
 ghost use Rattle.table_share.specs.KeysUnder.{AreKeysUnder, AreAllKeysUnder};
 
@@ -18,7 +18,7 @@ use zorder::{Name, Region, child, key};
 /// its region and not all. It takes no memory.
 pub fn count_in<I: Index, L: Ledger>(index: &I, region: &Region, steps: &mut Steps<L>) -> u64
     requires { IsBox region.now }
-    ensures number { OfEachWorld (I.leaves index.now) (λ world. result ≡ length (members_in region.now world)) }
+    ensures number { OfPlaces (I.leaves index.now) (λ places. result ≡ length (members_in region.now places)) }
     ensures opened { steps.new ≡ steps.old + length (leaves_cut region.now (I.leaves index.now)) }
 {
     let (name, place) = index.reach(key(region.lo), key(region.hi));

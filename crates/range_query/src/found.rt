@@ -2,10 +2,10 @@
 ghost use Rattle.std.specs.Prelude.{◌≡◌, ◌≤◌, ◌<◌, ◌+◌, ◌++◌, ◌∷◌, ◌^◌, [], List, length, true, IfOk, OnOk};
 ghost use Rattle.zorder.specs.declared.points.Placed.{Placed};
 ghost use Rattle.zorder.specs.Region.{IsBox};
-ghost use Rattle.plain_list.specs.Answer.{members_in, listed};
+ghost use Rattle.plain_list.specs.Queries.{members_in, listed};
 ghost use Rattle.table_share.specs.KeysUnder.{AreKeysUnder, AreAllKeysUnder};
 ghost use Rattle.table_share.specs.Objects.{objects_of};
-ghost use Rattle.table_share.specs.Worlds.{OfEachWorld};
+ghost use Rattle.table_share.specs.Standing.{OfPlaces};
 ghost use Rattle.range_query.specs.Cut.{IsAreaOf, is_met, leaves_met, below_met, held_below};
 ghost use Rattle.range_query.specs.Listing.{Adds, IsListing, OnFound};
 
@@ -66,7 +66,7 @@ pub fn found_in<I: Index, L: Ledger>(
     steps: &mut Steps<L>,
 ) -> Result<Answer, Memory>
     requires { IsBox region.now }
-    ensures answer { OfEachWorld (I.leaves index.now) (λ world. IfOk result (λ answer. answer ≡ listed (members_in region.now world))) }
+    ensures answer { OfPlaces (I.leaves index.now) (λ places. IfOk result (λ answer. answer ≡ listed (members_in region.now places))) }
     ensures opened { steps.new ≤ steps.old + length (leaves_met region.now (I.leaves index.now)) }
     ensures exact { IfOk result (λ answer. OnFound answer (steps.new ≡ steps.old + length (leaves_met region.now (I.leaves index.now)))) }
 {

@@ -1,6 +1,6 @@
 //! What is in a box, over any index.
 //!
-//! Contracts see an index as its leaves. For each world that they stand for, `range` gives the objects of the world that
+//! Contracts see an index as its leaves. For the places that they stand for, `range` gives the objects that
 //! are in the box, in the order of their ids, and `count_in` gives their number; `found_in` gives either, as the answer to
 //! a box is to be. All walk down the index, and pass over a subtree whose region misses the box; `found_in` and `count_in`
 //! begin where both corners are below (`met-below`). `range` and `found_in` open only the leaves whose region the box meets

@@ -1,10 +1,10 @@
 //! The objects in a box.
 ghost use Rattle.std.specs.Prelude.{◌≡◌, ◌≤◌, ◌+◌, ◌++◌, IfOk, OnOk, length};
 ghost use Rattle.zorder.specs.Region.{IsBox};
-ghost use Rattle.plain_list.specs.Answer.{members_in};
+ghost use Rattle.plain_list.specs.Queries.{members_in};
 ghost use Rattle.table_share.specs.KeysUnder.{AreKeysUnder, AreAllKeysUnder};
 ghost use Rattle.table_share.specs.Objects.{objects_of};
-ghost use Rattle.table_share.specs.Worlds.{OfEachWorld};
+ghost use Rattle.table_share.specs.Standing.{OfPlaces};
 ghost use Rattle.range_query.specs.Cut.{leaves_met, below_met, held_below};
 
 use bucket_versions::Bucket;
@@ -26,7 +26,7 @@ pub fn range<I: Index, L: Ledger>(
     steps: &mut Steps<L>,
 ) -> Result<PlacedList, Memory>
     requires { IsBox region.now }
-    ensures objects { OfEachWorld (I.leaves index.now) (λ world. IfOk result (λ list. list ≡ members_in region.now world)) }
+    ensures objects { OfPlaces (I.leaves index.now) (λ places. IfOk result (λ list. list ≡ members_in region.now places)) }
     ensures opened { steps.new ≤ steps.old + length (leaves_met region.now (I.leaves index.now)) }
     ensures exact { IfOk result (λ _. steps.new ≡ steps.old + length (leaves_met region.now (I.leaves index.now))) }
 {

@@ -12,11 +12,12 @@ use Rattle.plain_list.specs.declared.entries.Entry.{Entry}
 use Rattle.plain_list.specs.declared.entries.Entry.TheVariants.{Call, Fail}
 use Rattle.plain_list.specs.declared.entries.Lost.{Lost}
 use Rattle.plain_list.specs.declared.entries.Lost.TheVariants as lost
-use Rattle.plain_list.specs.Answer.{answer_of, is_change, members_in}
+use Rattle.plain_list.specs.Queries.{members_in}
+use Rattle.plain_list.specs.Answer.{answer_of, is_change}
 use Rattle.plain_list.specs.History.{world_after, call_count}
 use Rattle.plain_list.specs.State.{state_after}
 use Rattle.plain_list.specs.Size.{full_leaf}
-use Rattle.plain_list.specs.World.{IsWorld}
+use Rattle.plain_list.specs.World.{World, places_of, IsWorld}
 use Rattle.plain_list.proofs.Histories.{world_after-append}
 use Rattle.zorder.specs.declared.points.Placed.{Placed}
 use Rattle.index_layer.specs.Leaves.{Leaf}
@@ -37,7 +38,7 @@ use Rattle.book_lock.specs.Pass.{Known}
 use Rattle.book_lock.specs.declared.origin.Origin.{Origin}
 use Rattle.sessions.specs.Shared.{origin_of, start_of, HasWorld}
 use Rattle.sessions.specs.Steps.{Says, has_entry, has_given, Leaves}
-use Rattle.sessions.specs.Opens.{leaves_seen, world_seen, Opens, OpensOf}
+use Rattle.sessions.specs.Opens.{leaves_seen, places_seen, Opens, OpensOf}
 use Rattle.sessions.specs.Calls.{Updates, Looks, Called, CallLeaves, HasDone, Shows, LosesChange, IsAnswered, IsCallFault, MayCome, call_cause, call_fault, next_full, told_full}
 use Rattle.sessions.specs.Splits.{SamePass}
 use Rattle.sessions.specs.declared.faults.CallFault.{CallFault}
@@ -66,12 +67,12 @@ listed-quiet true ms n = refl
 listed-quiet false ms n = refl
 
 -- a query changes nothing
-query-quiet : (world : List Placed) (op : Op) → IsQuery op → is_change (answer_of world op) ≡ false
+query-quiet : (world : World) (op : Op) → IsQuery op → is_change (answer_of world op) ≡ false
 query-quiet world (Put id at) is = absurd is
 query-quiet world (Move id at) is = absurd is
 query-quiet world (Remove id) is = absurd is
 query-quiet world (Find id) is = absurd is
-query-quiet world (Within region) is = listed-quiet _ (members_in region world) (length (members_in region world))
+query-quiet world (Within region) is = listed-quiet _ (members_in region (places_of world)) (length (members_in region (places_of world)))
 query-quiet world (Near at k) is = refl
 
 -- so the log is never in its way
@@ -126,7 +127,7 @@ module _ {D : Type 0} (drive : D → Drive) (w : ℕ) (b mid : BookView D) (old 
   update-loses (Ok d) err = tt
   update-loses (Err (book.Disk cell)) err =
       let world : world_after b.opening.world b.entries ≡ world_after old.origin.world took.seen = (λ i. world_after (was.origin i).world (was.entries i)) in
-      subst (λ (list : List Placed). is_change (answer_of list op) ≡ true) world err.change
+      subst (λ (list : World). is_change (answer_of list op) ≡ true) world err.change
   update-loses (Err (book.Closed cell)) err = tt
   update-loses (Err book.HistoryFull) err = tt
   update-loses (Err book.LogFull) err = tt
@@ -205,7 +206,7 @@ calm-left drive step b mid (book.Stale number) calm is = is
 calm-left drive step b mid (book.NotOpen number) calm is = is
 
 -- so nothing was lost
-calm-loses : (A : Type 0) (world : List Placed) (op : Op) (fault : BookFault) → IsCalm fault → LosesChange {A = A} world op (Err fault)
+calm-loses : (A : Type 0) (world : World) (op : Op) (fault : BookFault) → IsCalm fault → LosesChange {A = A} world op (Err fault)
 calm-loses A world op (book.Disk cell) calm = absurd calm
 calm-loses A world op (book.Closed cell) calm = tt
 calm-loses A world op book.HistoryFull calm = tt
@@ -234,19 +235,19 @@ module _ {I D P : Type 0} (leaves : I → List Leaf) (drive : D → Drive) (w : 
       → BookStep drive IsMemory (call_refusal b.entries) (λ (s : Snapshot I P). Call session row op) (lost.Call session row op) b mid r
   look-step r ok refused err = record { refused = refused; added = look-added r ok; left = look-left r refused err }
 
-  look-says : (r : Result (Snapshot I P) BookFault) → IfOk r (λ s. Notes b mid session row op s.place) → IfOk r (λ s. Stands (leaves s.index) (world_after b.opening.world b.entries) (state_after w mid.opening mid.entries).leaves) → HasWorld b
+  look-says : (r : Result (Snapshot I P) BookFault) → IfOk r (λ s. Notes b mid session row op s.place) → IfOk r (λ s. Stands (leaves s.index) (places_of (world_after b.opening.world b.entries)) (state_after w mid.opening mid.entries).leaves) → HasWorld b
       → back ≡ has_given took (has_entry r) mid.entries → Says (λ (s : Snapshot I P). Shows w (leaves s.index) old back b.entries s.place) r
   look-says (Ok s) ok stands has given =
       let world : world_after b.opening.world b.entries ≡ world_after old.origin.world b.entries = ap (λ (o : Origin). world_after o.world b.entries) was.origin in
       record {
         place_is = ok.place_is ∙ ap call_count (sym (ap (λ (k : Known). k.seen) given));
         world = subst IsWorld world has.world;
-        stands = subst (Stands (leaves s.index) (world_after old.origin.world b.entries)) (back-names drive w b mid old took back session row op was books given)
-            (subst (λ (list : List Placed). Stands (leaves s.index) list (state_after w mid.opening mid.entries).leaves) world stands);
+        stands = subst (Stands (leaves s.index) (places_of (world_after old.origin.world b.entries))) (back-names drive w b mid old took back session row op was books given)
+            (subst (λ (list : World). Stands (leaves s.index) (places_of list) (state_after w mid.opening mid.entries).leaves) world stands);
       }
   look-says (Err fault) ok stands has given = tt
 
-  pub looked : (r : Result (Snapshot I P) BookFault) → IfOk r (λ s. Notes b mid session row op s.place) → IfOk r (λ s. Stands (leaves s.index) (world_after b.opening.world b.entries) (state_after w mid.opening mid.entries).leaves) → HasWorld b
+  pub looked : (r : Result (Snapshot I P) BookFault) → IfOk r (λ s. Notes b mid session row op s.place) → IfOk r (λ s. Stands (leaves s.index) (places_of (world_after b.opening.world b.entries)) (state_after w mid.opening mid.entries).leaves) → HasWorld b
       → IsRefusedBy IsMemory (call_refusal b.entries) r → IfErr r (λ (f : BookFault). mid ≡ b) → back ≡ has_given took (has_entry r) mid.entries → Looks leaves w session row op old back r
   looked r ok stands has refused err given =
       stepped drive w IsMemory (λ (cells : ℕ). call_refusal) (λ (s : Snapshot I P). Call session row op) (λ (h : List Entry). lost.Call session row op) (λ (h : List Entry) (s : Snapshot I P). Shows w (leaves s.index) old back h s.place) b mid old took back r
@@ -394,14 +395,16 @@ module _ {I P : Type 0} (leaves : I → List Leaf) (w session row : ℕ) (op : O
   }
 
   -- the objects that the pass has seen are those before the query
-  query-world : (shown : Snapshot I P) (step : Looks leaves w session row op old new (Ok shown)) → world_seen new ≡ world_after old.origin.world step.before
-  query-world shown step =
+  query-places : (shown : Snapshot I P) (step : Looks leaves w session row op old new (Ok shown)) → places_seen new ≡ places_of (world_after old.origin.world step.before)
+  query-places shown step =
+      ap places_of (
       (λ i. world_after (step.leaves i).origin.world (step.leaves i).seen) ∙ world_after-append old.origin.world step.before (Call session row op ∷ []) ∙ query_keeps op (world_after old.origin.world step.before) query
+      )
 
   pub query-opens : (shown : Snapshot I P) (listed : Option (List Placed)) (before now : ℕ) → Looks leaves w session row op old new (Ok shown) → OpensOf (leaves shown.index) op listed before now
-      → Opens op (leaves_seen w new) (world_seen new) listed before now
+      → Opens op (leaves_seen w new) (places_seen new) listed before now
   query-opens shown listed before now step opens =
-      subst (λ (world : List Placed). Opens op (leaves_seen w new) world listed before now) (sym (query-world shown step)) (opens (world_after old.origin.world step.before) (leaves_seen w new) step.says.world step.says.stands)
+      subst (λ (places : List Placed). Opens op (leaves_seen w new) places listed before now) (sym (query-places shown step)) (opens (places_of (world_after old.origin.world step.before)) (leaves_seen w new) step.says.world step.says.stands)
 
 -- a call leaves the pass with more seen and own
 leaves-same : (w session row : ℕ) (op : Op) (old : Known) (before : List Entry) (new : Known) (result : Result Done CallFault) → IsPrefix old.seen before → CallLeaves w session row op old before new result → SamePass old new

@@ -10,7 +10,7 @@ use Rattle.zorder.specs.declared.points.Region.{Region}
 use Rattle.plain_list.specs.declared.ops.Op.{Op}
 use Rattle.plain_list.specs.declared.ops.Op.TheVariants.{Put, Move, Remove, Find, Within, Near}
 use Rattle.plain_list.specs.declared.ops.Answer.{Answer}
-use Rattle.plain_list.specs.declared.ops.Answer.TheVariants.{Done, Present, Full, Moved, Gone, At, Absent, Found, Many}
+use Rattle.plain_list.specs.declared.ops.Answer.TheVariants.{Found}
 use Rattle.index_layer.specs.Leaves.{Leaf, names_of}
 use Rattle.table_share.specs.Subtree.{leaves_of}
 use Rattle.range_query.specs.Cut.{is_met, leaves_met}
@@ -33,15 +33,8 @@ number-named passes leaves names are = sym (count-names passes leaves) ∙ ap (c
 
 module _ (region : Region) (leaves : List Leaf) (names : List (List Bool)) (before now : ℕ) (are : names_of leaves ≡ names) where
   box-exact : (answer : Answer) → OnFound answer (now ≡ before + length (leaves_met region leaves)) → IfSome (listed_in answer) (λ ms. now ≡ before + number_met region names)
-  box-exact Done is = tt
-  box-exact (Present p) is = tt
-  box-exact Full is = tt
-  box-exact (Moved p) is = tt
-  box-exact (Gone p) is = tt
-  box-exact (At p) is = tt
-  box-exact Absent is = tt
   box-exact (Found ms) is = is ∙ ap (λ n. before + n) (number-named (is_met region) leaves names are)
-  box-exact (Many n) is = tt
+  box-exact _ is = tt
 
   box-listed : {E : Type 0} (result : Result Answer E) → IfOk result (λ answer. OnFound answer (now ≡ before + length (leaves_met region leaves))) → IfSome (listed_by (λ answer. answer) result) (λ ms. now ≡ before + number_met region names)
   box-listed (Ok answer) is = box-exact answer is
@@ -54,31 +47,31 @@ module _ (region : Region) (leaves : List Leaf) (names : List (List Bool)) (befo
     exact = box-listed result exact;
   }
 
-module _ (p : Point) (k : ℕ) (leaves : List Leaf) (names : List (List Bool)) (world : List Placed) (before now : ℕ) (are : names_of leaves ≡ names) (most : now ≤ before + length leaves) (near : OpensNear p k leaves before now world) where
-  within-near : (d : Placed) → k ≤ length world → now ≤ before + number_within p (reach_of p k world d) names
-  within-near d many = omega (arith, near d many, number-named (λ name. nat_le (least_to p name) (reach_of p k world d)) leaves names are)
+module _ (p : Point) (k : ℕ) (leaves : List Leaf) (names : List (List Bool)) (places : List Placed) (before now : ℕ) (are : names_of leaves ≡ names) (most : now ≤ before + length leaves) (near : OpensNear p k leaves before now places) where
+  within-near : (d : Placed) → k ≤ length places → now ≤ before + number_within p (reach_of p k places d) names
+  within-near d many = omega (arith, near d many, number-named (λ name. nat_le (least_to p name) (reach_of p k places d)) leaves names are)
 
-  pub near-opens : (ms : List Placed) → (0 < length ms → before < now) → OpensNearest p k names world (Some ms) before now
+  pub near-opens : (ms : List Placed) → (0 < length ms → before < now) → OpensNearest p k names places (Some ms) before now
   near-opens ms some = record { most = omega (arith, most, length-map leaves (λ (l : Leaf). l.name), ap length are); near = within-near; some = some }
 
-  pub near-fails : {E : Type 0} (result : Result Answer E) → IsErr result → OpensNearest p k names world (listed_by (λ answer. answer) result) before now
+  pub near-fails : {E : Type 0} (result : Result Answer E) → IsErr result → OpensNearest p k names places (listed_by (λ answer. answer) result) before now
   near-fails (Ok answer) is = absurd (cc is)
   near-fails (Err fault) is = record { most = omega (arith, most, length-map leaves (λ (l : Leaf). l.name), ap length are); near = within-near; some = tt }
 
 -- a change or a find opens nothing
-pub opens-still : (op : Op) (names : List (List Bool)) (world : List Placed) (listed : Option (List Placed)) (steps : ℕ) → IsUpdate op → Opens op names world listed steps steps
-opens-still (Put id at) names world listed steps update = refl
-opens-still (Move id at) names world listed steps update = refl
-opens-still (Remove id) names world listed steps update = refl
-opens-still (Find id) names world listed steps update = refl
-opens-still (Within region) names world listed steps update = absurd update
-opens-still (Near at k) names world listed steps update = absurd update
+pub opens-still : (op : Op) (names : List (List Bool)) (places : List Placed) (listed : Option (List Placed)) (steps : ℕ) → IsUpdate op → Opens op names places listed steps steps
+opens-still (Put id at) names places listed steps update = refl
+opens-still (Move id at) names places listed steps update = refl
+opens-still (Remove id) names places listed steps update = refl
+opens-still (Find id) names places listed steps update = refl
+opens-still (Within region) names places listed steps update = absurd update
+opens-still (Near at k) names places listed steps update = absurd update
 
 -- a call that was refused opens nothing
-pub opens-none : (op : Op) (names : List (List Bool)) (world : List Placed) (steps : ℕ) → Opens op names world None steps steps
-opens-none (Put id at) names world steps = refl
-opens-none (Move id at) names world steps = refl
-opens-none (Remove id) names world steps = refl
-opens-none (Find id) names world steps = refl
-opens-none (Within region) names world steps = record { most = omega arith; exact = tt }
-opens-none (Near at k) names world steps = record { most = omega arith; near = λ d many. omega arith; some = tt }
+pub opens-none : (op : Op) (names : List (List Bool)) (places : List Placed) (steps : ℕ) → Opens op names places None steps steps
+opens-none (Put id at) names places steps = refl
+opens-none (Move id at) names places steps = refl
+opens-none (Remove id) names places steps = refl
+opens-none (Find id) names places steps = refl
+opens-none (Within region) names places steps = record { most = omega arith; exact = tt }
+opens-none (Near at k) names places steps = record { most = omega arith; near = λ d many. omega arith; some = tt }

@@ -10,6 +10,7 @@ use Rattle.plain_list.specs.declared.entries.Entry.{Entry}
 use Rattle.plain_list.specs.declared.entries.Entry.TheVariants.{Begin, Install, Abandon}
 use Rattle.plain_list.specs.declared.entries.Lost.{Lost}
 use Rattle.plain_list.specs.declared.entries.Lost.TheVariants as lost
+use Rattle.plain_list.specs.World.{places_of}
 use Rattle.plain_list.specs.History.{world_after}
 use Rattle.plain_list.specs.State.{State, state_after, split_name}
 use Rattle.disk_trait.specs.Drive.{Drive}
@@ -50,7 +51,7 @@ begun-now drive w b mid old took back name ticket begins books was below back_is
       seen = ([], append-nil (took.seen ++ Begin ticket.number name ∷ []) ∙ seen);
       own_is = ap (λ (k : Known). k.own) back_is;
       below = below;
-      rows = subst (λ (world : _). HasBaseOf world (record { name = name; bucket = as_base base })) (λ i. world_after (origin_is i) (was.entries i)) (begun-rows drive w b mid name ticket begins books);
+      rows = subst (λ (world : _). HasBaseOf (places_of world) (record { name = name; bucket = as_base base })) (λ i. world_after (origin_is i) (was.entries i)) (begun-rows drive w b mid name ticket begins books);
     }
 
 -- later it is still so
@@ -61,7 +62,7 @@ begun-later old new number name base later own origin begun = record {
   seen = prefix-later (begun.before ++ Begin number name ∷ []) old.seen new.seen begun.seen later;
   own_is = own ∙ begun.own_is;
   below = begun.below;
-  rows = subst (λ (o : Origin). HasBaseOf (world_after o.world begun.before) (record { name = name; bucket = as_base base })) (sym origin) begun.rows;
+  rows = subst (λ (o : Origin). HasBaseOf (places_of (world_after o.world begun.before)) (record { name = name; bucket = as_base base })) (sym origin) begun.rows;
 }
 
 -- so the pass may note its end

@@ -6,7 +6,7 @@ use Rattle.plain_list.specs.declared.ops.Op.{Op}
 use Rattle.plain_list.specs.declared.entries.Entry.{Entry}
 use Rattle.plain_list.specs.declared.entries.Entry.TheVariants.{Call, Begin, Install, Abandon, Fail}
 use Rattle.plain_list.specs.declared.entries.Lost.{Lost}
-use Rattle.plain_list.specs.World.{IsWorld}
+use Rattle.plain_list.specs.World.{World, places_of, IsWorld}
 use Rattle.plain_list.specs.Answer.{FitsOp}
 use Rattle.plain_list.specs.History.{world_after, world_step}
 use Rattle.plain_list.proofs.Histories.{world_after-append}
@@ -39,7 +39,7 @@ EntryFits (Install number) = ⊤
 EntryFits (Abandon number) = ⊤
 EntryFits (Fail cell lost) = ⊤
 
-IsWorld-step : (world : List Placed) (e : Entry) → EntryFits e → IsWorld world → IsWorld (world_step world e)
+IsWorld-step : (world : World) (e : Entry) → EntryFits e → IsWorld world → IsWorld (world_step world e)
 IsWorld-step world (Call session row op) fits is = IsWorld-after_of world op fits is
 IsWorld-step world (Begin number name) fits is = is
 IsWorld-step world (Install number) fits is = is
@@ -94,11 +94,11 @@ abandon_world n drive old new (Err fault) ok err opening has = world_refused dri
 
 -- a query leaves the world
 pub snapshot_stands : {I D P : Type 0} (leaves : I → List Leaf) (names : List (List Bool)) (old new : BookView D) (session row : ℕ) (op : Op) (r : Result (Snapshot I P) BookFault) → IsQuery op → new.opening ≡ old.opening
-    → IfOk r (λ s. Notes old new session row op s.place) → IfOk r (λ s. Stands (leaves s.index) (world_after new.opening.world new.entries) names) → IfOk r (λ s. Stands (leaves s.index) (world_after old.opening.world old.entries) names)
+    → IfOk r (λ s. Notes old new session row op s.place) → IfOk r (λ s. Stands (leaves s.index) (places_of (world_after new.opening.world new.entries)) names) → IfOk r (λ s. Stands (leaves s.index) (places_of (world_after old.opening.world old.entries)) names)
 snapshot_stands leaves names old new session row op (Ok s) query opening ok index =
     let world : world_after new.opening.world new.entries ≡ world_after old.opening.world old.entries =
     (λ i. world_after (opening i).world (ok.entries i)) ∙ world_after-append old.opening.world old.entries (Call session row op ∷ []) ∙ query_keeps op (world_after old.opening.world old.entries) query in
-    subst (λ (w : List Placed). Stands (leaves s.index) w names) world index
+    subst (λ (w : World). Stands (leaves s.index) (places_of w) names) world index
 snapshot_stands leaves names old new session row op (Err fault) query opening ok index = tt
 
 -- no call changes over which drive the log was opened

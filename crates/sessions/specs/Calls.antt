@@ -12,7 +12,7 @@ use Rattle.plain_list.specs.Answer.{answer_of, is_change}
 use Rattle.plain_list.specs.History.{world_after, call_count}
 use Rattle.plain_list.specs.State.{state_after}
 use Rattle.plain_list.specs.Size.{full_leaf}
-use Rattle.plain_list.specs.World.{IsWorld}
+use Rattle.plain_list.specs.World.{World, places_of, IsWorld}
 use Rattle.index_layer.specs.Leaves.{Leaf}
 use Rattle.index_layer.specs.Stands.{Stands}
 use Rattle.commit_book.specs.declared.book.Done.{Done}
@@ -122,7 +122,7 @@ pub record Called (w session row : ℕ) (op : Op) (old new : Known) (result : Re
   pub leaves : CallLeaves w session row op old before new result
 
 -- the append that failed was that of a change
-abbrev pub LosesChange : {A : Type 0} → List Placed → Op → Result A BookFault → Type 0
+abbrev pub LosesChange : {A : Type 0} → World → Op → Result A BookFault → Type 0
 LosesChange world op (Err (book.Disk cell)) = is_change (answer_of world op) ≡ true
 LosesChange world op _ = ⊤
 
@@ -135,7 +135,7 @@ pub record Updates (w session row : ℕ) (op : Op) (old new : Known) (result : R
 pub record Shows (w : ℕ) (leaves : List Leaf) (old new : Known) (before : List Entry) (place : ℕ) : Type 0 where
   pub place_is : place ≡ call_count new.seen
   pub world : IsWorld (world_after old.origin.world before)
-  pub stands : Stands leaves (world_after old.origin.world before) (leaves_seen w new)
+  pub stands : Stands leaves (places_of (world_after old.origin.world before)) (leaves_seen w new)
 
 -- a query under the lock, which hands out the index as it stands there
 abbrev pub Looks : {I P : Type 0} → (I → List Leaf) → ℕ → ℕ → ℕ → Op → Known → Known → Result (Snapshot I P) BookFault → Type 0

@@ -1,5 +1,6 @@
 pub mod Shared
 pub mod Steps
+pub mod Standing
 pub mod Opens
 pub mod Calls
 pub mod Splits

@@ -7,10 +7,11 @@ use Rattle.zorder.specs.declared.points.Region.{Region}
 use Rattle.plain_list.specs.declared.ops.Op.{Op}
 use Rattle.plain_list.specs.declared.ops.Op.TheVariants.{Put, Move, Remove, Find, Within, Near}
 use Rattle.plain_list.specs.declared.ops.Answer.{Answer}
-use Rattle.plain_list.specs.declared.ops.Answer.TheVariants.{Done, Present, Full, Moved, Gone, At, Absent, Found, Many}
+use Rattle.plain_list.specs.declared.ops.Answer.TheVariants.{Found}
 use Rattle.plain_list.specs.History.{world_after}
 use Rattle.plain_list.specs.State.{state_after}
-use Rattle.plain_list.specs.World.{IsWorld}
+use Rattle.plain_list.specs.Places.{ArePlaces}
+use Rattle.plain_list.specs.World.{places_of}
 use Rattle.index_layer.specs.Leaves.{Leaf}
 use Rattle.index_layer.specs.Stands.{Stands}
 use Rattle.range_query.specs.Cut.{is_met}
@@ -22,9 +23,9 @@ use Rattle.sessions.specs.Shared.{start_of}
 abbrev pub leaves_seen : ℕ → Known → List (List Bool)
 leaves_seen w pass = (state_after w (start_of pass.origin) pass.seen).leaves
 
--- the objects there
-abbrev pub world_seen : Known → List Placed
-world_seen pass = world_after pass.origin.world pass.seen
+-- where the objects are there
+abbrev pub places_seen : Known → List Placed
+places_seen pass = places_of (world_after pass.origin.world pass.seen)
 
 -- how many of these leaves have a region that the box meets
 abbrev pub number_met : Region → List (List Bool) → ℕ
@@ -36,15 +37,8 @@ number_within p reach names = count_by (λ name. nat_le (least_to p name) reach)
 
 -- the objects that an answer lists
 abbrev pub listed_in : Answer → Option (List Placed)
-listed_in Done = None
-listed_in (Present p) = None
-listed_in Full = None
-listed_in (Moved p) = None
-listed_in (Gone p) = None
-listed_in (At p) = None
-listed_in Absent = None
 listed_in (Found ms) = Some ms
-listed_in (Many n) = None
+listed_in _ = None
 
 -- those that a result lists, where there is an answer in it
 abbrev pub listed_by : {A E : Type 0} → (A → Answer) → Result A E → Option (List Placed)
@@ -58,20 +52,20 @@ pub record OpensBox (region : Region) (names : List (List Bool)) (listed : Optio
 
 -- The objects nearest to a point open each leaf at most once; where there are k, only leaves of which some point may be as near as the
 -- k-th; and at least one where some object is listed.
-pub record OpensNearest (p : Point) (k : ℕ) (names : List (List Bool)) (world : List Placed) (listed : Option (List Placed)) (before now : ℕ) : Type 0 where
+pub record OpensNearest (p : Point) (k : ℕ) (names : List (List Bool)) (places : List Placed) (listed : Option (List Placed)) (before now : ℕ) : Type 0 where
   pub most : now ≤ before + length names
-  pub near : (d : Placed) → k ≤ length world → now ≤ before + number_within p (reach_of p k world d) names
+  pub near : (d : Placed) → k ≤ length places → now ≤ before + number_within p (reach_of p k places d) names
   pub some : IfSome listed (λ ms. 0 < length ms → before < now)
 
--- how often a bucket is opened for an operation, over these leaves and objects
+-- how often a bucket is opened for an operation, over these leaves and places
 abbrev pub Opens : Op → List (List Bool) → List Placed → Option (List Placed) → ℕ → ℕ → Type 0
-Opens (Put id at) names world listed before now = now ≡ before
-Opens (Move id at) names world listed before now = now ≡ before
-Opens (Remove id) names world listed before now = now ≡ before
-Opens (Find id) names world listed before now = now ≡ before
-Opens (Within region) names world listed before now = OpensBox region names listed before now
-Opens (Near at k) names world listed before now = OpensNearest at k names world listed before now
+Opens (Put id at) names places listed before now = now ≡ before
+Opens (Move id at) names places listed before now = now ≡ before
+Opens (Remove id) names places listed before now = now ≡ before
+Opens (Find id) names places listed before now = now ≡ before
+Opens (Within region) names places listed before now = OpensBox region names listed before now
+Opens (Near at k) names places listed before now = OpensNearest at k names places listed before now
 
--- the same, of each world that the leaves of an index stand for
+-- the same, of the places that the leaves of an index stand for
 abbrev pub OpensOf : List Leaf → Op → Option (List Placed) → ℕ → ℕ → Type 0
-OpensOf leaves op listed before now = (world : List Placed) (names : List (List Bool)) → IsWorld world → Stands leaves world names → Opens op names world listed before now
+OpensOf leaves op listed before now = (places : List Placed) (names : List (List Bool)) → ArePlaces places → Stands leaves places names → Opens op names places listed before now

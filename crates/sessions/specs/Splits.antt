@@ -7,6 +7,7 @@ use Rattle.plain_list.specs.declared.entries.Entry.{Entry}
 use Rattle.plain_list.specs.declared.entries.Entry.TheVariants.{Begin, Install, Abandon}
 use Rattle.plain_list.specs.declared.entries.Lost.{Lost}
 use Rattle.plain_list.specs.declared.entries.Lost.TheVariants as lost
+use Rattle.plain_list.specs.World.{places_of}
 use Rattle.plain_list.specs.History.{world_after}
 use Rattle.plain_list.specs.State.{State, state_after, split_name}
 use Rattle.book_lock.specs.Pass.{Known}
@@ -65,7 +66,7 @@ pub record HasBegun (pass : Known) (number : ℕ) (name : List Bool) (base : Lis
   pub seen : IsPrefix (before ++ Begin number name ∷ []) pass.seen
   pub own_is : pass.own ≡ own ++ length before ∷ []
   pub below : IsBelow (length before) own
-  pub rows : HasBaseOf (world_after pass.origin.world before) (record { name = name; bucket = as_base base })
+  pub rows : HasBaseOf (places_of (world_after pass.origin.world before)) (record { name = name; bucket = as_base base })
 
 -- any fault but want of memory
 abbrev pub IsLasting : BookFault → Type 0

@@ -2,7 +2,7 @@
 ghost use Rattle.std.specs.Prelude.{◌≡◌, ◌+◌, ◌<◌, ◌^◌, length, IfOk, IfErr, OnOk};
 ghost use Rattle.zorder.specs.Key.{IsPoint};
 ghost use Rattle.plain_list.specs.Answer.{FitsOp};
-ghost use Rattle.plain_list.specs.World.{IsWorld};
+ghost use Rattle.plain_list.specs.World.{places_of, IsWorld};
 ghost use Rattle.plain_list.specs.History.{world_after};
 ghost use Rattle.plain_list.specs.State.{state_after};
 ghost use Rattle.plain_list.specs.declared.entries.Lost.{Lost};
@@ -116,7 +116,7 @@ impl<I: Index, D: LogDisk, O: Start> SharedBook<I, D, O> {
     ) -> Result<Snapshot<I>, BookFault>
         requires { IsQuery op.now }
         ensures ok { IfOk result (λ s. Notes self.old self.new session row op.now s.place) }
-        ensures index { IfOk result (λ s. Stands (I.leaves s.index) (world_after self.old.opening.world self.old.entries) (state_after I.WIDTH self.new.opening self.new.entries).leaves) }
+        ensures index { IfOk result (λ s. Stands (I.leaves s.index) (places_of (world_after self.old.opening.world self.old.entries)) (state_after I.WIDTH self.new.opening self.new.entries).leaves) }
         ensures world { HasWorld self.old }
         ensures refused { IsRefusedBy IsMemory (call_refusal self.old.entries) result }
         ensures err { IfErr result (λ _. self.new ≡ self.old) }

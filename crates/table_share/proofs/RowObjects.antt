@@ -1,4 +1,4 @@
--- Rows that a world has, each once, stand for the objects of the world.
+-- The rows of objects at their places, each once, stand for those objects.
 use Rattle.std.proofs.Common.{◌≡◌, ℕ, ◌<◌, Bool, true, false, cond, not, List, [], ◌∷◌, Option, Some, None, refl, sym, ap, subst, ◌∙◌, arith}
 use Rattle.std.specs.Prelude.{◌==◌, ◌&&◌, ◌||◌}
 use Rattle.std.specs.List.{find, filter}
@@ -17,10 +17,10 @@ use Rattle.zorder.specs.Key.{key_of}
 use Rattle.zorder.proofs.Places.{point_of-key_of}
 use Rattle.bucket_versions.specs.declared.row.Row.{Row}
 use Rattle.bucket_versions.specs.Rows.{IsRows, IsAbove, has_row, without_row, same_row, is_below}
-use Rattle.index_layer.specs.Stands.{world_has, is_at_key}
+use Rattle.index_layer.specs.Stands.{places_have, is_at_key}
 use Rattle.index_layer.proofs.Puts.{where_is}
-use Rattle.plain_list.specs.World.{IsRising, AreAtPoints, place_of}
-use Rattle.plain_list.specs.World.{IsAbove as IsAboveId}
+use Rattle.plain_list.specs.Places.{IsRising, AreAtPoints, place_of}
+use Rattle.plain_list.specs.Places.{IsAbove as IsAboveId}
 use Rattle.table_share.specs.Objects.{placed_of, objects_of}
 
 pub same_row-eq : (s r : Row) → same_row s r ≡ true → (s.key ≡ r.key) × (s.id ≡ r.id)
@@ -67,7 +67,7 @@ has_row-without_row r (s ∷ rows) q = by_test (same_row s r) refl (has_row-with
     by_test true e rest = rest ∙ not_either (same_row r q) (has_row q rows) ∙ ap (λ b. (b || has_row q rows) && not (same_row r q)) (sym (same_row-both s r q e))
     by_test false e rest = ap (λ b. same_row s q || b) rest ∙ or_not (same_row s q) (has_row q rows) (same_row r q) (apart s r q e)
 
--- the rows of a world without its first object
+-- the rows of objects without the first of them
 place_of-above : (id : ℕ) (ms : List Placed) → IsAboveId id ms → place_of ms id ≡ None
 place_of-above id [] above = refl
 place_of-above id (m ∷ ms) above =
@@ -96,8 +96,8 @@ by_gone true false key p was had k h there = and-true had ∙ h ∙ ap (is_at_ke
 abbrev row_of : Placed → Row
 row_of m = record { key = key_of m.at; id = m.id }
 
-rows_without_first : (m : Placed) (ms : List Placed) (rows : List Row) → IsAboveId m.id ms → ((q : Row) → has_row q rows ≡ world_has (m ∷ ms) q)
-    → (q : Row) → has_row q (without_row (row_of m) rows) ≡ world_has ms q
+rows_without_first : (m : Placed) (ms : List Placed) (rows : List Row) → IsAboveId m.id ms → ((q : Row) → has_row q rows ≡ places_have (m ∷ ms) q)
+    → (q : Row) → has_row q (without_row (row_of m) rows) ≡ places_have ms q
 rows_without_first m ms rows above before q =
     has_row-without_row (row_of m) rows q
     ∙ by_gone (m.id == q.id) (key_of m.at == q.key) q.key m.at (where_is (m ∷ ms) q.id) (has_row q rows) refl (before q)
@@ -179,12 +179,12 @@ module _ (test : Placed → Bool) where
   same_first : (r : Row) (rows : List Row) → has_row r (r ∷ rows) ≡ true
   same_first r rows = grind (arith, nat_tests, common_steps)
 
-  has_first : (m : Placed) (ms : List Placed) → world_has (m ∷ ms) (row_of m) ≡ true
+  has_first : (m : Placed) (ms : List Placed) → places_have (m ∷ ms) (row_of m) ≡ true
   has_first m ms = ap (is_at_key (key_of m.at)) (first_there m ms) ∙ eq-eqb (key_of m.at) (key_of m.at) refl
 
-  -- the objects of a world that pass a test are those of its rows that do
-  pub objects-permutation : (world : List Placed) (rows : List Row) → IsRising world → AreAtPoints world → IsRows rows → ((q : Row) → has_row q rows ≡ world_has world q)
-      → IsPermutation (filter test world) (filter test (objects_of rows))
+  -- the objects that pass a test are those of their rows that do
+  pub objects-permutation : (places : List Placed) (rows : List Row) → IsRising places → AreAtPoints places → IsRows rows → ((q : Row) → has_row q rows ≡ places_have places q)
+      → IsPermutation (filter test places) (filter test (objects_of rows))
   objects-permutation [] [] rising points ordered has = IsPermutation-refl []
   objects-permutation [] (r ∷ rows) rising points ordered has = absurd (true≢false (sym (same_first r rows) ∙ has r))
   objects-permutation (m ∷ ms) rows rising points ordered has =

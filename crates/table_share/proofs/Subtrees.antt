@@ -17,7 +17,7 @@ use Rattle.index_layer.specs.Leaves.{Leaf, names_of, has_name, leaf_named}
 use Rattle.index_layer.specs.Part.{goes_on, is_inner}
 use Rattle.index_layer.proofs.LeafKeys.{false_if, first_from, first_key-next, tile_short, tile_rest, first_key-fits, first_key-under}
 use Rattle.index_layer.proofs.LeafNames.{IsFront, front-from_test, front-test, front-trans, front-length, under-front, any-among, find-among, short-among}
-use Rattle.index_layer.proofs.Worlds.{among-all}
+use Rattle.index_layer.proofs.Standing.{among-all}
 use Rattle.table_share.specs.Subtree.{subtree, leaves_of}
 
 abbrev pub begins : List Bool → List Bool → Bool

@@ -11,7 +11,7 @@ use Rattle.zorder.proofs.Places.{key_of-point_of}
 use Rattle.bucket_versions.specs.declared.row.Row.{Row}
 use Rattle.index_layer.specs.Leaves.{Leaf, all_rows}
 use Rattle.index_layer.specs.Stands.{Stands}
-use Rattle.plain_list.specs.World.{IsWorld}
+use Rattle.plain_list.specs.Places.{ArePlaces}
 use Rattle.table_share.specs.Objects.{objects_of, placed_of}
 use Rattle.table_share.proofs.RowObjects.{objects-permutation}
 use Rattle.table_share.proofs.TableRows.{keys_fit, table_of}
@@ -52,21 +52,21 @@ keys-same [] fit = refl
 keys-same (r ∷ rows) fit =
     sum_by-cons (λ (m : Placed). key_of m.at) (placed_of r) (objects_of rows) ∙ (λ i. key_of-point_of r.key fit.0 i + keys-same rows fit.1 i) ∙ sym (sum_by-cons (λ (q : Row). q.key) r rows)
 
--- all rows of leaves that stand for a world give the numbers of the world
-pub sums-of_world : (leaves : List Leaf) (world : List Placed) (names : List (List Bool)) (end : Sums) → IsWorld world → Stands leaves world names → HasSummed (record { points = 0; sum = 0 }) (all_rows leaves) end → end ≡ sums_of world
-sums-of_world leaves world names end is_world stands all =
-    let table = table_of leaves world names stands in
+-- all rows of leaves that stand for places give the numbers of the places
+pub sums-of_places : (leaves : List Leaf) (places : List Placed) (names : List (List Bool)) (end : Sums) → ArePlaces places → Stands leaves places names → HasSummed (record { points = 0; sum = 0 }) (all_rows leaves) end → end ≡ sums_of places
+sums-of_places leaves places names end are_places stands all =
+    let table = table_of leaves places names stands in
     let rows = all_rows leaves in
-    let some : IsPermutation (filter (λ m. true) world) (filter (λ m. true) (objects_of rows)) = objects-permutation (λ m. true) world rows is_world.rising is_world.points table.ordered table.has in
-    let same : IsPermutation world (objects_of rows) =
-    subst (λ (l : List Placed). IsPermutation l (objects_of rows)) (filter-all world) (subst (λ (l : List Placed). IsPermutation (filter (λ m. true) world) l) (filter-all (objects_of rows)) some) in
-    let count : length (objects_of rows) ≡ length world = length_permutation world (objects_of rows) same in
+    let some : IsPermutation (filter (λ m. true) places) (filter (λ m. true) (objects_of rows)) = objects-permutation (λ m. true) places rows are_places.rising are_places.points table.ordered table.has in
+    let same : IsPermutation places (objects_of rows) =
+    subst (λ (l : List Placed). IsPermutation l (objects_of rows)) (filter-all places) (subst (λ (l : List Placed). IsPermutation (filter (λ m. true) places) l) (filter-all (objects_of rows)) some) in
+    let count : length (objects_of rows) ≡ length places = length_permutation places (objects_of rows) same in
     let counted : length rows ≡ length (objects_of rows) = lengths rows in
-    let keys : key_sum (objects_of rows) ≡ key_sum world = sum_by-IsPermutation (λ (m : Placed). key_of m.at) world (objects_of rows) same in
-    let of_rows = keys-same rows (keys_fit world rows table) in
-    let points : end.points ≡ length world = omega (arith, all.points (omega (arith, count, counted, is_world.size)), count, counted) in
-    let plain : 0 + row_sum rows ≡ key_sum world = omega (arith, of_rows, keys) in
-    let sum : end.sum ≡ key_sum world % 2 ^ 64 = all.sum (omega arith) ∙ ap (λ n. n % 2 ^ 64) plain in
+    let keys : key_sum (objects_of rows) ≡ key_sum places = sum_by-IsPermutation (λ (m : Placed). key_of m.at) places (objects_of rows) same in
+    let of_rows = keys-same rows (keys_fit places rows table) in
+    let points : end.points ≡ length places = omega (arith, all.points (omega (arith, count, counted, are_places.size)), count, counted) in
+    let plain : 0 + row_sum rows ≡ key_sum places = omega (arith, of_rows, keys) in
+    let sum : end.sum ≡ key_sum places % 2 ^ 64 = all.sum (omega arith) ∙ ap (λ n. n % 2 ^ 64) plain in
     λ i. record { points = points i; sum = sum i }
   where
     lengths : (rs : List Row) → length rs ≡ length (objects_of rs)

@@ -1,7 +1,7 @@
 pub mod Walk
 pub mod Folds
 pub mod Objects
-pub mod Worlds
+pub mod Standing
 pub mod KeysUnder
 pub mod Subtree
 pub mod Sums

@@ -8,11 +8,11 @@ use Rattle.table_share.specs.declared.sums.Sums.{Sums}
 
 -- the sum of the keys of the points
 abbrev pub key_sum : List Placed → ℕ
-key_sum world = sum_by (λ (m : Placed). key_of m.at) world
+key_sum places = sum_by (λ (m : Placed). key_of m.at) places
 
--- how many objects a world has, and the sum of their keys modulo 2^64
+-- how many objects there are, and the sum of their keys modulo 2^64
 abbrev pub sums_of : List Placed → Sums
-sums_of world = record { points = length world; sum = key_sum world % 2 ^ 64 }
+sums_of places = record { points = length places; sum = key_sum places % 2 ^ 64 }
 
 -- one row more
 abbrev pub with_row : Sums → Row → Sums

@@ -1,6 +1,6 @@
 //! Numbers of all objects.
 ghost use Rattle.std.specs.Prelude.{◌≡◌, ◌+◌, length};
-ghost use Rattle.table_share.specs.Worlds.{OfEachWorld};
+ghost use Rattle.table_share.specs.Standing.{OfPlaces};
 ghost use Rattle.table_share.specs.Sums.{sums_of, with_row};
 
 use crate::folds::for_rows;
@@ -18,7 +18,7 @@ pub struct Sums {
 
 /// The numbers of all objects of an index. Each bucket is opened once, which is a step. It takes no memory.
 pub fn sum_up<I: Index, L: Ledger>(index: &I, steps: &mut Steps<L>) -> Sums
-    ensures sums { OfEachWorld (I.leaves index.now) (λ world. result ≡ sums_of world) }
+    ensures sums { OfPlaces (I.leaves index.now) (λ places. result ≡ sums_of places) }
     ensures opened { steps.new ≡ steps.old + length (I.leaves index.now) }
 {
     let none = Sums { points: 0, sum: 0 };

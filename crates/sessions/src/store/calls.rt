@@ -3,7 +3,7 @@ ghost use Rattle.std.specs.Prelude.{◌≡◌, false};
 ghost use Rattle.plain_list.specs.Answer.{IsValid};
 ghost use Rattle.commit_book.specs.Answers.{IsUpdate, IsQuery};
 ghost use Rattle.sessions.specs.Calls.{Updates, Looks, Called};
-ghost use Rattle.sessions.specs.Opens.{leaves_seen, world_seen, listed_by, Opens};
+ghost use Rattle.sessions.specs.Opens.{leaves_seen, places_seen, listed_by, Opens};
 ghost use Rattle.sessions.specs.Splits.{SamePass};
 
 use super::Store;
@@ -82,7 +82,7 @@ impl<I: Index, D: LogDisk, O: Start> Store<I, D, O> {
         requires query { IsQuery op.now }
         requires valid { IsValid op.now }
         ensures called { Called I.WIDTH session row op.now pass.old pass.new result }
-        ensures opened { Opens op.now (leaves_seen I.WIDTH pass.new) (world_seen pass.new) (listed_by (λ done. done.answer) result) steps.old steps.new }
+        ensures opened { Opens op.now (leaves_seen I.WIDTH pass.new) (places_seen pass.new) (listed_by (λ done. done.answer) result) steps.old steps.new }
     {
         let shown = match self.look(rt, pass, session, row, op) {
             Ok(shown) => shown,
@@ -116,7 +116,7 @@ impl<I: Index, D: LogDisk, O: Start> Store<I, D, O> {
         requires off { pass.old.holds ≡ false }
         requires valid { IsValid op.now }
         ensures called { Called I.WIDTH session row op.now pass.old pass.new result }
-        ensures opened { Opens op.now (leaves_seen I.WIDTH pass.new) (world_seen pass.new) (listed_by (λ done. done.answer) result) steps.old steps.new }
+        ensures opened { Opens op.now (leaves_seen I.WIDTH pass.new) (places_seen pass.new) (listed_by (λ done. done.answer) result) steps.old steps.new }
     {
         match *op {
             Op::Within { .. } => self.query(rt, alloc, pass, session, row, op, gate, steps),
@@ -142,7 +142,7 @@ impl<I: Index, D: LogDisk, O: Start> Store<I, D, O> {
         requires off { pass.old.holds ≡ false }
         requires valid { IsValid op.now }
         ensures called { Called I.WIDTH session row op.now pass.old pass.new result }
-        ensures opened { Opens op.now (leaves_seen I.WIDTH pass.new) (world_seen pass.new) (listed_by (λ done. done.answer) result) steps.old steps.new }
+        ensures opened { Opens op.now (leaves_seen I.WIDTH pass.new) (places_seen pass.new) (listed_by (λ done. done.answer) result) steps.old steps.new }
         ensures pass { SamePass pass.old pass.new }
     {
         pass.will_read(is_read(op));

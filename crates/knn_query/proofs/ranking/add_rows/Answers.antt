@@ -14,8 +14,8 @@ loop-row-preserved g c =
       passes.is_held,
       c.in_ok-add_row.ensures.reach,
       λ m o. passes.out m (out m o),
-      λ world rest are_of before. row_passes c.args.kept.now.from c.args.kept.now.k world rest c.in-Some.row.now c.next.new.self c.loop-row.row-iterator (placed_of c.in-Some.row.now) c.loop-row.kept c.add_row.new.kept
-          c.in-Some.ensures.steps refl from_is k_is passes (keeps world rest are_of before),
+      λ places rest are_of before. row_passes c.args.kept.now.from c.args.kept.now.k places rest c.in-Some.row.now c.next.new.self c.loop-row.row-iterator (placed_of c.in-Some.row.now) c.loop-row.kept c.add_row.new.kept
+          c.in-Some.ensures.steps refl from_is k_is passes (keeps places rest are_of before),
     )
 
 pub returns-clause-passes : goal.returns-clause-passes
@@ -26,8 +26,8 @@ returns-clause-passes g c =
       k_is = k_is;
       is_held = is_held;
       out = out;
-      keeps = λ world rest are_of before.
-          subst (λ (rs : List Row). Keeps c.args.kept.now.from c.args.kept.now.k world (objects_of rs ++ rest) c.loop-row.kept) c.in-None.ensures.steps.0 (keeps world rest are_of before).1;
+      keeps = λ places rest are_of before.
+          subst (λ (rs : List Row). Keeps c.args.kept.now.from c.args.kept.now.k places (objects_of rs ++ rest) c.loop-row.kept) c.in-None.ensures.steps.0 (keeps places rest are_of before).1;
     }
 
 pub returns-clause-opened : goal.returns-clause-opened

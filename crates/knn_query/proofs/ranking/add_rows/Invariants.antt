@@ -9,5 +9,5 @@ use Rattle.knn_query.proofs.ranking.add_rows.Given as goal
 abbrev pub invariant-loop-row : goal.invariant-loop-row
 invariant-loop-row g l =
     (l.kept.from ≡ l.fn.kept.from) × (l.kept.k ≡ l.fn.kept.k) × IsHeld l.kept × HasReach l.within l.kept × ((m : Placed) → IsOut l.fn.kept m → IsOut l.kept m)
-    × ((world rest : List Placed) → AreOf world (objects_of l.bucket.rows) → Keeps l.fn.kept.from l.fn.kept.k world (objects_of l.bucket.rows ++ rest) l.fn.kept
-    → AreOf world (objects_of l.row-iterator) × Keeps l.fn.kept.from l.fn.kept.k world (objects_of l.row-iterator ++ rest) l.kept)
+    × ((places rest : List Placed) → AreOf places (objects_of l.bucket.rows) → Keeps l.fn.kept.from l.fn.kept.k places (objects_of l.bucket.rows ++ rest) l.fn.kept
+    → AreOf places (objects_of l.row-iterator) × Keeps l.fn.kept.from l.fn.kept.k places (objects_of l.row-iterator ++ rest) l.kept)

@@ -55,11 +55,11 @@ returns-then-has_nearer-clause-opened g c =
     ends-every p k leaves c.args.steps.now c.loop-number.steps (leaves_ahead leaves c.loop-number.ahead.items) c.loop-number.invariant.0.opened
 
 pub returns-then-has_nearer-clause-near : goal.returns-then-has_nearer-clause-near
-returns-then-has_nearer-clause-near g c world names is_world stands d many =
+returns-then-has_nearer-clause-near g c places names are_places stands d many =
     let leaves : List Leaf = g.I.Index.leaves c.args.index.now in
     let p = c.args.kept.from in
     let k = c.args.kept.k in
-    ends p k leaves c.args.steps.now (within p (reach_of p k world d)) c.loop-number.steps (leaves_ahead leaves c.loop-number.ahead.items) (c.loop-number.invariant.0.near world names is_world stands d many)
+    ends p k leaves c.args.steps.now (within p (reach_of p k places d)) c.loop-number.steps (leaves_ahead leaves c.loop-number.ahead.items) (c.loop-number.invariant.0.near places names are_places stands d many)
 
 pub returns-in_err-put_halves-in-Halves-clause-opened : goal.returns-in_err-put_halves-in-Halves-clause-opened
 returns-in_err-put_halves-in-Halves-clause-opened g c =
@@ -69,11 +69,11 @@ returns-in_err-put_halves-in-Halves-clause-opened g c =
     ends-every p k leaves c.args.steps.now c.loop-number.steps (leaves_ahead leaves c.loop-number.ahead.items) c.loop-number.invariant.0.opened
 
 pub returns-in_err-put_halves-in-Halves-clause-near : goal.returns-in_err-put_halves-in-Halves-clause-near
-returns-in_err-put_halves-in-Halves-clause-near g c world names is_world stands d many =
+returns-in_err-put_halves-in-Halves-clause-near g c places names are_places stands d many =
     let leaves : List Leaf = g.I.Index.leaves c.args.index.now in
     let p = c.args.kept.from in
     let k = c.args.kept.k in
-    ends p k leaves c.args.steps.now (within p (reach_of p k world d)) c.loop-number.steps (leaves_ahead leaves c.loop-number.ahead.items) (c.loop-number.invariant.0.near world names is_world stands d many)
+    ends p k leaves c.args.steps.now (within p (reach_of p k places d)) c.loop-number.steps (leaves_ahead leaves c.loop-number.ahead.items) (c.loop-number.invariant.0.near places names are_places stands d many)
 
 pub returns-clause-opened : goal.returns-clause-opened
 returns-clause-opened g c =
@@ -83,11 +83,11 @@ returns-clause-opened g c =
     ends-every p k leaves c.args.steps.now c.loop-number.steps (leaves_ahead leaves c.loop-number.ahead.items) c.loop-number.invariant.0.opened
 
 pub returns-clause-near : goal.returns-clause-near
-returns-clause-near g c world names is_world stands d many =
+returns-clause-near g c places names are_places stands d many =
     let leaves : List Leaf = g.I.Index.leaves c.args.index.now in
     let p = c.args.kept.from in
     let k = c.args.kept.k in
-    ends p k leaves c.args.steps.now (within p (reach_of p k world d)) c.loop-number.steps (leaves_ahead leaves c.loop-number.ahead.items) (c.loop-number.invariant.0.near world names is_world stands d many)
+    ends p k leaves c.args.steps.now (within p (reach_of p k places d)) c.loop-number.steps (leaves_ahead leaves c.loop-number.ahead.items) (c.loop-number.invariant.0.near places names are_places stands d many)
 
 pub loop-number-smaller-in-Continue-branch-3 : goal.loop-number-smaller-in-Continue-branch-3
 loop-number-smaller-in-Continue-branch-3 g c =
@@ -140,7 +140,7 @@ returns-in_err-add_rows-in-Leaf-clause-opened g c =
     omega (arith, most, c.add_rows.ensures.opened)
 
 pub returns-in_err-add_rows-in-Leaf-clause-near : goal.returns-in_err-add_rows-in-Leaf-clause-near
-returns-in_err-add_rows-in-Leaf-clause-near g c world names is_world stands d many =
+returns-in_err-add_rows-in-Leaf-clause-near g c places names are_places stands d many =
     let leaves : List Leaf = g.I.Index.leaves c.args.index.now in
     let p = c.args.kept.from in
     let k = c.args.kept.k in
@@ -153,8 +153,8 @@ returns-in_err-add_rows-in-Leaf-clause-near g c world names is_world stands d ma
     let test : nat_le k number ≡ c.has_nearer.result = (λ i. nat_le (sym s.k_is i) (number_nearer (sym s.from i) a.least (held c.loop-number.kept))) ∙ sym c.has_nearer.ensures in
     let few : number < k = leb-false k number (test ∙ c.if-has_nearer.false) in
     let b : Rows = arc_value c.in-Leaf.bucket.now in
-    let most = ends p k leaves c.args.steps.now (within p (reach_of p k world d)) (c.loop-number.steps + 1) (leaves_ahead leaves left)
-    (near-leaf p k leaves c.args.steps.now tile c.loop-number.steps a left c.loop-number.kept t b c.in-Leaf.ensures few world names is_world stands d many) in
+    let most = ends p k leaves c.args.steps.now (within p (reach_of p k places d)) (c.loop-number.steps + 1) (leaves_ahead leaves left)
+    (near-leaf p k leaves c.args.steps.now tile c.loop-number.steps a left c.loop-number.kept t b c.in-Leaf.ensures few places names are_places stands d many) in
     omega (arith, most, c.add_rows.ensures.opened)
 
 pub halves-fore-requires-clause-room : goal.halves-fore-requires-clause-room
@@ -231,11 +231,11 @@ put_halves-requires-clause-long g c =
     length-at is_at left c.remove.new.self.items (left-at is_at c.loop-number.ahead.items left c.loop-number.places.items c.remove.new.self.items c.in-Some.number c.in-Some.next c.loop-number.invariant.2 c.in-Some.ensures.taken c.remove.ensures.items)
 
 pub returns-clause-keeps : goal.returns-clause-keeps
-returns-clause-keeps g c world names is_world stands =
+returns-clause-keeps g c places names are_places stands =
     let leaves : List Leaf = g.I.Index.leaves c.args.index.now in
     let p = c.args.kept.from in
     let k = c.args.kept.k in
-    subst (λ (xs : List Ahead). Keeps p k world (objects_ahead leaves xs) c.loop-number.kept) c.in_default.ensures.taken.0 (c.loop-number.invariant.0.worlds world names is_world stands).keeps
+    subst (λ (xs : List Ahead). Keeps p k places (objects_ahead leaves xs) c.loop-number.kept) c.in_default.ensures.taken.0 (c.loop-number.invariant.0.searches places names are_places stands).keeps
 
 pub remove-requires : goal.remove-requires
 remove-requires g c = omega (arith, c.in-Some.ensures.taken.less, length-at (g.I.Index.is_at c.args.index.now) c.loop-number.ahead.items c.loop-number.places.items c.loop-number.invariant.2)

@@ -3,21 +3,22 @@ use Rattle.std.proofs.lemmas.Bool.{true≢false}
 use Rattle.std.proofs.lemmas.List.{drop_more}
 use Rattle.zorder.specs.declared.points.Placed.{Placed}
 use Rattle.plain_list.specs.declared.ops.Call.{Call}
+use Rattle.plain_list.specs.World.{World}
 use Rattle.plain_list.specs.Answer.{answer_of, after_of}
 use Rattle.plain_list.specs.Calls.{AreReplies, entry_of}
 use Rattle.plain_list.specs.History.{replies}
 use Rattle.plain_list.proofs.legality.is_legal.Goals as goal
 
 -- of calls the first of which has the answer of this world, the others decide
-others_decide : (now next : List Placed) (call : Call) (calls rest : List Call) → calls ≡ call ∷ rest → next ≡ after_of now call.op → answer_of now call.op ≡ call.answer → AreReplies now calls ↔ AreReplies next rest
+others_decide : (now next : World) (call : Call) (calls rest : List Call) → calls ≡ call ∷ rest → next ≡ after_of now call.op → answer_of now call.op ≡ call.answer → AreReplies now calls ↔ AreReplies next rest
 others_decide now next call calls rest is step same =
-    subst (λ (cs : List Call). AreReplies now cs ↔ AreReplies next rest) (sym is) (subst (λ (w : List Placed). AreReplies now (call ∷ rest) ↔ AreReplies w rest) (sym step) (
+    subst (λ (cs : List Call). AreReplies now cs ↔ AreReplies next rest) (sym is) (subst (λ (w : World). AreReplies now (call ∷ rest) ↔ AreReplies w rest) (sym step) (
       λ e. let all : (call.answer ∷ map (λ c. c.answer) rest) ≡ (answer_of now call.op ∷ replies (after_of now call.op) (map entry_of rest)) = e in cc all,
       λ e. λ i. sym same i ∷ e i,
     ))
 
 -- calls whose answers are replies begin with the answer of this world
-first_answer : (now : List Placed) (call : Call) (calls rest : List Call) → calls ≡ call ∷ rest → AreReplies now calls → answer_of now call.op ≡ call.answer
+first_answer : (now : World) (call : Call) (calls rest : List Call) → calls ≡ call ∷ rest → AreReplies now calls → answer_of now call.op ≡ call.answer
 first_answer now call calls rest is e =
     let all : (call.answer ∷ map (λ c. c.answer) rest) ≡ (answer_of now call.op ∷ replies (after_of now call.op) (map entry_of rest)) = subst (AreReplies now) is e in cc all
 

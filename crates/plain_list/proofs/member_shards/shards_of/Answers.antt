@@ -1,9 +1,9 @@
 use Rattle.std.proofs.Common.{ap, ◌∙◌, List, get_or}
 use Rattle.zorder.specs.declared.points.Placed.{Placed}
-use Rattle.plain_list.specs.World.{place_of}
+use Rattle.plain_list.specs.World.{World, position_of}
 use Rattle.plain_list.specs.Answer.{with_member}
 use Rattle.plain_list.proofs.MemberMaps.{inserted_new}
-use Rattle.plain_list.proofs.RisingMembers.{place_of-next, with_member-next}
+use Rattle.plain_list.proofs.RisingMembers.{position_of-next, with_member-next}
 use Rattle.plain_list.proofs.member_shards.shards_of.Goals as goal
 
 -- what a read behind the end would give
@@ -14,6 +14,6 @@ pub loop-member-preserved : goal.loop-member-preserved
 loop-member-preserved c =
     let world = c.args.world.now in
     let place = c.loop-member.member-index in
-    let none = ap (λ (ms : List Placed). place_of ms (get_or world place beyond).id) c.loop-member.invariant ∙ place_of-next world place beyond c.loop-member-test.true c.requires.rising in
+    let none = ap (λ (ms : World). position_of ms (get_or world place beyond).id) c.loop-member.invariant ∙ position_of-next world place beyond c.loop-member-test.true c.requires.rising in
     inserted_new c.in_ok-insert.field-0 _ _ c.in_ok-insert.ensures.ok (c.in_ok-insert.ensures.found ∙ none) ∙ ap (with_member (get_or world place beyond)) c.loop-member.invariant
     ∙ with_member-next world place beyond c.loop-member-test.true c.requires.rising

@@ -1,5 +1,5 @@
 use Rattle.std.proofs.Common.{◌≡◌, ◌++◌}
-use Rattle.plain_list.specs.Answer.{members_in}
+use Rattle.plain_list.specs.Queries.{members_in}
 use Rattle.table_share.specs.Objects.{objects_of}
 use Rattle.range_query.proofs.ranges.push_rows.Given as goal
 

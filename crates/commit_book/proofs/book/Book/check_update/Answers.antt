@@ -1,6 +1,7 @@
 use Rattle.std.proofs.Common.{List, sym, ap, ◌∙◌}
 use Rattle.std.specs.Prelude.{◌&&◌}
 use Rattle.zorder.specs.declared.points.Placed.{Placed}
+use Rattle.plain_list.specs.World.{World, is_full}
 use Rattle.plain_list.specs.Answer.{answer_of, is_change}
 use Rattle.plain_list.proofs.Histories.{state_after-world}
 use Rattle.commit_book.proofs.RefusalLemmas.{passed}
@@ -14,7 +15,7 @@ returns-then-would_change g c =
     let world = c.self.invariant.world ∙ state_after-world g.I.Index.WIDTH c.self.inside.opening c.self.inside.history.entries in
     rw (← c.self.view_is)
     (told_full (book_of c.self.inside) c.args.op.now (passed {A = Unit {0}} _ tt (rw (← c.self.view_is) at c.in_ok-check_call.ensures)) (sym c.if-is_full.ensures)
-    (ap (λ (ms : List Placed). is_change (answer_of ms c.args.op.now)) (sym world) ∙ sym c.if-would_change.ensures))
+    (ap (λ (ms : World). is_change (answer_of ms c.args.op.now)) (sym world) ∙ sym c.if-would_change.ensures))
 
 pub returns : goal.returns
 returns g c =
@@ -23,6 +24,6 @@ returns g c =
     (has_cell (book_of c.self.inside) c.args.op.now (passed {A = Unit {0}} _ tt (rw (← c.self.view_is) at c.in_ok-check_call.ensures))
     (elim c.else-is_full.branch [
       | else-is_full-via-then-is_full+else-would_change w ↦
-          (λ i. sym w.if-is_full.ensures i && (ap (λ (ms : List Placed). is_change (answer_of ms c.args.op.now)) (sym world) ∙ sym w.if-would_change.ensures) i)
+          (λ i. sym w.if-is_full.ensures i && (ap (λ (ms : World). is_change (answer_of ms c.args.op.now)) (sym world) ∙ sym w.if-would_change.ensures) i)
       | else-is_full-via-else-is_full w ↦ ap (λ b. b && changes (book_of c.self.inside) c.args.op.now) (sym w.if-is_full.ensures)
     ]))

@@ -3,6 +3,7 @@ use Rattle.zorder.specs.declared.points.Placed.{Placed}
 use Rattle.plain_list.specs.declared.ops.Answer.{Answer}
 use Rattle.plain_list.specs.declared.entries.Entry.TheVariants.{Call}
 use Rattle.plain_list.specs.declared.entries.Lost.TheVariants as lost
+use Rattle.plain_list.specs.World.{World}
 use Rattle.plain_list.specs.Answer.{answer_of, is_change}
 use Rattle.plain_list.specs.History.{world_after}
 use Rattle.plain_list.specs.State.{OpenSplit}
@@ -54,7 +55,7 @@ update-requires-clause-can g c = λ change.
     let cell = cell_there op b.table.world c.requires change in
     let room = ap (λ (v : Events). v.room) c.in_ok-reserve.ensures.ok in
     can_step g.D.LogDisk.drive w b.opening b c.reserve.new.self (lost.Call c.args.session c.args.row op) cell.0 cell.1 c.self.invariant may.call.going
-    (may.room (ap (λ (ms : List Placed). is_change (answer_of ms op)) (sym world) ∙ change)) (ap (λ (v : Events). v.entries) c.in_ok-reserve.ensures.ok) (omega (arith, room))
+    (may.room (ap (λ (ms : World). is_change (answer_of ms op)) (sym world) ∙ change)) (ap (λ (v : Events). v.entries) c.in_ok-reserve.ensures.ok) (omega (arith, room))
 
 pub invariant_of-self-in-Err : goal.invariant_of-self-in-Err
 invariant_of-self-in-Err g c =
@@ -65,7 +66,7 @@ invariant_of-self-in-Err g c =
     let may = may_update (book_of b) op c.self.invariant.few (passed _ _ (rw (← c.self.view_is) at c.in_ok-check_update.ensures)) in
     let world = c.self.invariant.world ∙ state_after-world w b.opening h in
     let told = would_change Answer (Takes g.D.LogDisk.drive) (Loses g.D.LogDisk.drive) _ _ c.update.new.commit c.in-Err.undone c.in-Err.ensures.told in
-    let change : is_change (answer_of (world_after b.opening.world h) op) ≡ true = ap (λ (ms : List Placed). is_change (answer_of ms op)) (sym world) ∙ told.0 in
+    let change : is_change (answer_of (world_after b.opening.world h) op) ≡ true = ap (λ (ms : World). is_change (answer_of ms op)) (sym world) ∙ told.0 in
     inside-undone g.D.LogDisk.drive w b.opening b c.self.invariant may.call.going Answer c.update.new.self b.splits b.opening (c.len.result + 1) c.in-Err.undone _ c.update.new.commit may.call.few
     (call_step w b.opening h c.self.invariant.legal may.call.going c.args.session c.args.row op change) c.in_ok-reserve.ensures.ok refl (omega (arith, c.len.ensures)) c.in-Err.ensures.err refl refl told.1
 
@@ -78,7 +79,7 @@ returns-in-Err-clause-any_moment g c =
     let may = may_update (book_of b) op c.self.invariant.few (passed _ _ (rw (← c.self.view_is) at c.in_ok-check_update.ensures)) in
     let world = c.self.invariant.world ∙ state_after-world w b.opening h in
     let told = would_change Answer (Takes g.D.LogDisk.drive) (Loses g.D.LogDisk.drive) _ _ c.update.new.commit c.in-Err.undone c.in-Err.ensures.told in
-    let change : is_change (answer_of (world_after b.opening.world h) op) ≡ true = ap (λ (ms : List Placed). is_change (answer_of ms op)) (sym world) ∙ told.0 in
+    let change : is_change (answer_of (world_after b.opening.world h) op) ≡ true = ap (λ (ms : World). is_change (answer_of ms op)) (sym world) ∙ told.0 in
     rw (← c.self.view_is) (λ none.
     moments-undone g.D.LogDisk.drive w b.opening b c.self.invariant may.call.going Answer g.met.D.LogDisk.keeps_laws (c.len.result + 1) c.in-Err.undone _ c.update.new.commit
     (call_step w b.opening h c.self.invariant.legal may.call.going c.args.session c.args.row op change) c.in_ok-reserve.ensures.ok refl told.1)
@@ -100,7 +101,7 @@ invariant_of-self-2 g c =
     let may = may_update (book_of b) op c.self.invariant.few (passed _ _ (rw (← c.self.view_is) at c.in_ok-check_update.ensures)) in
     let world = c.self.invariant.world ∙ state_after-world w b.opening h in
     let steps = steps_on w b.opening h (Call c.args.session c.args.row op) c.self.invariant.legal (has_failed-none h may.call.going) refl in
-    let now : is_change (answer_of (world_after b.opening.world h) op) ≡ is_change (answer_of b.table.world op) = ap (λ (ms : List Placed). is_change (answer_of ms op)) (sym world) in
+    let now : is_change (answer_of (world_after b.opening.world h) op) ≡ is_change (answer_of b.table.world op) = ap (λ (ms : World). is_change (answer_of ms op)) (sym world) in
     let it =
     noted g.D.LogDisk.drive w b.opening b c.self.invariant may.call.going g.met.D.LogDisk.keeps_laws c.args.session c.args.row op (c.len.result + 1) (is_change (answer_of b.table.world op))
     c.in-Ok.answer _ c.update.new.commit c.note_quiet.new.history
@@ -118,7 +119,7 @@ returns-clause-ok g c =
     let may = may_update (book_of b) op c.self.invariant.few (passed _ _ (rw (← c.self.view_is) at c.in_ok-check_update.ensures)) in
     let world = c.self.invariant.world ∙ state_after-world w b.opening h in
     let steps = steps_on w b.opening h (Call c.args.session c.args.row op) c.self.invariant.legal (has_failed-none h may.call.going) refl in
-    let now : is_change (answer_of (world_after b.opening.world h) op) ≡ is_change (answer_of b.table.world op) = ap (λ (ms : List Placed). is_change (answer_of ms op)) (sym world) in
+    let now : is_change (answer_of (world_after b.opening.world h) op) ≡ is_change (answer_of b.table.world op) = ap (λ (ms : World). is_change (answer_of ms op)) (sym world) in
     let it =
     noted g.D.LogDisk.drive w b.opening b c.self.invariant may.call.going g.met.D.LogDisk.keeps_laws c.args.session c.args.row op (c.len.result + 1) (is_change (answer_of b.table.world op))
     c.in-Ok.answer _ c.update.new.commit c.note_quiet.new.history
@@ -126,7 +127,7 @@ returns-clause-ok g c =
     (ap is_change c.in-Ok.ensures.ok.answer_is) c.in-Ok.ensures.told c.note_quiet.ensures.noted c.note_quiet.ensures.quiet in
     rw (← c.self.view_is) (record {
       notes = record { entries = it.entries; place_is = c.calls.ensures };
-      answer_is = c.in-Ok.ensures.ok.answer_is ∙ ap (λ (ms : List Placed). answer_of ms op) world;
+      answer_is = c.in-Ok.ensures.ok.answer_is ∙ ap (λ (ms : World). answer_of ms op) world;
       full_is = c.full.ensures.full;
       settled = subst (λ (os : List OpenSplit). AreSettled os b.table.leaves c.update.new.self.leaves) (c.as_slice.ensures ∙ c.self.invariant.splits) c.in-Ok.ensures.ok.changes.settled;
     })
@@ -140,7 +141,7 @@ returns-clause-any_moment g c =
     let may = may_update (book_of b) op c.self.invariant.few (passed _ _ (rw (← c.self.view_is) at c.in_ok-check_update.ensures)) in
     let world = c.self.invariant.world ∙ state_after-world w b.opening h in
     let steps = steps_on w b.opening h (Call c.args.session c.args.row op) c.self.invariant.legal (has_failed-none h may.call.going) refl in
-    let now : is_change (answer_of (world_after b.opening.world h) op) ≡ is_change (answer_of b.table.world op) = ap (λ (ms : List Placed). is_change (answer_of ms op)) (sym world) in
+    let now : is_change (answer_of (world_after b.opening.world h) op) ≡ is_change (answer_of b.table.world op) = ap (λ (ms : World). is_change (answer_of ms op)) (sym world) in
     let it =
     noted g.D.LogDisk.drive w b.opening b c.self.invariant may.call.going g.met.D.LogDisk.keeps_laws c.args.session c.args.row op (c.len.result + 1) (is_change (answer_of b.table.world op))
     c.in-Ok.answer _ c.update.new.commit c.note_quiet.new.history
@@ -155,7 +156,7 @@ returns-in-Err-clause-err g c =
     let op = c.args.op.now in
     let world = c.self.invariant.world ∙ state_after-world w b.opening b.history.entries in
     let told = would_change Answer (Takes g.D.LogDisk.drive) (Loses g.D.LogDisk.drive) _ _ c.update.new.commit c.in-Err.undone c.in-Err.ensures.told in
-    let change : is_change (answer_of (world_after b.opening.world b.history.entries) op) ≡ true = ap (λ (ms : List Placed). is_change (answer_of ms op)) (sym world) ∙ told.0 in
+    let change : is_change (answer_of (world_after b.opening.world b.history.entries) op) ≡ true = ap (λ (ms : World). is_change (answer_of ms op)) (sym world) ∙ told.0 in
     let it =
     refused-undone g.D.LogDisk.drive w b.opening b c.self.invariant (may_update (book_of b) op c.self.invariant.few (passed _ _ (rw (← c.self.view_is) at c.in_ok-check_update.ensures))).call.going Answer
     c.update.new.self (c.len.result + 1) c.cells-cell.result c.in-Err.undone _ c.update.new.commit c.in_ok-reserve.ensures.ok refl c.in-Err.ensures.err change c.cells-cell.ensures.cells told.1 in

@@ -28,7 +28,7 @@ returns-in_ok-push c =
         few = omega (arith, length_permutation (one ∷ cs) ds perm, c.if-len-self.true, c.len.ensures, c.args.self.now.heap.data.ok.0);
       };
       out = λ m out. absurd (omega (arith, out.full, c.if-len-self.true, c.len.ensures, c.args.self.now.heap.data.ok.0));
-      keeps = λ world rest are pass. pass_adds_one p k world rest c.args.m (map object_of cs) (map object_of ds) (are 0 c.args.m (lit< tt)) made pass;
+      keeps = λ places rest are pass. pass_adds_one p k places rest c.args.m (map object_of cs) (map object_of ds) (are 0 c.args.m (lit< tt)) made pass;
     }
 
 pub returns-else-len-self : goal.returns-else-len-self

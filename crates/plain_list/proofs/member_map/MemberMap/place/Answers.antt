@@ -1,6 +1,6 @@
 use Rattle.std.proofs.Common.{sym, ◌∙◌}
 use Rattle.plain_list.proofs.member_map.MemberMap.place.Goals as goal
-use Rattle.plain_list.proofs.MemberMaps.{place_of-world_of}
+use Rattle.plain_list.proofs.MemberMaps.{position_of-world_of}
 
 pub returns : goal.returns
-returns c = c.copied.ensures ∙ c.get.ensures.value ∙ sym (rw (← c.self.view_is) (place_of-world_of c.self.inside.points.entries c.args.id))
+returns c = c.copied.ensures ∙ c.get.ensures.value ∙ sym (rw (← c.self.view_is) (position_of-world_of c.self.inside.points.entries c.args.id))

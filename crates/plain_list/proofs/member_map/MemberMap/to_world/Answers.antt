@@ -2,6 +2,7 @@ use Rattle.std.proofs.Common.{ℕ, List, [], ◌∷◌, ◌++◌, ◌∙◌, app
 use Rattle.std.proofs.lemmas.List.{append-nil}
 use Rattle.zorder.specs.declared.points.Placed.{Placed}
 use Rattle.zorder.specs.declared.points.Point.{Point}
+use Rattle.plain_list.specs.World.{World}
 use Rattle.plain_list.specs.MemberMap.{world_of}
 use Rattle.plain_list.proofs.member_map.MemberMap.to_world.Goals as goal
 
@@ -10,7 +11,7 @@ loop-id-preserved c =
     let members = c.loop-id.members.items in
     let left = world_of c.next.new.self in
     let member : Placed = record { id = c.in-Some.id.now; at = c.in-Some.at.now } in
-    ap (λ (all : List Placed). all ++ left) c.in_ok-push.ensures.items
+    ap (λ (all : World). all ++ left) c.in_ok-push.ensures.items
     ∙ append_assoc members (member ∷ []) left
     ∙ ap (λ (entries : List (ℕ × Point)). members ++ world_of entries) (sym c.in-Some.ensures.steps)
     ∙ c.loop-id.invariant

@@ -7,7 +7,7 @@ use Rattle.zorder.specs.Tile.{tiles_from}
 use Rattle.bucket_versions.specs.Rows.{Rows}
 use Rattle.index_layer.specs.Leaves.{Leaf, AreAllUnder, names_of, leaf_named, split}
 use Rattle.index_layer.specs.Stands.{HasRowsOf}
-use Rattle.index_layer.proofs.Worlds.{among-all}
+use Rattle.index_layer.proofs.Standing.{among-all}
 use Rattle.split_prepare.specs.Cut.{cut}
 use Rattle.point_table.specs.Crowded.{Crowd, remarked_each}
 use Rattle.point_table.specs.Crowds.{crowded_of}
@@ -15,6 +15,7 @@ use Rattle.point_table.specs.Divisions.{CanDivide, marks_of}
 use Rattle.point_table.proofs.Folding.{named_is, named_has}
 use Rattle.point_table.proofs.Dividing.{length-cut, under_children, rows_of-divided, crowded_of-divided}
 use Rattle.point_table.proofs.table.PointTable.divide.Goals as goal
+use Rattle.plain_list.specs.World.{places_of}
 
 pub unreachable-requires : goal.unreachable-requires
 unreachable-requires g c =
@@ -53,11 +54,11 @@ invariant_of-self-2 g c =
     let after : new ≡ split w name (cut w name rows) leaves = c.in_ok-divide.ensures.ok ∙ ap (λ (b : List Rows). split w name b leaves) (ap (map arc_value) c.deref-3.ensures.value ∙ are_cut) in
     let marks = c.in_ok-marks.ensures ∙ (λ i. marks_of (c.WIDTH-2.ensures i) size name ((ap (map arc_value) c.deref-2.ensures.value ∙ are_cut) i)) in
     let at = named_is name leaves leaf named in
-    let had = among-all (HasRowsOf world) leaves leaf c.self.invariant.rows at.0 in
+    let had = among-all (HasRowsOf (places_of world)) leaves leaf c.self.invariant.rows at.0 in
     let tiled = ap (λ (ls : List Leaf). tiles_from 0 (names_of ls)) (sym after) ∙ (g.met.I.Index.are_leaves c.divide.new.self).tile in
     record {
       world = c.self.invariant.world;
-      rows = subst (AllByRecursion (HasRowsOf world)) (sym after) (rows_of-divided w world name leaf leaves at.1 short had c.self.invariant.rows);
+      rows = subst (AllByRecursion (HasRowsOf (places_of world))) (sym after) (rows_of-divided w world name leaf leaves at.1 short had c.self.invariant.rows);
       crowded =
           ap (λ (v : Crowd). v.names) c.set_each.ensures
           ∙ (λ i. remarked_each (marks i) ((c.in_ok-reserve.ensures.names ∙ c.self.invariant.crowded) i))

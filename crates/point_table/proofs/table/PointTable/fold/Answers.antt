@@ -4,10 +4,11 @@ use Rattle.std.specs.List.{AllByRecursion}
 use Rattle.bucket_versions.specs.Rows.{Rows, as_base}
 use Rattle.index_layer.specs.Leaves.{Leaf, AreUnder, leaf_named, replaced}
 use Rattle.index_layer.specs.Stands.{HasRowsOf}
-use Rattle.index_layer.proofs.Worlds.{among-all}
+use Rattle.index_layer.proofs.Standing.{among-all}
 use Rattle.point_table.specs.Crowds.{crowded_of}
 use Rattle.point_table.proofs.Folding.{named_is, only_named, crowded_of-folded, rows_folded}
 use Rattle.point_table.proofs.table.PointTable.fold.Goals as goal
+use Rattle.plain_list.specs.World.{places_of}
 
 pub replace-requires-clause-under : goal.replace-requires-clause-under
 replace-requires-clause-under g c =
@@ -35,7 +36,7 @@ invariant_of-self-2 g c =
     let world = inside.members in
     record {
       world = c.self.invariant.world;
-      rows = subst (AllByRecursion (HasRowsOf world)) (sym after) (rows_folded name leaf world leaves only c.self.invariant.rows);
+      rows = subst (AllByRecursion (HasRowsOf (places_of world))) (sym after) (rows_folded name leaf world leaves only c.self.invariant.rows);
       crowded = c.self.invariant.crowded ∙ sym (crowded_of-folded name leaf w inside.size leaves only) ∙ ap (crowded_of w inside.size) (sym after);
     }
 

@@ -6,7 +6,7 @@ use Rattle.zorder.specs.declared.points.Placed.{Placed}
 use Rattle.index_layer.specs.Stands.{HasRowsOf}
 use Rattle.plain_list.specs.declared.ops.Op.TheVariants.{Move}
 use Rattle.plain_list.specs.declared.ops.Answer.TheVariants.{Moved, Absent}
-use Rattle.plain_list.specs.World.{place_of}
+use Rattle.plain_list.specs.World.{World, places_of, position_of}
 use Rattle.plain_list.specs.Answer.{with_moved}
 use Rattle.plain_list.proofs.MemberMaps.{with_moved-none, on_err_anyway}
 use Rattle.point_table.specs.Splits.{splits_of}
@@ -19,14 +19,14 @@ use Rattle.point_table.proofs.table.PointTable.relocate.Goals as goal
 pub invariant_of-self : goal.invariant_of-self
 invariant_of-self g c =
     let inside = c.self.inside in
-    let none : place_of inside.members c.args.id ≡ None = sym c.in_default.ensures.found in
+    let none : position_of inside.members c.args.id ≡ None = sym c.in_default.ensures.found in
     let same : c.replace.new.self ≡ inside.members = c.replace.ensures.moved ∙ with_moved-none c.args.id c.args.at inside.members none in
     same_table g.I.Index.leaves g.I.Index.WIDTH inside (record inside { members = c.replace.new.self }) c.self.invariant same refl refl refl
 
 pub returns-in_default-clause-ok : goal.returns-in_default-clause-ok
 returns-in_default-clause-ok g c =
     let inside = c.self.inside in
-    let none : place_of inside.members c.args.id ≡ None = sym c.in_default.ensures.found in
+    let none : position_of inside.members c.args.id ≡ None = sym c.in_default.ensures.found in
     let same : c.replace.new.self ≡ inside.members = c.replace.ensures.moved ∙ with_moved-none c.args.id c.args.at inside.members none in
     rw (← c.self.view_is)
     (updates_none (splits_of c.args.begun.now) _ _ (Move c.args.id c.args.at) Absent (sym (ap (λ o. option_map_or Moved o Absent) none)) refl
@@ -36,7 +36,7 @@ pub invariant_of-self-then-eq : goal.invariant_of-self-then-eq
 invariant_of-self-then-eq g c =
     let inside = c.self.inside in
     let one : c.in-Some.old ≡ c.args.at = same_point c.in-Some.old c.args.at (sym c.if-eq.ensures) in
-    let there : place_of inside.members c.args.id ≡ Some c.args.at = sym c.in-Some.ensures.found ∙ ap Some one in
+    let there : position_of inside.members c.args.id ≡ Some c.args.at = sym c.in-Some.ensures.found ∙ ap Some one in
     let same : c.replace.new.self ≡ inside.members = c.replace.ensures.moved ∙ with_moved-same c.args.id c.args.at inside.members c.self.invariant.world.rising there in
     same_table g.I.Index.leaves g.I.Index.WIDTH inside (record inside { members = c.replace.new.self }) c.self.invariant same refl refl refl
 
@@ -44,7 +44,7 @@ pub returns-then-eq-clause-err : goal.returns-then-eq-clause-err
 returns-then-eq-clause-err g c =
     let inside = c.self.inside in
     let one : c.in-Some.old ≡ c.args.at = same_point c.in-Some.old c.args.at (sym c.if-eq.ensures) in
-    let there : place_of inside.members c.args.id ≡ Some c.args.at = sym c.in-Some.ensures.found ∙ ap Some one in
+    let there : position_of inside.members c.args.id ≡ Some c.args.at = sym c.in-Some.ensures.found ∙ ap Some one in
     let same : c.replace.new.self ≡ inside.members = c.replace.ensures.moved ∙ with_moved-same c.args.id c.args.at inside.members c.self.invariant.world.rising there in
     on_err_anyway c.if-commit.result _ (same_view g.I.Index.leaves inside (record inside { members = c.replace.new.self }) same refl refl ∙ c.self.view_is)
 
@@ -54,7 +54,7 @@ move_row-requires-clause-rows g c =
     let leaves = g.I.Index.leaves c.self.inside.index in
     let old = c.in-Some.old in
     let at = c.args.at in
-    let there : place_of members c.args.id ≡ Some old = sym c.in-Some.ensures.found in
+    let there : position_of members c.args.id ≡ Some old = sym c.in-Some.ensures.found in
     let no = other_key old at (sym c.if-eq.ensures) (ap point_of (sym c.key.ensures.sum) ∙ c.key.ensures.back) (ap point_of (sym c.key-2.ensures.sum) ∙ c.key-2.ensures.back) in
     rw (c.change-gone.ensures.row, c.change-put.ensures.row, c.key.ensures.sum, c.key-2.ensures.sum)
     (if_some _ _ (row_there members leaves c.args.id old c.self.invariant.rows there), if_some _ _ (row_elsewhere members leaves c.args.id old at c.self.invariant.rows there no))
@@ -63,7 +63,7 @@ pub invariant_of-self-in-Err : goal.invariant_of-self-in-Err
 invariant_of-self-in-Err g c =
     let inside = c.self.inside in
     let id = c.args.id in
-    let there : place_of inside.members id ≡ Some c.in-Some.old = sym c.in-Some.ensures.found in
+    let there : position_of inside.members id ≡ Some c.in-Some.old = sym c.in-Some.ensures.found in
     let back : c.replace-in-Err.new.self ≡ inside.members =
     c.replace-in-Err.ensures.moved ∙ ap (with_moved id c.in-Some.old) c.replace.ensures.moved ∙ with_moved-back id c.in-Some.old c.args.at inside.members c.self.invariant.world.rising there in
     same_table g.I.Index.leaves g.I.Index.WIDTH inside (record inside { index = c.move_row.new.index; members = c.replace-in-Err.new.self; crowded = c.move_row.new.crowded }) c.self.invariant back c.in-Err.ensures.err
@@ -73,7 +73,7 @@ pub returns-in-Err-clause-err : goal.returns-in-Err-clause-err
 returns-in-Err-clause-err g c =
     let inside = c.self.inside in
     let id = c.args.id in
-    let there : place_of inside.members id ≡ Some c.in-Some.old = sym c.in-Some.ensures.found in
+    let there : position_of inside.members id ≡ Some c.in-Some.old = sym c.in-Some.ensures.found in
     let back : c.replace-in-Err.new.self ≡ inside.members =
     c.replace-in-Err.ensures.moved ∙ ap (with_moved id c.in-Some.old) c.replace.ensures.moved ∙ with_moved-back id c.in-Some.old c.args.at inside.members c.self.invariant.world.rising there in
     same_view g.I.Index.leaves inside (record inside { index = c.move_row.new.index; members = c.replace-in-Err.new.self; crowded = c.move_row.new.crowded }) back c.in-Err.ensures.err refl ∙ c.self.view_is
@@ -85,7 +85,7 @@ invariant_of-self-in-Ok g c =
     let old = c.in-Some.old in
     let from : c.key.result ≡ key_of old = c.key.ensures.sum in
     let to : c.key-2.result ≡ key_of c.args.at = c.key-2.ensures.sum in
-    let there : place_of inside.members id ≡ Some old = sym c.in-Some.ensures.found in
+    let there : position_of inside.members id ≡ Some old = sym c.in-Some.ensures.found in
     let moves = rw (c.change-gone.ensures.row, c.change-put.ensures.row, from, to) at c.in-Ok.ensures.ok in
     let from_keeps = rw from at c.change-gone.ensures.keeps in
     let to_keeps = rw to at c.change-put.ensures.keeps in
@@ -95,7 +95,7 @@ invariant_of-self-in-Ok g c =
     inside.crowded.names c.mark_two.new.crowded.names (g.met.I.Index.are_leaves inside.index) c.self.invariant.rows c.self.invariant.crowded c.self.invariant.world id old c.args.at there moves from_keeps to_keeps marks in
     record {
       world = c.replace.ensures.world;
-      rows = subst (λ (ms : List Placed). AllByRecursion (HasRowsOf ms) (g.I.Index.leaves c.move_row.new.index)) (sym c.replace.ensures.moved) it.rows;
+      rows = subst (λ (ms : World). AllByRecursion (HasRowsOf (places_of ms)) (g.I.Index.leaves c.move_row.new.index)) (sym c.replace.ensures.moved) it.rows;
       crowded = it.crowded;
     }
 
@@ -106,7 +106,7 @@ returns-in-Ok-clause-ok g c =
     let old = c.in-Some.old in
     let from : c.key.result ≡ key_of old = c.key.ensures.sum in
     let to : c.key-2.result ≡ key_of c.args.at = c.key-2.ensures.sum in
-    let there : place_of inside.members id ≡ Some old = sym c.in-Some.ensures.found in
+    let there : position_of inside.members id ≡ Some old = sym c.in-Some.ensures.found in
     let moves = rw (c.change-gone.ensures.row, c.change-put.ensures.row, from, to) at c.in-Ok.ensures.ok in
     let from_keeps = rw from at c.change-gone.ensures.keeps in
     let to_keeps = rw to at c.change-put.ensures.keeps in

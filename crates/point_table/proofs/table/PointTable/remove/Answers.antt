@@ -6,7 +6,7 @@ use Rattle.zorder.specs.declared.points.Placed.{Placed}
 use Rattle.index_layer.specs.Stands.{HasRowsOf}
 use Rattle.plain_list.specs.declared.ops.Op.TheVariants.{Remove}
 use Rattle.plain_list.specs.declared.ops.Answer.TheVariants.{Gone, Absent}
-use Rattle.plain_list.specs.World.{IsWorld, place_of}
+use Rattle.plain_list.specs.World.{World, places_of, position_of, IsWorld}
 use Rattle.plain_list.specs.Answer.{without}
 use Rattle.plain_list.proofs.Worlds.{IsWorld-without}
 use Rattle.point_table.specs.Splits.{splits_of}
@@ -17,7 +17,7 @@ use Rattle.point_table.proofs.table.PointTable.remove.Goals as goal
 
 pub take_row-requires-clause-present : goal.take_row-requires-clause-present
 take_row-requires-clause-present g c =
-    let there : place_of c.self.inside.members c.args.id ≡ Some c.in-Some.old = rw (← c.self.view_is) at (sym c.in-Some.ensures) in
+    let there : position_of c.self.inside.members c.args.id ≡ Some c.in-Some.old = rw (← c.self.view_is) at (sym c.in-Some.ensures) in
     rw (c.change-gone.ensures.row, c.key.ensures.sum) (if_some _ _ (row_there c.self.inside.members (g.I.Index.leaves c.self.inside.index) c.args.id c.in-Some.old c.self.invariant.rows there))
 
 pub invariant_of-self-2 : goal.invariant_of-self-2
@@ -27,7 +27,7 @@ invariant_of-self-2 g c =
     let id = c.args.id in
     let old = c.in-Some.old in
     let key : c.key.result ≡ key_of old = c.key.ensures.sum in
-    let there : place_of inside.members id ≡ Some old = rw (← c.self.view_is) at (sym c.in-Some.ensures) in
+    let there : position_of inside.members id ≡ Some old = rw (← c.self.view_is) at (sym c.in-Some.ensures) in
     let change = rw (c.change-gone.ensures.row, key) at c.in_ok-take_row.ensures.ok in
     let keeps = rw key at c.change-gone.ensures.keeps in
     let marks = rw (key, c.in_ok-reserve.ensures.names) at c.mark_left.ensures.names in
@@ -37,7 +37,7 @@ invariant_of-self-2 g c =
     let gone : c.remove.new.self ≡ without id inside.members = c.remove.ensures.gone in
     record {
       world = subst IsWorld (sym gone) (IsWorld-without id inside.members c.self.invariant.world);
-      rows = subst (λ (ms : List Placed). AllByRecursion (HasRowsOf ms) (g.I.Index.leaves c.take_row.new.self)) (sym gone) it.rows;
+      rows = subst (λ (ms : World). AllByRecursion (HasRowsOf (places_of ms)) (g.I.Index.leaves c.take_row.new.self)) (sym gone) it.rows;
       crowded = it.crowded;
     }
 
@@ -48,7 +48,7 @@ returns-clause-ok g c =
     let id = c.args.id in
     let old = c.in-Some.old in
     let key : c.key.result ≡ key_of old = c.key.ensures.sum in
-    let there : place_of inside.members id ≡ Some old = rw (← c.self.view_is) at (sym c.in-Some.ensures) in
+    let there : position_of inside.members id ≡ Some old = rw (← c.self.view_is) at (sym c.in-Some.ensures) in
     let change = rw (c.change-gone.ensures.row, key) at c.in_ok-take_row.ensures.ok in
     let keeps = rw key at c.change-gone.ensures.keeps in
     let marks = rw (key, c.in_ok-reserve.ensures.names) at c.mark_left.ensures.names in

@@ -1,6 +1,7 @@
 use Rattle.sessions.specs.Shared.{IsShared}
 use Rattle.std.proofs.Common.{subst, sym, ◌∙◌}
 use Rattle.std.specs.Prelude.{◌≡◌, IfOk, IfErr}
+use Rattle.plain_list.specs.World.{places_of}
 use Rattle.plain_list.specs.History.{world_after}
 use Rattle.plain_list.specs.State.{state_after}
 use Rattle.index_layer.specs.Stands.{Stands}
@@ -24,7 +25,7 @@ pub returns-clause-index : goal.returns-clause-index
 returns-clause-index g c =
     let new = c.snapshot.new.self in
     let names = (state_after g.I.Index.WIDTH new.opening new.entries).leaves in
-    subst (λ (b : BookView g.row.D.Denot). IfOk c.snapshot.result (λ (s : Snapshot g.row.I.Denot g.row.I-Place.Denot). Stands (g.I.Index.leaves s.index) (world_after b.opening.world b.entries) names)) (c.deref_mut.ensures.value ∙ c.self.view_is)
+    subst (λ (b : BookView g.row.D.Denot). IfOk c.snapshot.result (λ (s : Snapshot g.row.I.Denot g.row.I-Place.Denot). Stands (g.I.Index.leaves s.index) (places_of (world_after b.opening.world b.entries)) names)) (c.deref_mut.ensures.value ∙ c.self.view_is)
     (snapshot_stands g.I.Index.leaves names c.deref_mut.result.now new c.args.session c.args.row c.args.op.now c.snapshot.result c.requires c.snapshot.ensures.book.origin.opening c.snapshot.ensures.ok c.snapshot.ensures.index)
 
 pub returns-clause-ok : goal.returns-clause-ok

@@ -3,7 +3,7 @@ use Rattle.std.specs.Prelude.{None}
 use Rattle.plain_list.specs.History.{world_after}
 use Rattle.sessions.specs.Calls.{Called}
 use Rattle.sessions.specs.declared.faults.CallFault.{CallFault}
-use Rattle.sessions.specs.Opens.{leaves_seen, world_seen, listed_in}
+use Rattle.sessions.specs.Opens.{leaves_seen, places_seen, listed_in}
 use Rattle.sessions.proofs.CallLemmas.{query-err, query-memory, query-ok, query-opens}
 use Rattle.sessions.proofs.OpenLemmas.{opens-none}
 use Rattle.sessions.proofs.store.Store.query.Goals as goal
@@ -24,7 +24,7 @@ returns-clause-opened g c =
     query-opens g.I.Index.leaves g.I.Index.WIDTH c.args.session c.args.row c.args.op.now c.args.pass.now c.look.new.pass c.requires.query c.in-Ok.shown None c.args.steps.now c.ask.new.steps c.in-Ok.ensures c.in-Err-ask.ensures.opened
 
 pub returns-in-Err-clause-opened : goal.returns-in-Err-clause-opened
-returns-in-Err-clause-opened g c = opens-none c.args.op.now (leaves_seen g.I.Index.WIDTH c.look.new.pass) (world_seen c.look.new.pass) c.args.steps.now
+returns-in-Err-clause-opened g c = opens-none c.args.op.now (leaves_seen g.I.Index.WIDTH c.look.new.pass) (places_seen c.look.new.pass) c.args.steps.now
 
 pub returns-in-Err-clause-called : goal.returns-in-Err-clause-called
 returns-in-Err-clause-called g c = subst (λ (f : CallFault). Called g.I.Index.WIDTH c.args.session c.args.row c.args.op.now c.args.pass.now c.look.new.pass (Err f)) (sym c.call_fault.ensures)

@@ -1,4 +1,4 @@
--- An index that stands for a world, after a change of both, and all its rows.
+-- An index that stands for places, after a change of both, and all its rows.
 use Rattle.std.proofs.Common.{◌≡◌, ◌⊎◌, inl, inr, ℕ, ◌^◌, ◌<◌, Bool, true, false, not, ◌&&◌, ◌||◌, ◌==◌, List, [], ◌∷◌, ◌++◌, map, Option, Some, None, refl, sym, ◌∙◌, ap, subst, arith, cond}
 use Rattle.std.specs.List.{filter, list_any, AllByRecursion}
 use Rattle.std.specs.Cmp.{both_ways, first_so}
@@ -14,7 +14,7 @@ use Rattle.bucket_versions.specs.declared.row.Row.{Row}
 use Rattle.bucket_versions.specs.Rows.{Rows, IsRows, has_row, with_row, without_row, same_row, is_below, put_row, gone_row}
 use Rattle.bucket_versions.proofs.RowOrder.{IsRows-with_row, IsRows-without_row, same_row-eq, same_row-refl}
 use Rattle.index_layer.specs.Leaves.{Leaf, AreUnder, leaf_under, with_bucket, replaced, all_rows}
-use Rattle.index_layer.specs.Stands.{Stands, HasRowsOf, world_has, is_at_key}
+use Rattle.index_layer.specs.Stands.{Stands, HasRowsOf, places_have, is_at_key}
 use Rattle.index_layer.proofs.LeafKeys.{false_if, leaf_under-some}
 use Rattle.index_layer.proofs.LeafNames.{IsAmong, later_leaf, find-among, any-among, among-any, one-leaf}
 use Rattle.index_layer.proofs.LeafChanges.{leaf_at, names_of-replaced, AreLeaves-replaced}
@@ -59,7 +59,7 @@ has_row-without_row g (s ∷ rows) q =
     any_cond true s rest = refl
     any_cond false s rest = refl
 
--- where a world has an object at each id after a removal
+-- where an object is, of each id, after a removal
 abbrev pub HasLess : List Placed → List Placed → ℕ → Type 0
 HasLess old new gone = (id : ℕ) → where_is new id ≡ cond (gone == id) None (where_is old id)
 
@@ -67,7 +67,7 @@ HasLess old new gone = (id : ℕ) → where_is new id ≡ cond (gone == id) None
 abbrev pub row_of : Placed → Row
 row_of m = record { key = key_of m.at; id = m.id }
 
--- a leaf that a changed object is not under has the rows of the new world
+-- a leaf that a changed object is not under has the rows of the new places
 elsewhere : (same_id same_key under : Bool) (key : ℕ) (p : Point) (was now : Option Point) → same_key ≡ (key_of p == key) → (same_key ≡ true → under ≡ false)
     → (same_id ≡ true → ((was ≡ None) × (now ≡ Some p)) ⊎ ((was ≡ Some p) × (now ≡ None))) → (same_id ≡ false → now ≡ was) → (is_at_key key was && under) ≡ (is_at_key key now && under)
 elsewhere false same_key under key p was now k out one other = ap (λ (o : Option Point). is_at_key key o && under) (sym (other refl))
@@ -100,21 +100,21 @@ module _ (leaves : List Leaf) (old new : List Placed) (names : List (List Bool))
       true≢false (sym ((same_name-decides n.name l.name).1 (ap (λ (o : Leaf). o.name) (one-leaf leaves n l (key_of m.at) stands.are_leaves.tile (key_of-lt m.at) at_n at e over))) ∙ other))
 
   -- the rows of each leaf, where one gets other rows
-  changed : (bucket : Rows) → ((q : Row) → has_row q bucket.rows ≡ (world_has new q && is_under l.name q.key))
+  changed : (bucket : Rows) → ((q : Row) → has_row q bucket.rows ≡ (places_have new q && is_under l.name q.key))
       → ((id : ℕ) → (m.id == id) ≡ true → ((where_is old id ≡ None) × (where_is new id ≡ Some m.at)) ⊎ ((where_is old id ≡ Some m.at) × (where_is new id ≡ None)))
       → ((id : ℕ) → (m.id == id) ≡ false → where_is new id ≡ where_is old id)
       → AllByRecursion (HasRowsOf new) (replaced l.name bucket leaves)
   changed bucket rows one other = all-map (HasRowsOf new) (with_bucket l.name bucket) leaves (λ n at_n. by_test n at_n (same_name n.name l.name) refl)
     where
       by_test : (n : Leaf) → IsAmong leaves n → (b : Bool) → same_name n.name l.name ≡ b → HasRowsOf new (cond b (leaf_at n.name bucket) n)
-      by_test n at_n true e = λ q. rows q ∙ ap (λ (name : List Bool). world_has new q && is_under name q.key) (sym ((same_name-decides n.name l.name).0 e))
+      by_test n at_n true e = λ q. rows q ∙ ap (λ (name : List Bool). places_have new q && is_under name q.key) (sym ((same_name-decides n.name l.name).0 e))
       by_test n at_n false e = λ q.
           among-all (HasRowsOf old) leaves n stands.rows at_n q
           ∙ elsewhere (m.id == q.id) (key_of m.at == q.key) (is_under n.name q.key) q.key m.at (where_is old q.id) (where_is new q.id) refl
           (λ k. ap (is_under n.name) (sym (eqb-true (key_of m.at) q.key k)) ∙ not_under n at_n e)
           (one q.id) (other q.id)
 
-  -- a put of the row of an object that the world gains
+  -- a put of the row of an object that comes
   pub Stands-put : where_is old m.id ≡ None → HasMore old new m → Stands (replaced l.name (put_row (row_of m) l.bucket) leaves) new names
   Stands-put none more = record {
     names_are = names_of-replaced l.name (put_row (row_of m) l.bucket) leaves ∙ stands.names_are;
@@ -137,7 +137,7 @@ module _ (leaves : List Leaf) (old new : List Placed) (names : List (List Bool))
       under_more [] all = (over, tt)
       under_more (s ∷ rows) all = under_if (is_below (row_of m) s) (row_of m) s rows (with_row (row_of m) rows) over all (under_more rows all.1)
 
-  -- a removal of the row of an object that the world loses
+  -- a removal of the row of an object that goes
   pub Stands-gone : where_is old m.id ≡ Some m.at → HasLess old new m.id → Stands (replaced l.name (gone_row (row_of m) l.bucket) leaves) new names
   Stands-gone there less = record {
     names_are = names_of-replaced l.name (gone_row (row_of m) l.bucket) leaves ∙ stands.names_are;
@@ -164,7 +164,7 @@ module _ (leaves : List Leaf) (old new : List Placed) (names : List (List Bool))
       by_id false true under key was now k one other = ap (λ (o : Option Point). is_at_key key o && under) (sym (other refl))
       by_id false false under key was now k one other = ap (λ (o : Option Point). is_at_key key o && under) (sym (other refl))
 
-      rows_gone : (q : Row) → has_row q (without_row (row_of m) l.bucket.rows) ≡ (world_has new q && is_under l.name q.key)
+      rows_gone : (q : Row) → has_row q (without_row (row_of m) l.bucket.rows) ≡ (places_have new q && is_under l.name q.key)
       rows_gone q =
           has_row-without_row (row_of m) l.bucket.rows q
           ∙ ap (λ (b : Bool). not (same_row (row_of m) q) && b) (had q)
@@ -185,21 +185,21 @@ pub has_row-all_rows : (r : Row) (leaves : List Leaf) → has_row r (all_rows le
 has_row-all_rows r [] = refl
 has_row-all_rows r (l ∷ leaves) = has_row-append r l.bucket.rows (all_rows leaves) ∙ ap (λ (b : Bool). has_row r l.bucket.rows || b) (has_row-all_rows r leaves)
 
--- a row of a world has a key of 64 bits
+-- a row of an object has a key of 64 bits
 at_key : (o : Option Point) (k : ℕ) → is_at_key k o ≡ true → k < 2 ^ 64
 at_key None k e = absurd (true≢false (sym e))
 at_key (Some p) k e = let same : key_of p ≡ k = eqb-true (key_of p) k e in omega (arith, same, key_of-lt p)
 
-pub world_key-lt : (world : List Placed) (r : Row) → world_has world r ≡ true → r.key < 2 ^ 64
-world_key-lt world r e = at_key (where_is world r.id) r.key e
+pub placed_key-lt : (places : List Placed) (r : Row) → places_have places r ≡ true → r.key < 2 ^ 64
+placed_key-lt places r e = at_key (where_is places r.id) r.key e
 
--- the rows of an index that stands for a world are the world's
-pub rows_of_world : (leaves : List Leaf) (world : List Placed) (names : List (List Bool)) → Stands leaves world names → (r : Row) → has_row r (all_rows leaves) ≡ world_has world r
-rows_of_world leaves world names stands r =
+-- the rows of an index that stands for places are those of the objects there
+pub rows_of_places : (leaves : List Leaf) (places : List Placed) (names : List (List Bool)) → Stands leaves places names → (r : Row) → has_row r (all_rows leaves) ≡ places_have places r
+rows_of_places leaves places names stands r =
     has_row-all_rows r leaves
-    ∙ both_ways (list_any (λ (l : Leaf). has_row r l.bucket.rows) leaves) (world_has world r)
+    ∙ both_ways (list_any (λ (l : Leaf). has_row r l.bucket.rows) leaves) (places_have places r)
     (λ e. let n = any-among (λ (l : Leaf). has_row r l.bucket.rows) leaves e in
-    first_so (world_has world r) (is_under n.0.name r.key) (sym (among-all (HasRowsOf world) leaves n.0 stands.rows n.1 r) ∙ n.2))
-    (λ e. let l = leaf_under-some leaves r.key stands.are_leaves.tile (world_key-lt world r e) in
+    first_so (places_have places r) (is_under n.0.name r.key) (sym (among-all (HasRowsOf places) leaves n.0 stands.rows n.1 r) ∙ n.2))
+    (λ e. let l = leaf_under-some leaves r.key stands.are_leaves.tile (placed_key-lt places r e) in
     let it = find-among (λ (m : Leaf). is_under m.name r.key) leaves l.0 l.1 in
-    among-any (λ (m : Leaf). has_row r m.bucket.rows) leaves l.0 it.0 (among-all (HasRowsOf world) leaves l.0 stands.rows it.0 r ∙ both_true e it.1))
+    among-any (λ (m : Leaf). has_row r m.bucket.rows) leaves l.0 it.0 (among-all (HasRowsOf places) leaves l.0 stands.rows it.0 r ∙ both_true e it.1))

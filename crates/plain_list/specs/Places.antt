@@ -1,0 +1,35 @@
+-- Objects at points, in the order of their ids, each id once: all that an index and a query see of a world.
+use Rattle.std.specs.Prelude.{ℕ, ◌<◌, ◌≤◌, List, [], ◌∷◌, length, Option, ⊤, ◌==◌}
+use Rattle.std.specs.List.{find, AllByRecursion}
+use Rattle.std.specs.Option.{option_map}
+use Rattle.zorder.specs.declared.points.Point.{Point}
+use Rattle.zorder.specs.declared.points.Placed.{Placed}
+use Rattle.zorder.specs.Key.{IsPoint}
+
+-- how many objects there may be
+abbrev pub most_members : ℕ
+most_members = 1048576
+
+-- each id is above this one
+abbrev pub IsAbove : ℕ → List Placed → Type 0
+IsAbove id [] = ⊤
+IsAbove id (m ∷ places) = (id < m.id) × IsAbove id places
+
+-- the ids rise
+abbrev pub IsRising : List Placed → Type 0
+IsRising [] = ⊤
+IsRising (m ∷ places) = IsAbove m.id places × IsRising places
+
+-- each object is at a point of 32 bits on both axes
+abbrev pub AreAtPoints : List Placed → Type 0
+AreAtPoints places = AllByRecursion (λ (m : Placed). IsPoint m.at) places
+
+-- what holds of the places of each world
+pub record ArePlaces (places : List Placed) : Type 0 where
+  pub rising : IsRising places
+  pub size : length places ≤ most_members
+  pub points : AreAtPoints places
+
+-- where the object with this id is
+abbrev pub place_of : List Placed → ℕ → Option Point
+place_of places id = option_map (λ m. m.at) (find (λ m. m.id == id) places)
