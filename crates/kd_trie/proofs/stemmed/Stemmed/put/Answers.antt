@@ -1,32 +1,16 @@
-use Rattle.std.proofs.Common.{◌≡◌, ◌≤◌, ◌-◌, ◌++◌, ℕ, List, length, sym, ap, subst}
 use Rattle.std.specs.Arc.{arc_value}
-use Rattle.zorder.specs.Bits.{low_bits}
-use Rattle.kd_trie.specs.declared.stem.Side.{Side}
-use Rattle.bit_trie.specs.Tries.{Trie, height, tip, graft}
+use Rattle.bit_trie.specs.Tries.{tip}
 use Rattle.kd_trie.specs.Nodes.{seen}
-use Rattle.kd_trie.specs.Stems.{way_of}
-use Rattle.kd_trie.specs.Wholes.{sides_of, whole}
-use Rattle.kd_trie.proofs.StemLemmas.{fits-under, under-stem, made-under, graft-under}
+use Rattle.kd_trie.specs.Wholes.{whole}
+use Rattle.kd_trie.proofs.Opened.{opened, graft-made}
 use Rattle.kd_trie.proofs.stemmed.Stemmed.put.Goals as goal
 
 pub graft-done-requires-clause-fits : goal.graft-done-requires-clause-fits
 graft-done-requires-clause-fits g c =
-    let s = c.open_to.new.self in
-    let sides : List Side = sides_of s.stem in
-    let left : ℕ = 64 - c.len-left.result in
-    let fits : left ≡ 64 - length s.stem.name = ap (λ (n : ℕ). 64 - n) c.len-left.ensures.len in
-    let begun : whole s ≡ whole c.args.self.now = c.in_ok-open_to.ensures.whole in
-    let path : low_bits 64 c.args.key ≡ way_of sides ++ low_bits left c.args.key = under-stem s.stem.name sides c.args.key left s.stem.named c.in_ok-open_to.ensures.under fits in
-    fits-under s.stem.name sides (seen s.root) left s.stem.named fits (subst (λ (t : Trie). height t ≤ 64) (sym begun) c.requires.height)
+    let o = opened c.open_to.new.self c.args.key c.len-left.result (whole c.args.self.now) c.in_ok-open_to.ensures.whole c.in_ok-open_to.ensures.under c.len-left.ensures.len c.requires.height in
+    o.fits
 
 pub returns-clause-ok : goal.returns-clause-ok
 returns-clause-ok g c =
-    let s = c.open_to.new.self in
-    let sides : List Side = sides_of s.stem in
-    let left : ℕ = 64 - c.len-left.result in
-    let fits : left ≡ 64 - length s.stem.name = ap (λ (n : ℕ). 64 - n) c.len-left.ensures.len in
-    let begun : whole s ≡ whole c.args.self.now = c.in_ok-open_to.ensures.whole in
-    let path : low_bits 64 c.args.key ≡ way_of sides ++ low_bits left c.args.key = under-stem s.stem.name sides c.args.key left s.stem.named c.in_ok-open_to.ensures.under fits in
-    made-under c.graft-done.result sides (λ t. graft (low_bits 64 c.args.key) (tip (arc_value c.args.bucket)) t) (λ t. graft (low_bits left c.args.key) (tip (arc_value c.args.bucket)) t) (seen s.root) (seen c.graft-done.new.node) (whole c.args.self.now) (whole c.wind.new.self) begun c.wind.ensures
-    (graft-under sides c.args.key left path (tip (arc_value c.args.bucket)) (seen s.root))
-    c.graft-done.ensures.ok
+    let o = opened c.open_to.new.self c.args.key c.len-left.result (whole c.args.self.now) c.in_ok-open_to.ensures.whole c.in_ok-open_to.ensures.under c.len-left.ensures.len c.requires.height in
+    graft-made o c.graft-done.result (tip (arc_value c.args.bucket)) (seen c.graft-done.new.node) (whole c.wind.new.self) c.wind.ensures c.graft-done.ensures.ok
