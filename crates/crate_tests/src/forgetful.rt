@@ -11,7 +11,7 @@ struct ForgetfulDisk {
 impl LogDisk for ForgetfulDisk {
     ghost use Rattle.std.specs.Prelude.{None};
 
-    ghost drive = { λ d. record { bytes = None; images = λ c. Unit {0}; clock = 0; since = λ t c. Unit {0}; faults = d.faults; calls = None; attached = λ name make. Unit {0} } };
+    ghost drive = { λ d. record { bytes = None; images = λ c. Unit {0}; clock = 0; since = λ t c. Unit {0}; faults = d.faults; calls = None; attaches = None } };
 
     ghost keeps_laws = { λ d. record { counts_now = λ t c le now. tt; only_now = λ c since. tt; longer = λ s t c le since. tt; held = λ xs told. tt } };
 

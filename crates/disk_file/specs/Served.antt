@@ -1,5 +1,5 @@
 -- A drive over a file of the machine, and what its calls do to it.
-use Rattle.std.specs.Prelude.{◌≡◌, ℕ, Bool, IsTrue, true, false, if◌then◌else◌, None, Result, is_ok, IsErr, MatchResult}
+use Rattle.std.specs.Prelude.{◌≡◌, ℕ, Bool, true, false, if◌then◌else◌, None, Result, is_ok, IsErr, MatchResult}
 use Rattle.causes.specs.Causes.{one_more}
 use Rattle.disk_trait.specs.Drive.{Drive}
 use Rattle.disk_trait.specs.declared.disk.AttachFault.{AttachFault}
@@ -10,12 +10,12 @@ pub record FileView : Type 0 where
   pub attached : Bool
   pub faults : ℕ
 
--- Nothing is known of the content: no bytes, and any image at any moment. Whatever its name is, the file attached is the one that it has.
-abbrev pub untold : Bool → ℕ → Drive
-untold attached faults = record { bytes = None; images = λ c. Unit {0}; clock = 0; since = λ t c. Unit {0}; faults = faults; calls = None; attached = λ name make. IsTrue attached }
+-- Nothing is known of the content, no bytes, and any image at any moment, and no list of calls or attaches is kept.
+abbrev pub untold : ℕ → Drive
+untold faults = record { bytes = None; images = λ c. Unit {0}; clock = 0; since = λ t c. Unit {0}; faults = faults; calls = None; attaches = None }
 
 abbrev pub file_drive : FileView → Drive
-file_drive d = untold d.attached d.faults
+file_drive d = untold d.faults
 
 -- a step leaves all as it was but the count, which rises exactly where it failed
 abbrev pub Counted : {T E : Type 0} → FileView → FileView → Result T E → Type 0

@@ -1,21 +1,23 @@
 -- What is known of a drive in memory.
 use Rattle.std.specs.Prelude.{◌≡◌, ℕ, ◌+◌, ◌≤◌, nat_le, nat_lt, Bool, ◌&&◌, if◌then◌else◌, List, [], ◌∷◌, ◌++◌, length, take, map, Option, Some, None, Result, is_ok}
 use Rattle.causes.specs.Causes.{one_more}
-use Rattle.disk_trait.specs.Drive.{Drive}
+use Rattle.disk_trait.specs.Drive.{Attach, Drive}
 use Rattle.disk_mem.specs.declared.plans.DiskCall.{DiskCall}
+use Rattle.disk_mem.specs.declared.plans.DiskCall.TheVariants as call
 use Rattle.disk_mem.specs.declared.plans.DiskCall.TheVariants.{Write, Cut, Sync}
 use Rattle.disk_mem.specs.Plans.{PlanView, planned, verdict_of, is_passed, is_made}
 use Rattle.disk_mem.specs.Pending.{IsImage}
 use Rattle.disk_mem.specs.Changes.{Change, wrote, failed_write, did_cut, failed_cut, synced, failed_sync, went_well, File, started, changed_by, written}
 
 -- which calls fail, and how many may still be made; the bytes at the start; the calls that changed or synced since; how many bytes there is
--- room for; how often a call has failed
+-- room for; how often a call has failed; the attaches that were answered Ok
 pub record DiskView : Type 0 where
   pub plan : PlanView
   pub first : List ℕ
   pub changes : List Change
   pub room : ℕ
   pub faults : ℕ
+  pub attaches : List Attach
 
 -- the file at a moment, which is after so many calls that changed or synced
 abbrev pub file_at : DiskView → ℕ → File
@@ -29,8 +31,8 @@ file_now d = changed_by (started d.first) d.changes
 abbrev pub calls_of : DiskView → Option (List Bool)
 calls_of d = if nat_lt 0 d.plan.left then Some (map went_well d.changes) else None
 
--- A crash may leave the images of the file, now or at each moment. The one file has each name.
-abbrev pub drive_by : List ℕ → List Change → ℕ × Option (List Bool) → Drive
+-- A crash may leave the images of the file, now or at each moment.
+abbrev pub drive_by : List ℕ → List Change → ℕ × Option (List Bool) × List Attach → Drive
 drive_by first changes counts = record {
   bytes = Some (changed_by (started first) changes).held;
   images = IsImage (changed_by (started first) changes).pending;
@@ -38,11 +40,11 @@ drive_by first changes counts = record {
   since = λ t c. (m : ℕ) × (t ≤ m) × (m ≤ length changes) × IsImage (changed_by (started first) (take m changes)).pending c;
   faults = counts.0;
   calls = counts.1;
-  attached = λ name make. Unit {0};
+  attaches = Some counts.2;
 }
 
 abbrev pub mem_drive : DiskView → Drive
-mem_drive d = drive_by d.first d.changes (d.faults, calls_of d)
+mem_drive d = drive_by d.first d.changes (d.faults, calls_of d, d.attaches)
 
 -- whether the next call of a kind passes, where no bound on bytes stands in its way
 abbrev pub passes : DiskCall → DiskView → Bool
@@ -66,6 +68,19 @@ pub record Makes {T E : Type 0} (call : DiskCall) (ok : Bool) (done : List Chang
     changes = old.changes ++ done;
     room = old.room;
     faults = if ok then old.faults else one_more old.faults;
+    attaches = old.attaches;
+  }
+
+-- The next attach, whose name has found memory: one that passes is noted.
+pub record MakesAttach {T E : Type 0} (name : List ℕ) (make : Bool) (old new : DiskView) (result : Result T E) : Type 0 where
+  pub ok : is_ok result ≡ passes call.Attach old
+  pub after : new ≡ record {
+    plan = planned call.Attach old.plan;
+    first = old.first;
+    changes = old.changes;
+    room = old.room;
+    faults = if passes call.Attach old then old.faults else one_more old.faults;
+    attaches = if passes call.Attach old then old.attaches ++ record { name = name; make = make } ∷ [] else old.attaches;
   }
 
 -- the next call of a kind that changes nothing

@@ -1,7 +1,8 @@
 //! The drive in memory.
-ghost use Rattle.std.specs.Prelude.{◌≡◌, ℕ, ◌+◌, ◌*◌, ◌-◌, ◌^◌, ◌<◌, ◌≤◌, ◌↔◌, min, [], length, take, drop, IfOk, OnOk, OnErr, Result, Ok, Err, MatchResult};
+ghost use Rattle.std.specs.Prelude.{◌≡◌, ℕ, ◌+◌, ◌*◌, ◌-◌, ◌^◌, ◌<◌, ◌≤◌, ◌≢◌, ◌↔◌, min, [], length, take, drop, IfOk, OnOk, OnErr, Result, Ok, Err, MatchResult};
 ghost use Rattle.causes.specs.Causes.{one_more};
 
+use crate::attaches::Attached;
 use crate::plans::{DiskCall, Fail, Plan, Verdict};
 use crate::recorded::RecordedFile;
 use crate::touches::Touch;
@@ -29,12 +30,14 @@ impl From<AllocError> for PickFault {
     }
 }
 
-/// A drive in memory that holds one file, which is there from the start. It takes all its memory when it is made.
+/// A drive in memory that holds one file, which is there from the start and has each name. It takes all its memory when it is made, but
+/// for the names of attaches.
 #[derive(Drop)]
 pub struct MemDisk {
     plan: Plan,
     file: RecordedFile,
     faults: u64,
+    attaches: Vec<Attached>,
 }
 
 impl Model for MemDisk {
@@ -75,7 +78,8 @@ impl MemDisk {
     ghost use Rattle.disk_mem.specs.Drives.{file_at, file_now, mem_drive, MakesPlain, MakesWrite, MakesCut, MakesSync};
 
     /// A drive whose file has these bytes and nothing pending. `room` bounds where a write may end and how many bytes all writes may bring,
-    /// `calls` how many calls reach the file, and each call in `failing` is to fail.
+    /// `calls` how many calls reach the file, and each call in `failing` is to fail. A call past `calls` fails and leaves the file, its
+    /// images and the clock as they were: it counts as a fault, and is in no list of calls.
     pub fn new(
         alloc: Global,
         bytes: Vec<u8>,
@@ -89,12 +93,14 @@ impl MemDisk {
           changes = [];
           room = room;
           faults = 0;
+          attaches = [];
         }) }
     {
         Ok(MemDisk {
             plan: Plan::new(failing, calls),
             file: RecordedFile::new(alloc, bytes, room, calls)?,
             faults: 0,
+            attaches: Vec::new(alloc),
         })
     }
 
@@ -110,6 +116,13 @@ impl MemDisk {
         ensures { result.now ≡ (file_now self.now).held }
     {
         self.file.held()
+    }
+
+    /// The attaches that were answered Ok, in order.
+    pub fn attaches(&self) -> &[Attached]
+        ensures { result.now ≡ self.now.attaches }
+    {
+        &self.attaches
     }
 
     /// One image that a crash at a moment may leave: of all lengths that it may have there the one nearest to `len`, and `fill`, laid
@@ -200,25 +213,35 @@ impl MemDisk {
 
 impl LogDisk for MemDisk {
     ghost use Rattle.disk_trait.specs.Drive.{IsWithin, Stays, Reads, TellsLength, Writes, Cuts, Syncs, MadeOne, CountsFaults, CountsAttach};
-    ghost use Rattle.disk_mem.specs.Drives.{mem_drive, MakesPlain, MakesWrite, MakesCut, MakesSync};
+    ghost use Rattle.disk_mem.specs.Drives.{mem_drive, MakesAttach, MakesPlain, MakesWrite, MakesCut, MakesSync};
     ghost use Rattle.disk_mem.specs.Laws.{mem_laws};
 
     ghost drive = { mem_drive };
 
     ghost keeps_laws = { mem_laws };
 
-    /// The file is there whatever it is called.
-    fn attach(&mut self, _alloc: Global, name: &str, make: bool) -> Result<(), AttachFault>
-        ensures makes { MakesPlain DiskCall.Attach self.old self.new result }
-        ensures disk { OnErr result (result ≡ Err AttachFault.Disk) }
+    /// The file is there whatever it is called. Where its name finds no memory, no call was made.
+    fn attach(&mut self, alloc: Global, name: &str, make: bool) -> Result<(), AttachFault>
+        ensures makes { result ≢ Err AttachFault.Memory → MakesAttach name.now make self.old self.new result }
+        ensures memory { result ≡ Err AttachFault.Memory → self.new ≡ self.old }
         ensures stays { Stays (mem_drive self.old) (mem_drive self.new) }
         ensures cause { CountsAttach name.now make (mem_drive self.old) (mem_drive self.new) result }
     {
-        let _ = name;
-        let _ = make;
-        match self.make_plain(DiskCall::Attach) {
-            Ok(()) => Ok(()),
-            Err(DiskFault) => Err(AttachFault::Disk),
+        let Ok(file) = Attached::new(alloc, name, make) else {
+            return Err(AttachFault::Memory);
+        };
+        let Ok(()) = self.attaches.reserve(1) else {
+            return Err(AttachFault::Memory);
+        };
+        match self.plan.next(DiskCall::Attach) {
+            Verdict::Passes => {
+                self.attaches.push_reserved(file);
+                Ok(())
+            }
+            Verdict::Fails | Verdict::Past => {
+                fault(&mut self.faults);
+                Err(AttachFault::Disk)
+            }
         }
     }
 

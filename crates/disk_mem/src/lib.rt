@@ -3,12 +3,13 @@
 //! Contracts see a `MemDisk` as its plan, the bytes it was made with and the list of calls that changed or synced it.
 //! What a read gives and what a crash at each moment may leave are functions of that list. It is a `LogDisk` whose
 //! content is known: each call answers its fault exactly where it is listed or goes past a bound. `MemDisk::pick` gives
-//! one image of a moment, with a chosen length and chosen bytes where any may stand. No call takes memory but `new` and
-//! `pick`.
+//! one image of a moment, with a chosen length and chosen bytes where any may stand. No call takes memory but `new`, `pick`
+//! and an attach, which keeps its name.
 //!
 //! Not here: what a log makes of an image (`recovery`), a file of the machine (`disk_file`).
 #![tactic(auto)]
 
+mod attaches;
 mod disk;
 mod images;
 mod plans;
@@ -16,5 +17,6 @@ mod recorded;
 mod scans;
 mod touches;
 
+pub use attaches::Attached;
 pub use disk::{MemDisk, PickFault};
 pub use plans::{DiskCall, Fail};

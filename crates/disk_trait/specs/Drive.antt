@@ -1,15 +1,19 @@
 -- A drive with one file, and what its calls do to it. A crash image is what the file may hold after a crash.
-use Rattle.std.specs.Prelude.{◌≡◌, ◌⊎◌, ℕ, Bool, ◌+◌, ◌-◌, ◌≤◌, min, max, List, [], ◌∷◌, ◌++◌, length, take, drop, Option, Some, is_some, Result, is_ok, OnOk, OnErr, IsErrOf, IfOk}
+use Rattle.std.specs.Prelude.{◌≡◌, ◌⊎◌, ℕ, Bool, true, false, ◌+◌, ◌-◌, ◌≤◌, min, max, List, [], ◌∷◌, ◌++◌, length, take, drop, replicate, Option, Some, is_some, Result, is_ok, OnOk, OnErr, IsErrOf, IfOk}
 use Rattle.causes.specs.Causes.{Rose}
 use Rattle.disk_trait.specs.declared.disk.AttachFault.{AttachFault}
 use Rattle.disk_trait.specs.declared.disk.AttachFault.TheVariants.{Disk, Memory}
 use Rattle.disk_trait.specs.declared.disk.DiskFault.{DiskFault}
 
+-- an attach that was answered Ok: the name, and whether the file might be made
+pub record Attach : Type 0 where
+  pub name : List ℕ
+  pub make : Bool
+
 -- what is known of a drive: the bytes that a read gives, none where its content isn't known; the images that a crash now may leave; the
 -- clock, a number of moments; the images that a crash at some moment since an earlier one might have left; how often it has failed; what
--- each write, cut and sync so far has answered, true for Ok, in order, none where the drive keeps no such list; and that the last attach
--- that answered Ok had this name, and might make the file or not. A drive that keeps no names says that of each, and who knows no more of a
--- drive than the trait says it only of the name that was passed.
+-- each write, cut and sync so far has answered, true for Ok, in order, none where the drive keeps no such list; and the attaches so far that
+-- were answered Ok, in order, the last of which is that of its file, none where it keeps no such list.
 pub record Drive : Type 1 where
   pub bytes : Option (List ℕ)
   pub images : List ℕ → Type 0
@@ -17,7 +21,7 @@ pub record Drive : Type 1 where
   pub since : ℕ → List ℕ → Type 0
   pub faults : ℕ
   pub calls : Option (List Bool)
-  pub attached : List ℕ → Bool → Type 0
+  pub attaches : Option (List Attach)
 
 -- new is old with these bytes at this place
 abbrev pub Holds : List ℕ → ℕ → List ℕ → List ℕ → Type 0
@@ -50,13 +54,30 @@ pub record Elapses (old new : Drive) : Type 0 where
   pub nothing_else : (t : ℕ) (c : List ℕ) → t ≤ old.clock → new.since t c → old.since t c ⊎ new.images c
   pub keeps : (t : ℕ) (c : List ℕ) → t ≤ old.clock → old.since t c → new.since t c
 
--- The writes, cuts and syncs since answered so. A drive may keep its list no longer, and then nothing is said of what follows.
+-- A list has these more at its end. A drive may keep it no longer, and then nothing is said of what follows.
+abbrev pub Grows : {T : Type 0} → List T → Option (List T) → Option (List T) → Type 0
+Grows {T = T} more old new = (all : List T) → new ≡ Some all → (before : List T) × (old ≡ Some before) × (all ≡ before ++ more)
+
+-- a list has no more than before, where it's still kept
+abbrev pub HasNoMore : {T : Type 0} → Option (List T) → Option (List T) → Type 0
+HasNoMore {T = T} old new = (all : List T) → new ≡ Some all → old ≡ Some all
+
+-- the writes, cuts and syncs since answered so
 abbrev pub Made : List Bool → Drive → Drive → Type 0
-Made answers old new = (all : List Bool) → new.calls ≡ Some all → (before : List Bool) × (old.calls ≡ Some before) × (all ≡ before ++ answers)
+Made answers old new = Grows answers old.calls new.calls
 
 -- one such call was made, with this answer
 abbrev pub MadeOne : {T : Type 0} → Drive → Drive → Result T DiskFault → Type 0
 MadeOne old new result = Made (is_ok result ∷ []) old new
+
+-- so many such calls were made, and each was answered Ok
+abbrev pub MadeWell : ℕ → Drive → Drive → Type 0
+MadeWell n old new = Made (replicate n true) old new
+
+-- so many such calls went well, at most so many, the next one failed, and none was made after it
+pub record StopsAfter (most went_well : ℕ) (old new : Drive) : Type 0 where
+  pub few : went_well ≤ most
+  pub calls : Made (replicate went_well true ++ false ∷ []) old new
 
 -- a call that leaves the bytes and the images as they were, takes no time, and is in no list of calls
 pub record Stays (old new : Drive) : Type 0 where
@@ -65,11 +86,19 @@ pub record Stays (old new : Drive) : Type 0 where
   pub clock : new.clock ≡ old.clock
   pub since : (t : ℕ) (c : List ℕ) → new.since t c → old.since t c
   pub keeps : (t : ℕ) (c : List ℕ) → old.since t c → new.since t c
-  pub calls : (all : List Bool) → new.calls ≡ Some all → old.calls ≡ Some all
+  pub calls : HasNoMore old.calls new.calls
 
--- the file that was attached is still the one
+-- no attach was answered Ok since, so the file that was attached is still the one
 abbrev pub SameFile : Drive → Drive → Type 0
-SameFile old new = (name : List ℕ) (make : Bool) → old.attached name make → new.attached name make
+SameFile old new = HasNoMore old.attaches new.attaches
+
+-- one attach was, of this name, which might make the file or not
+abbrev pub AttachedOne : List ℕ → Bool → Drive → Drive → Type 0
+AttachedOne name make old new = Grows (record { name = name; make = make } ∷ []) old.attaches new.attaches
+
+-- that one was, or none
+abbrev pub AttachedAtMost : List ℕ → Bool → Drive → Drive → Type 0
+AttachedAtMost name make old new = AttachedOne name make old new ⊎ SameFile old new
 
 -- a call on the attached file: the count doesn't fall, a success leaves it, and a fault comes only where it rose
 pub record CountsFaults {T : Type 0} (old new : Drive) (result : Result T DiskFault) : Type 0 where
@@ -84,7 +113,7 @@ pub record CountsAttach {T : Type 0} (name : List ℕ) (make : Bool) (old new : 
   pub same : OnOk result (new.faults ≡ old.faults)
   pub memory : IsErrOf result Memory → new.faults ≡ old.faults
   pub failed : IsErrOf result Disk → Rose old.faults new.faults
-  pub named : OnOk result (new.attached name make)
+  pub named : OnOk result (AttachedOne name make old new)
   pub kept : OnErr result (SameFile old new)
 
 -- this place is at most the file's length, where that is known

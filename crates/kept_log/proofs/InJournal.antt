@@ -7,7 +7,6 @@ use Rattle.zorder.specs.declared.points.Placed.{Placed}
 use Rattle.cell_format.specs.declared.cell.Cell.{Cell}
 use Rattle.plain_list.specs.declared.entries.Entry.{Entry}
 use Rattle.plain_list.specs.declared.entries.Entry.TheVariants.{Fail, Call, Begin, Install, Abandon}
-use Rattle.plain_list.specs.declared.entries.Lost.{Lost}
 use Rattle.plain_list.specs.declared.ops.Op.{Op}
 use Rattle.plain_list.specs.World.{World}
 use Rattle.plain_list.specs.Answer.{answer_of, is_change}
@@ -123,7 +122,7 @@ module _ {D : Type 0} (drive : D → Drive) (cell : Cell) (old new : KeptView D)
   still_later was = omega (arith, was, later, ap (λ (d : D). (drive d).faults) opened.start)
 
   still_file : SameFile (drive old.disk) (drive new.disk) → SameFile (drive old.start) (drive old.disk) → SameFile (drive new.start) (drive new.disk)
-  still_file file was name make attached = file name make (was name make (subst (λ (d : D). (drive d).attached name make) opened.start attached))
+  still_file file was all told = ap (λ (d : D). (drive d).attaches) opened.start ∙ was all (file all told)
 
   pub leaves-next : LeavesNext drive cell (Some old) (Some new)
   leaves-next w s h e next kept first = leaves-either drive cell old new sound_log opened any_moment w s h e first next kept.keeps

@@ -47,7 +47,7 @@ reads_passed a b c first result fault stays same file is reads passed = record {
   later = omega (arith, same, reads.later);
   same = calm_passed a.faults b.faults c.faults first result fault same is reads.same passed;
   failed = λ disk. rose-earlier a.faults b.faults c.faults (omega (arith, same)) (reads.failed (is ∙ sym (ap (λ e. Err e) (err_same result fault passed disk))));
-  file = λ name make at. reads.file name make (file name make at);
+  file = λ all told. file all (reads.file all told);
 }
 
 pub reads_ok : {T U : Type 0} (a b c : Drive) (first : Result T OpenFault) (x : U) → Stays a b → b.faults ≡ a.faults → SameFile a b → c.faults ≡ b.faults → OnlyReads b c first → OnlyReads a c (Ok x)
@@ -56,7 +56,7 @@ reads_ok a b c first x stays same file next reads = record {
   later = omega (arith, same, reads.later);
   same = next ∙ same;
   failed = λ disk. cc disk;
-  file = λ name make at. reads.file name make (file name make at);
+  file = λ all told. file all (reads.file all told);
 }
 
 reaches_stays : (most len n : ℕ) (b c : Drive) (walk : WalkView) → Stays b c → Reaches most len n b walk → Reaches most len n c walk
@@ -77,7 +77,7 @@ module _ (most len n : ℕ) (before now : Drive) (first walk : WalkView) (buffer
     came = reaches_stays most len m now after new reads.stays on.1;
     stays = stays-trans before now after reading.stays reads.stays;
     same = same ∙ reading.same;
-    file = λ name make at. reads.file name make (reading.file name make at);
+    file = λ all told. reading.file all (reads.file all told);
     width = width ∙ reading.width;
     long = long;
   }
@@ -118,7 +118,7 @@ reads_after a b c result stays same file reads = record {
   later = omega (arith, same, reads.later);
   same = calm_after a.faults b.faults c.faults result same reads.same;
   failed = λ disk. rose-earlier a.faults b.faults c.faults (omega (arith, same)) (reads.failed disk);
-  file = λ name make at. reads.file name make (file name make at);
+  file = λ all told. file all (reads.file all told);
 }
 
 -- a reading that ends with the drive's fault, and one that ends since memory ran out

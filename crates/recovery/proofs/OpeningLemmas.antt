@@ -1,13 +1,14 @@
 -- What a crash leaves while a log is opened.
-use Rattle.std.proofs.Common.{◌≡◌, ◌≢◌, ℕ, ◌+◌, ◌*◌, ◌≤◌, inl, inr, ⊎_elim, List, ◌++◌, length, take, drop, Some, is_some, refl, sym, ◌∙◌, ap, subst, arith}
+use Rattle.std.proofs.Common.{◌≡◌, ◌≢◌, ◌⊎◌, ℕ, ◌+◌, ◌*◌, ◌<◌, ◌≤◌, inl, inr, ⊎_elim, true, false, List, [], ◌∷◌, ◌++◌, length, take, drop, Some, is_some, refl, sym, ◌∙◌, ap, subst, lit≤, arith}
 use Rattle.std.specs.Prelude.{Result, Ok, Err, IfOk, IsErrOf}
 use Rattle.std.specs.Result.{IsErrAnd}
 use Rattle.causes.specs.Causes.{Rose}
 use Rattle.std.proofs.lemmas.List.{take_at, take-append-drop}
 use Rattle.cell_format.specs.declared.cell.Cell.{Cell}
 use Rattle.disk_trait.specs.declared.disk.DiskFault.{DiskFault}
-use Rattle.disk_trait.specs.Drive.{Drive, SameFile, KeepsLaws, Stays, Shortened, Cuts, Syncs, Only, CountsFaults}
+use Rattle.disk_trait.specs.Drive.{Drive, HasNoMore, Made, MadeWell, SameFile, KeepsLaws, Stays, Shortened, Cuts, Syncs, Only, CountsFaults}
 use Rattle.disk_trait.specs.Moments.{LeavesNow, LeavesOnly}
+use Rattle.disk_trait.proofs.Calls.{made-then, made-still, still-made}
 use Rattle.disk_trait.proofs.Stretches.{started, goes_on}
 use Rattle.split_log.specs.LogText.{IsLogText, HoldsCells}
 use Rattle.split_log.proofs.Cells.{length-log}
@@ -17,7 +18,7 @@ use Rattle.log_state.specs.Recovers.{Recovers}
 use Rattle.recovery.specs.declared.seen.OpenFault.{OpenFault}
 use Rattle.recovery.specs.declared.seen.OpenFault.TheVariants.{Disk}
 use Rattle.recovery.specs.Found.{IsFound}
-use Rattle.recovery.specs.Opening.{KeepsCells, LeavesUnopened, IsReady, IsUntouched}
+use Rattle.recovery.specs.Opening.{KeepsCells, CallsToCut, CallsToOpen, CallsRefused, LeavesUnopened, IsReady, IsUntouched}
 use Rattle.recovery.specs.Reading.{IsFoundIn}
 
 -- one stretch after another
@@ -85,12 +86,20 @@ module _ (w most len : ℕ) (d0 d1 d2 : Drive) (seen : Seen) (laws0 : KeepsLaws 
       let now2 : LeavesNow d2 (Recovers w cells) = λ x left. now1 x (stays.images x left) in
       leaves-trans d0 d2 d3 (Recovers w cells) (leaves-trans d0 d1 d2 (Recovers w cells) first second) (cut w cells (found_cells bytes cells told now) now2)
 
+  -- which calls opened it, after the sync and the calls that only read
+  pub calls_open : (d3 : Drive) → MadeWell 1 d0 d1 → ((len ≡ 17 + 32 * seen.cells) × HasNoMore d2.calls d3.calls) ⊎ ((17 + 32 * seen.cells < len) × MadeWell 2 d2 d3) → CallsToOpen seen.cells d0 d3
+  calls_open d3 first (inl (at_end, none)) =
+      inl (λ bytes told. in_file.whole bytes (bytes_kept ∙ told) ∙ at_end, made-still (true ∷ []) d0 d1 d3 first (λ all told. stays.calls all (none all told)))
+  calls_open d3 first (inr (longer, more)) =
+      inr (λ bytes told. omega (arith, longer, in_file.whole bytes (bytes_kept ∙ told)), made-then (true ∷ []) (true ∷ true ∷ []) d0 d1 d3 first (still-made (true ∷ true ∷ []) d1 d2 d3 stays.calls more))
+
   -- cut where they end, the file is their log
-  pub is_ready : (d3 : Drive) → d3.faults ≡ d0.faults → SameFile d0 d3 → ((bytes : List ℕ) → d0.bytes ≡ Some bytes → Only bytes d1.images) → is_some d3.bytes ≡ is_some d2.bytes
+  pub is_ready : (d3 : Drive) → d3.faults ≡ d0.faults → SameFile d0 d3 → CallsToOpen seen.cells d0 d3 → ((bytes : List ℕ) → d0.bytes ≡ Some bytes → Only bytes d1.images) → is_some d3.bytes ≡ is_some d2.bytes
       → ((xs : List ℕ) → d2.bytes ≡ Some xs → Only xs d2.images → (d3.bytes ≡ Some (take (17 + 32 * seen.cells) xs)) × Only (take (17 + 32 * seen.cells) xs) d3.images) → IsReady w seen d0 d3
-  is_ready d3 same file only told_kept cut = record {
+  is_ready d3 same file calls only told_kept cut = record {
     same = same;
     file = file;
+    calls = calls;
     told = told_kept ∙ ap is_some (stays.bytes ∙ bytes_kept);
     log = λ bytes told.
         let recovers = in_file.found.recovers bytes (bytes_kept ∙ told) in
@@ -136,27 +145,51 @@ untouched-stays a b c first stays = record {
   since = λ t x le left. first.since t x le (stays.since t x left);
 }
 
+-- which calls were made up to a fault of the sync, of the calls that read, and of the cut or the sync behind it
+sync_refused : (a b : Drive) → Made (false ∷ []) a b → CallsRefused Disk a b
+sync_refused a b made = record { other = λ other. absurd (other refl); disk = inr (0, record { few = lit≤ tt; calls = made }) }
+
+read_refused : (a b c : Drive) (why : OpenFault) → MadeWell 1 a b → HasNoMore b.calls c.calls → CallsRefused why a c
+read_refused a b c why first still = record { other = λ other. made-still (true ∷ []) a b c first still; disk = inl (made-still (true ∷ []) a b c first still) }
+
+cut_refused : (a b c d : Drive) → MadeWell 1 a b → HasNoMore b.calls c.calls → Made (false ∷ []) c d ⊎ Made (true ∷ false ∷ []) c d → CallsRefused Disk a d
+cut_refused a b c d first still (inl at_cut) =
+    record { other = λ other. absurd (other refl); disk = inr (1, record { few = lit≤ tt; calls = made-then (true ∷ []) (false ∷ []) a b d first (still-made (false ∷ []) b c d still at_cut) }) }
+cut_refused a b c d first still (inr at_sync) =
+    record { other = λ other. absurd (other refl); disk = inr (2, record { few = lit≤ tt; calls = made-then (true ∷ []) (true ∷ false ∷ []) a b d first (still-made (true ∷ false ∷ []) b c d still at_sync) }) }
+
 -- an opening that is refused at its sync, at what was read, and at the cut
-pub refused_sync : {T : Type 0} (w most : ℕ) (a b : Drive) (result : Result T DiskFault) → Syncs a b result → LeavesUnopened w most a b Disk
-refused_sync w most a b result syncs = record {
+pub refused_sync : {T : Type 0} (w most : ℕ) (a b : Drive) (result : Result T DiskFault) → Syncs a b result → Made (false ∷ []) a b → SameFile a b → LeavesUnopened w most a b Disk
+refused_sync w most a b result syncs made file = record {
   unfailed = λ other. absurd (other refl);
   calm = λ other. absurd (other refl);
   no_log = λ bytes told none. untouched-sync a b result syncs;
+  calls = sync_refused a b made;
+  file = file;
 }
 
-pub refused_read : {T : Type 0} (w most : ℕ) (a b c : Drive) (result : Result T DiskFault) (fault : OpenFault) → Syncs a b result → Stays b c → b.faults ≡ a.faults → (fault ≢ Disk → c.faults ≡ b.faults) → LeavesUnopened w most a c fault
-refused_read w most a b c result fault syncs stays same calm = record {
+pub refused_read : {T : Type 0} (w most : ℕ) (a b c : Drive) (result : Result T DiskFault) (fault : OpenFault) → Syncs a b result → MadeWell 1 a b → Stays b c → b.faults ≡ a.faults → (fault ≢ Disk → c.faults ≡ b.faults) → SameFile a c → LeavesUnopened w most a c fault
+refused_read w most a b c result fault syncs made stays same calm file = record {
   unfailed = λ other. untouched-stays a b c (untouched-sync a b result syncs) stays;
   calm = λ other. calm other ∙ same;
   no_log = λ bytes told none. untouched-stays a b c (untouched-sync a b result syncs) stays;
+  calls = read_refused a b c fault made stays.calls;
+  file = file;
 }
 
-pub refused_cut : (w most : ℕ) (a b c : Drive) (seen : Seen) → b.bytes ≡ a.bytes → IsFound w most b seen → LeavesUnopened w most a c Disk
-refused_cut w most a b c seen kept found = record {
+pub refused_cut : (w most : ℕ) (a b c d : Drive) (seen : Seen) → b.bytes ≡ a.bytes → IsFound w most b seen → MadeWell 1 a b → Stays b c → Made (false ∷ []) c d ⊎ Made (true ∷ false ∷ []) c d → SameFile a d → LeavesUnopened w most a d Disk
+refused_cut w most a b c d seen kept found made stays failed file = record {
   unfailed = λ other. absurd (other refl);
   calm = λ other. absurd (other refl);
   no_log = λ bytes told none. absurd (none found.cells (found.recovers bytes (kept ∙ told)) found.few);
+  calls = cut_refused a b c d made stays.calls failed;
+  file = file;
 }
+
+-- the calls of a cut that failed, passed on
+pub cut_failed : {T : Type 0} (end len : ℕ) (a b : Drive) (result : Result T DiskFault) (fault : DiskFault) → IsErrAnd result (λ e. e ≡ fault) → Made (false ∷ []) a b ⊎ Made (true ∷ false ∷ []) a b → CallsToCut end len a b result
+cut_failed end len a b (Ok x) fault same calls = absurd same
+cut_failed end len a b (Err e) fault same calls = calls
 
 -- a fault of a device call, passed on
 pub counts_on : {T : Type 0} (a b : Drive) (result : Result T DiskFault) (fault : DiskFault) → IsErrAnd result (λ e. e ≡ fault) → a.faults ≤ b.faults → Rose a.faults b.faults → SameFile a b → CountsFaults a b result

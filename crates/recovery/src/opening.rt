@@ -9,7 +9,7 @@ ghost use Rattle.disk_trait.specs.Moments.{LeavesNow, LeavesOnly};
 ghost use Rattle.log_state.specs.Recovers.{Recovers};
 ghost use Rattle.recovery.specs.Faults.{IsFault, IsInBytes};
 ghost use Rattle.recovery.specs.Found.{IsFound, IsFree};
-ghost use Rattle.recovery.specs.Opening.{KeepsCells, LeavesUnopened, IsReady};
+ghost use Rattle.recovery.specs.Opening.{KeepsCells, CallsToCut, LeavesUnopened, IsReady};
 
 use crate::inspecting::read_log;
 use crate::seen::{OpenFault, OpenRefused, Opened, Seen};
@@ -85,6 +85,7 @@ fn cut_behind<D: LogDisk>(disk: &mut D, end: u64, len: u64) -> Result<(), DiskFa
     ensures told { OnOk result (is_some (D.drive disk.new).bytes ≡ is_some (D.drive disk.old).bytes) }
     ensures any_moment { (w : ℕ) (cells : List Cell) → end ≡ 17 + 32 * length cells → LeavesNow (D.drive disk.old) (Recovers w cells)
         → LeavesOnly (D.drive disk.old) (D.drive disk.new) (Recovers w cells) }
+    ensures calls { CallsToCut end len (D.drive disk.old) (D.drive disk.new) result }
     ensures cause { CountsFaults (D.drive disk.old) (D.drive disk.new) result }
 {
     if len > end {

@@ -1,9 +1,9 @@
 -- What an append finds, and what it leaves.
-use Rattle.std.specs.Prelude.{◌≡◌, ℕ, ◌+◌, ◌≤◌, true, false, List, [], ◌∷◌, ◌++◌, replicate, Option, Some, None, is_some}
+use Rattle.std.specs.Prelude.{◌≡◌, ℕ, ◌+◌, ◌≤◌, List, [], ◌∷◌, ◌++◌, Option, Some, None, is_some}
 use Rattle.causes.specs.Causes.{Rose}
 use Rattle.cell_format.specs.declared.cell.Cell.{Cell}
 use Rattle.cell_format.specs.Spelling.{IsCell, body_of}
-use Rattle.disk_trait.specs.Drive.{Drive, Made, SameFile}
+use Rattle.disk_trait.specs.Drive.{Drive, MadeWell, StopsAfter, SameFile}
 use Rattle.disk_trait.specs.Moments.{LeavesOnly, LeavesNow}
 use Rattle.split_log.specs.LogText.{IsLog, HoldsCells, HoldsEither, IsStaged}
 
@@ -19,21 +19,16 @@ pub record StandsAfter (width : ℕ) (cells : List Cell) (cell : Cell) (went_wel
   pub unstaged : went_well ≤ 1 → LeavesOnly old new (HoldsCells width cells)
   pub staged : 2 ≤ went_well → LeavesNow new (IsStaged width cells cell)
 
--- so many of the four calls went well, the next one failed, and none was made after it
-pub record StopsAfter (went_well : ℕ) (old new : Drive) : Type 0 where
-  pub few : went_well ≤ 3
-  pub calls : Made (replicate went_well true ++ false ∷ []) old new
-
 -- an append of a piece stopped at a fault
 pub record Breaks (piece : List ℕ) (old new : Drive) : Type 0 where
   pub went_well : ℕ
-  pub stops : StopsAfter went_well old new
+  pub stops : StopsAfter 3 went_well old new
   pub leaves : (w : ℕ) (cells : List Cell) (cell : Cell) → IsReady w cells cell piece old → StandsAfter w cells cell went_well old new
 
 -- an append of a cell stopped at a fault
 pub record BreaksOff (cell : Cell) (old new : Drive) : Type 0 where
   pub went_well : ℕ
-  pub stops : StopsAfter went_well old new
+  pub stops : StopsAfter 3 went_well old new
   pub leaves : (w : ℕ) (cells : List Cell) → IsLog w cells old → StandsAfter w cells cell went_well old new
 
 -- the cell was added: there is one more, and a crash leaves it behind the others
@@ -43,7 +38,7 @@ pub record Adds (cell : Cell) (before after : ℕ) (failed : Option ℕ) (old ne
   pub log : (w : ℕ) (cells : List Cell) → IsLog w cells old → IsLog w (cells ++ cell ∷ []) new
   pub told : is_some new.bytes ≡ is_some old.bytes
   -- four calls were made, and none failed
-  pub calls : Made (replicate 4 true) old new
+  pub calls : MadeWell 4 old new
   pub same : new.faults ≡ old.faults
   pub file : SameFile old new
 

@@ -1,6 +1,6 @@
 //! The four device calls that add a cell.
-ghost use Rattle.std.specs.Prelude.{◌≡◌, ◌+◌, ◌≤◌, ◌^◌, ◌∷◌, [], ◌++◌, true, ℕ, List, Some, OnOk, OnErr, is_some, length, replicate};
-ghost use Rattle.disk_trait.specs.Drive.{CountsFaults, Made};
+ghost use Rattle.std.specs.Prelude.{◌≡◌, ◌+◌, ◌≤◌, ◌^◌, ◌∷◌, [], ◌++◌, ℕ, List, Some, OnOk, OnErr, is_some, length};
+ghost use Rattle.disk_trait.specs.Drive.{CountsFaults, MadeWell};
 ghost use Rattle.disk_trait.specs.Moments.{LeavesOnly};
 ghost use Rattle.cell_format.specs.declared.cell.Cell.{Cell};
 ghost use Rattle.cell_format.specs.Spelling.{IsCell, body_of};
@@ -19,7 +19,7 @@ pub(crate) fn place<D: LogDisk>(disk: &mut D, at: u64, piece: &[u8]) -> Result<(
         → LeavesOnly (D.drive disk.old) (D.drive disk.new) (HoldsEither w cells cell) }
     ensures placed { OnOk result ((w : ℕ) (cells : List Cell) (cell : Cell) → IsReady w cells cell piece.now (D.drive disk.old)
         → IsLog w (cells ++ cell ∷ []) (D.drive disk.new)) }
-    ensures calls { OnOk result (Made (replicate 4 true) (D.drive disk.old) (D.drive disk.new)) }
+    ensures calls { OnOk result (MadeWell 4 (D.drive disk.old) (D.drive disk.new)) }
     ensures unplaced { OnErr result (Breaks piece.now (D.drive disk.old) (D.drive disk.new)) }
     ensures told { is_some (D.drive disk.new).bytes ≡ is_some (D.drive disk.old).bytes }
     ensures cause { CountsFaults (D.drive disk.old) (D.drive disk.new) result }

@@ -34,7 +34,7 @@ pub returns-clause-reads : goal.returns-clause-reads
 returns-clause-reads g c =
     reads_after (g.D.LogDisk.drive c.args.disk.now) (g.D.LogDisk.drive c.test_header.new.disk) (g.D.LogDisk.drive c.read_cells.new.disk) c.read_cells.result
     (stays-trans (g.D.LogDisk.drive c.args.disk.now) (g.D.LogDisk.drive c.len.new.self) (g.D.LogDisk.drive c.test_header.new.disk) c.len.ensures.stays c.test_header.ensures.reads.stays)
-    (c.in_ok-test_header.ensures.reads.same ∙ c.in_ok-len.ensures.cause.same) (λ name make at. c.test_header.ensures.reads.file name make (c.len.ensures.cause.file name make at)) c.read_cells.ensures.reads
+    (c.in_ok-test_header.ensures.reads.same ∙ c.in_ok-len.ensures.cause.same) (λ all told. c.len.ensures.cause.file all (c.test_header.ensures.reads.file all told)) c.read_cells.ensures.reads
 
 pub returns-in_err-len-clause-found : goal.returns-in_err-len-clause-found
 returns-in_err-len-clause-found g c =
@@ -68,4 +68,4 @@ returns-in_err-test_header-clause-reads g c =
 pub returns-in_err-walk-clause-reads : goal.returns-in_err-walk-clause-reads
 returns-in_err-walk-clause-reads g c =
     reads_memory (g.D.LogDisk.drive c.args.disk.now) (g.D.LogDisk.drive c.test_header.new.disk) c.from_residual-in_err-walk.result c.from_residual-in_err-walk.ensures.1 (stays-trans (g.D.LogDisk.drive c.args.disk.now) (g.D.LogDisk.drive c.len.new.self) (g.D.LogDisk.drive c.test_header.new.disk) c.len.ensures.stays c.test_header.ensures.reads.stays)
-    (c.in_ok-test_header.ensures.reads.same ∙ c.in_ok-len.ensures.cause.same) (λ name make at. c.test_header.ensures.reads.file name make (c.len.ensures.cause.file name make at))
+    (c.in_ok-test_header.ensures.reads.same ∙ c.in_ok-len.ensures.cause.same) (λ all told. c.len.ensures.cause.file all (c.test_header.ensures.reads.file all told))

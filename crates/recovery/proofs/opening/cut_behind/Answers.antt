@@ -1,8 +1,9 @@
 use Rattle.log_state.specs.Recovers.{Recovers}
-use Rattle.std.proofs.Common.{Some, take, is_some, sym, ap, ◌∙◌, arith}
+use Rattle.std.proofs.Common.{inl, inr, true, false, [], ◌∷◌, Some, take, is_some, sym, ap, ◌∙◌, arith}
 use Rattle.std.proofs.lemmas.List.{take_all}
+use Rattle.disk_trait.proofs.Calls.{made-then}
 use Rattle.recovery.proofs.MakingLemmas.{not_made}
-use Rattle.recovery.proofs.OpeningLemmas.{leaves-trans, leaves-sync, leaves-cut, counts_on}
+use Rattle.recovery.proofs.OpeningLemmas.{leaves-trans, leaves-sync, leaves-cut, cut_failed, counts_on}
 use Rattle.recovery.proofs.opening.cut_behind.Goals as goal
 
 pub returns-in_err-cut-clause-any_moment : goal.returns-in_err-cut-clause-any_moment
@@ -45,7 +46,7 @@ pub returns-in_err-sync-clause-cause : goal.returns-in_err-sync-clause-cause
 returns-in_err-sync-clause-cause g c =
     counts_on (g.D.LogDisk.drive c.args.disk.now) (g.D.LogDisk.drive c.sync.new.self) c.from_residual-in_err-sync.result _ c.from_residual-in_err-sync.ensures.1
     (omega (arith, c.cut.ensures.cause.later, c.sync.ensures.cause.later)) (omega (arith, c.cut.ensures.cause.later, c.in_err-sync.ensures.cause.failed))
-    (λ name make at. c.sync.ensures.cause.file name make (c.cut.ensures.cause.file name make at))
+    (λ all told. c.cut.ensures.cause.file all (c.sync.ensures.cause.file all told))
 
 pub returns-in_ok-sync-clause-done : goal.returns-in_ok-sync-clause-done
 returns-in_ok-sync-clause-done g c =
@@ -62,10 +63,27 @@ returns-in_ok-sync-clause-cause g c = record {
   later = omega (arith, c.cut.ensures.cause.later, c.sync.ensures.cause.later);
   same = c.in_ok-sync.ensures.cause.same ∙ c.in_ok-cut.ensures.cause.same;
   failed = tt;
-  file = λ name make at. c.sync.ensures.cause.file name make (c.cut.ensures.cause.file name make at);
+  file = λ all told. c.cut.ensures.cause.file all (c.sync.ensures.cause.file all told);
 }
 
 pub returns-else-len-end-clause-done : goal.returns-else-len-end-clause-done
 returns-else-len-end-clause-done g c xs told only =
     let whole = take_all c.args.end xs (omega (arith, c.requires.whole xs told, c.if-len-end.false)) in
     (told ∙ ap Some (sym whole), λ image left. only image left ∙ sym whole)
+
+pub returns-in_err-cut-clause-calls : goal.returns-in_err-cut-clause-calls
+returns-in_err-cut-clause-calls g c =
+    cut_failed c.args.end c.args.len (g.D.LogDisk.drive c.args.disk.now) (g.D.LogDisk.drive c.cut.new.self) c.from_residual.result _ c.from_residual.ensures.1 (inl c.in_err-cut.ensures.made)
+
+pub returns-in_err-sync-clause-calls : goal.returns-in_err-sync-clause-calls
+returns-in_err-sync-clause-calls g c =
+    cut_failed c.args.end c.args.len (g.D.LogDisk.drive c.args.disk.now) (g.D.LogDisk.drive c.sync.new.self) c.from_residual-in_err-sync.result _ c.from_residual-in_err-sync.ensures.1
+    (inr (made-then (true ∷ []) (false ∷ []) (g.D.LogDisk.drive c.args.disk.now) (g.D.LogDisk.drive c.cut.new.self) (g.D.LogDisk.drive c.sync.new.self) c.in_ok-cut.ensures.made c.in_err-sync.ensures.made))
+
+pub returns-in_ok-sync-clause-calls : goal.returns-in_ok-sync-clause-calls
+returns-in_ok-sync-clause-calls g c =
+    inr (c.if-len-end.true, made-then (true ∷ []) (true ∷ []) (g.D.LogDisk.drive c.args.disk.now) (g.D.LogDisk.drive c.cut.new.self) (g.D.LogDisk.drive c.sync.new.self) c.in_ok-cut.ensures.made c.in_ok-sync.ensures.made)
+
+pub returns-else-len-end-clause-calls : goal.returns-else-len-end-clause-calls
+returns-else-len-end-clause-calls g c =
+    inl (omega (arith, c.requires.within, c.if-len-end.false), λ all told. told)

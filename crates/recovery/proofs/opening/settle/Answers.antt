@@ -2,7 +2,7 @@ use Rattle.std.proofs.Common.{Err, ap, sym, ◌∙◌, arith}
 use Rattle.log_state.specs.Recovers.{Recovers}
 use Rattle.recovery.proofs.PieceLemmas.{passed_on}
 use Rattle.recovery.proofs.OnlyReading.{found_before}
-use Rattle.recovery.proofs.OpeningLemmas.{leaves-stays, leaves-sync, leaves-trans, keeps_cells, is_ready, not_ok, rose_on, refused_sync, refused_read, refused_cut}
+use Rattle.recovery.proofs.OpeningLemmas.{leaves-stays, leaves-sync, leaves-trans, keeps_cells, calls_open, is_ready, not_ok, rose_on, refused_sync, refused_read, refused_cut}
 use Rattle.recovery.proofs.opening.settle.Goals as goal
 
 pub returns-in_err-sync-clause-found : goal.returns-in_err-sync-clause-found
@@ -19,7 +19,7 @@ returns-in_err-sync-clause-fault g c =
 
 pub returns-in_err-sync-clause-untouched : goal.returns-in_err-sync-clause-untouched
 returns-in_err-sync-clause-untouched g c =
-    passed_on c.from_residual.result _ _ c.from_residual.ensures.1 (refused_sync c.args.width c.args.most (g.D.LogDisk.drive c.args.disk.now) (g.D.LogDisk.drive c.sync.new.self) c.sync.result c.sync.ensures.syncs)
+    passed_on c.from_residual.result _ _ c.from_residual.ensures.1 (refused_sync c.args.width c.args.most (g.D.LogDisk.drive c.args.disk.now) (g.D.LogDisk.drive c.sync.new.self) c.sync.result c.sync.ensures.syncs c.in_err-sync.ensures.made c.sync.ensures.cause.file)
 
 pub returns-in_err-sync-clause-rose : goal.returns-in_err-sync-clause-rose
 returns-in_err-sync-clause-rose g c =
@@ -44,7 +44,8 @@ returns-in_err-found-clause-fault g c =
 pub returns-in_err-found-clause-untouched : goal.returns-in_err-found-clause-untouched
 returns-in_err-found-clause-untouched g c =
     passed_on c.from_residual-in_err-found.result _ _ c.from_residual-in_err-found.ensures.1
-    (refused_read c.args.width c.args.most (g.D.LogDisk.drive c.args.disk.now) (g.D.LogDisk.drive c.sync.new.self) (g.D.LogDisk.drive c.read_log.new.disk) c.sync.result _ c.sync.ensures.syncs c.read_log.ensures.reads.stays c.in_ok-sync.ensures.cause.same c.in_err-found.ensures.reads.same)
+    (refused_read c.args.width c.args.most (g.D.LogDisk.drive c.args.disk.now) (g.D.LogDisk.drive c.sync.new.self) (g.D.LogDisk.drive c.read_log.new.disk) c.sync.result _ c.sync.ensures.syncs c.in_ok-sync.ensures.made c.read_log.ensures.reads.stays c.in_ok-sync.ensures.cause.same c.in_err-found.ensures.reads.same
+    (λ all told. c.sync.ensures.cause.file all (c.read_log.ensures.reads.file all told)))
 
 pub returns-in_err-found-clause-rose : goal.returns-in_err-found-clause-rose
 returns-in_err-found-clause-rose g c =
@@ -69,7 +70,9 @@ returns-in_err-cut_behind-clause-fault g c =
 
 pub returns-in_err-cut_behind-clause-untouched : goal.returns-in_err-cut_behind-clause-untouched
 returns-in_err-cut_behind-clause-untouched g c =
-    passed_on c.from_residual-in_err-cut_behind.result _ _ c.from_residual-in_err-cut_behind.ensures.1 (refused_cut c.args.width c.args.most (g.D.LogDisk.drive c.args.disk.now) (g.D.LogDisk.drive c.sync.new.self) (g.D.LogDisk.drive c.cut_behind.new.disk) c.in_ok-found.found.seen c.sync.ensures.syncs.bytes c.in_ok-found.ensures.found.found)
+    passed_on c.from_residual-in_err-cut_behind.result _ _ c.from_residual-in_err-cut_behind.ensures.1 (refused_cut c.args.width c.args.most (g.D.LogDisk.drive c.args.disk.now) (g.D.LogDisk.drive c.sync.new.self) (g.D.LogDisk.drive c.read_log.new.disk) (g.D.LogDisk.drive c.cut_behind.new.disk) c.in_ok-found.found.seen
+    c.sync.ensures.syncs.bytes c.in_ok-found.ensures.found.found c.in_ok-sync.ensures.made c.read_log.ensures.reads.stays c.in_err-cut_behind.ensures.calls
+    (λ all told. c.sync.ensures.cause.file all (c.read_log.ensures.reads.file all (c.cut_behind.ensures.cause.file all told))))
 
 pub returns-in_err-cut_behind-clause-rose : goal.returns-in_err-cut_behind-clause-rose
 returns-in_err-cut_behind-clause-rose g c =
@@ -133,10 +136,12 @@ pub returns-clause-ready : goal.returns-clause-ready
 returns-clause-ready g c =
     let drive = g.D.LogDisk.drive in
     let laws = g.met.D.LogDisk.keeps_laws in
+    let calls = calls_open c.args.width c.args.most c.in_ok-found.found.len (drive c.args.disk.now) (drive c.sync.new.self) (drive c.read_log.new.disk) c.in_ok-found.found.seen (laws c.args.disk.now) (laws c.sync.new.self)
+    c.sync.ensures.syncs.bytes c.sync.ensures.syncs.crash c.in_ok-found.ensures.found c.read_log.ensures.reads.stays (drive c.cut_behind.new.disk) c.in_ok-sync.ensures.made c.in_ok-cut_behind.ensures.calls in
     is_ready c.args.width c.args.most c.in_ok-found.found.len (drive c.args.disk.now) (drive c.sync.new.self) (drive c.read_log.new.disk) c.in_ok-found.found.seen (laws c.args.disk.now) (laws c.sync.new.self)
     c.sync.ensures.syncs.bytes c.sync.ensures.syncs.crash c.in_ok-found.ensures.found c.read_log.ensures.reads.stays (drive c.cut_behind.new.disk)
     (c.in_ok-cut_behind.ensures.cause.same ∙ c.in_ok-found.ensures.reads.same ∙ c.in_ok-sync.ensures.cause.same)
-    (λ name make at. c.cut_behind.ensures.cause.file name make (c.read_log.ensures.reads.file name make (c.sync.ensures.cause.file name make at)))
+    (λ all told. c.sync.ensures.cause.file all (c.read_log.ensures.reads.file all (c.cut_behind.ensures.cause.file all told))) calls
     c.in_ok-sync.ensures.syncs.done c.in_ok-cut_behind.ensures.told c.in_ok-cut_behind.ensures.done
 
 pub cut_behind-requires-clause-within : goal.cut_behind-requires-clause-within

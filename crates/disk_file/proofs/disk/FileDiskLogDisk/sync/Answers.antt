@@ -3,7 +3,7 @@ use Rattle.disk_file.proofs.Untold.{untold-syncs}
 use Rattle.disk_file.proofs.disk.FileDiskLogDisk.sync.Goals as goal
 
 pub returns-clause-syncs : goal.returns-clause-syncs
-returns-clause-syncs g c = untold-syncs c.args.self.now.attached c.counted.new.self.attached c.args.self.now.faults c.counted.new.self.faults c.counted.result
+returns-clause-syncs g c = untold-syncs c.args.self.now.faults c.counted.new.self.faults c.counted.result
 
 pub returns-clause-serves : goal.returns-clause-serves
 returns-clause-serves g c = search rules

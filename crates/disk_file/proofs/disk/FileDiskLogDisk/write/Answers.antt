@@ -2,4 +2,4 @@ use Rattle.disk_file.proofs.Untold.{untold-writes}
 use Rattle.disk_file.proofs.disk.FileDiskLogDisk.write.Goals as goal
 
 pub returns-clause-writes : goal.returns-clause-writes
-returns-clause-writes g c = untold-writes c.args.self.now.attached c.counted.new.self.attached c.args.self.now.faults c.counted.new.self.faults c.args.at c.args.piece.now c.counted.result
+returns-clause-writes g c = untold-writes c.args.self.now.faults c.counted.new.self.faults c.args.at c.args.piece.now c.counted.result
