@@ -1,5 +1,5 @@
 -- What an attach and what follows it come to.
-use Rattle.std.proofs.Common.{◌≡◌, ◌⊎◌, inl, inr, ◌∙◌, ℕ, ◌≤◌, Bool, List, length, Some, Result, Err, refl, ap, subst, arith}
+use Rattle.std.proofs.Common.{◌≡◌, ◌⊎◌, inl, inr, ◌∙◌, ℕ, ◌≤◌, Bool, true, List, [], ◌∷◌, length, Some, Result, Err, refl, ap, subst, arith}
 use Rattle.std.specs.Prelude.{IfErr, ◌≢◌}
 use Rattle.std.specs.Result.{IsErrAnd}
 use Rattle.causes.specs.Causes.{Rose}
@@ -17,6 +17,7 @@ use Rattle.recovery.specs.declared.seen.InitFault.{InitFault}
 use Rattle.recovery.specs.declared.seen.InitFault.TheVariants as init_fault
 use Rattle.recovery.specs.declared.seen.OpenFault.{OpenFault}
 use Rattle.recovery.specs.declared.seen.OpenFault.TheVariants as open_fault
+use Rattle.disk_trait.proofs.Calls.{still-made}
 use Rattle.recovery.proofs.OnlyReading.{rose-earlier, stays-trans}
 use Rattle.recovery.proofs.OpeningLemmas.{leaves-trans, leaves-stays}
 use Rattle.csv_rows.specs.declared.rows.Refusal.TheVariants as refusal
@@ -28,7 +29,8 @@ use Rattle.run_ends.specs.Status.{status_of}
 use Rattle.run_ends.proofs.LogFaults.{reading-after, calm-free, calm-named}
 
 pub makes-after : (a b c : Drive) → Stays a b → b.faults ≡ a.faults → Makes 1 b c → Makes 1 a c
-makes-after a b c stays calm makes = record { log = λ bytes told. makes.log bytes (stays.bytes ∙ told); same = makes.same ∙ calm }
+makes-after a b c stays calm makes =
+    record { log = λ bytes told. makes.log bytes (stays.bytes ∙ told); same = makes.same ∙ calm; calls = still-made (true ∷ true ∷ []) a b c stays.calls makes.calls }
 
 -- a log in which something is at fault
 pub checking-after : (a b c : Drive) (result : Result Seen OpenFault) (fault : OpenFault) → result ≡ Err fault → Stays a b → a.faults ≤ b.faults
@@ -58,7 +60,7 @@ leaves-made a b c laws stays later keeps = record {
 -- why no log is made of the attached file
 pub cause-made : (a b c : Drive) (cause : InitFault) → Stays a b → a.faults ≤ b.faults → RefusesInit b c cause → IsMakingCause a c (making_refusal cause)
 cause-made a b c (init_fault.InUse len) stays later refuses = (refuses.0, (λ bytes told. refuses.1 bytes (stays.bytes ∙ told)), stays-trans a b c stays refuses.2)
-cause-made a b c init_fault.Disk stays later rose = rose-earlier a.faults b.faults c.faults later rose
+cause-made a b c init_fault.Disk stays later fails = rose-earlier a.faults b.faults c.faults later fails.rose
 
 pub calm-made : (a b c : Drive) (cause : InitFault) → b.faults ≡ a.faults → RefusesInit b c cause → status_of (making_refusal cause) ≢ 7 → c.faults ≡ a.faults
 calm-made a b c (init_fault.InUse len) same refuses other = refuses.3 ∙ same
@@ -82,11 +84,6 @@ module _ {T : Type 0} (name : List ℕ) (make : Bool) (a b : Drive) where
   decided-attached attach_fault.Disk counts =
       record { exact = λ bytes what told shown wrong calm. absurd (calm (counts.failed refl)); whole = λ bytes cells told text few calm. absurd (calm (counts.failed refl)) }
   decided-attached attach_fault.Memory counts = record { exact = λ bytes what told shown wrong calm. inr refl; whole = λ bytes cells told text few calm. refl }
-
--- a file that isn't attached has status 7 or 9
-pub not-attached : (P : Type 0) (fault : AttachFault) → status_of (attach_refusal fault) ≢ 7 → status_of (attach_refusal fault) ≢ 9 → P
-not-attached P attach_fault.Disk drive memory = absurd (drive refl)
-not-attached P attach_fault.Memory drive memory = absurd (memory refl)
 
 -- what was found behind an attach
 pub found-after : (most : ℕ) (a b : Drive) (seen : Seen) → Stays a b → IsFound 1 most b seen → IsFound 1 most a seen

@@ -4,7 +4,7 @@ use Rattle.std.specs.Prelude.{◌≢◌}
 use Rattle.causes.specs.Causes.{Rose, Counts}
 use Rattle.io_edge.specs.Puts.{Puts}
 use Rattle.io_edge.specs.Streams.{Output}
-use Rattle.disk_trait.specs.Drive.{Drive}
+use Rattle.disk_trait.specs.Drive.{Drive, AttachedOne}
 use Rattle.recovery.specs.Making.{Makes}
 use Rattle.csv_rows.specs.declared.rows.Refusal.{Refusal}
 use Rattle.csv_rows.specs.declared.rows.Refusal.TheVariants as refusal
@@ -12,6 +12,8 @@ use Rattle.csv_rows.specs.LogLines.{made_line}
 use Rattle.run_ends.specs.Limits.{width}
 use Rattle.run_ends.specs.Ends.{Targets}
 use Rattle.run_ends.specs.Ending.{EndsWriting}
+use Rattle.run_ends.specs.Attaching.{AttachesOnce}
+use Rattle.run_ends.proofs.Attaching.{attaches-one, attaches-as}
 use Rattle.run_ends.specs.Status.{status_of, written_status}
 use Rattle.run_ends.specs.Taking.{Refuses}
 use Rattle.log_run.specs.Making.{IsMakingCause, LeavesFile, EndsMaking}
@@ -31,7 +33,7 @@ not-ten (Err e) ten = omega (arith, ten)
 
 -- a log was made
 pub ends-made : {D T E : Type 0} (file : List ℕ) (old new : Targets D) (wrote : Result T E) → Puts old.output.taken new.output.taken made_line wrote → Counts old.output.faults new.output.faults wrote
-    → Makes width old.drive new.drive → new.drive.attached file true → LeavesFile old.drive new.drive → EndsMaking file old new (written_status wrote)
+    → Makes width old.drive new.drive → AttachedOne file true old.drive new.drive → LeavesFile old.drive new.drive → EndsMaking file old new (written_status wrote)
 ends-made file old new wrote puts counts made attached leaves = record {
   ends = inl (made, ends-writing made_line old.output new.output wrote puts counts);
   in_use = λ ten. absurd (not-ten wrote ten);
@@ -39,7 +41,7 @@ ends-made file old new wrote puts counts made attached leaves = record {
   whole = λ bytes told small calm quiet. inl (whole-writing old.output.faults new.output.faults wrote counts quiet);
   leaves = leaves;
   calm = λ other. made.same;
-  attached = λ drive memory. attached;
+  attached = attaches-one file true old.drive new.drive (written_status wrote) attached;
 }
 
 -- what the bytes say of a refusal
@@ -71,7 +73,7 @@ bears old new (refusal.InUse len) cause = record {
 
 -- none was made
 pub ends-unmade : {D : Type 0} (file : List ℕ) (old new : Targets D) (why : Refusal) (status : ℕ) → Refuses why status old.output new.output → IsMakingCause old.drive new.drive why
-    → (status_of why ≢ 7 → status_of why ≢ 9 → new.drive.attached file true) → (status_of why ≢ 7 → new.drive.faults ≡ old.drive.faults) → LeavesFile old.drive new.drive → EndsMaking file old new status
+    → AttachesOnce file true old.drive new.drive (status_of why) → (status_of why ≢ 7 → new.drive.faults ≡ old.drive.faults) → LeavesFile old.drive new.drive → EndsMaking file old new status
 ends-unmade file old new why status refuses cause attached calm leaves =
     let is = refuses.status_is in
     let it = bears old.drive new.drive why cause in
@@ -82,5 +84,5 @@ ends-unmade file old new why status refuses cause attached calm leaves =
       whole = λ bytes told small steady quiet. rw is (it.whole bytes told small steady);
       leaves = leaves;
       calm = λ other. calm (λ e. other (is ∙ e));
-      attached = λ drive memory. attached (λ e. drive (is ∙ e)) (λ e. memory (is ∙ e));
+      attached = attaches-as file true old.drive new.drive status (status_of why) is attached;
     }

@@ -2,7 +2,7 @@
 use Rattle.std.specs.Prelude.{◌≡◌, ◌≢◌, ◌⊎◌, ◌≤◌, ℕ, List, [], length, Some, None, false, ⊤, Result, IfErr}
 use Rattle.std.specs.Result.{IsErrAnd}
 use Rattle.causes.specs.Causes.{Rose}
-use Rattle.disk_trait.specs.Drive.{Drive, Stays}
+use Rattle.disk_trait.specs.Drive.{Drive, AttachedOne, Stays}
 use Rattle.disk_trait.specs.declared.disk.AttachFault.{AttachFault}
 use Rattle.disk_trait.specs.declared.disk.AttachFault.TheVariants as attach_fault
 use Rattle.plain_list.specs.declared.entries.Entry.{Entry}
@@ -23,6 +23,7 @@ use Rattle.io_edge.specs.Streams.{Output}
 use Rattle.run_ends.specs.Ends.{Ends, Targets, IsQuiet}
 use Rattle.run_ends.specs.Taking.{Refuses}
 use Rattle.run_ends.specs.Ending.{EndsWriting, EndsRefused}
+use Rattle.run_ends.specs.Attaching.{AttachesOnce}
 
 -- why a log isn't told
 abbrev pub IsCheckingCause : Drive → Drive → Refusal → Type 0
@@ -47,14 +48,14 @@ counts_of seen = record { cells = seen.cells; points = length seen.world; leaves
 abbrev pub checked_text : List Cell → List ℕ
 checked_text cells = counts_text (counts_after cells)
 
--- a log was read: this file is attached, and no call of its drive has failed
+-- a log was read: this file was attached, and no call of its drive has failed
 pub record HasRead (file : List ℕ) (old new : Drive) : Type 0 where
-  pub attached : new.attached file false
+  pub attached : AttachedOne file false old new
   pub calm : new.faults ≡ old.faults
 
 -- the same where a log isn't told, unless the drive is told to have failed, or of the file, that memory ran out
 pub record HasReadUnless (file : List ℕ) (old new : Drive) (why : Refusal) : Type 0 where
-  pub attached : status_of why ≢ 7 → status_of why ≢ 9 → new.attached file false
+  pub attached : AttachesOnce file false old new (status_of why)
   pub calm : status_of why ≢ 7 → new.faults ≡ old.faults
 
 -- the text of the cells that were found
@@ -82,7 +83,7 @@ pub record EndsTelling {D : Type 0} (text : List Cell → List ℕ) (file : List
   -- the drive's count is as it was, but where it is what is told to have failed
   pub calm : status ≢ 7 → new.drive.faults ≡ old.drive.faults
   -- this file is attached, and none is made
-  pub attached : status ≢ 7 → status ≢ 9 → new.drive.attached file false
+  pub attached : AttachesOnce file false old.drive new.drive status
 
 -- the four lines or the line of a refusal
 abbrev pub EndsChecking : {D : Type 0} → List ℕ → Targets D → Targets D → ℕ → Type 0

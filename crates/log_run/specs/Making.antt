@@ -14,6 +14,7 @@ use Rattle.run_ends.specs.Limits.{width}
 use Rattle.io_edge.specs.Streams.{Output}
 use Rattle.run_ends.specs.Ends.{Ends, Targets, IsQuiet}
 use Rattle.run_ends.specs.Ending.{EndsWriting, EndsRefused}
+use Rattle.run_ends.specs.Attaching.{AttachesOnce}
 
 -- the refusal of a fault of making
 abbrev pub making_refusal : InitFault → Refusal
@@ -49,7 +50,7 @@ pub record EndsMaking {D : Type 0} (file : List ℕ) (old new : Targets D) (stat
   -- the drive's count is as it was, but where it is what is told to have failed
   pub calm : status ≢ 7 → new.drive.faults ≡ old.drive.faults
   -- this file is attached, and made where it isn't there
-  pub attached : status ≢ 7 → status ≢ 9 → new.drive.attached file true
+  pub attached : AttachesOnce file true old.drive new.drive status
 
 -- what `init` promises
 abbrev pub Inits : {S D : Type 0} → List ℕ → Ends S D → Ends S D → ℕ → List Entry → Type 0

@@ -1,9 +1,11 @@
 //! The command `init`: makes a log in a file.
 ghost use Rattle.std.specs.Prelude.{◌≡◌, ◌≢◌, [], true, IfOk, IfErr, MatchResult};
+ghost use Rattle.disk_trait.specs.Drive.{AttachedOne};
 ghost use Rattle.recovery.specs.Making.{Makes};
 ghost use Rattle.run_ends.specs.Limits.{width};
 ghost use Rattle.run_ends.specs.Ends.{targets};
 ghost use Rattle.run_ends.specs.Status.{status_of};
+ghost use Rattle.run_ends.specs.Attaching.{AttachesOnce};
 ghost use Rattle.log_run.specs.Making.{IsMakingCause, LeavesFile, EndsMaking, making_refusal};
 
 use csv_rows::{Refusal, write_made};
@@ -31,8 +33,8 @@ pub fn make_log<K: Sink, D: LogDisk>(alloc: Global, file: &str, sink: &mut K, di
 fn make_in<D: LogDisk>(alloc: Global, file: &str, mut disk: D) -> Result<D, Unmade<D>>
     ensures made { IfOk result (λ new. Makes width (D.drive disk) (D.drive new)) }
     ensures cause { IfErr result (λ e. IsMakingCause (D.drive disk) (D.drive e.disk) e.why) }
-    ensures attached { MatchResult result (λ new. (D.drive new).attached file.now true)
-        (λ e. status_of e.why ≢ 7 → status_of e.why ≢ 9 → (D.drive e.disk).attached file.now true) }
+    ensures attached { MatchResult result (λ new. AttachedOne file.now true (D.drive disk) (D.drive new))
+        (λ e. AttachesOnce file.now true (D.drive disk) (D.drive e.disk) (status_of e.why)) }
     ensures calm { IfErr result (λ e. status_of e.why ≢ 7 → (D.drive e.disk).faults ≡ (D.drive disk).faults) }
     ensures leaves { MatchResult result (λ new. LeavesFile (D.drive disk) (D.drive new)) (λ e. LeavesFile (D.drive disk) (D.drive e.disk)) }
 {

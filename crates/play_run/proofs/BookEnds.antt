@@ -1,7 +1,7 @@
 -- A book over what was found in a log.
 use Rattle.std.proofs.Common.{◌≡◌, ◌∙◌, ℕ, false, List, [], Option, Some, Result, Ok, Err, refl, sym, ap, subst}
 use Rattle.std.specs.Prelude.{IfOk}
-use Rattle.disk_trait.specs.Drive.{Drive, Stays}
+use Rattle.disk_trait.specs.Drive.{Drive, AttachedOne, Stays}
 use Rattle.plain_list.specs.State.{at_rest}
 use Rattle.log_state.specs.Recovers.{state_of}
 use Rattle.recovery.specs.Faults.{IsFault, IsInBytes}
@@ -16,7 +16,7 @@ use Rattle.play_run.specs.Origin.{origin_of}
 use Rattle.play_run.specs.inside.Books.{OpensBook, count_in}
 
 -- a book over what was found
-pub opens-book : {D : Type 0} (drive : D → Drive) (file : List ℕ) (old : Drive) (size : ℕ) (b : BookView D) (log : KeptView D) (seen : Seen) (start : D) → Stays old (drive start) → (drive start).faults ≡ old.faults → (drive start).attached file false
+pub opens-book : {D : Type 0} (drive : D → Drive) (file : List ℕ) (old : Drive) (size : ℕ) (b : BookView D) (log : KeptView D) (seen : Seen) (start : D) → Stays old (drive start) → (drive start).faults ≡ old.faults → AttachedOne file false old (drive start)
     → IsFound width most_played (drive start) seen → ((bytes : List ℕ) (fault : OpenFault) → (drive start).bytes ≡ Some bytes → IsInBytes fault → IsFault width most_played bytes fault → ⊥)
     → log.first ≡ log.cells → log.start ≡ start → log.cells ≡ seen.cells → b.opening ≡ found_state seen → b.bucket ≡ size → b.log ≡ Some log → OpensBook drive file old size b
 opens-book {D = D} drive file old size b log seen start stays calm attached found shows first here count opening bucket log_is = record {
@@ -36,7 +36,7 @@ opens-book {D = D} drive file old size b log seen start stays calm attached foun
   first = first;
   stays = subst (λ (d : D). Stays old (drive d)) (sym here) stays;
   calm = subst (λ (d : D). (drive d).faults ≡ old.faults) (sym here) calm;
-  attached = subst (λ (d : D). (drive d).attached file false) (sym here) attached;
+  attached = subst (λ (d : D). AttachedOne file false old (drive d)) (sym here) attached;
   shows = λ bytes fault told shown at. shows bytes fault (stays.bytes ∙ told) shown at;
 }
   where

@@ -3,7 +3,8 @@ use Rattle.std.proofs.Common.{◌≡◌, ◌≢◌, inl, inr, ◌∙◌, ℕ, �
 use Rattle.std.specs.Option.{option_map}
 use Rattle.std.proofs.lemmas.Option.{same_Some}
 use Rattle.causes.specs.Causes.{Rose}
-use Rattle.disk_trait.specs.Drive.{Drive}
+use Rattle.disk_trait.specs.Drive.{Drive, AttachedOne}
+use Rattle.disk_trait.proofs.Calls.{attached-still}
 use Rattle.plain_list.specs.declared.entries.Entry.{Entry}
 use Rattle.plain_list.specs.State.{State, empty_state}
 use Rattle.recovery.proofs.OnlyReading.{rose-earlier, stays-trans}
@@ -124,10 +125,11 @@ calm-book {D = D} drive file old size b h disk opens leaves none =
 
 -- the file stays attached
 attached-book : {D : Type 0} (drive : D → Drive) (file : List ℕ) (old : Drive) (size : ℕ) (b : BookView D) (h : List Entry) (disk : D) → OpensBook drive file old size b → LeavesLog drive b.opening h b.log (Some disk)
-    → (drive disk).attached file false
+    → AttachedOne file false old (drive disk)
 attached-book {D = D} drive file old size b h disk opens leaves =
     let kept = kept-since drive b.opening h opens.log disk b.log opens.log_is leaves in
-    subst (λ (d : D). (drive d).attached file false) kept.disk_is (kept.keeps.file file false (kept.like.attached file false opens.attached))
+    subst (λ (d : D). AttachedOne file false old (drive d)) kept.disk_is
+    (attached-still file false old (drive opens.log.start) (drive kept.now.disk) opens.attached (λ all told. kept.like.file all (kept.keeps.file all told)))
 
 -- answers and splits from an origin
 list-from : (report : Report) (old : Drive) (from : Origin) (s : State) (rows : List InRow) (h : List Entry) (status : ℕ) (before after : Output) → IsFoundOrigin old from → s ≡ from.state → AnswersAsOneList report width s rows h status before after

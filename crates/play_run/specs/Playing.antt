@@ -2,7 +2,7 @@
 use Rattle.std.specs.Prelude.{◌≡◌, ◌≢◌, ◌⊎◌, ℕ, ◌+◌, ◌≤◌, false, List, [], length, Option, Some, None, Ok, Err, ⊤}
 use Rattle.std.specs.Option.{option_map}
 use Rattle.causes.specs.Causes.{Rose}
-use Rattle.disk_trait.specs.Drive.{Drive}
+use Rattle.disk_trait.specs.Drive.{Drive, AttachedOne}
 use Rattle.plain_list.specs.declared.entries.Entry.{Entry}
 use Rattle.plain_list.specs.History.{failed_cell}
 use Rattle.cell_format.specs.declared.cell.Cell.{Cell}
@@ -20,6 +20,7 @@ use Rattle.run_ends.specs.Ends.{Ends, Targets}
 use Rattle.run_ends.specs.Judged.{judged}
 use Rattle.run_ends.specs.Status.{status_of, WritesLines}
 use Rattle.run_ends.specs.Ending.{EndsRefused}
+use Rattle.run_ends.specs.Attaching.{AttachesOnce}
 use Rattle.run_ends.specs.LogFaults.{IsReadingCause, log_refusal}
 use Rattle.run_ends.specs.Inputs.{IsInputCause, Reads}
 use Rattle.play_run.specs.Origin.{Origin, IsOrigin}
@@ -41,7 +42,7 @@ pub record IsGoodLog (old new : Drive) : Type 0 where
 
 -- why no log is opened: what the bytes show is told, and a good log is opened, unless the count rose or memory ran out. A file that is no such
 -- log is left as it was, at every moment. The count is as it was, unless the drive is what is told to have failed.
-pub record IsNotOpened (old new : Drive) (why : Refusal) : Type 0 where
+pub record IsNotOpened (file : List ℕ) (old new : Drive) (why : Refusal) : Type 0 where
   pub cause : IsReadingCause most_played old new why
   pub exact : (bytes : List ℕ) (fault : OpenFault) → old.bytes ≡ Some bytes → IsInBytes fault → IsFault width most_played bytes fault → (Rose old.faults new.faults → ⊥)
       → (why ≡ log_refusal fault) ⊎ (why ≡ refusal.Memory)
@@ -49,11 +50,13 @@ pub record IsNotOpened (old new : Drive) (why : Refusal) : Type 0 where
   pub keeps : KeepsCells width old new
   pub untouched : (bytes : List ℕ) → old.bytes ≡ Some bytes → ((first : List Cell) → Recovers width first bytes → length first ≤ most_played → ⊥) → IsUntouched old new
   pub calm : why ≢ refusal.Disk None → new.faults ≡ old.faults
+  -- this file is attached, and none is made
+  pub attached : AttachesOnce file false old new (status_of why)
 
 -- why there is no book for rows: without a log memory ran out, and the drive is left as it was
 abbrev pub HasNoBook : {D : Type 0} → Option (List ℕ) → Targets D → Targets D → Refusal → Type 0
 HasNoBook None old new why = (why ≡ refusal.Memory) × (new.disk ≡ old.disk)
-HasNoBook (Some file) old new why = IsNotOpened old.drive new.drive why
+HasNoBook (Some file) old new why = IsNotOpened file old.drive new.drive why
 
 -- there is no book for the rows: none is called
 pub record IsUnopened {D : Type 0} (log : Option (List ℕ)) (old new : Targets D) (status : ℕ) (h : List Entry) : Type 0 where
@@ -87,10 +90,10 @@ abbrev pub HasBook : {D : Type 0} → Option (List ℕ) → Targets D → Target
 HasBook None old new = new.disk ≡ old.disk
 HasBook (Some file) old new = (bytes : List ℕ) (fault : OpenFault) → old.drive.bytes ≡ Some bytes → IsInBytes fault → IsFault width most_played bytes fault → ⊥
 
--- over a log its file is attached, and none is made
-abbrev pub IsAttached : Option (List ℕ) → Drive → Type 0
-IsAttached None new = ⊤
-IsAttached (Some file) new = new.attached file false
+-- over a log its file is attached, once, and none is made
+abbrev pub IsAttached : Option (List ℕ) → Drive → Drive → Type 0
+IsAttached None old new = ⊤
+IsAttached (Some file) old new = AttachedOne file false old new
 
 -- The rows are answered from one origin on. The drive's count rises with status 7 alone.
 pub record IsAnswered {D : Type 0} (report : Report) (log : Option (List ℕ)) (size : ℕ) (rows : List InRow) (old new : Targets D) (status : ℕ) (h : List Entry) : Type 0 where
@@ -102,7 +105,7 @@ pub record IsAnswered {D : Type 0} (report : Report) (log : Option (List ℕ)) (
   pub splits : WritesLines status → IsSettled from.width size from.state (option_map length from.first) h
   pub crash : KeepsPlayed from old.drive new.drive status h
   pub calm : status ≢ 7 → new.drive.faults ≡ old.drive.faults
-  pub attached : IsAttached log new.drive
+  pub attached : IsAttached log old.drive new.drive
 
 -- how rows go that were read: there is no book for them, or they are answered
 abbrev pub PlaysRows : {D : Type 0} → Report → Option (List ℕ) → ℕ → List InRow → Targets D → Targets D → ℕ → List Entry → Type 0

@@ -24,7 +24,7 @@ pub(crate) fn open_book<D: LogDisk>(
 ) -> Result<Book<StoreIndex, D>, Unmade<D>>
     ensures opened { IfOk result (OpensBook D.drive file.now (D.drive disk) size) }
     ensures new { IfOk result (λ b. IsNewBook b) }
-    ensures refused { IfErr result (λ e. IsNotOpened (D.drive disk) (D.drive e.disk) e.why) }
+    ensures refused { IfErr result (λ e. IsNotOpened file.now (D.drive disk) (D.drive e.disk) e.why) }
 {
     if let Err(fault) = disk.attach(alloc, file, false) {
         let why = attach_refusal(fault);

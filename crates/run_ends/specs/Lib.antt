@@ -4,6 +4,7 @@ pub mod Judged
 pub mod Status
 pub mod Taking
 pub mod Ending
+pub mod Attaching
 pub mod LogFaults
 pub mod Inputs
 pub use Rattle.causes.specs.Causes

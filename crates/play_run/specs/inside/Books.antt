@@ -1,7 +1,7 @@
 -- Books over which rows are played, and what they leave.
 use Rattle.std.specs.Prelude.{◌≡◌, ◌⊎◌, ℕ, ◌≤◌, Bool, false, List, [], length, Option, Some, None, ⊤}
 use Rattle.std.specs.Option.{option_map}
-use Rattle.disk_trait.specs.Drive.{Drive, Stays}
+use Rattle.disk_trait.specs.Drive.{Drive, AttachedOne, SameFile, Stays}
 use Rattle.plain_list.specs.declared.entries.Entry.{Entry}
 use Rattle.plain_list.specs.State.{State}
 use Rattle.plain_list.specs.World.{IsWorld}
@@ -33,7 +33,7 @@ pub record IsNewBook {D : Type 0} (b : BookView D) : Type 0 where
 pub record IsLike (old new : Drive) : Type 0 where
   pub stays : Stays old new
   pub calm : new.faults ≡ old.faults
-  pub attached : (file : List ℕ) (make : Bool) → old.attached file make → new.attached file make
+  pub file : SameFile old new
 
 -- what is known of the opening of a log, or where there is none, who knows that of another
 abbrev pub is_unlogged : {D : Type 0} → Option (KeptView D) → Type 0
@@ -72,5 +72,5 @@ pub record OpensBook {D : Type 0} (drive : D → Drive) (file : List ℕ) (old :
   pub first : log.first ≡ log.cells
   pub stays : Stays old (drive log.start)
   pub calm : (drive log.start).faults ≡ old.faults
-  pub attached : (drive log.start).attached file false
+  pub attached : AttachedOne file false old (drive log.start)
   pub shows : (bytes : List ℕ) (fault : OpenFault) → old.bytes ≡ Some bytes → IsInBytes fault → IsFault width most_played bytes fault → ⊥

@@ -1,10 +1,12 @@
 use Rattle.std.proofs.Common.{Err, false, ◌∙◌, sym, subst, arith}
 use Rattle.recovery.specs.declared.seen.Seen.{Seen}
+use Rattle.disk_trait.proofs.Calls.{attached-still}
 use Rattle.recovery.proofs.OnlyReading.{stays-trans}
 use Rattle.csv_rows.specs.declared.rows.Refusal.{Refusal}
 use Rattle.run_ends.specs.Limits.{most_cells}
+use Rattle.run_ends.proofs.Attaching.{attaches-one, attaches-none}
 use Rattle.log_run.specs.Checking.{IsCheckingCause, IsDecidedBy}
-use Rattle.log_run.proofs.DriveSteps.{checking-after, decided-err, checking-attached, decided-attached, calm-attached, not-attached, found-after, calm-read}
+use Rattle.log_run.proofs.DriveSteps.{checking-after, decided-err, checking-attached, decided-attached, calm-attached, found-after, calm-read}
 use Rattle.log_run.proofs.checking.find.Goals as goal
 
 pub returns-in-Err-inspect-clause-cause : goal.returns-in-Err-inspect-clause-cause
@@ -25,7 +27,7 @@ pub returns-in-Ok-clause-stays : goal.returns-in-Ok-clause-stays
 returns-in-Ok-clause-stays g c = stays-trans (g.D.LogDisk.drive c.args.disk.now) (g.D.LogDisk.drive c.attach.new.self) (g.D.LogDisk.drive c.inspect.new.disk) c.attach.ensures.stays c.inspect.ensures.reads.stays
 
 pub returns-in-Ok-clause-read : goal.returns-in-Ok-clause-read
-returns-in-Ok-clause-read g c = record { attached = c.inspect.ensures.reads.file c.args.file.now false c.in_default.ensures.cause.named; calm = c.in-Ok.ensures.reads.same ∙ c.in_default.ensures.cause.same }
+returns-in-Ok-clause-read g c = record { attached = attached-still c.args.file.now false (g.D.LogDisk.drive c.args.disk.now) (g.D.LogDisk.drive c.attach.new.self) (g.D.LogDisk.drive c.inspect.new.disk) c.in_default.ensures.cause.named c.inspect.ensures.reads.file; calm = c.in-Ok.ensures.reads.same ∙ c.in_default.ensures.cause.same }
 
 pub returns-in-Err-inspect-clause-stays : goal.returns-in-Err-inspect-clause-stays
 returns-in-Err-inspect-clause-stays g c = stays-trans (g.D.LogDisk.drive c.args.disk.now) (g.D.LogDisk.drive c.attach.new.self) (g.D.LogDisk.drive c.inspect.new.disk) c.attach.ensures.stays c.inspect.ensures.reads.stays
@@ -33,7 +35,7 @@ returns-in-Err-inspect-clause-stays g c = stays-trans (g.D.LogDisk.drive c.args.
 pub returns-in-Err-inspect-clause-read : goal.returns-in-Err-inspect-clause-read
 returns-in-Err-inspect-clause-read g c =
     rw c.log_refusal.ensures (record {
-      attached = λ drive memory. c.inspect.ensures.reads.file c.args.file.now false c.in_default.ensures.cause.named;
+      attached = attaches-one c.args.file.now false _ _ _ (attached-still c.args.file.now false (g.D.LogDisk.drive c.args.disk.now) (g.D.LogDisk.drive c.attach.new.self) (g.D.LogDisk.drive c.inspect.new.disk) c.in_default.ensures.cause.named c.inspect.ensures.reads.file);
       calm = calm-read _ _ _ c.in-Err-inspect.fault c.in_default.ensures.cause.same c.in-Err-inspect.ensures.reads.same;
     })
 
@@ -58,4 +60,4 @@ returns-in-Err-clause-decided g c = rw c.attach_refusal.ensures (decided-attache
 
 pub returns-in-Err-clause-read : goal.returns-in-Err-clause-read
 returns-in-Err-clause-read g c =
-    rw c.attach_refusal.ensures (record { attached = not-attached _ c.in-Err.fault; calm = calm-attached c.args.file.now false _ _ c.in-Err.fault c.in-Err.ensures.cause })
+    rw c.attach_refusal.ensures (record { attached = attaches-none c.args.file.now false _ _ c.in-Err.fault c.in-Err.ensures.cause; calm = calm-attached c.args.file.now false _ _ c.in-Err.fault c.in-Err.ensures.cause })

@@ -1,4 +1,5 @@
-use Rattle.std.proofs.Common.{inr, ◌∙◌}
+use Rattle.std.proofs.Common.{false, inr, ◌∙◌}
+use Rattle.run_ends.proofs.Attaching.{attaches-as}
 use Rattle.log_run.proofs.CheckingFacts.{decided-refused}
 use Rattle.log_run.proofs.checking.tell_counts.Goals as goal
 
@@ -11,6 +12,6 @@ returns-in-Err g c =
         decided = decided-refused _ _ c.in-Err.why _ _ _ c.in-Err.ensures.decided told.refused;
         stays = c.in-Err.ensures.stays;
         calm = λ seven. c.in-Err.ensures.read.calm (λ e. seven (told.refused.status_is ∙ e));
-        attached = λ seven nine. c.in-Err.ensures.read.attached (λ e. seven (told.refused.status_is ∙ e)) (λ e. nine (told.refused.status_is ∙ e));
+        attached = attaches-as c.args.file.now false _ _ _ _ told.refused.status_is c.in-Err.ensures.read.attached;
       };
     }

@@ -1,21 +1,24 @@
 use Rattle.std.proofs.Common.{true}
-use Rattle.log_run.proofs.DriveSteps.{makes-after, leaves-attached, leaves-made, cause-attached, calm-attached, not-attached, cause-made, calm-made}
+use Rattle.disk_trait.proofs.Calls.{attached-still}
+use Rattle.run_ends.proofs.Attaching.{attaches-one, attaches-none}
+use Rattle.log_run.proofs.DriveSteps.{makes-after, leaves-attached, leaves-made, cause-attached, calm-attached, cause-made, calm-made}
 use Rattle.log_run.proofs.making.make_in.Goals as goal
 
 pub returns-in-Ok-clause-made : goal.returns-in-Ok-clause-made
 returns-in-Ok-clause-made g c = makes-after (g.D.LogDisk.drive c.args.disk) (g.D.LogDisk.drive c.attach.new.self) (g.D.LogDisk.drive c.in-Ok.disk) c.in_default.ensures.stays c.in_default.ensures.cause.same c.in-Ok.ensures.made
 
 pub returns-in-Ok-clause-attached : goal.returns-in-Ok-clause-attached
-returns-in-Ok-clause-attached g c = c.in-Ok.ensures.small.file c.args.file.now true c.in_default.ensures.cause.named
+returns-in-Ok-clause-attached g c = attached-still c.args.file.now true (g.D.LogDisk.drive c.args.disk) (g.D.LogDisk.drive c.attach.new.self) (g.D.LogDisk.drive c.in-Ok.disk) c.in_default.ensures.cause.named c.in-Ok.ensures.small.file
 
 pub returns-in-Err-init-clause-attached : goal.returns-in-Err-init-clause-attached
-returns-in-Err-init-clause-attached g c = λ read told. c.in-Err-init.ensures.small.file c.args.file.now true c.in_default.ensures.cause.named
+returns-in-Err-init-clause-attached g c =
+    attaches-one c.args.file.now true _ _ _ (attached-still c.args.file.now true (g.D.LogDisk.drive c.args.disk) (g.D.LogDisk.drive c.attach.new.self) (g.D.LogDisk.drive c.in-Err-init.field-0.disk) c.in_default.ensures.cause.named c.in-Err-init.ensures.small.file)
 
 pub returns-in-Err-clause-cause : goal.returns-in-Err-clause-cause
 returns-in-Err-clause-cause g c = rw c.attach_refusal-why.ensures (cause-attached c.args.file.now true _ _ c.in-Err.fault c.in-Err.ensures.cause)
 
 pub returns-in-Err-clause-attached : goal.returns-in-Err-clause-attached
-returns-in-Err-clause-attached g c = rw c.attach_refusal-why.ensures (not-attached _ c.in-Err.fault)
+returns-in-Err-clause-attached g c = rw c.attach_refusal-why.ensures (attaches-none c.args.file.now true _ _ c.in-Err.fault c.in-Err.ensures.cause)
 
 pub returns-in-Err-clause-calm : goal.returns-in-Err-clause-calm
 returns-in-Err-clause-calm g c = rw c.attach_refusal-why.ensures (calm-attached c.args.file.now true _ _ c.in-Err.fault c.in-Err.ensures.cause)

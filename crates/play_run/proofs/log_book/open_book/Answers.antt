@@ -1,4 +1,6 @@
-use Rattle.std.proofs.Common.{None, ◌∙◌, refl, sym, ap, subst}
+use Rattle.std.proofs.Common.{false, None, ◌∙◌, refl, sym, ap, subst}
+use Rattle.disk_trait.specs.Drive.{AttachedOne}
+use Rattle.disk_trait.proofs.Calls.{attached-still}
 use Rattle.kept_log.specs.Kept.{IsOpened, found_state}
 use Rattle.recovery.specs.Opening.{KeepsCells}
 use Rattle.kept_log.proofs.Starting.{opened-found}
@@ -20,7 +22,9 @@ book_of-requires-clause-ready g c =
 pub returns-in-Ok-clause-refused : goal.returns-in-Ok-clause-refused
 returns-in-Ok-clause-refused g c =
     let drive = g.D.LogDisk.drive in
-    if-err _ _ c.book_of.result (λ e back. memory-refused (drive c.args.disk) (drive e.disk) e.why back.1
+    if-err _ _ c.book_of.result (λ e back. memory-refused c.args.file.now (drive c.args.disk) (drive e.disk) e.why
+    (subst (λ d. AttachedOne c.args.file.now false (drive c.args.disk) (drive d)) (sym back.0) (attached-still c.args.file.now false (drive c.args.disk) (drive c.attach.new.self) (drive c.in-Ok.opened.log.disk) c.in_default.ensures.cause.named c.in-Ok.ensures.ready.file))
+    back.1
     (subst (λ d. KeepsCells 1 (drive c.args.disk) (drive d)) (sym back.0) (keeps-cells-after 1 (drive c.args.disk) (drive c.attach.new.self) (drive c.in-Ok.opened.log.disk) (g.met.D.LogDisk.keeps_laws c.args.disk) c.in_default.ensures.stays c.in-Ok.ensures.any_moment))
     (λ bytes told none. none c.in-Ok.ensures.found.cells (c.in-Ok.ensures.found.recovers bytes (c.in_default.ensures.stays.bytes ∙ told)) c.in-Ok.ensures.found.few)
     (ap (λ d. (drive d).faults) back.0 ∙ c.in-Ok.ensures.ready.same ∙ c.in_default.ensures.cause.same))
@@ -31,8 +35,8 @@ returns-in-Err-open-clause-refused g c =
     let drive = g.D.LogDisk.drive in
     let by = c.in-Err-open.ensures in
     let e = c.in-Err-open.field-0 in
-    subst (λ (why : Refusal). IsNotOpened (drive c.args.disk) (drive e.disk) why) (sym c.log_refusal-why.ensures)
-    (open-refused (drive c.args.disk) (drive c.attach.new.self) (drive e.disk) e.cause (g.met.D.LogDisk.keeps_laws c.args.disk) c.attach.ensures.stays c.attach.ensures.cause.later c.in_default.ensures.cause.same by.fault by.exact by.whole by.any_moment by.rose by.untouched)
+    subst (λ (why : Refusal). IsNotOpened c.args.file.now (drive c.args.disk) (drive e.disk) why) (sym c.log_refusal-why.ensures)
+    (open-refused c.args.file.now (drive c.args.disk) (drive c.attach.new.self) (drive e.disk) e.cause c.in_default.ensures.cause.named (g.met.D.LogDisk.keeps_laws c.args.disk) c.attach.ensures.stays c.attach.ensures.cause.later c.in_default.ensures.cause.same by.fault by.exact by.whole by.any_moment by.rose by.untouched)
 
 pub returns-in-Ok-clause-opened : goal.returns-in-Ok-clause-opened
 returns-in-Ok-clause-opened g c =
@@ -46,4 +50,4 @@ returns-in-Ok-clause-opened g c =
 pub returns-in-Err-clause-refused : goal.returns-in-Err-clause-refused
 returns-in-Err-clause-refused g c =
     rw c.attach_refusal-why.ensures
-    (attach-refused c.args.file.now _ _ _ c.in-Err.fault (g.met.D.LogDisk.keeps_laws c.args.disk) c.in-Err.ensures.stays c.in-Err.ensures.cause)
+    (attach-refused c.args.file.now _ _ c.in-Err.fault (g.met.D.LogDisk.keeps_laws c.args.disk) c.in-Err.ensures.stays c.in-Err.ensures.cause)
