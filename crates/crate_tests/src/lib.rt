@@ -33,6 +33,8 @@ mod counts;
 #[cfg(test)]
 mod drives;
 #[cfg(test)]
+mod failing_files;
+#[cfg(test)]
 mod files;
 #[cfg(test)]
 mod folder;

@@ -1,0 +1,276 @@
+//! A drive over files of the test's own, one call of which fails: what the drive answers then, and what it asks of its file.
+use disk_file::FileDisk;
+use disk_trait::LogDisk;
+use std::alloc::{Allocator, Global};
+use std::cell::Cell;
+use std::fs::{Files, Metadata, OpenFile, OpenOptions};
+use std::io;
+use std::io::{ErrorKind, Read, Seek, SeekFrom, Write};
+use std::process::Abort;
+
+#[derive(Clone, Copy, Debug, PartialEq, Eq)]
+enum Call {
+    Open,
+    Clone,
+    Metadata,
+    SetLen,
+    SyncData,
+    Seek,
+    Read,
+    Write,
+}
+
+// The call that fails, and what was asked of a file: clones, syncs of its bytes, and the sum of the lengths to which it was cut.
+#[derive(Drop)]
+struct Notes {
+    failing: Option<Call>,
+    clones: Cell<u64>,
+    syncs: Cell<u64>,
+    cuts: Cell<u64>,
+}
+
+impl Notes {
+    fn new(failing: Option<Call>) -> Notes {
+        Notes {
+            failing,
+            clones: Cell::new(0),
+            syncs: Cell::new(0),
+            cuts: Cell::new(0),
+        }
+    }
+
+    fn answer(&self, call: Call) -> io::Result<()> {
+        if self.failing == Some(call) {
+            return Err(unsupported());
+        }
+        Ok(())
+    }
+
+    fn asked(&self) -> (u64, u64, u64) {
+        (self.clones.get(), self.syncs.get(), self.cuts.get())
+    }
+}
+
+fn unsupported() -> io::Error {
+    io::Error::from(ErrorKind::Unsupported)
+}
+
+fn add(cell: &Cell<u64>, more: u64) {
+    cell.set(cell.get().saturating_add(more));
+}
+
+// More than 32 bits hold.
+const LENGTH: u64 = 4_294_967_301;
+
+// A file that has this length, gives no bytes and takes all.
+#[derive(Drop)]
+struct NotedFile<'a> {
+    notes: &'a Notes,
+}
+
+impl Read for NotedFile<'_> {
+    fn read(&mut self, _buf: &mut [u8]) -> io::Result<usize> {
+        self.notes.answer(Call::Read)?;
+        Ok(0)
+    }
+}
+
+impl Write for NotedFile<'_> {
+    fn write(&mut self, buf: &[u8]) -> io::Result<usize> {
+        self.notes.answer(Call::Write)?;
+        Ok(buf.len())
+    }
+
+    fn flush(&mut self) -> io::Result<()> {
+        Ok(())
+    }
+}
+
+impl Seek for NotedFile<'_> {
+    fn seek(&mut self, _to: SeekFrom) -> io::Result<u64> {
+        self.notes.answer(Call::Seek)?;
+        Ok(0)
+    }
+}
+
+impl<'a> OpenFile for NotedFile<'a> {
+    fn metadata(&self) -> io::Result<Metadata> {
+        self.notes.answer(Call::Metadata)?;
+        Ok(Metadata::of_file(LENGTH))
+    }
+
+    fn set_len(&self, size: u64) -> io::Result<()> {
+        self.notes.answer(Call::SetLen)?;
+        add(&self.notes.cuts, size);
+        Ok(())
+    }
+
+    fn sync_all(&self) -> io::Result<()> {
+        Err(unsupported())
+    }
+
+    fn sync_data(&self) -> io::Result<()> {
+        self.notes.answer(Call::SyncData)?;
+        add(&self.notes.syncs, 1);
+        Ok(())
+    }
+
+    fn try_clone(&self) -> io::Result<NotedFile<'a>> {
+        self.notes.answer(Call::Clone)?;
+        add(&self.notes.clones, 1);
+        Ok(NotedFile { notes: self.notes })
+    }
+}
+
+#[derive(Drop)]
+struct NotedFiles<'a> {
+    notes: &'a Notes,
+}
+
+impl<'a> Files for NotedFiles<'a> {
+    type File = NotedFile<'a>;
+
+    type Dir = NotedFile<'a>;
+
+    fn open_file(&self, how: &OpenOptions, _path: &str) -> io::Result<NotedFile<'a>> {
+        how.check()?;
+        self.notes.answer(Call::Open)?;
+        Ok(NotedFile { notes: self.notes })
+    }
+
+    fn open_dir(&self, _path: &str) -> io::Result<NotedFile<'a>> {
+        Err(unsupported())
+    }
+
+    fn metadata(&self, _path: &str) -> io::Result<Metadata> {
+        Err(unsupported())
+    }
+
+    fn symlink_metadata(&self, _path: &str) -> io::Result<Metadata> {
+        Err(unsupported())
+    }
+
+    fn copy(&self, _from: &str, _to: &str) -> io::Result<u64> {
+        Err(unsupported())
+    }
+
+    fn rename(&self, _from: &str, _to: &str) -> io::Result<()> {
+        Err(unsupported())
+    }
+
+    fn remove_file(&self, _path: &str) -> io::Result<()> {
+        Err(unsupported())
+    }
+
+    fn create_dir(&self, _path: &str) -> io::Result<()> {
+        Err(unsupported())
+    }
+
+    fn remove_dir(&self, _path: &str) -> io::Result<()> {
+        Err(unsupported())
+    }
+
+    fn remove_dir_all<B: Allocator>(&self, _alloc: B, _path: &str) -> io::Result<()> {
+        Err(unsupported())
+    }
+}
+
+fn attaches<D: LogDisk>(disk: &mut D, alloc: Global) -> bool {
+    disk.attach(alloc, "log", true).is_ok()
+}
+
+// The length, the number of bytes that a read gives, and whether a write, a cut to seven bytes and a sync answer Ok.
+type Told = (Option<u64>, Option<usize>, bool, bool, bool);
+
+fn told<D: LogDisk>(disk: &mut D) -> Told {
+    (
+        disk.len().ok(),
+        disk.read(0, &mut [0; 4]).ok(),
+        disk.write(0, b"abc").is_ok(),
+        disk.cut(7).is_ok(),
+        disk.sync().is_ok(),
+    )
+}
+
+struct Case {
+    failing: Option<Call>,
+    attaches: bool,
+    told: Told,
+    asked: (u64, u64, u64),
+}
+
+const NO_FILE: Told = (None, None, false, false, false);
+
+// Each call of a file, and what the drive then answers: no failure is swallowed, nor told of another call.
+const CASES: &[Case] = &[
+    Case {
+        failing: None,
+        attaches: true,
+        told: (Some(LENGTH), Some(0), true, true, true),
+        asked: (1, 1, 7),
+    },
+    Case {
+        failing: Some(Call::Open),
+        attaches: false,
+        told: NO_FILE,
+        asked: (0, 0, 0),
+    },
+    Case {
+        failing: Some(Call::Clone),
+        attaches: false,
+        told: NO_FILE,
+        asked: (0, 0, 0),
+    },
+    Case {
+        failing: Some(Call::Metadata),
+        attaches: true,
+        told: (None, Some(0), true, true, true),
+        asked: (1, 1, 7),
+    },
+    Case {
+        failing: Some(Call::SetLen),
+        attaches: true,
+        told: (Some(LENGTH), Some(0), true, false, true),
+        asked: (1, 1, 0),
+    },
+    Case {
+        failing: Some(Call::SyncData),
+        attaches: true,
+        told: (Some(LENGTH), Some(0), true, true, false),
+        asked: (1, 0, 7),
+    },
+    Case {
+        failing: Some(Call::Seek),
+        attaches: true,
+        told: (Some(LENGTH), None, false, true, true),
+        asked: (1, 1, 7),
+    },
+    Case {
+        failing: Some(Call::Read),
+        attaches: true,
+        told: (Some(LENGTH), None, true, true, true),
+        asked: (1, 1, 7),
+    },
+    Case {
+        failing: Some(Call::Write),
+        attaches: true,
+        told: (Some(LENGTH), Some(0), false, true, true),
+        asked: (1, 1, 7),
+    },
+];
+
+fn expect_case(rt: &impl Abort, alloc: Global, case: &Case) {
+    let notes = Notes::new(case.failing);
+    let mut disk = FileDisk::new(NotedFiles { notes: &notes });
+    let attached = attaches(&mut disk, alloc);
+    let answers = told(&mut disk);
+    assert_same!(rt; (case.failing, attached, answers), (case.failing, case.attaches, case.told));
+    assert_same!(rt; (case.failing, notes.asked()), (case.failing, case.asked));
+}
+
+#[test]
+fn a_call_of_the_file_that_fails_is_told_and_each_call_asks_for_its_own(rt: HostRuntime) {
+    for case in CASES {
+        expect_case(&rt, rt.alloc(), case);
+    }
+}
