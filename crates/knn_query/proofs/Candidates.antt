@@ -12,9 +12,10 @@ use Rattle.zorder.specs.declared.points.Placed.{Placed}
 use Rattle.zorder.specs.Distance.{distance}
 use Rattle.plain_list.specs.Places.{place_of}
 use Rattle.plain_list.specs.Queries.{is_before, with_ranked, ranked}
-use Rattle.plain_list.specs.Nearest.{rank_of, is_below, AreOf}
-use Rattle.plain_list.proofs.Ranking.{is_before-cmp, is_below-order, ranked_once, IsPermutation-ranked, IsSortedBy-ranked}
-use Rattle.plain_list.proofs.Cuts.{IsPass, with_more, take-with_more, pass_skips, pass_adds}
+use Rattle.plain_list.specs.AtPlaces.{AreOf}
+use Rattle.plain_list.proofs.Ranking.{is_before-cmp, is_before-order, chain, ranked_once, IsPermutation-ranked, IsSortedBy-ranked}
+use Rattle.knn_query.specs.Passes.{IsPass, with_more}
+use Rattle.knn_query.proofs.Cuts.{take-with_more, pass_skips, pass_adds}
 use Rattle.knn_query.specs.Candidates.{object_of, candidate_cmp, IsMeasured, IsInPlace}
 use Rattle.knn_query.specs.declared.candidate.Candidate.{Candidate}
 
@@ -32,19 +33,19 @@ take-all zero (x ∷ xs) few = absurd (omega (arith, few))
 take-all (suc k) (x ∷ xs) few = ap (λ l. x ∷ l) (take-all k xs (omega (arith, few)))
 
 -- two candidates in their order are their ranks in theirs
-pub below-cmp : (p : Point) (c d : Candidate) → IsMeasured p c → IsMeasured p d → is_below (rank_of p (object_of c)) (rank_of p (object_of d)) ≡ is_lt (candidate_cmp c d)
+pub below-cmp : (p : Point) (c d : Candidate) → IsMeasured p c → IsMeasured p d → is_before p (object_of c) (object_of d) ≡ is_lt (candidate_cmp c d)
 below-cmp p c d at_c at_d =
     sym (is_before-cmp (distance c.at p) c.id (distance d.at p) d.id)
     ∙ (λ i. is_lt (candidate_cmp (record { distance = sym at_c i; id = c.id; at = c.at }) (record { distance = sym at_d i; id = d.id; at = d.at })))
 
 -- no object of a list comes behind one that bounds it
 abbrev pub Bounds : Point → Placed → List Placed → Type 0
-Bounds p m ms = All (λ (n : Placed). is_below (rank_of p m) (rank_of p n) ≡ false) ms
+Bounds p m ms = All (λ (n : Placed). is_before p m n ≡ false) ms
 
 pub bounds-map : (p : Point) (c : Candidate) (cs : List Candidate) → IsMeasured p c → All (IsMeasured p) cs → IsUpperBound candidate_cmp c cs → Bounds p (object_of c) (map object_of cs)
-bounds-map p c [] at_c at bound = All-nil (λ (n : Placed). is_below (rank_of p (object_of c)) (rank_of p n) ≡ false)
+bounds-map p c [] at_c at bound = All-nil (λ (n : Placed). is_before p (object_of c) n ≡ false)
 bounds-map p c (d ∷ cs) at_c at bound =
-    All-cons (λ (n : Placed). is_below (rank_of p (object_of c)) (rank_of p n) ≡ false) (object_of d) (map object_of cs)
+    All-cons (λ (n : Placed). is_before p (object_of c) n ≡ false) (object_of d) (map object_of cs)
     (below-cmp p c d at_c (All-head (IsMeasured p) d cs at) ∙ bound.0)
     (bounds-map p c cs at_c (All-tail (IsMeasured p) d cs at) bound.1)
 
@@ -52,7 +53,7 @@ bounds-map p c (d ∷ cs) at_c at bound =
 candidate_chain : (a b c : Candidate) → is_lt (candidate_cmp a b) ≡ false → is_lt (candidate_cmp b c) ≡ false → is_lt (candidate_cmp a c) ≡ false
 candidate_chain a b c ab bc =
     is_before-cmp a.distance a.id c.distance c.id
-    ∙ is_below-order.chain (record { distance = a.distance; id = a.id }) (record { distance = b.distance; id = b.id }) (record { distance = c.distance; id = c.id })
+    ∙ chain a.distance a.id b.distance b.id c.distance c.id
     (sym (is_before-cmp a.distance a.id b.distance b.id) ∙ ab) (sym (is_before-cmp b.distance b.id c.distance c.id) ∙ bc)
 
 pub bound-behind : (one c : Candidate) (cs : List Candidate) → is_lt (candidate_cmp one c) ≡ false → IsUpperBound candidate_cmp c cs → IsUpperBound candidate_cmp one cs
@@ -86,45 +87,27 @@ module _ (p : Point) where
 
 module _ (p : Point) (k : ℕ) (places rest : List Placed) where
   -- in another order
-  pub pass_shuffled : (xs ys : List Placed) → IsPermutation xs ys → IsPass p k places rest xs None → IsPass p k places rest ys None
+  pub pass_shuffled : (xs ys : List Placed) → IsPermutation xs ys → IsPass p k places rest xs → IsPass p k places rest ys
   pass_shuffled xs ys perm pass = record {
     are_of = All-permutation (IsAt places) xs ys perm pass.are_of;
-    is_last = tt;
     nearest = ap (λ l. take k (with_more p (take k l) rest)) (ranked-shuffled p places xs ys pass.are_of perm) ∙ pass.nearest;
   }
 
-  -- where k are kept, one that comes before none of them is passed over
-  pub pass_over : (m : Placed) (list : List Placed) → k ≤ length list → Bounds p m list → IsPass p k places (m ∷ rest) list None → IsPass p k places rest list None
-  pass_over m list long bounds pass =
-      let P : Placed → Type 0 = λ n. is_below (rank_of p m) (rank_of p n) ≡ false in
-      let last : IsPass p k places (m ∷ rest) list (Some (rank_of p m)) = record {
-        are_of = pass.are_of;
-        is_last = (long, All-take P k (ranked p list) (All-permutation P list (ranked p list) (IsPermutation-ranked p list) bounds));
-        nearest = pass.nearest;
-      } in
-      let next = pass_skips p k places m rest list (Some (rank_of p m)) last (itself (is_below (rank_of p m) (rank_of p m)) refl) in
-      record { are_of = next.are_of; is_last = tt; nearest = next.nearest }
-    where
-      itself : (b : Bool) → is_below (rank_of p m) (rank_of p m) ≡ b → is_below (rank_of p m) (rank_of p m) ≡ false
-      itself false e = e
-      itself true e = is_below-order.one_way (rank_of p m) (rank_of p m) e
-
   -- one is added
-  pub pass_adds_one : (m : Placed) (list new : List Placed) → IsAt places m → IsPermutation (m ∷ list) new → IsPass p k places (m ∷ rest) list None → IsPass p k places rest new None
+  pub pass_adds_one : (m : Placed) (list new : List Placed) → IsAt places m → IsPermutation (m ∷ list) new → IsPass p k places (m ∷ rest) list → IsPass p k places rest new
   pass_adds_one m list new found perm pass =
-      pass_shuffled (list ++ m ∷ []) new (IsPermutation-trans (list ++ m ∷ []) (m ∷ list) new (IsPermutation-to_front list m) perm) (pass_adds p k places m rest list None pass found refl)
+      pass_shuffled (list ++ m ∷ []) new (IsPermutation-trans (list ++ m ∷ []) (m ∷ list) new (IsPermutation-to_front list m) perm) (pass_adds p k places m rest list pass found)
 
   -- one is left out that isn't among the nearest
-  pub pass_leaves : (m : Placed) (list new : List Placed) → k ≤ length new → Bounds p m new → IsPermutation list (m ∷ new) → IsPass p k places rest list None → IsPass p k places rest new None
+  pub pass_leaves : (m : Placed) (list new : List Placed) → k ≤ length new → Bounds p m new → IsPermutation list (m ∷ new) → IsPass p k places rest list → IsPass p k places rest new
   pass_leaves m list new long bounds perm pass =
       let ordered : IsPermutation list (new ++ m ∷ []) = IsPermutation-trans list (m ∷ new) (new ++ m ∷ []) perm (IsPermutation-sym (new ++ m ∷ []) (m ∷ new) (IsPermutation-to_front new m)) in
-      let moved : IsPass p k places rest (new ++ m ∷ []) None = pass_shuffled list (new ++ m ∷ []) ordered pass in
+      let moved : IsPass p k places rest (new ++ m ∷ []) = pass_shuffled list (new ++ m ∷ []) ordered pass in
       let were : AreOf places (m ∷ new) = All-permutation (IsAt places) list (m ∷ new) perm pass.are_of in
-      pass_over m new long bounds (record {
+      pass_skips p k places m rest new (record {
         are_of = All-tail (IsAt places) m new were;
-        is_last = tt;
         nearest = pass_later new m ∙ moved.nearest;
-      })
+      }) long bounds
     where
       pass_later : (new : List Placed) (m : Placed) → take k (with_more p (take k (ranked p new)) (m ∷ rest)) ≡ take k (with_more p (take k (ranked p (new ++ m ∷ []))) rest)
       pass_later new m = pass_all p k new (m ∷ rest) ∙ ap (λ l. take k (ranked p l)) (sym (append_assoc new (m ∷ []) rest)) ∙ sym (pass_all p k (new ++ m ∷ []) rest)
@@ -132,7 +115,7 @@ module _ (p : Point) (k : ℕ) (places rest : List Placed) where
   module _ (m : Placed) (found : IsAt places m) where
     -- the last of k makes room for one that comes before it
     pub pass_replaces : (one : Candidate) (old new : List Candidate) → object_of one ≡ m → IsMeasured p one → All (IsMeasured p) old → k ≤ length old → IsInPlace one old new
-        → IsPass p k places (m ∷ rest) (map object_of old) None → IsPass p k places rest (map object_of new) None
+        → IsPass p k places (m ∷ rest) (map object_of old) → IsPass p k places rest (map object_of new)
     pass_replaces one old new is_m at_one at_old long r pass =
         let gone = object_of r.gone in
         let left = map object_of r.left in
@@ -142,13 +125,13 @@ module _ (p : Point) (k : ℕ) (places rest : List Placed) where
         let made : IsPermutation (m ∷ left) ns = subst (λ (n : Placed). IsPermutation (n ∷ left) ns) is_m (IsPermutation-map object_of (one ∷ r.left) new r.is) in
         let at : All (IsMeasured p) (r.gone ∷ r.left) = All-permutation (IsMeasured p) old (r.gone ∷ r.left) r.was at_old in
         let at_gone = All-head (IsMeasured p) r.gone r.left at in
-        let first : is_below (rank_of p (object_of one)) (rank_of p gone) ≡ true = below-cmp p one r.gone at_one at_gone ∙ r.before in
-        let P : Placed → Type 0 = λ n. is_below (rank_of p gone) (rank_of p n) ≡ false in
+        let first : is_before p (object_of one) gone ≡ true = below-cmp p one r.gone at_one at_gone ∙ r.before in
+        let P : Placed → Type 0 = λ n. is_before p gone n ≡ false in
         let bounds : Bounds p gone (m ∷ left) =
-        All-cons P m left (subst P is_m (is_below-order.one_way (rank_of p (object_of one)) (rank_of p gone) first)) (bounds-map p r.gone r.left at_gone (All-tail (IsMeasured p) r.gone r.left at) r.bound) in
+        All-cons P m left (subst P is_m ((is_before-order p).one_way (object_of one) gone first)) (bounds-map p r.gone r.left at_gone (All-tail (IsMeasured p) r.gone r.left at) r.bound) in
         let all : IsPermutation (m ∷ ms) (gone ∷ (m ∷ left)) =
         IsPermutation-trans (m ∷ ms) (m ∷ (gone ∷ left)) (gone ∷ (m ∷ left)) (IsPermutation-cons m ms (gone ∷ left) split) (swapped m gone left) in
-        let more : IsPass p k places rest (m ∷ ms) None = pass_adds_one m ms (m ∷ ms) found (IsPermutation-refl (m ∷ ms)) pass in
+        let more : IsPass p k places rest (m ∷ ms) = pass_adds_one m ms (m ∷ ms) found (IsPermutation-refl (m ∷ ms)) pass in
         let enough : k ≤ length (m ∷ left) = omega (arith, long, length_permutation old (r.gone ∷ r.left) r.was, length-map r.left object_of) in
         pass_shuffled (m ∷ left) ns made (pass_leaves gone (m ∷ ms) (m ∷ left) enough bounds all more)
       where

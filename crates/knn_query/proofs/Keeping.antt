@@ -12,14 +12,15 @@ use Rattle.zorder.specs.declared.points.Point.{Point}
 use Rattle.zorder.specs.declared.points.Placed.{Placed}
 use Rattle.zorder.specs.Distance.{distance}
 use Rattle.prefix_names.specs.declared.key_boxes.KeyBox.{KeyBox}
-use Rattle.plain_list.proofs.Cuts.{IsPass}
+use Rattle.knn_query.specs.Passes.{IsPass}
 use Rattle.plain_list.proofs.Ranking.{is_before-cmp}
 use Rattle.knn_query.specs.Ahead.{number_nearer}
 use Rattle.knn_query.specs.Candidates.{object_of, candidate_cmp, IsInPlace, IsMeasured, Replaces}
 use Rattle.knn_query.specs.Passes.{IsHeld, IsOut, HasReach, Passes}
 use Rattle.knn_query.specs.declared.candidate.Candidate.{Candidate}
 use Rattle.knn_query.specs.declared.kept.Kept.{Kept}
-use Rattle.knn_query.proofs.Candidates.{Bounds, bounds-map, pass_over, pass_replaces}
+use Rattle.knn_query.proofs.Cuts.{pass_skips}
+use Rattle.knn_query.proofs.Candidates.{Bounds, bounds-map, pass_replaces}
 use Rattle.knn_query.proofs.Searching.{all_as_near, first_farther}
 
 -- k candidates are nearer exactly where the farthest is
@@ -119,8 +120,8 @@ replaced-passes m one old new is_m at_one h many from_is k_is (inl r) =
         near = subst (λ q. All (λ (c : Candidate). c.distance < distance n.at q) (heap_items new.heap)) (sym from_is) (subst (AreNearer (distance n.at p)) (sym r.same) out.near);
       };
       keeps = λ places rest are pass.
-          subst (λ ds. IsPass p old.k places rest (map object_of ds) None) (sym r.same)
-          (pass_over p old.k places rest m (map object_of cs) (omega (arith, many, length-map cs object_of)) (subst (λ (n : Placed). Bounds p n (map object_of cs)) is_m (bounds-map p one cs at_one h.measured r.bound)) pass);
+          subst (λ ds. IsPass p old.k places rest (map object_of ds)) (sym r.same)
+          (pass_skips p old.k places m rest (map object_of cs) pass (omega (arith, many, length-map cs object_of)) (subst (λ (n : Placed). Bounds p n (map object_of cs)) is_m (bounds-map p one cs at_one h.measured r.bound)));
     }
 replaced-passes m one old new is_m at_one h many from_is k_is (inr r) =
     let p = old.from in

@@ -1,3 +1,4 @@
+pub mod Cuts
 pub mod Candidates
 pub mod Passing
 pub mod Searching

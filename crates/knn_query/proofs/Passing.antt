@@ -12,9 +12,9 @@ use Rattle.zorder.proofs.Places.{key_of-point_of, IsPoint-point_of}
 use Rattle.bucket_versions.specs.declared.row.Row.{Row}
 use Rattle.plain_list.specs.Places.{IsRising, place_of}
 use Rattle.plain_list.specs.Queries.{ranked}
-use Rattle.plain_list.specs.Nearest.{AreOf}
+use Rattle.plain_list.specs.AtPlaces.{AreOf}
 use Rattle.plain_list.proofs.Ranking.{found_in, ranked_once, IsPermutation-ranked, IsSortedBy-ranked}
-use Rattle.plain_list.proofs.Cuts.{IsPass, with_more}
+use Rattle.knn_query.specs.Passes.{IsPass, with_more}
 use Rattle.table_share.specs.Objects.{placed_of, objects_of}
 use Rattle.table_share.specs.KeysUnder.{AreKeysUnder}
 use Rattle.knn_query.specs.declared.kept.Kept.{Kept}
@@ -66,12 +66,11 @@ take-none zero = refl
 take-none (suc k) = refl
 
 -- before the first object
-pub before_all : (p : Point) (k : ℕ) (places ms : List Placed) → IsRising places → IsPermutation places ms → IsPass p k places ms [] None
+pub before_all : (p : Point) (k : ℕ) (places ms : List Placed) → IsRising places → IsPermutation places ms → IsPass p k places ms []
 before_all p k places ms rising shuffled =
     let same : ranked p ms ≡ ranked p places =
     ranked_once p places places (ranked p ms) (found_in places rising) (IsPermutation-trans places ms (ranked p ms) shuffled (IsPermutation-ranked p ms)) (IsSortedBy-ranked p ms) in
     record {
       are_of = All-nil (IsAt places);
-      is_last = tt;
       nearest = ap (λ l. take k (with_more p l ms)) (take-none k) ∙ ap (take k) same;
     }

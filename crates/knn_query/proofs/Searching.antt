@@ -21,7 +21,7 @@ use Rattle.index_layer.specs.Leaves.{Leaf, all_rows}
 use Rattle.index_layer.proofs.LeafNames.{IsFront, front-from_test, under-front}
 use Rattle.plain_list.specs.Places.{place_of}
 use Rattle.plain_list.specs.Queries.{ranked, is_before}
-use Rattle.plain_list.specs.Nearest.{rank_of, is_below, AreOf}
+use Rattle.plain_list.specs.AtPlaces.{AreOf}
 use Rattle.plain_list.proofs.Ranking.{IsPermutation-ranked, IsSortedBy-ranked, is_before-order}
 use Rattle.table_share.specs.Objects.{placed_of, objects_of}
 use Rattle.table_share.specs.KeysUnder.{AreKeysUnder, AreAllKeysUnder}
@@ -41,7 +41,6 @@ module _ (p : Point) where
   pub keeps_permuted : (k : ℕ) (places xs ys : List Placed) (kept : Kept) → AreOf places xs → IsPermutation xs ys → Keeps p k places xs kept → Keeps p k places ys kept
   keeps_permuted k places xs ys kept are perm pass = record {
     are_of = pass.are_of;
-    is_last = pass.is_last;
     nearest =
         let list : List Placed = held kept in
         pass_all p k list ys
@@ -87,7 +86,7 @@ module _ (p : Point) where
       at_most false = omega arith
 
   -- where the farthest is nearer, all are
-  not_below-near : (m n : Placed) → is_below (rank_of p m) (rank_of p n) ≡ false → distance n.at p ≤ distance m.at p
+  not_below-near : (m n : Placed) → is_before p m n ≡ false → distance n.at p ≤ distance m.at p
   not_below-near m n e = grind (arith, nat_tests)
 
   pub all_as_near : (reach : ℕ) (m : Placed) (ms : List Placed) → Bounds p m ms → distance m.at p < reach → number_nearer p reach ms ≡ length ms

@@ -23,9 +23,10 @@ use Rattle.index_layer.specs.Narrowed.{PassesBare}
 use Rattle.index_layer.specs.Part.{is_inner}
 use Rattle.plain_list.specs.Queries.{ranked, is_before, with_ranked}
 use Rattle.plain_list.specs.Places.{place_of}
-use Rattle.plain_list.specs.Nearest.{AreOf}
+use Rattle.plain_list.specs.AtPlaces.{AreOf}
 use Rattle.plain_list.proofs.Ranking.{found_in}
-use Rattle.plain_list.proofs.Cuts.{IsPass, with_more, take-with_more}
+use Rattle.knn_query.specs.Passes.{IsPass, with_more}
+use Rattle.knn_query.proofs.Cuts.{take-with_more}
 use Rattle.table_share.specs.Objects.{objects_of}
 use Rattle.table_share.specs.Subtree.{subtree, leaves_of}
 use Rattle.table_share.specs.Standing.{OfPlaces}
@@ -90,7 +91,6 @@ module _ (p : Point) (reach : ℕ) where
       by_test i d lt (nat_lt (distance (get_or (ranked p list) i d).at p) reach) refl in
       record {
         are_of = pass.are_of;
-        is_last = pass.is_last;
         nearest = all_out k best long near [] (All-nil (λ (m : Placed). reach ≤ distance m.at p)) ∙ sym (all_out k best long near rest far) ∙ pass.nearest;
       }
     where
@@ -300,7 +300,7 @@ module _ (p : Point) (k : ℕ) (leaves : List Leaf) (before : ℕ) where
             let rest : IsPermutation places (objects_ahead leaves (a ∷ [])) = subst (λ (rs : List Row). IsPermutation places (objects_of rs)) (sym rows) objects in
             record {
               are_of = All-permutation (λ (m : Placed). place_of places m.id ≡ Some m.at) places (objects_ahead leaves (a ∷ [])) rest (found_in places are_places.rising);
-              keeps = subst (λ l. IsPass p k places (objects_ahead leaves (a ∷ [])) l None) (sym empty.none) (before_all p k places (objects_ahead leaves (a ∷ [])) are_places.rising rest);
+              keeps = subst (λ l. IsPass p k places (objects_ahead leaves (a ∷ [])) l) (sym empty.none) (before_all p k places (objects_ahead leaves (a ∷ [])) are_places.rising rest);
             };
         opened = omega (arith, fewer every);
         near = λ places names are_places stands d many. omega (arith, fewer (within p (reach_of p k places d)));

@@ -8,7 +8,7 @@ use Rattle.zorder.specs.Distance.{distance, least_distance}
 use Rattle.prefix_names.specs.Regions.{region_of}
 use Rattle.index_layer.specs.Leaves.{Leaf, all_rows}
 use Rattle.plain_list.specs.Queries.{ranked}
-use Rattle.plain_list.specs.Nearest.{AreOf}
+use Rattle.plain_list.specs.AtPlaces.{AreOf}
 use Rattle.table_share.specs.Objects.{objects_of}
 use Rattle.table_share.specs.Subtree.{subtree, leaves_of}
 use Rattle.knn_query.specs.Passes.{Keeps}

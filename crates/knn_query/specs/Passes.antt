@@ -1,6 +1,6 @@
 -- What is kept of objects that come one after the other.
-use Rattle.std.specs.Prelude.{◌≡◌, ◌≤◌, ◌<◌, false, ℕ, List, [], ◌++◌, None, length, map}
-use Rattle.std.specs.List.{All}
+use Rattle.std.specs.Prelude.{◌≡◌, ◌≤◌, ◌<◌, false, ℕ, List, [], ◌++◌, length, map, take}
+use Rattle.std.specs.List.{All, fold}
 use Rattle.std.specs.BinaryHeap.{heap_items, IsHeap}
 use Rattle.zorder.specs.declared.points.Point.{Point}
 use Rattle.zorder.specs.declared.points.Placed.{Placed}
@@ -9,11 +9,20 @@ use Rattle.zorder.specs.Key.{IsPoint}
 use Rattle.zorder.specs.Region.{has_point}
 use Rattle.prefix_names.specs.Regions.{box_of}
 use Rattle.prefix_names.specs.declared.key_boxes.KeyBox.{KeyBox}
-use Rattle.plain_list.specs.Nearest.{AreOf}
-use Rattle.plain_list.proofs.Cuts.{IsPass}
+use Rattle.plain_list.specs.AtPlaces.{AreOf}
+use Rattle.plain_list.specs.Queries.{with_ranked, ranked}
 use Rattle.knn_query.specs.Candidates.{object_of, candidate_cmp, IsMeasured}
 use Rattle.knn_query.specs.declared.candidate.Candidate.{Candidate}
 use Rattle.knn_query.specs.declared.kept.Kept.{Kept}
+
+-- a ranking with more objects
+abbrev pub with_more : Point → List Placed → List Placed → List Placed
+with_more p ranking ms = fold (λ (list : List Placed) m. with_ranked p m list) ranking ms
+
+-- what a pass over these places has kept where some objects are still to come: with them, it comes to the nearest of all
+pub record IsPass (p : Point) (k : ℕ) (places rest list : List Placed) : Type 0 where
+  pub are_of : AreOf places list
+  pub nearest : take k (with_more p (take k (ranked p list)) rest) ≡ take k (ranked p places)
 
 -- the objects that are kept
 abbrev pub held : Kept → List Placed
@@ -34,7 +43,7 @@ pub record IsEmpty (p : Point) (k : ℕ) (kept : Kept) : Type 0 where
 
 -- the nearest of all that were seen are those that are kept, where these objects are still to come
 abbrev pub Keeps : Point → ℕ → List Placed → List Placed → Kept → Type 0
-Keeps p k places rest kept = IsPass p k places rest (held kept) None
+Keeps p k places rest kept = IsPass p k places rest (held kept)
 
 -- k are kept, each of them nearer than this object
 pub record IsOut (kept : Kept) (m : Placed) : Type 0 where

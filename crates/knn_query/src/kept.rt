@@ -3,7 +3,7 @@ ghost use Rattle.std.specs.Prelude.{◌≡◌, ◌≤◌, ◌∷◌, nat_le, Lis
 ghost use Rattle.std.specs.BinaryHeap.{heap_items, IsHeap};
 ghost use Rattle.zorder.specs.declared.points.Placed.{Placed};
 ghost use Rattle.plain_list.specs.Queries.{ranked};
-ghost use Rattle.plain_list.specs.Nearest.{AreOf};
+ghost use Rattle.plain_list.specs.AtPlaces.{AreOf};
 ghost use Rattle.knn_query.specs.Ahead.{number_nearer};
 ghost use Rattle.knn_query.specs.Candidates.{candidate_cmp, object_of, Replaces};
 ghost use Rattle.knn_query.specs.Passes.{held, HasReach, IsEmpty, IsHeld, Passes};

@@ -1,6 +1,6 @@
 use Rattle.std.proofs.Common.{◌≡◌, ◌++◌, List}
 use Rattle.zorder.specs.declared.points.Placed.{Placed}
-use Rattle.plain_list.specs.Nearest.{AreOf}
+use Rattle.plain_list.specs.AtPlaces.{AreOf}
 use Rattle.table_share.specs.Objects.{objects_of}
 use Rattle.knn_query.specs.Passes.{HasReach, IsHeld, IsOut, Keeps}
 use Rattle.knn_query.proofs.ranking.add_rows.Given as goal

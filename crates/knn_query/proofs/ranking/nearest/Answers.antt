@@ -3,7 +3,7 @@ use Rattle.std.proofs.lemmas.List.{take-take}
 use Rattle.zorder.specs.declared.points.Point.{Point}
 use Rattle.index_layer.specs.Leaves.{Leaf}
 use Rattle.plain_list.specs.Queries.{ranked}
-use Rattle.plain_list.specs.Nearest.{AreOf}
+use Rattle.plain_list.specs.AtPlaces.{AreOf}
 use Rattle.knn_query.specs.Ahead.{OpensNear}
 use Rattle.knn_query.specs.Passes.{held}
 use Rattle.knn_query.proofs.Passing.{take-none}
