@@ -1,4 +1,4 @@
--- What a binary search for an id finds in a list of rising ids, and edits at that place.
+-- What a binary search for an id finds in a list of rising ids, and edits at that index.
 use Rattle.std.proofs.Common.{◌≡◌, ℕ, zero, suc, ◌<◌, ◌≤◌, length, false, List, [], ◌∷◌, Option, Some, None, Result, Ok, Err, get_or, set, refl, sym, ◌∙◌, ap, subst, arith, add-one, cond}
 use Rattle.std.specs.Prelude.{nat_le}
 use Rattle.std.specs.List.{remove}
@@ -28,7 +28,7 @@ less_from_cmp a b e = grind (arith, nat_tests)
 greater_from_cmp : (a b : ℕ) → nat_cmp a b ≡ Greater → b < a
 greater_from_cmp a b e = grind (arith, nat_tests)
 
--- a place with the lesser ids before it and the greater ones behind it is the id's, and none has the id
+-- an index with the lesser ids before it and the greater ones behind it is the id's, and none has the id
 parted : (id : ℕ) (ms : World) (i : ℕ) → i ≤ length ms → ((k : ℕ) (d : Placed) → k < i → (get_or ms k d).id < id) → ((k : ℕ) (d : Placed) → i ≤ k → k < length ms → id < (get_or ms k d).id)
     → (i ≡ index_for id ms) × (position_of ms id ≡ None)
 parted id [] i le less greater = (omega (arith, le), refl)
@@ -40,7 +40,7 @@ parted id (m ∷ ms) zero le less greater =
 parted id (m ∷ ms) (suc i) le less greater =
     let here : m.id < id = less 0 m (omega arith) in
     let rest = parted id ms i (omega (arith, le)) (λ k d lt. less (suc k) d (omega (arith, lt))) (λ k d low lt. greater (suc k) d (omega (arith, low)) (omega (arith, lt))) in
-    let place : i ≡ index_for id ms = rest.0 in
+    let index : i ≡ index_for id ms = rest.0 in
     let none : position_of ms id ≡ None = rest.1 in
     (grind (arith, nat_tests, common_steps), grind (arith, nat_tests, common_steps))
 
@@ -50,7 +50,7 @@ IsIndexFor-from_search id ms (Err i) rising range found =
     let point = found (searchable_from_sorted nat_cmp_total (λ (m : Placed). m.id) ms id (sorted_from_rising ms rising)) in
     parted id ms i range (λ k d lt. less_from_cmp (get_or ms k d).id id (point.0 k d (omega arith) lt)) (λ k d low lt. greater_from_cmp (get_or ms k d).id id (point.1 k d low lt))
 
--- what is found, moved and taken out at the place of an id
+-- what is found, moved and taken out at the index of an id
 pub position_of-at : (ms : World) (i id : ℕ) (d : Placed) → IsRising (places_of ms) → i < length ms → (get_or ms i d).id ≡ id → position_of ms id ≡ Some (get_or ms i d).at
 position_of-at [] i id d rising lt same = absurd (omega (arith, lt))
 position_of-at (m ∷ ms) zero id d rising lt same = grind (arith, nat_tests, common_steps)

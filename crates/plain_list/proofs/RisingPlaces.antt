@@ -1,4 +1,4 @@
--- Places whose ids rise: what a place further on has, and their order.
+-- Places whose ids rise: what stands further on, and their order.
 use Rattle.std.proofs.Common.{◌≡◌, ℕ, zero, suc, ◌<◌, length, false, List, [], ◌∷◌, None, get_or, refl, sym, subst, arith, add-one}
 use Rattle.std.specs.List.Sorted.{IsSortedBy}
 use Rattle.std.specs.Ordering.{nat_cmp, is_lt}

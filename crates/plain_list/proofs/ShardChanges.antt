@@ -15,12 +15,12 @@ use Rattle.plain_list.proofs.Members.{position_of-with_member, position_of-witho
 use Rattle.plain_list.proofs.Shards.{IsAtMostAt, IsNowhere, position_of-joined, length-joined, joined-replicate, joined-with_member, joined-with_moved, joined-with_member_back, joined-without, without-none}
 
 -- where one shard is replaced by another that may stand there, each is one that may stand where it does
-each-set : (shards : List World) (here : ℕ) (new : World) → here < length shards → IsShard here new → ((place : ℕ) → IsShard place (get_or shards place [])) → (place : ℕ) → IsShard place (get_or (set shards here new) place [])
-each-set shards here new lt is each place = by_test (place == here) (Decides-eqb place here)
+each-set : (shards : List World) (here : ℕ) (new : World) → here < length shards → IsShard here new → ((index : ℕ) → IsShard index (get_or shards index [])) → (index : ℕ) → IsShard index (get_or (set shards here new) index [])
+each-set shards here new lt is each index = by_test (index == here) (Decides-eqb index here)
   where
-    by_test : (b : Bool) → Decides b (place ≡ here) → IsShard place (get_or (set shards here new) place [])
-    by_test true tells = subst (IsShard place) (sym (get_or-set_at shards here place new [] (tells.0 refl) lt)) (subst (λ p. IsShard p new) (sym (tells.0 refl)) is)
-    by_test false tells = subst (IsShard place) (sym (get_or-set_other shards here place new [] (not_from_Decides false tells refl))) (each place)
+    by_test : (b : Bool) → Decides b (index ≡ here) → IsShard index (get_or (set shards here new) index [])
+    by_test true tells = subst (IsShard index) (sym (get_or-set_at shards here index new [] (tells.0 refl) lt)) (subst (λ p. IsShard p new) (sym (tells.0 refl)) is)
+    by_test false tells = subst (IsShard index) (sym (get_or-set_other shards here index new [] (not_from_Decides false tells refl))) (each index)
 
 position_of-with_moved_none : (id : ℕ) (at : Point) (world : World) (other : ℕ) → position_of world other ≡ None → position_of (with_moved id at world) other ≡ None
 position_of-with_moved_none id at [] other none = refl
@@ -38,11 +38,11 @@ IsShard-with_member m ms none is = record {
       grind (arith, nat_tests, common_steps);
 }
 
-IsShard-with_moved : (place id : ℕ) (at : Point) (ms : World) → IsShard place ms → IsShard place (with_moved id at ms)
-IsShard-with_moved place id at ms is = record { rising = IsRising-with_moved id at ms is.rising; others = λ other differ. position_of-with_moved_none id at ms other (is.others other differ) }
+IsShard-with_moved : (index id : ℕ) (at : Point) (ms : World) → IsShard index ms → IsShard index (with_moved id at ms)
+IsShard-with_moved index id at ms is = record { rising = IsRising-with_moved id at ms is.rising; others = λ other differ. position_of-with_moved_none id at ms other (is.others other differ) }
 
-IsShard-without : (place id : ℕ) (ms : World) → IsShard place ms → IsShard place (without id ms)
-IsShard-without place id ms is = record {
+IsShard-without : (index id : ℕ) (ms : World) → IsShard index ms → IsShard index (without id ms)
+IsShard-without index id ms is = record {
   rising = IsRising-without id ms is.rising;
   others = λ other differ.
       let absent : position_of ms other ≡ None = is.others other differ in
@@ -57,17 +57,17 @@ pub record Becomes (shards : List World) (here : ℕ) (new world : World) (size 
 
 module _ (shards : List World) (size : ℕ) (all : AreShards shards size) (id : ℕ) where
   most : IsAtMostAt (shard_of id) id shards
-  most = λ place differ. (all.each place).others id (λ same. differ (sym same))
+  most = λ index differ. (all.each index).others id (λ same. differ (sym same))
 
   pub shard_found : position_of (get_or shards (shard_of id) []) id ≡ position_of (joined shards) id
   shard_found = sym (position_of-joined shards (shard_of id) id (all.each (shard_of id)).rising most)
 
   nowhere : position_of (get_or shards (shard_of id) []) id ≡ None → IsNowhere id shards
-  nowhere none = λ place. by_test place (place == shard_of id) (Decides-eqb place (shard_of id))
+  nowhere none = λ index. by_test index (index == shard_of id) (Decides-eqb index (shard_of id))
     where
-      by_test : (place : ℕ) (b : Bool) → Decides b (place ≡ shard_of id) → position_of (get_or shards place []) id ≡ None
-      by_test place true tells = subst (λ p. position_of (get_or shards p []) id ≡ None) (sym (tells.0 refl)) none
-      by_test place false tells = most place (not_from_Decides false tells refl)
+      by_test : (index : ℕ) (b : Bool) → Decides b (index ≡ shard_of id) → position_of (get_or shards index []) id ≡ None
+      by_test index true tells = subst (λ p. position_of (get_or shards p []) id ≡ None) (sym (tells.0 refl)) none
+      by_test index false tells = most index (not_from_Decides false tells refl)
 
   count-set : (new : World) → 0 < length (set shards (shard_of id) new) → length (set shards (shard_of id) new) ≡ most_shards
   count-set new lt = length-set shards (shard_of id) new ∙ all.count (omega (arith, lt, length-set shards (shard_of id) new))
@@ -118,7 +118,7 @@ module _ (shards : List World) (size : ℕ) (all : AreShards shards size) (id : 
 
 -- a shard that was read is the one that an id is dealt to
 pub record Reads (shards : List World) (id i : ℕ) (shard : World) : Type 0 where
-  pub place : i ≡ shard_of id
+  pub index : i ≡ shard_of id
   pub lt : i < length shards
   pub is : shard ≡ get_or shards i shard
 
@@ -130,12 +130,12 @@ pub record Inserts (old shards : List World) (i id : ℕ) (at : Point) (new : Wo
 
 module _ {shards : List World} {size : ℕ} {id i : ℕ} {shard : World} (all : AreShards shards size) (reads : Reads shards id i shard) where
   lt : shard_of id < length shards
-  lt = omega (arith, reads.lt, reads.place)
+  lt = omega (arith, reads.lt, reads.index)
 
   as_read : (P : ℕ → World → Type 0) → P (shard_of id) (get_or shards (shard_of id) []) → P i shard
   as_read P p =
-      let is : shard ≡ get_or shards (shard_of id) [] = reads.is ∙ (ap (λ j. get_or shards j shard) reads.place ∙ get_or_default shards (shard_of id) shard [] lt) in
-      subst (λ j. P j shard) (sym reads.place) (subst (P (shard_of id)) (sym is) p)
+      let is : shard ≡ get_or shards (shard_of id) [] = reads.is ∙ (ap (λ j. get_or shards j shard) reads.index ∙ get_or_default shards (shard_of id) shard [] lt) in
+      subst (λ j. P j shard) (sym reads.index) (subst (P (shard_of id)) (sym is) p)
 
   pub found_in : position_of shard id ≡ position_of (joined shards) id
   found_in = as_read (λ _ s. position_of s id ≡ position_of (joined shards) id) (shard_found shards size all id)
@@ -169,13 +169,13 @@ module _ {shards : List World} {size : ℕ} {id i : ℕ} {shard : World} (all : 
       (as_read (λ j s. position_of s id ≡ None → Becomes shards j (with_member m s) (with_member m (joined shards)) (size + 1)) (λ absent. shard_put shards size all id lt at fits absent few) none)
 
 -- shards that were made where there were none stand for the same world
-get_or-replicate_none : (n place : ℕ) → get_or {A = World} (replicate n []) place [] ≡ []
-get_or-replicate_none zero place = refl
+get_or-replicate_none : (n index : ℕ) → get_or {A = World} (replicate n []) index [] ≡ []
+get_or-replicate_none zero index = refl
 get_or-replicate_none (suc n) zero = refl
-get_or-replicate_none (suc n) (suc place) = get_or-replicate_none n place
+get_or-replicate_none (suc n) (suc index) = get_or-replicate_none n index
 
-IsShard-nil : (place : ℕ) → IsShard place []
-IsShard-nil place = record { rising = tt; others = λ id differ. refl }
+IsShard-nil : (index : ℕ) → IsShard index []
+IsShard-nil index = record { rising = tt; others = λ id differ. refl }
 
 pub record Stand (old new : List World) (size : ℕ) : Type 0 where
   pub same : joined new ≡ joined old
@@ -190,7 +190,7 @@ replicated n size is none = record {
     world = subst IsWorld (sym (joined-replicate n)) (record { rising = tt; size = omega arith; points = tt });
     len = none ∙ ap length (sym (joined-replicate n));
     count = λ lt. length-replicate n [] ∙ is;
-    each = λ place. subst (IsShard place) (sym (get_or-replicate_none n place)) (IsShard-nil place);
+    each = λ index. subst (IsShard index) (sym (get_or-replicate_none n index)) (IsShard-nil index);
   };
 }
 

@@ -102,25 +102,25 @@ length-with_all : (ms world : World) → length (with_all ms world) ≡ length m
 length-with_all [] world = omega arith
 length-with_all (m ∷ ms) world = omega (arith, length-with_member m (with_all ms world), length-with_all ms world)
 
--- no shard, or none but that at a place, has the id
+-- no shard, or none but that at an index, has the id
 abbrev pub IsNowhere : ℕ → List World → Type 0
-IsNowhere id shards = (place : ℕ) → position_of (get_or shards place []) id ≡ None
+IsNowhere id shards = (index : ℕ) → position_of (get_or shards index []) id ≡ None
 
 abbrev pub IsAtMostAt : ℕ → ℕ → List World → Type 0
-IsAtMostAt here id shards = (place : ℕ) → place ≢ here → position_of (get_or shards place []) id ≡ None
+IsAtMostAt here id shards = (index : ℕ) → index ≢ here → position_of (get_or shards index []) id ≡ None
 
 behind : (here id : ℕ) (shard : World) (shards : List World) → IsAtMostAt (suc here) id (shard ∷ shards) → IsAtMostAt here id shards
-behind here id shard shards most = λ place differ. most (suc place) (λ same. differ (omega (arith, same)))
+behind here id shard shards most = λ index differ. most (suc index) (λ same. differ (omega (arith, same)))
 
 zero_suc : (n : ℕ) → zero ≢ suc n
 zero_suc n = λ same. omega (arith, same)
 
 position_of-joined_none : (shards : List World) (id : ℕ) → IsNowhere id shards → position_of (joined shards) id ≡ None
 position_of-joined_none [] id none = refl
-position_of-joined_none (shard ∷ shards) id none = position_of-with_all shard (joined shards) id (none 0) ∙ position_of-joined_none shards id (λ place. none (suc place))
+position_of-joined_none (shard ∷ shards) id none = position_of-with_all shard (joined shards) id (none 0) ∙ position_of-joined_none shards id (λ index. none (suc index))
 
 others_none : (id : ℕ) (shard : World) (shards : List World) → IsAtMostAt 0 id (shard ∷ shards) → position_of (joined shards) id ≡ None
-others_none id shard shards most = position_of-joined_none shards id (λ place. most (suc place) (λ same. zero_suc place (sym same)))
+others_none id shard shards most = position_of-joined_none shards id (λ index. most (suc index) (λ same. zero_suc index (sym same)))
 
 pub position_of-joined : (shards : List World) (here id : ℕ) → IsRising (places_of (get_or shards here [])) → IsAtMostAt here id shards → position_of (joined shards) id ≡ position_of (get_or shards here []) id
 position_of-joined [] here id rising most = refl
@@ -142,7 +142,7 @@ pub joined-with_member : (m : Placed) (shards : List World) (here : ℕ) → her
 joined-with_member m [] here lt none = absurd (omega (arith, lt))
 joined-with_member m (shard ∷ shards) zero lt none = with_all-with_member_left m shard (joined shards) (none 0)
 joined-with_member m (shard ∷ shards) (suc here) lt none =
-    ap (with_all shard) (joined-with_member m shards here (omega (arith, lt)) (λ place. none (suc place))) ∙ with_all-with_member m shard (joined shards) (none 0)
+    ap (with_all shard) (joined-with_member m shards here (omega (arith, lt)) (λ index. none (suc index))) ∙ with_all-with_member m shard (joined shards) (none 0)
 
 pub joined-with_moved : (id : ℕ) (at : Point) (shards : List World) (here : ℕ) → IsAtMostAt here id shards → joined (set shards here (with_moved id at (get_or shards here []))) ≡ with_moved id at (joined shards)
 joined-with_moved id at [] here most = refl
@@ -155,18 +155,18 @@ joined-with_moved id at (shard ∷ shards) (suc here) most =
 -- an object taken out of a shard is taken out of the world, which had it
 module _ (m : Placed) (shards : List World) (here : ℕ) (lt : here < length shards) (rising : IsRising (places_of (get_or shards here []))) (most : IsAtMostAt here m.id shards) where
   nowhere : IsNowhere m.id (set shards here (without m.id (get_or shards here [])))
-  nowhere place = by_test (place == here) (Decides-eqb place here)
+  nowhere index = by_test (index == here) (Decides-eqb index here)
     where
       gone : position_of (without m.id (get_or shards here [])) m.id ≡ None
       gone =
           let is : position_of (without m.id (get_or shards here [])) m.id ≡ cond (m.id == m.id) None (position_of (get_or shards here []) m.id) = position_of-without m.id (get_or shards here []) m.id in
           grind (arith, nat_tests, common_steps)
 
-      by_test : (b : Bool) → Decides b (place ≡ here) → position_of (get_or (set shards here (without m.id (get_or shards here []))) place []) m.id ≡ None
-      by_test true tells = ap (λ (s : World). position_of s m.id) (get_or-set_at shards here place (without m.id (get_or shards here [])) [] (tells.0 refl) lt) ∙ gone
+      by_test : (b : Bool) → Decides b (index ≡ here) → position_of (get_or (set shards here (without m.id (get_or shards here []))) index []) m.id ≡ None
+      by_test true tells = ap (λ (s : World). position_of s m.id) (get_or-set_at shards here index (without m.id (get_or shards here [])) [] (tells.0 refl) lt) ∙ gone
       by_test false tells =
-          let differ : place ≢ here = not_from_Decides false tells refl in
-          ap (λ (s : World). position_of s m.id) (get_or-set_other shards here place (without m.id (get_or shards here [])) [] differ) ∙ most place differ
+          let differ : index ≢ here = not_from_Decides false tells refl in
+          ap (λ (s : World). position_of s m.id) (get_or-set_other shards here index (without m.id (get_or shards here [])) [] differ) ∙ most index differ
 
   pub joined-with_member_back : position_of (get_or shards here []) m.id ≡ Some m.at → joined shards ≡ with_member m (joined (set shards here (without m.id (get_or shards here []))))
   joined-with_member_back found =

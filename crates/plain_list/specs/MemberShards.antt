@@ -9,7 +9,7 @@ use Rattle.plain_list.specs.Answer.{with_member}
 unfoldable pub most_shards : ℕ
 most_shards = 2048
 
--- the place of the shard that an id is dealt to
+-- the index of the shard that an id is dealt to
 unfoldable pub shard_of : ℕ → ℕ
 shard_of id = ((id * 11400714819323198485) % 2 ^ 64) / 2 ^ 53
 
@@ -23,17 +23,17 @@ abbrev pub joined : List World → World
 joined [] = []
 joined (shard ∷ shards) = with_all shard (joined shards)
 
--- the shard at a place has objects that are dealt to it, and no others
-pub record IsShard (place : ℕ) (members : World) : Type 0 where
+-- the shard at an index has objects that are dealt to it, and no others
+pub record IsShard (index : ℕ) (members : World) : Type 0 where
   pub rising : IsRising (places_of members)
-  pub others : (id : ℕ) → shard_of id ≢ place → position_of members id ≡ None
+  pub others : (id : ℕ) → shard_of id ≢ index → position_of members id ≡ None
 
 -- no shards yet, or all, and the count of their objects
 pub record AreShards (shards : List World) (size : ℕ) : Type 0 where
   pub world : IsWorld (joined shards)
   pub len : size ≡ length (joined shards)
   pub count : 0 < length shards → length shards ≡ most_shards
-  pub each : (place : ℕ) → IsShard place (slice_index_or shards place [])
+  pub each : (index : ℕ) → IsShard index (slice_index_or shards index [])
 
 -- where there were no shards, all of them are made
 pub record AreMade (old new : List World) : Type 0 where

@@ -46,7 +46,7 @@ impl MemberMap {
         self.points.len()
     }
 
-    pub fn place(&self, id: u64) -> Option<Point>
+    pub fn position(&self, id: u64) -> Option<Point>
         ensures { result ≡ position_of self.now id }
     {
         self.points.get(&id).copied()
@@ -72,8 +72,8 @@ impl MemberMap {
         ensures world { IsWorld self.new }
     {
         coordinates_fit(at);
-        let place = self.points.get_mut(&id)?;
-        Some(replace(place, at))
+        let position = self.points.get_mut(&id)?;
+        Some(replace(position, at))
     }
 
     /// Takes an object out, if it is there, and says where it was.

@@ -63,13 +63,13 @@ impl MemberShards {
         self.len
     }
 
-    pub fn place(&self, id: u64) -> Option<Point>
+    pub fn position(&self, id: u64) -> Option<Point>
         ensures { result ≡ position_of self.now id }
     {
         if self.shards.is_empty() {
             return None;
         }
-        self.shards[shard_of(id)].place(id)
+        self.shards[shard_of(id)].position(id)
     }
 
     /// Puts an object at a point, in place of the one of its id, and says where that was.
@@ -115,9 +115,9 @@ impl MemberShards {
     }
 }
 
-// The place of the shard that an id is dealt to, by the highest bits of its product.
+// The index of the shard that an id is dealt to, by the highest bits of its product.
 fn shard_of(id: u64) -> usize
-    ensures place { result ≡ shard_of id }
+    ensures index { result ≡ shard_of id }
     ensures within { result < most_shards }
 {
     (id.wrapping_mul(MIXER) >> 53) as usize

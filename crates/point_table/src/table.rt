@@ -87,10 +87,10 @@ impl<I: Index> PointTable<I> {
     }
 
     /// Where an object is.
-    pub fn place(&self, id: u64) -> Option<Point>
+    pub fn position(&self, id: u64) -> Option<Point>
         ensures { result ≡ position_of self.now.world id }
     {
-        self.members.place(id)
+        self.members.position(id)
     }
 
     /// Whether an operation would change the world.
@@ -98,9 +98,9 @@ impl<I: Index> PointTable<I> {
         ensures { result ≡ is_change (answer_of self.now.world op.now) }
     {
         match *op {
-            Op::Put { id, .. } => self.place(id).is_none() && !self.is_full(),
-            Op::Move { id, .. } => self.place(id).is_some(),
-            Op::Remove { id } => self.place(id).is_some(),
+            Op::Put { id, .. } => self.position(id).is_none() && !self.is_full(),
+            Op::Move { id, .. } => self.position(id).is_some(),
+            Op::Remove { id } => self.position(id).is_some(),
             Op::Find { .. } => false,
             Op::Within { .. } => false,
             Op::Near { .. } => false,
@@ -148,9 +148,9 @@ impl<I: Index> PointTable<I> {
             return Ok(self.full(id));
         }
         // The map goes first, and back where the index can't follow: so the object is looked for once.
-        if let Some(place) = self.members.insert(id, at)? {
-            self.members.replace(id, place);
-            return Ok(Answer::Present(place));
+        if let Some(there) = self.members.insert(id, at)? {
+            self.members.replace(id, there);
+            return Ok(Answer::Present(there));
         }
         let row = Row { key: key(at), id };
         let put = change(&self.index, begun, row);
@@ -177,8 +177,8 @@ impl<I: Index> PointTable<I> {
         requires { is_full self.now.world ≡ true }
         ensures { (at : Point) → result ≡ answer_of self.now.world (Op.Put id at) }
     {
-        match self.place(id) {
-            Some(place) => Answer::Present(place),
+        match self.position(id) {
+            Some(at) => Answer::Present(at),
             None => Answer::Full,
         }
     }
@@ -237,7 +237,7 @@ impl<I: Index> PointTable<I> {
         ensures err { OnErr result (self.new ≡ self.old) }
         ensures told { TellsIf C.done C.lost (is_change (answer_of self.old.world (Op.Remove id))) commit.old commit.new result }
     {
-        let Some(old) = self.place(id) else {
+        let Some(old) = self.position(id) else {
             return Ok(Answer::Absent);
         };
         self.crowded.reserve(1)?;
@@ -252,7 +252,7 @@ impl<I: Index> PointTable<I> {
     fn find(&self, id: u64) -> Answer
         ensures { result ≡ answer_of self.now.world (Op.Find id) }
     {
-        match self.place(id) {
+        match self.position(id) {
             Some(at) => Answer::At(at),
             None => Answer::Absent,
         }

@@ -13,7 +13,7 @@ beyond = record { id = 0; at = record { x = 0; y = 0 } }
 pub loop-member-preserved : goal.loop-member-preserved
 loop-member-preserved c =
     let world = c.args.world.now in
-    let place = c.loop-member.member-index in
-    let none = ap (λ (ms : World). position_of ms (get_or world place beyond).id) c.loop-member.invariant ∙ position_of-next world place beyond c.loop-member-test.true c.requires.rising in
-    inserted_new c.in_ok-insert.field-0 _ _ c.in_ok-insert.ensures.ok (c.in_ok-insert.ensures.found ∙ none) ∙ ap (with_member (get_or world place beyond)) c.loop-member.invariant
-    ∙ with_member-next world place beyond c.loop-member-test.true c.requires.rising
+    let index = c.loop-member.member-index in
+    let none = ap (λ (ms : World). position_of ms (get_or world index beyond).id) c.loop-member.invariant ∙ position_of-next world index beyond c.loop-member-test.true c.requires.rising in
+    inserted_new c.in_ok-insert.field-0 _ _ c.in_ok-insert.ensures.ok (c.in_ok-insert.ensures.found ∙ none) ∙ ap (with_member (get_or world index beyond)) c.loop-member.invariant
+    ∙ with_member-next world index beyond c.loop-member-test.true c.requires.rising

@@ -7,14 +7,14 @@ use Rattle.plain_list.proofs.member_map.MemberMap.replace.Goals as goal
 use Rattle.plain_list.proofs.MemberMaps.{position_of-world_of, world_of-set_value, with_moved-none}
 use Rattle.plain_list.proofs.Worlds.{IsWorld-with_moved}
 
-pub returns-in_err-place-clause-found : goal.returns-in_err-place-clause-found
-returns-in_err-place-clause-found c =
-    c.from_residual.ensures ∙ c.in_err-place.ensures.value ∙ sym (rw (← c.self.view_is) (position_of-world_of c.self.inside.points.entries c.args.id))
+pub returns-in_err-position-clause-found : goal.returns-in_err-position-clause-found
+returns-in_err-position-clause-found c =
+    c.from_residual.ensures ∙ c.in_err-position.ensures.value ∙ sym (rw (← c.self.view_is) (position_of-world_of c.self.inside.points.entries c.args.id))
 
-pub returns-in_err-place-clause-moved : goal.returns-in_err-place-clause-moved
-returns-in_err-place-clause-moved c =
+pub returns-in_err-position-clause-moved : goal.returns-in_err-position-clause-moved
+returns-in_err-position-clause-moved c =
     let es = c.self.inside.points.entries in
-    let none : position_of (world_of es) c.args.id ≡ None = position_of-world_of es c.args.id ∙ sym c.in_err-place.ensures.value in
+    let none : position_of (world_of es) c.args.id ≡ None = position_of-world_of es c.args.id ∙ sym c.in_err-position.ensures.value in
     rw (← c.self.view_is) (ap (λ (m : BTreeMap _ _). world_of m.entries) c.get_mut.follows.holds-at-none ∙ sym (with_moved-none c.args.id c.args.at (world_of es) none))
 
 pub invariant_of-self-2 : goal.invariant_of-self-2
@@ -25,7 +25,7 @@ invariant_of-self-2 c =
 
 pub returns-clause-found : goal.returns-clause-found
 returns-clause-found c =
-    ap Some c.replace.ensures.value ∙ c.in_ok-place.ensures.value ∙ sym (rw (← c.self.view_is) (position_of-world_of c.self.inside.points.entries c.args.id))
+    ap Some c.replace.ensures.value ∙ c.in_ok-position.ensures.value ∙ sym (rw (← c.self.view_is) (position_of-world_of c.self.inside.points.entries c.args.id))
 
 pub returns-clause-moved : goal.returns-clause-moved
 returns-clause-moved c =

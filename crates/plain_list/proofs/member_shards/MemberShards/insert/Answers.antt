@@ -6,17 +6,17 @@ use Rattle.plain_list.proofs.ShardChanges.{Reads, below_made, found_made, room_m
 
 pub insert-requires : goal.insert-requires
 insert-requires c =
-    let reads : Reads c.make_shards.new.shards.items c.args.id c.shard_of.result c.index_mut.result.now = record { place = c.shard_of.ensures.place; lt = below_made c.shard_of.result c.self.invariant c.in_ok-make_shards.ensures.ok c.shard_of.ensures.within; is = c.index_mut.ensures.value } in
+    let reads : Reads c.make_shards.new.shards.items c.args.id c.shard_of.result c.index_mut.result.now = record { index = c.shard_of.ensures.index; lt = below_made c.shard_of.result c.self.invariant c.in_ok-make_shards.ensures.ok c.shard_of.ensures.within; is = c.index_mut.ensures.value } in
     record { room = room_made c.self.invariant c.in_ok-make_shards.ensures.ok reads (rw (← c.self.view_is) at c.requires.room) }
 
 pub invariant_of-self-in_err-there : goal.invariant_of-self-in_err-there
 invariant_of-self-in_err-there c =
-    let reads : Reads c.make_shards.new.shards.items c.args.id c.shard_of.result c.index_mut.result.now = record { place = c.shard_of.ensures.place; lt = below_made c.shard_of.result c.self.invariant c.in_ok-make_shards.ensures.ok c.shard_of.ensures.within; is = c.index_mut.ensures.value } in
+    let reads : Reads c.make_shards.new.shards.items c.args.id c.shard_of.result c.index_mut.result.now = record { index = c.shard_of.ensures.index; lt = below_made c.shard_of.result c.self.invariant c.in_ok-make_shards.ensures.ok c.shard_of.ensures.within; is = c.index_mut.ensures.value } in
     (same_made c.self.invariant c.in_ok-make_shards.ensures.ok reads c.insert.new.self c.in_err-there.ensures.err).all
 
 pub returns-in_err-there-clause-err : goal.returns-in_err-there-clause-err
 returns-in_err-there-clause-err c =
-    let reads : Reads c.make_shards.new.shards.items c.args.id c.shard_of.result c.index_mut.result.now = record { place = c.shard_of.ensures.place; lt = below_made c.shard_of.result c.self.invariant c.in_ok-make_shards.ensures.ok c.shard_of.ensures.within; is = c.index_mut.ensures.value } in
+    let reads : Reads c.make_shards.new.shards.items c.args.id c.shard_of.result c.index_mut.result.now = record { index = c.shard_of.ensures.index; lt = below_made c.shard_of.result c.self.invariant c.in_ok-make_shards.ensures.ok c.shard_of.ensures.within; is = c.index_mut.ensures.value } in
     let same = same_made c.self.invariant c.in_ok-make_shards.ensures.ok reads c.insert.new.self c.in_err-there.ensures.err in
     on_err_anyway c.from_residual-in_err-there.result _ (rw (← c.self.view_is) same.now)
 
@@ -25,20 +25,20 @@ returns-in_err-there-clause-world c = (invariant_of-self-in_err-there c).world
 
 pub returns-in_err-there-clause-absent : goal.returns-in_err-there-clause-absent
 returns-in_err-there-clause-absent c =
-    let reads : Reads c.make_shards.new.shards.items c.args.id c.shard_of.result c.index_mut.result.now = record { place = c.shard_of.ensures.place; lt = below_made c.shard_of.result c.self.invariant c.in_ok-make_shards.ensures.ok c.shard_of.ensures.within; is = c.index_mut.ensures.value } in
+    let reads : Reads c.make_shards.new.shards.items c.args.id c.shard_of.result c.index_mut.result.now = record { index = c.shard_of.ensures.index; lt = below_made c.shard_of.result c.self.invariant c.in_ok-make_shards.ensures.ok c.shard_of.ensures.within; is = c.index_mut.ensures.value } in
     let found = found_made c.self.invariant c.in_ok-make_shards.ensures.ok reads in
     on_err_anyway c.from_residual-in_err-there.result _ (rw (← c.self.view_is) (sym found ∙ c.in_err-there.ensures.absent))
 
 pub invariant_of-self-2 : goal.invariant_of-self-2
 invariant_of-self-2 c =
-    let reads : Reads c.make_shards.new.shards.items c.args.id c.shard_of.result c.index_mut.result.now = record { place = c.shard_of.ensures.place; lt = below_made c.shard_of.result c.self.invariant c.in_ok-make_shards.ensures.ok c.shard_of.ensures.within; is = c.index_mut.ensures.value } in
+    let reads : Reads c.make_shards.new.shards.items c.args.id c.shard_of.result c.index_mut.result.now = record { index = c.shard_of.ensures.index; lt = below_made c.shard_of.result c.self.invariant c.in_ok-make_shards.ensures.ok c.shard_of.ensures.within; is = c.index_mut.ensures.value } in
     let one : c.from.result ≡ (if is_none c.in_ok-there.there then 1 else 0) = search rules in
     let few = rw (← c.self.view_is) at c.requires.room in
     (inserts c.self.invariant c.in_ok-make_shards.ensures.ok reads c.args.at c.insert.new.self c.in_ok-there.there c.from.result c.coordinates_fit.ensures few c.in_ok-there.ensures.found c.in_ok-there.ensures.ok one).all
 
 pub returns : goal.returns
 returns c =
-    let reads : Reads c.make_shards.new.shards.items c.args.id c.shard_of.result c.index_mut.result.now = record { place = c.shard_of.ensures.place; lt = below_made c.shard_of.result c.self.invariant c.in_ok-make_shards.ensures.ok c.shard_of.ensures.within; is = c.index_mut.ensures.value } in
+    let reads : Reads c.make_shards.new.shards.items c.args.id c.shard_of.result c.index_mut.result.now = record { index = c.shard_of.ensures.index; lt = below_made c.shard_of.result c.self.invariant c.in_ok-make_shards.ensures.ok c.shard_of.ensures.within; is = c.index_mut.ensures.value } in
     let one : c.from.result ≡ (if is_none c.in_ok-there.there then 1 else 0) = search rules in
     let few = rw (← c.self.view_is) at c.requires.room in
     let is = inserts c.self.invariant c.in_ok-make_shards.ensures.ok reads c.args.at c.insert.new.self c.in_ok-there.there c.from.result c.coordinates_fit.ensures few c.in_ok-there.ensures.found c.in_ok-there.ensures.ok one in

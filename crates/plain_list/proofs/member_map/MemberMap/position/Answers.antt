@@ -1,5 +1,5 @@
 use Rattle.std.proofs.Common.{sym, ◌∙◌}
-use Rattle.plain_list.proofs.member_map.MemberMap.place.Goals as goal
+use Rattle.plain_list.proofs.member_map.MemberMap.position.Goals as goal
 use Rattle.plain_list.proofs.MemberMaps.{position_of-world_of}
 
 pub returns : goal.returns
