@@ -13,6 +13,7 @@ use Rattle.zorder.proofs.Tiles.{tiles_from-children}
 use Rattle.plain_list.specs.declared.entries.Entry.{Entry}
 use Rattle.plain_list.specs.declared.entries.Entry.TheVariants.{Fail, Call, Begin, Install, Abandon}
 use Rattle.plain_list.specs.State.{OpenSplit, State, empty_state, split_name, without_name, is_leaf, split_leaf, installed, step, state_after, may_split, is_possible, is_free, is_fail, is_empty, is_legal_history, IsLegal}
+use Rattle.plain_list.proofs.SplitStates.{Found, found-open, all-filter, all-push}
 use Rattle.index_build.specs.Grown.{IsGrown}
 use Rattle.index_build.proofs.ChildNames.{AreLong, bit_lists-long}
 
@@ -56,9 +57,13 @@ module _ (w : ℕ) (name : List Bool) (room : length name + w ≤ 64) where
   pub grown-split : (leaves : List (List Bool)) → IsGrown w leaves → IsGrown w (split_leaf w name leaves)
   grown-split leaves g = record { tile = tile_split 0 leaves ∙ g.tile; splits = splits_split leaves g.splits }
 
--- each open split's leaf has bits left
+-- the leaf of an open split has bits left
+abbrev pub HasRoom : ℕ → OpenSplit → Type 0
+HasRoom w s = length s.name + w ≤ 64
+
+-- and that of each
 abbrev pub HaveRoom : ℕ → List OpenSplit → Type 0
-HaveRoom w splits = AllByRecursion (λ (s : OpenSplit). length s.name + w ≤ 64) splits
+HaveRoom w splits = AllByRecursion (HasRoom w) splits
 
 -- the leaves of the state are grown, and each open split's has bits left
 pub record IsGrownState (w : ℕ) (s : State) : Type 0 where
@@ -68,32 +73,12 @@ pub record IsGrownState (w : ℕ) (s : State) : Type 0 where
 pub grown-empty : (w : ℕ) → IsGrownState w empty_state
 grown-empty w = record { leaves = grown-whole w; room = tt }
 
-room-filter : (w : ℕ) (p : OpenSplit → Bool) (splits : List OpenSplit) → HaveRoom w splits → HaveRoom w (filter p splits)
-room-filter w p [] all = tt
-room-filter w p (s ∷ splits) all = by_test (p s) (room-filter w p splits all.1)
-  where
-    by_test : (b : Bool) → HaveRoom w (filter p splits) → HaveRoom w (cond b (s ∷ filter p splits) (filter p splits))
-    by_test true rest = (all.0, rest)
-    by_test false rest = rest
-
-room-push : (w : ℕ) (splits : List OpenSplit) (s : OpenSplit) → HaveRoom w splits → length s.name + w ≤ 64 → HaveRoom w (splits ++ s ∷ [])
-room-push w [] s all room = (room, tt)
-room-push w (o ∷ splits) s all room = (all.0, room-push w splits s all.1 room)
-
-room-named : (w : ℕ) (splits : List OpenSplit) (number : ℕ) (name : List Bool) → HaveRoom w splits → split_name splits number ≡ Some name → length name + w ≤ 64
-room-named w [] number name all e = absurd (cc e)
-room-named w (s ∷ splits) number name all e = by_test (s.number == number) e (λ later. room-named w splits number name all.1 later)
-  where
-    some : (a b : List Bool) → Some a ≡ Some b → a ≡ b
-    some a b e = cc e
-
-    by_test : (b : Bool) → cond b (Some s.name) (split_name splits number) ≡ Some name → (split_name splits number ≡ Some name → length name + w ≤ 64) → length name + w ≤ 64
-    by_test true e later = subst (λ (n : List Bool). length n + w ≤ 64) (some s.name name e) all.0
-    by_test false e later = later e
+bits_left : (w : ℕ) {number : ℕ} {name : List Bool} → Found (HasRoom w) number name → length name + w ≤ 64
+bits_left w found = subst (λ (n : List Bool). length n + w ≤ 64) found.name_is found.has
 
 grown-installed : (w : ℕ) (s : State) (number : ℕ) (at : Option (List Bool)) → split_name s.splits number ≡ at → IsGrownState w s → IsGrown w (installed w at s.leaves)
 grown-installed w s number None e g = g.leaves
-grown-installed w s number (Some name) e g = grown-split w name (room-named w s.splits number name g.room e) s.leaves g.leaves
+grown-installed w s number (Some name) e g = grown-split w name (bits_left w (found-open (HasRoom w) s.splits number name e g.room)) s.leaves g.leaves
 
 pub grown-step : (w : ℕ) (s : State) (e : Entry) → IsGrownState w s → is_possible w s e ≡ true → IsGrownState w (step w s e)
 grown-step w s (Call session row op) g possible = record { leaves = g.leaves; room = g.room }
@@ -102,15 +87,15 @@ grown-step w s (Begin number name) g possible =
     let room : length name + w ≤ 64 = leb-true (length name + w) 64 (second_so (is_leaf s.leaves name) (nat_le (length name + w) 64) may) in
     record {
       leaves = g.leaves;
-      room = room-push w (without_name name s.splits) (record { number = number; name = name }) (room-filter w (λ o. not (same_name o.name name)) s.splits g.room) room;
+      room = all-push (HasRoom w) (without_name name s.splits) (record { number = number; name = name }) (all-filter (HasRoom w) (λ o. not (same_name o.name name)) s.splits g.room) room;
     }
 grown-step w s (Install number) g possible = record {
   leaves = grown-installed w s number (split_name s.splits number) refl g;
-  room = room-filter w (λ o. not (o.number == number)) s.splits g.room;
+  room = all-filter (HasRoom w) (λ o. not (o.number == number)) s.splits g.room;
 }
 grown-step w s (Abandon number) g possible = record {
   leaves = g.leaves;
-  room = room-filter w (λ o. not (o.number == number)) s.splits g.room;
+  room = all-filter (HasRoom w) (λ o. not (o.number == number)) s.splits g.room;
 }
 grown-step w s (Fail cell lost) g possible = record { leaves = g.leaves; room = g.room }
 

@@ -1,5 +1,5 @@
 -- What an append makes of each history that a journal keeps, and the cell that a history's failed append names.
-use Rattle.std.proofs.Common.{◌≡◌, ◌⊎◌, inl, inr, ℕ, ◌^◌, ◌<◌, ◌≤◌, true, false, List, [], ◌∷◌, ◌++◌, Option, Some, None, is_some, refl, sym, ◌∙◌, ap, subst, arith}
+use Rattle.std.proofs.Common.{◌≡◌, ◌⊎◌, inl, inr, ℕ, ◌^◌, ◌<◌, ◌≤◌, true, false, List, [], ◌∷◌, ◌++◌, Option, Some, None, is_some, refl, sym, ◌∙◌, ap, subst, arith, cond}
 use Rattle.std.proofs.lemmas.Bool.{true≢false}
 use Rattle.std.proofs.lemmas.List.{append-nil}
 use Rattle.causes.specs.Causes.{Rose}
@@ -20,6 +20,7 @@ use Rattle.split_log.specs.LogText.{IsLog, HoldsEither}
 use Rattle.split_log.specs.Append.{Adds, Fails}
 use Rattle.log_state.specs.Recovers.{Recovers}
 use Rattle.log_state.specs.Changes.{cells_of, failed_cells}
+use Rattle.log_state.proofs.PlacedChanges.{failed_cells-none as failed_cells-sound}
 use Rattle.kept_log.specs.KeptView.{KeptView}
 use Rattle.kept_log.specs.Kept.{StartsWith, IsOpened}
 use Rattle.kept_log.specs.Steps.{IsSince}
@@ -31,20 +32,11 @@ use Rattle.kept_log.proofs.Appending.{leaves-either, leaves-alone, keeps-next, c
 
 -- where no cell is named, none was lost
 pub failed_cells-none : (h : List Entry) → failed_cell h ≡ None → failed_cells h ≡ []
-failed_cells-none [] none = refl
-failed_cells-none (Call session row op ∷ h) none = failed_cells-none h none
-failed_cells-none (Begin number name ∷ h) none = failed_cells-none h none
-failed_cells-none (Install number ∷ h) none = failed_cells-none h none
-failed_cells-none (Abandon number ∷ h) none = failed_cells-none h none
-failed_cells-none (Fail number lost ∷ h) none = absurd (cc none)
+failed_cells-none h none = failed_cells-sound h (has_failed-none h none)
 
 -- an entry that is no failed append names no cell
 going_cell : (e : Entry) → is_fail e ≡ false → failed_cell (e ∷ []) ≡ None
-going_cell (Fail number lost) going = absurd (true≢false going)
-going_cell (Call session row op) going = refl
-going_cell (Begin number name) going = refl
-going_cell (Install number) going = refl
-going_cell (Abandon number) going = refl
+going_cell e going = failed_cell-none (e ∷ []) (ap (λ b. cond b true false) going)
 
 -- nor does one that has a cell
 with_cell : (world : World) (e : Entry) (cell : Cell) → cells_of world (e ∷ []) ≡ cell ∷ [] → failed_cell (e ∷ []) ≡ None
