@@ -30,11 +30,15 @@ mod faults;
 #[cfg(test)]
 mod full;
 #[cfg(test)]
+mod given_words;
+#[cfg(test)]
 mod hostile;
 #[cfg(test)]
 mod log_commands;
 #[cfg(test)]
 mod logged;
+#[cfg(test)]
+mod long_input;
 #[cfg(test)]
 mod memory;
 #[cfg(test)]

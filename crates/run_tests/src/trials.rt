@@ -110,33 +110,38 @@ fn text_of(alloc: Global, rows: u32, world: &World) -> Result<String, AllocError
     format!(in alloc; "rows {rows}\npoints {points}\nsum {sum}\n")
 }
 
-// What a trial of 20,000 rows of seed 3 is to tell.
-fn wanted(alloc: Global) -> Result<String, Memory> {
-    let world = world_of(alloc, 20_000, 3)?;
-    Ok(text_of(alloc, 20_000, &world)?)
-}
+const ROWS: u32 = 65_536;
+
+const SEED: u64 = 3;
 
 const LONG_TRIAL: &Case<'static> = &Case {
-    name: "a trial of 20,000 rows",
-    words: &["trial", "-", "20000", "3"],
+    name: "a trial of 65,536 rows",
+    words: &["trial", "-", "65536", "3"],
+    text: "rows 65536\npoints 11038\nsum 11205466132021950541\n",
     ..NO_LOG
 };
 
-// Fails unless such a trial over no log tells this.
-fn tells<R: Abort + Threads + Wait + Sync>(rt: &R, alloc: Global, told: &str) {
-    let left = run_case(rt, alloc, LONG_TRIAL);
-    holds(rt, left.tells(0, told), "a trial of 20,000 rows");
+// What such a trial is to tell by one plain list.
+fn wanted(alloc: Global) -> Result<String, Memory> {
+    let world = world_of(alloc, ROWS, SEED)?;
+    Ok(text_of(alloc, ROWS, &world)?)
+}
+
+fn is_what_a_list_has<R: Abort + Threads + Wait + Sync>(rt: &R, alloc: Global) {
+    let wanted = wanted(alloc).expect(rt, "it failed");
+    holds(rt, wanted.as_str() == LONG_TRIAL.text, "one plain list");
 }
 
 fn tells_twice<R: Abort + Threads + Wait + Sync>(rt: &R, alloc: Global) {
-    let wanted = wanted(alloc).expect(rt, "it failed");
     for _ in 0..2 {
-        tells(rt, alloc, &wanted);
+        let left = run_case(rt, alloc, LONG_TRIAL);
+        holds(rt, left.tells(0, LONG_TRIAL.text), LONG_TRIAL.name);
     }
 }
 
 // However the sessions' threads run, the objects of one session are its own.
 #[test]
 fn a_trial_tells_twice_what_one_plain_list_has(rt: HostRuntime) {
+    is_what_a_list_has(&rt, rt.alloc());
     tells_twice(&rt, rt.alloc());
 }
