@@ -107,11 +107,25 @@ dealt-not lock rows n old dealt pass lanes has lock_is origin takes = (
 )
 
 -- what was written back into a vector
-pub written-back : {A : Type 0} (n : ℕ) (xs ys : List A) → length xs ≡ length ys → n ≡ length ys → take n (xs ++ drop (length xs) ys) ≡ xs
+written-back : {A : Type 0} (n : ℕ) (xs ys : List A) → length xs ≡ length ys → n ≡ length ys → take n (xs ++ drop (length xs) ys) ≡ xs
 written-back n xs ys same count =
     let none : drop (length xs) ys ≡ [] = drop_all (length xs) ys (omega (arith, same)) in
     let all : xs ++ drop (length xs) ys ≡ xs = ap (λ l. xs ++ l) none ∙ append-nil xs in
     ap (take n) all ∙ take_all n xs (omega (arith, same, count))
+
+-- lanes that ran, in the place of those that were dealt
+pub record RanBack {I D O P : Type 0} (lock : TableId) (rows : List InRow) (dealt : Known) (before after written : List (Lane I D O P)) : Type 0 where
+  pub has : HasDealt lock rows 16 before dealt
+  pub same : length after ≡ length before
+  pub back : written ≡ after
+
+pub run-back : {I D O P : Type 0} (lock : TableId) (rows : List InRow) (dealt : Known) (before after items : List (Lane I D O P)) (n : ℕ) → before ≡ items → HasDealt lock rows 16 items dealt → length after ≡ length before → n ≡ length items
+    → RanBack lock rows dealt before after (take n (after ++ drop (length after) items))
+run-back lock rows dealt before after items n value has same count = record {
+  has = subst (λ l. HasDealt lock rows 16 l dealt) (sym value) has;
+  same = same;
+  back = written-back n after items (same ∙ ap length value) count;
+}
 
 pub run-idle : {I D O P : Type 0} (w : ℕ) (lock : TableId) (rows : List InRow) (dealt : Known) (before after : List (Lane I D O P)) → HasDealt lock rows 16 before dealt → length after ≡ length before
     → ((i : ℕ) (d : Lane I D O P) → i < length before → Plays w (slice_index_or before i d) (slice_index_or after i d)) → AreIdle lock after
