@@ -15,4 +15,4 @@ returns-clause-ends g c =
     let after = g.K.Sink.output c.write_end-status.new.sink in
     let failed = c.closed-failed.result in
     let of_leaves = subst (λ l. EndsPlay report rows failed l ends status before after) c.into_parts-index.ensures.leaves c.write_end-status.ensures in
-    subst (λ f. EndsPlay report rows f book.leaves ends status before after) c.closed-failed.ensures of_leaves
+    subst (λ f. EndsPlay report rows f book.leaves ends status before after) c.closed-failed.ensures.closed of_leaves
