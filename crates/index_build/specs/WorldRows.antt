@@ -4,5 +4,5 @@ use Rattle.zorder.specs.Key.{key_of}
 use Rattle.bucket_versions.specs.declared.row.Row.{Row}
 
 -- the row of an object
-abbrev pub row_of : Placed → Row
-row_of m = record { key = key_of m.at; id = m.id }
+abbrev pub bucket_row : Placed → Row
+bucket_row m = record { key = key_of m.at; id = m.id }

@@ -4,7 +4,7 @@ ghost use Rattle.bucket_versions.specs.declared.row.Row.{Row};
 ghost use Rattle.bucket_versions.specs.Rows.{IsRows, has_row};
 ghost use Rattle.plain_list.specs.World.{places_of};
 ghost use Rattle.index_layer.specs.Stands.{places_have};
-ghost use Rattle.index_build.specs.WorldRows.{row_of};
+ghost use Rattle.index_build.specs.WorldRows.{bucket_row};
 
 use bucket_versions::Row;
 use plain_list::World;
@@ -22,7 +22,7 @@ pub(crate) fn rows_of(alloc: Global, world: &World) -> Result<Vec<Row>, AllocErr
 }
 
 fn listed(alloc: Global, members: &[Placed]) -> Result<Vec<Row>, AllocError>
-    ensures { IfOk result (λ rows. rows.items ≡ map row_of members.now) }
+    ensures { IfOk result (λ rows. rows.items ≡ map bucket_row members.now) }
 {
     members
         .iter()

@@ -4,7 +4,7 @@ use Rattle.std.proofs.lemmas.Fn.{always_returns_same}
 use Rattle.bucket_versions.specs.declared.row.Row.{Row}
 use Rattle.bucket_versions.specs.Rows.{is_below}
 use Rattle.plain_list.proofs.Ranking.{is_before-cmp}
-use Rattle.index_build.specs.WorldRows.{row_of}
+use Rattle.index_build.specs.WorldRows.{bucket_row}
 use Rattle.index_build.proofs.RowsOfWorld.{IsRows-sorted, has_row-sorted}
 use Rattle.index_build.proofs.rows.rows_of.Goals as goal
 
@@ -12,8 +12,8 @@ pub returns-clause-in_order : goal.returns-clause-in_order
 returns-clause-in_order c =
     let world = c.args.world.now in
     let ys : List Row = c.sort_unstable_by_key.new.self.items in
-    let listed : c.in_ok-rows.rows.items ≡ map row_of world = c.in_ok-rows.ensures ∙ ap (map row_of) c.as_slice.ensures.members in
-    let perm : IsPermutation (map row_of world) ys = subst (λ (l : List Row). IsPermutation l ys) listed c.sort_unstable_by_key.ensures.permutation in
+    let listed : c.in_ok-rows.rows.items ≡ map bucket_row world = c.in_ok-rows.ensures ∙ ap (map bucket_row) c.as_slice.ensures.members in
+    let perm : IsPermutation (map bucket_row world) ys = subst (λ (l : List Row). IsPermutation l ys) listed c.sort_unstable_by_key.ensures.permutation in
     let sorted = c.sort_unstable_by_key.ensures.sorted (λ r. (r.key, r.id)) (always_returns_same _ _ _ (λ a r q k. search rules)) in
     let rises : IsSortedBy is_below ys =
     λ k d low lt. sym (is_before-cmp (get_or ys (k + 1) d).key (get_or ys (k + 1) d).id (get_or ys k d).key (get_or ys k d).id) ∙ sorted k d low lt in
@@ -23,6 +23,6 @@ pub returns-clause-has : goal.returns-clause-has
 returns-clause-has c =
     let world = c.args.world.now in
     let ys : List Row = c.sort_unstable_by_key.new.self.items in
-    let listed : c.in_ok-rows.rows.items ≡ map row_of world = c.in_ok-rows.ensures ∙ ap (map row_of) c.as_slice.ensures.members in
-    let perm : IsPermutation (map row_of world) ys = subst (λ (l : List Row). IsPermutation l ys) listed c.sort_unstable_by_key.ensures.permutation in
+    let listed : c.in_ok-rows.rows.items ≡ map bucket_row world = c.in_ok-rows.ensures ∙ ap (map bucket_row) c.as_slice.ensures.members in
+    let perm : IsPermutation (map bucket_row world) ys = subst (λ (l : List Row). IsPermutation l ys) listed c.sort_unstable_by_key.ensures.permutation in
     has_row-sorted world ys c.as_slice.ensures.world.rising perm
