@@ -1,14 +1,14 @@
 -- A list of rows and a base, through a change that keeps the base or doesn't.
-use Rattle.std.proofs.Common.{◌≡◌, ◌∙◌, Bool, true, false, List, [], ap, sym}
+use Rattle.std.proofs.Common.{◌≡◌, ◌∙◌, ℕ, Bool, true, false, List, [], ap, sym}
 use mathlib.Core.Bool.{true≢false}
 use Rattle.std.specs.Arc.{arc_value}
 use Rattle.bucket_versions.specs.declared.row.Row.{Row}
 use Rattle.bucket_versions.specs.declared.content.Base.{Base}
 use Rattle.bucket_versions.specs.declared.content.Base.TheVariants.{Own, Beside, Below}
-use Rattle.bucket_versions.specs.Rows.{IsRows, AreRows, as_base, rows_over}
+use Rattle.bucket_versions.specs.Rows.{IsRows, AreRows, as_base, rows_over, rows_between}
 use Rattle.bucket_versions.specs.Delta.{AreParts, delta_len, difference, turn}
 use Rattle.bucket_versions.specs.Content.{base_in, is_listed, kept_in, IsReady, settled}
-use Rattle.bucket_versions.proofs.RowSets.{AreRows-now, IsRows-turn, difference-turn, difference-none, length-delta}
+use Rattle.bucket_versions.proofs.RowSets.{AreRows-now, IsRows-turn, difference-turn, difference-none, difference-between, length-delta}
 
 -- a row is turned in the list
 pub ready_turned : (keeps : Bool) (b : Base) (list now : List Row) (r : Row) → AreParts (base_in b list) list → IsReady keeps b → now ≡ turn r list
@@ -45,3 +45,8 @@ kept_rising b list parts = AreRows-now (is_listed b) (base_in b list) list parts
 pub delta-none : (rows : List Row) → IsRows rows → delta_len (as_base rows) ≡ 0
 delta-none rows rising =
     sym (length-delta rows [] rising tt ∙ ap (λ (l : List Row). delta_len (record { base = rows; rows = l })) (difference-none rows))
+
+-- where no row of a delta lies between two keys, the rows there are the base's
+pub between-base : (lo hi : ℕ) (base delta : List Row) → IsRows base → IsRows delta → rows_between lo hi delta ≡ [] → rows_between lo hi (difference base delta) ≡ rows_between lo hi base
+between-base lo hi base delta rising other none =
+    sym (difference-between lo hi base delta rising other) ∙ ap (difference (rows_between lo hi base)) none ∙ difference-none (rows_between lo hi base)

@@ -1,6 +1,7 @@
 -- Rows in order: by key, and then by id, none twice.
 use Rattle.std.specs.Prelude.{ℕ, suc, nat_le, nat_lt, Bool, not, ◌&&◌, ◌||◌, ◌==◌, List, [], ◌∷◌, if◌then◌else◌, ⊤, IsTrue}
 use Rattle.std.specs.List.{filter, list_any}
+use Rattle.std.specs.Cmp.Lexicographic.{pointwise}
 use Rattle.bucket_versions.specs.declared.row.Row.{Row}
 use Rattle.bucket_versions.specs.declared.row.RowChange.{RowChange}
 
@@ -16,6 +17,10 @@ is_below a b = nat_lt a.key b.key || ((a.key == b.key) && nat_lt a.id b.id)
 -- whether two rows are one
 abbrev pub same_row : Row → Row → Bool
 same_row a b = (a.key == b.key) && (a.id == b.id)
+
+-- whether two lists of rows are one
+abbrev pub same_rows : List Row → List Row → Bool
+same_rows = pointwise same_row
 
 -- each row is above this one
 abbrev pub IsAbove : Row → List Row → Type 0

@@ -1,10 +1,11 @@
 //! A bucket: rows in order, and the base that they came from.
 ghost use Rattle.std.specs.Prelude.{◌≡◌, ◌+◌, ◌↔◌, length, true, false, IfOk, IsTrue, IsErrOf};
 ghost use Rattle.std.specs.Arc.{arc_value};
-ghost use Rattle.bucket_versions.specs.Rows.{IsRows, AreRows, has_row, as_base, with_rows, put_row, gone_row, rows_over, rows_between};
+ghost use Rattle.bucket_versions.specs.Rows.{IsRows, AreRows, has_row, same_rows, as_base, with_rows, put_row, gone_row, rows_over, rows_between};
 ghost use Rattle.bucket_versions.specs.Delta.{AreParts, delta_len, difference, turn};
 
 mod in_place;
+mod shares;
 
 use crate::content::{Base, Content};
 use crate::deltas::merged;
@@ -12,6 +13,7 @@ use crate::places;
 use crate::row::Row;
 use crate::walk::BucketRows;
 pub use in_place::{pass, put, shift, take};
+pub use shares::{caught_up, folded};
 use std::alloc::{AllocError, Global};
 use std::marker::Model;
 use std::sync::Arc;
@@ -80,18 +82,19 @@ impl Bucket {
         requires { IsRows rows.now }
         ensures { IfOk result (λ b. b ≡ as_base rows.now) }
     {
-        Ok(Bucket::of(alloc, Vec::from_slice(alloc, rows)?))
+        Ok(Bucket::from_vec(alloc, Vec::from_slice(alloc, rows)?))
     }
 
-    fn of(alloc: Global, list: Vec<Row>) -> Bucket
-        requires { IsRows list.items }
-        ensures { result ≡ as_base list.items }
+    /// The same of a list that is there: it takes no memory.
+    pub fn from_vec(alloc: Global, rows: Vec<Row>) -> Bucket
+        requires { IsRows rows.items }
+        ensures { result ≡ as_base rows.items }
     {
         Bucket {
             alloc,
             content: Content {
                 base: Base::Own,
-                list,
+                list: rows,
             },
         }
     }
@@ -132,30 +135,40 @@ impl Bucket {
         })
     }
 
-    /// The bucket with its rows as base.
-    pub fn folded(&self) -> Result<Bucket, Memory>
+    // The bucket with its rows as base.
+    fn with_own_base(&self) -> Result<Bucket, Memory>
         ensures { IfOk result (λ b. b ≡ as_base self.now.rows) }
     {
         let (base, delta) = self.parts();
-        Ok(Bucket::of(self.alloc, merged(self.alloc, base, delta)?))
+        Ok(Bucket::from_vec(self.alloc, merged(self.alloc, base, delta)?))
     }
 
     /// The bucket on its base where that is kept, and else with its rows as base.
     pub fn settled(self, keeps_base: bool) -> Result<Bucket, Memory>
         ensures { IfOk result (λ b. b ≡ rows_over keeps_base self.rows self) }
     {
-        if keeps_base { Ok(self) } else { self.folded() }
+        if keeps_base {
+            Ok(self)
+        } else {
+            self.with_own_base()
+        }
     }
 
-    /// This bucket, which was cut out of the base of another one, with the rows that that one has now.
-    pub fn caught_up(&self, from: &Bucket, lo: u64, hi: u64) -> Result<Bucket, Memory>
-        requires { self.now.rows ≡ rows_between lo hi from.now.base }
-        ensures { IfOk result (λ b. b ≡ as_base (rows_between lo hi from.now.rows)) }
+    /// A bucket of the rows of the base with keys from `lo` to `hi`.
+    pub fn cut(&self, lo: u64, hi: u64) -> Result<Bucket, Memory>
+        ensures { IfOk result (λ b. b ≡ as_base (rows_between lo hi self.now.base)) }
     {
-        let (base, delta) = from.parts();
+        Bucket::from_rows(self.alloc, places::between(self.base_rows(), lo, hi))
+    }
+
+    // A bucket of the rows with keys from `lo` to `hi`.
+    fn cut_now(&self, lo: u64, hi: u64) -> Result<Bucket, Memory>
+        ensures { IfOk result (λ b. b ≡ as_base (rows_between lo hi self.now.rows)) }
+    {
+        let (base, delta) = self.parts();
         let some = places::between(base, lo, hi);
         let late = places::between(delta, lo, hi);
-        Ok(Bucket::of(self.alloc, merged(self.alloc, some, late)?))
+        Ok(Bucket::from_vec(self.alloc, merged(self.alloc, some, late)?))
     }
 
     /// This bucket, under a pointer that indexes share.
@@ -165,12 +178,32 @@ impl Bucket {
         Ok(Arc::new(self.alloc, self)?)
     }
 
-    /// The rows of the base, in order.
-    pub fn base_rows(&self) -> &[Row]
+    fn base_rows(&self) -> &[Row]
         ensures base { result.now ≡ self.now.base }
         ensures in_order { AreRows self.now }
     {
         self.content.base_rows()
+    }
+
+    /// Whether both have the same base.
+    pub fn has_base_of(&self, other: &Bucket) -> bool
+        ensures { result ≡ same_rows self.now.base other.now.base }
+    {
+        self.base_rows() == other.base_rows()
+    }
+
+    // Whether the rows are their own base, as its form tells.
+    fn is_own_base(&self) -> bool
+        ensures { IsTrue result → self.now ≡ as_base self.now.rows }
+    {
+        self.content.is_own_base()
+    }
+
+    // Whether no row with a key from `lo` to `hi` came or went, as its form tells.
+    fn is_as_cut(&self, lo: u64, hi: u64) -> bool
+        ensures { IsTrue result → rows_between lo hi self.now.rows ≡ rows_between lo hi self.now.base }
+    {
+        self.content.is_as_cut(lo, hi)
     }
 
     /// How many rows there are. Where a base is kept it costs one pass over it and a delta of 32 rows at most, and else nothing.

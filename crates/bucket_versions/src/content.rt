@@ -1,8 +1,8 @@
 //! What a bucket keeps: a list of rows, and a base that is this list or stands apart from it.
-ghost use Rattle.std.specs.Prelude.{◌≡◌, ◌<◌, ◌^◌, false, true, length, if◌then◌else◌, IfOk, OnOk, OnErr};
+ghost use Rattle.std.specs.Prelude.{◌≡◌, ◌<◌, ◌^◌, false, true, length, if◌then◌else◌, IfOk, OnOk, OnErr, IsTrue};
 ghost use Rattle.std.specs.Arc.{arc_value};
 ghost use Rattle.bucket_versions.specs.declared.content.Base.{Base};
-ghost use Rattle.bucket_versions.specs.Rows.{has_row, with_rows, rows_over, after_put};
+ghost use Rattle.bucket_versions.specs.Rows.{has_row, as_base, with_rows, rows_over, rows_between, after_put};
 ghost use Rattle.bucket_versions.specs.Delta.{AreParts, delta_len, difference, turn, after_turn};
 ghost use Rattle.bucket_versions.specs.Content.{kept, AreKept, is_own, is_listed, IsReady, settled};
 ghost use Rattle.bucket_versions.specs.Told.{Told};
@@ -11,6 +11,7 @@ use crate::bucket::Bucket;
 use crate::commit::{Commit, Undone};
 use crate::deltas::merged;
 use crate::own_rows;
+use crate::places::between;
 use crate::row::{Row, RowChange};
 use crate::walk::BucketRows;
 use std::alloc::{AllocError, Global};
@@ -59,6 +60,25 @@ impl Content {
             Base::Own => &self.list,
             Base::Beside(base) => base,
             Base::Below(base) => base,
+        }
+    }
+
+    /// Whether the rows are their own base, as its form tells.
+    pub(crate) fn is_own_base(&self) -> bool
+        ensures { IsTrue result → kept self.now ≡ as_base (kept self.now).rows }
+    {
+        matches!(self.base, Base::Own)
+    }
+
+    /// Whether no row with a key from `lo` to `hi` came or went, as its form tells: a list of all rows beside a base tells it of none.
+    pub(crate) fn is_as_cut(&self, lo: u64, hi: u64) -> bool
+        requires { AreKept self.now }
+        ensures { IsTrue result → rows_between lo hi (kept self.now).rows ≡ rows_between lo hi (kept self.now).base }
+    {
+        match &self.base {
+            Base::Own => true,
+            Base::Beside(_) => false,
+            Base::Below(_) => between(&self.list, lo, hi).is_empty(),
         }
     }
 

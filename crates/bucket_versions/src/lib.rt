@@ -3,8 +3,9 @@
 //! Contracts see a `Bucket` as two lists of distinct rows in order: its base, and its rows now. Mostly the rows are their own
 //! base, and it keeps one list. A base that is kept while rows change stands apart, where versions share it, and the list has the
 //! delta: the rows that stand in exactly one of the two. A delta of 32 rows gives way to the list of all rows. `with_put` and
-//! `with_gone` give a new bucket with the same base, `folded` makes the rows its base, and `caught_up` gives a bucket that was
-//! cut out of another one's base the rows that this one has since. `put`, `take`, `shift` and `pass` change what a pointer holds,
+//! `with_gone` give a new bucket with the same base, `folded` makes the rows its base, `cut` makes a bucket of some of the base's
+//! rows, and `caught_up` gives such a one the rows that the other has since. No call hands out rows of a bucket but `rows`, which
+//! is a step. `put`, `take`, `shift` and `pass` change what a pointer holds,
 //! in place where nobody shares it, and keep its base or don't (`RowChange`). They wait for a step that may fail (`Commit`), and
 //! take it when all memory is there, before anything changes. `own` gives what a pointer holds to write to, in a trie too.
 //!
@@ -19,11 +20,11 @@ mod own_rows;
 mod owned;
 mod places;
 mod row;
+mod sending;
 mod walk;
 
-pub use bucket::{Bucket, BucketFault, pass, put, shift, take};
+pub use bucket::{Bucket, BucketFault, caught_up, folded, pass, put, shift, take};
 pub use commit::{AtOnce, Commit, Undone};
 pub use owned::own;
-pub use places::between;
 pub use row::{Row, RowChange};
 pub use walk::BucketRows;

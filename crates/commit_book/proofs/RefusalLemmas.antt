@@ -6,7 +6,7 @@ use Rattle.std.specs.Cmp.Lexicographic.{pointwise_decides}
 use Rattle.std.proofs.lemmas.Bool.Decides.{nat_tests}
 use mathlib.Core.Bool.{true≢false}
 use Rattle.zorder.specs.SameName.{same_name, same_name-decides}
-use Rattle.bucket_versions.specs.Rows.{same_row}
+use Rattle.bucket_versions.specs.Rows.{same_row, same_rows}
 use Rattle.bucket_versions.proofs.RowOrder.{same_row-eq, same_row-refl}
 use Rattle.bucket_versions.specs.declared.row.Row.{Row}
 use Rattle.index_layer.specs.Leaves.{Leaf, names_of, has_name, leaf_named}
@@ -16,7 +16,7 @@ use Rattle.plain_list.specs.History.{failed_cell}
 use Rattle.commit_book.specs.IsBook.{most_events}
 use Rattle.kept_log.specs.Journal.{cells_in}
 use Rattle.commit_book.specs.BookView.{BookView}
-use Rattle.commit_book.specs.Refusals.{IsRefusedBy, IsNoFault, first_of, closed_refusal, events_refusal, call_refusal, end_refusal, room_refusal, most_cells, most_events_to_begin, most_cells_to_begin, split_number, leaf_refusal, begin_refusal, is_open, same_rows, has_base, install_refusal, abandon_refusal}
+use Rattle.commit_book.specs.Refusals.{IsRefusedBy, IsNoFault, first_of, closed_refusal, events_refusal, call_refusal, end_refusal, room_refusal, most_cells, most_events_to_begin, most_cells_to_begin, split_number, leaf_refusal, begin_refusal, is_open, has_base, install_refusal, abandon_refusal}
 use Rattle.commit_book.specs.declared.faults.BookFault.{BookFault}
 use Rattle.commit_book.specs.declared.faults.BookFault.TheVariants.{Closed, HistoryFull, LogFull, Room, Splitting, Deep, NoLeaf, Stale, NotOpen}
 

@@ -1,10 +1,9 @@
 -- Why a call of a book is refused: the cause that comes first.
 use Rattle.std.specs.Prelude.{◌≡◌, ◌⊎◌, ℕ, ◌+◌, nat_lt, ◌==◌, Bool, true, false, not, ◌&&◌, ◌||◌, List, [], ◌∷◌, ◌++◌, length, if◌then◌else◌, Option, Some, None, is_some, Result, Ok, Err, ⊤}
 use Rattle.std.specs.Option.{option_map, option_map_or}
-use Rattle.std.specs.Cmp.Lexicographic.{pointwise}
 use Rattle.zorder.specs.SameName.{same_name}
 use Rattle.bucket_versions.specs.declared.row.Row.{Row}
-use Rattle.bucket_versions.specs.Rows.{same_row}
+use Rattle.bucket_versions.specs.Rows.{same_rows}
 use Rattle.index_layer.specs.Leaves.{Leaf, leaf_named}
 use Rattle.plain_list.specs.declared.ops.Op.{Op}
 use Rattle.plain_list.specs.declared.entries.Entry.{Entry}
@@ -124,10 +123,6 @@ room_refusal cells events = if has_no_room cells events then Some (Room cells ev
 abbrev pub begin_refusal : {D : Type 0} → ℕ → BookView D → List Bool → Option BookFault
 begin_refusal w b name =
     first_of (closed_refusal b.entries) (first_of (room_refusal (cells_in b.log) (length b.entries)) (leaf_refusal w (state_after w b.opening b.entries) name))
-
--- whether two lists of rows are one
-abbrev pub same_rows : List Row → List Row → Bool
-same_rows = pointwise same_row
 
 -- whether an open split has this number and this name
 abbrev pub is_open : List OpenSplit → ℕ → List Bool → Bool

@@ -1,39 +1,18 @@
 //! Worked values of a bucket's calls.
 ghost use Rattle.std.specs.Prelude.{◌≡◌, [], ◌∷◌};
+ghost use Rattle.std.specs.Arc.{arc_value};
+ghost use Rattle.bucket_versions.specs.Rows.{as_base, rows_between};
 
-use crate::checks::same_rows;
-use bucket_versions::{Bucket, BucketFault, Row};
+use crate::checks::{is_listed, same_bucket};
+use bucket_versions::{Bucket, BucketFault, Row, caught_up, folded};
 use std::alloc::Global;
-use std::marker::Brand;
 use std::process::Abort;
-use std::sync::ledger::{Blank, Ledger};
-use step_count::Steps;
+use std::sync::Arc;
 
 fn row(key: u64, id: u64) -> Row
     ensures { result ≡ record { key = key; id = id } }
 {
     Row { key, id }
-}
-
-// Whether a bucket lists these rows.
-fn lists<L: Ledger>(bucket: &Bucket, rows: &[Row], blank: Blank) -> bool
-    requires name { blank.name ≡ L.name }
-    requires parts { blank.parts ≡ L.parts }
-    requires one_part { blank.parts ≡ 1 }
-{
-    let mut steps = Steps::<L>::new(blank);
-    bucket.rows(&mut steps).eq(rows)
-}
-
-fn is_listed(bucket: &Bucket, rows: &[Row]) -> bool {
-    lists::<Brand>(bucket, rows, Blank::new(1))
-}
-
-fn in_threads<T: Send + Sync>() {}
-
-#[test]
-fn a_bucket_may_be_shared_and_sent() {
-    in_threads::<Bucket>();
 }
 
 const TWO: [Row; 2] = [Row { key: 1, id: 9 }, Row { key: 27, id: 7 }];
@@ -77,14 +56,15 @@ fn expect_delta(
 }
 
 fn expect_folded(rt: &impl Abort, bucket: &Bucket, rows: &[Row]) {
-    let folded = bucket.folded().expect(rt, "it failed");
-    same_rows(rt, folded.base_rows(), rows);
+    let bucket = bucket.clone().expect(rt, "it failed");
+    let bucket = bucket.into_shared().expect(rt, "it failed");
+    same_bucket(rt, &folded(&bucket).expect(rt, "it failed"), rows);
 }
 
 // `c` is `b` with a put.
 fn keeps_the_base(rt: &impl Abort, b: &Bucket, c: &Bucket) {
     expect_delta(rt, b.with_put(row(27, 7)), Err(BucketFault::Present));
-    same_rows(rt, c.base_rows(), &TWO);
+    assert_is!(rt; c.has_base_of(b));
     expect_told(rt, c, row(2, 4), (3, 1, true));
     expect_told(rt, b, row(2, 4), (2, 0, false));
 }
@@ -106,7 +86,7 @@ fn keeps_the_other_rows(rt: &impl Abort, c: &Bucket, d: &Bucket) {
     expect_delta(rt, c.with_gone(row(2, 4)), Ok(0));
     expect_told(rt, d, row(27, 7), (2, 2, false));
     expect_delta(rt, d.with_put(row(27, 7)), Ok(1));
-    same_rows(rt, d.base_rows(), &TWO);
+    assert_is!(rt; d.has_base_of(c));
     expect_folded(rt, d, &THREE[..2]);
 }
 
@@ -126,20 +106,54 @@ fn a_removal_keeps_the_base_and_the_other_rows(rt: HostRuntime) {
     takes_a_removal(&rt, &three_rows(&rt, rt.alloc()));
 }
 
-// A bucket whose base has a row less in its range than the other has.
-fn caught_up(rt: &impl Abort, alloc: Global) -> Bucket {
-    let two = Bucket::from_rows(alloc, &[row(1, 9), row(27, 7)]).expect(rt, "it failed");
-    let three = two.with_put(row(2, 4)).expect(rt, "it failed");
-    let cut = Bucket::from_rows(alloc, &[row(27, 7)]).expect(rt, "it failed");
-    cut.caught_up(&three, 2, 27).expect(rt, "it failed")
+// What is cut out of the base of two rows from 2 to 27.
+fn cut(rt: &impl Abort, two: &Bucket) -> Arc<Bucket>
+    ensures { arc_value result ≡ as_base (rows_between 2 27 two.now.base) }
+{
+    let cut = two.cut(2, 27).expect(rt, "it failed");
+    cut.into_shared().expect(rt, "it failed")
 }
 
-fn expect_late(rt: &impl Abort, late: &Bucket) {
-    same_rows(rt, late.base_rows(), &THREE[1..]);
-    assert_same!(rt; late.count(), 2);
+// The same, with what came since.
+fn late(rt: &impl Abort, two: &Bucket, row: Row) -> (Arc<Bucket>, Arc<Bucket>) {
+    let cut = cut(rt, two);
+    let three = two.with_put(row).expect(rt, "it failed");
+    let late = caught_up(&cut, &three, 2, 27).expect(rt, "it failed");
+    (cut, late)
+}
+
+fn expect_late(rt: &impl Abort, two: &Bucket, row: Row, rows: &[Row]) {
+    let (_cut, late) = late(rt, two, row);
+    same_bucket(rt, &late, rows);
+    assert_same!(rt; late.count(), rows.len() as u64);
 }
 
 #[test]
 fn a_cut_bucket_catches_up_with_the_rows_in_its_range(rt: HostRuntime) {
-    expect_late(&rt, &caught_up(&rt, rt.alloc()));
+    expect_late(&rt, &two_rows(&rt, rt.alloc()), row(2, 4), &THREE[1..]);
+}
+
+// How many pointers there are to what was cut, the one that it came by among them.
+fn owners_behind(rt: &impl Abort, two: &Bucket, row: Row) -> usize {
+    let (cut, _late) = late(rt, two, row);
+    Arc::strong_count(&cut)
+}
+
+fn owners_of_a_fold(rt: &impl Abort, bucket: Bucket) -> usize {
+    let bucket = bucket.into_shared().expect(rt, "it failed");
+    let _folded = folded(&bucket).expect(rt, "it failed");
+    Arc::strong_count(&bucket)
+}
+
+fn shares_what_stays(rt: &impl Abort, alloc: Global) {
+    let two = two_rows(rt, alloc);
+    assert_same!(rt; owners_behind(rt, &two, row(1, 4)), 2);
+    assert_same!(rt; owners_behind(rt, &two, row(2, 4)), 1);
+    assert_same!(rt; owners_of_a_fold(rt, three_rows(rt, alloc)), 1);
+    assert_same!(rt; owners_of_a_fold(rt, two), 2);
+}
+
+#[test]
+fn no_row_is_copied_where_a_bucket_would_be_as_it_is(rt: HostRuntime) {
+    shares_what_stays(&rt, rt.alloc());
 }

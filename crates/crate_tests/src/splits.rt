@@ -3,7 +3,7 @@ ghost use Rattle.std.specs.Prelude.{◌≡◌, [], IfOk};
 ghost use Rattle.std.specs.Arc.{arc_value};
 ghost use Rattle.bucket_versions.specs.Under.{AreUnder};
 
-use crate::checks::same_rows;
+use crate::checks::same_bucket;
 use bucket_versions::{Bucket, Row};
 use split_prepare::{Prepared, SplitTicket, prepare};
 use std::alloc::Global;
@@ -33,14 +33,6 @@ fn begun(alloc: Global, number: u64, bucket: Bucket) -> Result<SplitTicket, Memo
     })
 }
 
-fn sent<T: Send>() {}
-
-#[test]
-fn a_ticket_and_what_was_prepared_may_be_sent() {
-    sent::<SplitTicket>();
-    sent::<Prepared>();
-}
-
 fn expect_children(rt: &impl Abort, prepared: &Prepared, wanted: &[&[Row]]) {
     assert_same!(rt; prepared.children().len(), wanted.len());
     for (child, rows) in prepared.children().iter().zip(wanted) {
@@ -49,33 +41,37 @@ fn expect_children(rt: &impl Abort, prepared: &Prepared, wanted: &[&[Row]]) {
 }
 
 fn expect_child(rt: &impl Abort, child: &Bucket, rows: &[Row]) {
-    same_rows(rt, child.base_rows(), rows);
+    same_bucket(rt, child, rows);
     assert_same!(rt; child.count(), rows.len() as u64);
 }
 
 const BASE: &[Row] = &[Row { key: 1, id: 9 }, Row { key: 27, id: 7 }];
 
-fn expect_head(rt: &impl Abort, prepared: &Prepared) {
+fn expect_head(rt: &impl Abort, prepared: &Prepared, base: &Bucket) {
     assert_same!(rt; (prepared.number(), prepared.name()), (5, Name::whole()));
-    same_rows(rt, prepared.base_rows(), BASE);
+    assert_is!(rt; prepared.is_cut_from(base));
+}
+
+fn base_rows(rt: &impl Abort, alloc: Global) -> Bucket {
+    Bucket::from_rows(alloc, &[row(1, 9), row(27, 7)]).expect(rt, "a bucket")
 }
 
 // A split into two, of a bucket that has a row behind its base.
 fn two_children(rt: &impl Abort, alloc: Global) -> Prepared {
-    let bucket = Bucket::from_rows(alloc, &[row(1, 9), row(27, 7)]).expect(rt, "a bucket");
-    let bucket = bucket.with_put(row(UPPER, 4)).expect(rt, "a bucket");
-    let ticket = begun(alloc, 5, bucket).expect(rt, "a ticket");
+    let bucket = base_rows(rt, alloc).with_put(row(UPPER, 4));
+    let ticket = begun(alloc, 5, bucket.expect(rt, "a bucket")).expect(rt, "a ticket");
     prepare(alloc, &ticket, 1).expect(rt, "two children")
 }
 
-fn expect_two(rt: &impl Abort, prepared: &Prepared) {
-    expect_head(rt, prepared);
+fn expect_two(rt: &impl Abort, prepared: &Prepared, base: &Bucket) {
+    expect_head(rt, prepared, base);
     expect_children(rt, prepared, &[BASE, &[]]);
 }
 
 #[test]
 fn each_child_has_the_base_rows_under_its_name(rt: HostRuntime) {
-    expect_two(&rt, &two_children(&rt, rt.alloc()));
+    let base = base_rows(&rt, rt.alloc());
+    expect_two(&rt, &two_children(&rt, rt.alloc()), &base);
 }
 
 fn four_children(rt: &impl Abort, alloc: Global) -> Prepared {

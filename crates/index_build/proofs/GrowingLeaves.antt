@@ -154,13 +154,15 @@ module _ {w : ℕ} {rows : List Row} {wanted : List (List Bool)} {first : ℕ} {
         }
 
 -- one leaf stands there for the whole space
-pub whole-there : (rows given : List Row) (wanted : List (List Bool)) (name : List Bool) (bucket : Rows) (leaves : List Leaf) → name ≡ [] → given ≡ rows → bucket ≡ cut_out given name → leaves ≡ one_leaf bucket
-    → HasGrownTo rows wanted 0 (name ∷ []) [] leaves
-whole-there rows given wanted name bucket leaves whole same cut_is is = is ∙ (λ i. record { name = sym whole i; bucket = (cut_is ∙ ap (λ (rs : List Row). cut_out rs name) same) i } ∷ [])
+whole-there : (rows : List Row) (wanted : List (List Bool)) (name : List Bool) (bucket : Rows) (leaves : List Leaf) → name ≡ [] → bucket ≡ cut_out rows name → leaves ≡ one_leaf bucket → HasGrownTo rows wanted 0 (name ∷ []) [] leaves
+whole-there rows wanted name bucket leaves whole cut_is is = is ∙ (λ i. record { name = sym whole i; bucket = cut_is i } ∷ [])
 
--- where nothing is left, the leaves are the wanted ones
-pub all_there : (rows : List Row) (wanted : List (List Bool)) (done : ℕ) (leaves : List Leaf) → tiles_from 0 wanted ≡ true → AreLeaves leaves → HasGrownTo rows wanted done [] [] leaves → leaves ≡ leaves_for rows wanted
-all_there rows wanted done leaves tile are is = is ∙ ap (leaves_for rows) (all_done wanted done tile (tile_there rows wanted done [] [] leaves is are))
+-- where that leaf was grown on until nothing is left, the leaves are the wanted ones
+pub all_there : (rows : List Row) (wanted : List (List Bool)) (name : List Bool) (bucket : Rows) (first leaves : List Leaf) (done : ℕ) → name ≡ [] → bucket ≡ cut_out rows name → first ≡ one_leaf bucket
+    → tiles_from 0 wanted ≡ true → AreLeaves leaves → ((later : List (List Bool)) → HasGrownTo rows wanted 0 (name ∷ []) later first → HasGrownTo rows wanted done [] later leaves) → leaves ≡ leaves_for rows wanted
+all_there rows wanted name bucket first leaves done whole cut_is one tile are grown =
+    let is = grown [] (whole-there rows wanted name bucket first whole cut_is one) in
+    is ∙ ap (leaves_for rows) (all_done wanted done tile (tile_there rows wanted done [] [] leaves is are))
 
 -- a leaf of those that are made has the rows of a world that are under its name
 module _ (places : List Placed) (rows : List Row) (has : (r : Row) → has_row r rows ≡ places_have places r) where

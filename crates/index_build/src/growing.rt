@@ -1,15 +1,13 @@
 //! An index whose leaves are split on until they are those that are wanted.
 ghost use Rattle.std.specs.Prelude.{◌≡◌, ◌≤◌, ◌+◌, ◌%◌, [], ◌∷◌, Bool, List, length, true, slice_index_or, IfOk, OnOk};
-ghost use Rattle.bucket_versions.specs.Rows.{IsRows};
 ghost use Rattle.index_layer.specs.Leaves.{has_name, split};
 ghost use Rattle.split_prepare.specs.Cut.{cut};
 ghost use Rattle.index_build.specs.Grown.{IsGrown};
 ghost use Rattle.index_build.specs.Growing.{HasGrownTo};
 
-use crate::cuts::buckets_under;
-use bucket_versions::{AtOnce, Row, Undone};
+use bucket_versions::{AtOnce, Bucket, Undone};
 use index_layer::Index;
-use split_prepare::child_at;
+use split_prepare::{child_at, cut};
 use std::alloc::Global;
 use zorder::{Memory, Name};
 
@@ -20,20 +18,20 @@ pub(crate) struct Growing<I: Index> {
     pub(crate) done: usize,
 }
 
-/// Splits the leaf of this name, which stands behind those that are done, until the leaves there are the wanted ones.
+/// Splits the leaf of this name, which stands behind those that are done, until the leaves there are the wanted ones. Each gets
+/// the rows under its name out of a bucket of all rows.
 pub(crate) fn grow<I: Index>(
     alloc: Global,
     growing: Growing<I>,
     name: &Name,
-    rows: &[Row],
+    whole: &Bucket,
     leaves: &[Name],
 ) -> Result<Growing<I>, Memory>
-    requires in_order { IsRows rows.now }
     requires grown { IsGrown I.WIDTH leaves.now }
     requires splits { length name.now % I.WIDTH ≡ 0 }
     requires longer { (d : List Bool) → length name.now ≤ length (slice_index_or leaves.now growing.done d) }
-    requires leaf { (later : List (List Bool)) × HasGrownTo rows.now leaves.now growing.done (name.now ∷ []) later (I.leaves growing.index) }
-    ensures { IfOk result (λ g. (later : List (List Bool)) → HasGrownTo rows.now leaves.now growing.done (name.now ∷ []) later (I.leaves growing.index) → HasGrownTo rows.now leaves.now g.done [] later (I.leaves g.index)) }
+    requires leaf { (later : List (List Bool)) × HasGrownTo whole.now.base leaves.now growing.done (name.now ∷ []) later (I.leaves growing.index) }
+    ensures { IfOk result (λ g. (later : List (List Bool)) → HasGrownTo whole.now.base leaves.now growing.done (name.now ∷ []) later (I.leaves growing.index) → HasGrownTo whole.now.base leaves.now g.done [] later (I.leaves g.index)) }
 {
     let Growing { mut index, done } = growing;
     if leaves[done] == *name {
@@ -42,14 +40,14 @@ pub(crate) fn grow<I: Index>(
             done: done + 1,
         });
     }
-    split(alloc, &mut index, name, rows)?;
+    split(alloc, &mut index, name, whole)?;
     let mut growing = Growing { index, done };
     for place in 0..1 << I::WIDTH {
         growing = grow(
             alloc,
             growing,
             &child_at(name, I::WIDTH, place),
-            rows,
+            whole,
             leaves,
         )?;
     }
@@ -57,13 +55,12 @@ pub(crate) fn grow<I: Index>(
 }
 
 // Splits a leaf, the rows shared out among its children.
-fn split<I: Index>(alloc: Global, index: &mut I, name: &Name, rows: &[Row]) -> Result<(), Memory>
-    requires in_order { IsRows rows.now }
+fn split<I: Index>(alloc: Global, index: &mut I, name: &Name, whole: &Bucket) -> Result<(), Memory>
     requires short { length name.now + I.WIDTH ≤ 64 }
     requires leaf { has_name name.now (I.leaves index.old) ≡ true }
-    ensures { OnOk result (I.leaves index.new ≡ split I.WIDTH name.now (cut I.WIDTH name.now rows.now) (I.leaves index.old)) }
+    ensures { OnOk result (I.leaves index.new ≡ split I.WIDTH name.now (cut I.WIDTH name.now whole.now.base) (I.leaves index.old)) }
 {
-    let children = buckets_under(alloc, rows, name, I::WIDTH)?;
+    let children = cut(alloc, whole, name, I::WIDTH)?;
     match index.divide(name, &children, &mut AtOnce) {
         Ok(()) => Ok(()),
         Err(Undone::Memory) => Err(Memory),

@@ -4,11 +4,10 @@
 //! world, its leaves of these names, each bucket just folded. It begins with one leaf and splits on until the leaves are
 //! those that are wanted, in key order.
 //!
-//! Not here: which names a log's splits leave (`plain_list`), and how an index changes later (`commit_book`).
+//! Not here: which names a log's splits leave (`plain_list`), and how an index changes later (`index_layer`, `point_table`).
 #![tactic(auto)]
 
 mod built;
-mod cuts;
 mod growing;
 mod rows;
 

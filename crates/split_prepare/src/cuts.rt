@@ -1,15 +1,14 @@
 //! How a bucket is cut.
-ghost use Rattle.std.specs.Prelude.{◌≡◌, ◌⊎◌, ◌≤◌, ◌<◌, ◌+◌, ◌^◌, length, slice_get, Some, IfOk};
+ghost use Rattle.std.specs.Prelude.{◌≡◌, ◌⊎◌, ◌≤◌, ◌<◌, ◌+◌, ◌^◌, length, map, slice_get, Some, IfOk};
 ghost use Rattle.std.specs.Arc.{arc_value};
 ghost use Rattle.zorder.specs.Tile.{children};
-ghost use Rattle.bucket_versions.specs.Rows.{IsRows};
 ghost use Rattle.bucket_versions.specs.Under.{AreUnder};
-ghost use Rattle.split_prepare.specs.Cut.{cut, HaveRowsUnder};
+ghost use Rattle.split_prepare.specs.Cut.{cut, cut_out, HaveRowsUnder};
 ghost use Rattle.split_prepare.specs.Prepared.{prepared_of};
 
 use crate::prepared::Prepared;
 use crate::ticket::SplitTicket;
-use bucket_versions::{Bucket, Row, between};
+use bucket_versions::Bucket;
 use prefix_names::key_range;
 use std::alloc::Global;
 use std::sync::Arc;
@@ -29,6 +28,33 @@ pub fn child_at(name: &Name, width: u8, place: usize) -> Name
     }
 }
 
+/// A bucket of the rows of a bucket's base that are under a name.
+pub fn cut_out(bucket: &Bucket, name: &Name) -> Result<Arc<Bucket>, Memory>
+    ensures { IfOk result (λ b. arc_value b ≡ cut_out bucket.now.base name.now) }
+{
+    let (lo, hi) = key_range(name);
+    bucket.cut(lo, hi)?.into_shared()
+}
+
+/// Such a bucket for each child of a name, in key order.
+pub fn cut(
+    alloc: Global,
+    bucket: &Bucket,
+    name: &Name,
+    width: u8,
+) -> Result<Vec<Arc<Bucket>>, Memory>
+    requires width { (width ≡ 1) ⊎ (width ≡ 2) }
+    requires short { length name.now + width ≤ 64 }
+    ensures { IfOk result (λ v. map arc_value v.items ≡ cut width name.now bucket.now.base) }
+{
+    let mut buckets = Vec::new(alloc);
+    for place in 0..1_usize << width {
+        let child = child_at(name, width, place);
+        buckets.push(cut_out(bucket, &child)?)?;
+    }
+    Ok(buckets)
+}
+
 /// Cuts the base of a ticket's bucket by the names of the leaf's children.
 pub fn prepare(alloc: Global, ticket: &SplitTicket, width: u8) -> Result<Prepared, Memory>
     requires width { (width ≡ 1) ⊎ (width ≡ 2) }
@@ -37,7 +63,9 @@ pub fn prepare(alloc: Global, ticket: &SplitTicket, width: u8) -> Result<Prepare
     ensures prepared { IfOk result (λ p. p ≡ prepared_of width ticket.now.number ticket.now.name (arc_value ticket.now.bucket).base) }
     ensures rows { IfOk result (λ p. HaveRowsUnder (children width ticket.now.name) (arc_value ticket.now.bucket).base p.children) }
 {
-    let children = cut_rows(alloc, ticket.bucket.base_rows(), &ticket.name, width)?;
+    // The bucket tells that its base rises.
+    let _told = ticket.bucket.count();
+    let children = cut(alloc, &ticket.bucket, &ticket.name, width)?;
     let bucket = Arc::try_clone(&ticket.bucket)?;
     Ok(Prepared {
         number: ticket.number,
@@ -46,19 +74,4 @@ pub fn prepare(alloc: Global, ticket: &SplitTicket, width: u8) -> Result<Prepare
         bucket,
         children,
     })
-}
-
-fn cut_rows(alloc: Global, rows: &[Row], name: &Name, width: u8) -> Result<Vec<Bucket>, Memory>
-    requires width { (width ≡ 1) ⊎ (width ≡ 2) }
-    requires short { length name.now + width ≤ 64 }
-    requires in_order { IsRows rows.now }
-    ensures { IfOk result (λ v. v.items ≡ cut width name.now rows.now) }
-{
-    let mut buckets = Vec::new(alloc);
-    for place in 0..1_usize << width {
-        let (lo, hi) = key_range(&child_at(name, width, place));
-        let bucket = Bucket::from_rows(alloc, between(rows, lo, hi))?;
-        buckets.push(bucket)?;
-    }
-    Ok(buckets)
 }

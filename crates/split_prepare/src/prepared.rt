@@ -1,8 +1,10 @@
 //! What is ready to be installed.
-ghost use Rattle.std.specs.Prelude.{◌≡◌};
+ghost use Rattle.std.specs.Prelude.{◌≡◌, map};
+ghost use Rattle.std.specs.Arc.{arc_value};
+ghost use Rattle.bucket_versions.specs.Rows.{same_rows};
 ghost use Rattle.split_prepare.specs.Prepared.{IsPrepared};
 
-use bucket_versions::{Bucket, Row};
+use bucket_versions::Bucket;
 use std::marker::Model;
 use std::sync::Arc;
 use zorder::Name;
@@ -14,7 +16,7 @@ pub struct Prepared {
     pub(crate) name: Name,
     pub(crate) width: u8,
     pub(crate) bucket: Arc<Bucket>,
-    pub(crate) children: Vec<Bucket>,
+    pub(crate) children: Vec<Arc<Bucket>>,
 }
 
 impl Model for Prepared {
@@ -45,17 +47,17 @@ impl Prepared {
         self.name
     }
 
-    /// The rows that were cut, in order.
-    pub fn base_rows(&self) -> &[Row]
-        ensures base { result.now ≡ self.now.base }
+    /// Whether the rows that were cut are the base of a bucket.
+    pub fn is_cut_from(&self, bucket: &Bucket) -> bool
+        ensures base { result ≡ same_rows bucket.now.base self.now.base }
         ensures prepared { IsPrepared self.now }
     {
-        self.bucket.base_rows()
+        bucket.has_base_of(&self.bucket)
     }
 
     /// The children's buckets, in key order.
-    pub fn children(&self) -> &[Bucket]
-        ensures children { result.now ≡ self.now.children }
+    pub fn children(&self) -> &[Arc<Bucket>]
+        ensures children { map arc_value result.now ≡ self.now.children }
         ensures prepared { IsPrepared self.now }
     {
         self.children.as_slice()

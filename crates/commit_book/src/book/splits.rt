@@ -13,7 +13,7 @@ ghost use Rattle.commit_book.specs.SplitSteps.{Begins, CanPrepare, Installs, Aba
 use crate::book::Book;
 use crate::faults::BookFault;
 use crate::steps::{Step, fault_of};
-use bucket_versions::{Commit, Row};
+use bucket_versions::Commit;
 use disk_trait::LogDisk;
 use index_layer::Index;
 use plain_list::{Entry, Lost};
@@ -137,7 +137,7 @@ impl<I: Index, D: LogDisk> Book<I, D> {
         self.check_end()?;
         let number = prepared.number();
         let name = prepared.name();
-        if self.splits.is_open(number, &name) && self.has_base(&name, prepared.base_rows()) {
+        if self.splits.is_open(number, &name) && self.has_base(&name, prepared) {
             Ok(())
         } else {
             Err(BookFault::Stale { number })
@@ -155,12 +155,12 @@ impl<I: Index, D: LogDisk> Book<I, D> {
         Ok(())
     }
 
-    // Whether the leaf of a name has this base.
-    fn has_base(&self, name: &Name, base: &[Row]) -> bool
-        ensures { result ≡ has_base self.now.leaves name.now base.now }
+    // Whether the base of a name's leaf is what was cut. All rows are compared: a value may come from anywhere.
+    fn has_base(&self, name: &Name, prepared: &Prepared) -> bool
+        ensures { result ≡ has_base self.now.leaves name.now prepared.now.base }
     {
         match self.table.bucket(name) {
-            Some(bucket) => bucket.base_rows() == base,
+            Some(bucket) => prepared.is_cut_from(bucket),
             None => false,
         }
     }

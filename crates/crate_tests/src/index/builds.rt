@@ -1,7 +1,7 @@
 //! An index that is made over a world, with given leaves.
 ghost use Rattle.std.specs.Prelude.{◌≡◌};
 
-use crate::checks::same_rows;
+use crate::checks::same_bucket;
 use crate::index::buckets::two_leaves;
 use bucket_versions::Row;
 use flat_index::FlatIndex;
@@ -55,7 +55,7 @@ const HIGH_ROWS: &[Row] = &[
 fn has_a_leaf<I: Index>(rt: &impl Abort, index: &I, key: u64, is_high: bool, rows: &[Row]) {
     let (name, bucket) = index.leaf_of(key);
     assert_is!(rt; name == child(&Name::whole(), is_high));
-    same_rows(rt, bucket.base_rows(), rows);
+    same_bucket(rt, bucket, rows);
 }
 
 fn builds_two_halves<I: Index>(rt: &impl Abort, alloc: Global)

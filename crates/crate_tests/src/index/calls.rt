@@ -46,15 +46,15 @@ fn refuses_a_quarter<I: Index>(rt: &impl Abort, alloc: Global, index: &I) {
     assert_is!(rt; matches!(refused, Some(IndexFault::NoLeaf { name: _ })));
 }
 
-// How many rows the leaf of a key has, and its base.
-fn sizes<I: Index>(index: &I, key: u64) -> (u64, usize) {
+// How many rows the leaf of a key has, and how many of them or of its base alone.
+fn sizes<I: Index>(index: &I, key: u64) -> (u64, u64) {
     let (_, bucket) = index.leaf_of(key);
-    (bucket.count(), bucket.base_rows().len())
+    (bucket.count(), bucket.delta_len())
 }
 
 // Two empty leaves, and then three rows in the first.
 fn has_three_rows<I: Index>(rt: &impl Abort, index: &I, filled: &I) {
-    assert_same!(rt; [sizes(filled, 27), sizes(filled, HIGH)], [(3, 2), (0, 0)]);
+    assert_same!(rt; [sizes(filled, 27), sizes(filled, HIGH)], [(3, 1), (0, 0)]);
     assert_same!(rt; sizes(index, 27), (0, 0));
 }
 

@@ -1,7 +1,6 @@
 //! A leaf that is folded, and one that gives way to its children.
 ghost use Rattle.std.specs.Prelude.{◌≡◌, ◌⊎◌, ◌+◌, ◌≤◌, ◌^◌, true, IfOk, OnOk, OnErr, length, map};
 ghost use Rattle.std.specs.Arc.{arc_value};
-ghost use Rattle.bucket_versions.specs.Rows.{as_base};
 ghost use Rattle.bucket_versions.specs.Told.{Told};
 ghost use Rattle.index_layer.specs.Leaves.{has_name};
 ghost use Rattle.split_prepare.specs.Cut.{cut, cut_out};
@@ -9,7 +8,7 @@ ghost use Rattle.point_table.specs.Divisions.{CanDivide, Folds, Divides, KeepsRe
 
 use crate::crowded::{Mark, is_over};
 use crate::table::PointTable;
-use bucket_versions::{Bucket, Commit, Undone};
+use bucket_versions::{Bucket, Commit, Undone, folded};
 use index_layer::Index;
 use prefix_names::key_range;
 use split_prepare::child_at;
@@ -41,11 +40,11 @@ impl<I: Index> PointTable<I> {
     pub fn divide<C: Commit>(
         &mut self,
         name: &Name,
-        parts: &[Bucket],
+        parts: &[Arc<Bucket>],
         commit: &mut C,
     ) -> Result<(), Undone>
         requires can { C.can commit.old }
-        requires leaf { CanDivide I.WIDTH name.now parts.now self.old.leaves }
+        requires leaf { CanDivide I.WIDTH name.now (map arc_value parts.now) self.old.leaves }
         ensures divides { OnOk result (Divides I.WIDTH name.now self.old.leaves self.new.leaves) }
         ensures rest { OnOk result (KeepsRest self.old self.new) }
         ensures err { OnErr result (self.new ≡ self.old) }
@@ -64,25 +63,17 @@ impl<I: Index> PointTable<I> {
     }
 }
 
-// A bucket's rows as its base.
-fn folded(bucket: &Bucket) -> Result<Arc<Bucket>, Memory>
-    ensures { IfOk result (λ b. arc_value b ≡ as_base bucket.now.rows) }
-{
-    let folded = bucket.folded()?;
-    folded.into_shared()
-}
-
 // A leaf's children, cut out of the base of its bucket, each with the rows that are under its name now.
 fn caught_up(
     alloc: Global,
     name: &Name,
     width: u8,
     from: &Bucket,
-    parts: &[Bucket],
+    parts: &[Arc<Bucket>],
 ) -> Result<Vec<Arc<Bucket>>, Memory>
     requires width { (width ≡ 1) ⊎ (width ≡ 2) }
     requires short { length name.now + width ≤ 64 }
-    requires cut { parts.now ≡ cut width name.now from.now.base }
+    requires cut { map arc_value parts.now ≡ cut width name.now from.now.base }
     ensures { IfOk result (λ v. map arc_value v.items ≡ cut width name.now from.now.rows) }
 {
     let mut buckets = Vec::new(alloc);
@@ -94,12 +85,12 @@ fn caught_up(
 }
 
 // One of them.
-fn child_now(name: &Name, from: &Bucket, part: &Bucket) -> Result<Arc<Bucket>, Memory>
-    requires { part.now ≡ cut_out from.now.base name.now }
+fn child_now(name: &Name, from: &Bucket, part: &Arc<Bucket>) -> Result<Arc<Bucket>, Memory>
+    requires { arc_value part.now ≡ cut_out from.now.base name.now }
     ensures { IfOk result (λ b. arc_value b ≡ cut_out from.now.rows name.now) }
 {
     let (lo, hi) = key_range(name);
-    part.caught_up(from, lo, hi)?.into_shared()
+    bucket_versions::caught_up(part, from, lo, hi)
 }
 
 // Which of a leaf's children are to be split.

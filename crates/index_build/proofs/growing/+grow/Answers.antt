@@ -7,7 +7,7 @@ use Rattle.index_build.proofs.growing.+grow.Goals as goal
 
 pub offset_bounds-leaves-done : goal.offset_bounds-leaves-done
 offset_bounds-leaves-done g t c =
-    let a : IsAsked g.I.Index.WIDTH c.args.rows.now c.args.leaves.now c.args.growing.done c.args.name.now (g.I.Index.leaves c.args.growing.index) = record {
+    let a : IsAsked g.I.Index.WIDTH c.args.whole.now.base c.args.leaves.now c.args.growing.done c.args.name.now (g.I.Index.leaves c.args.growing.index) = record {
       width = g.met.I.Index.width;
       are_leaves = g.met.I.Index.are_leaves c.args.growing.index;
       grown = c.requires.grown;
@@ -20,7 +20,7 @@ offset_bounds-leaves-done g t c =
 
 pub bounds-leaves-done : goal.bounds-leaves-done
 bounds-leaves-done g t c =
-    let a : IsAsked g.I.Index.WIDTH c.args.rows.now c.args.leaves.now c.args.growing.done c.args.name.now (g.I.Index.leaves c.args.growing.index) = record {
+    let a : IsAsked g.I.Index.WIDTH c.args.whole.now.base c.args.leaves.now c.args.growing.done c.args.name.now (g.I.Index.leaves c.args.growing.index) = record {
       width = g.met.I.Index.width;
       are_leaves = g.met.I.Index.are_leaves c.args.growing.index;
       grown = c.requires.grown;
@@ -32,7 +32,7 @@ bounds-leaves-done g t c =
 
 pub overflow_add-result : goal.overflow_add-result
 overflow_add-result g t c =
-    let a : IsAsked g.I.Index.WIDTH c.args.rows.now c.args.leaves.now c.args.growing.done c.args.name.now (g.I.Index.leaves c.args.growing.index) = record {
+    let a : IsAsked g.I.Index.WIDTH c.args.whole.now.base c.args.leaves.now c.args.growing.done c.args.name.now (g.I.Index.leaves c.args.growing.index) = record {
       width = g.met.I.Index.width;
       are_leaves = g.met.I.Index.are_leaves c.args.growing.index;
       grown = c.requires.grown;
@@ -45,7 +45,7 @@ overflow_add-result g t c =
 
 pub returns-then-eq : goal.returns-then-eq
 returns-then-eq g t c =
-    let a : IsAsked g.I.Index.WIDTH c.args.rows.now c.args.leaves.now c.args.growing.done c.args.name.now (g.I.Index.leaves c.args.growing.index) = record {
+    let a : IsAsked g.I.Index.WIDTH c.args.whole.now.base c.args.leaves.now c.args.growing.done c.args.name.now (g.I.Index.leaves c.args.growing.index) = record {
       width = g.met.I.Index.width;
       are_leaves = g.met.I.Index.are_leaves c.args.growing.index;
       grown = c.requires.grown;
@@ -55,11 +55,11 @@ returns-then-eq g t c =
     } in
     let n = next_there a in
     let same : same_name n.next c.args.name.now ≡ true = ap (λ (m : List Bool). same_name m c.args.name.now) (sym (n.at c.index-leaves-done.result) ∙ sym c.index-leaves-done.is) ∙ sym c.eq.ensures ∙ c.if-eq.true in
-    λ later is. done-there c.args.rows.now c.args.leaves.now c.args.growing.done c.args.name.now later (g.I.Index.leaves c.args.growing.index) is n same
+    λ later is. done-there c.args.whole.now.base c.args.leaves.now c.args.growing.done c.args.name.now later (g.I.Index.leaves c.args.growing.index) is n same
 
 pub split-requires-clause-short : goal.split-requires-clause-short
 split-requires-clause-short g t c =
-    let a : IsAsked g.I.Index.WIDTH c.args.rows.now c.args.leaves.now c.args.growing.done c.args.name.now (g.I.Index.leaves c.args.growing.index) = record {
+    let a : IsAsked g.I.Index.WIDTH c.args.whole.now.base c.args.leaves.now c.args.growing.done c.args.name.now (g.I.Index.leaves c.args.growing.index) = record {
       width = g.met.I.Index.width;
       are_leaves = g.met.I.Index.are_leaves c.args.growing.index;
       grown = c.requires.grown;
@@ -73,7 +73,7 @@ split-requires-clause-short g t c =
 
 pub split-requires-clause-leaf : goal.split-requires-clause-leaf
 split-requires-clause-leaf g t c =
-    let a : IsAsked g.I.Index.WIDTH c.args.rows.now c.args.leaves.now c.args.growing.done c.args.name.now (g.I.Index.leaves c.args.growing.index) = record {
+    let a : IsAsked g.I.Index.WIDTH c.args.whole.now.base c.args.leaves.now c.args.growing.done c.args.name.now (g.I.Index.leaves c.args.growing.index) = record {
       width = g.met.I.Index.width;
       are_leaves = g.met.I.Index.are_leaves c.args.growing.index;
       grown = c.requires.grown;
@@ -85,7 +85,7 @@ split-requires-clause-leaf g t c =
 
 pub loop-place-init : goal.loop-place-init
 loop-place-init g t c =
-    let a : IsAsked g.I.Index.WIDTH c.args.rows.now c.args.leaves.now c.args.growing.done c.args.name.now (g.I.Index.leaves c.args.growing.index) = record {
+    let a : IsAsked g.I.Index.WIDTH c.args.whole.now.base c.args.leaves.now c.args.growing.done c.args.name.now (g.I.Index.leaves c.args.growing.index) = record {
       width = g.met.I.Index.width;
       are_leaves = g.met.I.Index.are_leaves c.args.growing.index;
       grown = c.requires.grown;
@@ -99,7 +99,7 @@ loop-place-init g t c =
 
 pub child_at-requires-clause-short : goal.child_at-requires-clause-short
 child_at-requires-clause-short g t c =
-    let a : IsAsked g.I.Index.WIDTH c.args.rows.now c.args.leaves.now c.args.growing.done c.args.name.now (g.I.Index.leaves c.args.growing.index) = record {
+    let a : IsAsked g.I.Index.WIDTH c.args.whole.now.base c.args.leaves.now c.args.growing.done c.args.name.now (g.I.Index.leaves c.args.growing.index) = record {
       width = g.met.I.Index.width;
       are_leaves = g.met.I.Index.are_leaves c.args.growing.index;
       grown = c.requires.grown;
@@ -113,7 +113,7 @@ child_at-requires-clause-short g t c =
 
 pub grow-requires : goal.grow-requires
 grow-requires g t c κs within =
-    let a : IsAsked g.I.Index.WIDTH c.args.rows.now c.args.leaves.now c.args.growing.done c.args.name.now (g.I.Index.leaves c.args.growing.index) = record {
+    let a : IsAsked g.I.Index.WIDTH c.args.whole.now.base c.args.leaves.now c.args.growing.done c.args.name.now (g.I.Index.leaves c.args.growing.index) = record {
       width = g.met.I.Index.width;
       are_leaves = g.met.I.Index.are_leaves c.args.growing.index;
       grown = c.requires.grown;
@@ -128,11 +128,11 @@ grow-requires g t c κs within =
     let lt : c.loop-place.place < 2 ^ g.I.Index.WIDTH = omega (arith, c.loop-place-test.true, shifted c.WIDTH.result g.I.Index.WIDTH c.WIDTH.ensures a.width) in
     let is = child-at g.I.Index.WIDTH c.args.name.now c.loop-place.place c.child_at.result at in
     let less : 64 - length c.child_at.result < 64 - length c.args.name.now = omega (arith, is.long, room, width-positive g.I.Index.WIDTH a.width) in
-    (omega (arith, less, c.decreases), (within.0, (within.1, (c.requires.in_order, (c.requires.grown, (child-splits a c.loop-place.invariant room c.child_at.result at, (child-no_longer a c.loop-place.invariant room c.child_at.result at (g.met.I.Index.are_leaves c.loop-place.growing.index) lt, child-there a c.loop-place.invariant room c.child_at.result at)))))))
+    (omega (arith, less, c.decreases), (within.0, (within.1, (c.requires.grown, (child-splits a c.loop-place.invariant room c.child_at.result at, (child-no_longer a c.loop-place.invariant room c.child_at.result at (g.met.I.Index.are_leaves c.loop-place.growing.index) lt, child-there a c.loop-place.invariant room c.child_at.result at))))))
 
 pub loop-place-preserved : goal.loop-place-preserved
 loop-place-preserved g t c =
-    let a : IsAsked g.I.Index.WIDTH c.args.rows.now c.args.leaves.now c.args.growing.done c.args.name.now (g.I.Index.leaves c.args.growing.index) = record {
+    let a : IsAsked g.I.Index.WIDTH c.args.whole.now.base c.args.leaves.now c.args.growing.done c.args.name.now (g.I.Index.leaves c.args.growing.index) = record {
       width = g.met.I.Index.width;
       are_leaves = g.met.I.Index.are_leaves c.args.growing.index;
       grown = c.requires.grown;

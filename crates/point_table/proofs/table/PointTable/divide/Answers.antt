@@ -24,7 +24,7 @@ unreachable-requires g c =
 
 pub divide-requires-clause-leaf : goal.divide-requires-clause-leaf
 divide-requires-clause-leaf g c =
-    let it : CanDivide g.I.Index.WIDTH c.args.name.now c.args.parts.now (g.I.Index.leaves c.self.inside.index) = rw (← c.self.view_is) at c.requires.leaf in
+    let it : CanDivide g.I.Index.WIDTH c.args.name.now (map arc_value c.args.parts.now) (g.I.Index.leaves c.self.inside.index) = rw (← c.self.view_is) at c.requires.leaf in
     named_has c.args.name.now (g.I.Index.leaves c.self.inside.index) it.leaf it.named
 
 pub divide-requires-clause-children : goal.divide-requires-clause-children

@@ -17,7 +17,7 @@ replace-requires-clause-under g c =
     let leaf : Leaf = record { name = name; bucket = arc_value c.in-Some.bucket.now } in
     let named : leaf_named name leaves ≡ Some leaf = rw (← c.self.view_is) at c.in-Some.ensures in
     let under = among-all (λ (l : Leaf). AreUnder l.name l.bucket.rows) leaves leaf (g.met.I.Index.are_leaves c.self.inside.index).under (named_is name leaves leaf named).0 in
-    let same : arc_value c.in_ok-shared.shared ≡ as_base leaf.bucket.rows = c.in_ok-shared.ensures ∙ c.in_ok-folded.ensures ∙ ap (λ (b : Rows). as_base b.rows) c.deref.ensures in
+    let same : arc_value c.in_ok-shared.shared ≡ as_base leaf.bucket.rows = c.in_ok-shared.ensures ∙ c.in_ok-folded.ensures in
     let P : Rows → Type 0 = λ b. AreUnder name b.rows in
     subst P (sym same) under
 
@@ -30,7 +30,7 @@ invariant_of-self-2 g c =
     let name = c.args.name.now in
     let leaf : Leaf = record { name = name; bucket = arc_value c.in-Some.bucket.now } in
     let named : leaf_named name leaves ≡ Some leaf = rw (← c.self.view_is) at c.in-Some.ensures in
-    let same : arc_value c.in_ok-shared.shared ≡ as_base leaf.bucket.rows = c.in_ok-shared.ensures ∙ c.in_ok-folded.ensures ∙ ap (λ (b : Rows). as_base b.rows) c.deref.ensures in
+    let same : arc_value c.in_ok-shared.shared ≡ as_base leaf.bucket.rows = c.in_ok-shared.ensures ∙ c.in_ok-folded.ensures in
     let after : new ≡ replaced name (as_base leaf.bucket.rows) leaves = c.in_ok-replace.ensures.ok ∙ ap (λ (b : Rows). replaced name b leaves) same in
     let only = only_named 0 name leaves leaf (g.met.I.Index.are_leaves inside.index).tile named in
     let world = inside.members in
@@ -46,7 +46,7 @@ returns-clause-folds g c =
     let name = c.args.name.now in
     let leaf : Leaf = record { name = name; bucket = arc_value c.in-Some.bucket.now } in
     let named : leaf_named name leaves ≡ Some leaf = rw (← c.self.view_is) at c.in-Some.ensures in
-    let folded : arc_value c.in_ok-folded.folded ≡ as_base leaf.bucket.rows = c.in_ok-folded.ensures ∙ ap (λ (b : Rows). as_base b.rows) c.deref.ensures in
+    let folded : arc_value c.in_ok-folded.folded ≡ as_base leaf.bucket.rows = c.in_ok-folded.ensures in
     let after = c.in_ok-replace.ensures.ok ∙ ap (λ (b : Rows). replaced name b leaves) (c.in_ok-shared.ensures ∙ folded) in
     rw (← c.self.view_is) (record { leaf = leaf; named = named; bucket_is = folded; leaves = after })
 

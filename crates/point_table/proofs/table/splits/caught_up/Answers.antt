@@ -1,5 +1,6 @@
-use Rattle.std.proofs.Common.{◌≡◌, ◌∙◌, ℕ, zero, suc, ◌+◌, ◌++◌, List, [], ◌∷◌, Some, slice_get, get_or, length, map, option_map, take, add-one, sym, ap, arith}
-use Rattle.std.proofs.lemmas.List.{map-append, take_all}
+use Rattle.std.proofs.Common.{◌≡◌, ◌∙◌, ℕ, zero, suc, ◌+◌, ◌++◌, Bool, List, [], ◌∷◌, Some, slice_get, get_or, length, map, option_map, take, add-one, sym, ap, arith}
+use Rattle.std.proofs.lemmas.List.{map-append, take_all, length-map}
+use Rattle.std.proofs.Math.ListN.{get_or-map}
 use Rattle.std.proofs.lemmas.Option.{slice_get-map, get_or_from_slice_get}
 use Rattle.std.specs.Arc.{arc_value}
 use Rattle.zorder.specs.Tile.{children}
@@ -34,7 +35,7 @@ returns c =
     let name = c.args.name.now in
     let all = cut w name c.args.from.now.rows in
     let count = length-cut w name c.args.from.now.rows in
-    let parts = ap length c.requires.cut ∙ length-cut w name c.args.from.now.base in
+    let parts = sym (length-map c.args.parts.now arc_value) ∙ ap length c.requires.cut ∙ length-cut w name c.args.from.now.base in
     c.loop-place.invariant ∙ take_all c.loop-place.place all (omega arith)
 
 pub child_now-requires : goal.child_now-requires
@@ -42,7 +43,9 @@ child_now-requires c =
     let f = cut_out c.args.from.now.base in
     let place : ℕ = c.loop-place.place in
     let part = c.index-parts-place.result in
-    let there = slice_get-map f (children c.args.width c.args.name.now) place ∙ ap (option_map f) c.child_at-child.ensures in
-    c.index-parts-place.is
-    ∙ ap (λ (all : List Rows). get_or all place part) c.requires.cut
-    ∙ get_or_from_slice_get (map f (children c.args.width c.args.name.now)) place (f c.child_at-child.result) part there
+    let names : List (List Bool) = children c.args.width c.args.name.now in
+    let there : slice_get (map f names) place ≡ Some (f c.child_at-child.result) = slice_get-map f names place ∙ ap (option_map f) c.child_at-child.ensures in
+    ap arc_value c.index-parts-place.is
+    ∙ sym (get_or-map arc_value c.args.parts.now place part)
+    ∙ ap (λ (all : List Rows). get_or all place (arc_value part)) c.requires.cut
+    ∙ get_or_from_slice_get (map f names) place (f c.child_at-child.result) (arc_value part) there

@@ -2,10 +2,10 @@ use Rattle.std.proofs.Common.{◌≡◌, sym, subst, rules}
 use Rattle.bucket_versions.specs.Rows.{IsRows}
 use Rattle.bucket_versions.specs.Delta.{difference}
 use Rattle.bucket_versions.proofs.RowSets.{IsRows-difference}
-use Rattle.bucket_versions.proofs.bucket.Bucket.folded.Goals as goal
+use Rattle.bucket_versions.proofs.bucket.Bucket.with_own_base.Goals as goal
 
-pub of-requires : goal.of-requires
-of-requires c =
+pub from_vec-requires : goal.from_vec-requires
+from_vec-requires c =
     let base = c.parts.result.0.now in
     let delta = c.parts.result.1.now in
     let rows : c.in_ok-merged.field-0.items ≡ difference base delta = search rules in

@@ -2,10 +2,10 @@ use Rattle.std.proofs.Common.{◌≡◌, ◌∙◌, ap, sym, subst, rules}
 use Rattle.bucket_versions.specs.Rows.{IsRows, rows_between, as_base}
 use Rattle.bucket_versions.specs.Delta.{difference}
 use Rattle.bucket_versions.proofs.RowSets.{difference-between, IsRows-difference}
-use Rattle.bucket_versions.proofs.bucket.Bucket.caught_up.Goals as goal
+use Rattle.bucket_versions.proofs.bucket.Bucket.cut_now.Goals as goal
 
-pub of-requires : goal.of-requires
-of-requires c =
+pub from_vec-requires : goal.from_vec-requires
+from_vec-requires c =
     let some = c.between-some.result.now in
     let late = c.between-late.result.now in
     let rows : c.in_ok-merged.field-0.items ≡ difference some late = search rules in
@@ -20,6 +20,6 @@ returns c =
     let merged : c.in_ok-merged.field-0.items ≡ difference c.between-some.result.now c.between-late.result.now = search rules in
     let some : c.between-some.result.now ≡ rows_between lo hi base = search rules in
     let late : c.between-late.result.now ≡ rows_between lo hi delta = search rules in
-    let rows : c.in_ok-merged.field-0.items ≡ rows_between lo hi c.args.from.now.rows =
+    let rows : c.in_ok-merged.field-0.items ≡ rows_between lo hi c.args.self.now.rows =
     merged ∙ (λ i. difference (some i) (late i)) ∙ difference-between lo hi base delta c.parts.ensures.in_order.base c.parts.ensures.in_order.delta ∙ ap (rows_between lo hi) c.parts.ensures.rows in
-    c.of.ensures ∙ ap as_base rows
+    c.from_vec.ensures ∙ ap as_base rows
