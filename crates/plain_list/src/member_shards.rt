@@ -1,8 +1,9 @@
 //! A world as many small maps, for whoever looks up an object with each call.
-ghost use Rattle.std.specs.Prelude.{◌≡◌, ◌≤◌, ◌<◌, ◌+◌, [], length, None, OnOk, OnErr, IfOk, MatchOption, replicate};
+ghost use Rattle.std.specs.Prelude.{◌≡◌, ◌≤◌, ◌<◌, ◌+◌, [], length, None, OnOk, OnErr, IfOk, replicate};
 ghost use Rattle.zorder.specs.declared.points.Point.{Point};
 ghost use Rattle.plain_list.specs.World.{most_members, IsWorld, position_of};
-ghost use Rattle.plain_list.specs.Answer.{with_member, with_moved, without};
+ghost use Rattle.plain_list.specs.Answer.{with_moved, without};
+ghost use Rattle.plain_list.specs.MemberMap.{IsPut};
 ghost use Rattle.plain_list.specs.MemberShards.{most_shards, shard_of, AreMade};
 
 use crate::member_map::MemberMap;
@@ -75,8 +76,7 @@ impl MemberShards {
     /// Puts an object at a point, in place of the one of its id, and says where that was.
     pub fn insert(&mut self, id: u64, at: Point) -> Result<Option<Point>, AllocError>
         requires room { length self.old < most_members }
-        ensures found { IfOk result (λ there. there ≡ position_of self.old id) }
-        ensures ok { IfOk result (λ there. MatchOption there (self.new ≡ with_member (record { id = id; at = at }) self.old) (λ _. self.new ≡ with_moved id at self.old)) }
+        ensures ok { IfOk result (λ there. IsPut id at there self.old self.new) }
         ensures err { OnErr result (self.new ≡ self.old) }
         ensures absent { OnErr result (position_of self.old id ≡ None) }
         ensures world { IsWorld self.new }

@@ -15,5 +15,5 @@ loop-member-preserved c =
     let world = c.args.world.now in
     let index = c.loop-member.member-index in
     let none = ap (λ (ms : World). position_of ms (get_or world index beyond).id) c.loop-member.invariant ∙ position_of-next world index beyond c.loop-member-test.true c.requires.rising in
-    inserted_new c.in_ok-insert.field-0 _ _ c.in_ok-insert.ensures.ok (c.in_ok-insert.ensures.found ∙ none) ∙ ap (with_member (get_or world index beyond)) c.loop-member.invariant
+    inserted_new c.in_ok-insert.field-0 _ _ c.in_ok-insert.ensures.ok.is (c.in_ok-insert.ensures.ok.found ∙ none) ∙ ap (with_member (get_or world index beyond)) c.loop-member.invariant
     ∙ with_member-next world index beyond c.loop-member-test.true c.requires.rising

@@ -16,15 +16,15 @@ invariant_of-self-2 c =
     let there = position_of-world_of es c.args.id ∙ sym c.in_ok-insert.ensures.old in
     rw c.in_ok-insert.ensures.entries (inserts c.args.id c.args.at c.in_ok-insert.field-0 es c.self.invariant few c.coordinates_fit.ensures there).world
 
-pub returns-clause-found : goal.returns-clause-found
-returns-clause-found c = c.in_ok-insert.ensures.old ∙ sym (rw (← c.self.view_is) (position_of-world_of c.self.inside.points.entries c.args.id))
-
 pub returns-clause-ok : goal.returns-clause-ok
 returns-clause-ok c =
     let es = c.self.inside.points.entries in
     let few = rw (← c.self.view_is) at c.requires.room in
     let there = position_of-world_of es c.args.id ∙ sym c.in_ok-insert.ensures.old in
-    rw (← c.self.view_is, c.in_ok-insert.ensures.entries) (inserts c.args.id c.args.at c.in_ok-insert.field-0 es c.self.invariant few c.coordinates_fit.ensures there).is
+    record {
+      found = c.in_ok-insert.ensures.old ∙ sym (rw (← c.self.view_is) (position_of-world_of es c.args.id));
+      is = rw (← c.self.view_is, c.in_ok-insert.ensures.entries) (inserts c.args.id c.args.at c.in_ok-insert.field-0 es c.self.invariant few c.coordinates_fit.ensures there).is;
+    }
 
 pub returns-clause-world : goal.returns-clause-world
 returns-clause-world c = invariant_of-self-2 c

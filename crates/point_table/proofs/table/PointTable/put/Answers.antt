@@ -28,8 +28,8 @@ pub invariant_of-self-in-Some : goal.invariant_of-self-in-Some
 invariant_of-self-in-Some g c =
     let inside = c.self.inside in
     let id = c.args.id in
-    let there : position_of inside.members id ≡ Some c.in-Some.there = sym c.in_ok-there.ensures.found ∙ c.in-Some.is in
-    let moved : c.insert.new.self ≡ with_moved id c.args.at inside.members = match_some c.in_ok-there.field-0 c.in-Some.there _ _ c.in_ok-there.ensures.ok c.in-Some.is in
+    let there : position_of inside.members id ≡ Some c.in-Some.there = sym c.in_ok-there.ensures.ok.found ∙ c.in-Some.is in
+    let moved : c.insert.new.self ≡ with_moved id c.args.at inside.members = match_some c.in_ok-there.field-0 c.in-Some.there _ _ c.in_ok-there.ensures.ok.is c.in-Some.is in
     let back : c.replace.new.self ≡ inside.members =
     c.replace.ensures.moved ∙ ap (with_moved id c.in-Some.there) moved ∙ with_moved-back id c.in-Some.there c.args.at inside.members c.self.invariant.world.rising there in
     same_table g.I.Index.leaves g.I.Index.WIDTH inside (record inside { members = c.replace.new.self }) c.self.invariant back refl refl refl
@@ -38,8 +38,8 @@ pub returns-in-Some-clause-ok : goal.returns-in-Some-clause-ok
 returns-in-Some-clause-ok g c =
     let inside = c.self.inside in
     let id = c.args.id in
-    let there : position_of inside.members id ≡ Some c.in-Some.there = sym c.in_ok-there.ensures.found ∙ c.in-Some.is in
-    let moved : c.insert.new.self ≡ with_moved id c.args.at inside.members = match_some c.in_ok-there.field-0 c.in-Some.there _ _ c.in_ok-there.ensures.ok c.in-Some.is in
+    let there : position_of inside.members id ≡ Some c.in-Some.there = sym c.in_ok-there.ensures.ok.found ∙ c.in-Some.is in
+    let moved : c.insert.new.self ≡ with_moved id c.args.at inside.members = match_some c.in_ok-there.field-0 c.in-Some.there _ _ c.in_ok-there.ensures.ok.is c.in-Some.is in
     let back : c.replace.new.self ≡ inside.members =
     c.replace.ensures.moved ∙ ap (with_moved id c.in-Some.there) moved ∙ with_moved-back id c.in-Some.there c.args.at inside.members c.self.invariant.world.rising there in
     let is = sym (ap (λ o. option_map_or Present o (if is_full inside.members then Full else Done)) there) in
@@ -48,15 +48,15 @@ returns-in-Some-clause-ok g c =
 
 pub put_row-requires-clause-absent : goal.put_row-requires-clause-absent
 put_row-requires-clause-absent g c =
-    let none : position_of c.self.inside.members c.args.id ≡ None = sym c.in_ok-there.ensures.found ∙ c.in_default.is in
+    let none : position_of c.self.inside.members c.args.id ≡ None = sym c.in_ok-there.ensures.ok.found ∙ c.in_default.is in
     rw (c.change-put.ensures.row, c.key.ensures.sum) (if_some _ _ (row_absent c.self.inside.members (g.I.Index.leaves c.self.inside.index) c.args.id c.args.at c.self.invariant.rows none))
 
 pub invariant_of-self-in-Err : goal.invariant_of-self-in-Err
 invariant_of-self-in-Err g c =
     let inside = c.self.inside in
     let m : Placed = record { id = c.args.id; at = c.args.at } in
-    let none : position_of inside.members c.args.id ≡ None = sym c.in_ok-there.ensures.found ∙ c.in_default.is in
-    let added : c.insert.new.self ≡ with_member m inside.members = match_none c.in_ok-there.field-0 _ _ c.in_ok-there.ensures.ok c.in_default.is in
+    let none : position_of inside.members c.args.id ≡ None = sym c.in_ok-there.ensures.ok.found ∙ c.in_default.is in
+    let added : c.insert.new.self ≡ with_member m inside.members = match_none c.in_ok-there.field-0 _ _ c.in_ok-there.ensures.ok.is c.in_default.is in
     let back : c.remove.new.self ≡ inside.members = c.remove.ensures.gone ∙ ap (without c.args.id) added ∙ without-with_member m inside.members none in
     same_table g.I.Index.leaves g.I.Index.WIDTH inside (record inside { index = c.put_row.new.index; members = c.remove.new.self; crowded = c.put_row.new.crowded }) c.self.invariant back c.in-Err.ensures.err c.put_row.ensures.crowded.0 refl
 
@@ -64,8 +64,8 @@ pub returns-in-Err-clause-err : goal.returns-in-Err-clause-err
 returns-in-Err-clause-err g c =
     let inside = c.self.inside in
     let m : Placed = record { id = c.args.id; at = c.args.at } in
-    let none : position_of inside.members c.args.id ≡ None = sym c.in_ok-there.ensures.found ∙ c.in_default.is in
-    let added : c.insert.new.self ≡ with_member m inside.members = match_none c.in_ok-there.field-0 _ _ c.in_ok-there.ensures.ok c.in_default.is in
+    let none : position_of inside.members c.args.id ≡ None = sym c.in_ok-there.ensures.ok.found ∙ c.in_default.is in
+    let added : c.insert.new.self ≡ with_member m inside.members = match_none c.in_ok-there.field-0 _ _ c.in_ok-there.ensures.ok.is c.in_default.is in
     let back : c.remove.new.self ≡ inside.members = c.remove.ensures.gone ∙ ap (without c.args.id) added ∙ without-with_member m inside.members none in
     same_view g.I.Index.leaves inside (record inside { index = c.put_row.new.index; members = c.remove.new.self; crowded = c.put_row.new.crowded }) back c.in-Err.ensures.err refl ∙ c.self.view_is
 
@@ -76,8 +76,8 @@ invariant_of-self-in-Ok g c =
     let id = c.args.id in
     let m : Placed = record { id = id; at = c.args.at } in
     let key : c.key.result ≡ key_of c.args.at = c.key.ensures.sum in
-    let none : position_of inside.members id ≡ None = sym c.in_ok-there.ensures.found ∙ c.in_default.is in
-    let added : c.insert.new.self ≡ with_member m inside.members = match_none c.in_ok-there.field-0 _ _ c.in_ok-there.ensures.ok c.in_default.is in
+    let none : position_of inside.members id ≡ None = sym c.in_ok-there.ensures.ok.found ∙ c.in_default.is in
+    let added : c.insert.new.self ≡ with_member m inside.members = match_none c.in_ok-there.field-0 _ _ c.in_ok-there.ensures.ok.is c.in_default.is in
     let change = rw (c.change-put.ensures.row, key) at c.in-Ok.ensures.ok in
     let keeps = rw key at c.change-put.ensures.keeps in
     let marks = rw (key, c.put_row.ensures.crowded.0) at c.mark_come.ensures in
@@ -97,8 +97,8 @@ returns-in-Ok-clause-ok g c =
     let id = c.args.id in
     let m : Placed = record { id = id; at = c.args.at } in
     let key : c.key.result ≡ key_of c.args.at = c.key.ensures.sum in
-    let none : position_of inside.members id ≡ None = sym c.in_ok-there.ensures.found ∙ c.in_default.is in
-    let added : c.insert.new.self ≡ with_member m inside.members = match_none c.in_ok-there.field-0 _ _ c.in_ok-there.ensures.ok c.in_default.is in
+    let none : position_of inside.members id ≡ None = sym c.in_ok-there.ensures.ok.found ∙ c.in_default.is in
+    let added : c.insert.new.self ≡ with_member m inside.members = match_none c.in_ok-there.field-0 _ _ c.in_ok-there.ensures.ok.is c.in_default.is in
     let change = rw (c.change-put.ensures.row, key) at c.in-Ok.ensures.ok in
     let keeps = rw key at c.change-put.ensures.keeps in
     let marks = rw (key, c.put_row.ensures.crowded.0) at c.mark_come.ensures in
@@ -113,7 +113,7 @@ returns-in-Ok-clause-ok g c =
 pub returns-in-Ok-clause-told : goal.returns-in-Ok-clause-told
 returns-in-Ok-clause-told g c =
     let inside = c.self.inside in
-    let none : position_of inside.members c.args.id ≡ None = sym c.in_ok-there.ensures.found ∙ c.in_default.is in
+    let none : position_of inside.members c.args.id ≡ None = sym c.in_ok-there.ensures.ok.found ∙ c.in_default.is in
     let room : is_full c.args.self.now.world ≡ false = sym c.is_full.ensures ∙ c.if-is_full.false in
     let is = put-done inside.members c.args.id c.args.at none (rw (← c.self.view_is) at room) in
     rw (← c.self.view_is)
@@ -122,7 +122,7 @@ returns-in-Ok-clause-told g c =
 pub returns-in-Err-clause-told : goal.returns-in-Err-clause-told
 returns-in-Err-clause-told g c =
     let inside = c.self.inside in
-    let none : position_of inside.members c.args.id ≡ None = sym c.in_ok-there.ensures.found ∙ c.in_default.is in
+    let none : position_of inside.members c.args.id ≡ None = sym c.in_ok-there.ensures.ok.found ∙ c.in_default.is in
     let room : is_full c.args.self.now.world ≡ false = sym c.is_full.ensures ∙ c.if-is_full.false in
     let is = put-done inside.members c.args.id c.args.at none (rw (← c.self.view_is) at room) in
     rw (← c.self.view_is)
@@ -130,7 +130,7 @@ returns-in-Err-clause-told g c =
 
 pub returns-in-Some-clause-told : goal.returns-in-Some-clause-told
 returns-in-Some-clause-told g c =
-    let there : position_of c.self.inside.members c.args.id ≡ Some c.in-Some.there = sym c.in_ok-there.ensures.found ∙ c.in-Some.is in
+    let there : position_of c.self.inside.members c.args.id ≡ Some c.in-Some.there = sym c.in_ok-there.ensures.ok.found ∙ c.in-Some.is in
     rw (← c.self.view_is, there) refl
 
 pub returns-then-is_full-clause-told : goal.returns-then-is_full-clause-told
