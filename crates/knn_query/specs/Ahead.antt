@@ -49,11 +49,6 @@ pub record Searches (p : Point) (k : ℕ) (places rest : List Placed) (kept : Ke
   pub are_of : AreOf places rest
   pub keeps : Keeps p k places rest kept
 
--- each is as far as the next, or farther
-abbrev pub IsFarFirst : List Ahead → Type 0
-IsFarFirst [] = ⊤
-IsFarFirst (a ∷ ahead) = All (λ (b : Ahead). b.least ≤ a.least) ahead × IsFarFirst ahead
-
 -- one of some subtrees, and the others in their order
 abbrev pub IsOne : List Ahead → List Ahead → Ahead → Type 0
 IsOne old new a = (front : List Ahead) × (back : List Ahead) × (old ≡ front ++ a ∷ back) × (new ≡ front ++ back)
@@ -62,20 +57,6 @@ IsOne old new a = (front : List Ahead) × (back : List Ahead) × (old ≡ front 
 abbrev pub IsFirst : List Ahead → List Ahead → Ahead → Type 0
 IsFirst old new a =
     (front : List Ahead) × (back : List Ahead) × (old ≡ front ++ a ∷ back) × (new ≡ front ++ back) × All (λ (b : Ahead). a.least ≤ b.least) old
-
--- the same, by its number
-pub record IsTaken (old new : List Ahead) (i : ℕ) (a : Ahead) : Type 0 where
-  pub less : i < length old
-  pub left : new ≡ remove old i
-  pub is : a ≡ slice_index_or old i a
-  pub low : All (λ (b : Ahead). a.least ≤ b.least) old
-
--- each place is that of its name
-abbrev pub AreAt : {P : Type 0} → (P → List Bool → Type 0) → List Ahead → List (Bor P) → Type 0
-AreAt is_at [] [] = ⊤
-AreAt is_at [] (p ∷ places) = ⊥
-AreAt is_at (a ∷ ahead) [] = ⊥
-AreAt is_at (a ∷ ahead) (p ∷ places) = is_at p.now a.name × AreAt is_at ahead places
 
 -- where there are k objects, no more was opened than the leaves of which some point may be as near as the k-th
 abbrev pub OpensNear : Point → ℕ → List Leaf → ℕ → ℕ → List Placed → Type 0

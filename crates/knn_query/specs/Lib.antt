@@ -1,3 +1,4 @@
 pub mod Candidates
 pub mod Passes
 pub mod Ahead
+pub mod Waiting

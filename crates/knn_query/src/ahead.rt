@@ -1,9 +1,9 @@
 //! Subtrees that are still ahead of a search, the nearest of them last.
-ghost use Rattle.std.specs.Prelude.{◌≡◌, ◌≤◌, ◌<◌, ◌∷◌, ◌++◌, [], false, true, length, take, drop, MatchOption, IfOk, OnOk};
+ghost use Rattle.std.specs.Prelude.{◌≡◌, ◌≤◌, ◌<◌, ◌∷◌, ◌++◌, [], ℕ, false, true, length, take, drop, MatchOption, OnOk};
 ghost use Rattle.std.specs.List.{All, insert};
 ghost use Rattle.prefix_names.specs.Regions.{region_of};
-ghost use Rattle.knn_query.specs.declared.ahead.Ahead.{Ahead};
-ghost use Rattle.knn_query.specs.Ahead.{IsAhead, IsFarFirst, IsTaken};
+ghost use Rattle.knn_query.specs.Ahead.{IsAhead};
+ghost use Rattle.knn_query.specs.Waiting.{IsFarFirst, IsNearest};
 
 use prefix_names::{halves, least, region};
 use std::alloc::AllocError;
@@ -51,40 +51,45 @@ impl Ahead {
     }
 }
 
-/// Takes the nearest out, and tells its number.
-pub(crate) fn take_nearest(ahead: &mut Vec<Ahead>) -> Option<(usize, Ahead)>
-    requires { IsFarFirst ahead.old.items }
-    ensures taken { MatchOption result ((ahead.old.items ≡ []) × (ahead.new.items ≡ [])) (λ next. IsTaken ahead.old.items ahead.new.items next.0 next.1) }
-    ensures sorted { IsFarFirst ahead.new.items }
-{
-    if ahead.is_empty() {
-        return None;
-    }
-    let place = ahead.len() - 1;
-    let next = ahead.remove(place);
-    Some((place, next))
+/// A subtree that is ahead, and its place in the index.
+#[derive(Drop)]
+pub(crate) struct Waiting<P> {
+    pub(crate) ahead: Ahead,
+    pub(crate) place: P,
 }
 
-/// Puts a subtree in front of those that are nearer, and tells its number.
-pub(crate) fn put_ahead(ahead: &mut Vec<Ahead>, a: Ahead) -> Result<usize, AllocError>
-    requires { IsFarFirst ahead.old.items }
-    ensures put { IfOk result (λ i. (i ≤ length ahead.old.items) × (ahead.new.items ≡ insert ahead.old.items i a)) }
-    ensures sorted { OnOk result (IsFarFirst ahead.new.items) }
+/// Takes the nearest out.
+pub(crate) fn take_nearest<P: Drop>(waiting: &mut Vec<Waiting<P>>) -> Option<Waiting<P>>
+    requires { IsFarFirst waiting.old.items }
+    ensures taken { MatchOption result ((waiting.old.items ≡ []) × (waiting.new.items ≡ [])) (λ next. IsNearest next waiting.old.items waiting.new.items) }
+    ensures sorted { IsFarFirst waiting.new.items }
 {
-    let place = count_farther(ahead.as_slice(), a.least);
-    ahead.insert(place, a)?;
-    Ok(place)
+    waiting.pop()
+}
+
+/// Puts a subtree in front of those that are nearer.
+pub(crate) fn put_ahead<P: Drop>(
+    waiting: &mut Vec<Waiting<P>>,
+    one: Waiting<P>,
+) -> Result<(), AllocError>
+    requires { IsFarFirst waiting.old.items }
+    ensures put { OnOk result ((i : ℕ) × (waiting.new.items ≡ insert waiting.old.items i one)) }
+    ensures sorted { OnOk result (IsFarFirst waiting.new.items) }
+{
+    let place = count_farther(waiting.as_slice(), one.ahead.least);
+    waiting.insert(place, one)?;
+    Ok(())
 }
 
 // How many are as far as this, or farther. What is put in is mostly nearer than most of the others.
-fn count_farther(ahead: &[Ahead], least: u128) -> usize
-    requires { IsFarFirst ahead.now }
-    ensures within { result ≤ length ahead.now }
-    ensures farther { All (λ (a : Ahead). least ≤ a.least) (take result ahead.now) }
-    ensures nearer { All (λ (a : Ahead). a.least ≤ least) (drop result ahead.now) }
+fn count_farther<P>(waiting: &[Waiting<P>], least: u128) -> usize
+    requires { IsFarFirst waiting.now }
+    ensures within { result ≤ length waiting.now }
+    ensures farther { All (λ w. least ≤ w.ahead.least) (take result waiting.now) }
+    ensures nearer { All (λ w. w.ahead.least ≤ least) (drop result waiting.now) }
 {
-    let mut place = ahead.len();
-    while 0 < place && ahead[place - 1].least < least {
+    let mut place = waiting.len();
+    while 0 < place && waiting[place - 1].ahead.least < least {
         place -= 1;
     }
     place

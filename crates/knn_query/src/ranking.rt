@@ -1,13 +1,13 @@
 //! Objects in the order of their distance to a point.
 ghost use Rattle.std.specs.Prelude.{◌≡◌, ◌≤◌, ◌<◌, ◌+◌, ◌∷◌, [], ℕ, take, IfOk, OnOk, length};
-ghost use Rattle.std.specs.List.{insert};
 ghost use Rattle.plain_list.specs.Queries.{ranked};
 ghost use Rattle.table_share.specs.Objects.{objects_of, placed_of};
 ghost use Rattle.table_share.specs.Standing.{OfPlaces};
-ghost use Rattle.knn_query.specs.Ahead.{IsFarFirst, OpensNear};
+ghost use Rattle.knn_query.specs.Ahead.{OpensNear};
+ghost use Rattle.knn_query.specs.Waiting.{IsFarFirst, Gets, waiting_at};
 ghost use Rattle.knn_query.specs.Passes.{held, HasReach, IsEmpty, IsHeld, Keeps, Passes};
 
-use crate::ahead::{Ahead, put_ahead, take_nearest};
+use crate::ahead::{Ahead, Waiting, put_ahead, take_nearest};
 use crate::kept::Kept;
 use bucket_versions::{Bucket, Row};
 use index_layer::{Below, Index};
@@ -61,19 +61,19 @@ fn keep_nearest<I: Index, L: Ledger>(
     ensures some { IfOk result (λ new. (steps.old ≤ steps.new) × (steps.new ≡ steps.old → held new ≡ [])) }
 {
     let (name, place) = index.narrow(Name::whole(), index.top());
-    let mut ahead = first_of_many(alloc, Ahead::at(name, kept.from))?;
-    let mut places = first_of_many(alloc, place)?;
-    while let Some((number, next)) = take_nearest(&mut ahead) {
-        match index.below(&next.name, places.remove(number)) {
+    let ahead = Ahead::at(name, kept.from);
+    let mut waiting = first_of_many(alloc, Waiting { ahead, place })?;
+    while let Some(next) = take_nearest(&mut waiting) {
+        match index.below(&next.ahead.name, next.place) {
             Below::Leaf(bucket) => {
-                if kept.has_nearer(next.least) {
+                if kept.has_nearer(next.ahead.least) {
                     return Ok(kept);
                 }
                 add_rows(&mut kept, bucket, steps)?;
             }
             Below::Halves { zero, one } => {
-                let (fore, hind) = next.halves(kept.from);
-                put_halves(&mut ahead, &mut places, fore, zero, hind, one)?;
+                let (fore, hind) = next.ahead.halves(kept.from);
+                put_halves(&mut waiting, fore, zero, hind, one)?;
             }
         }
     }
@@ -92,38 +92,26 @@ fn first_of_many<T: Drop>(alloc: Global, first: T) -> Result<Vec<T>, AllocError>
 // Puts two subtrees where they belong, each with its place.
 #[inline(always)]
 fn put_halves<P: Drop>(
-    ahead: &mut Vec<Ahead>,
-    places: &mut Vec<P>,
+    waiting: &mut Vec<Waiting<P>>,
     fore: Ahead,
     zero: P,
     hind: Ahead,
     one: P,
 ) -> Result<(), AllocError>
-    requires sorted { IsFarFirst ahead.old.items }
-    requires long { length ahead.old.items ≡ length places.old.items }
-    ensures put { OnOk result ((i : ℕ) × (j : ℕ) × (ahead.new.items ≡ insert (insert ahead.old.items i fore) j hind)
-        × (places.new.items ≡ insert (insert places.old.items i zero) j one)) }
-    ensures sorted { OnOk result (IsFarFirst ahead.new.items) }
+    requires { IsFarFirst waiting.old.items }
+    ensures put { OnOk result (Gets (waiting_at fore zero) (waiting_at hind one) waiting.old.items waiting.new.items) }
+    ensures sorted { OnOk result (IsFarFirst waiting.new.items) }
 {
-    put_place(ahead, places, fore, zero)?;
-    put_place(ahead, places, hind, one)?;
-    Ok(())
-}
-
-#[inline(always)]
-fn put_place<P: Drop>(
-    ahead: &mut Vec<Ahead>,
-    places: &mut Vec<P>,
-    a: Ahead,
-    place: P,
-) -> Result<(), AllocError>
-    requires sorted { IsFarFirst ahead.old.items }
-    requires long { length ahead.old.items ≡ length places.old.items }
-    ensures put { OnOk result ((i : ℕ) × (ahead.new.items ≡ insert ahead.old.items i a) × (places.new.items ≡ insert places.old.items i place)) }
-    ensures sorted { OnOk result (IsFarFirst ahead.new.items) }
-{
-    let number = put_ahead(ahead, a)?;
-    places.insert(number, place)?;
+    let fore = Waiting {
+        ahead: fore,
+        place: zero,
+    };
+    let hind = Waiting {
+        ahead: hind,
+        place: one,
+    };
+    put_ahead(waiting, fore)?;
+    put_ahead(waiting, hind)?;
     Ok(())
 }
 

@@ -1,24 +1,14 @@
-use Rattle.std.proofs.Common.{◌≡◌, ◌-◌, suc, List, length, sym, subst, arith}
-use Rattle.knn_query.specs.Ahead.{IsFarFirst}
-use Rattle.knn_query.specs.declared.ahead.Ahead.{Ahead}
-use Rattle.knn_query.proofs.FarFirst.{far-removed, last-nearest}
+use Rattle.std.proofs.Common.{◌≡◌, length, vec_len, arith}
+use Rattle.knn_query.proofs.FarFirst.{far-popped, nearest-popped}
 use Rattle.knn_query.proofs.ahead.take_nearest.Goals as goal
 
 pub returns-clause-taken : goal.returns-clause-taken
-returns-clause-taken c =
-    let xs : List Ahead = c.args.ahead.now.items in
-    let i = c.len-place.result - 1 in
-    let long : length xs ≡ suc i = omega (arith, c.args.ahead.now.ok.0, c.len-place.ensures, c.is_empty.ensures, c.if-is_empty.ensures, c.if-is_empty.false) in
-    record {
-      less = omega (arith, long);
-      left = c.remove-next.ensures.items;
-      is = c.remove-next.ensures.value;
-      low = last-nearest xs i c.remove-next.result c.requires long c.remove-next.ensures.value;
-    }
+returns-clause-taken g c =
+    let old = c.args.waiting.now in
+    let new = c.pop.new.self in
+    let long : vec_len old ≡ length old.items = omega (arith, old.ok.0) in
+    let short : vec_len new ≡ length new.items = omega (arith, new.ok.0) in
+    nearest-popped c.pop.result old.items new.items (vec_len old) (vec_len new) c.requires c.pop.ensures.items long short c.pop.ensures.cases
 
 pub returns-clause-sorted : goal.returns-clause-sorted
-returns-clause-sorted c =
-    let xs : List Ahead = c.args.ahead.now.items in
-    let i = c.len-place.result - 1 in
-    let long : length xs ≡ suc i = omega (arith, c.args.ahead.now.ok.0, c.len-place.ensures, c.is_empty.ensures, c.if-is_empty.ensures, c.if-is_empty.false) in
-    subst IsFarFirst (sym c.remove-next.ensures.items) (far-removed xs i c.requires (omega (arith, long)))
+returns-clause-sorted g c = far-popped c.pop.result c.args.waiting.now.items c.pop.new.self.items c.requires c.pop.ensures.items
