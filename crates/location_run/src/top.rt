@@ -10,7 +10,7 @@ use csv_rows::Refusal;
 use disk_trait::LogDisk;
 use io_edge::{Gate, Sink, Source};
 use log_run::{check_log, make_log, show_log};
-use play_run::{play, play_made};
+use play_run::{play, trial};
 use run_ends::{Ended, refuse_on};
 use std::alloc::Global;
 use std::sync::Wait;
@@ -58,7 +58,7 @@ pub fn run<R: Threads + Wait + Sync, S: Source, K: Sink, D: LogDisk + Send, G: G
             outcome_of(end, other)
         }
         Some(Command::Trial(log, made)) => {
-            let end = play_made(rt, alloc, log, made, sink, disk, gate);
+            let end = trial(rt, alloc, log, made, sink, disk, gate);
             outcome_of(end, other)
         }
         None => {

@@ -1,6 +1,6 @@
 //! The commands that play rows: `play` those of a source, `trial` those that it makes.
 //!
-//! Contracts see the history as a list of entries, and the rows as those of all bytes that the source had left. `play` and `play_made`
+//! Contracts see the history as a list of entries, and the rows as those of all bytes that the source had left. `play` and `trial`
 //! promise that with status 0 the output is the line of each row, with its place in the one history and the answer that one plain list of
 //! objects gives there, or for made rows three numbers of that list (`AnswersAsOneList`); that a crash at any moment leaves a log of a
 //! prefix of the changes (`KeepsPlayed`); and what splits come to. Rows are played by lanes, one for each session, over one store.
@@ -19,4 +19,4 @@ mod sessions_play;
 mod trying;
 
 pub use playing::play;
-pub use trying::play_made;
+pub use trying::trial;

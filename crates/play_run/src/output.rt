@@ -25,7 +25,7 @@ use table_share::{Sums, sum_up};
 const SLOTS: usize = 17;
 
 /// Writes what a report tells of rows that were all answered: with what the lanes of their sessions kept, or with the objects of an index.
-pub(crate) fn write_report<K: Sink, I: Index>(
+pub(crate) fn tell_report<K: Sink, I: Index>(
     sink: &mut K,
     report: Report,
     rows: &[InRow],

@@ -9,7 +9,7 @@ ghost use Rattle.play_run.specs.inside.Ended.{EndsBook};
 
 use crate::index::StoreIndex;
 use crate::lanes::LaneEnd;
-use crate::output::write_report;
+use crate::output::tell_report;
 use crate::reports::Report;
 use crate::sessions_play::{Played, play_sessions};
 use commit_book::{Book, BookParts};
@@ -27,7 +27,7 @@ use std::thread::Threads;
 const ROWS_A_STEP: usize = 16;
 
 /// Plays rows over a book with no entries so far, and tells what a report tells of them.
-pub(crate) fn play_book<R: Threads + Wait + Sync, K: Sink, D: LogDisk + Send, G: Gate + Sync>(
+pub(crate) fn play_and_tell<R: Threads + Wait + Sync, K: Sink, D: LogDisk + Send, G: Gate + Sync>(
     rt: &R,
     alloc: Global,
     rows: &[InRow],
@@ -43,11 +43,11 @@ pub(crate) fn play_book<R: Threads + Wait + Sync, K: Sink, D: LogDisk + Send, G:
     let mut book = book;
     book.make_room(rows.len() + rows.len() / ROWS_A_STEP);
     let played = play_sessions::<R, StoreIndex, D, Brand, G>(rt, alloc, rows, book, gate);
-    end_book(report, rows, played, sink)
+    tell_book(report, rows, played, sink)
 }
 
 // Tells what a report tells of rows that were played over a book, and gives what the book held.
-fn end_book<I: Index, K: Sink, D: LogDisk>(
+fn tell_book<I: Index, K: Sink, D: LogDisk>(
     report: Report,
     rows: &[InRow],
     played: Played<I, D>,
@@ -55,8 +55,8 @@ fn end_book<I: Index, K: Sink, D: LogDisk>(
 ) -> Ended<Option<D>>
     requires rows { AreInRows rows.now }
     requires numbers { IfSome played.ends (λ ends. HasNumbers rows.now ends.items) }
-    ensures ends { EndsPlay report rows.now (failed_cell played.book.entries) played.book.leaves (option_map (λ ends. ends.items) played.ends)
-        result.status (K.output sink.old) (K.output sink.new) }
+    ensures ends { EndsPlay report rows.now (failed_cell played.book.entries) played.book.leaves
+        (option_map (λ ends. ends.items) played.ends) result.status (K.output sink.old) (K.output sink.new) }
     ensures events { result.events ≡ played.book.entries }
     ensures disk { result.disk ≡ disk_in played.book.log }
 {
@@ -67,7 +67,7 @@ fn end_book<I: Index, K: Sink, D: LogDisk>(
         disk,
         entries,
     } = book.into_parts();
-    let status = write_end(report, rows, failed, &ends, &index, sink);
+    let status = tell_end(report, rows, failed, &ends, &index, sink);
     Ended {
         status,
         events: entries,
@@ -76,7 +76,7 @@ fn end_book<I: Index, K: Sink, D: LogDisk>(
 }
 
 // Writes what a report tells of rows that were all answered, or the line of a refusal.
-fn write_end<I: Index, K: Sink>(
+fn tell_end<I: Index, K: Sink>(
     report: Report,
     rows: &[InRow],
     failed: Option<u64>,
@@ -95,7 +95,7 @@ fn write_end<I: Index, K: Sink>(
     match ends {
         Some(ends) => {
             let ends = ends.as_slice();
-            written(write_report(sink, report, rows, ends, index))
+            written(tell_report(sink, report, rows, ends, index))
         }
         None => put_refusal(&Refusal::Memory, sink),
     }

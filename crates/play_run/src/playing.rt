@@ -7,7 +7,7 @@ ghost use Rattle.play_run.specs.Playing.{Goes, PlaysRows};
 
 use crate::index::StoreIndex;
 use crate::log_book::open_book;
-use crate::play_book::play_book;
+use crate::play_book::play_and_tell;
 use crate::reports::Report;
 use command_words::Command;
 use commit_book::Book;
@@ -59,13 +59,13 @@ pub(crate) fn play_rows<R: Threads + Wait + Sync, K: Sink, D: LogDisk + Send, G:
         (targets K.output D.drive sink.new result.disk) result.status result.events }
 {
     match log {
-        Some(file) => play_over(rt, alloc, rows, report, file, size, sink, disk, gate),
-        None => play_new(rt, alloc, rows, report, size, sink, disk, gate),
+        Some(file) => over_log(rt, alloc, rows, report, file, size, sink, disk, gate),
+        None => over_none(rt, alloc, rows, report, size, sink, disk, gate),
     }
 }
 
 // Plays rows over no log.
-fn play_new<R: Threads + Wait + Sync, K: Sink, D: LogDisk + Send, G: Gate + Sync>(
+fn over_none<R: Threads + Wait + Sync, K: Sink, D: LogDisk + Send, G: Gate + Sync>(
     rt: &R,
     alloc: Global,
     rows: &[InRow],
@@ -81,7 +81,7 @@ fn play_new<R: Threads + Wait + Sync, K: Sink, D: LogDisk + Send, G: Gate + Sync
 {
     match Book::<StoreIndex, D>::fresh(alloc, size) {
         Ok(book) => {
-            let end = play_book(rt, alloc, rows, report, book, sink, gate);
+            let end = play_and_tell(rt, alloc, rows, report, book, sink, gate);
             Ended {
                 status: end.status,
                 events: end.events,
@@ -93,7 +93,7 @@ fn play_new<R: Threads + Wait + Sync, K: Sink, D: LogDisk + Send, G: Gate + Sync
 }
 
 // Plays rows over the log in a file.
-fn play_over<R: Threads + Wait + Sync, K: Sink, D: LogDisk + Send, G: Gate + Sync>(
+fn over_log<R: Threads + Wait + Sync, K: Sink, D: LogDisk + Send, G: Gate + Sync>(
     rt: &R,
     alloc: Global,
     rows: &[InRow],
@@ -110,7 +110,7 @@ fn play_over<R: Threads + Wait + Sync, K: Sink, D: LogDisk + Send, G: Gate + Syn
 {
     match open_book(alloc, file, size, disk) {
         Ok(book) => {
-            let end = play_book(rt, alloc, rows, report, book, sink, gate);
+            let end = play_and_tell(rt, alloc, rows, report, book, sink, gate);
             with_drive(end)
         }
         Err(Unmade { disk, why }) => refuse_on(alloc, &why, sink, disk),

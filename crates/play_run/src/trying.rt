@@ -17,7 +17,7 @@ use std::sync::Wait;
 use std::thread::Threads;
 
 /// Plays made rows, over the log in a file of this name or over none.
-pub fn play_made<R: Threads + Wait + Sync, K: Sink, D: LogDisk + Send, G: Gate + Sync>(
+pub fn trial<R: Threads + Wait + Sync, K: Sink, D: LogDisk + Send, G: Gate + Sync>(
     rt: &R,
     alloc: Global,
     log: Option<&str>,

@@ -74,18 +74,18 @@ returns-in-Some-Trial g c =
     let words = map string_bytes c.args.words.now in
     let command = Trial c.in-Some-Trial.log c.in-Some-Trial.made in
     let asks : AsksFor words (command_of command) = rw c.in-Some-Trial.field-0-is at c.in-Some-Trial.ensures in
-    let end = c.play_made-end.result in
-    let told = c.play_made-end.ensures in
+    let end = c.trial-end.result in
+    let told = c.trial-end.ensures in
     let at = ends g.S.Source.input g.K.Sink.output g.D.LogDisk.drive in
     let old = at c.args.source.now c.args.sink.now c.args.disk c.args.other in
-    let new = at c.args.source.now c.play_made-end.new.sink end.disk c.args.other in
+    let new = at c.args.source.now c.trial-end.new.sink end.disk c.args.other in
     let kept : Keeps (command_of command) old new end.status end.events =
     keeps-trial command old new end.status end.events (refl, refl, told.goes) in
     rw c.outcome_of-in-Some-Trial.ensures
     (record { usage = usage-accepted words (command_of command) old new end.status end.events asks kept; keeps = keeps-asked words (command_of command) old new end.status end.events asks kept })
 
-pub play_made-end-requires-clause-few : goal.play_made-end-requires-clause-few
-play_made-end-requires-clause-few g c κs within =
+pub trial-end-requires-clause-few : goal.trial-end-requires-clause-few
+trial-end-requires-clause-few g c κs within =
     let words = map string_bytes c.args.words.now in
     let command = Trial c.in-Some-Trial.log c.in-Some-Trial.made in
     let asks : AsksFor words (command_of command) = rw c.in-Some-Trial.field-0-is at c.in-Some-Trial.ensures in

@@ -8,7 +8,7 @@ use Rattle.play_run.specs.Playing.{IsNotOpened}
 use Rattle.play_run.specs.inside.Books.{BeginsAs, LeavesLog}
 use Rattle.play_run.specs.inside.Ended.{EndsBook}
 use Rattle.play_run.proofs.LogEnds.{answered-over}
-use Rattle.play_run.proofs.playing.play_over.Goals as goal
+use Rattle.play_run.proofs.playing.over_log.Goals as goal
 
 drive-in : {D : Type 0} (drive : D → Drive) (old : KeptView D) (log : Option (KeptView D)) → BeginsAs drive (Some old) log → is_some (disk_in log) ≡ true
 drive-in drive old None begins = absurd begins
@@ -22,7 +22,7 @@ pub with_drive-requires : goal.with_drive-requires
 with_drive-requires g c =
     let book = c.in-Ok.book in
     let opened = c.in-Ok.ensures.opened in
-    let end = c.play_book-end in
+    let end = c.play_and_tell-end in
     has-drive g.D.LogDisk.drive book.opening end.result.events book.log opened.log end.result.disk opened.log_is end.ensures.log
 
 pub returns-in-Ok : goal.returns-in-Ok
@@ -33,10 +33,10 @@ returns-in-Ok g c =
     let rows = c.args.rows.now in
     let report = c.args.report in
     let before = g.K.Sink.output c.args.sink.now in
-    let after = g.K.Sink.output c.play_book-end.new.sink in
+    let after = g.K.Sink.output c.play_and_tell-end.new.sink in
     record {
       plays = inr (answered-over drive report c.args.file.now c.args.size rows book c.args.disk end.disk before after end.status end.events c.in-Ok.ensures.opened
-          (subst (λ p. EndsBook drive report rows book p.events p.status p.disk before after) c.with_drive.ensures c.play_book-end.ensures));
+          (subst (λ p. EndsBook drive report rows book p.events p.status p.disk before after) c.with_drive.ensures c.play_and_tell-end.ensures));
     }
 
 pub returns-in-Err : goal.returns-in-Err

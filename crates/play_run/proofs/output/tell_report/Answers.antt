@@ -1,7 +1,7 @@
 use Rattle.std.proofs.Common.{sym, subst}
 use Rattle.io_edge.specs.Puts.{Puts}
 use Rattle.play_run.specs.Lines.{text_of}
-use Rattle.play_run.proofs.output.write_report.Goals as goal
+use Rattle.play_run.proofs.output.tell_report.Goals as goal
 
 pub returns-in-Lines-clause-bytes : goal.returns-in-Lines-clause-bytes
 returns-in-Lines-clause-bytes g c = λ world h answers objects.

@@ -7,10 +7,10 @@ use Rattle.play_run.specs.inside.Books.{IsNewBook}
 use Rattle.play_run.specs.inside.Answered.{IsAnsweredBook}
 use Rattle.play_run.specs.inside.Ended.{EndsBook}
 use Rattle.play_run.proofs.PlayEnds.{if-mapped, answered-numbers, ends-book}
-use Rattle.play_run.proofs.play_book.play_book.Goals as goal
+use Rattle.play_run.proofs.play_book.play_and_tell.Goals as goal
 
-pub end_book-requires-clause-numbers : goal.end_book-requires-clause-numbers
-end_book-requires-clause-numbers g c =
+pub tell_book-requires-clause-numbers : goal.tell_book-requires-clause-numbers
+tell_book-requires-clause-numbers g c =
     let played = c.play_sessions-played in
     answered-numbers (λ e. e.items) width c.args.rows.now c.make_room.new.self played.result.book played.result.ends played.ensures.answered
 
@@ -23,10 +23,10 @@ returns g c =
     let rows = c.args.rows.now in
     let report = c.args.report in
     let by = c.play_sessions-played.ensures in
-    let end = c.end_book.result in
-    let told = c.end_book.ensures in
+    let end = c.tell_book.result in
+    let told = c.tell_book.ensures in
     let before = g.K.Sink.output c.args.sink.now in
-    let after = g.K.Sink.output c.end_book.new.sink in
+    let after = g.K.Sink.output c.tell_book.new.sink in
     let ends = option_map (λ e. e.items) c.play_sessions-played.result.ends in
     let answered = if-mapped (λ e. e.items) (λ (e : List LaneEnd). IsAnsweredBook width rows old new e) c.play_sessions-played.result.ends by.answered in
     let begins = subst IsNewBook (sym moved) c.requires.new in

@@ -2,7 +2,7 @@ use Rattle.std.proofs.Common.{subst}
 use Rattle.std.specs.Option.{option_map}
 use Rattle.plain_list.specs.History.{failed_cell}
 use Rattle.play_run.specs.inside.Answered.{EndsPlay}
-use Rattle.play_run.proofs.play_book.end_book.Goals as goal
+use Rattle.play_run.proofs.play_book.tell_book.Goals as goal
 
 pub returns-clause-ends : goal.returns-clause-ends
 returns-clause-ends g c =
@@ -10,9 +10,9 @@ returns-clause-ends g c =
     let rows = c.args.rows.now in
     let report = c.args.report in
     let ends = option_map (λ e. e.items) c.args.played.ends in
-    let status = c.write_end-status.result in
+    let status = c.tell_end-status.result in
     let before = g.K.Sink.output c.args.sink.now in
-    let after = g.K.Sink.output c.write_end-status.new.sink in
+    let after = g.K.Sink.output c.tell_end-status.new.sink in
     let failed = c.closed-failed.result in
-    let of_leaves = subst (λ l. EndsPlay report rows failed l ends status before after) c.into_parts-index.ensures.leaves c.write_end-status.ensures in
+    let of_leaves = subst (λ l. EndsPlay report rows failed l ends status before after) c.into_parts-index.ensures.leaves c.tell_end-status.ensures in
     subst (λ f. EndsPlay report rows f book.leaves ends status before after) c.closed-failed.ensures.closed of_leaves
