@@ -1,10 +1,10 @@
 -- What a binary search for an id finds in a list of rising ids, and edits at that index.
-use Rattle.std.proofs.Common.{◌≡◌, ℕ, zero, suc, ◌<◌, ◌≤◌, length, false, [], ◌∷◌, Option, Some, None, Result, Ok, Err, get_or, set, refl, ◌∙◌, ap, subst, arith, cond}
+use Rattle.std.proofs.Common.{◌≡◌, ℕ, zero, suc, ◌<◌, ◌≤◌, length, false, List, [], ◌∷◌, Option, Some, None, Result, Ok, Err, get_or, set, refl, sym, ◌∙◌, ap, subst, arith, add-one, cond}
 use Rattle.std.specs.Prelude.{nat_le}
 use Rattle.std.specs.List.{remove}
-use Rattle.std.specs.List.Sorted.{IsBinarySearchResult, IsSearchInRange}
+use Rattle.std.specs.List.Sorted.{IsSortedBy, IsBinarySearchResult, IsSearchInRange}
 use Rattle.std.specs.declared.cmp.Ordering.TheVariants.{Less, Equal, Greater}
-use Rattle.std.specs.Ordering.{nat_cmp}
+use Rattle.std.specs.Ordering.{nat_cmp, is_lt}
 use Rattle.std.specs.Option.{option_map_or}
 use Rattle.std.proofs.lemmas.Grind.{common_steps}
 use Rattle.std.proofs.lemmas.Bool.Decides.{nat_tests}

@@ -7,6 +7,7 @@ use Rattle.std.specs.Map.{lookup, remove_entry, set_value}
 use Rattle.std.proofs.lemmas.Bool.Decides.{nat_tests}
 use Rattle.std.proofs.lemmas.Grind.{common_steps}
 use Rattle.zorder.specs.declared.points.Point.{Point}
+use Rattle.zorder.specs.declared.points.Placed.{Placed}
 use Rattle.zorder.specs.Key.{IsPoint}
 use Rattle.plain_list.specs.Places.{IsRising, IsAbove}
 use Rattle.plain_list.specs.World.{World, places_of, position_of, IsWorld, most_members}

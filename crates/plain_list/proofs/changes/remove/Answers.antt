@@ -1,4 +1,4 @@
-use Rattle.std.proofs.Common.{◌≡◌, ◌<◌, ◌∙◌, length, get_or, sym, subst}
+use Rattle.std.proofs.Common.{◌≡◌, ◌<◌, ◌∙◌, List, length, get_or, sym, subst}
 use Rattle.zorder.specs.declared.points.Placed.{Placed}
 use Rattle.plain_list.specs.World.{World, IsWorld}
 use Rattle.plain_list.proofs.IdSearches.{position_of-at, remove-without, after_remove-there}

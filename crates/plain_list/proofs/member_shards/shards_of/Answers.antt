@@ -1,4 +1,4 @@
-use Rattle.std.proofs.Common.{ap, ◌∙◌, get_or}
+use Rattle.std.proofs.Common.{ap, ◌∙◌, List, get_or}
 use Rattle.zorder.specs.declared.points.Placed.{Placed}
 use Rattle.plain_list.specs.World.{World, position_of}
 use Rattle.plain_list.specs.Answer.{with_member}
