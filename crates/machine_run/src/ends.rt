@@ -1,11 +1,18 @@
 //! A run over std's streams.
-ghost use Rattle.std.specs.Prelude.{◌≡◌};
+ghost use Rattle.std.specs.Prelude.{◌≡◌, ◌↔◌, map};
 ghost use Rattle.std.specs.Process.{exit_status};
+ghost use Rattle.std.specs.String.{string_bytes};
+ghost use Rattle.io_edge.specs.Puts.{Puts};
+ghost use Rattle.csv_rows.specs.Lines.{refusal_text};
+ghost use Rattle.csv_rows.specs.declared.rows.Refusal.TheVariants as refusal;
+ghost use Rattle.command_words.specs.Words.{IsAccepted};
+ghost use Rattle.run_ends.specs.Ends.{ends};
+ghost use Rattle.machine_run.specs.Ending.{EndsRun};
 
 use csv_rows::{Refusal, refusal_line};
 use disk_file::FileDisk;
 use disk_trait::LogDisk;
-use io_edge::{OpenGate, StdSink, StdSource};
+use io_edge::{OpenGate, Sink, SinkFault, Source, StdSink, StdSource};
 use location_run::{Outcome, run};
 use std::alloc::Global;
 use std::fs::Files;
@@ -27,20 +34,28 @@ pub fn run_words<R: Threads + Wait + Sync + AllocGlobal + Input + Print, D: LogD
     words: &[String],
     disk: D,
     other: D,
-) -> ExitCode {
+) -> ExitCode
+    ensures usage { (exit_status result ≡ 2) ↔ (IsAccepted (map string_bytes words.now) → ⊥) }
+{
     keep_pieces(rt.alloc());
     let mut source = StdSource::new(rt.reader());
     let mut sink = StdSink::new(io::writer(rt));
-    let outcome = run(
-        rt,
-        rt.alloc(),
-        words,
-        &mut source,
-        &mut sink,
-        disk,
-        other,
-        &OpenGate,
-    );
+    run_over(rt, words, &mut source, &mut sink, disk, other)
+}
+
+/// Runs these words over this source, this sink and these drives.
+pub fn run_over<R: Threads + Wait + Sync + AllocGlobal, S: Source, K: Sink, D: LogDisk + Send>(
+    rt: &R,
+    words: &[String],
+    source: &mut S,
+    sink: &mut K,
+    disk: D,
+    other: D,
+) -> ExitCode
+    ensures run { EndsRun (map string_bytes words.now) (ends S.input K.output D.drive source.old sink.old disk other)
+        (λ (first second : D). ends S.input K.output D.drive source.new sink.new first second) (exit_status result) }
+{
+    let outcome = run(rt, rt.alloc(), words, source, sink, disk, other, &OpenGate);
     exit_code(&outcome)
 }
 
@@ -61,8 +76,16 @@ pub fn file_drive<R: Files + Clone + Drop>(rt: &R) -> io::Result<FileDisk<R>> {
 }
 
 /// Writes that there was no memory for a run.
-pub fn out_of_memory<R: Print>(rt: &R) -> ExitCode {
+pub fn out_of_memory<R: Print>(rt: &R) -> ExitCode
+    ensures { exit_status result ≡ 9 }
+{
     let mut sink = StdSink::new(io::writer(rt));
-    let _ = refusal_line(&mut sink, &Refusal::Memory);
+    let _ = tell_no_memory(&mut sink);
     ExitCode::from(NO_MEMORY)
+}
+
+fn tell_no_memory<K: Sink>(sink: &mut K) -> Result<(), SinkFault>
+    ensures { Puts (K.output sink.old).taken (K.output sink.new).taken (refusal_text refusal.Memory) result }
+{
+    refusal_line(sink, &Refusal::Memory)
 }
