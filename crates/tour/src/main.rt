@@ -1,8 +1,20 @@
 //! Runs several commands one after the other, each as the program would, and ends with the status of the last. A word `;` ends a command.
+//!
+//! One that begins with `count` and the name of a file reads that file, and in place of its lines tells how many they are: so among them can
+//! stand a play of many sessions, whose places differ from run to run.
 #![tactic(auto)]
 
-use machine_run::{file_drive, out_of_memory, run_words, words_of};
+use disk_trait::LogDisk;
+use io_edge::{MemSink, MemSource};
+use machine_run::{file_drive, out_of_memory, run_over, run_words, words_of};
+use std::fs::{self, Files};
+use std::io::Print;
 use std::process::ExitCode;
+use std::sync::Wait;
+use std::thread::Threads;
+
+// How many bytes the lines may have that are counted.
+const ROOM: usize = 65_536;
 
 fn main(rt: HostRuntime) -> ExitCode {
     let Ok(words) = words_of(&rt) else {
@@ -13,7 +25,39 @@ fn main(rt: HostRuntime) -> ExitCode {
         let (Ok(disk), Ok(other)) = (file_drive(&rt), file_drive(&rt)) else {
             return out_of_memory(&rt);
         };
-        status = run_words(&rt, command, disk, other);
+        status = match command {
+            [first, file, rest @ ..] if first.as_str() == "count" => count(
+                &rt,
+                file.as_str(),
+                rest,
+                disk,
+                other,
+            ),
+            _ => run_words(&rt, command, disk, other),
+        };
     }
     status
+}
+
+// Runs a command over the bytes of a file, and tells how many lines it puts.
+fn count<R: Threads + Wait + Sync + AllocGlobal + Files + Print, D: LogDisk + Send>(
+    rt: &R,
+    file: &str,
+    words: &[String],
+    disk: D,
+    other: D,
+) -> ExitCode {
+    let Ok(bytes) = fs::read(rt, file) else {
+        return ExitCode::FAILURE;
+    };
+    let Ok(mut sink) = MemSink::new(rt.alloc(), ROOM, Vec::new(rt.alloc())) else {
+        return out_of_memory(rt);
+    };
+    let mut source = MemSource::new(bytes, Vec::new(rt.alloc()));
+    let status = run_over(rt, words, &mut source, &mut sink, disk, other);
+    let lines = sink.bytes().iter().filter(|byte| **byte == b'\n').count();
+    match println!(rt; "{lines} lines") {
+        Ok(()) => status,
+        Err(_) => ExitCode::FAILURE,
+    }
 }
