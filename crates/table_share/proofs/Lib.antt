@@ -1,7 +1,6 @@
 pub mod WalkLemmas
 pub mod FoldLemmas
 pub mod RowObjects
-pub mod RowsInOrder
 pub mod TableRows
 pub mod LeafRows
 pub mod Subtrees
