@@ -14,6 +14,7 @@ mod lock;
 mod manner;
 mod origin;
 mod pass;
+mod sending;
 mod view;
 
 pub use held::Held;

@@ -75,15 +75,6 @@ fn new_lock(rt: &impl Abort, alloc: Global, is_slow: bool) -> (BookLock<Sheet>, 
     made
 }
 
-fn in_threads<T: Send + Sync>() {}
-
-fn moved<T: Send>() {}
-
-fn may_be_shared<V: Held + Send>() {
-    in_threads::<BookLock<V>>();
-    moved::<Pass<V>>();
-}
-
 fn find(session: u8, row: u32) -> Entry
     ensures { (n : ℕ) → ¬ Ends result n }
 {
@@ -164,7 +155,6 @@ fn comes_back<R: Wait + Clock + Abort>(rt: &R, alloc: Global) {
 
 #[test]
 fn one_find_comes_back(rt: HostRuntime) {
-    may_be_shared::<Sheet>();
     comes_back(&rt, rt.alloc());
 }
 
