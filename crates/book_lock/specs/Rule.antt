@@ -35,7 +35,7 @@ newcomer origin = seat_view [] [] [] origin 65536 false
 
 -- of no value
 abbrev pub no_origin : Origin
-no_origin = record { world = []; leaves = []; begun = 0; cells = 0; bytes = None; moment = 0; faults = 0; bucket = 0 }
+no_origin = record { world = []; leaves = []; begun = 0; log = None; bucket = 0 }
 
 -- a seat that another took in
 abbrev pub spent : View

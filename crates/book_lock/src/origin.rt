@@ -9,14 +9,20 @@ pub struct Origin {
     pub leaves: LinkedList<Name>,
     /// How many splits had been begun.
     pub begun: u64,
-    /// How many cells its log had.
-    pub cells: u64,
-    /// The bytes of its log, where there is one and its drive tells them.
-    pub bytes: Option<LinkedList<u8>>,
-    /// The moment of its drive.
-    pub moment: u64,
-    /// How many faults its drive had counted.
-    pub faults: u64,
+    /// Its log, where there is one.
+    pub log: Option<LogStart>,
     /// The size of a bucket.
     pub bucket: u64,
+}
+
+/// A log as it was opened.
+pub struct LogStart {
+    /// How many cells it had.
+    pub cells: u64,
+    /// Its bytes, where its drive tells them.
+    pub bytes: Option<LinkedList<u8>>,
+    /// The clock of its drive.
+    pub clock: u64,
+    /// How many faults its drive had counted.
+    pub faults: u64,
 }

@@ -2,6 +2,7 @@ pub mod KeptView
 pub mod Kept
 pub mod Steps
 pub mod Journal
+pub mod Counts
 pub use Rattle.log_state.specs.Keeps
 pub use Rattle.log_state.specs.Changes
 pub use Rattle.recovery.specs.Opening

@@ -75,7 +75,7 @@ module _ {I D O P : Type 0} (w : ℕ) (origin : Origin) (rows : List InRow) (ses
       omega arith
 
   pub goes : AddsQuiet (SplitLost w Pass) Pass last
-  goes = goes-quiet w Pass last out.goes_on
+  goes = goes-quiet w lanes Pass last out.goes_on
 
   pub pass-later : IsPrefix Pass.seen last.seen
   pass-later = adds-later (SplitLost w Pass) Pass last goes.entries goes.adds

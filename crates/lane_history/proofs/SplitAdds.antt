@@ -9,7 +9,7 @@ use Rattle.plain_list.specs.declared.entries.Entry.TheVariants.{Fail, Begin, Ins
 use Rattle.plain_list.specs.declared.entries.Lost.{Lost}
 use Rattle.plain_list.specs.declared.entries.Lost.TheVariants as lost
 use Rattle.plain_list.specs.Played.{calls_of}
-use Rattle.plain_list.specs.State.{State, is_leaf, may_split}
+use Rattle.plain_list.specs.State.{State, is_leaf, is_splitting, may_split}
 use Rattle.plain_list.specs.History.{failed_cell}
 use Rattle.commit_book.specs.Refusals.{IsRefusedBy, IsMemoryOrDisk, first_of, closed_refusal, room_refusal, leaf_refusal, split_number, has_no_room}
 use Rattle.commit_book.specs.declared.faults.BookFault.{BookFault}
@@ -17,7 +17,7 @@ use Rattle.commit_book.specs.declared.faults.BookFault.TheVariants.{Closed, Disk
 use Rattle.book_lock.specs.Pass.{Known}
 use Rattle.book_lock.specs.declared.origin.Origin.{Origin}
 use Rattle.sessions.specs.Shared.{start_of}
-use Rattle.sessions.specs.Steps.{Leaves}
+use Rattle.sessions.specs.Steps.{Leaves, cells_at}
 use Rattle.sessions.specs.Splits.{begin_cause, state_of, BeginsSplit, InstallsSplit, AbandonsSplit, GivesUp, RanOut, NotInstalled, SplitEnds}
 use Rattle.sessions.specs.Settles.{SplitsAll, SettleEnds}
 use Rattle.sessions.specs.Lanes.{Tries}
@@ -25,6 +25,8 @@ use Rattle.sessions.specs.declared.faults.Split.{Split}
 use Rattle.sessions.specs.declared.faults.Split.TheVariants.{Installed, NotSplit}
 use Rattle.sessions.specs.declared.faults.Settled.{Settled}
 use Rattle.sessions.specs.declared.faults.Settled.TheVariants as settled
+use Rattle.commit_book.proofs.RefusalLemmas.{splitting-none}
+use Rattle.sessions.specs.declared.store.lanes.Lane.{Lane}
 use Rattle.lane_history.specs.Lanes.{GoesOn}
 use Rattle.lane_history.specs.LostSteps.{IsSplitStep}
 use Rattle.lane_history.proofs.Adds.{LostSo, AddsQuiet, quiet-one, quiet-seen, quiet-same, quiet-trans, adds-origin}
@@ -99,6 +101,16 @@ leaf-may w s name none = by_tests (is_leaf s.leaves name) (nat_lt 64 (length nam
     by_tests true true short none = absurd (cc none)
     by_tests false b short none = absurd (cc none)
 
+-- and has no open split
+leaf-free : (w : ℕ) (s : State) (name : List Bool) → leaf_refusal w s name ≡ None → IsTrue (not (is_splitting s.splits name))
+leaf-free w s name none = ap not (splitting-none s.splits name (by_tests (is_leaf s.leaves name) (nat_lt 64 (length name + w)) (split_number s.splits name) none))
+  where
+    by_tests : (a b : Bool) (o : Option ℕ) → cond (not a) (Some NoLeaf) (cond b (Some Deep) (option_map Splitting o)) ≡ None → o ≡ None
+    by_tests true false None none = refl
+    by_tests true false (Some n) none = absurd (cc none)
+    by_tests true true o none = absurd (cc none)
+    by_tests false b o none = absurd (cc none)
+
 -- the begin of a split
 pub begins-quiet : (w : ℕ) (name : List Bool) (old new : Known) (r : Result ℕ BookFault) → BeginsSplit w name old new r → AddsQuiet (SplitLost w old) old new
 begins-quiet w name old new r step =
@@ -107,10 +119,10 @@ begins-quiet w name old new r step =
     loses : (cell : ℕ) → r ≡ Err (Disk cell) → SplitLost w old step.before (lost.Begin ((state_of w old.origin step.before).begun + 1) name)
     loses cell is =
         let s = state_of w old.origin step.before in
-        let refused : IsRefusedBy IsMemoryOrDisk (begin_cause w old.origin name step.cells step.before) (Err (Disk cell)) = subst (λ (x : Result ℕ BookFault). IsRefusedBy IsMemoryOrDisk (begin_cause w old.origin name step.cells step.before) x) is step.refused in
-        let none = no-cause cell ℕ IsMemoryOrDisk (begin_cause w old.origin name step.cells step.before) (begin-disk cell w old.origin name step.cells step.before) refused in
-        let leaf : leaf_refusal w s name ≡ None = first-none (room_refusal step.cells (length step.before)) (leaf_refusal w s name) (first-none (closed_refusal step.before) _ none) in
-        and_from _ (may_split w s name) (eq-eqb (s.begun + 1) (s.begun + 1) refl) (leaf-may w s name leaf)
+        let refused : IsRefusedBy IsMemoryOrDisk (begin_cause w old.origin name (cells_at old.origin step.before) step.before) (Err (Disk cell)) = subst (λ (x : Result ℕ BookFault). IsRefusedBy IsMemoryOrDisk (begin_cause w old.origin name (cells_at old.origin step.before) step.before) x) is step.refused in
+        let none = no-cause cell ℕ IsMemoryOrDisk (begin_cause w old.origin name (cells_at old.origin step.before) step.before) (begin-disk cell w old.origin name (cells_at old.origin step.before) step.before) refused in
+        let leaf : leaf_refusal w s name ≡ None = first-none (room_refusal (cells_at old.origin step.before) (length step.before)) (leaf_refusal w s name) (first-none (closed_refusal step.before) _ none) in
+        and_from _ (not (is_splitting s.splits name)) (and_from _ (may_split w s name) (eq-eqb (s.begun + 1) (s.begun + 1) refl) (leaf-may w s name leaf)) (leaf-free w s name leaf)
 
 -- its end
 pub installs-quiet : (w number : ℕ) (old new : Known) (r : Result (Unit {0}) BookFault) → InstallsSplit w number old new r → AddsQuiet (SplitLost w old) old new
@@ -157,6 +169,8 @@ ends-quiet w mid new (Err fault) (inl (tells, same)) = quiet-same (SplitLost w m
 ends-quiet w mid new (Err fault) (inr (name, full, is, ends)) = split-quiet w name mid new (NotSplit fault) ends
 
 -- so what goes on behind the lanes adds none
-pub goes-quiet : (w : ℕ) (pass last : Known) → GoesOn w pass last → AddsQuiet (SplitLost w pass) pass last
-goes-quiet w pass last (inl same) = quiet-same (SplitLost w pass) pass last same
-goes-quiet w pass last (inr (r, settles)) = quiet-then w pass settles.mid last (all-quiet w pass settles.mid settles.numbers settles.splits) (ends-quiet w settles.mid last r settles.ends)
+pub goes-quiet : {I D O P : Type 0} (w : ℕ) (lanes : List (Lane I D O P)) (pass last : Known) → GoesOn w lanes pass last → AddsQuiet (SplitLost w pass) pass last
+goes-quiet w lanes pass last (inl same) = quiet-same (SplitLost w pass) pass last same
+goes-quiet w lanes pass last (inr after) =
+    let settles = after.settles in
+    quiet-then w pass settles.mid last (all-quiet w pass settles.mid settles.numbers settles.splits) (ends-quiet w settles.mid last after.result settles.ends)

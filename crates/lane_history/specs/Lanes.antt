@@ -11,6 +11,7 @@ use Rattle.sessions.specs.declared.faults.Settled.{Settled}
 use Rattle.sessions.specs.declared.store.lanes.Lane.{Lane}
 use Rattle.sessions.specs.Lanes.{Plays}
 use Rattle.sessions.specs.Settles.{Settles}
+use Rattle.sessions.specs.Steps.{all_parts}
 use Rattle.lane_history.specs.SessionRows.{session_rows}
 
 -- a lane with the rows of a session was played, from a pass of this origin that had seen nothing and owned nothing
@@ -56,9 +57,21 @@ pub record TakesIn {I D O P : Type 0} (origin : Origin) (lanes : List (Lane I D 
   pub seen : HaveSeen lanes pass
   pub owned : (p : ℕ) → times p pass.own ≡ owned_by p lanes
 
--- the pass is as it was, or the splits at the end were settled
-abbrev pub GoesOn : ℕ → Known → Known → Type 0
-GoesOn w pass last = (last ≡ pass) ⊎ ((result : Result Settled BookFault) × Settles w pass last result)
+-- no lane met a fault
+abbrev pub AreCalm : {I D O P : Type 0} → List (Lane I D O P) → Type 0
+AreCalm [] = ⊤
+AreCalm (lane ∷ lanes) = (lane.fault ≡ None) × AreCalm lanes
+
+-- no lane met a fault, and the splits at the end were settled by who had all parts again, as far as it went
+pub record SettlesAfter {I D O P : Type 0} (w : ℕ) (lanes : List (Lane I D O P)) (pass last : Known) : Type 0 where
+  pub calm : AreCalm lanes
+  pub all : pass.parts ≡ all_parts
+  pub result : Result Settled BookFault
+  pub settles : Settles w pass last result
+
+-- the pass is as it was, or that
+abbrev pub GoesOn : {I D O P : Type 0} → ℕ → List (Lane I D O P) → Known → Known → Type 0
+GoesOn w lanes pass last = (last ≡ pass) ⊎ SettlesAfter w lanes pass last
 
 -- the pass has seen the whole history, each entry of which is its own
 abbrev pub OwnsAll : Known → Type 0
@@ -71,10 +84,5 @@ pub record IsPlayedOut {I D O P : Type 0} (w : ℕ) (origin : Origin) (rows : Li
   pub played : HaveAllPlayed w origin rows sessions lanes
   pub pass : Known
   pub joined : TakesIn origin lanes pass
-  pub goes_on : GoesOn w pass last
+  pub goes_on : GoesOn w lanes pass last
   pub whole : OwnsAll last
-
--- no lane met a fault
-abbrev pub AreCalm : {I D O P : Type 0} → List (Lane I D O P) → Type 0
-AreCalm [] = ⊤
-AreCalm (lane ∷ lanes) = (lane.fault ≡ None) × AreCalm lanes

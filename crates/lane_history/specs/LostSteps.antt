@@ -1,5 +1,5 @@
 -- The step that a failed append lost.
-use Rattle.std.specs.Prelude.{◌≡◌, ℕ, List, [], ◌∷◌, ◌++◌, None, true, IsTrue}
+use Rattle.std.specs.Prelude.{◌≡◌, ℕ, List, [], ◌∷◌, ◌++◌, None, true, ◌&&◌, IsTrue}
 use Rattle.plain_list.specs.declared.ops.Op.{Op}
 use Rattle.plain_list.specs.declared.entries.Entry.{Entry}
 use Rattle.plain_list.specs.declared.entries.Entry.TheVariants as entry
@@ -8,7 +8,7 @@ use Rattle.plain_list.specs.declared.entries.Lost.TheVariants.{Call, Begin, Inst
 use Rattle.plain_list.specs.Answer.{answer_of, is_change}
 use Rattle.plain_list.specs.History.{world_after, failed_cell}
 use Rattle.plain_list.specs.Played.{calls_of}
-use Rattle.plain_list.specs.State.{State, state_after, is_possible}
+use Rattle.plain_list.specs.State.{State, state_after, is_possible, is_free}
 use Rattle.csv_rows.specs.declared.rows.InRow.{InRow}
 use Rattle.lane_history.specs.SessionRows.{session_rows}
 
@@ -17,10 +17,10 @@ pub record IsNextRow (rows : List InRow) (before : List Entry) (session row : �
   pub rest : List (ℕ × Op)
   pub next : session_rows rows session ≡ calls_of session before ++ (row, op) ∷ rest
 
--- the step of a split is possible behind a history
+-- the step of a split is possible behind a history, and a begin is of a leaf without an open split
 abbrev pub IsSplitStep : ℕ → State → List Entry → Lost → Type 0
 IsSplitStep w s before (Call session row op) = ⊥
-IsSplitStep w s before (Begin number name) = IsTrue (is_possible w (state_after w s before) (entry.Begin number name))
+IsSplitStep w s before (Begin number name) = IsTrue (is_possible w (state_after w s before) (entry.Begin number name) && is_free (state_after w s before) (entry.Begin number name))
 IsSplitStep w s before (Install number) = IsTrue (is_possible w (state_after w s before) (entry.Install number))
 IsSplitStep w s before (Abandon number) = IsTrue (is_possible w (state_after w s before) (entry.Abandon number))
 

@@ -8,22 +8,19 @@ use Rattle.std.proofs.lemmas.List.{take-append-drop}
 use Rattle.std.proofs.lemmas.Option.{slice_get-get_or}
 use Rattle.plain_list.specs.declared.entries.Entry.{Entry}
 use Rattle.plain_list.specs.declared.entries.Entry.TheVariants.{Install}
-use Rattle.plain_list.specs.History.{world_after}
 use Rattle.plain_list.specs.State.{IsLegal}
-use Rattle.log_state.specs.Changes.{cells_of}
-use Rattle.log_state.proofs.PlacedChanges.{cells_of-append}
 use Rattle.csv_rows.specs.declared.rows.InRow.{InRow}
 use Rattle.commit_book.specs.Refusals.{has_no_room}
 use Rattle.book_lock.specs.Pass.{Known}
 use Rattle.book_lock.specs.declared.origin.Origin.{Origin}
 use Rattle.book_lock.proofs.Histories.{prefix_refl, prefix_length}
 use Rattle.sessions.specs.Shared.{start_of}
-use Rattle.sessions.specs.Steps.{cells_after}
+use Rattle.sessions.specs.Steps.{cells_at}
 use Rattle.sessions.specs.declared.store.lanes.Lane.{Lane}
 use Rattle.lane_history.specs.Lanes.{IsPlayedOut, GoesOn}
+use Rattle.sessions.proofs.SettleLemmas.{cells-added}
 use Rattle.lane_splits.specs.Settled.{IsBounded}
 use Rattle.lane_splits.proofs.Weights.{weight, weight-all, all_below, at, at-is, below-take}
-use Rattle.log_state.proofs.CellCounts.{cells-few}
 use Rattle.lane_splits.proofs.Entries.{begins, calls, ends, fails, one-kind, legal-begin, one-fail, open-few}
 use Rattle.lane_splits.proofs.Bounds.{AreFew, size-few}
 use Rattle.lane_splits.proofs.Gains.{crowd}
@@ -47,15 +44,15 @@ joined-from origin h own lanes a b same together less = record {
   even = λ calm. let x = same (at begins h) (length h) in let y = same (at ends h) (length h) in let z = together.even calm in omega arith;
 }
 
-pub goes-prefix : (w : ℕ) (pass last : Known) → GoesOn w pass last → IsPrefix pass.seen last.seen
-goes-prefix w pass last (inl same) = subst (λ (k : Known). IsPrefix pass.seen k.seen) (sym same) (prefix_refl pass.seen)
-goes-prefix w pass last (inr (result, settles)) = (settles-same w pass last result settles).0
+pub goes-prefix : {I D O P : Type 0} (w : ℕ) (lanes : List (Lane I D O P)) (pass last : Known) → GoesOn w lanes pass last → IsPrefix pass.seen last.seen
+goes-prefix w lanes pass last (inl same) = subst (λ (k : Known). IsPrefix pass.seen k.seen) (sym same) (prefix_refl pass.seen)
+goes-prefix w lanes pass last (inr after) = (settles-same w pass last after.result after.settles).0
 
 pub joined : {I D O P : Type 0} (w : ℕ) (origin : Origin) (rows : List InRow) (sessions : List ℕ) (lanes : List (Lane I D O P)) (last : Known) (out : IsPlayedOut w origin rows sessions lanes last)
     → AreJoined origin last.seen out.pass.own (length rows)
 joined w origin rows sessions lanes last out =
     joined-from origin last.seen out.pass.own lanes (rows_of 1 rows sessions) (length rows) (λ g n. lanes-weight g out.pass.own lanes out.joined.owned n)
-    (together w origin last.seen rows sessions lanes out.pass out.played out.joined.seen (goes-prefix w out.pass last out.goes_on)) (rows-few 1 0 rows sessions out.sessions_are.rise)
+    (together w origin last.seen rows sessions lanes out.pass out.played out.joined.seen (goes-prefix w lanes out.pass last out.goes_on)) (rows-few 1 0 rows sessions out.sessions_are.rise)
 
 -- What the last pass comes to, in what it owns: it may have begun one split more than it ended.
 record AreLast (origin : Origin) (h : List Entry) (own : List ℕ) (most : ℕ) : Type 0 where
@@ -70,22 +67,18 @@ last-pairs origin h pass last most joined pairs = record {
   few = let x = joined.few in let z = pairs.calls_are (length h) in omega arith;
 }
 
-last-goes : (w : ℕ) (origin : Origin) (pass last : Known) (most : ℕ) → pass.origin ≡ origin → AreJoined origin last.seen pass.own most → GoesOn w pass last → AreLast origin last.seen last.own most
-last-goes w origin pass last most from joined (inl same) =
+last-goes : {I D O P : Type 0} (w : ℕ) (origin : Origin) (lanes : List (Lane I D O P)) (pass last : Known) (most : ℕ) → pass.origin ≡ origin → AreJoined origin last.seen pass.own most → GoesOn w lanes pass last → AreLast origin last.seen last.own most
+last-goes w origin lanes pass last most from joined (inl same) =
     let h = last.seen in
     let now : AreJoined origin h last.own most = subst (λ (k : Known). AreJoined origin h k.own most) (sym same) joined in
     record { fair = λ n. let x = now.fair n in omega arith; room = now.room; few = now.few }
-last-goes w origin pass last most from joined (inr (result, settles)) = last-pairs origin last.seen pass last most joined (settles-pairs w origin last.seen pass last result from settles (prefix_refl last.seen))
+last-goes w origin lanes pass last most from joined (inr after) = last-pairs origin last.seen pass last most joined (settles-pairs w origin last.seen pass last after.result from after.settles (prefix_refl last.seen))
 
 -- the cells of one entry more
-next-cells : (origin : Origin) (h : List Entry) (n : ℕ) → n < length h → cells_after origin (take (suc n) h) ≤ cells_after origin (take n h) + 1
+next-cells : (origin : Origin) (h : List Entry) (n : ℕ) → n < length h → cells_at origin (take (suc n) h) ≤ cells_at origin (take n h) + 1
 next-cells origin h n less =
     let e : Entry = get_or h n (Install 0) in
-    let is : length (cells_of origin.world (take (suc n) h)) ≡ length (cells_of origin.world (take n h)) + length (cells_of (world_after origin.world (take n h)) (e ∷ [])) =
-    ap (λ (l : List Entry). length (cells_of origin.world l)) (take-suc h n (Install 0) less) ∙ ap length (cells_of-append origin.world (take n h) (e ∷ []))
-    ∙ length-append (cells_of origin.world (take n h)) (cells_of (world_after origin.world (take n h)) (e ∷ [])) in
-    let few = cells-few (world_after origin.world (take n h)) (e ∷ []) in
-    omega arith
+    subst (λ (l : List Entry). cells_at origin l ≤ cells_at origin (take n h) + 1) (sym (take-suc h n (Install 0) less)) (cells-added origin (take n h) e)
 
 -- each position has an entry of one kind
 one-at : (h : List Entry) (n : ℕ) → n < length h → at begins h n + at calls h n + at ends h n + at fails h n ≡ 1
@@ -130,23 +123,23 @@ had-room cells events none = by_tests (nat_lt 16000000 cells) (nat_lt 4000000 ev
     by_tests false true other is none = absurd (cc none)
     by_tests false false few less none = (ltb-false 4000000 events less, ltb-false 16000000 cells few)
 
-begin-room : (origin : Origin) (h : List Entry) (n : ℕ) → n < length h → 1 ≤ at begins h n → at begins h n * bad origin h n ≡ 0 → (n ≤ 4000000) × (cells_after origin (take n h) ≤ 16000000)
+begin-room : (origin : Origin) (h : List Entry) (n : ℕ) → n < length h → 1 ≤ at begins h n → at begins h n * bad origin h n ≡ 0 → (n ≤ 4000000) × (cells_at origin (take n h) ≤ 16000000)
 begin-room origin h n less begun none =
     let kind = one-at h n less in
     let one : at begins h n ≡ 1 = omega arith in
     let scaled : at begins h n * bad origin h n ≡ 1 * bad origin h n = ap (λ (k : ℕ). k * bad origin h n) one in
-    had-room (cells_after origin (take n h)) n (omega arith)
+    had-room (cells_at origin (take n h)) n (omega arith)
 
 -- what is known of the whole history
 record AreBelow (origin : Origin) (h : List Entry) (most : ℕ) : Type 0 where
   pub fair : (n : ℕ) → n ≤ length h → all_below (at begins h) n ≤ all_below (at calls h) n + all_below (at ends h) n + 1
-  pub room : (n : ℕ) → n < length h → 1 ≤ at begins h n → (n ≤ 4000000) × (cells_after origin (take n h) ≤ 16000000)
+  pub room : (n : ℕ) → n < length h → 1 ≤ at begins h n → (n ≤ 4000000) × (cells_at origin (take n h) ≤ 16000000)
   pub few : all_below (at calls h) (length h) ≤ most
 
 are-below : {I D O P : Type 0} (w : ℕ) (origin : Origin) (rows : List InRow) (sessions : List ℕ) (lanes : List (Lane I D O P)) (last : Known) → IsPlayedOut w origin rows sessions lanes last → AreBelow origin last.seen (length rows)
 are-below w origin rows sessions lanes last out =
     let h = last.seen in
-    let end = last-goes w origin out.pass last (length rows) out.joined.begins (joined w origin rows sessions lanes last out) out.goes_on in
+    let end = last-goes w origin lanes out.pass last (length rows) out.joined.begins (joined w origin rows sessions lanes last out) out.goes_on in
     let whole : (g : ℕ → ℕ) (n : ℕ) → n ≤ length h → weight g last.own n ≡ all_below g n = (λ g n le. weight-all g last.own (length h) out.whole n le) in
     let none : all_below (crowd h (bad origin h)) (length h) ≡ 0 = sym (whole (crowd h (bad origin h)) (length h) (omega arith)) ∙ end.room (length h) in
     record {
@@ -195,7 +188,7 @@ module _ (w : ℕ) (origin : Origin) (h : List Entry) (legal : IsLegal w (start_
       omega arith
 
 pub bounded : {I D O P : Type 0} (w : ℕ) (origin : Origin) (rows : List InRow) (sessions : List ℕ) (lanes : List (Lane I D O P)) (last : Known) → IsPlayedOut w origin rows sessions lanes last
-    → IsLegal w (start_of origin) last.seen → length rows ≤ 65536 → origin.cells ≤ 16000000 → IsBounded origin last.seen
+    → IsLegal w (start_of origin) last.seen → length rows ≤ 65536 → cells_at origin [] ≤ 16000000 → IsBounded origin last.seen
 bounded w origin rows sessions lanes last out legal few_rows few_cells =
     let h = last.seen in
     let below = are-below w origin rows sessions lanes last out in
@@ -206,7 +199,7 @@ bounded w origin rows sessions lanes last out legal few_rows few_cells =
           omega arith;
       few = λ g pre.
           let le = prefix_length g h pre in
-          let small = size-below w origin h legal (length rows) below 16000000 (λ n. cells_after origin (take n h)) (omega arith) (next-cells origin h) (λ n less begun. (below.room n less begun).1) (length g) le in
-          let same : cells_after origin (take (length g) h) ≡ cells_after origin g = ap (cells_after origin) (take-prefix g h pre) in
+          let small = size-below w origin h legal (length rows) below 16000000 (λ n. cells_at origin (take n h)) (omega arith) (next-cells origin h) (λ n less begun. (below.room n less begun).1) (length g) le in
+          let same : cells_at origin (take (length g) h) ≡ cells_at origin g = ap (cells_at origin) (take-prefix g h pre) in
           omega arith;
     }

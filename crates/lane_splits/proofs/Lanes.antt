@@ -13,16 +13,13 @@ use Rattle.sessions.specs.declared.faults.CallFault.TheVariants.{Closed, Disk, H
 use Rattle.sessions.specs.declared.store.lanes.Lane.{Lane}
 use Rattle.sessions.specs.declared.store.lanes.KeptRow.{KeptRow}
 use Rattle.sessions.specs.Calls.{CallLeaves}
-use Rattle.sessions.specs.Splits.{SamePass}
 use Rattle.sessions.specs.Lanes.{Keeps, KeepsAll, Stops}
-use Rattle.sessions.proofs.StepLemmas.{same-later}
-use Rattle.sessions.proofs.CallLemmas.{called-same}
-use Rattle.sessions.proofs.SplitLemmas.{same-none}
+use Rattle.sessions.proofs.LanePasses.{tries-same, keeps-same, all-same, stops-same}
 use Rattle.lane_history.specs.Lanes.{HasPlayed}
 use Rattle.lane_splits.proofs.Gains.{HasTried, Gains, gains-none, gains-fail, gains-call, gains-later}
 use Rattle.lane_splits.proofs.Rounds.{gains-called}
 use Rattle.lane_splits.proofs.Steps.{bad, IsCalm, length-added, puts-added}
-use Rattle.lane_splits.proofs.Tries.{told-tried, tries-same}
+use Rattle.lane_splits.proofs.Tries.{told-tried}
 
 -- a lane's counts from one pass to another
 abbrev pub LaneGains : Origin → List Entry → List ℕ → List ℕ → ℕ → Type 0
@@ -30,16 +27,6 @@ LaneGains origin h own new most = Gains h (bad origin h) (IsCalm origin h) own n
 
 gains-most : (origin : Origin) (h : List Entry) (own new : List ℕ) (a b : ℕ) → a ≤ b → LaneGains origin h own new a → LaneGains origin h own new b
 gains-most origin h own new a b le gains = record { fair = gains.fair; room = gains.room; few = let few = gains.few in omega arith; even = gains.even }
-
-keeps-same : (w session : ℕ) (old new : Known) (row : ℕ × Op) (kept : KeptRow) → Keeps w session old new row kept → SamePass old new
-keeps-same w session old new row kept keeps =
-    same-later old keeps.mid new (called-same w session row.0 row.1 old keeps.mid (Ok keeps.done) keeps.called) (tries-same w keeps.done.full keeps.mid new kept.split keeps.tries)
-
-all-same : (w session : ℕ) (old : Known) (rows : List (ℕ × Op)) (kept : List KeptRow) (new : Known) → KeepsAll w session old rows kept new → SamePass old new
-all-same w session old [] [] new all = subst (SamePass old) (sym all) (same-none old)
-all-same w session old [] (k ∷ kept) new all = absurd all
-all-same w session old (r ∷ rows) [] new all = absurd all
-all-same w session old (r ∷ rows) (k ∷ kept) new (mid, one, rest) = same-later old mid new (keeps-same w session old mid r k one) (all-same w session mid rows kept new rest)
 
 -- a row that is kept
 keeps-gains : (w session : ℕ) (origin : Origin) (h : List Entry) (old new : Known) (row : ℕ × Op) (kept : KeptRow) → old.origin ≡ origin → Keeps w session old new row kept → IsPrefix new.seen h
@@ -98,12 +85,6 @@ stops-gains w session origin h mid new [] (Some fault) none pre = absurd none
 stops-gains w session origin h mid new (r ∷ rest) None none pre = absurd none
 stops-gains w session origin h mid new (r ∷ rest) (Some fault) called pre =
     gains-most origin h mid.own new.own 1 (length (r ∷ rest)) (omega arith) (refused-gains w session r.0 r.1 origin h mid new called.before fault called.leaves pre)
-
-pub stops-same : (w session : ℕ) (mid new : Known) (rest : List (ℕ × Op)) (fault : Option CallFault) → Stops w session mid new rest fault → SamePass mid new
-stops-same w session mid new [] None same = subst (SamePass mid) (sym same) (same-none mid)
-stops-same w session mid new [] (Some fault) none = absurd none
-stops-same w session mid new (r ∷ rest) None none = absurd none
-stops-same w session mid new (r ∷ rest) (Some fault) called = called-same w session r.0 r.1 mid new (Err fault) called
 
 -- a lane that was played
 pub lane-gains : {I D O P : Type 0} (w : ℕ) (origin : Origin) (h : List Entry) (session : ℕ) (rows : List (ℕ × Op)) (lane : Lane I D O P) → HasPlayed w origin session rows lane → IsPrefix lane.pass.seen h

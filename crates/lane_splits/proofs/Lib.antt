@@ -12,3 +12,4 @@ pub mod Bounded
 pub mod Tidy
 pub mod Sized
 pub mod Settled
+pub mod Limits

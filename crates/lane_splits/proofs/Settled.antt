@@ -9,20 +9,19 @@ use Rattle.csv_rows.specs.declared.rows.InRow.{InRow}
 use Rattle.book_lock.specs.Pass.{Known}
 use Rattle.book_lock.specs.declared.origin.Origin.{Origin}
 use Rattle.book_lock.proofs.Histories.{prefix_refl, prefix_length}
-use Rattle.sessions.specs.Shared.{start_of}
-use Rattle.sessions.specs.Steps.{all_parts}
+use Rattle.sessions.specs.Shared.{start_of, first_cells}
+use Rattle.sessions.specs.Steps.{all_parts, cells_at}
 use Rattle.sessions.specs.Settles.{Settles}
 use Rattle.sessions.specs.declared.faults.Settled.{Settled}
 use Rattle.sessions.specs.declared.store.lanes.Lane.{Lane}
 use Rattle.lane_history.specs.Lanes.{IsPlayedOut, OwnsAll}
-use Rattle.lane_splits.specs.Settled.{IsSettled, first_cells, stray_begins}
+use Rattle.lane_splits.specs.Settled.{SplitsAreDone, stray_begins}
 use Rattle.lane_splits.proofs.Weights.{weight-all, at, below-take, sum_of}
-use Rattle.log_state.proofs.CellCounts.{cells-few}
 use Rattle.lane_splits.proofs.Entries.{begins, calls, ends, calls-count, sum-append, open-few}
 use Rattle.lane_splits.proofs.Steps.{IsCalm, take-prefix}
 use Rattle.lane_splits.proofs.Ends.{EndPairs, settles-same, settles-well, all-splits-same}
 use Rattle.lane_splits.proofs.Bounded.{AreJoined, joined, bounded}
-use Rattle.lane_splits.proofs.Tidy.{stray-append, GoesTidy, goes-tidy}
+use Rattle.lane_splits.proofs.Tidy.{stray-append, GoesStray, goes-stray}
 use Rattle.lane_splits.proofs.Sized.{ended-sized}
 
 -- in a calm history that was settled well, begins are no more than ends
@@ -42,9 +41,9 @@ none-open : (w : ℕ) (origin : Origin) (h : List Entry) → IsLegal w (start_of
 none-open w origin h legal even = let splits = open-few w (start_of origin) h legal in nil_from_length (state_after w (start_of origin) h).splits (omega arith)
 
 -- the lanes' begins are no more than their calls
-lanes-begins : (origin : Origin) (pass last : Known) (most : ℕ) → AreJoined origin last.seen pass.own most → EndPairs origin last.seen (Unit {0}) pass last → OwnsAll last → IsPrefix pass.seen last.seen
+pub lanes-begins : (All : Type 0) (origin : Origin) (pass last : Known) (most : ℕ) → AreJoined origin last.seen pass.own most → EndPairs origin last.seen All pass last → OwnsAll last → IsPrefix pass.seen last.seen
     → sum_of begins pass.seen ≤ sum_of calls pass.seen
-lanes-begins origin pass last most joined pairs whole pre =
+lanes-begins All origin pass last most joined pairs whole pre =
     let h = last.seen in
     let n : ℕ = length pass.seen in
     let le = prefix_length pass.seen h pre in
@@ -55,20 +54,21 @@ lanes-begins origin pass last most joined pairs whole pre =
     let c = weight-all (at calls h) last.own (length h) whole n le ∙ below-take calls h n le ∙ ap (sum_of calls) (take-prefix pass.seen h pre) in
     omega arith
 
--- stray begins are no more than calls
-few-stray : (w : ℕ) (origin : Origin) (pass last : Known) → GoesTidy w origin pass last → sum_of begins pass.seen ≤ sum_of calls pass.seen → stray_begins w origin.bucket (start_of origin) last.seen ≤ call_count last.seen
-few-stray w origin pass last goes few =
+-- stray begins are no more than calls, and those of the splits at the end
+pub few-stray : (w : ℕ) (origin : Origin) (most : ℕ) (pass last : Known) → GoesStray w origin most pass last → sum_of begins pass.seen ≤ sum_of calls pass.seen
+    → stray_begins w origin.bucket (start_of origin) last.seen ≤ call_count last.seen + most
+few-stray w origin most pass last goes few =
     let h = last.seen in
     let stray = stray-append w origin.bucket (start_of origin) pass.seen goes.more in
-    let none = goes.tidy.full in
+    let some = goes.few in
     let counted : call_count h ≡ sum_of calls pass.seen + sum_of calls goes.more = calls-count h ∙ ap (sum_of calls) goes.seen ∙ sum-append calls pass.seen goes.more in
     let is : stray_begins w origin.bucket (start_of origin) h ≡ stray_begins w origin.bucket (start_of origin) (pass.seen ++ goes.more) = ap (stray_begins w origin.bucket (start_of origin)) goes.seen in
     omega arith
 
-pub settled : {I D O P : Type 0} (w : ℕ) (origin : Origin) (rows : List InRow) (sessions : List ℕ) (lanes : List (Lane I D O P)) (last : Known) (first : Option ℕ) (s : Settled) → (out : IsPlayedOut w origin rows sessions lanes last)
-    → out.pass.parts ≡ all_parts → Settles w out.pass last (Ok s) → IsLegal w (start_of origin) last.seen → length rows ≤ 65536 → origin.cells ≤ 16000000 → first_cells first ≡ origin.cells → failed_cell last.seen ≡ None
-    → IsSettled w origin.bucket (start_of origin) first last.seen
-settled w origin rows sessions lanes last first s out all settles legal few_rows few_cells is going =
+pub settled : {I D O P : Type 0} (w : ℕ) (origin : Origin) (rows : List InRow) (sessions : List ℕ) (lanes : List (Lane I D O P)) (last : Known) (s : Settled) → (out : IsPlayedOut w origin rows sessions lanes last)
+    → out.pass.parts ≡ all_parts → Settles w out.pass last (Ok s) → IsLegal w (start_of origin) last.seen → length rows ≤ 65536 → cells_at origin [] ≤ 16000000 → failed_cell last.seen ≡ None
+    → SplitsAreDone w origin.bucket (start_of origin) (first_cells origin) last.seen
+settled w origin rows sessions lanes last s out all settles legal few_rows few_cells going =
     let h = last.seen in
     let pass = out.pass in
     let from = out.joined.begins in
@@ -79,11 +79,11 @@ settled w origin rows sessions lanes last first s out all settles legal few_rows
     let pre = (settles-same w pass last (Ok s) settles).0 in
     let same = all-splits-same w pass settles.numbers settles.mid settles.splits in
     let ended = none-open w origin h legal (even-sums origin pass last (length rows) join pairs out.whole calm) in
-    let few = cells-few origin.world h in
-    let short = limits.short h (prefix_refl h) in
     record {
       ended = ended;
       going = going;
-      sized = ended-sized w origin settles.mid last first s (ap (λ (k : Known). k.origin) same.1 ∙ from) (ap (λ (k : Known). k.parts) same.1 ∙ all) settles.ends limits (omega arith) is ended;
-      stray = few-stray w origin pass last (goes-tidy w origin pass last s from all settles) (lanes-begins origin pass last (length rows) join pairs out.whole pre);
+      sized = ended-sized w origin settles.mid last s (ap (λ (k : Known). k.origin) same.1 ∙ from) (ap (λ (k : Known). k.parts) same.1 ∙ all) settles.ends ended;
+      stray =
+          let few = few-stray w origin 0 pass last (goes-stray w origin pass last (Ok s) from all settles) (lanes-begins (Unit {0}) origin pass last (length rows) join pairs out.whole pre) in
+          omega arith;
     }

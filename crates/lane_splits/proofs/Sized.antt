@@ -11,20 +11,17 @@ use Rattle.plain_list.specs.History.{world_after, failed_cell}
 use Rattle.plain_list.specs.State.{State, OpenSplit, is_leaf, is_splitting, state_after}
 use Rattle.plain_list.specs.Size.{is_over, full_leaf, IsSized}
 use Rattle.plain_list.proofs.Histories.{state_after-world}
-use Rattle.commit_book.specs.IsBook.{most_events}
 use Rattle.commit_book.specs.Refusals.{IsRefusedBy, IsMemoryOrDisk, first_of, closed_refusal, room_refusal, leaf_refusal, split_number}
 use Rattle.commit_book.specs.declared.faults.BookFault.{BookFault}
 use Rattle.commit_book.specs.declared.faults.BookFault.TheVariants as book
 use Rattle.book_lock.specs.Pass.{Known}
 use Rattle.book_lock.specs.declared.origin.Origin.{Origin}
 use Rattle.sessions.specs.Shared.{start_of}
-use Rattle.sessions.specs.Steps.{all_parts, AreCells, cells_after}
+use Rattle.sessions.specs.Steps.{all_parts, cells_at}
 use Rattle.sessions.specs.Splits.{begin_cause, state_of}
 use Rattle.sessions.specs.Settles.{SettleEnds}
 use Rattle.sessions.specs.declared.faults.Settled.{Settled}
 use Rattle.sessions.specs.declared.faults.Settled.TheVariants.{Small, Room}
-use Rattle.log_state.specs.Changes.{cells_of}
-use Rattle.lane_splits.specs.Settled.{IsBounded, cells_now, first_cells}
 use Rattle.lane_splits.proofs.Tidy.{end-seen}
 
 -- where no leaf is over the size, each is sized
@@ -99,30 +96,16 @@ refused-room None cells events (inl memory) = absurd (cc memory)
 refused-room None cells events (inr disk) = absurd disk
 refused-room (Some cause) cells events is = let same : book.Room cells events ≡ cause = cc is in ap is_room (sym same)
 
--- the cells there are many
-many-cells : (origin : Origin) (h : List Entry) (cells : ℕ) → AreCells origin h cells → 16000000 < cells → 16000000 < cells_after origin h
-many-cells origin h cells (inl is) many = omega arith
-many-cells origin h cells (inr (none, first, less)) many = omega arith
-
-many-now : (origin : Origin) (first : Option ℕ) (h : List Entry) → first_cells first ≡ origin.cells → IsBounded origin h → length (cells_of origin.world h) < most_events → 16000000 < cells_after origin h → 16000000 < cells_now first (start_of origin) h
-many-now origin None h is bounded few many = absurd (omega arith)
-many-now origin (Some n) h is bounded few many = omega arith
-
-pub ended-sized : (w : ℕ) (origin : Origin) (mid last : Known) (first : Option ℕ) (s : Settled) → mid.origin ≡ origin → mid.parts ≡ all_parts → SettleEnds w mid last (Ok s) → IsBounded origin last.seen
-    → length (cells_of origin.world last.seen) < most_events → first_cells first ≡ origin.cells → (state_after w (start_of origin) last.seen).splits ≡ []
-    → IsSized w origin.bucket (world_after origin.world last.seen) (state_after w (start_of origin) last.seen).leaves ⊎ ((4000000 < length last.seen) ⊎ (16000000 < cells_now first (start_of origin) last.seen))
-ended-sized w origin mid last first Small from all (tells, same) bounded few is ended =
+pub ended-sized : (w : ℕ) (origin : Origin) (mid last : Known) (s : Settled) → mid.origin ≡ origin → mid.parts ≡ all_parts → SettleEnds w mid last (Ok s) → (state_after w (start_of origin) last.seen).splits ≡ []
+    → IsSized w origin.bucket (world_after origin.world last.seen) (state_after w (start_of origin) last.seen).leaves ⊎ ((4000000 < length last.seen) ⊎ (16000000 < cells_at origin last.seen))
+ended-sized w origin mid last Small from all (tells, same) ended =
     let none : full_leaf w origin.bucket (state_after w (start_of origin) last.seen) ≡ None =
     (λ i. full_leaf w (sym from i).bucket (state_after w (start_of (sym from i)) (same i).seen)) ∙ sym tells.1 in
     inl (sized-full w origin.bucket (start_of origin) last.seen ended none)
-ended-sized w origin mid last first Room from all (name, full, cells, events, begins) bounded few is ended =
+ended-sized w origin mid last Room from all (name, full, cells, events, begins) ended =
     let seen : begins.before ≡ last.seen = begins.alone all ∙ sym (end-seen w mid last Room all (name, full, cells, events, begins)) in
-    let cause = refused-room (begin_cause w mid.origin name begins.cells begins.before) cells events begins.refused in
-    let room = room-cause (closed_refusal begins.before) (room_refusal begins.cells (length begins.before)) (leaf_refusal w (state_of w mid.origin begins.before) name)
+    let there = cells_at mid.origin begins.before in
+    let cause = refused-room (begin_cause w mid.origin name there begins.before) cells events begins.refused in
+    let room = room-cause (closed_refusal begins.before) (room_refusal there (length begins.before)) (leaf_refusal w (state_of w mid.origin begins.before) name)
     (closed-other begins.before) (leaf-other w (state_of w mid.origin begins.before) name) cause in
-    let are : AreCells origin last.seen begins.cells = subst (λ (h : List Entry). AreCells origin h begins.cells) seen (subst (λ (o : Origin). AreCells o begins.before begins.cells) from begins.are_cells) in
-    inr (by_case are (ap length seen) (past-room begins.cells (length begins.before) room))
-  where
-    by_case : AreCells origin last.seen begins.cells → length begins.before ≡ length last.seen → (4000000 < length begins.before) ⊎ (16000000 < begins.cells) → (4000000 < length last.seen) ⊎ (16000000 < cells_now first (start_of origin) last.seen)
-    by_case are count (inl many) = inl (omega arith)
-    by_case are count (inr many) = inr (many-now origin first last.seen is bounded few (many-cells origin last.seen begins.cells are many))
+    inr (subst (λ (n : ℕ). (4000000 < length last.seen) ⊎ (16000000 < n)) (λ i. cells_at (from i) (seen i)) (subst (λ (h : List Entry). (4000000 < length h) ⊎ (16000000 < there)) seen (past-room there (length begins.before) room)))

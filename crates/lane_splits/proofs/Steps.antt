@@ -1,5 +1,5 @@
 -- What the steps of a pass add to its own positions, in a history that begins with all that it has seen.
-use Rattle.std.proofs.Common.{◌≡◌, inl, inr, ℕ, ◌+◌, ◌<◌, ◌≤◌, ◌==◌, Bool, false, ◌||◌, cond, List, [], ◌∷◌, ◌++◌, length, take, Option, Some, None, Ok, Err, refl, sym, ap, subst, ◌∙◌, arith, length-append, ne_eqb}
+use Rattle.std.proofs.Common.{◌≡◌, ◌⊎◌, inl, inr, ℕ, ◌+◌, ◌<◌, ◌≤◌, ◌==◌, Bool, false, ◌||◌, cond, List, [], ◌∷◌, ◌++◌, length, take, Option, Some, None, Ok, Err, refl, sym, ap, subst, ◌∙◌, arith, length-append, ne_eqb}
 use mathlib.Core.List.{IsPrefix}
 use Rattle.std.specs.Prelude.{nat_lt, if◌then◌else◌}
 use Rattle.std.specs.Option.{option_map}
@@ -16,15 +16,15 @@ use Rattle.commit_book.specs.declared.faults.BookFault.TheVariants as book
 use Rattle.book_lock.specs.Pass.{Known}
 use Rattle.book_lock.specs.declared.origin.Origin.{Origin}
 use Rattle.book_lock.proofs.Histories.{get_prefix, get_last, prefix_trans}
-use Rattle.sessions.specs.Steps.{AreCells, IsStep, Leaves, has_added, has_seen, cells_after}
+use Rattle.sessions.specs.Steps.{IsStep, Leaves, has_added, has_seen, cells_at}
 use Rattle.sessions.specs.Splits.{BeginsSplit, IsLasting, begin_cause, state_of}
-use Rattle.sessions.proofs.SettleLemmas.{allowed, has-room, room-cells}
+use Rattle.sessions.proofs.SettleLemmas.{allowed, has-room}
 use Rattle.lane_splits.specs.Settled.{IsBounded}
 use Rattle.lane_splits.proofs.Gains.{Puts, Idles}
 
 -- 1 where so many entries and cells leave no room for the begin of a split
 abbrev pub bad : Origin → List Entry → ℕ → ℕ
-bad origin h p = if has_no_room (cells_after origin (take p h)) p then 1 else 0
+bad origin h p = if has_no_room (cells_at origin (take p h)) p then 1 else 0
 
 -- no append failed, and the history is far from its limits
 pub record IsCalm (origin : Origin) (h : List Entry) : Type 0 where
@@ -73,6 +73,20 @@ module _ {A : Type 0} (entry : A → Entry) (lost : List Entry → Lost) (h : Li
   left-idle book.NoLeaf is pre = own-seen h old new before is
   left-idle (book.Stale number) is pre = own-seen h old new before is
   left-idle (book.NotOpen number) is pre = own-seen h old new before is
+
+  -- nothing more was seen then, or a failed append
+  pub left-seen : (fault : BookFault) → Leaves entry lost old before new (Err fault) → (new.seen ≡ before) ⊎ ((cell : ℕ) × (new.seen ≡ before ++ Fail cell (lost before) ∷ []))
+  left-seen (book.Disk cell) is = inr (cell, ap (λ (k : Known). k.seen) is)
+  left-seen (book.Closed cell) is = inl (ap (λ (k : Known). k.seen) is)
+  left-seen book.HistoryFull is = inl (ap (λ (k : Known). k.seen) is)
+  left-seen book.LogFull is = inl (ap (λ (k : Known). k.seen) is)
+  left-seen book.Memory is = inl (ap (λ (k : Known). k.seen) is)
+  left-seen (book.Room cells events) is = inl (ap (λ (k : Known). k.seen) is)
+  left-seen (book.Splitting number) is = inl (ap (λ (k : Known). k.seen) is)
+  left-seen book.Deep is = inl (ap (λ (k : Known). k.seen) is)
+  left-seen book.NoLeaf is = inl (ap (λ (k : Known). k.seen) is)
+  left-seen (book.Stale number) is = inl (ap (λ (k : Known). k.seen) is)
+  left-seen (book.NotOpen number) is = inl (ap (λ (k : Known). k.seen) is)
 
   -- the history began with this when the step wasn't done
   pub left-before : (fault : BookFault) → Leaves entry lost old before new (Err fault) → IsPrefix new.seen h → IsPrefix before h
@@ -123,25 +137,22 @@ going-last (Install number ∷ g) cell step none = going-last g cell step none
 going-last (Abandon number ∷ g) cell step none = going-last g cell step none
 
 -- in a calm history no end of a split is refused
-calm-end : (origin : Origin) (h before : List Entry) (cells : ℕ) → IsCalm origin h → IsPrefix before h → AreCells origin before cells → end_refusal cells before ≡ None
-calm-end origin h before cells calm pre are =
+calm-end : (origin : Origin) (h before : List Entry) → IsCalm origin h → IsPrefix before h → end_refusal (cells_at origin before) before ≡ None
+calm-end origin h before calm pre =
+    let cells = cells_at origin before in
     let going : failed_cell before ≡ None = going-begin before h pre calm.going in
     let short = calm.bounded.short before pre in
     let few = calm.bounded.few before pre in
     let events : (length before == most_events) ≡ false = ne_eqb (length before) most_events (λ (e : length before ≡ most_events). omega arith) in
-    let full : (cells == most_cells) ≡ false = ne_eqb cells most_cells (λ (e : cells ≡ most_cells). below are few e) in
+    let full : (cells == most_cells) ≡ false = ne_eqb cells most_cells (λ (e : cells ≡ most_cells). omega arith) in
     λ i. first_of (first_of (option_map book.Closed (going i)) (cond (events i) (Some book.HistoryFull) None)) (cond (full i) (Some book.LogFull) None)
-  where
-    below : AreCells origin before cells → cells_after origin before < most_cells → cells ≡ most_cells → ⊥
-    below (inl is) few e = omega arith
-    below (inr (none, first, less)) few e = omega arith
 
 -- so an end that isn't done fails the history's calm, unless the fault is free to come and no failure of the drive
 pub calm-not : {A : Type 0} (IsFree : BookFault → Type 0) (entry : A → Entry) (lost : List Entry → Lost) (P : List Entry → A → Type 0) (origin : Origin) (h : List Entry) (old new : Known) (fault : BookFault) → old.origin ≡ origin
     → IsStep IsFree (λ (cells : ℕ) (before : List Entry). end_refusal cells before) entry lost P old new (Err fault) → (IsFree fault → IsDisk fault) → IsPrefix new.seen h → IsCalm origin h → ⊥
 calm-not {A} IsFree entry lost P origin h old new fault from step disk pre calm =
     let before = left-before entry lost h old step.before new fault step.leaves pre in
-    let none = calm-end origin h step.before step.cells calm before (subst (λ (o : Origin). AreCells o step.before step.cells) from step.are_cells) in
+    let none : end_refusal (cells_at old.origin step.before) step.before ≡ None = ap (λ (o : Origin). end_refusal (cells_at o step.before) step.before) from ∙ calm-end origin h step.before calm before in
     let free : IsFree fault = subst (λ (o : Option BookFault). IsRefusedBy {A = A} IsFree o (Err fault)) none step.refused in
     let (cell, is) = left-disk entry lost h old step.before new fault (disk free) step.leaves in
     going-last step.before cell (lost step.before) (ap failed_cell (sym (seen-added old new step.before (Fail cell (lost step.before)) is)) ∙ going-begin new.seen h pre calm.going)
@@ -156,17 +167,17 @@ no-cause None None c none = refl
 no-cause None (Some cause) c none = absurd (cc none)
 no-cause (Some cause) b c none = absurd (cc none)
 
-not-bad : (origin : Origin) (h before : List Entry) → IsPrefix before h → length before ≤ 4000000 → cells_after origin before ≤ 16000000 → bad origin h (length before) ≡ 0
+not-bad : (origin : Origin) (h before : List Entry) → IsPrefix before h → length before ≤ 4000000 → cells_at origin before ≤ 16000000 → bad origin h (length before) ≡ 0
 not-bad origin h before pre less few =
-    let cells : nat_lt 16000000 (cells_after origin before) ≡ false = le-ltb 16000000 (cells_after origin before) few in
+    let cells : nat_lt 16000000 (cells_at origin before) ≡ false = le-ltb 16000000 (cells_at origin before) few in
     let events : nat_lt 4000000 (length before) ≡ false = le-ltb 4000000 (length before) less in
-    ap (λ (g : List Entry). cond (has_no_room (cells_after origin g) (length before)) 1 0) (take-prefix before h pre) ∙ (λ i. cond (cells i || events i) 1 0)
+    ap (λ (g : List Entry). cond (has_no_room (cells_at origin g) (length before)) 1 0) (take-prefix before h pre) ∙ (λ i. cond (cells i || events i) 1 0)
 
 pub begun-room : (w : ℕ) (origin : Origin) (h : List Entry) (name : List Bool) (old new : Known) (number : ℕ) → old.origin ≡ origin → (begins : BeginsSplit w name old new (Ok number)) → IsPrefix new.seen h
     → bad origin h (length begins.before) ≡ 0
 begun-room w origin h name old new number from begins pre =
-    let none : begin_cause w old.origin name begins.cells begins.before ≡ None = allowed (begin_cause w old.origin name begins.cells begins.before) number begins.refused in
-    let room = has-room begins.cells (length begins.before)
-    (no-cause (closed_refusal begins.before) (room_refusal begins.cells (length begins.before)) (leaf_refusal w (state_of w old.origin begins.before) name) none) in
-    let few = room-cells origin begins.before begins.cells (subst (λ (o : Origin). AreCells o begins.before begins.cells) from begins.are_cells) room.1 in
+    let cells = cells_at old.origin begins.before in
+    let none : begin_cause w old.origin name cells begins.before ≡ None = allowed (begin_cause w old.origin name cells begins.before) number begins.refused in
+    let room = has-room cells (length begins.before) (no-cause (closed_refusal begins.before) (room_refusal cells (length begins.before)) (leaf_refusal w (state_of w old.origin begins.before) name) none) in
+    let few : cells_at origin begins.before ≤ 16000000 = subst (λ (o : Origin). cells_at o begins.before ≤ 16000000) from room.1 in
     not-bad origin h begins.before (before-added h old new begins.before (Begin number name) begins.leaves pre) room.0 few

@@ -15,7 +15,7 @@ use Rattle.sessions.specs.Splits.{BeginsSplit, InstallsSplit, GivesUp, RanOut, N
 use Rattle.sessions.specs.Lanes.{Tries}
 use Rattle.sessions.specs.declared.faults.Split.{Split}
 use Rattle.sessions.specs.declared.faults.Split.TheVariants.{Installed, NotSplit}
-use Rattle.sessions.proofs.SplitLemmas.{installs-same, not-same, same-none, split-same}
+use Rattle.sessions.proofs.SplitLemmas.{installs-same, not-same, same-none}
 use Rattle.lane_splits.proofs.Gains.{Puts, Idles, Closes, Begun, HasTried}
 use Rattle.lane_splits.proofs.Steps.{bad, IsCalm, length-added, puts-added, left-idle, calm-not, lasting-disk, begun-room}
 
@@ -93,7 +93,3 @@ module _ (w : ℕ) (origin : Origin) (h : List Entry) where
       → HasTried h (bad origin h) (IsCalm origin h) (length old.seen) old.own new.own
   told-tried None old new split from (none, same) pre = inl (inl (ap (λ (k : Known). k.own) same))
   told-tried (Some name) old new split from (s, is, ends) pre = tried name old new s from ends pre
-
-pub tries-same : (w : ℕ) (full : Option (List Bool)) (old new : Known) (split : Option Split) → Tries w full old new split → SamePass old new
-tries-same w None old new split (none, same) = subst (SamePass old) (sym same) (same-none old)
-tries-same w (Some name) old new split (s, is, ends) = split-same w name old new s ends

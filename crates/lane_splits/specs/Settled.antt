@@ -6,14 +6,17 @@ use Rattle.std.specs.Option.{option_map_or}
 use Rattle.zorder.specs.SameName.{same_name}
 use Rattle.plain_list.specs.declared.entries.Entry.{Entry}
 use Rattle.plain_list.specs.declared.entries.Entry.TheVariants.{Begin, Abandon}
+use Rattle.plain_list.specs.Played.{IsPlayedWhole}
 use Rattle.plain_list.specs.History.{world_after, call_count, failed_cell}
 use Rattle.plain_list.specs.State.{State, state_after, step}
 use Rattle.plain_list.specs.Size.{IsSized, full_leaf}
-use Rattle.log_state.specs.Changes.{cells_of}
+use Rattle.kept_log.specs.Counts.{cells_after}
 use Rattle.commit_book.specs.IsBook.{most_events}
 use Rattle.commit_book.specs.Refusals.{most_cells}
 use Rattle.book_lock.specs.declared.origin.Origin.{Origin}
-use Rattle.sessions.specs.Steps.{cells_after}
+use Rattle.sessions.specs.Steps.{cells_at}
+use Rattle.csv_rows.specs.declared.rows.InRow.{InRow}
+use Rattle.lane_history.specs.SessionRows.{session_rows}
 
 -- whether an entry abandons the split of this number
 abbrev pub abandons : ℕ → Entry → Bool
@@ -34,25 +37,30 @@ abbrev pub stray_begins : ℕ → ℕ → State → List Entry → ℕ
 stray_begins w size s [] = 0
 stray_begins w size s (e ∷ h) = if is_stray w size s e h then suc (stray_begins w size (step w s e) h) else stray_begins w size (step w s e) h
 
--- how many cells the log has after a history from a state, where it had so many at first: none without a log
-abbrev pub cells_now : Option ℕ → State → List Entry → ℕ
-cells_now first s h = option_map_or (λ (n : ℕ). n + length (cells_of s.world h)) first 0
-
 -- At the end no split is open, and no append has failed. No leaf that may be split has more points than the size, or there are more than
 -- 4,000,000 entries or more than 16,000,000 cells. Stray begins are no more than the calls, so room is used up only by splits of leaves that
 -- were over the size.
-pub record IsSettled (w size : ℕ) (s : State) (first : Option ℕ) (h : List Entry) : Type 0 where
+pub record SplitsAreDone (w size : ℕ) (s : State) (first : Option ℕ) (h : List Entry) : Type 0 where
   pub ended : (state_after w s h).splits ≡ []
   pub going : failed_cell h ≡ None
-  pub sized : IsSized w size (world_after s.world h) (state_after w s h).leaves ⊎ ((4000000 < length h) ⊎ (16000000 < cells_now first s h))
+  pub sized : IsSized w size (world_after s.world h) (state_after w s h).leaves ⊎ ((4000000 < length h) ⊎ (16000000 < cells_after first s.world h))
   pub stray : stray_begins w size s h ≤ call_count h
 
--- how many cells a log had at first: none without a log
-abbrev pub first_cells : Option ℕ → ℕ
-first_cells None = 0
-first_cells (Some n) = n
+-- how many splits a history begins
+abbrev pub begin_count : List Entry → ℕ
+begin_count [] = 0
+begin_count (Begin number name ∷ h) = suc (begin_count h)
+begin_count (_ ∷ h) = begin_count h
+
+-- However rows end that were played, their history and its log stay below their limits. Stray begins are at most the calls and one. There are no
+-- more begins than calls, or each row was called: before that no split at the end is begun.
+pub record IsWithinLimits (w size : ℕ) (s : State) (first : Option ℕ) (rows : List InRow) (h : List Entry) : Type 0 where
+  pub entries : length h < most_events
+  pub cells : cells_after first s.world h < most_cells
+  pub stray : stray_begins w size s h ≤ call_count h + 1
+  pub begins : (begin_count h ≤ call_count h) ⊎ IsPlayedWhole (session_rows rows) h
 
 -- each beginning of a history is shorter than a history may be, and so are the cells after it
 pub record IsBounded (origin : Origin) (h : List Entry) : Type 0 where
   pub short : (g : List Entry) → IsPrefix g h → length g < most_events
-  pub few : (g : List Entry) → IsPrefix g h → cells_after origin g < most_cells
+  pub few : (g : List Entry) → IsPrefix g h → cells_at origin g < most_cells

@@ -9,11 +9,12 @@ use Rattle.recovery.specs.Found.{IsFound}
 use Rattle.recovery.specs.declared.seen.Seen.{Seen}
 use Rattle.recovery.specs.declared.seen.OpenFault.{OpenFault}
 use Rattle.kept_log.specs.KeptView.{KeptView}
+use Rattle.kept_log.specs.Counts.{first_in}
 use Rattle.kept_log.specs.Kept.{found_state}
 use Rattle.commit_book.specs.BookView.{BookView}
 use Rattle.run_ends.specs.Limits.{width, most_played}
 use Rattle.play_run.specs.Origin.{origin_of}
-use Rattle.play_run.specs.inside.Books.{OpensBook, count_in}
+use Rattle.play_run.specs.inside.Books.{OpensBook}
 
 -- a book over what was found
 pub opens-book : {D : Type 0} (drive : D → Drive) (file : List ℕ) (old : Drive) (size : ℕ) (b : BookView D) (log : KeptView D) (seen : Seen) (start : D) → Stays old (drive start) → (drive start).faults ≡ old.faults → AttachedOne file false old (drive start)
@@ -32,8 +33,7 @@ opens-book {D = D} drive file old size b log seen start stays calm attached foun
     recovers = λ text told. found.recovers text (stays.bytes ∙ told);
   };
   state = opening ∙ left;
-  count = ap (λ (l : Option (KeptView D)). count_in l) log_is ∙ ap (λ (n : ℕ). Some n) (count ∙ found.finds.count);
-  first = first;
+  count = ap (λ (l : Option (KeptView D)). first_in l) log_is ∙ ap (λ (n : ℕ). Some n) (first ∙ count ∙ found.finds.count);
   stays = subst (λ (d : D). Stays old (drive d)) (sym here) stays;
   calm = subst (λ (d : D). (drive d).faults ≡ old.faults) (sym here) calm;
   attached = subst (λ (d : D). AttachedOne file false old (drive d)) (sym here) attached;

@@ -15,30 +15,12 @@ use Rattle.book_lock.specs.Own.{times}
 use Rattle.book_lock.specs.declared.origin.Origin.{Origin}
 use Rattle.book_lock.proofs.Positions.{times-append}
 use Rattle.sessions.specs.declared.store.lanes.Lane.{Lane}
-use Rattle.sessions.specs.declared.store.lanes.KeptRow.{KeptRow}
-use Rattle.sessions.specs.Splits.{SamePass}
-use Rattle.sessions.specs.Lanes.{IsReady, KeepsAll, Plays}
-use Rattle.sessions.proofs.CallLemmas.{called-same}
-use Rattle.sessions.proofs.SplitLemmas.{same-none}
-use Rattle.sessions.proofs.StepLemmas.{same-later}
+use Rattle.sessions.specs.Lanes.{IsReady, Plays}
+use Rattle.sessions.proofs.LanePasses.{plays-same}
 use Rattle.lane_history.specs.SessionRows.{session_rows, session_rows_from}
 use Rattle.lane_history.specs.Lanes.{HasPlayed, HaveAllPlayed, RiseFrom, AreSessions}
-use Rattle.lane_splits.proofs.Tries.{tries-same}
-use Rattle.lane_splits.proofs.Lanes.{stops-same}
 use Rattle.play_run.specs.inside.Dealt.{one_if, sessions_to, fresh_pass, IsDealt, AreDealt, AddsLane, HasDealt}
 use Rattle.play_run.specs.inside.Joined.{IsIdle, AreIdle}
-
--- a pass after the rows of a lane
-keeps-same : (w session : ℕ) (old new : Known) (rows : List (ℕ × Op)) (kept : List KeptRow) → KeepsAll w session old rows kept new → SamePass old new
-keeps-same w session old new [] [] all = subst (SamePass old) (sym all) (same-none old)
-keeps-same w session old new [] (k ∷ kept) all = absurd all
-keeps-same w session old new (r ∷ rows) [] all = absurd all
-keeps-same w session old new (r ∷ rows) (k ∷ kept) (mid, one, rest) =
-    same-later old mid new (same-later old one.mid mid (called-same w session r.0 r.1 old one.mid (Ok one.done) one.called) (tries-same w one.done.full one.mid mid k.split one.tries)) (keeps-same w session mid new rows kept rest)
-
-plays-same : {I D O P : Type 0} (w : ℕ) (old new : Lane I D O P) → Plays w old new → SamePass old.pass new.pass
-plays-same w old new plays =
-    same-later old.pass plays.mid new.pass (keeps-same w old.session old.pass plays.mid plays.front new.kept.items plays.keeps) (stops-same w old.session plays.mid new.pass plays.rest new.fault plays.stops)
 
 -- the rows of a session may be asked
 valid-rows : (n s : ℕ) (rows : List InRow) → AllByRecursion IsInRow rows → (i : ℕ) (d : ℕ × Op) → i < length (session_rows_from n s rows) → IsValid (slice_index_or (session_rows_from n s rows) i d).1

@@ -154,7 +154,7 @@ module _ {I D O P : Type 0} (w : ℕ) (lock : TableId) (rows : List InRow) (old 
     played = runs;
     pass = pass;
     joined = taken;
-    goes_on = inr (result, settles);
+    goes_on = inr (record { calm = calm; all = parts-not.parts; result = result; settles = settles });
     ends_are = ends_are;
     is_done = settled-done w after pass last result calm parts-not.parts settles;
   }

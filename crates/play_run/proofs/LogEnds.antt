@@ -11,7 +11,7 @@ use Rattle.recovery.proofs.OnlyReading.{rose-earlier, stays-trans}
 use Rattle.kept_log.specs.KeptView.{KeptView}
 use Rattle.kept_log.specs.Journal.{disk_in, KeepsLog, KeepsIn}
 use Rattle.commit_book.specs.BookView.{BookView}
-use Rattle.sessions.specs.Shared.{first_in}
+use Rattle.kept_log.specs.Counts.{first_in, cells_after}
 use Rattle.csv_rows.specs.declared.rows.InRow.{InRow}
 use Rattle.csv_rows.specs.declared.rows.Refusal.{Refusal}
 use Rattle.run_ends.specs.Limits.{width}
@@ -19,7 +19,7 @@ use Rattle.io_edge.specs.Streams.{Output}
 use Rattle.run_ends.specs.Status.{status_of, WritesLines}
 use Rattle.play_run.specs.Origin.{Origin, IsFoundOrigin, new_origin}
 use Rattle.log_state.specs.Changes.{cells_of}
-use Rattle.lane_splits.specs.Settled.{IsSettled, cells_now}
+use Rattle.lane_splits.specs.Settled.{SplitsAreDone}
 use Rattle.play_run.specs.Crash.{KeepsPlayed}
 use Rattle.plain_list.specs.declared.entries.Lost.{Lost}
 use Rattle.plain_list.specs.History.{failed_cell}
@@ -28,7 +28,7 @@ use Rattle.lane_history.specs.LostSteps.{IsNextStep, LosesStep}
 use Rattle.play_run.specs.declared.reports.Report.{Report}
 use Rattle.play_run.specs.Answers.{AnswersAsOneList}
 use Rattle.play_run.specs.Playing.{IsStop, EndsRows, IsAnswered}
-use Rattle.play_run.specs.inside.Books.{IsLike, BeginsAs, StopsBook, LeavesLog, OpensBook, count_in}
+use Rattle.play_run.specs.inside.Books.{IsLike, BeginsAs, StopsBook, LeavesLog, OpensBook}
 use Rattle.play_run.specs.inside.Ended.{EndsBook}
 use Rattle.play_run.proofs.CrashFacts.{keeps-opened}
 
@@ -47,7 +47,7 @@ since-in drive s h opened disk (Some old) None is begins first keeps told = absu
 since-in {D} drive s h opened disk (Some old) (Some new) is begins first keeps told = record {
   now = new;
   like = subst (λ (v : KeptView D). IsLike (drive v.start) (drive new.start)) (same_Some old opened is) begins;
-  first = first ∙ ap (λ (v : KeptView D). v.first) (same_Some old opened is);
+  first = same_Some new.first old.first first ∙ ap (λ (v : KeptView D). v.first) (same_Some old opened is);
   keeps = keeps;
   disk_is = sym (same_Some disk new.disk told);
 }
@@ -74,10 +74,10 @@ log-stop {D = D} drive file rows old size b h disk opens leaves why (inr (cell, 
     subst (λ (w : ℕ). LosesStep (IsNextStep w opens.from.state rows) h cell) (ap (λ (o : Origin). o.width) (sym opens.found.origin_is))
     (subst (λ (o : State). LosesStep (IsNextStep width o rows) h cell) opens.state loses) in
     let named : cell ≡ kept.now.cells = kept.keeps.named cell (loses-cell (IsNextStep width b.opening rows) h cell loses) in
-    let count : kept.now.cells ≡ opens.log.cells + length (cells_of b.opening.world h) = omega (arith, kept.keeps.keeps.count, kept.first, opens.first) in
-    let cells : Some opens.log.cells ≡ option_map length opens.from.first = sym (ap (λ (l : Option (KeptView D)). count_in l) opens.log_is) ∙ opens.count in
-    let at : opens.log.cells + length (cells_of b.opening.world h) ≡ cells_now (option_map length opens.from.first) opens.from.state h =
-    ap (λ (n : Option ℕ). cells_now n b.opening h) cells ∙ ap (λ (o : State). cells_now (option_map length opens.from.first) o h) opens.state in
+    let count : kept.now.cells ≡ opens.log.first + length (cells_of b.opening.world h) = omega (arith, kept.keeps.keeps.count, kept.first) in
+    let cells : Some opens.log.first ≡ option_map length opens.from.first = sym (ap (λ (l : Option (KeptView D)). first_in l) opens.log_is) ∙ opens.count in
+    let at : opens.log.first + length (cells_of b.opening.world h) ≡ cells_after (option_map length opens.from.first) opens.from.state.world h =
+    ap (λ (n : Option ℕ). cells_after n b.opening.world h) cells ∙ ap (λ (o : State). cells_after (option_map length opens.from.first) o.world h) opens.state in
     subst (IsStop (Some file) opens.from rows old (drive disk) h) (sym is) (record { loses = from; number = named ∙ count ∙ at; rose = risen })
 
 none-some : (n : ℕ) → None ≡ Some n → ⊥
@@ -138,11 +138,11 @@ list-from report old from s rows h status before after found state list =
     subst (λ (w : ℕ). AnswersAsOneList report w from.state rows h status before after) (ap (λ (o : Origin). o.width) (sym found.origin_is))
     (subst (λ (o : State). AnswersAsOneList report width o rows h status before after) state list)
 
-pub settled-from : (old : Drive) (from : Origin) (size bucket : ℕ) (s : State) (first cells : Option ℕ) (h : List Entry) → IsFoundOrigin old from → s ≡ from.state → bucket ≡ size → first ≡ cells → IsSettled width bucket s first h
-    → IsSettled from.width size from.state cells h
+pub settled-from : (old : Drive) (from : Origin) (size bucket : ℕ) (s : State) (first cells : Option ℕ) (h : List Entry) → IsFoundOrigin old from → s ≡ from.state → bucket ≡ size → first ≡ cells → SplitsAreDone width bucket s first h
+    → SplitsAreDone from.width size from.state cells h
 settled-from old from size bucket s first cells h found state sized count settled =
-    subst (λ (w : ℕ). IsSettled w size from.state cells h) (ap (λ (o : Origin). o.width) (sym found.origin_is))
-    (subst (λ (o : State). IsSettled width size o cells h) state (subst (λ (n : ℕ). IsSettled width n s cells h) sized (subst (λ (c : Option ℕ). IsSettled width bucket s c h) count settled)))
+    subst (λ (w : ℕ). SplitsAreDone w size from.state cells h) (ap (λ (o : Origin). o.width) (sym found.origin_is))
+    (subst (λ (o : State). SplitsAreDone width size o cells h) state (subst (λ (n : ℕ). SplitsAreDone width n s cells h) sized (subst (λ (c : Option ℕ). SplitsAreDone width bucket s c h) count settled)))
 
 -- rows that were answered over a log
 pub answered-over : {D : Type 0} (drive : D → Drive) (report : Report) (file : List ℕ) (size : ℕ) (rows : List InRow) (b : BookView D) (was disk : D) (before after : Output) (status : ℕ) (h : List Entry) → OpensBook drive file (drive was) size b
@@ -154,7 +154,7 @@ answered-over drive report file size rows b was disk before after status h opens
   book = opens.shows;
   one_list = list-from report (drive was) opens.from b.opening rows h status before after opens.found opens.state ended.one_list;
   ends = ends-weaker (StopsBook (IsNextStep width b.opening rows) h) (IsStop (Some file) opens.from rows (drive was) (drive disk) h) status before after (log-stop drive file rows (drive was) size b h disk opens ended.log) ended.ends;
-  splits = λ writes. settled-from (drive was) opens.from size b.bucket b.opening (count_in b.log) (option_map length opens.from.first) h opens.found opens.state opens.bucket opens.count (ended.splits writes);
+  splits = λ writes. settled-from (drive was) opens.from size b.bucket b.opening (first_in b.log) (option_map length opens.from.first) h opens.found opens.state opens.bucket opens.count (ended.splits writes);
   crash = keeps-book drive file (IsNextStep width b.opening rows) (drive was) size b h disk status before after opens ended.log ended.ends (λ writes. (ended.splits writes).going);
   calm = λ other. calm-book drive file (drive was) size b h disk opens ended.log (unfailed (IsNextStep width b.opening rows) h status before after ended.ends (λ writes. (ended.splits writes).going) other);
   attached = attached-book drive file (drive was) size b h disk opens ended.log;
@@ -171,9 +171,9 @@ answered-new {D = D} drive report size rows b was left before after status h ope
   one_list = subst (λ (o : State). AnswersAsOneList report width o rows h status before after) opening ended.one_list;
   ends = ends-weaker (StopsBook (IsNextStep width b.opening rows) h) (IsStop None new_origin rows (drive was) (drive was) h) status before after (new-stop drive (IsNextStep width b.opening rows) new_origin rows (drive was) (drive was) b.opening h b.log left none ended.log) ended.ends;
   splits = λ writes.
-      subst (λ (o : State). IsSettled width size o None h) opening
-      (subst (λ (n : ℕ). IsSettled width n b.opening None h) bucket
-      (subst (λ (c : Option ℕ). IsSettled width b.bucket b.opening c h) (ap (λ (l : Option (KeptView D)). count_in l) none) (ended.splits writes)));
+      subst (λ (o : State). SplitsAreDone width size o None h) opening
+      (subst (λ (n : ℕ). SplitsAreDone width n b.opening None h) bucket
+      (subst (λ (c : Option ℕ). SplitsAreDone width b.bucket b.opening c h) (ap (λ (l : Option (KeptView D)). first_in l) none) (ended.splits writes)));
   crash = λ bytes first told is settled. absurd (cc is);
   calm = λ other. refl;
   attached = tt;

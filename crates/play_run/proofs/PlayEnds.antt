@@ -19,7 +19,8 @@ use Rattle.csv_rows.specs.declared.rows.Refusal.TheVariants as refusal
 use Rattle.io_edge.specs.Streams.{Output}
 use Rattle.io_edge.specs.Puts.{Puts}
 use Rattle.lane_history.specs.LostSteps.{IsNextStep}
-use Rattle.lane_splits.specs.Settled.{IsSettled}
+use Rattle.kept_log.specs.Counts.{first_in}
+use Rattle.lane_splits.specs.Settled.{SplitsAreDone}
 use Rattle.run_ends.specs.Limits.{width}
 use Rattle.play_run.specs.declared.reports.Report.{Report}
 use Rattle.play_run.specs.Lines.{text_of}
@@ -29,7 +30,7 @@ use Rattle.run_ends.specs.Taking.{Refuses}
 use Rattle.play_run.specs.Playing.{EndsRows}
 use Rattle.play_run.specs.Answers.{AnswersAsOneList}
 use Rattle.play_run.specs.declared.lanes.LaneEnd.{LaneEnd}
-use Rattle.play_run.specs.inside.Books.{BeginsAs, IsNewBook, StopsBook, LeavesLog, count_in}
+use Rattle.play_run.specs.inside.Books.{BeginsAs, IsNewBook, StopsBook, LeavesLog}
 use Rattle.play_run.specs.inside.Answered.{HasNumbers, IsPlayedBook, IsAnsweredBook, HasObjects, WritesText, EndsPlay}
 use Rattle.play_run.specs.inside.Ended.{EndsBook}
 use Rattle.run_ends.proofs.Ends.{no-lines}
@@ -122,10 +123,10 @@ module _ {D : Type 0} (drive : D → Drive) (report : Report) (rows : List InRow
       by_end (inr (inl (none, refuses))) = inr (inr (refusal.Memory, inl (refl, none), refuses))
       by_end (inr (inr (none, wrote))) = by_writing (writes wrote)
 
-  end-splits : WritesLines status → IsSettled width old.bucket old.opening (count_in old.log) h
+  end-splits : WritesLines status → SplitsAreDone width old.bucket old.opening (first_in old.log) h
   end-splits written = by_end end
     where
-      by_end : EndsPlay report rows (failed_cell h) new.leaves ends status before after → IsSettled width old.bucket old.opening (count_in old.log) h
+      by_end : EndsPlay report rows (failed_cell h) new.leaves ends status before after → SplitsAreDone width old.bucket old.opening (first_in old.log) h
       by_end (inl (cell, failed, refuses)) = absurd (no-text (refusal.Disk (Some cell)) refuses written)
       by_end (inr (inl (none, refuses))) = absurd (no-text refusal.Memory refuses written)
       by_end (inr (inr (none, wrote))) = (some-answered wrote.some wrote.ends_are).settled none

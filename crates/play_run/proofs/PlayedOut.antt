@@ -7,28 +7,30 @@ use Rattle.plain_list.specs.State.{State, IsLegal}
 use Rattle.csv_rows.specs.declared.rows.InRow.{InRow}
 use Rattle.csv_rows.specs.InRows.{AreInRows}
 use Rattle.disk_trait.specs.Drive.{Drive}
-use Rattle.log_state.specs.Changes.{cells_of}
-use Rattle.kept_log.specs.KeptView.{KeptView}
-use Rattle.kept_log.specs.Journal.{cells_in, KeepsIn}
 use Rattle.book_lock.specs.Pass.{Known}
 use Rattle.book_lock.specs.Own.{times, once_below}
 use Rattle.book_lock.specs.declared.origin.Origin.{Origin}
 use Rattle.commit_book.specs.BookView.{BookView}
 use Rattle.commit_book.specs.IsBook.{IsBook}
-use Rattle.sessions.specs.Shared.{start_of, origin_of, first_in}
+use Rattle.kept_log.specs.Counts.{first_in}
+use Rattle.sessions.specs.Shared.{start_of, origin_of, first_cells}
+use Rattle.sessions.specs.Steps.{cells_at}
+use Rattle.sessions.proofs.Origins.{first-in}
+use Rattle.sessions.proofs.StepLemmas.{cells-at}
 use Rattle.lane_history.specs.SessionRows.{session_rows}
 use Rattle.lane_history.specs.Lanes.{IsPlayedOut, OwnsAll}
 use Rattle.lane_history.specs.LostSteps.{IsNextStep, LosesStep}
-use Rattle.lane_splits.specs.Settled.{IsSettled, first_cells}
+use Rattle.lane_splits.specs.Settled.{SplitsAreDone, IsWithinLimits}
 use Rattle.play_run.specs.declared.lanes.LaneEnd.{LaneEnd}
 use Rattle.play_run.specs.inside.Dealt.{sessions_to}
 use Rattle.play_run.specs.inside.Joined.{HasRun, HasNotRun, HasAllParts}
-use Rattle.play_run.specs.inside.Books.{IsNewBook, count_in}
+use Rattle.play_run.specs.inside.Books.{IsNewBook}
 use Rattle.play_run.specs.inside.Answered.{HasAnswers, ArePlayed, AreAnswered, IsPlayedBook, IsAnsweredBook}
 use Rattle.play_run.proofs.Dealing.{sessions-are}
 use Rattle.play_run.proofs.Answering.{has-answers}
 use Rattle.lane_history.proofs.PlayedOut.{played, whole, kept_right, loses}
 use Rattle.lane_splits.proofs.Settled.{settled}
+use Rattle.lane_splits.proofs.Limits.{within_limits}
 
 positive : (n : ℕ) → 0 < n → nat_lt 0 n ≡ true
 positive n lt = grind (arith, nat_tests)
@@ -40,22 +42,27 @@ unseen (e ∷ h) own all none =
     let one : once_below 0 (length (e ∷ h)) ≡ 1 = ap {B = ℕ} (λ (b : Bool). cond {A = ℕ} b 1 0) (positive (length (e ∷ h)) (omega arith)) in
     absurd (omega (arith, all 0, none 0, one))
 
-played-none : (w : ℕ) (origin : Origin) (rows : List InRow) (h : List Entry) → h ≡ [] → ArePlayed w origin rows h
-played-none w origin rows [] none = record { played = λ s. (session_rows rows s, refl); loses = λ cell failed. absurd (cc failed) }
-played-none w origin rows (e ∷ h) none = absurd (cc none)
+played-none : (w : ℕ) (origin : Origin) (rows : List InRow) (h : List Entry) → cells_at origin [] ≤ 16000000 → h ≡ [] → ArePlayed w origin rows h
+played-none w origin rows [] few none = record {
+  played = λ s. (session_rows rows s, refl);
+  loses = λ cell failed. absurd (cc failed);
+  limits = record { entries = omega arith; cells = omega arith; stray = omega arith; begins = inl (omega arith) };
+}
+played-none w origin rows (e ∷ h) few none = absurd (cc none)
 
 module _ {I D O P : Type 0} (w : ℕ) (origin : Origin) (rows : List InRow) (ends : List LaneEnd) (last : Known) (are : AreInRows rows) (own : OwnsAll last) where
   abbrev out : (done : Bool) (ran : HasRun I D O P w origin rows ends last done) → IsPlayedOut w origin rows (sessions_to 16 rows) ran.lanes last
   out done ran = record { sessions_are = sessions-are rows are; played = ran.played; pass = ran.pass; joined = ran.joined; goes_on = ran.goes_on; whole = own }
 
-  pub are-played : (done : Bool) → HasRun I D O P w origin rows ends last done ⊎ HasNotRun last done → IsLegal w (start_of origin) last.seen → ArePlayed w origin rows last.seen
-  are-played done (inl ran) legal = record {
+  pub are-played : (done : Bool) → HasRun I D O P w origin rows ends last done ⊎ HasNotRun last done → IsLegal w (start_of origin) last.seen → cells_at origin [] ≤ 16000000 → ArePlayed w origin rows last.seen
+  are-played done (inl ran) legal few = record {
     played = played w origin rows (sessions_to 16 rows) ran.lanes last (out done ran);
     loses = λ cell failed. loses w origin rows (sessions_to 16 rows) ran.lanes last (out done ran) cell legal failed;
+    limits = within_limits w origin rows (sessions_to 16 rows) ran.lanes last (out done ran) legal are.most few;
   }
-  are-played done (inr none) legal = played-none w origin rows last.seen (unseen last.seen last.own own none.own)
+  are-played done (inr none) legal few = played-none w origin rows last.seen few (unseen last.seen last.own own none.own)
 
-  pub are-answered : HasRun I D O P w origin rows ends last true ⊎ HasNotRun last true → IsLegal w (start_of origin) last.seen → origin.cells ≤ 16000000 → AreAnswered w origin rows last.seen ends
+  pub are-answered : HasRun I D O P w origin rows ends last true ⊎ HasNotRun last true → IsLegal w (start_of origin) last.seen → cells_at origin [] ≤ 16000000 → AreAnswered w origin rows last.seen ends
   are-answered (inr none) legal few = absurd (cc none.not_done)
   are-answered (inl ran) legal few =
       let all = out true ran in
@@ -65,7 +72,7 @@ module _ {I D O P : Type 0} (w : ℕ) (origin : Origin) (rows : List InRow) (end
         whole = whole w origin rows sessions ran.lanes last all calm;
         answers = subst (λ (l : List LaneEnd). HasAnswers origin.world last.seen rows l) (sym ran.ends_are)
             (has-answers w origin origin.world last.seen rows sessions ran.lanes (sessions-are rows are) ran.played calm (kept_right w origin rows sessions ran.lanes last all));
-        settled = λ first cells going. settled w origin rows sessions ran.lanes last first ran.is_done.1.0 all ran.is_done.1.1 ran.is_done.1.2 legal are.most few cells going;
+        settled = λ going. settled w origin rows sessions ran.lanes last ran.is_done.1.0 all ran.is_done.1.1 ran.is_done.1.2 legal are.most few going;
       }
 
 -- a book of an origin begins as that says
@@ -75,42 +82,40 @@ opening-is drive w b book = same
     same : start_of (origin_of drive b) ≡ b.opening
     same i = record { world = b.opening.world; leaves = b.opening.leaves; splits = (sym book.opening.rests) i; begun = b.opening.begun }
 
-first-is : {D : Type 0} (drive : D → Drive) (w : ℕ) (s : State) (h : List Entry) (log : Option (KeptView D)) → h ≡ [] → KeepsIn drive w s h log → (first_cells (count_in log) ≡ first_in log) × (first_in log ≡ cells_in log)
-first-is drive w s h None none keeps = (refl, refl)
-first-is drive w s h (Some log) none keeps =
-    let count : log.cells ≡ log.first = omega (arith, keeps.keeps.count, ap (λ (l : List Entry). length (cells_of s.world l)) none) in
-    (count, sym count)
-
 module _ {D : Type 0} (drive : D → Drive) (w : ℕ) (rows : List InRow) (old new : BookView D) (before : IsBook drive w old) (after : IsBook drive w new) (begins : IsNewBook old) where
   -- the log has few cells at first
-  pub few-first : (origin_of drive old).cells ≤ 16000000
-  few-first = omega (arith, (first-is drive w old.opening old.entries old.log begins.entries before.on_log).1, begins.few)
+  pub few-first : cells_at (origin_of drive old) [] ≤ 16000000
+  few-first = subst (λ (h : List Entry). cells_at (origin_of drive old) h ≤ 16000000) begins.entries (subst (λ (n : ℕ). n ≤ 16000000) (cells-at drive w old before) begins.few)
 
   pub played-book : origin_of drive new ≡ origin_of drive old → ArePlayed w (origin_of drive old) rows new.entries → IsPlayedBook w rows old new
   played-book same are = record {
     opening = sym (opening-is drive w new after) ∙ ap start_of same ∙ opening-is drive w old before;
-    first = ap (λ (o : Origin). o.cells) same;
+    first = sym (first-in drive new) ∙ ap first_cells same ∙ first-in drive old;
     played = are.played;
     loses = λ cell failed. subst (λ (s : State). LosesStep (IsNextStep w s rows) new.entries cell) (opening-is drive w old before) (are.loses cell failed);
+    limits =
+        subst (λ (s : State). IsWithinLimits w old.bucket s (first_in old.log) rows new.entries) (opening-is drive w old before)
+        (subst (λ (first : Option ℕ). IsWithinLimits w old.bucket (start_of (origin_of drive old)) first rows new.entries) (first-in drive old) are.limits);
   }
 
   pub answered-book : (ends : List LaneEnd) → AreAnswered w (origin_of drive old) rows new.entries ends → IsAnsweredBook w rows old new ends
   answered-book ends are = record {
     whole = are.whole;
     answers = are.answers;
-    settled = λ going. subst (λ (s : State). IsSettled w old.bucket s (count_in old.log) new.entries) (opening-is drive w old before)
-        (are.settled (count_in old.log) (first-is drive w old.opening old.entries old.log begins.entries before.on_log).0 going);
+    settled = λ going.
+        subst (λ (s : State). SplitsAreDone w old.bucket s (first_in old.log) new.entries) (opening-is drive w old before)
+        (subst (λ (first : Option ℕ). SplitsAreDone w old.bucket (start_of (origin_of drive old)) first new.entries) (first-in drive old) (are.settled going));
   }
 
   -- the same book, where no row was played
   pub played-not : new ≡ old → IsPlayedBook w rows old new
   played-not same =
       let none : new.entries ≡ [] = ap (λ (b : BookView D). b.entries) same ∙ begins.entries in
-      played-book (ap (origin_of drive) same) (played-none w (origin_of drive old) rows new.entries none)
+      played-book (ap (origin_of drive) same) (played-none w (origin_of drive old) rows new.entries few-first none)
 
   -- the same of the pass of a store of the book
-  pub few-pass : (origin : Origin) → origin ≡ origin_of drive old → origin.cells ≤ 16000000
-  few-pass origin is = subst (λ (o : Origin). o.cells ≤ 16000000) (sym is) few-first
+  pub few-pass : (origin : Origin) → origin ≡ origin_of drive old → cells_at origin [] ≤ 16000000
+  few-pass origin is = subst (λ (o : Origin). cells_at o [] ≤ 16000000) (sym is) few-first
 
   pub played-from : (origin : Origin) → origin ≡ origin_of drive old → origin_of drive new ≡ origin → ArePlayed w origin rows new.entries → IsPlayedBook w rows old new
   played-from origin is same are = played-book (same ∙ is) (subst (λ (o : Origin). ArePlayed w o rows new.entries) is are)
@@ -131,10 +136,10 @@ module _ {D : Type 0} (I O P : Type 0) (drive : D → Drive) (w : ℕ) (rows : L
       subst (λ (h : List Entry). IsLegal w (start_of old.origin) h) value.0
       (subst (λ (s : State). IsLegal w s b.entries) (sym (opening-is drive w b book) ∙ ap start_of origin-same) book.legal)
 
-  pub store-played : (done : Bool) → HasRun I D O P w old.origin rows ends last done ⊎ HasNotRun last done → ArePlayed w old.origin rows b.entries
-  store-played done ran = subst (λ (h : List Entry). ArePlayed w old.origin rows h) (sym value.0) (are-played w old.origin rows ends last are own done ran legal-seen)
+  pub store-played : (done : Bool) → cells_at old.origin [] ≤ 16000000 → HasRun I D O P w old.origin rows ends last done ⊎ HasNotRun last done → ArePlayed w old.origin rows b.entries
+  store-played done few ran = subst (λ (h : List Entry). ArePlayed w old.origin rows h) (sym value.0) (are-played w old.origin rows ends last are own done ran legal-seen few)
 
-  pub store-answered : (done : Bool) → done ≡ true → old.origin.cells ≤ 16000000 → HasRun I D O P w old.origin rows ends last done ⊎ HasNotRun last done → AreAnswered w old.origin rows b.entries ends
+  pub store-answered : (done : Bool) → done ≡ true → cells_at old.origin [] ≤ 16000000 → HasRun I D O P w old.origin rows ends last done ⊎ HasNotRun last done → AreAnswered w old.origin rows b.entries ends
   store-answered done sure few ran =
       subst (λ (h : List Entry). AreAnswered w old.origin rows h ends) (sym value.0)
       (are-answered w old.origin rows ends last are own (subst (λ (d : Bool). HasRun I D O P w old.origin rows ends last d ⊎ HasNotRun last d) sure ran) legal-seen few)

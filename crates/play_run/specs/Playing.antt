@@ -28,7 +28,8 @@ use Rattle.lane_history.specs.LostSteps.{IsNextStep, LosesStep}
 use Rattle.play_run.specs.declared.reports.Report.{Report}
 use Rattle.play_run.specs.declared.reports.Report.TheVariants as reports
 use Rattle.play_run.specs.Answers.{AnswersAsOneList}
-use Rattle.lane_splits.specs.Settled.{IsSettled, cells_now}
+use Rattle.kept_log.specs.Counts.{cells_after}
+use Rattle.lane_splits.specs.Settled.{SplitsAreDone}
 use Rattle.play_run.specs.Crash.{KeepsPlayed}
 
 -- the drive's bytes recover to cells, few enough, and its count didn't rise
@@ -67,7 +68,7 @@ pub record IsUnopened {D : Type 0} (log : Option (List ℕ)) (old new : Targets 
 -- drive's count rose.
 pub record AppendFailed (from : Origin) (rows : List InRow) (old new : Drive) (h : List Entry) (cell : ℕ) : Type 0 where
   pub loses : LosesStep (IsNextStep from.width from.state rows) h cell
-  pub number : cell ≡ cells_now (option_map length from.first) from.state h
+  pub number : cell ≡ cells_after (option_map length from.first) from.state.world h
   pub rose : Rose old.faults new.faults
 
 -- without a log no append fails
@@ -102,7 +103,7 @@ pub record IsAnswered {D : Type 0} (report : Report) (log : Option (List ℕ)) (
   pub book : HasBook log old new
   pub one_list : AnswersAsOneList report from.width from.state rows h status old.output new.output
   pub ends : EndsRows (IsStop log from rows old.drive new.drive h) status old.output new.output
-  pub splits : WritesLines status → IsSettled from.width size from.state (option_map length from.first) h
+  pub splits : WritesLines status → SplitsAreDone from.width size from.state (option_map length from.first) h
   pub crash : KeepsPlayed from old.drive new.drive status h
   pub calm : status ≢ 7 → new.drive.faults ≡ old.drive.faults
   pub attached : IsAttached log old.drive new.drive

@@ -7,4 +7,5 @@ pub mod OpenLemmas
 pub mod CallLemmas
 pub mod SplitLemmas
 pub mod LaneLemmas
+pub mod LanePasses
 pub mod SettleLemmas

@@ -1,6 +1,6 @@
 -- How often queries open a bucket, by the names of the leaves.
 use Rattle.std.proofs.Common.{◌≡◌, ℕ, ◌+◌, ◌<◌, ◌≤◌, Bool, true, false, cond, List, [], ◌∷◌, length, Option, Some, None, Ok, Err, Result, refl, sym, ap, ◌∙◌, arith}
-use Rattle.std.specs.Prelude.{nat_le, IfOk, IfSome, IsErr}
+use Rattle.std.specs.Prelude.{nat_le, IfOk, IfErr, IfSome, IsErr}
 use Rattle.std.specs.List.{count_by}
 use Rattle.std.proofs.lemmas.List.{length-map}
 use Rattle.std.proofs.lemmas.List.Sums.{sum_by-cons}
@@ -17,7 +17,9 @@ use Rattle.range_query.specs.Cut.{is_met, leaves_met}
 use Rattle.range_query.specs.Listing.{OnFound}
 use Rattle.knn_query.specs.Ahead.{least_to, reach_of, OpensNear}
 use Rattle.commit_book.specs.Answers.{IsUpdate}
-use Rattle.sessions.specs.Opens.{listed_in, listed_by, number_met, number_within, OpensBox, OpensNearest, Opens}
+use Rattle.sessions.specs.Opens.{listed_in, listed_by, number_met, number_within, OpensBox, OpensNearest, Opens, OpensRefused}
+use Rattle.sessions.specs.declared.faults.CallFault.{CallFault}
+use Rattle.sessions.specs.declared.faults.CallFault.TheVariants.{Closed, Disk, HistoryFull, LogFull, Memory}
 
 -- the leaves that pass a test, by their names
 count-names : (passes : List Bool → Bool) (leaves : List Leaf) → count_by passes (names_of leaves) ≡ length (leaves_of passes leaves)
@@ -75,3 +77,15 @@ opens-none (Remove id) names places steps = refl
 opens-none (Find id) names places steps = refl
 opens-none (Within region) names places steps = record { most = omega arith; exact = tt }
 opens-none (Near at k) names places steps = record { most = omega arith; near = λ d many. omega arith; some = tt }
+
+pub refused-still : (fault : CallFault) (steps : ℕ) → OpensRefused fault steps steps
+refused-still (Closed cell) steps = refl
+refused-still (Disk cell) steps = refl
+refused-still HistoryFull steps = refl
+refused-still LogFull steps = refl
+refused-still (Memory None) steps = refl
+refused-still (Memory (Some place)) steps = tt
+
+pub result-still : {A : Type 0} (result : Result A CallFault) (steps : ℕ) → IfErr result (λ fault. OpensRefused fault steps steps)
+result-still (Ok value) steps = tt
+result-still (Err fault) steps = refused-still fault steps

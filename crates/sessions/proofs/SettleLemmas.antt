@@ -3,11 +3,14 @@ use Rattle.std.proofs.Common.{◌≡◌, inl, inr, ℕ, ◌+◌, ◌≤◌, ◌=
 use Rattle.std.specs.Option.{option_map}
 use Rattle.std.proofs.lemmas.Bool.Decides.{Decides-eqb}
 use borrow.Author.Tests.{ltb-false}
+use Rattle.zorder.specs.declared.points.Placed.{Placed}
 use Rattle.plain_list.specs.declared.entries.Entry.{Entry}
 use Rattle.plain_list.specs.declared.entries.Entry.TheVariants.{Begin}
 use Rattle.plain_list.specs.History.{world_after}
 use Rattle.log_state.specs.Changes.{cells_of}
+use Rattle.log_state.proofs.CellCounts.{cells-few}
 use Rattle.log_state.proofs.PlacedChanges.{cells_of-append}
+use Rattle.kept_log.specs.Counts.{cells_after}
 use Rattle.kept_log.specs.Journal.{failed_cell}
 use Rattle.kept_log.proofs.InJournal.{failed_cell-push, has_failed-none}
 use Rattle.commit_book.specs.IsBook.{most_events}
@@ -19,7 +22,8 @@ use Rattle.commit_book.proofs.SplitCalls.{full_leaf-free}
 use Rattle.book_lock.specs.Pass.{Known}
 use Rattle.book_lock.specs.declared.origin.Origin.{Origin}
 use Rattle.sessions.specs.Calls.{next_full}
-use Rattle.sessions.specs.Steps.{AreCells, all_parts, cells_after}
+use Rattle.sessions.specs.Shared.{first_cells}
+use Rattle.sessions.specs.Steps.{all_parts, cells_at}
 use Rattle.sessions.specs.Splits.{BeginsSplit, GivesUp, RanOut, NotInstalled, SplitEnds, begin_cause, state_of}
 use Rattle.sessions.specs.Settles.{SplitsAll, IsNextFault, SplitFault}
 use Rattle.sessions.specs.declared.faults.Split.{Split}
@@ -71,18 +75,17 @@ has-room cells events none = by_tests (nat_lt 16000000 cells) (nat_lt 4000000 ev
     by_tests false true other is none = absurd (cc)
     by_tests false false few less none = (ltb-false 4000000 events less, ltb-false 16000000 cells few)
 
-pub room-cells : (origin : Origin) (before : List Entry) (cells : ℕ) → AreCells origin before cells → cells ≤ 16000000 → cells_after origin before ≤ 16000000
-room-cells origin before cells (inl is) few = subst (λ (n : ℕ). n ≤ 16000000) is few
-room-cells origin before cells (inr (none, first, less)) few = omega arith
-
--- one begin behind that there is room for an end
-cells-begun : (origin : Origin) (before after : List Entry) (number cells : ℕ) (name : List Bool) → after ≡ before ++ Begin number name ∷ [] → cells_after origin before ≤ 16000000 → AreCells origin after cells → cells ≤ 16000001
-cells-begun origin before after number cells name is few (inr (none, first, less)) = omega arith
-cells-begun origin before after number cells name is few (inl same) =
-    let more : length (cells_of origin.world after) ≡ length (cells_of origin.world before) + 1 =
-    ap (λ (h : List Entry). length (cells_of origin.world h)) is ∙ ap length (cells_of-append origin.world before (Begin number name ∷ []))
-    ∙ length-append (cells_of origin.world before) (cells_of (world_after origin.world before) (Begin number name ∷ [])) in
+-- one entry behind that there is room for an end
+cells-next : (first : Option ℕ) (world : List Placed) (before : List Entry) (e : Entry) → cells_after first world (before ++ e ∷ []) ≤ cells_after first world before + 1
+cells-next None world before e = omega arith
+cells-next (Some n) world before e =
+    let more : length (cells_of world (before ++ e ∷ [])) ≡ length (cells_of world before) + length (cells_of (world_after world before) (e ∷ [])) =
+    ap length (cells_of-append world before (e ∷ [])) ∙ length-append (cells_of world before) (cells_of (world_after world before) (e ∷ [])) in
+    let few = cells-few (world_after world before) (e ∷ []) in
     omega arith
+
+pub cells-added : (origin : Origin) (before : List Entry) (e : Entry) → cells_at origin (before ++ e ∷ []) ≤ cells_at origin before + 1
+cells-added origin before e = cells-next (first_cells origin) origin.world before e
 
 not-equal : (a b : ℕ) → a + 1 ≤ b → (a == b) ≡ false
 not-equal a b less = by_test (a == b) refl
@@ -106,8 +109,10 @@ allowed None number refused = refl
 allowed (Some cause) number refused = absurd (cc refused)
 
 module _ (w : ℕ) (old mid : Known) (number : ℕ) (name : List Bool) (all : old.parts ≡ all_parts) (unclosed : closed_refusal old.seen ≡ None) (full : next_full w old ≡ Some name) (begins : BeginsSplit w name old mid (Ok number)) where
-  begun-room : (length begins.before ≤ 4000000) × (begins.cells ≤ 16000000)
-  begun-room = has-room begins.cells (length begins.before) (sym (begin-room w old name begins.cells begins.before (begins.alone all) unclosed full) ∙ allowed (begin_cause w old.origin name begins.cells begins.before) number begins.refused)
+  begun-room : (length begins.before ≤ 4000000) × (cells_at old.origin begins.before ≤ 16000000)
+  begun-room =
+      let cells = cells_at old.origin begins.before in
+      has-room cells (length begins.before) (sym (begin-room w old name cells begins.before (begins.alone all) unclosed full) ∙ allowed (begin_cause w old.origin name cells begins.before) number begins.refused)
 
   going : failed_cell begins.before ≡ None
   going = going_on begins.before (ap closed_refusal (begins.alone all) ∙ unclosed)
@@ -122,12 +127,13 @@ module _ (w : ℕ) (old mid : Known) (number : ℕ) (name : List Bool) (all : ol
   mid-parts = ap (λ (k : Known). k.parts) begins.leaves ∙ all
 
   -- the end of the split is refused for no cause
-  ends-free : (cells : ℕ) (after : List Entry) → after ≡ mid.seen → AreCells mid.origin after cells → end_refusal cells after ≡ None
-  ends-free cells after same are =
+  ends-free : (origin : Origin) (after : List Entry) → origin ≡ mid.origin → after ≡ mid.seen → end_refusal (cells_at origin after) after ≡ None
+  ends-free origin after from same =
       let is : after ≡ begins.before ++ Begin number name ∷ [] = same ∙ mid-seen in
-      let few = room-cells old.origin begins.before begins.cells begins.are_cells begun-room.1 in
-      let less : cells ≤ 16000001 = cells-begun old.origin begins.before after number cells name is few (subst (λ (o : Origin). AreCells o after cells) mid-origin are) in
-      end-free begins.before after number cells name is going begun-room.0 less
+      let few = begun-room.1 in
+      let next = cells-added old.origin begins.before (Begin number name) in
+      let cells : cells_at origin after ≡ cells_at old.origin (begins.before ++ Begin number name ∷ []) = (λ i. cells_at ((from ∙ mid-origin) i) (is i)) in
+      end-free begins.before after number (cells_at origin after) name is going begun-room.0 (omega arith)
 
   free-fault : (IsFree : BookFault → Type 0) (cells : ℕ) (after : List Entry) (fault : BookFault) → end_refusal cells after ≡ None → IsRefusedBy {A = Unit {0}} IsFree (end_refusal cells after) (Err fault) → IsFree fault
   free-fault IsFree cells after fault none refused = subst (λ (o : Option BookFault). IsRefusedBy {A = Unit {0}} IsFree o (Err fault)) none refused
@@ -136,8 +142,7 @@ module _ (w : ℕ) (old mid : Known) (number : ℕ) (name : List Bool) (all : ol
   gives-next seen new fault same origin parts (inl (memory, step)) = memory-next fault memory
   gives-next seen new fault same origin parts (inr ends) =
       let step = ends.step in
-      disk-next fault (free-fault IsDisk step.cells step.before fault
-      (ends-free step.cells step.before (step.alone (parts ∙ mid-parts) ∙ same) (subst (λ (o : Origin). AreCells o step.before step.cells) origin step.are_cells)) step.refused)
+      disk-next fault (free-fault IsDisk (cells_at seen.origin step.before) step.before fault (ends-free seen.origin step.before origin (step.alone (parts ∙ mid-parts) ∙ same)) step.refused)
 
   ran-next : (seen new : Known) (fault : BookFault) → RanOut w number mid seen → GivesUp w number seen new fault → IsNextFault fault
   ran-next seen new fault (inl same) gives = gives-next seen new fault (ap (λ (k : Known). k.seen) same) (ap (λ (k : Known). k.origin) same) (ap (λ (k : Known). k.parts) same) gives
@@ -146,15 +151,16 @@ module _ (w : ℕ) (old mid : Known) (number : ℕ) (name : List Bool) (all : ol
       gives-next seen new fault (ap (λ (k : Known). k.seen) step.leaves ∙ step.alone mid-parts) (ap (λ (k : Known). k.origin) step.leaves) (ap (λ (k : Known). k.parts) step.leaves) gives
 
   not-next : (new : Known) (fault : BookFault) → NotInstalled w number mid new fault → IsNextFault fault
-  not-next new fault (inl (lasting, ends)) = let step = ends.step in free-next fault (free-fault IsMemoryOrDisk step.cells step.before fault (ends-free step.cells step.before (step.alone mid-parts) step.are_cells) step.refused)
+  not-next new fault (inl (lasting, ends)) = let step = ends.step in free-next fault (free-fault IsMemoryOrDisk (cells_at mid.origin step.before) step.before fault (ends-free mid.origin step.before refl (step.alone mid-parts)) step.refused)
   not-next new fault (inr (seen, ran, gives)) = ran-next seen new fault ran gives
 
 -- nothing but want of room or memory, or the drive, comes in the way
 pub next-fault : (w : ℕ) (name : List Bool) (old new : Known) (split : Split) → old.parts ≡ all_parts → closed_refusal old.seen ≡ None → next_full w old ≡ Some name → SplitEnds w name old new split → SplitFault IsNextFault split
 next-fault w name old new (Installed number) all unclosed full ends = tt
 next-fault w name old new (NotSplit fault) all unclosed full (inl step) =
-    refused-cause ℕ IsMemoryOrDisk IsNextFault (begin_cause w old.origin name step.cells step.before) fault
-    (subst (AreCauses IsNextFault) (sym (begin-room w old name step.cells step.before (step.alone all) unclosed full)) (room-next step.cells (length step.before))) (free-next fault) step.refused
+    let cells = cells_at old.origin step.before in
+    refused-cause ℕ IsMemoryOrDisk IsNextFault (begin_cause w old.origin name cells step.before) fault
+    (subst (AreCauses IsNextFault) (sym (begin-room w old name cells step.before (step.alone all) unclosed full)) (room-next cells (length step.before))) (free-next fault) step.refused
 next-fault w name old new (NotSplit fault) all unclosed full (inr (number, mid, begins, not)) = not-next w old mid number name all unclosed full begins new fault not
 
 -- want of room is that of the begin
@@ -170,21 +176,21 @@ room-begin w name old new cells events all unclosed full (inr (number, mid, begi
     no-room : NotInstalled w number mid new (book.Room cells events) → ⊥
     no-room (inl (lasting, ends)) =
         let step = ends.step in
-        never (free-fault w old mid number name all unclosed full begins IsMemoryOrDisk step.cells step.before (book.Room cells events)
-        (ends-free w old mid number name all unclosed full begins step.cells step.before (step.alone (mid-parts w old mid number name all unclosed full begins)) step.are_cells) step.refused)
+        never (free-fault w old mid number name all unclosed full begins IsMemoryOrDisk (cells_at mid.origin step.before) step.before (book.Room cells events)
+        (ends-free w old mid number name all unclosed full begins mid.origin step.before refl (step.alone (mid-parts w old mid number name all unclosed full begins))) step.refused)
     no-room (inr (seen, ran, inl (memory, step))) = cc memory
     no-room (inr (seen, inl same, inr ends)) =
         let step = ends.step in
-        free-fault w old mid number name all unclosed full begins IsDisk step.cells step.before (book.Room cells events)
-        (ends-free w old mid number name all unclosed full begins step.cells step.before (step.alone (ap (λ (k : Known). k.parts) same ∙ mid-parts w old mid number name all unclosed full begins) ∙ ap (λ (k : Known). k.seen) same)
-        (subst (λ (o : Origin). AreCells o step.before step.cells) (ap (λ (k : Known). k.origin) same) step.are_cells)) step.refused
+        free-fault w old mid number name all unclosed full begins IsDisk (cells_at seen.origin step.before) step.before (book.Room cells events)
+        (ends-free w old mid number name all unclosed full begins seen.origin step.before (ap (λ (k : Known). k.origin) same)
+        (step.alone (ap (λ (k : Known). k.parts) same ∙ mid-parts w old mid number name all unclosed full begins) ∙ ap (λ (k : Known). k.seen) same)) step.refused
     no-room (inr (seen, inr run, inr ends)) =
         let ran = run.step in
         let step = ends.step in
         let parts = mid-parts w old mid number name all unclosed full begins in
-        free-fault w old mid number name all unclosed full begins IsDisk step.cells step.before (book.Room cells events)
-        (ends-free w old mid number name all unclosed full begins step.cells step.before (step.alone (ap (λ (k : Known). k.parts) ran.leaves ∙ parts) ∙ (ap (λ (k : Known). k.seen) ran.leaves ∙ ran.alone parts))
-        (subst (λ (o : Origin). AreCells o step.before step.cells) (ap (λ (k : Known). k.origin) ran.leaves) step.are_cells)) step.refused
+        free-fault w old mid number name all unclosed full begins IsDisk (cells_at seen.origin step.before) step.before (book.Room cells events)
+        (ends-free w old mid number name all unclosed full begins seen.origin step.before (ap (λ (k : Known). k.origin) ran.leaves)
+        (step.alone (ap (λ (k : Known). k.parts) ran.leaves ∙ parts) ∙ (ap (λ (k : Known). k.seen) ran.leaves ∙ ran.alone parts))) step.refused
 
 -- one split more
 pub splits-more : (w : ℕ) (old mid new : Known) (numbers : List ℕ) (number : ℕ) (name : List Bool) → SplitsAll w old numbers mid → next_full w mid ≡ Some name → SplitEnds w name mid new (Installed number) → SplitsAll w old (numbers ++ number ∷ []) new

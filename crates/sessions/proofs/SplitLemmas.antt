@@ -29,12 +29,12 @@ use Rattle.book_lock.specs.Ends.{MayNote, OwnsEnds}
 use Rattle.book_lock.specs.declared.origin.Origin.{Origin}
 use Rattle.book_lock.proofs.OwnSplits.{may_install, may_abandon}
 use Rattle.sessions.specs.Shared.{origin_of, start_of}
-use Rattle.sessions.specs.Steps.{Says, MayGive, has_entry, has_given}
+use Rattle.sessions.specs.Steps.{WasTaken, Says, MayGive, has_entry, has_given}
 use Rattle.sessions.specs.Splits.{HasBegun, BeginsSplit, InstallsSplit, AbandonsSplit, EndsOpen, GivesUp, BegunEnds, RanOut, NotInstalled, BeginsAs, SplitEnds, IsNotSplit, IsNextSplit, SamePass, begin_cause, number_of, state_of}
 use Rattle.sessions.specs.declared.faults.Split.{Split}
 use Rattle.sessions.specs.declared.faults.Split.TheVariants.{Installed, NotSplit}
 use Rattle.sessions.proofs.Origins.{start-of-origin}
-use Rattle.sessions.proofs.StepLemmas.{WasTaken, BookStep, may-give, says-all, stepped, step-same, same-later, prefix-later}
+use Rattle.sessions.proofs.StepLemmas.{BookStep, may-give, says-all, stepped, step-same, same-later, prefix-later}
 use Rattle.sessions.proofs.LiveSplits.{begun-rows, still_open, never-stale, never-ended}
 
 -- the begin that was just noted

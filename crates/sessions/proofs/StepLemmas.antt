@@ -8,33 +8,33 @@ use Rattle.plain_list.specs.declared.entries.Entry.TheVariants.{Call, Begin, Fai
 use Rattle.plain_list.specs.declared.entries.Lost.{Lost}
 use Rattle.plain_list.specs.State.{State}
 use Rattle.disk_trait.specs.Drive.{Drive}
-use Rattle.log_state.specs.Changes.{cells_of}
-use Rattle.log_state.proofs.CellCounts.{cells-few}
+use Rattle.std.specs.Option.{option_map}
 use Rattle.kept_log.specs.KeptView.{KeptView}
 use Rattle.kept_log.specs.Journal.{KeepsIn, cells_in}
+use Rattle.kept_log.specs.Counts.{cells_after}
 use Rattle.commit_book.specs.BookView.{BookView}
-use Rattle.commit_book.specs.IsBook.{IsBook, most_events}
+use Rattle.commit_book.specs.IsBook.{IsBook}
 use Rattle.commit_book.specs.Refusals.{IsRefusedBy, LeavesRefused, first_of}
 use Rattle.commit_book.specs.declared.faults.BookFault.{BookFault}
 use Rattle.commit_book.specs.declared.faults.BookFault.TheVariants.{Closed, Disk, HistoryFull, LogFull, Memory, Room, Splitting, Deep, NoLeaf, Stale, NotOpen}
 use Rattle.book_lock.specs.Pass.{Known}
 use Rattle.book_lock.specs.Ends.{MayNote}
-use Rattle.book_lock.specs.declared.origin.Origin.{Origin}
-use Rattle.sessions.specs.Shared.{origin_of, first_in}
-use Rattle.sessions.specs.Steps.{all_parts, AreCells, IsStep, Leaves, Says, MayGive, has_entry, has_given, has_added, has_seen}
+use Rattle.book_lock.specs.declared.origin.LogStart.{LogStart}
+use Rattle.sessions.specs.Shared.{origin_of, start_in}
+use Rattle.sessions.specs.Steps.{all_parts, cells_at, WasTaken, IsStep, Leaves, Says, MayGive, has_entry, has_given, has_added, has_seen}
 use Rattle.sessions.specs.Splits.{SamePass}
 
 pub prefix-later : (xs ys zs : List Entry) → IsPrefix xs ys → IsPrefix ys zs → IsPrefix xs zs
 prefix-later xs ys zs (a, p) (b, q) = (a ++ b, sym (append_assoc xs a b) ∙ ap (λ (l : List Entry). l ++ b) p ∙ q)
 
-log-cells : {D : Type 0} (drive : D → Drive) (w : ℕ) (s : State) (h : List Entry) (log : Option (KeptView D)) → length h ≤ most_events → KeepsIn drive w s h log
-    → (cells_in log ≡ first_in log + length (cells_of s.world h)) ⊎ ((cells_in log ≡ 0) × (first_in log ≡ 0) × (first_in log + length (cells_of s.world h) ≤ most_events))
-log-cells drive w s h None few keeps = let c = cells-few s.world h in inr (refl, refl, omega arith)
-log-cells drive w s h (Some log) few keeps = inl keeps.keeps.count
+log-cells : {D : Type 0} (drive : D → Drive) (w : ℕ) (s : State) (h : List Entry) (log : Option (KeptView D)) → KeepsIn drive w s h log
+    → cells_in log ≡ cells_after (option_map (λ (start : LogStart). start.cells) (option_map (start_in drive) log)) s.world h
+log-cells drive w s h None keeps = refl
+log-cells drive w s h (Some log) keeps = keeps.keeps.count
 
 -- the number of cells of a book's log
-pub are-cells : {D : Type 0} (drive : D → Drive) (w : ℕ) (b : BookView D) → IsBook drive w b → AreCells (origin_of drive b) b.entries (cells_in b.log)
-are-cells drive w b is = log-cells drive w b.opening b.entries b.log is.few is.on_log
+pub cells-at : {D : Type 0} (drive : D → Drive) (w : ℕ) (b : BookView D) → IsBook drive w b → cells_in b.log ≡ cells_at (origin_of drive b) b.entries
+cells-at drive w b is = log-cells drive w b.opening b.entries b.log is.on_log
 
 -- where no later cause comes, the first one does
 pub first-none : (cause : Option BookFault) → first_of cause None ≡ cause
@@ -58,15 +58,6 @@ fail-may cell lost seen own n (inr is) = absurd (cc is)
 pub says-all : {A : Type 0} (P : A → Type 0) → ((value : A) → P value) → (result : Result A BookFault) → Says P result
 says-all P all (Ok value) = all value
 says-all P all (Err fault) = tt
-
--- a value was taken from the lock
-pub record WasTaken {D : Type 0} (drive : D → Drive) (b : BookView D) (old took : Known) : Type 0 where
-  pub entries : b.entries ≡ took.seen
-  pub origin : origin_of drive b ≡ old.origin
-  pub later : IsPrefix old.seen took.seen
-  pub took_is : took ≡ record old { seen = took.seen; holds = true }
-  pub off : old.holds ≡ false
-  pub alone : old.parts ≡ all_parts → took.seen ≡ old.seen
 
 -- what a step makes of the book
 pub record BookStep {D A : Type 0} (drive : D → Drive) (IsFree : BookFault → Type 0) (cause : Option BookFault) (entry : A → Entry) (lost : Lost) (b mid : BookView D) (result : Result A BookFault) : Type 0 where
@@ -92,13 +83,6 @@ module _ {D A : Type 0} (drive : D → Drive) (IsFree : BookFault → Type 0) (c
   may-give (Err NoLeaf) step notes = ap (λ (x : BookView D). x.entries) step.left ∙ same
   may-give (Err (Stale number)) step notes = ap (λ (x : BookView D). x.entries) step.left ∙ same
   may-give (Err (NotOpen number)) step notes = ap (λ (x : BookView D). x.entries) step.left ∙ same
-
--- with the word that a call told for whether an entry was added
-pub may-as : (took : Known) (entries : List Entry) (grown added : Bool) → grown ≡ added → MayGive took added entries → MayGive took grown entries
-may-as took entries grown added is may = subst (λ (b : Bool). MayGive took b entries) (sym is) may
-
-pub given-as : (took back : Known) (entries : List Entry) (grown added : Bool) → grown ≡ added → back ≡ has_given took grown entries → back ≡ has_given took added entries
-given-as took back entries grown added is given = given ∙ ap (λ (b : Bool). has_given took b entries) is
 
 adds : (old took back : Known) (entries : List Entry) (e : Entry) → old.holds ≡ false → took ≡ record old { seen = took.seen; holds = true } → entries ≡ took.seen ++ e ∷ [] → back ≡ has_given took true entries → back ≡ has_added old took.seen e
 adds old took back entries e off took_is entries_is back_is = back_is ∙ (λ i. record (took_is i) { seen = entries_is i; own = (took_is i).own ++ length took.seen ∷ []; holds = sym off i })
@@ -132,9 +116,9 @@ stepped drive w IsFree cause entry lost P b mid old took back result is was step
   before = took.seen;
   later = was.later;
   alone = was.alone;
-  cells = cells_in b.log;
-  are_cells = subst (λ (o : Origin). AreCells o took.seen (cells_in b.log)) was.origin (subst (λ (h : List Entry). AreCells (origin_of drive b) h (cells_in b.log)) was.entries (are-cells drive w b is));
-  refused = subst (λ (h : List Entry). IsRefusedBy IsFree (cause (cells_in b.log) h) result) was.entries step.refused;
+  refused =
+      subst (λ (n : ℕ). IsRefusedBy IsFree (cause n took.seen) result) (cells-at drive w b is ∙ (λ i. cells_at (was.origin i) (was.entries i)))
+      (subst (λ (h : List Entry). IsRefusedBy IsFree (cause (cells_in b.log) h) result) was.entries step.refused);
   says = subst (λ (h : List Entry). Says (P h) result) was.entries says;
   leaves = left drive IsFree (cause (cells_in b.log) b.entries) entry lost b mid old took back was result step given;
 }

@@ -25,7 +25,7 @@ use Rattle.book_lock.specs.Pass.{Known}
 use Rattle.book_lock.specs.declared.origin.Origin.{Origin}
 use Rattle.sessions.specs.Shared.{start_of}
 use Rattle.sessions.specs.Opens.{leaves_seen}
-use Rattle.sessions.specs.Steps.{all_parts, AreCells, IsStep, has_added, has_seen}
+use Rattle.sessions.specs.Steps.{all_parts, cells_at, IsStep, has_added, has_seen}
 use Rattle.sessions.specs.declared.faults.CallFault.{CallFault}
 use Rattle.sessions.specs.declared.faults.CallFault.TheVariants.{Closed, Disk, HistoryFull, LogFull, Memory}
 
@@ -116,9 +116,7 @@ pub record Called (w session row : ℕ) (op : Op) (old new : Known) (result : Re
   pub before : List Entry
   pub later : IsPrefix old.seen before
   pub alone : old.parts ≡ all_parts → before ≡ old.seen
-  pub cells : ℕ
-  pub are_cells : AreCells old.origin before cells
-  pub answered : IsAnswered op (call_cause old.origin op cells before) result
+  pub answered : IsAnswered op (call_cause old.origin op (cells_at old.origin before) before) result
   pub leaves : CallLeaves w session row op old before new result
 
 -- the append that failed was that of a change

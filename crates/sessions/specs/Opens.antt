@@ -1,5 +1,5 @@
 -- How often a call opens a bucket.
-use Rattle.std.specs.Prelude.{◌≡◌, ℕ, ◌+◌, ◌<◌, ◌≤◌, nat_le, Bool, List, length, Option, Some, None, Result, Ok, Err, IfSome}
+use Rattle.std.specs.Prelude.{◌≡◌, ℕ, ◌+◌, ◌<◌, ◌≤◌, nat_le, Bool, List, length, Option, Some, None, Result, Ok, Err, IfSome, ⊤}
 use Rattle.std.specs.List.{count_by}
 use Rattle.zorder.specs.declared.points.Point.{Point}
 use Rattle.zorder.specs.declared.points.Placed.{Placed}
@@ -18,6 +18,8 @@ use Rattle.range_query.specs.Cut.{is_met}
 use Rattle.knn_query.specs.Ahead.{least_to, reach_of}
 use Rattle.book_lock.specs.Pass.{Known}
 use Rattle.sessions.specs.Shared.{start_of}
+use Rattle.sessions.specs.declared.faults.CallFault.{CallFault}
+use Rattle.sessions.specs.declared.faults.CallFault.TheVariants.{Closed, Disk, HistoryFull, LogFull, Memory}
 
 -- the leaves at the end of the history that a pass has seen
 abbrev pub leaves_seen : ℕ → Known → List (List Bool)
@@ -65,6 +67,15 @@ Opens (Remove id) names places listed before now = now ≡ before
 Opens (Find id) names places listed before now = now ≡ before
 Opens (Within region) names places listed before now = OpensBox region names listed before now
 Opens (Near at k) names places listed before now = OpensNearest at k names places listed before now
+
+-- a call that was refused opens nothing, unless it is a query whose entry stands and that ran out of memory behind it
+abbrev pub OpensRefused : CallFault → ℕ → ℕ → Type 0
+OpensRefused (Closed cell) before now = now ≡ before
+OpensRefused (Disk cell) before now = now ≡ before
+OpensRefused HistoryFull before now = now ≡ before
+OpensRefused LogFull before now = now ≡ before
+OpensRefused (Memory None) before now = now ≡ before
+OpensRefused (Memory (Some place)) before now = ⊤
 
 -- the same, of the places that the leaves of an index stand for
 abbrev pub OpensOf : List Leaf → Op → Option (List Placed) → ℕ → ℕ → Type 0

@@ -1,5 +1,6 @@
 -- A book behind a lock: what holds of it, and what it began from.
 use Rattle.std.specs.Prelude.{◌≡◌, ℕ, Bool, List, [], Option, Some, None, Result, Ok, Err}
+use Rattle.std.specs.Option.{option_map}
 use Rattle.plain_list.specs.World.{IsWorld}
 use Rattle.plain_list.specs.State.{State, state_after}
 use Rattle.plain_list.specs.Size.{full_leaf}
@@ -10,6 +11,7 @@ use Rattle.commit_book.specs.BookView.{BookView}
 use Rattle.commit_book.specs.Refusals.{closed_refusal}
 use Rattle.commit_book.specs.declared.faults.BookFault.{BookFault}
 use Rattle.book_lock.specs.declared.origin.Origin.{Origin}
+use Rattle.book_lock.specs.declared.origin.LogStart.{LogStart}
 
 -- its objects are a world
 pub record HasWorld {D : Type 0} (b : BookView D) : Type 0 where
@@ -25,22 +27,9 @@ pub record IsShared {D : Type 0} (drive : D → Drive) (unlogged : Type 0) (Is :
   pub has : HasWorld b
   pub start : StartsAs drive unlogged Is b.log
 
--- the number of cells of its log at the opening, and of that drive the bytes, the moment and the count of faults
-abbrev pub first_in : {D : Type 0} → Option (KeptView D) → ℕ
-first_in None = 0
-first_in (Some log) = log.first
-
-abbrev pub bytes_in : {D : Type 0} → (D → Drive) → Option (KeptView D) → Option (List ℕ)
-bytes_in drive None = None
-bytes_in drive (Some log) = (drive log.start).bytes
-
-abbrev pub moment_in : {D : Type 0} → (D → Drive) → Option (KeptView D) → ℕ
-moment_in drive None = 0
-moment_in drive (Some log) = (drive log.start).clock
-
-abbrev pub faults_in : {D : Type 0} → (D → Drive) → Option (KeptView D) → ℕ
-faults_in drive None = 0
-faults_in drive (Some log) = (drive log.start).faults
+-- a log as it was opened: its number of cells, and of its drive the bytes, the clock and the count of faults
+abbrev pub start_in : {D : Type 0} → (D → Drive) → KeptView D → LogStart
+start_in drive log = record { cells = log.first; bytes = (drive log.start).bytes; clock = (drive log.start).clock; faults = (drive log.start).faults }
 
 -- what a book began from
 abbrev pub origin_of : {D : Type 0} → (D → Drive) → BookView D → Origin
@@ -48,16 +37,17 @@ origin_of drive b = record {
   world = b.opening.world;
   leaves = b.opening.leaves;
   begun = b.opening.begun;
-  cells = first_in b.log;
-  bytes = bytes_in drive b.log;
-  moment = moment_in drive b.log;
-  faults = faults_in drive b.log;
+  log = option_map (start_in drive) b.log;
   bucket = b.bucket;
 }
 
 -- the state at which a value of this origin began
 abbrev pub start_of : Origin → State
 start_of o = record { world = o.world; leaves = o.leaves; splits = []; begun = o.begun }
+
+-- how many cells its log had, where there is one
+abbrev pub first_cells : Origin → Option ℕ
+first_cells o = option_map (λ (log : LogStart). log.cells) o.log
 
 -- the leaf that a book tells to be split next, where it isn't closed
 abbrev pub TellsFull : {D : Type 0} → ℕ → BookView D → Result (Option (List Bool)) BookFault → Type 0

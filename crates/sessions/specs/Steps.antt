@@ -4,14 +4,17 @@ use mathlib.Core.List.{IsPrefix}
 use Rattle.plain_list.specs.declared.entries.Entry.{Entry}
 use Rattle.plain_list.specs.declared.entries.Entry.TheVariants.{Fail}
 use Rattle.plain_list.specs.declared.entries.Lost.{Lost}
-use Rattle.log_state.specs.Changes.{cells_of}
-use Rattle.commit_book.specs.IsBook.{most_events}
+use Rattle.disk_trait.specs.Drive.{Drive}
+use Rattle.kept_log.specs.Counts.{cells_after}
+use Rattle.commit_book.specs.BookView.{BookView}
 use Rattle.commit_book.specs.Refusals.{IsRefusedBy}
 use Rattle.commit_book.specs.declared.faults.BookFault.{BookFault}
 use Rattle.commit_book.specs.declared.faults.BookFault.TheVariants.{Closed, Disk, HistoryFull, LogFull, Memory, Room, Splitting, Deep, NoLeaf, Stale, NotOpen}
 use Rattle.book_lock.specs.Pass.{Known}
-use Rattle.book_lock.specs.Ends.{MayNote}
+use Rattle.book_lock.specs.Own.{IsBelow}
+use Rattle.book_lock.specs.Ends.{MayNote, OwnsEnds}
 use Rattle.book_lock.specs.declared.origin.Origin.{Origin}
+use Rattle.sessions.specs.Shared.{first_cells, origin_of}
 
 -- the parts of a lock: nobody else can add to the history while a pass has all of them
 abbrev pub all_parts : ℕ
@@ -25,13 +28,9 @@ has_seen old before = record old { seen = before }
 abbrev pub has_added : Known → List Entry → Entry → Known
 has_added old before e = record old { seen = before ++ e ∷ []; own = old.own ++ length before ∷ [] }
 
--- how many cells a log of this origin has after a history
-abbrev pub cells_after : Origin → List Entry → ℕ
-cells_after origin before = origin.cells + length (cells_of origin.world before)
-
--- the number of cells there, which is 0 where there is no log; then the history is too short for a limit of cells to be met
-abbrev pub AreCells : Origin → List Entry → ℕ → Type 0
-AreCells origin before cells = (cells ≡ cells_after origin before) ⊎ ((cells ≡ 0) × (origin.cells ≡ 0) × (cells_after origin before ≤ most_events))
+-- how many cells the log of a store of this origin has after a history
+abbrev pub cells_at : Origin → List Entry → ℕ
+cells_at origin before = cells_after (first_cells origin) origin.world before
 
 -- what a step leaves: the entry that it adds, where it adds one, is the last that was seen, and own
 abbrev pub Leaves : {A : Type 0} → (A → Entry) → (List Entry → Lost) → Known → List Entry → Known → Result A BookFault → Type 0
@@ -53,16 +52,25 @@ abbrev pub Says : {A : Type 0} → (A → Type 0) → Result A BookFault → Typ
 Says P (Ok value) = P value
 Says P (Err fault) = Unit {0}
 
--- A step under the lock: the history that was seen there, the cause for which the step is refused there, and what it leaves.
+-- A step under the lock: the history that was seen there, the cause for which the step is refused at so many cells, and what it leaves.
 pub record IsStep {A : Type 0} (IsFree : BookFault → Type 0) (cause : ℕ → List Entry → Option BookFault) (entry : A → Entry) (lost : List Entry → Lost) (P : List Entry → A → Type 0) (old new : Known) (result : Result A BookFault) : Type 0 where
   pub before : List Entry
   pub later : IsPrefix old.seen before
   pub alone : old.parts ≡ all_parts → before ≡ old.seen
-  pub cells : ℕ
-  pub are_cells : AreCells old.origin before cells
-  pub refused : IsRefusedBy IsFree (cause cells before) result
+  pub refused : IsRefusedBy IsFree (cause (cells_at old.origin before) before) result
   pub says : Says (P before) result
   pub leaves : Leaves entry lost old before new result
+
+-- A book was taken from the lock: its entries are all that the pass has seen then, which owns the ends of the splits that it alone began.
+pub record WasTaken {D : Type 0} (drive : D → Drive) (b : BookView D) (old took : Known) : Type 0 where
+  pub entries : b.entries ≡ took.seen
+  pub origin : origin_of drive b ≡ old.origin
+  pub later : IsPrefix old.seen took.seen
+  pub took_is : took ≡ record old { seen = took.seen; holds = true }
+  pub off : old.holds ≡ false
+  pub alone : old.parts ≡ all_parts → took.seen ≡ old.seen
+  pub ends : OwnsEnds took.seen took.own
+  pub below : IsBelow (length took.seen) took.own
 
 -- whether a step has added an entry: where it was done, or its append failed
 abbrev pub has_entry : {A : Type 0} → Result A BookFault → Bool

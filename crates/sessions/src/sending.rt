@@ -1,7 +1,7 @@
-//! A store may be shared by threads, and a pass sent between them, where the index and the drive may be sent.
+//! A store may be shared by threads, and a pass or a lane sent between them, where the index and the drive may be sent.
 use crate::shared::SharedBook;
 use crate::start::Start;
-use crate::store::Store;
+use crate::store::{Lane, Store};
 use book_lock::Pass;
 use disk_trait::LogDisk;
 use index_layer::Index;
@@ -16,6 +16,10 @@ fn book_may_be_sent<I: Index + Send, D: LogDisk + Send, O: Start + Send>() {
 
 fn pass_may_be_sent<I: Index + Send, D: LogDisk + Send, O: Start + Send>() {
     sent::<Pass<SharedBook<I, D, O>>>();
+}
+
+fn lane_may_be_sent<I: Index + Send, D: LogDisk + Send, O: Start + Send>() {
+    sent::<Lane<I, D, O>>();
 }
 
 fn store_may_be_sent<I: Index + Send, D: LogDisk + Send, O: Start + Send>() {

@@ -2,7 +2,7 @@
 ghost use Rattle.std.specs.Prelude.{◌≡◌, [], true, false, IfOk, IfErr};
 ghost use Rattle.plain_list.specs.World.{IsWorld};
 ghost use Rattle.sessions.specs.Shared.{origin_of, StartsAs};
-ghost use Rattle.sessions.specs.Steps.{MayGive, has_given};
+ghost use Rattle.sessions.specs.Steps.{MayGive, WasTaken, has_entry, has_given};
 
 mod calls;
 mod lanes;
@@ -10,15 +10,17 @@ mod passes;
 mod settling;
 mod splits;
 
+use crate::faults::has_entry;
 use crate::shared::SharedBook;
 use crate::start::Start;
 use book_lock::{BookLock, Pass};
-use commit_book::Book;
+use commit_book::{Book, BookFault};
 use disk_trait::LogDisk;
 use index_layer::Index;
 pub use lanes::{KeptRow, Lane};
 use std::alloc::Global;
 use std::marker::Model;
+use std::sync::Wait;
 
 /// A book for many threads.
 pub struct Store<I: Index, D: LogDisk, O: Start> {
@@ -52,8 +54,34 @@ impl<I: Index, D: LogDisk, O: Start> Store<I, D, O> {
         }
     }
 
-    // Gives a book back that was taken. Where a step has added an entry, that is the next of the history.
-    fn give(&self, pass: &mut Pass<SharedBook<I, D, O>>, book: SharedBook<I, D, O>, grown: bool)
+    // Takes the book.
+    fn take<R: Wait>(&self, rt: &R, pass: &mut Pass<SharedBook<I, D, O>>) -> SharedBook<I, D, O>
+        requires lock { pass.old.lock ≡ self.now }
+        requires off { pass.old.holds ≡ false }
+        ensures { WasTaken D.drive result pass.old pass.new }
+    {
+        self.lock.take(rt, pass)
+    }
+
+    // Gives a book back that was taken. Where the step that was answered so has added an entry, that is the next of the history.
+    fn give<T>(
+        &self,
+        pass: &mut Pass<SharedBook<I, D, O>>,
+        book: SharedBook<I, D, O>,
+        answer: &Result<T, BookFault>,
+    )
+        requires lock { pass.old.lock ≡ self.now }
+        requires on { pass.old.holds ≡ true }
+        requires origin { origin_of D.drive book ≡ pass.old.origin }
+        requires entries { MayGive pass.old (has_entry answer.now) book.entries }
+        ensures { pass.new ≡ has_given pass.old (has_entry answer.now) book.entries }
+    {
+        let grown = has_entry(answer);
+        self.put_back(pass, book, grown);
+    }
+
+    // The same, with an entry more or as it was.
+    fn put_back(&self, pass: &mut Pass<SharedBook<I, D, O>>, book: SharedBook<I, D, O>, grown: bool)
         requires lock { pass.old.lock ≡ self.now }
         requires on { pass.old.holds ≡ true }
         requires origin { origin_of D.drive book ≡ pass.old.origin }

@@ -11,12 +11,13 @@ use Rattle.index_layer.specs.Stands.{Stands}
 use Rattle.csv_rows.specs.declared.rows.InRow.{InRow}
 use Rattle.commit_book.specs.BookView.{BookView}
 use Rattle.book_lock.specs.declared.origin.Origin.{Origin}
-use Rattle.sessions.specs.Shared.{first_in, start_of}
+use Rattle.kept_log.specs.Counts.{first_in}
+use Rattle.sessions.specs.Shared.{first_cells, start_of}
 use Rattle.sessions.specs.declared.store.lanes.KeptRow.{KeptRow}
 use Rattle.lane_history.specs.SessionRows.{session_rows}
 use Rattle.lane_history.specs.Kept.{AreRight}
 use Rattle.lane_history.specs.LostSteps.{IsNextStep, LosesStep}
-use Rattle.lane_splits.specs.Settled.{IsSettled, first_cells}
+use Rattle.lane_splits.specs.Settled.{SplitsAreDone, IsWithinLimits}
 use Rattle.csv_rows.specs.declared.rows.Refusal.TheVariants as refusal
 use Rattle.io_edge.specs.Streams.{Output}
 use Rattle.play_run.specs.declared.reports.Report.{Report}
@@ -24,7 +25,6 @@ use Rattle.play_run.specs.Lines.{text_of}
 use Rattle.run_ends.specs.Taking.{Refuses}
 use Rattle.run_ends.specs.Ending.{EndsWriting}
 use Rattle.play_run.specs.declared.lanes.LaneEnd.{LaneEnd}
-use Rattle.play_run.specs.inside.Books.{count_in}
 
 -- what the first lane of a session kept
 abbrev pub kept_of : ℕ → List LaneEnd → List KeptRow
@@ -53,12 +53,13 @@ HasAnswers world h rows ends = (s : ℕ) → AreAnswers world h (session_rows ro
 pub record ArePlayed (w : ℕ) (origin : Origin) (rows : List InRow) (h : List Entry) : Type 0 where
   pub played : IsPlayed (session_rows rows) h
   pub loses : (cell : ℕ) → failed_cell h ≡ Some cell → LosesStep (IsNextStep w (start_of origin) rows) h cell
+  pub limits : IsWithinLimits w origin.bucket (start_of origin) (first_cells origin) rows h
 
 -- each row was answered, and the splits at the end were settled
 pub record AreAnswered (w : ℕ) (origin : Origin) (rows : List InRow) (h : List Entry) (ends : List LaneEnd) : Type 0 where
   pub whole : IsPlayedWhole (session_rows rows) h
   pub answers : HasAnswers origin.world h rows ends
-  pub settled : (first : Option ℕ) → first_cells first ≡ origin.cells → failed_cell h ≡ None → IsSettled w origin.bucket (start_of origin) first h
+  pub settled : failed_cell h ≡ None → SplitsAreDone w origin.bucket (start_of origin) (first_cells origin) h
 
 -- rows were played over a book
 pub record IsPlayedBook {D : Type 0} (w : ℕ) (rows : List InRow) (old new : BookView D) : Type 0 where
@@ -66,12 +67,13 @@ pub record IsPlayedBook {D : Type 0} (w : ℕ) (rows : List InRow) (old new : Bo
   pub first : first_in new.log ≡ first_in old.log
   pub played : IsPlayed (session_rows rows) new.entries
   pub loses : (cell : ℕ) → failed_cell new.entries ≡ Some cell → LosesStep (IsNextStep w old.opening rows) new.entries cell
+  pub limits : IsWithinLimits w old.bucket old.opening (first_in old.log) rows new.entries
 
 -- each row was answered, and the splits at the end were settled
 pub record IsAnsweredBook {D : Type 0} (w : ℕ) (rows : List InRow) (old new : BookView D) (ends : List LaneEnd) : Type 0 where
   pub whole : IsPlayedWhole (session_rows rows) new.entries
   pub answers : HasAnswers old.opening.world new.entries rows ends
-  pub settled : failed_cell new.entries ≡ None → IsSettled w old.bucket old.opening (count_in old.log) new.entries
+  pub settled : failed_cell new.entries ≡ None → SplitsAreDone w old.bucket old.opening (first_in old.log) new.entries
 
 -- leaves stand for these objects
 pub record HasObjects (leaves : List Leaf) (world : List Placed) : Type 0 where

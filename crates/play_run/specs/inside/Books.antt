@@ -10,7 +10,8 @@ use Rattle.recovery.specs.Faults.{IsFault, IsInBytes}
 use Rattle.kept_log.specs.KeptView.{KeptView}
 use Rattle.kept_log.specs.Journal.{cells_in, disk_in, KeepsIn}
 use Rattle.commit_book.specs.BookView.{BookView}
-use Rattle.sessions.specs.Shared.{first_in, StartsAs}
+use Rattle.kept_log.specs.Counts.{first_in}
+use Rattle.sessions.specs.Shared.{StartsAs}
 use Rattle.csv_rows.specs.declared.rows.Refusal.{Refusal}
 use Rattle.csv_rows.specs.declared.rows.Refusal.TheVariants as refusal
 use Rattle.run_ends.specs.Limits.{width, most_played}
@@ -56,10 +57,6 @@ pub record LeavesLog {D : Type 0} (drive : D → Drive) (s : State) (h : List En
   pub keeps : KeepsIn drive width s h log
   pub disk_is : disk ≡ disk_in log
 
--- how many cells a book's log has, where there is one
-abbrev pub count_in : {D : Type 0} → Option (KeptView D) → Option ℕ
-count_in {D = D} log = option_map (λ (l : KeptView D). l.cells) log
-
 -- a book over the log that stood on a drive, whose bytes show no fault
 pub record OpensBook {D : Type 0} (drive : D → Drive) (file : List ℕ) (old : Drive) (size : ℕ) (b : BookView D) : Type 0 where
   pub bucket : b.bucket ≡ size
@@ -68,8 +65,7 @@ pub record OpensBook {D : Type 0} (drive : D → Drive) (file : List ℕ) (old :
   pub from : Origin
   pub found : IsFoundOrigin old from
   pub state : b.opening ≡ from.state
-  pub count : count_in b.log ≡ option_map length from.first
-  pub first : log.first ≡ log.cells
+  pub count : first_in b.log ≡ option_map length from.first
   pub stays : Stays old (drive log.start)
   pub calm : (drive log.start).faults ≡ old.faults
   pub attached : AttachedOne file false old (drive log.start)

@@ -2,21 +2,22 @@
 use Rattle.std.specs.Prelude.{ℕ, List, Option}
 use Rattle.disk_trait.specs.Drive.{Drive}
 use Rattle.plain_list.specs.declared.entries.Entry.{Entry}
+use Rattle.kept_log.specs.Counts.{first_in}
 use Rattle.commit_book.specs.BookView.{BookView}
 use Rattle.csv_rows.specs.declared.rows.InRow.{InRow}
 use Rattle.io_edge.specs.Streams.{Output}
 use Rattle.lane_history.specs.LostSteps.{IsNextStep}
-use Rattle.lane_splits.specs.Settled.{IsSettled}
+use Rattle.lane_splits.specs.Settled.{SplitsAreDone}
 use Rattle.play_run.specs.declared.reports.Report.{Report}
 use Rattle.run_ends.specs.Limits.{width}
 use Rattle.run_ends.specs.Status.{WritesLines}
 use Rattle.play_run.specs.Answers.{AnswersAsOneList}
 use Rattle.play_run.specs.Playing.{EndsRows}
-use Rattle.play_run.specs.inside.Books.{StopsBook, LeavesLog, count_in}
+use Rattle.play_run.specs.inside.Books.{StopsBook, LeavesLog}
 
 -- the history that rows leave over a book, the text or the refusal that tells of it, and the drive of the log where there is one
 pub record EndsBook {D : Type 0} (drive : D → Drive) (report : Report) (rows : List InRow) (b : BookView D) (h : List Entry) (status : ℕ) (disk : Option D) (old new : Output) : Type 0 where
   pub one_list : AnswersAsOneList report width b.opening rows h status old new
   pub ends : EndsRows (StopsBook (IsNextStep width b.opening rows) h) status old new
-  pub splits : WritesLines status → IsSettled width b.bucket b.opening (count_in b.log) h
+  pub splits : WritesLines status → SplitsAreDone width b.bucket b.opening (first_in b.log) h
   pub log : LeavesLog drive b.opening h b.log disk

@@ -48,7 +48,7 @@ pub record HasRun (I D O P : Type 0) (w : ℕ) (origin : Origin) (rows : List In
   pub played : HaveAllPlayed w origin rows (sessions_to 16 rows) lanes
   pub pass : Known
   pub joined : TakesIn origin lanes pass
-  pub goes_on : GoesOn w pass last
+  pub goes_on : GoesOn w lanes pass last
   pub ends_are : ends ≡ ends_of lanes
   pub is_done : IsDone w lanes pass last done
 

@@ -1,13 +1,13 @@
 //! Calls: changes and finds under the lock, queries from a snapshot outside it.
-ghost use Rattle.std.specs.Prelude.{◌≡◌, false};
+ghost use Rattle.std.specs.Prelude.{◌≡◌, false, IfErr};
 ghost use Rattle.plain_list.specs.Answer.{IsValid};
 ghost use Rattle.commit_book.specs.Answers.{IsUpdate, IsQuery};
 ghost use Rattle.sessions.specs.Calls.{Updates, Looks, Called};
-ghost use Rattle.sessions.specs.Opens.{leaves_seen, places_seen, listed_by, Opens};
+ghost use Rattle.sessions.specs.Opens.{leaves_seen, places_seen, listed_by, Opens, OpensRefused};
 ghost use Rattle.sessions.specs.Splits.{SamePass};
 
 use super::Store;
-use crate::faults::{CallFault, call_fault, has_entry};
+use crate::faults::{CallFault, call_fault};
 use crate::queries::ask;
 use crate::shared::SharedBook;
 use crate::start::Start;
@@ -22,25 +22,30 @@ use std::sync::Wait;
 use std::sync::ledger::Ledger;
 use step_count::Steps;
 
+// Whose call it is: the session, the number of its row, and what the row asks.
+#[derive(Drop)]
+struct Request {
+    session: u8,
+    row: u32,
+    op: Op,
+}
+
 impl<I: Index, D: LogDisk, O: Start> Store<I, D, O> {
     // Answers a change or a find under the lock.
     fn update<R: Wait>(
         &self,
         rt: &R,
         pass: &mut Pass<SharedBook<I, D, O>>,
-        session: u8,
-        row: u32,
-        op: &Op,
+        request: &Request,
     ) -> Result<Done, BookFault>
         requires lock { pass.old.lock ≡ self.now }
         requires off { pass.old.holds ≡ false }
-        requires update { IsUpdate op.now }
-        ensures { Updates I.WIDTH session row op.now pass.old pass.new result }
+        requires update { IsUpdate request.now.op }
+        ensures { Updates I.WIDTH request.now.session request.now.row request.now.op pass.old pass.new result }
     {
-        let mut book = self.lock.take(rt, pass);
-        let answer = book.update(session, row, op);
-        let grown = has_entry(&answer);
-        self.give(pass, book, grown);
+        let mut book = self.take(rt, pass);
+        let answer = book.update(request.session, request.row, &request.op);
+        self.give(pass, book, &answer);
         answer
     }
 
@@ -49,19 +54,16 @@ impl<I: Index, D: LogDisk, O: Start> Store<I, D, O> {
         &self,
         rt: &R,
         pass: &mut Pass<SharedBook<I, D, O>>,
-        session: u8,
-        row: u32,
-        op: &Op,
+        request: &Request,
     ) -> Result<Snapshot<I>, BookFault>
         requires lock { pass.old.lock ≡ self.now }
         requires off { pass.old.holds ≡ false }
-        requires query { IsQuery op.now }
-        ensures { Looks I.leaves I.WIDTH session row op.now pass.old pass.new result }
+        requires query { IsQuery request.now.op }
+        ensures { Looks I.leaves I.WIDTH request.now.session request.now.row request.now.op pass.old pass.new result }
     {
-        let mut book = self.lock.take(rt, pass);
-        let answer = book.snapshot(session, row, op);
-        let grown = has_entry(&answer);
-        self.give(pass, book, grown);
+        let mut book = self.take(rt, pass);
+        let answer = book.snapshot(request.session, request.row, &request.op);
+        self.give(pass, book, &answer);
         answer
     }
 
@@ -71,26 +73,25 @@ impl<I: Index, D: LogDisk, O: Start> Store<I, D, O> {
         rt: &R,
         alloc: Global,
         pass: &mut Pass<SharedBook<I, D, O>>,
-        session: u8,
-        row: u32,
-        op: &Op,
+        request: &Request,
         gate: &G,
         steps: &mut Steps<L>,
     ) -> Result<Done, CallFault>
         requires lock { pass.old.lock ≡ self.now }
         requires off { pass.old.holds ≡ false }
-        requires query { IsQuery op.now }
-        requires valid { IsValid op.now }
-        ensures called { Called I.WIDTH session row op.now pass.old pass.new result }
-        ensures opened { Opens op.now (leaves_seen I.WIDTH pass.new) (places_seen pass.new) (listed_by (λ done. done.answer) result) steps.old steps.new }
+        requires query { IsQuery request.now.op }
+        requires valid { IsValid request.now.op }
+        ensures called { Called I.WIDTH request.now.session request.now.row request.now.op pass.old pass.new result }
+        ensures opened { Opens request.now.op (leaves_seen I.WIDTH pass.new) (places_seen pass.new) (listed_by (λ done. done.answer) result) steps.old steps.new }
+        ensures refused { IfErr result (λ fault. OpensRefused fault steps.old steps.new) }
     {
-        let shown = match self.look(rt, pass, session, row, op) {
+        let shown = match self.look(rt, pass, request) {
             Ok(shown) => shown,
             Err(fault) => return Err(call_fault(fault)),
         };
-        gate.reach(GatePoint::Taken, session);
+        gate.reach(GatePoint::Taken, request.session);
         let place = shown.place;
-        match ask(alloc, &shown.index, op, steps) {
+        match ask(alloc, &shown.index, &request.op, steps) {
             Ok(answer) => Ok(Done {
                 place,
                 answer,
@@ -106,22 +107,21 @@ impl<I: Index, D: LogDisk, O: Start> Store<I, D, O> {
         rt: &R,
         alloc: Global,
         pass: &mut Pass<SharedBook<I, D, O>>,
-        session: u8,
-        row: u32,
-        op: &Op,
+        request: &Request,
         gate: &G,
         steps: &mut Steps<L>,
     ) -> Result<Done, CallFault>
         requires lock { pass.old.lock ≡ self.now }
         requires off { pass.old.holds ≡ false }
-        requires valid { IsValid op.now }
-        ensures called { Called I.WIDTH session row op.now pass.old pass.new result }
-        ensures opened { Opens op.now (leaves_seen I.WIDTH pass.new) (places_seen pass.new) (listed_by (λ done. done.answer) result) steps.old steps.new }
+        requires valid { IsValid request.now.op }
+        ensures called { Called I.WIDTH request.now.session request.now.row request.now.op pass.old pass.new result }
+        ensures opened { Opens request.now.op (leaves_seen I.WIDTH pass.new) (places_seen pass.new) (listed_by (λ done. done.answer) result) steps.old steps.new }
+        ensures refused { IfErr result (λ fault. OpensRefused fault steps.old steps.new) }
     {
-        match *op {
-            Op::Within { .. } => self.query(rt, alloc, pass, session, row, op, gate, steps),
-            Op::Near { .. } => self.query(rt, alloc, pass, session, row, op, gate, steps),
-            _ => self.update(rt, pass, session, row, op).map_err(call_fault),
+        match request.op {
+            Op::Within { .. } => self.query(rt, alloc, pass, request, gate, steps),
+            Op::Near { .. } => self.query(rt, alloc, pass, request, gate, steps),
+            _ => self.update(rt, pass, request).map_err(call_fault),
         }
     }
 
@@ -143,10 +143,16 @@ impl<I: Index, D: LogDisk, O: Start> Store<I, D, O> {
         requires valid { IsValid op.now }
         ensures called { Called I.WIDTH session row op.now pass.old pass.new result }
         ensures opened { Opens op.now (leaves_seen I.WIDTH pass.new) (places_seen pass.new) (listed_by (λ done. done.answer) result) steps.old steps.new }
+        ensures refused { IfErr result (λ fault. OpensRefused fault steps.old steps.new) }
         ensures pass { SamePass pass.old pass.new }
     {
         pass.will_read(is_read(op));
-        let answer = self.answer(rt, alloc, pass, session, row, op, gate, steps);
+        let request = Request {
+            session,
+            row,
+            op: *op,
+        };
+        let answer = self.answer(rt, alloc, pass, &request, gate, steps);
         gate.reach(GatePoint::Answered, session);
         answer
     }

@@ -6,7 +6,7 @@ ghost use Rattle.commit_book.specs.SplitSteps.{CanPrepare};
 ghost use Rattle.sessions.specs.Splits.{number_of, HasBegun, BeginsSplit, InstallsSplit, AbandonsSplit, GivesUp, BegunEnds, IsNotSplit, SplitEnds, SamePass};
 
 use super::Store;
-use crate::faults::{Split, has_entry, lasting};
+use crate::faults::{Split, lasting};
 use crate::shared::SharedBook;
 use crate::start::Start;
 use book_lock::Pass;
@@ -34,10 +34,9 @@ impl<I: Index, D: LogDisk, O: Start> Store<I, D, O> {
         ensures name { IfOk result (λ t. t.name ≡ name.now) }
         ensures ticket { IfOk result (λ t. CanPrepare I.WIDTH t) }
     {
-        let mut book = self.lock.take(rt, pass);
+        let mut book = self.take(rt, pass);
         let answer = book.begin(name);
-        let grown = has_entry(&answer);
-        self.give(pass, book, grown);
+        self.give(pass, book, &answer);
         answer
     }
 
@@ -54,10 +53,9 @@ impl<I: Index, D: LogDisk, O: Start> Store<I, D, O> {
         requires begun { HasBegun pass.old prepared.now.number prepared.now.name prepared.now.base }
         ensures { InstallsSplit I.WIDTH prepared.now.number pass.old pass.new result }
     {
-        let mut book = self.lock.take(rt, pass);
+        let mut book = self.take(rt, pass);
         let answer = book.install(prepared);
-        let grown = has_entry(&answer);
-        self.give(pass, book, grown);
+        self.give(pass, book, &answer);
         answer
     }
 
@@ -73,10 +71,9 @@ impl<I: Index, D: LogDisk, O: Start> Store<I, D, O> {
         requires begun { (name : List Bool) × (base : List Row) × HasBegun pass.old number name base }
         ensures { AbandonsSplit I.WIDTH number pass.old pass.new result }
     {
-        let mut book = self.lock.take(rt, pass);
+        let mut book = self.take(rt, pass);
         let answer = book.abandon(number);
-        let grown = has_entry(&answer);
-        self.give(pass, book, grown);
+        self.give(pass, book, &answer);
         answer
     }
 
@@ -153,6 +150,7 @@ impl<I: Index, D: LogDisk, O: Start> Store<I, D, O> {
         ensures ends { SplitEnds I.WIDTH name.now pass.old pass.new result }
         ensures pass { SamePass pass.old pass.new }
     {
+        pass.will_read(false);
         let ticket = match self.begin(rt, pass, name) {
             Ok(ticket) => ticket,
             Err(fault) => return Split::NotSplit(fault),

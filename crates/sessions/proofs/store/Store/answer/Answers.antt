@@ -8,7 +8,7 @@ use Rattle.plain_list.specs.declared.ops.Op.{Op}
 use Rattle.plain_list.specs.declared.ops.Op.TheVariants.{Put, Move, Remove, Find, Within, Near}
 use Rattle.commit_book.specs.Answers.{IsUpdate, IsQuery}
 use Rattle.sessions.proofs.CallLemmas.{change-answers, change-fault}
-use Rattle.sessions.proofs.OpenLemmas.{opens-still}
+use Rattle.sessions.proofs.OpenLemmas.{opens-still, result-still}
 use Rattle.sessions.proofs.store.Store.answer.Goals as goal
 
 -- what isn't a query is a change or a find
@@ -27,14 +27,15 @@ pub returns-in-Near : goal.returns-in-Near
 returns-in-Near g c = c.query-in-Near.ensures
 
 pub update-requires-clause-update : goal.update-requires-clause-update
-update-requires-clause-update g c = updates c.args.op.now c.in_default.not-Within c.in_default.not-Near
+update-requires-clause-update g c = updates c.args.request.now.op c.in_default.not-Within c.in_default.not-Near
 
 pub returns-in_default : goal.returns-in_default
 returns-in_default g c =
-    let is = updates c.args.op.now c.in_default.not-Within c.in_default.not-Near in
+    let is = updates c.args.request.now.op c.in_default.not-Within c.in_default.not-Near in
     record {
-      called = change-answers g.I.Index.WIDTH c.args.session c.args.row c.args.op.now c.args.pass.now c.update.new.pass c.update.result c.map_err.result is c.update.ensures c.map_err.ensures.cases;
-      opened = opens-still c.args.op.now _ _ _ c.args.steps.now is;
+      called = change-answers g.I.Index.WIDTH c.args.request.now.session c.args.request.now.row c.args.request.now.op c.args.pass.now c.update.new.pass c.update.result c.map_err.result is c.update.ensures c.map_err.ensures.cases;
+      opened = opens-still c.args.request.now.op _ _ _ c.args.steps.now is;
+      refused = result-still c.map_err.result c.args.steps.now;
     }
 
 pub query-requires-clause-query : goal.query-requires-clause-query
@@ -45,5 +46,5 @@ query-requires-in-Near-clause-query g c = subst IsQuery (sym c.in-Near.is) tt
 
 pub map_err-requires : goal.map_err-requires
 map_err-requires g c = λ fault is.
-    change-fault g.I.Index.WIDTH c.args.session c.args.row c.args.op.now c.args.pass.now c.update.new.pass fault
-    (subst (λ (r : Result Done BookFault). Updates g.I.Index.WIDTH c.args.session c.args.row c.args.op.now c.args.pass.now c.update.new.pass r) is c.update.ensures)
+    change-fault g.I.Index.WIDTH c.args.request.now.session c.args.request.now.row c.args.request.now.op c.args.pass.now c.update.new.pass fault
+    (subst (λ (r : Result Done BookFault). Updates g.I.Index.WIDTH c.args.request.now.session c.args.request.now.row c.args.request.now.op c.args.pass.now c.update.new.pass r) is c.update.ensures)

@@ -1,18 +1,17 @@
-use Rattle.std.proofs.Common.{ℕ, sym, ◌+◌, ◌∙◌, ◌≡◌}
+use Rattle.std.proofs.Common.{ℕ, Bool, ◌+◌, subst}
 use Rattle.plain_list.specs.declared.entries.Entry.TheVariants.{Begin}
 use Rattle.plain_list.specs.declared.entries.Lost.TheVariants as lost
 use Rattle.commit_book.specs.Refusals.{IsMemoryOrDisk}
 use Rattle.kept_log.specs.Journal.{cells_in}
 use Rattle.book_lock.specs.Ends.{MayNote}
-use Rattle.sessions.specs.Steps.{has_entry}
+use Rattle.sessions.specs.Steps.{MayGive}
 use Rattle.sessions.specs.Splits.{begin_cause, number_of, state_of}
-use Rattle.sessions.proofs.StepLemmas.{WasTaken, may-give, may-as, given-as, says-all, begin-may}
+use Rattle.sessions.proofs.StepLemmas.{may-give, says-all, begin-may}
 use Rattle.sessions.proofs.SplitLemmas.{begun-step, begun, begun-notes, begun-name, number-entry}
 use Rattle.sessions.proofs.store.Store.begin.Goals as goal
 
 pub give-requires-clause-entries : goal.give-requires-clause-entries
 give-requires-clause-entries g c =
-    let take = c.take-book.ensures in
     let begin = c.begin-answer.ensures in
     let b = c.take-book.result in
     let old = c.args.pass.now in
@@ -20,32 +19,29 @@ give-requires-clause-entries g c =
     let mid = c.begin-answer.new.self in
     let name = c.args.name.now in
     let r = c.begin-answer.result in
-    let was : WasTaken g.D.LogDisk.drive b old took = record { entries = take.value.0; origin = take.value.1; later = take.later; took_is = take.pass; off = c.requires.off; alone = take.alone } in
-    let grown : c.has_entry-grown.result ≡ has_entry (number_of r) = c.has_entry-grown.ensures ∙ sym (number-entry r) in
-    may-as took mid.entries c.has_entry-grown.result (has_entry (number_of r)) grown
-    (may-give g.D.LogDisk.drive IsMemoryOrDisk (begin_cause g.I.Index.WIDTH old.origin name (cells_in b.log) b.entries) (λ (number : ℕ). Begin number name) (lost.Begin ((state_of g.I.Index.WIDTH old.origin b.entries).begun + 1) name) b mid took take.value.0
+    let was = c.take-book.ensures in
+    subst (λ (b : Bool). MayGive took b mid.entries) (number-entry r)
+    (may-give g.D.LogDisk.drive IsMemoryOrDisk (begin_cause g.I.Index.WIDTH old.origin name (cells_in b.log) b.entries) (λ (number : ℕ). Begin number name) (lost.Begin ((state_of g.I.Index.WIDTH old.origin b.entries).begun + 1) name) b mid took was.entries
     (number_of r) (begun-step g.D.LogDisk.drive g.I.Index.WIDTH b mid old took took name was begin.book r begin.ok begin.refused begin.err)
     (says-all (λ (number : ℕ). MayNote took.seen took.own (Begin number name)) (λ (number : ℕ). begin-may number name took.seen took.own) (number_of r)))
 
 pub returns-clause-step : goal.returns-clause-step
 returns-clause-step g c =
-    let take = c.take-book.ensures in
     let begin = c.begin-answer.ensures in
     let mid = c.begin-answer.new.self in
     let took = c.take-book.new.pass in
-    let was : WasTaken g.D.LogDisk.drive c.take-book.result c.args.pass.now took = record { entries = take.value.0; origin = take.value.1; later = take.later; took_is = take.pass; off = c.requires.off; alone = take.alone } in
+    let was = c.take-book.ensures in
     begun g.D.LogDisk.drive g.I.Index.WIDTH c.take-book.result mid c.args.pass.now took c.give.new.pass c.args.name.now was begin.book c.begin-answer.result begin.ok begin.refused begin.err
-    (given-as took c.give.new.pass mid.entries c.has_entry-grown.result (has_entry c.begin-answer.result) c.has_entry-grown.ensures c.give.ensures)
+    c.give.ensures
 
 pub returns-clause-begun : goal.returns-clause-begun
 returns-clause-begun g c =
-    let take = c.take-book.ensures in
     let begin = c.begin-answer.ensures in
     let mid = c.begin-answer.new.self in
     let took = c.take-book.new.pass in
-    let was : WasTaken g.D.LogDisk.drive c.take-book.result c.args.pass.now took = record { entries = take.value.0; origin = take.value.1; later = take.later; took_is = take.pass; off = c.requires.off; alone = take.alone } in
-    begun-notes g.D.LogDisk.drive g.I.Index.WIDTH c.take-book.result mid c.args.pass.now took c.give.new.pass c.args.name.now was begin.book c.begin-answer.result begin.ok take.rises.1
-    (given-as took c.give.new.pass mid.entries c.has_entry-grown.result (has_entry c.begin-answer.result) c.has_entry-grown.ensures c.give.ensures)
+    let was = c.take-book.ensures in
+    begun-notes g.D.LogDisk.drive g.I.Index.WIDTH c.take-book.result mid c.args.pass.now took c.give.new.pass c.args.name.now was begin.book c.begin-answer.result begin.ok was.below
+    c.give.ensures
 
 pub returns-clause-name : goal.returns-clause-name
 returns-clause-name g c = begun-name g.I.Index.WIDTH c.take-book.result c.begin-answer.new.self c.args.name.now c.begin-answer.result c.begin-answer.ensures.ok

@@ -10,3 +10,6 @@ returns-clause-pass g c = called-same g.I.Index.WIDTH c.args.session c.args.row 
 
 pub returns-clause-opened : goal.returns-clause-opened
 returns-clause-opened g c = c.answer-answer.ensures.opened
+
+pub returns-clause-refused : goal.returns-clause-refused
+returns-clause-refused g c = c.answer-answer.ensures.refused

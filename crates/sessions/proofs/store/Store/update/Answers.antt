@@ -5,32 +5,28 @@ use Rattle.commit_book.specs.Refusals.{IsMemoryOrDisk}
 use Rattle.book_lock.specs.Ends.{MayNote}
 use Rattle.kept_log.specs.Journal.{cells_in}
 use Rattle.sessions.specs.Calls.{call_cause}
-use Rattle.sessions.specs.Steps.{has_entry}
-use Rattle.sessions.proofs.StepLemmas.{WasTaken, call-may, may-give, may-as, given-as, says-all}
+use Rattle.sessions.proofs.StepLemmas.{call-may, may-give, says-all}
 use Rattle.sessions.proofs.CallLemmas.{update-step, updated}
 use Rattle.sessions.proofs.store.Store.update.Goals as goal
 
 pub give-requires-clause-entries : goal.give-requires-clause-entries
 give-requires-clause-entries g c =
-    let take = c.take-book.ensures in
     let update = c.update-answer.ensures in
     let b = c.take-book.result in
     let old = c.args.pass.now in
     let took = c.take-book.new.pass in
     let mid = c.update-answer.new.self in
-    let op = c.args.op.now in
-    let was : WasTaken g.D.LogDisk.drive c.take-book.result c.args.pass.now c.take-book.new.pass = record { entries = take.value.0; origin = take.value.1; later = take.later; took_is = take.pass; off = c.requires.off; alone = take.alone } in
-    may-as took mid.entries c.has_entry-grown.result (has_entry c.update-answer.result) c.has_entry-grown.ensures
-    (may-give g.D.LogDisk.drive IsMemoryOrDisk (call_cause old.origin op (cells_in b.log) b.entries) (λ (d : Done). Call c.args.session c.args.row op) (lost.Call c.args.session c.args.row op) b mid took take.value.0 c.update-answer.result
-    (update-step g.D.LogDisk.drive g.I.Index.WIDTH b mid old took took c.args.session c.args.row op was update.book c.update-answer.result update.ok update.refused update.err)
-    (says-all (λ (d : Done). MayNote took.seen took.own (Call c.args.session c.args.row op)) (λ (d : Done). call-may c.args.session c.args.row op took.seen took.own) c.update-answer.result))
+    let op = c.args.request.now.op in
+    let was = c.take-book.ensures in
+    (may-give g.D.LogDisk.drive IsMemoryOrDisk (call_cause old.origin op (cells_in b.log) b.entries) (λ (d : Done). Call c.args.request.now.session c.args.request.now.row op) (lost.Call c.args.request.now.session c.args.request.now.row op) b mid took was.entries c.update-answer.result
+    (update-step g.D.LogDisk.drive g.I.Index.WIDTH b mid old took took c.args.request.now.session c.args.request.now.row op was update.book c.update-answer.result update.ok update.refused update.err)
+    (says-all (λ (d : Done). MayNote took.seen took.own (Call c.args.request.now.session c.args.request.now.row op)) (λ (d : Done). call-may c.args.request.now.session c.args.request.now.row op took.seen took.own) c.update-answer.result))
 
 pub returns : goal.returns
 returns g c =
-    let take = c.take-book.ensures in
     let update = c.update-answer.ensures in
     let mid = c.update-answer.new.self in
     let took = c.take-book.new.pass in
-    let was : WasTaken g.D.LogDisk.drive c.take-book.result c.args.pass.now c.take-book.new.pass = record { entries = take.value.0; origin = take.value.1; later = take.later; took_is = take.pass; off = c.requires.off; alone = take.alone } in
-    updated g.D.LogDisk.drive g.I.Index.WIDTH c.take-book.result mid c.args.pass.now took c.give.new.pass c.args.session c.args.row c.args.op.now was update.book c.update-answer.result c.requires.update update.ok update.refused update.err
-    (given-as took c.give.new.pass mid.entries c.has_entry-grown.result (has_entry c.update-answer.result) c.has_entry-grown.ensures c.give.ensures)
+    let was = c.take-book.ensures in
+    updated g.D.LogDisk.drive g.I.Index.WIDTH c.take-book.result mid c.args.pass.now took c.give.new.pass c.args.request.now.session c.args.request.now.row c.args.request.now.op was update.book c.update-answer.result c.requires.update update.ok update.refused update.err
+    c.give.ensures

@@ -1,0 +1,15 @@
+-- How many cells a log has, where there is one.
+use Rattle.std.specs.Prelude.{ℕ, ◌+◌, List, length, Option}
+use Rattle.std.specs.Option.{option_map, option_map_or}
+use Rattle.zorder.specs.declared.points.Placed.{Placed}
+use Rattle.plain_list.specs.declared.entries.Entry.{Entry}
+use Rattle.log_state.specs.Changes.{cells_of}
+use Rattle.kept_log.specs.KeptView.{KeptView}
+
+-- how many it had when it was opened
+abbrev pub first_in : {D : Type 0} → Option (KeptView D) → Option ℕ
+first_in {D = D} log = option_map (λ (l : KeptView D). l.first) log
+
+-- how many it has after a history that began at a world, where it had so many at first: none without a log
+abbrev pub cells_after : Option ℕ → List Placed → List Entry → ℕ
+cells_after first world h = option_map_or (λ (n : ℕ). n + length (cells_of world h)) first 0
