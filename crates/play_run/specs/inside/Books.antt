@@ -1,5 +1,5 @@
 -- Books over which rows are played, and what they leave.
-use Rattle.std.specs.Prelude.{◌≡◌, ◌⊎◌, ℕ, ◌≤◌, Bool, false, List, [], length, Option, Some, None, ⊤}
+use Rattle.std.specs.Prelude.{◌≡◌, ◌⊎◌, ℕ, ◌≤◌, false, List, [], length, Option, Some, None, ⊤}
 use Rattle.std.specs.Option.{option_map}
 use Rattle.disk_trait.specs.Drive.{Drive, AttachedOne, SameFile, Stays}
 use Rattle.plain_list.specs.declared.entries.Entry.{Entry}
