@@ -19,7 +19,7 @@ use Rattle.io_edge.specs.Streams.{Output}
 use Rattle.run_ends.specs.Status.{status_of, WritesLines}
 use Rattle.play_run.specs.Origin.{Origin, IsFoundOrigin, new_origin}
 use Rattle.log_state.specs.Changes.{cells_of}
-use Rattle.lane_splits.specs.Settled.{SplitsAreDone}
+use Rattle.lane_splits.specs.Settled.{SplitsAreDone, IsWithinLimits}
 use Rattle.play_run.specs.Crash.{KeepsPlayed}
 use Rattle.plain_list.specs.declared.entries.Lost.{Lost}
 use Rattle.plain_list.specs.History.{failed_cell}
@@ -138,11 +138,11 @@ list-from report old from s rows h status before after found state list =
     subst (λ (w : ℕ). AnswersAsOneList report w from.state rows h status before after) (ap (λ (o : Origin). o.width) (sym found.origin_is))
     (subst (λ (o : State). AnswersAsOneList report width o rows h status before after) state list)
 
-pub settled-from : (old : Drive) (from : Origin) (size bucket : ℕ) (s : State) (first cells : Option ℕ) (h : List Entry) → IsFoundOrigin old from → s ≡ from.state → bucket ≡ size → first ≡ cells → SplitsAreDone width bucket s first h
-    → SplitsAreDone from.width size from.state cells h
-settled-from old from size bucket s first cells h found state sized count settled =
-    subst (λ (w : ℕ). SplitsAreDone w size from.state cells h) (ap (λ (o : Origin). o.width) (sym found.origin_is))
-    (subst (λ (o : State). SplitsAreDone width size o cells h) state (subst (λ (n : ℕ). SplitsAreDone width n s cells h) sized (subst (λ (c : Option ℕ). SplitsAreDone width bucket s c h) count settled)))
+-- what is said of splits from where a book begins is said from the origin
+moved : (P : ℕ → ℕ → State → Option ℕ → Type 0) (w v bucket size : ℕ) (s t : State) (first cells : Option ℕ) → w ≡ v → bucket ≡ size → s ≡ t → first ≡ cells → P w bucket s first → P v size t cells
+moved P w v bucket size s t first cells width sized state count holds =
+    subst (λ (n : ℕ). P n size t cells) width
+    (subst (λ (o : State). P w size o cells) state (subst (λ (n : ℕ). P w n s cells) sized (subst (λ (c : Option ℕ). P w bucket s c) count holds)))
 
 -- rows that were answered over a log
 pub answered-over : {D : Type 0} (drive : D → Drive) (report : Report) (file : List ℕ) (size : ℕ) (rows : List InRow) (b : BookView D) (was disk : D) (before after : Output) (status : ℕ) (h : List Entry) → OpensBook drive file (drive was) size b
@@ -154,7 +154,12 @@ answered-over drive report file size rows b was disk before after status h opens
   book = opens.shows;
   one_list = list-from report (drive was) opens.from b.opening rows h status before after opens.found opens.state ended.one_list;
   ends = ends-weaker (StopsBook (IsNextStep width b.opening rows) h) (IsStop (Some file) opens.from rows (drive was) (drive disk) h) status before after (log-stop drive file rows (drive was) size b h disk opens ended.log) ended.ends;
-  splits = λ writes. settled-from (drive was) opens.from size b.bucket b.opening (first_in b.log) (option_map length opens.from.first) h opens.found opens.state opens.bucket opens.count (ended.splits writes);
+  splits = λ writes.
+      moved (λ w n s first. SplitsAreDone w n s first h) width opens.from.width b.bucket size b.opening opens.from.state (first_in b.log) (option_map length opens.from.first) (ap (λ (o : Origin). o.width) (sym opens.found.origin_is))
+      opens.bucket opens.state opens.count (ended.splits writes);
+  limits =
+      moved (λ w n s first. IsWithinLimits w n s first rows h) width opens.from.width b.bucket size b.opening opens.from.state (first_in b.log) (option_map length opens.from.first) (ap (λ (o : Origin). o.width) (sym opens.found.origin_is))
+      opens.bucket opens.state opens.count ended.limits;
   crash = keeps-book drive file (IsNextStep width b.opening rows) (drive was) size b h disk status before after opens ended.log ended.ends (λ writes. (ended.splits writes).going);
   calm = λ other. calm-book drive file (drive was) size b h disk opens ended.log (unfailed (IsNextStep width b.opening rows) h status before after ended.ends (λ writes. (ended.splits writes).going) other);
   attached = attached-book drive file (drive was) size b h disk opens ended.log;
@@ -171,9 +176,8 @@ answered-new {D = D} drive report size rows b was left before after status h ope
   one_list = subst (λ (o : State). AnswersAsOneList report width o rows h status before after) opening ended.one_list;
   ends = ends-weaker (StopsBook (IsNextStep width b.opening rows) h) (IsStop None new_origin rows (drive was) (drive was) h) status before after (new-stop drive (IsNextStep width b.opening rows) new_origin rows (drive was) (drive was) b.opening h b.log left none ended.log) ended.ends;
   splits = λ writes.
-      subst (λ (o : State). SplitsAreDone width size o None h) opening
-      (subst (λ (n : ℕ). SplitsAreDone width n b.opening None h) bucket
-      (subst (λ (c : Option ℕ). SplitsAreDone width b.bucket b.opening c h) (ap (λ (l : Option (KeptView D)). first_in l) none) (ended.splits writes)));
+      moved (λ w n s first. SplitsAreDone w n s first h) width width b.bucket size b.opening empty_state (first_in b.log) None refl bucket opening (ap (λ (l : Option (KeptView D)). first_in l) none) (ended.splits writes);
+  limits = moved (λ w n s first. IsWithinLimits w n s first rows h) width width b.bucket size b.opening empty_state (first_in b.log) None refl bucket opening (ap (λ (l : Option (KeptView D)). first_in l) none) ended.limits;
   crash = λ bytes first told is settled. absurd (cc is);
   calm = λ other. refl;
   attached = tt;

@@ -141,4 +141,4 @@ module _ {D : Type 0} (drive : D → Drive) (report : Report) (rows : List InRow
   }
 
   pub ends-book : BeginsAs drive old.log new.log → EndsBook drive report rows old h status (disk_in new.log) before after
-  ends-book starts = record { one_list = end-answers; ends = end-rows; splits = end-splits; log = end-log starts }
+  ends-book starts = record { one_list = end-answers; ends = end-rows; splits = end-splits; limits = played.limits; log = end-log starts }

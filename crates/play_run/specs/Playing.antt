@@ -29,7 +29,7 @@ use Rattle.play_run.specs.declared.reports.Report.{Report}
 use Rattle.play_run.specs.declared.reports.Report.TheVariants as reports
 use Rattle.play_run.specs.Answers.{AnswersAsOneList}
 use Rattle.kept_log.specs.Counts.{cells_after}
-use Rattle.lane_splits.specs.Settled.{SplitsAreDone}
+use Rattle.lane_splits.specs.Settled.{SplitsAreDone, IsWithinLimits}
 use Rattle.play_run.specs.Crash.{KeepsPlayed}
 
 -- the drive's bytes recover to cells, few enough, and its count didn't rise
@@ -104,6 +104,7 @@ pub record IsAnswered {D : Type 0} (report : Report) (log : Option (List ℕ)) (
   pub one_list : AnswersAsOneList report from.width from.state rows h status old.output new.output
   pub ends : EndsRows (IsStop log from rows old.drive new.drive h) status old.output new.output
   pub splits : WritesLines status → SplitsAreDone from.width size from.state (option_map length from.first) h
+  pub limits : IsWithinLimits from.width size from.state (option_map length from.first) rows h
   pub crash : KeepsPlayed from old.drive new.drive status h
   pub calm : status ≢ 7 → new.drive.faults ≡ old.drive.faults
   pub attached : IsAttached log old.drive new.drive

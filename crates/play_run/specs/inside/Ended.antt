@@ -7,7 +7,7 @@ use Rattle.commit_book.specs.BookView.{BookView}
 use Rattle.csv_rows.specs.declared.rows.InRow.{InRow}
 use Rattle.io_edge.specs.Streams.{Output}
 use Rattle.lane_history.specs.LostSteps.{IsNextStep}
-use Rattle.lane_splits.specs.Settled.{SplitsAreDone}
+use Rattle.lane_splits.specs.Settled.{SplitsAreDone, IsWithinLimits}
 use Rattle.play_run.specs.declared.reports.Report.{Report}
 use Rattle.run_ends.specs.Limits.{width}
 use Rattle.run_ends.specs.Status.{WritesLines}
@@ -20,4 +20,5 @@ pub record EndsBook {D : Type 0} (drive : D → Drive) (report : Report) (rows :
   pub one_list : AnswersAsOneList report width b.opening rows h status old new
   pub ends : EndsRows (StopsBook (IsNextStep width b.opening rows) h) status old new
   pub splits : WritesLines status → SplitsAreDone width b.bucket b.opening (first_in b.log) h
+  pub limits : IsWithinLimits width b.bucket b.opening (first_in b.log) rows h
   pub log : LeavesLog drive b.opening h b.log disk
