@@ -164,7 +164,7 @@ module _ (w : ℕ) (origin : Origin) (g : List Entry) where
 module _ (w number : ℕ) where
   left-closing : {A : Type 0} (entry : A → Entry) (loses : List Entry → Lost) (old : Known) (before : List Entry) (new : Known) (fault : BookFault) → before ≡ old.seen → Leaves entry loses old before new (Err fault)
       → (t : List Entry) × (new.seen ≡ old.seen ++ t) × Closing number t
-  left-closing entry loses old before new fault same leaves = by_case (left-seen entry loses old before new fault leaves)
+  left-closing entry loses old before new fault same leaves = by_case (left-seen entry loses [] old before new fault leaves)
     where
       by_case : (new.seen ≡ before) ⊎ ((cell : ℕ) × (new.seen ≡ before ++ Fail cell (loses before) ∷ [])) → (t : List Entry) × (new.seen ≡ old.seen ++ t) × Closing number t
       by_case (inl is) = ([], is ∙ same ∙ sym (append-nil old.seen), inl refl)
@@ -197,7 +197,7 @@ end-last : (w : ℕ) (origin : Origin) (mid new : Known) (result : Result Settle
 end-last w origin mid new (Ok s) from all ends = ([], end-seen w mid new s all ends ∙ sym (append-nil mid.seen), last-none w origin mid.seen 0)
 end-last w origin mid new (Err fault) from all (inl (tells, same)) = ([], ap (λ (k : Known). k.seen) same ∙ sym (append-nil mid.seen), last-none w origin mid.seen 1)
 end-last w origin mid new (Err fault) from all (inr (name, full, is, inl step)) =
-    by_case (left-seen (λ (number : ℕ). Begin number name) (λ (h : List Entry). lost.Begin ((state_of w mid.origin h).begun + 1) name) mid step.before new fault step.leaves)
+    by_case (left-seen (λ (number : ℕ). Begin number name) (λ (h : List Entry). lost.Begin ((state_of w mid.origin h).begun + 1) name) [] mid step.before new fault step.leaves)
   where
     by_case : (new.seen ≡ step.before) ⊎ ((cell : ℕ) × (new.seen ≡ step.before ++ Fail cell (lost.Begin ((state_of w mid.origin step.before).begun + 1) name) ∷ []))
         → (t : List Entry) × (new.seen ≡ mid.seen ++ t) × IsLast w origin 1 mid.seen t
