@@ -6,7 +6,7 @@ use Rattle.recovery.specs.declared.seen.Seen.{Seen}
 use Rattle.recovery.specs.declared.seen.OpenFault.{OpenFault}
 use Rattle.csv_rows.specs.declared.rows.Refusal.{Refusal}
 use Rattle.csv_rows.specs.declared.rows.Refusal.TheVariants as refusal
-use Rattle.run_ends.specs.Limits.{most_cells}
+use Rattle.run_ends.specs.Limits.{most_inspected}
 use Rattle.io_edge.specs.Streams.{Output}
 use Rattle.run_ends.specs.Status.{status_of}
 use Rattle.run_ends.specs.Taking.{Refuses}
@@ -16,7 +16,7 @@ use Rattle.run_ends.specs.LogFaults.{log_refusal}
 use Rattle.log_run.specs.Checking.{IsDecided, IsDecidedBy, IsCheckingCause, HasReadUnless, EndsTelling}
 
 -- the line of a refusal is put
-decided-refused : (old new : Drive) (why : Refusal) (status : ℕ) (before after : Output) → IsDecidedBy {T = Seen} most_cells old new (Err why) → Refuses why status before after → IsDecided old new status before after
+decided-refused : (old new : Drive) (why : Refusal) (status : ℕ) (before after : Output) → IsDecidedBy {T = Seen} most_inspected old new (Err why) → Refuses why status before after → IsDecided old new status before after
 decided-refused old new why status before after by refuses = record {
   exact = λ bytes fault told shown wrong calm. named fault (by.exact bytes fault told shown wrong calm);
   whole = λ bytes cells told text few calm quiet. inr (refuses.status_is ∙ ap status_of (by.whole bytes cells told text few calm));
@@ -27,7 +27,7 @@ decided-refused old new why status before after by refuses = record {
     named fault (inr e) = inr (refuses.status_is ∙ ap status_of e)
 
 -- a log that isn't told
-pub told-refused : {D : Type 0} (text : List Cell → List ℕ) (file : List ℕ) (old new : Targets D) (why : Refusal) (status : ℕ) → IsCheckingCause old.drive new.drive why → IsDecidedBy {T = Seen} most_cells old.drive new.drive (Err why)
+pub told-refused : {D : Type 0} (text : List Cell → List ℕ) (file : List ℕ) (old new : Targets D) (why : Refusal) (status : ℕ) → IsCheckingCause old.drive new.drive why → IsDecidedBy {T = Seen} most_inspected old.drive new.drive (Err why)
     → HasReadUnless file old.drive new.drive why → Stays old.drive new.drive → Refuses why status old.output new.output → EndsTelling text file old new status
 told-refused text file old new why status cause decided read stays refused = record {
   ends = inr (why, cause, refused);

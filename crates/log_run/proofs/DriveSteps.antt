@@ -21,7 +21,7 @@ use Rattle.disk_trait.proofs.Calls.{still-made}
 use Rattle.recovery.proofs.OnlyReading.{rose-earlier, stays-trans}
 use Rattle.recovery.proofs.OpeningLemmas.{leaves-trans, leaves-stays}
 use Rattle.csv_rows.specs.declared.rows.Refusal.TheVariants as refusal
-use Rattle.run_ends.specs.Limits.{most_cells}
+use Rattle.run_ends.specs.Limits.{most_inspected}
 use Rattle.run_ends.specs.LogFaults.{IsReadingCause, attach_refusal, log_refusal}
 use Rattle.log_run.specs.Checking.{IsCheckingCause, IsDecidedBy}
 use Rattle.log_run.specs.Making.{IsMakingCause, LeavesFile, making_refusal}
@@ -34,12 +34,12 @@ makes-after a b c stays calm makes =
 
 -- a log in which something is at fault
 pub checking-after : (a b c : Drive) (result : Result Seen OpenFault) (fault : OpenFault) → result ≡ Err fault → Stays a b → a.faults ≤ b.faults
-    → ((bytes : List ℕ) → b.bytes ≡ Some bytes → IsFault 1 most_cells bytes fault) → OnlyReads b c result → IsCheckingCause a c (log_refusal fault)
-checking-after a b c result fault is stays later wrong reads = reading-after most_cells a b c fault stays later wrong (λ disk. reads.failed (is ∙ ap (λ (e : OpenFault). Err e) disk))
+    → ((bytes : List ℕ) → b.bytes ≡ Some bytes → IsFault 1 most_inspected bytes fault) → OnlyReads b c result → IsCheckingCause a c (log_refusal fault)
+checking-after a b c result fault is stays later wrong reads = reading-after most_inspected a b c fault stays later wrong (λ disk. reads.failed (is ∙ ap (λ (e : OpenFault). Err e) disk))
 
 pub decided-err : (a b c : Drive) (why : OpenFault) (result : Result Seen OpenFault) → result ≡ Err why → Stays a b → a.faults ≤ b.faults
-    → ((bytes : List ℕ) (fault : OpenFault) → b.bytes ≡ Some bytes → IsInBytes fault → IsFault 1 most_cells bytes fault → IsErrAnd result (λ e. (e ≡ fault) ⊎ IsFree b c e))
-    → ((bytes : List ℕ) (cells : List Cell) → b.bytes ≡ Some bytes → Recovers 1 cells bytes → length cells ≤ most_cells → IfErr result (IsFree b c)) → IsDecidedBy {T = Seen} most_cells a c (Err (log_refusal why))
+    → ((bytes : List ℕ) (fault : OpenFault) → b.bytes ≡ Some bytes → IsInBytes fault → IsFault 1 most_inspected bytes fault → IsErrAnd result (λ e. (e ≡ fault) ⊎ IsFree b c e))
+    → ((bytes : List ℕ) (cells : List Cell) → b.bytes ≡ Some bytes → Recovers 1 cells bytes → length cells ≤ most_inspected → IfErr result (IsFree b c)) → IsDecidedBy {T = Seen} most_inspected a c (Err (log_refusal why))
 decided-err a b c why result is stays later exact whole = record {
   exact = λ bytes fault told shown wrong calm.
       calm-named a b c why fault later calm (subst (λ (r : Result Seen OpenFault). IsErrAnd r (λ e. (e ≡ fault) ⊎ IsFree b c e)) is (exact bytes fault (stays.bytes ∙ told) shown wrong));
@@ -80,7 +80,7 @@ module _ {T : Type 0} (name : List ℕ) (make : Bool) (a b : Drive) where
   checking-attached attach_fault.Disk counts = counts.failed refl
   checking-attached attach_fault.Memory counts = tt
 
-  pub decided-attached : (fault : AttachFault) → CountsAttach {T = T} name make a b (Err fault) → IsDecidedBy {T = Seen} most_cells a b (Err (attach_refusal fault))
+  pub decided-attached : (fault : AttachFault) → CountsAttach {T = T} name make a b (Err fault) → IsDecidedBy {T = Seen} most_inspected a b (Err (attach_refusal fault))
   decided-attached attach_fault.Disk counts =
       record { exact = λ bytes what told shown wrong calm. absurd (calm (counts.failed refl)); whole = λ bytes cells told text few calm. absurd (calm (counts.failed refl)) }
   decided-attached attach_fault.Memory counts = record { exact = λ bytes what told shown wrong calm. inr refl; whole = λ bytes cells told text few calm. refl }

@@ -17,7 +17,7 @@ use Rattle.csv_rows.specs.declared.rows.Refusal.{Refusal}
 use Rattle.csv_rows.specs.declared.rows.Refusal.TheVariants as refusal
 use Rattle.csv_rows.specs.LogLines.{counts_text}
 use Rattle.run_ends.specs.LogFaults.{IsReadingCause, log_refusal}
-use Rattle.run_ends.specs.Limits.{width, most_cells}
+use Rattle.run_ends.specs.Limits.{width, most_inspected}
 use Rattle.run_ends.specs.Status.{status_of}
 use Rattle.io_edge.specs.Streams.{Output}
 use Rattle.run_ends.specs.Ends.{Ends, Targets, IsQuiet}
@@ -27,12 +27,12 @@ use Rattle.run_ends.specs.Attaching.{AttachesOnce}
 
 -- why a log isn't told
 abbrev pub IsCheckingCause : Drive → Drive → Refusal → Type 0
-IsCheckingCause old new why = IsReadingCause most_cells old new why
+IsCheckingCause old new why = IsReadingCause most_inspected old new why
 
 -- legal cells, few enough; where the drive's content is known, its bytes recover to them
 pub record FindsCells (old : Drive) (cells : List Cell) : Type 0 where
   pub legal : IsLegalCells width cells
-  pub few : length cells ≤ most_cells
+  pub few : length cells ≤ most_inspected
   pub recovers : (bytes : List ℕ) → old.bytes ≡ Some bytes → Recovers width cells bytes
 
 -- how many cells there are, and objects, leaves and open splits in the state after them
@@ -64,9 +64,9 @@ TellsCells text old status before after = (cells : List Cell) × FindsCells old 
 
 -- a fault that the bytes show is told, and bytes that recover to cells have their text, unless the count rose or memory ran out
 pub record IsDecided (old new : Drive) (status : ℕ) (before after : Output) : Type 0 where
-  pub exact : (bytes : List ℕ) (fault : OpenFault) → old.bytes ≡ Some bytes → IsInBytes fault → IsFault width most_cells bytes fault → (Rose old.faults new.faults → ⊥)
+  pub exact : (bytes : List ℕ) (fault : OpenFault) → old.bytes ≡ Some bytes → IsInBytes fault → IsFault width most_inspected bytes fault → (Rose old.faults new.faults → ⊥)
       → Refuses (log_refusal fault) status before after ⊎ (status ≡ 9)
-  pub whole : (bytes : List ℕ) (cells : List Cell) → old.bytes ≡ Some bytes → Recovers width cells bytes → length cells ≤ most_cells → (Rose old.faults new.faults → ⊥) → (Rose before.faults after.faults → ⊥)
+  pub whole : (bytes : List ℕ) (cells : List Cell) → old.bytes ≡ Some bytes → Recovers width cells bytes → length cells ≤ most_inspected → (Rose old.faults new.faults → ⊥) → (Rose before.faults after.faults → ⊥)
       → (status ≡ 0) ⊎ (status ≡ 9)
 
 -- the same of the answer, where at most so many cells are read

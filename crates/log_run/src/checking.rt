@@ -2,7 +2,7 @@
 ghost use Rattle.std.specs.Prelude.{◌≡◌, ◌≤◌, [], IfOk, IfErr, MatchResult, length};
 ghost use Rattle.disk_trait.specs.Drive.{Stays};
 ghost use Rattle.recovery.specs.Found.{IsFound};
-ghost use Rattle.run_ends.specs.Limits.{width, most_cells};
+ghost use Rattle.run_ends.specs.Limits.{width, most_inspected};
 ghost use Rattle.run_ends.specs.Ends.{targets};
 ghost use Rattle.log_run.specs.Checking.{HasRead, HasReadUnless, IsCheckingCause, IsDecidedBy, EndsChecking, counts_of};
 
@@ -11,7 +11,7 @@ use disk_trait::LogDisk;
 use io_edge::Sink;
 use recovery::{Seen, inspect};
 use run_ends::{
-    Ended, MOST_CELLS, WIDTH, attach_refusal, log_refusal, put_refusal, without_rows, written,
+    Ended, MOST_INSPECTED, WIDTH, attach_refusal, log_refusal, put_refusal, without_rows, written,
 };
 use std::alloc::Global;
 
@@ -38,9 +38,9 @@ fn tell_counts<K: Sink, D: LogDisk>(alloc: Global, file: &str, sink: &mut K, dis
 
 /// What the log in a file of this name says.
 pub(crate) fn find<D: LogDisk>(alloc: Global, file: &str, disk: &mut D) -> Result<Seen, Refusal>
-    ensures found { IfOk result (IsFound width most_cells (D.drive disk.old)) }
+    ensures found { IfOk result (IsFound width most_inspected (D.drive disk.old)) }
     ensures cause { IfErr result (IsCheckingCause (D.drive disk.old) (D.drive disk.new)) }
-    ensures decided { IsDecidedBy most_cells (D.drive disk.old) (D.drive disk.new) result }
+    ensures decided { IsDecidedBy most_inspected (D.drive disk.old) (D.drive disk.new) result }
     ensures read { MatchResult result (λ _. HasRead file.now (D.drive disk.old) (D.drive disk.new))
         (HasReadUnless file.now (D.drive disk.old) (D.drive disk.new)) }
     ensures stays { Stays (D.drive disk.old) (D.drive disk.new) }
@@ -49,7 +49,7 @@ pub(crate) fn find<D: LogDisk>(alloc: Global, file: &str, disk: &mut D) -> Resul
     if let Err(fault) = disk.attach(alloc, file, false) {
         return Err(attach_refusal(fault));
     }
-    match inspect(alloc, disk, WIDTH, MOST_CELLS) {
+    match inspect(alloc, disk, WIDTH, MOST_INSPECTED) {
         Ok(seen) => Ok(seen),
         Err(fault) => Err(log_refusal(fault)),
     }

@@ -10,8 +10,8 @@ abbrev pub most_bytes : ℕ
 most_bytes = 16777216
 
 -- how many cells a log may have that is inspected
-abbrev pub most_cells : ℕ
-most_cells = 16777216
+abbrev pub most_inspected : ℕ
+most_inspected = 16777216
 
 -- how many points a bucket should have where made rows are played
 abbrev pub trial_bucket : ℕ

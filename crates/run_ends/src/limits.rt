@@ -7,7 +7,7 @@ pub const WIDTH: u8 = 1;
 pub(crate) const MOST_BYTES: usize = 16_777_216;
 
 /// How many cells a log may have that is inspected.
-pub const MOST_CELLS: u64 = 16_777_216;
+pub const MOST_INSPECTED: u64 = 16_777_216;
 
 /// How many points a bucket should have where made rows are played.
 pub const TRIAL_BUCKET: u32 = 64;

@@ -3,7 +3,7 @@ use Rattle.recovery.specs.declared.seen.Seen.{Seen}
 use Rattle.disk_trait.proofs.Calls.{attached-still}
 use Rattle.recovery.proofs.OnlyReading.{stays-trans}
 use Rattle.csv_rows.specs.declared.rows.Refusal.{Refusal}
-use Rattle.run_ends.specs.Limits.{most_cells}
+use Rattle.run_ends.specs.Limits.{most_inspected}
 use Rattle.run_ends.proofs.Attaching.{attaches-one, attaches-none}
 use Rattle.log_run.specs.Checking.{IsCheckingCause, IsDecidedBy}
 use Rattle.log_run.proofs.DriveSteps.{checking-after, decided-err, checking-attached, decided-attached, calm-attached, found-after, calm-read}
@@ -20,7 +20,7 @@ pub returns-in-Err-inspect-clause-decided : goal.returns-in-Err-inspect-clause-d
 returns-in-Err-inspect-clause-decided g c =
     let old = g.D.LogDisk.drive c.args.disk.now in
     let new = g.D.LogDisk.drive c.inspect.new.disk in
-    subst (λ (why : Refusal). IsDecidedBy {T = Seen} most_cells old new (Err why)) (sym c.log_refusal.ensures)
+    subst (λ (why : Refusal). IsDecidedBy {T = Seen} most_inspected old new (Err why)) (sym c.log_refusal.ensures)
     (decided-err old (g.D.LogDisk.drive c.attach.new.self) new c.in-Err-inspect.fault c.inspect.result c.in-Err-inspect.is c.attach.ensures.stays c.attach.ensures.cause.later c.inspect.ensures.exact c.inspect.ensures.whole)
 
 pub returns-in-Ok-clause-stays : goal.returns-in-Ok-clause-stays
@@ -43,7 +43,7 @@ pub returns-in-Err-inspect-clause-later : goal.returns-in-Err-inspect-clause-lat
 returns-in-Err-inspect-clause-later g c = omega (arith, c.attach.ensures.cause.later, c.inspect.ensures.reads.later)
 
 pub returns-in-Ok-clause-found : goal.returns-in-Ok-clause-found
-returns-in-Ok-clause-found g c = found-after most_cells _ _ c.in-Ok.seen c.attach.ensures.stays c.in-Ok.ensures.found
+returns-in-Ok-clause-found g c = found-after most_inspected _ _ c.in-Ok.seen c.attach.ensures.stays c.in-Ok.ensures.found
 
 pub returns-in-Ok-clause-decided : goal.returns-in-Ok-clause-decided
 returns-in-Ok-clause-decided g c =
