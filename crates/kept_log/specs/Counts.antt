@@ -11,5 +11,5 @@ abbrev pub first_in : {D : Type 0} → Option (KeptView D) → Option ℕ
 first_in {D = D} log = option_map (λ (l : KeptView D). l.first) log
 
 -- how many it has after a history that began at a world, where it had so many at first: none without a log
-abbrev pub cells_after : Option ℕ → List Placed → List Entry → ℕ
-cells_after first world h = option_map_or (λ (n : ℕ). n + length (cells_of world h)) first 0
+abbrev pub count_after : Option ℕ → List Placed → List Entry → ℕ
+count_after first world h = option_map_or (λ (n : ℕ). n + length (cells_of world h)) first 0

@@ -10,7 +10,7 @@ use Rattle.plain_list.specs.Played.{IsPlayedWhole}
 use Rattle.plain_list.specs.History.{world_after, call_count, failed_cell}
 use Rattle.plain_list.specs.State.{State, state_after, step}
 use Rattle.plain_list.specs.Size.{IsSized, full_leaf}
-use Rattle.kept_log.specs.Counts.{cells_after}
+use Rattle.kept_log.specs.Counts.{count_after}
 use Rattle.commit_book.specs.IsBook.{most_events}
 use Rattle.commit_book.specs.Refusals.{most_cells}
 use Rattle.book_lock.specs.declared.origin.Origin.{Origin}
@@ -43,7 +43,7 @@ stray_begins w size s (e ∷ h) = if is_stray w size s e h then suc (stray_begin
 pub record SplitsAreDone (w size : ℕ) (s : State) (first : Option ℕ) (h : List Entry) : Type 0 where
   pub ended : (state_after w s h).splits ≡ []
   pub going : failed_cell h ≡ None
-  pub sized : IsSized w size (world_after s.world h) (state_after w s h).leaves ⊎ ((4000000 < length h) ⊎ (16000000 < cells_after first s.world h))
+  pub sized : IsSized w size (world_after s.world h) (state_after w s h).leaves ⊎ ((4000000 < length h) ⊎ (16000000 < count_after first s.world h))
   pub stray : stray_begins w size s h ≤ call_count h
 
 -- how many splits a history begins
@@ -56,7 +56,7 @@ begin_count (_ ∷ h) = begin_count h
 -- more begins than calls, or each row was called: before that no split at the end is begun.
 pub record IsWithinLimits (w size : ℕ) (s : State) (first : Option ℕ) (rows : List InRow) (h : List Entry) : Type 0 where
   pub entries : length h < most_events
-  pub cells : cells_after first s.world h < most_cells
+  pub cells : count_after first s.world h < most_cells
   pub stray : stray_begins w size s h ≤ call_count h + 1
   pub begins : (begin_count h ≤ call_count h) ⊎ IsPlayedWhole (session_rows rows) h
 

@@ -11,7 +11,7 @@ use Rattle.recovery.proofs.OnlyReading.{rose-earlier, stays-trans}
 use Rattle.kept_log.specs.KeptView.{KeptView}
 use Rattle.kept_log.specs.Journal.{disk_in, KeepsLog, KeepsIn}
 use Rattle.commit_book.specs.BookView.{BookView}
-use Rattle.kept_log.specs.Counts.{first_in, cells_after}
+use Rattle.kept_log.specs.Counts.{first_in, count_after}
 use Rattle.csv_rows.specs.declared.rows.InRow.{InRow}
 use Rattle.csv_rows.specs.declared.rows.Refusal.{Refusal}
 use Rattle.run_ends.specs.Limits.{width}
@@ -76,8 +76,8 @@ log-stop {D = D} drive file rows old size b h disk opens leaves why (inr (cell, 
     let named : cell ≡ kept.now.cells = kept.keeps.named cell (loses-cell (IsNextStep width b.opening rows) h cell loses) in
     let count : kept.now.cells ≡ opens.log.first + length (cells_of b.opening.world h) = omega (arith, kept.keeps.keeps.count, kept.first) in
     let cells : Some opens.log.first ≡ option_map length opens.from.first = sym (ap (λ (l : Option (KeptView D)). first_in l) opens.log_is) ∙ opens.count in
-    let at : opens.log.first + length (cells_of b.opening.world h) ≡ cells_after (option_map length opens.from.first) opens.from.state.world h =
-    ap (λ (n : Option ℕ). cells_after n b.opening.world h) cells ∙ ap (λ (o : State). cells_after (option_map length opens.from.first) o.world h) opens.state in
+    let at : opens.log.first + length (cells_of b.opening.world h) ≡ count_after (option_map length opens.from.first) opens.from.state.world h =
+    ap (λ (n : Option ℕ). count_after n b.opening.world h) cells ∙ ap (λ (o : State). count_after (option_map length opens.from.first) o.world h) opens.state in
     subst (IsStop (Some file) opens.from rows old (drive disk) h) (sym is) (record { loses = from; number = named ∙ count ∙ at; rose = risen })
 
 none-some : (n : ℕ) → None ≡ Some n → ⊥

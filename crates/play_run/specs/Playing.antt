@@ -28,7 +28,7 @@ use Rattle.lane_history.specs.LostSteps.{IsNextStep, LosesStep}
 use Rattle.play_run.specs.declared.reports.Report.{Report}
 use Rattle.play_run.specs.declared.reports.Report.TheVariants as reports
 use Rattle.play_run.specs.Answers.{AnswersAsOneList}
-use Rattle.kept_log.specs.Counts.{cells_after}
+use Rattle.kept_log.specs.Counts.{count_after}
 use Rattle.lane_splits.specs.Settled.{SplitsAreDone, IsWithinLimits}
 use Rattle.play_run.specs.Crash.{KeepsPlayed}
 
@@ -68,7 +68,7 @@ pub record IsUnopened {D : Type 0} (log : Option (List ℕ)) (old new : Targets 
 -- drive's count rose.
 pub record AppendFailed (from : Origin) (rows : List InRow) (old new : Drive) (h : List Entry) (cell : ℕ) : Type 0 where
   pub loses : LosesStep (IsNextStep from.width from.state rows) h cell
-  pub number : cell ≡ cells_after (option_map length from.first) from.state.world h
+  pub number : cell ≡ count_after (option_map length from.first) from.state.world h
   pub rose : Rose old.faults new.faults
 
 -- without a log no append fails

@@ -10,7 +10,7 @@ use Rattle.plain_list.specs.History.{world_after}
 use Rattle.log_state.specs.Changes.{cells_of}
 use Rattle.log_state.proofs.CellCounts.{cells-few}
 use Rattle.log_state.proofs.PlacedChanges.{cells_of-append}
-use Rattle.kept_log.specs.Counts.{cells_after}
+use Rattle.kept_log.specs.Counts.{count_after}
 use Rattle.kept_log.specs.Journal.{failed_cell}
 use Rattle.kept_log.proofs.InJournal.{failed_cell-push, has_failed-none}
 use Rattle.commit_book.specs.IsBook.{most_events}
@@ -76,7 +76,7 @@ has-room cells events none = by_tests (nat_lt 16000000 cells) (nat_lt 4000000 ev
     by_tests false false few less none = (ltb-false 4000000 events less, ltb-false 16000000 cells few)
 
 -- one entry behind that there is room for an end
-cells-next : (first : Option ℕ) (world : List Placed) (before : List Entry) (e : Entry) → cells_after first world (before ++ e ∷ []) ≤ cells_after first world before + 1
+cells-next : (first : Option ℕ) (world : List Placed) (before : List Entry) (e : Entry) → count_after first world (before ++ e ∷ []) ≤ count_after first world before + 1
 cells-next None world before e = omega arith
 cells-next (Some n) world before e =
     let more : length (cells_of world (before ++ e ∷ [])) ≡ length (cells_of world before) + length (cells_of (world_after world before) (e ∷ [])) =

@@ -11,7 +11,7 @@ use Rattle.disk_trait.specs.Drive.{Drive}
 use Rattle.std.specs.Option.{option_map}
 use Rattle.kept_log.specs.KeptView.{KeptView}
 use Rattle.kept_log.specs.Journal.{KeepsIn, cells_in}
-use Rattle.kept_log.specs.Counts.{cells_after}
+use Rattle.kept_log.specs.Counts.{count_after}
 use Rattle.commit_book.specs.BookView.{BookView}
 use Rattle.commit_book.specs.IsBook.{IsBook}
 use Rattle.commit_book.specs.Refusals.{IsRefusedBy, LeavesRefused, first_of}
@@ -28,7 +28,7 @@ pub prefix-later : (xs ys zs : List Entry) → IsPrefix xs ys → IsPrefix ys zs
 prefix-later xs ys zs (a, p) (b, q) = (a ++ b, sym (append_assoc xs a b) ∙ ap (λ (l : List Entry). l ++ b) p ∙ q)
 
 log-cells : {D : Type 0} (drive : D → Drive) (w : ℕ) (s : State) (h : List Entry) (log : Option (KeptView D)) → KeepsIn drive w s h log
-    → cells_in log ≡ cells_after (option_map (λ (start : LogStart). start.cells) (option_map (start_in drive) log)) s.world h
+    → cells_in log ≡ count_after (option_map (λ (start : LogStart). start.cells) (option_map (start_in drive) log)) s.world h
 log-cells drive w s h None keeps = refl
 log-cells drive w s h (Some log) keeps = keeps.keeps.count
 

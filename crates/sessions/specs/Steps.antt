@@ -5,7 +5,7 @@ use Rattle.plain_list.specs.declared.entries.Entry.{Entry}
 use Rattle.plain_list.specs.declared.entries.Entry.TheVariants.{Fail}
 use Rattle.plain_list.specs.declared.entries.Lost.{Lost}
 use Rattle.disk_trait.specs.Drive.{Drive}
-use Rattle.kept_log.specs.Counts.{cells_after}
+use Rattle.kept_log.specs.Counts.{count_after}
 use Rattle.commit_book.specs.BookView.{BookView}
 use Rattle.commit_book.specs.Refusals.{IsRefusedBy}
 use Rattle.commit_book.specs.declared.faults.BookFault.{BookFault}
@@ -30,7 +30,7 @@ has_added old before e = record old { seen = before ++ e ∷ []; own = old.own +
 
 -- how many cells the log of a store of this origin has after a history
 abbrev pub cells_at : Origin → List Entry → ℕ
-cells_at origin before = cells_after (first_cells origin) origin.world before
+cells_at origin before = count_after (first_cells origin) origin.world before
 
 -- what a step leaves: the entry that it adds, where it adds one, is the last that was seen, and own
 abbrev pub Leaves : {A : Type 0} → (A → Entry) → (List Entry → Lost) → Known → List Entry → Known → Result A BookFault → Type 0
