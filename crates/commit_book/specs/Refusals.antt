@@ -15,6 +15,7 @@ use Rattle.plain_list.specs.History.{world_after, failed_cell}
 use Rattle.plain_list.specs.State.{State, OpenSplit, split_name, is_leaf, state_after}
 use Rattle.disk_trait.specs.Drive.{Drive}
 use Rattle.split_prepare.specs.Prepared.{PreparedView}
+pub use Rattle.split_log.specs.LogView.{most_cells}
 use Rattle.kept_log.specs.Journal.{cells_in, RoseIn}
 use Rattle.commit_book.specs.BookView.{BookView}
 use Rattle.commit_book.specs.IsBook.{most_events}
@@ -77,10 +78,6 @@ events_refusal entries = if length entries == most_events then Some HistoryFull 
 -- a query
 abbrev pub call_refusal : List Entry → Option BookFault
 call_refusal entries = first_of (closed_refusal entries) (events_refusal entries)
-
--- the most cells of a log
-abbrev pub most_cells : ℕ
-most_cells = 16777216
 
 -- the end of a split
 abbrev pub end_refusal : ℕ → List Entry → Option BookFault

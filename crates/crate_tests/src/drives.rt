@@ -11,13 +11,6 @@ fn two_bytes(rt: &impl Abort, alloc: Global, failing: &[Failing]) -> MemDisk {
     MemDisk::new(alloc, bytes, 8, 8, failing).expect(rt, "no drive")
 }
 
-fn may_be_sent<T: Send>() {}
-
-#[test]
-fn a_drive_may_be_sent_between_threads() {
-    may_be_sent::<MemDisk>();
-}
-
 // An image of a moment by a length and what fills it.
 type Image = (u64, u64, u8, &'static [u8]);
 

@@ -15,6 +15,7 @@ mod images;
 mod plans;
 mod recorded;
 mod scans;
+mod sending;
 mod touches;
 
 pub use attaches::Attached;

@@ -1,5 +1,5 @@
 -- What an append makes of each history that a journal keeps, and the cell that a history's failed append names.
-use Rattle.std.proofs.Common.{◌≡◌, ◌⊎◌, inl, inr, ℕ, ◌^◌, ◌<◌, ◌≤◌, true, false, List, [], ◌∷◌, ◌++◌, Option, Some, None, is_some, refl, sym, ◌∙◌, ap, subst, arith, cond}
+use Rattle.std.proofs.Common.{◌≡◌, ◌⊎◌, inl, inr, ℕ, ◌<◌, ◌≤◌, true, false, List, [], ◌∷◌, ◌++◌, Option, Some, None, is_some, refl, sym, ◌∙◌, ap, subst, arith, cond}
 use Rattle.std.proofs.lemmas.Bool.{true≢false}
 use Rattle.std.proofs.lemmas.List.{append-nil}
 use Rattle.causes.specs.Causes.{Rose}
@@ -18,6 +18,7 @@ use Rattle.disk_trait.specs.Drive.{Drive, KeepsLaws, SameFile}
 use Rattle.disk_trait.specs.Moments.{LeavesOnly}
 use Rattle.split_log.specs.LogText.{IsLog, HoldsEither}
 use Rattle.split_log.specs.Append.{Adds, Fails}
+use Rattle.split_log.specs.LogView.{most_cells}
 use Rattle.log_state.specs.Recovers.{Recovers}
 use Rattle.log_state.specs.Changes.{cells_of, failed_cells}
 use Rattle.log_state.proofs.PlacedChanges.{failed_cells-none as failed_cells-sound}
@@ -87,7 +88,7 @@ in-call drive w s h session row op log legal none =
 
 -- a log that was just opened keeps the empty history
 pub in-opened : {D : Type 0} (drive : D → Drive) (w : ℕ) (s : State) (log : KeptView D) → log.cells ≡ log.first → IsOpened w s (drive log.start) (drive log.disk)
-    → log.cells ≤ 2 ^ 24 → log.failed ≡ None → KeepsIn drive w s [] (Some log)
+    → log.cells ≤ most_cells → log.failed ≡ None → KeepsIn drive w s [] (Some log)
 in-opened drive w s log first opened most sound = record {
   keeps = kept-opened drive w s log first opened;
   failed = sound;
@@ -107,7 +108,7 @@ added-none drive cell = record {
   keeps = λ w s h e next kept. failed_cell-push h e (has_failed-none h kept) ∙ with_cell (world_after s.world h) e cell next.cells;
 }
 
-module _ {D : Type 0} (drive : D → Drive) (cell : Cell) (old new : KeptView D) (sound_log : old.failed ≡ None) (room : old.cells < 2 ^ 24) (opened : IsSince old new)
+module _ {D : Type 0} (drive : D → Drive) (cell : Cell) (old new : KeptView D) (sound_log : old.failed ≡ None) (room : old.cells < most_cells) (opened : IsSince old new)
     (later : (drive old.disk).faults ≤ (drive new.disk).faults)
     (any_moment : (w : ℕ) (cells : List Cell) → IsLog w cells (drive old.disk) → LeavesOnly (drive old.disk) (drive new.disk) (HoldsEither w cells cell)) where
   still_later : (drive old.start).faults ≤ (drive old.disk).faults → (drive new.start).faults ≤ (drive new.disk).faults

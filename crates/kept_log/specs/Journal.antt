@@ -1,5 +1,5 @@
 -- What the log of a store that may have none keeps.
-use Rattle.std.specs.Prelude.{◌≡◌, ◌⊎◌, ℕ, ◌+◌, ◌^◌, ◌≤◌, Bool, true, false, List, [], ◌∷◌, ◌++◌, replicate, Option, Some, None, is_some, ⊤}
+use Rattle.std.specs.Prelude.{◌≡◌, ◌⊎◌, ℕ, ◌+◌, ◌≤◌, Bool, true, false, List, [], ◌∷◌, ◌++◌, replicate, Option, Some, None, is_some, ⊤}
 use Rattle.causes.specs.Causes.{Rose}
 use Rattle.cell_format.specs.declared.cell.Cell.{Cell}
 use Rattle.plain_list.specs.declared.entries.Entry.{Entry}
@@ -15,6 +15,7 @@ use Rattle.log_state.specs.Recovers.{Recovers}
 use Rattle.log_state.specs.Changes.{cells_of, lost_cells}
 use Rattle.kept_log.specs.KeptView.{KeptView}
 use Rattle.kept_log.specs.Kept.{StartsWith, Keeps}
+use Rattle.split_log.specs.LogView.{most_cells}
 use Rattle.kept_log.specs.Steps.{IsNext, IsSince}
 
 -- how many cells there are: none without a log
@@ -38,7 +39,7 @@ pub record KeepsLog {D : Type 0} (drive : D → Drive) (w : ℕ) (s : State) (h 
   pub keeps : Keeps drive w s h log
   pub failed : log.failed ≡ failed_cell h
   pub named : (n : ℕ) → failed_cell h ≡ Some n → n ≡ log.cells
-  pub most : log.cells ≤ 2 ^ 24
+  pub most : log.cells ≤ most_cells
   pub later : (drive log.start).faults ≤ (drive log.disk).faults
   pub rose : is_some (failed_cell h) ≡ true → Rose (drive log.start).faults (drive log.disk).faults
   pub calm : failed_cell h ≡ None → (drive log.disk).faults ≡ (drive log.start).faults

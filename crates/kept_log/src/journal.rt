@@ -1,18 +1,16 @@
 //! The log of a store that may have none, and what it has kept since it was opened.
-ghost use Rattle.std.specs.Prelude.{◌≡◌, ◌≤◌, ◌<◌, ◌^◌, ◌==◌, ℕ, [], Some, None, is_some, OnOk, IfErr};
+ghost use Rattle.std.specs.Prelude.{◌≡◌, ◌≤◌, ◌<◌, ◌==◌, ℕ, [], Some, None, is_some, OnOk, IfErr};
 ghost use Rattle.plain_list.specs.State.{State};
+ghost use Rattle.split_log.specs.LogView.{most_cells};
 ghost use Rattle.kept_log.specs.Kept.{IsOpened};
 ghost use Rattle.kept_log.specs.Steps.{IsSince};
 ghost use Rattle.kept_log.specs.Journal.{cells_in, failed_in, disk_in, KeepsIn, IsSinceIn, Added, Missed, LeavesNext};
 
 use cell_format::Cell;
 use disk_trait::LogDisk;
-use split_log::{AppendFault, SplitLog};
+use split_log::{AppendFault, MOST_CELLS, SplitLog};
 use std::marker::Model;
 use std::snapshot::Snapshot;
-
-/// The most cells that a log may have.
-const MOST_CELLS: u64 = 1 << 24;
 
 /// The log of a store that may have none, and then keeps nothing.
 #[derive(Drop)]
@@ -83,7 +81,7 @@ impl<D: LogDisk> Journal<D> {
     /// How many cells there are: none without a log.
     pub fn cells(&self) -> u64
         ensures cells { result ≡ cells_in self.now }
-        ensures most { cells_in self.now ≤ 2 ^ 24 }
+        ensures most { cells_in self.now ≤ most_cells }
     {
         match &self.log {
             Some(kept) => kept.log.cells(),
@@ -103,7 +101,7 @@ impl<D: LogDisk> Journal<D> {
 
     /// Whether there is a log with all the cells that it may have.
     pub fn is_full(&self) -> bool
-        ensures { result ≡ (cells_in self.now == 2 ^ 24) }
+        ensures { result ≡ (cells_in self.now == most_cells) }
     {
         self.cells() == MOST_CELLS
     }
@@ -111,7 +109,7 @@ impl<D: LogDisk> Journal<D> {
     /// Adds a cell, where there is a log. After a disk fault the log takes no more.
     pub fn append(&mut self, cell: &Cell) -> Result<(), AppendLost>
         requires open { failed_in self.old ≡ None }
-        requires room { cells_in self.old < 2 ^ 24 }
+        requires room { cells_in self.old < most_cells }
 
         ensures ok { OnOk result (Added D.drive cell.now self.old self.new) }
         ensures lost { IfErr result (λ e. Missed D.drive cell.now e.cell self.old self.new) }
@@ -138,7 +136,7 @@ impl<D: LogDisk> Journal<D> {
 impl<D: LogDisk> Kept<D> {
     fn append(&mut self, cell: &Cell) -> Result<(), AppendLost>
         requires open { self.old.failed ≡ None }
-        requires room { self.old.cells < 2 ^ 24 }
+        requires room { self.old.cells < most_cells }
 
         ensures ok { OnOk result (Added D.drive cell.now (Some self.old) (Some self.new)) }
         ensures lost { IfErr result (λ e. Missed D.drive cell.now e.cell (Some self.old) (Some self.new)) }

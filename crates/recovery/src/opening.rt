@@ -1,5 +1,5 @@
 //! Opens a log for appends.
-ghost use Rattle.std.specs.Prelude.{◌≡◌, ◌⊎◌, ◌≤◌, ◌+◌, ◌*◌, ◌^◌, ℕ, List, Some, None, is_some, take, length, OnOk, IfOk, IfErr, IsErrOf, MatchResult};
+ghost use Rattle.std.specs.Prelude.{◌≡◌, ◌⊎◌, ◌≤◌, ◌+◌, ◌*◌, ℕ, List, Some, None, is_some, take, length, OnOk, IfOk, IfErr, IsErrOf, MatchResult};
 ghost use Rattle.std.specs.Result.{IsErrAnd};
 ghost use Rattle.recovery.specs.declared.seen.OpenFault.{OpenFault};
 ghost use Rattle.causes.specs.Causes.{Rose};
@@ -7,6 +7,7 @@ ghost use Rattle.cell_format.specs.declared.cell.Cell.{Cell};
 ghost use Rattle.disk_trait.specs.Drive.{Only, CountsFaults};
 ghost use Rattle.disk_trait.specs.Moments.{LeavesNow, LeavesOnly};
 ghost use Rattle.log_state.specs.Recovers.{Recovers};
+ghost use Rattle.split_log.specs.LogView.{most_cells};
 ghost use Rattle.recovery.specs.Faults.{IsFault, IsInBytes};
 ghost use Rattle.recovery.specs.Found.{IsFound, IsFree};
 ghost use Rattle.recovery.specs.Opening.{KeepsCells, CallsToCut, LeavesUnopened, IsReady};
@@ -27,7 +28,7 @@ pub fn open<D: LogDisk>(
     most: u64,
 ) -> Result<Opened<D>, OpenRefused<D>>
     requires width { (width ≡ 1) ⊎ (width ≡ 2) }
-    requires few { most ≤ 2 ^ 24 }
+    requires few { most ≤ most_cells }
 
     ensures found { IfOk result (λ o. IsFound width most (D.drive disk) o.seen) }
     ensures ready { IfOk result (λ o. IsReady width o.seen (D.drive disk) (D.drive o.log.disk)) }

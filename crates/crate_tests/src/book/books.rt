@@ -3,11 +3,9 @@ use commit_book::Book;
 use disk_trait::LogDisk;
 use index_layer::Index;
 use recovery::open;
+use split_log::MOST_CELLS;
 use std::alloc::Global;
 use std::process::Abort;
-
-// The most cells of a log.
-const MOST_CELLS: u64 = 16_777_216;
 
 /// A book over the log that a drive has, with buckets of four.
 pub fn book_on<I: Index, D: LogDisk>(rt: &impl Abort, alloc: Global, disk: D) -> Book<I, D> {
