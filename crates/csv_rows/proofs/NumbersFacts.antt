@@ -56,13 +56,6 @@ number_in-some low high n field e = by_test (is_between low high field) refl e
     by_test true is e = let same : n ≡ number field = cc in let bounds = is_between-bounds low high field is in (is, same, omega (arith, same, bounds.0), omega (arith, same, bounds.1))
     by_test false is e = cc
 
-pub number_in-none : (low high : ℕ) (field : List ℕ) → None ≡ number_in low high field → is_between low high field ≡ false
-number_in-none low high field e = by_test (is_between low high field) e
-  where
-    by_test : (b : Bool) → None ≡ cond b (Some (number field)) None → b ≡ false
-    by_test true e = cc
-    by_test false e = refl
-
 pub is_number-empty : (field : List ℕ) → length field ≡ 0 → is_number field ≡ false
 is_number-empty field e = not_true _ (λ h. let parts = is_number-parts field h in omega (arith, e, parts.0))
 

@@ -54,9 +54,11 @@ const ID: Rule = Rule::Between {
     high: u64::MAX,
 };
 
+const COORDINATE_MAX: u64 = 4_294_967_295;
+
 const COORDINATE: Rule = Rule::Between {
     low: 0,
-    high: 4_294_967_295,
+    high: COORDINATE_MAX,
 };
 
 const COUNT: Rule = Rule::Between { low: 1, high: 2048 };
@@ -68,7 +70,7 @@ fn at_least(low: u64) -> Rule
 {
     Rule::Between {
         low,
-        high: 4_294_967_295,
+        high: COORDINATE_MAX,
     }
 }
 

@@ -11,7 +11,7 @@ ghost use Rattle.csv_rows.specs.InRows.{AreInRows, IsInRow};
 ghost use Rattle.csv_rows.specs.Columns.{AreKept, Fits, column_texts, text_by};
 ghost use Rattle.csv_rows.specs.RowLines.{header_line, line_then, op_tail, row_line, rows_text};
 
-use crate::columns::{Columns, Rule, Word, op_of, rules_of, text_of};
+use crate::columns::{Columns, Rule, SESSION, Word, op_of, rules_of, text_of};
 use crate::numbers::front_number;
 use crate::pieces::Piece;
 use crate::read::MOST_ROWS;
@@ -70,7 +70,7 @@ fn take_row(text: &[u8]) -> Option<(InRow, &[u8])>
     ensures line { IfSome result (λ p. text.now ≡ row_line p.0 ++ p.1.now) }
     ensures rules { IfSome result (λ p. IsInRow p.0) }
 {
-    let Some((session, rest)) = take_number(text, 1, 16) else {
+    let Some((session, rest)) = take_field(SESSION, text) else {
         return None;
     };
     let Some((op, rest)) = take_op(rest) else {
@@ -159,9 +159,18 @@ fn take_column(rule: Rule, text: &[u8]) -> Option<(u64, &[u8])>
     let [b',', rest @ ..] = text else {
         return None;
     };
+    take_field(rule, rest)
+}
+
+// The same without a comma.
+#[inline(always)]
+fn take_field(rule: Rule, text: &[u8]) -> Option<(u64, &[u8])>
+    ensures text { IfSome result (λ p. text.now ≡ text_by rule p.0 ++ p.1.now) }
+    ensures fits { IfSome result (λ p. Fits rule p.0) }
+{
     match rule {
-        Rule::Empty => Some((0, rest)),
-        Rule::Between { low, high } => take_number(rest, low, high),
+        Rule::Empty => Some((0, text)),
+        Rule::Between { low, high } => take_number(text, low, high),
     }
 }
 
