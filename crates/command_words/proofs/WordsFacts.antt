@@ -1,10 +1,10 @@
 -- Words ask for one command.
 use Rattle.std.proofs.Common.{◌≡◌, ◌∙◌, ◌<◌, ◌≤◌, inl, inr, ℕ, List, [], ◌∷◌, length, get_or, Option, Some, None, sym, ap, subst, arith}
-use Rattle.std.specs.Prelude.{codes, IsTrue}
+use Rattle.std.specs.Prelude.{codes, sum, IsTrue}
 use Rattle.std.proofs.lemmas.Bool.{true≢false}
 use Rattle.zorder.specs.declared.points.Region.{Region}
 use Rattle.csv_rows.specs.Numbers.{number_in}
-use Rattle.command_words.specs.Words.{Command, AsksFor, NamesFile, SpellsBox, SpellsNoSize, SpellsPlay, SpellsShow, IsInit, IsCheck, IsPlay, IsShow, IsTrial, IsUnlogged, IsLogged, is_file_name, Init, Check, Play, Show, Trial}
+use Rattle.command_words.specs.Words.{Command, AsksFor, NamesFile, SpellsBox, SpellsNoSize, SpellsPlay, SpellsShow, IsInit, IsCheck, IsPlay, IsShow, IsUnlogged, IsLogged, is_file_name, Init, Check, Play, Show, Trial}
 use Rattle.command_words.proofs.TrialFacts.{trial-word, one-trial, word-at}
 
 init-word : (words : List (List ℕ)) → IsInit words → get_or words 0 [] ≡ codes "init"
@@ -59,46 +59,30 @@ pub unlogged-logged : (words : List (List ℕ)) → IsUnlogged words → IsLogge
 unlogged-logged words (size, plain) (file, n, (named, over)) =
     absurd (true≢false (sym (ap is_file_name (sym (log-word words (codes "-") size plain) ∙ log-word words file n over) ∙ named)))
 
-first_letter : (xs ys : List ℕ) → xs ≡ ys → get_or xs 0 0 ≡ get_or ys 0 0
-first_letter xs ys e = ap (λ (l : List ℕ). get_or l 0 0) e
-
-pub init-check : (words : List (List ℕ)) → IsInit words → IsCheck words → ⊥
-init-check words i k = let e : 105 ≡ 99 = first_letter (codes "init") (codes "check") (sym (init-word words i) ∙ check-word words k) in omega (arith, e)
-
-pub init-play : (words : List (List ℕ)) → IsInit words → IsPlay words → ⊥
-init-play words i p = let e : 105 ≡ 112 = first_letter (codes "init") (codes "play") (sym (init-word words i) ∙ play-word words p) in omega (arith, e)
-
-pub check-play : (words : List (List ℕ)) → IsCheck words → IsPlay words → ⊥
-check-play words k p = let e : 99 ≡ 112 = first_letter (codes "check") (codes "play") (sym (check-word words k) ∙ play-word words p) in omega (arith, e)
-
 shown-word : (words : List (List ℕ)) → IsShow words → get_or words 0 [] ≡ codes "show"
 shown-word words (file, region, (named, spells)) = show-word words file region spells
 
-pub init-show : (words : List (List ℕ)) → IsInit words → IsShow words → ⊥
-init-show words i s = let e : 105 ≡ 115 = first_letter (codes "init") (codes "show") (sym (init-word words i) ∙ shown-word words s) in omega (arith, e)
+-- the word of a command
+abbrev command_word : Command → List ℕ
+command_word (Init file) = codes "init"
+command_word (Check file) = codes "check"
+command_word (Play log size) = codes "play"
+command_word (Show file region) = codes "show"
+command_word (Trial log made) = codes "trial"
 
-pub check-show : (words : List (List ℕ)) → IsCheck words → IsShow words → ⊥
-check-show words k s = let e : 99 ≡ 115 = first_letter (codes "check") (codes "show") (sym (check-word words k) ∙ shown-word words s) in omega (arith, e)
+-- words that ask for a command begin with its word
+begins : (words : List (List ℕ)) (a : Command) → AsksFor words a → get_or words 0 [] ≡ command_word a
+begins words (Init file) asks = init-word words (file, asks)
+begins words (Check file) asks = check-word words (file, asks)
+begins words (Play log size) asks = play-word words (size, (log, asks))
+begins words (Show file region) asks = shown-word words (file, region, asks)
+begins words (Trial log made) asks = trial-word words (log, made, asks)
 
-pub play-show : (words : List (List ℕ)) → IsPlay words → IsShow words → ⊥
-play-show words p s = let e : 112 ≡ 115 = first_letter (codes "play") (codes "show") (sym (play-word words p) ∙ shown-word words s) in omega (arith, e)
+-- the letters of a command's word, added up: no two commands have the same sum
+letters : (words : List (List ℕ)) (a b : Command) → AsksFor words a → AsksFor words b → sum (command_word a) ≡ sum (command_word b)
+letters words a b first second = ap sum (sym (begins words a first) ∙ begins words b second)
 
-first-letter : (words : List (List ℕ)) (xs ys : List ℕ) → get_or words 0 [] ≡ xs → get_or words 0 [] ≡ ys → get_or xs 0 0 ≡ get_or ys 0 0
-first-letter words xs ys first second = first_letter xs ys (sym first ∙ second)
-
-init-trial : (words : List (List ℕ)) → IsInit words → IsTrial words → ⊥
-init-trial words i t = let e : 105 ≡ 116 = first-letter words (codes "init") (codes "trial") (init-word words i) (trial-word words t) in omega (arith, e)
-
-check-trial : (words : List (List ℕ)) → IsCheck words → IsTrial words → ⊥
-check-trial words k t = let e : 99 ≡ 116 = first-letter words (codes "check") (codes "trial") (check-word words k) (trial-word words t) in omega (arith, e)
-
-play-trial : (words : List (List ℕ)) → IsPlay words → IsTrial words → ⊥
-play-trial words p t = let e : 112 ≡ 116 = first-letter words (codes "play") (codes "trial") (play-word words p) (trial-word words t) in omega (arith, e)
-
-show-trial : (words : List (List ℕ)) → IsShow words → IsTrial words → ⊥
-show-trial words s t = let e : 115 ≡ 116 = first-letter words (codes "show") (codes "trial") (shown-word words s) (trial-word words t) in omega (arith, e)
-
--- words ask for one command
+-- words name one file behind a command
 same-file : (command : List ℕ) (words : List (List ℕ)) (f g : List ℕ) → NamesFile command words f → NamesFile command words g → f ≡ g
 same-file command words f g first second = ap (λ (ws : List (List ℕ)). get_or ws 1 []) (sym first.0 ∙ second.0)
 
@@ -161,29 +145,11 @@ one-show words f g q r (named, first) (also, second) =
     let region : q ≡ r = same-shown words f g q r first second in
     λ i. Show (file i) (region i)
 
+-- words ask for one command
 pub one-command : (words : List (List ℕ)) (a b : Command) → AsksFor words a → AsksFor words b → a ≡ b
 one-command words (Init f) (Init g) first second = ap Init (same-file (codes "init") words f g first second)
-one-command words (Init f) (Check g) first second = absurd (init-check words (f, first) (g, second))
-one-command words (Init f) (Play l n) first second = absurd (init-play words (f, first) (n, (l, second)))
-one-command words (Init f) (Show g r) first second = absurd (init-show words (f, first) (g, r, second))
-one-command words (Init f) (Trial l b) first second = absurd (init-trial words (f, first) (l, b, second))
-one-command words (Check f) (Init g) first second = absurd (init-check words (g, second) (f, first))
 one-command words (Check f) (Check g) first second = ap Check (same-file (codes "check") words f g first second)
-one-command words (Check f) (Play l n) first second = absurd (check-play words (f, first) (n, (l, second)))
-one-command words (Check f) (Show g r) first second = absurd (check-show words (f, first) (g, r, second))
-one-command words (Check f) (Trial l b) first second = absurd (check-trial words (f, first) (l, b, second))
-one-command words (Play k m) (Init g) first second = absurd (init-play words (g, second) (m, (k, first)))
-one-command words (Play k m) (Check g) first second = absurd (check-play words (g, second) (m, (k, first)))
 one-command words (Play k m) (Play l n) first second = one-play words k l m n first second
-one-command words (Play k m) (Show g r) first second = absurd (play-show words (m, (k, first)) (g, r, second))
-one-command words (Play k m) (Trial l b) first second = absurd (play-trial words (m, (k, first)) (l, b, second))
-one-command words (Show f q) (Init g) first second = absurd (init-show words (g, second) (f, q, first))
-one-command words (Show f q) (Check g) first second = absurd (check-show words (g, second) (f, q, first))
-one-command words (Show f q) (Play l n) first second = absurd (play-show words (n, (l, second)) (f, q, first))
 one-command words (Show f q) (Show g r) first second = one-show words f g q r first second
-one-command words (Show f q) (Trial l b) first second = absurd (show-trial words (f, q, first) (l, b, second))
-one-command words (Trial k a) (Init g) first second = absurd (init-trial words (g, second) (k, a, first))
-one-command words (Trial k a) (Check g) first second = absurd (check-trial words (g, second) (k, a, first))
-one-command words (Trial k a) (Play l n) first second = absurd (play-trial words (n, (l, second)) (k, a, first))
-one-command words (Trial k a) (Show g r) first second = absurd (show-trial words (g, r, second) (k, a, first))
 one-command words (Trial k a) (Trial l b) first second = one-trial words k l a b first second
+one-command words a b first second = let e = letters words a b first second in absurd (omega (arith, e))
