@@ -144,9 +144,25 @@ fn add_reason(piece: &mut Piece, refusal: &Refusal)
         Refusal::Usage => push_str(piece, "usage"),
         Refusal::Header => push_str(piece, "header"),
         Refusal::Csv { row } => add_csv(piece, *row),
-        Refusal::Field { row, column } => add_field(piece, *row, *column),
+        Refusal::Field { row, column } => {
+            add_two(
+                piece,
+                "row ",
+                u64::from(*row),
+                " column ",
+                u64::from(*column),
+            )
+        }
         Refusal::NotLog => push_str(piece, "not a log"),
-        Refusal::OldLog { version, width } => add_old_log(piece, *version, *width),
+        Refusal::OldLog { version, width } => {
+            add_two(
+                piece,
+                "log version ",
+                u64::from(*version),
+                " width ",
+                u64::from(*width),
+            )
+        }
         Refusal::Damaged { cell, cause } => add_damaged(piece, *cell, *cause),
         Refusal::Source => push_str(piece, "source"),
         Refusal::Disk { cell: Some(cell) } => add_counted(piece, "disk cell ", *cell),
@@ -168,22 +184,15 @@ fn add_csv(piece: &mut Piece, row: u32)
     push_str(piece, " length");
 }
 
-fn add_field(piece: &mut Piece, row: u32, column: u8)
-    requires { array_vec_len piece.old ≤ 64 }
-    ensures bytes { piece.new.items ≡ piece.old.items ++ (codes "row " ++ decimal row ++ codes " column " ++ decimal column) }
+// Adds two words, each with a number.
+fn add_two(piece: &mut Piece, first: &str, number: u64, second: &str, other: u64)
+    requires room { array_vec_len piece.old ≤ 64 }
+    requires words { (length first.now ≤ 16) × (length second.now ≤ 16) }
+    ensures bytes { piece.new.items ≡ piece.old.items ++ (first.now ++ decimal number ++ second.now ++ decimal other) }
     ensures len { array_vec_len piece.new ≤ 1024 }
 {
-    add_counted(piece, "row ", u64::from(row));
-    add_counted(piece, " column ", u64::from(column));
-}
-
-fn add_old_log(piece: &mut Piece, version: u8, width: u8)
-    requires { array_vec_len piece.old ≤ 64 }
-    ensures bytes { piece.new.items ≡ piece.old.items ++ (codes "log version " ++ decimal version ++ codes " width " ++ decimal width) }
-    ensures len { array_vec_len piece.new ≤ 1024 }
-{
-    add_counted(piece, "log version ", u64::from(version));
-    add_counted(piece, " width ", u64::from(width));
+    add_counted(piece, first, number);
+    add_counted(piece, second, other);
 }
 
 fn add_damaged(piece: &mut Piece, cell: u64, cause: Cause)

@@ -1,4 +1,4 @@
-use Rattle.std.proofs.Common.{◌++◌, ap, sym, ◌∙◌}
+use Rattle.std.proofs.Common.{◌++◌, ap, refl, sym, ◌∙◌}
 use Rattle.csv_rows.specs.Lines.{reason_text}
 use Rattle.csv_rows.proofs.lines.add_reason.Goals as goal
 
@@ -6,10 +6,10 @@ pub returns-in-Csv-clause-bytes : goal.returns-in-Csv-clause-bytes
 returns-in-Csv-clause-bytes c = c.add_csv.ensures.bytes ∙ ap (λ r. c.args.piece.now.items ++ reason_text r) (sym c.in-Csv.is)
 
 pub returns-in-Field-clause-bytes : goal.returns-in-Field-clause-bytes
-returns-in-Field-clause-bytes c = c.add_field.ensures.bytes ∙ ap (λ r. c.args.piece.now.items ++ reason_text r) (sym c.in-Field.is)
+returns-in-Field-clause-bytes c = rw (c.add_two.ensures.bytes, c.from.ensures, c.from-in-Field.ensures, c.in-Field.is) refl
 
 pub returns-in-OldLog-clause-bytes : goal.returns-in-OldLog-clause-bytes
-returns-in-OldLog-clause-bytes c = c.add_old_log.ensures.bytes ∙ ap (λ r. c.args.piece.now.items ++ reason_text r) (sym c.in-OldLog.is)
+returns-in-OldLog-clause-bytes c = rw (c.add_two-in-OldLog.ensures.bytes, c.from-in-OldLog.ensures, c.from-in-OldLog-2.ensures, c.in-OldLog.is) refl
 
 pub returns-in-Damaged-clause-bytes : goal.returns-in-Damaged-clause-bytes
 returns-in-Damaged-clause-bytes c = c.add_damaged.ensures.bytes ∙ ap (λ r. c.args.piece.now.items ++ reason_text r) (sym c.in-Damaged.is)
