@@ -31,6 +31,8 @@ mod orders;
 #[cfg(test)]
 mod passes;
 #[cfg(test)]
+mod points;
+#[cfg(test)]
 mod sheets;
 #[cfg(test)]
 mod stores;

@@ -1,0 +1,78 @@
+//! The points of the gate that a lane comes to, and then the settling of the splits at the end.
+use crate::fixtures::play;
+use io_edge::{Gate, GatePoint};
+use std::alloc::Global;
+use std::process::Abort;
+use std::sync::Wait;
+use std::sync::atomic::{AtomicBool, AtomicU64, Ordering};
+use std::thread::Threads;
+
+// The five puts stand in the same half of the plane: the split of the whole plane, which the fifth one tells, leaves them in one leaf, which
+// is split at the end. The box takes the index.
+const INPUT: &str =
+    "session,op,id,x,y,a,b\n3,put,1,0,0,,\n3,put,2,1,0,,\n3,put,3,2,0,,\n3,put,4,0,2147483648,,\n3,put,5,1,2147483648,,\n3,box,,0,0,9,9\n";
+
+// Lane 3 alone has rows, and the splits at the end are those of lane 0.
+const POINTS: &[(GatePoint, u8)] = &[
+    (GatePoint::Answered, 3),
+    (GatePoint::Answered, 3),
+    (GatePoint::Answered, 3),
+    (GatePoint::Answered, 3),
+    (GatePoint::Answered, 3),
+    (GatePoint::Begun, 3),
+    (GatePoint::Ready, 3),
+    (GatePoint::Taken, 3),
+    (GatePoint::Answered, 3),
+    (GatePoint::Begun, 0),
+    (GatePoint::Ready, 0),
+];
+
+// A gate that is to be reached at these points, in their order.
+#[derive(Drop)]
+struct Awaited<'a> {
+    points: &'a [(GatePoint, u8)],
+    reached: AtomicU64,
+    is_other: AtomicBool,
+}
+
+impl<'a> Awaited<'a> {
+    fn new(points: &'a [(GatePoint, u8)]) -> Awaited<'a> {
+        Awaited {
+            points,
+            reached: AtomicU64::new(0),
+            is_other: AtomicBool::new(false),
+        }
+    }
+
+    // Whether it was reached at each of its points, and at no other.
+    fn was_reached(&self) -> bool {
+        let reached = self.reached.load(Ordering::SeqCst);
+        reached == self.points.len() as u64 && !self.is_other.load(Ordering::SeqCst)
+    }
+}
+
+impl Gate for Awaited<'_> {
+    fn reach(&self, point: GatePoint, lane: u8) {
+        let place = self.reached.fetch_add(1, Ordering::SeqCst);
+        let is_next = match self.points.get(place as usize) {
+            Some((awaited, of)) => *awaited == point && *of == lane,
+            None => false,
+        };
+        if !is_next {
+            self.is_other.store(true, Ordering::SeqCst);
+        }
+    }
+}
+
+fn comes_to_its_points<R: Threads + Wait + Abort + Sync>(rt: &R, alloc: Global) {
+    let gate = Awaited::new(POINTS);
+    let input = INPUT.as_bytes().to_vec(alloc).expect(rt, "it failed");
+    let left = play(rt, alloc, "4", input, &gate);
+    assert_same!(rt; left.status, 0);
+    assert_is!(rt; gate.was_reached());
+}
+
+#[test]
+fn a_split_of_a_lane_and_one_of_settling_come_to_the_gate_as_theirs(rt: HostRuntime) {
+    comes_to_its_points(&rt, rt.alloc());
+}
