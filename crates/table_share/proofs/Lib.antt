@@ -1,6 +1,7 @@
 pub mod WalkLemmas
 pub mod FoldLemmas
 pub mod RowObjects
+pub mod RowsInOrder
 pub mod TableRows
 pub mod LeafRows
 pub mod Subtrees

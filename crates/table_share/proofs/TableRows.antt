@@ -9,7 +9,7 @@ use Rattle.bucket_versions.specs.declared.row.Row.{Row}
 use Rattle.bucket_versions.specs.Rows.{IsRows, has_row, same_row}
 use Rattle.index_layer.specs.Leaves.{Leaf, all_rows}
 use Rattle.index_layer.specs.Stands.{Stands, places_have}
-use Rattle.index_layer.proofs.TableRows.{IsRows-all_rows}
+use Rattle.table_share.proofs.RowsInOrder.{IsRows-all_rows}
 use Rattle.index_layer.proofs.Standing.{rows_of_places, placed_key-lt}
 
 -- rows in order: those of the objects at these places, and no others

@@ -1,7 +1,7 @@
 use Rattle.std.proofs.Common.{◌∙◌, List, length, sym, ap, subst, arith}
 use Rattle.bucket_versions.specs.Rows.{IsRows}
 use Rattle.index_layer.specs.Leaves.{Leaf}
-use Rattle.index_layer.proofs.TableRows.{IsRows-between}
+use Rattle.table_share.proofs.RowsInOrder.{IsRows-between}
 use Rattle.table_share.specs.Subtree.{subtree, leaves_between}
 use Rattle.table_share.proofs.Subtrees.{subtree-whole}
 use Rattle.table_share.proofs.SharedKeys.{rows_whole}
