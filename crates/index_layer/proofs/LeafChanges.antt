@@ -4,6 +4,7 @@ use Rattle.std.specs.Prelude.{nat_le}
 use Rattle.std.specs.List.{AllByRecursion}
 use Rattle.std.proofs.lemmas.List.{length-map}
 use Rattle.std.proofs.Math.Nat.{pow-succ'}
+use Rattle.std.proofs.lemmas.Bool.{false_from_ne_true}
 use Rattle.zorder.specs.Name.{first_key}
 use Rattle.zorder.specs.SameName.{same_name, same_name-decides}
 use Rattle.zorder.specs.Tile.{tiles_from, next_key, bit_lists, children}
@@ -11,7 +12,7 @@ use Rattle.zorder.proofs.Tiles.{tiles_from-children}
 use Rattle.bucket_versions.specs.declared.row.Row.{Row}
 use Rattle.bucket_versions.specs.Rows.{Rows, IsRows}
 use Rattle.index_layer.specs.Leaves.{Leaf, AreUnder, AreLeaves, names_of, with_bucket, replaced, leaves_of, split, EachUnder, AreAllUnder}
-use Rattle.index_layer.proofs.LeafKeys.{false_if, first_key-next, tile_first, tile_rest, ends_before}
+use Rattle.index_layer.proofs.LeafKeys.{first_key-next, tile_first, tile_rest, ends_before}
 
 -- a leaf of the name with this bucket
 abbrev pub leaf_at : List Bool → Rows → Leaf
@@ -19,7 +20,7 @@ leaf_at name bucket = record { name = name; bucket = bucket }
 
 -- a name that begins before all leaves is none of theirs
 differs : (a b : List Bool) → (first_key a ≡ first_key b → ⊥) → same_name a b ≡ false
-differs a b other = false_if (same_name a b) (λ e. other (ap first_key ((same_name-decides a b).0 e)))
+differs a b other = false_from_ne_true (same_name a b) (λ e. other (ap first_key ((same_name-decides a b).0 e)))
 
 pub replaced-before : (k : ℕ) (name : List Bool) (bucket : Rows) (leaves : List Leaf) → first_key name < k → tiles_from k (names_of leaves) ≡ true → replaced name bucket leaves ≡ leaves
 replaced-before k name bucket [] lt tile = refl
@@ -55,8 +56,8 @@ split-at k w name buckets (f ∷ front) l back tile named =
     let rest = split-at (next_key f.name) w name buckets front l back (tile_rest k f (front ++ l ∷ back) tile) named in
     λ i. cond (other i) (leaves_of (children w name) buckets ++ (front ++ l ∷ back)) (f ∷ rest i)
 
--- a replaced bucket keeps the names
-with_bucket-name : (name : List Bool) (bucket : Rows) (l : Leaf) → (with_bucket name bucket l).name ≡ l.name
+-- a leaf with another bucket has its name, and a replaced bucket keeps the names
+pub with_bucket-name : (name : List Bool) (bucket : Rows) (l : Leaf) → (with_bucket name bucket l).name ≡ l.name
 with_bucket-name name bucket l = by_test (same_name l.name name)
   where
     by_test : (b : Bool) → (cond b (leaf_at l.name bucket) l).name ≡ l.name

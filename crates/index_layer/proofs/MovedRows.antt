@@ -11,6 +11,7 @@ use Rattle.bucket_versions.specs.declared.row.RowChange.{RowChange}
 use Rattle.bucket_versions.specs.Rows.{Rows, has_row, after_gone, without_row, same_row}
 use Rattle.index_layer.specs.Leaves.{Leaf, AreLeaves, names_of, leaf_under, replaced, with_bucket}
 use Rattle.index_layer.specs.RowChanges.{Holds, ChangesAt}
+use Rattle.index_layer.proofs.LeafChanges.{with_bucket-name}
 use Rattle.index_layer.proofs.LeafKeys.{first_key-fits, first_key-under}
 use Rattle.index_layer.proofs.LeafNames.{IsAmong, find-among, short-among, one-leaf}
 use Rattle.index_layer.proofs.Standing.{has_row-without_row}
@@ -21,14 +22,6 @@ one-named leaves l m tile first second same =
     let short : length l.name ≤ 64 = short-among leaves l tile first in
     let under : is_under l.name (first_key l.name) ≡ true = first_key-under l.name short in
     one-leaf leaves l m (first_key l.name) tile (first_key-fits l.name short) first second under (ap (λ (n : List Bool). is_under n (first_key l.name)) (sym same) ∙ under)
-
--- a leaf with another bucket has its name
-pub with_bucket-name : (name : List Bool) (b : Rows) (l : Leaf) → (with_bucket name b l).name ≡ l.name
-with_bucket-name name b l = by_test (same_name l.name name)
-  where
-    by_test : (t : Bool) → (cond t (record { name = l.name; bucket = b }) l).name ≡ l.name
-    by_test true = refl
-    by_test false = refl
 
 -- the leaf that a key is under, with another bucket under a name
 pub leaf_under-replaced : (key : ℕ) (name : List Bool) (b : Rows) (leaves : List Leaf) → leaf_under key (replaced name b leaves) ≡ option_map (with_bucket name b) (leaf_under key leaves)

@@ -4,7 +4,6 @@ pub mod CrowdLemmas
 pub mod CrowdedNames
 pub mod Dividing
 pub mod Folding
-pub mod FoundLeaves
 pub mod FullLemmas
 pub mod KeyPlaces
 pub mod MemberSteps

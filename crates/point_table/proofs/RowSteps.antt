@@ -4,7 +4,6 @@ use Rattle.std.specs.Prelude.{IfSome, ◌==◌, ◌&&◌}
 use Rattle.std.specs.List.{AllByRecursion}
 use Rattle.std.specs.Option.{option_map}
 use Rattle.zorder.specs.declared.points.Point.{Point}
-use Rattle.zorder.specs.declared.points.Placed.{Placed}
 use Rattle.zorder.specs.Key.{key_of, is_under}
 use Rattle.zorder.specs.SameName.{same_name, same_name-decides}
 use Rattle.bucket_versions.specs.declared.row.RowChange.{RowChange}
@@ -14,13 +13,12 @@ use Rattle.index_layer.specs.Leaves.{Leaf, AreLeaves, names_of, has_name, leaf_u
 use Rattle.index_layer.specs.RowChanges.{ChangesAt, Moves}
 use Rattle.index_layer.specs.Stands.{HasRowsOf, is_at_key}
 use Rattle.zorder.specs.Tile.{tiles_from}
-use Rattle.index_layer.proofs.LeafChanges.{names_of-replaced}
-use Rattle.index_layer.proofs.MovedRows.{leaf_under-replaced, with_bucket-name}
-use Rattle.index_layer.proofs.FoundLeaves.{found_named}
+use Rattle.index_layer.proofs.LeafChanges.{names_of-replaced, with_bucket-name}
+use Rattle.index_layer.proofs.MovedRows.{leaf_under-replaced}
+use Rattle.index_layer.proofs.FoundLeaves.{found_named, found_has}
 use Rattle.index_layer.proofs.LeafNames.{find-among, one-leaf}
 use Rattle.zorder.proofs.Places.{key_of-lt}
 use Rattle.point_table.proofs.Uncrowded.{left_names}
-use Rattle.point_table.proofs.Standing.{found_has}
 use Rattle.std.proofs.lemmas.Bool.{eq-eqb}
 use mathlib.Core.Bool.{true≢false}
 use Rattle.plain_list.proofs.Members.{position_of-without}

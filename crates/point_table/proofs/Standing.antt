@@ -1,5 +1,5 @@
 -- An index that stands for a world goes on to stand for it where a row is put or taken out with its object.
-use Rattle.std.proofs.Common.{◌≡◌, ℕ, Bool, true, false, cond, List, [], ◌∷◌, Option, Some, None, refl, sym, ap, subst, ◌∙◌, arith}
+use Rattle.std.proofs.Common.{◌≡◌, ℕ, Bool, true, false, cond, List, [], ◌∷◌, Option, Some, None, refl, sym, ap, ◌∙◌, arith}
 use Rattle.std.specs.Prelude.{◌==◌, ◌&&◌}
 use Rattle.std.specs.List.{find, AllByRecursion}
 use Rattle.std.specs.Option.{option_map}
@@ -55,22 +55,6 @@ rows_replaced P Q name bucket key (l ∷ leaves) only before here elsewhere = (b
     by_test : (b : Bool) → same_name l.name name ≡ b → Q (cond b (record { name = l.name; bucket = bucket }) l)
     by_test true e = here l ((same_name-decides l.name name).0 e)
     by_test false e = elsewhere l (only.0 ∙ e) before.0
-
-pub names_of-replaced : (name : List Bool) (bucket : Rows) (leaves : List Leaf) → names_of (replaced name bucket leaves) ≡ names_of leaves
-names_of-replaced name bucket [] = refl
-names_of-replaced name bucket (l ∷ leaves) = grind (arith, nat_tests, common_steps, names_of-replaced name bucket leaves)
-
--- a found leaf has what all have
-pub found_has : (P : Leaf → Type 0) (key : ℕ) (leaves : List Leaf) (leaf : Leaf) → leaf_under key leaves ≡ Some leaf → AllByRecursion P leaves → P leaf
-found_has P key [] leaf found all = cc
-found_has P key (l ∷ leaves) leaf found all = by_test (is_under l.name key) found (found_has P key leaves leaf)
-  where
-    some_is : (a b : Leaf) → Some a ≡ Some b → P a → P b
-    some_is a b e p = let is : a ≡ b = cc in subst P is p
-
-    by_test : (b : Bool) → cond b (Some l) (leaf_under key leaves) ≡ Some leaf → (leaf_under key leaves ≡ Some leaf → AllByRecursion P leaves → P leaf) → P leaf
-    by_test true here rest = some_is l leaf here all.0
-    by_test false later rest = rest later all.1
 
 pub find-names_of : (key : ℕ) (leaves : List Leaf) → find (λ n. is_under n key) (names_of leaves) ≡ option_map (λ (l : Leaf). l.name) (leaf_under key leaves)
 find-names_of key [] = refl

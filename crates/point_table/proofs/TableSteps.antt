@@ -18,6 +18,7 @@ use Rattle.bucket_versions.specs.Rows.{Rows, has_row, with_row, without_row, aft
 use Rattle.index_layer.specs.Leaves.{Leaf, names_of, leaf_under, replaced}
 use Rattle.index_layer.specs.RowChanges.{ChangesAt}
 use Rattle.index_layer.specs.Stands.{HasRowsOf, is_at_key}
+use Rattle.index_layer.proofs.FoundLeaves.{found_named, found_has}
 use Rattle.plain_list.specs.Places.{IsRising, IsAbove}
 use Rattle.plain_list.specs.World.{World, places_of, position_of, IsWorld}
 use Rattle.plain_list.specs.Answer.{with_member, with_moved, without}
@@ -28,10 +29,9 @@ use Rattle.point_table.specs.Crowded.{remarked}
 use Rattle.point_table.specs.Crowds.{is_crowded, crowded_of}
 use Rattle.point_table.proofs.Covered.{Tiles, tiles, none_under, below_next, only_under}
 use Rattle.point_table.proofs.CrowdLemmas.{crowded_of-replaced}
-use Rattle.point_table.proofs.FoundLeaves.{found_named}
 use Rattle.plain_list.proofs.MemberMaps.{IsAbove-lower, without-absent, with_moved-absent, position_of-above}
 use Rattle.point_table.proofs.Settled.{open_or_none, settled_replaced}
-use Rattle.point_table.proofs.Standing.{found_has, find-names_of, rows_after_put}
+use Rattle.point_table.proofs.Standing.{find-names_of, rows_after_put}
 use Rattle.point_table.proofs.StandingLess.{rows_after_gone}
 
 -- the object's row isn't in its leaf
