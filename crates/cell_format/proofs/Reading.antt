@@ -4,7 +4,7 @@ use Rattle.std.specs.List.{list_all}
 use Rattle.std.specs.Cmp.{first_so, second_so}
 use Rattle.std.specs.Cmp.Derive.{both_true}
 use Rattle.std.specs.Int.{to_be_bytes, w32, w64}
-use Rattle.std.proofs.lemmas.Bool.{le-leb, leb-true, eqb-true, eq-eqb, true≢false}
+use Rattle.std.proofs.lemmas.Bool.{le-leb, leb-true, eqb-true, eq-eqb, true≢false, not-true}
 use Rattle.zorder.specs.Name.{first_key, high_number-name, length-name}
 use Rattle.zorder.specs.Key.{key_bits, IsPoint}
 use Rattle.std.proofs.Math.Seq.{drop-cons}
@@ -92,10 +92,6 @@ decodes-no_kind bytes none = record {
   bad_name = (λ e. (cc), λ b. absurd (no_kind bytes none (begins bytes b.begin)));
 }
 
-not_true : (b : Bool) → not b ≡ true → b ≡ false
-not_true true h = absurd (true≢false (sym h))
-not_true false h = refl
-
 module _ (bytes : List ℕ) (long : length bytes ≡ 32) (small : AreBytes bytes) (set : slice_index bytes 0 ≡ 1) where
   -- up to the number
   numbered : (kind : ℕ) → slice_index bytes 1 ≡ kind → bytes ≡ 1 ∷ kind ∷ (to_be_bytes w64 (long_at 2 bytes) ++ drop 10 bytes)
@@ -182,7 +178,7 @@ module _ (bytes : List ℕ) (long : length bytes ≡ 32) (small : AreBytes bytes
   decodes-bad_name is none bad =
       let begin : slice_index bytes 1 ≡ 4 = eqb-true (slice_index bytes 1) 4 (first_so (slice_index bytes 1 == 4) (not (is_name (long_at 10 bytes) (slice_index bytes 18))) bad) in
       let no_name : IsNoName (long_at 10 bytes) (slice_index bytes 18) =
-      is_no_name (long_at 10 bytes) (slice_index bytes 18) (not_true _ (second_so (slice_index bytes 1 == 4) (not (is_name (long_at 10 bytes) (slice_index bytes 18))) bad)) in
+      is_no_name (long_at 10 bytes) (slice_index bytes 18) (not-true _ (second_so (slice_index bytes 1 == 4) (not (is_name (long_at 10 bytes) (slice_index bytes 18))) bad)) in
       let fault : decoded bytes ≡ Err BadName = decoded-rest bytes is none ∙ ap (λ t. by_name_test t (cell_of_kind (slice_index bytes 1) bytes)) bad in
       record {
         spelled = tt;

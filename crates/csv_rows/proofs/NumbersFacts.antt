@@ -1,6 +1,6 @@
 -- Numbers between two others.
 use Rattle.std.proofs.Common.{◌≡◌, ◌<◌, ◌≤◌, ℕ, Bool, true, false, List, length, [], ◌∷◌, Some, None, ◌^◌, refl, sym, ap, ◌∙◌, arith, cond, ◌&&◌, ◌+◌, ◌*◌, get_or, take, rules}
-use Rattle.std.proofs.lemmas.Bool.{and_from, le-leb, leb-true}
+use Rattle.std.proofs.lemmas.Bool.{and_from, le-leb, leb-true, false_from_ne_true}
 use Rattle.std.specs.Prelude.{nat_le}
 use Rattle.std.specs.Char.{is_ascii_digit, digit_value}
 use Rattle.std.specs.List.{list_all}
@@ -35,19 +35,15 @@ is_between-bounds low high field e =
     let both = first_so (is_number field && nat_le low (number field)) (nat_le (number field) high) e in
     (leb-true _ _ (second_so (is_number field) (nat_le low (number field)) both), leb-true _ _ (second_so (is_number field && nat_le low (number field)) (nat_le (number field) high) e))
 
-not_true : (b : Bool) → (b ≡ true → ⊥) → b ≡ false
-not_true true h = absurd (h refl)
-not_true false h = refl
-
 is_between-number : (low high : ℕ) (field : List ℕ) → is_between low high field ≡ true → is_number field ≡ true
 unfolding is_between
 is_between-number low high field e = first_so (is_number field) (nat_le low (number field)) (first_so (is_number field && nat_le low (number field)) (nat_le (number field) high) e)
 
 pub is_between-untold : (low high : ℕ) (field : List ℕ) → (is_number field ≡ true → number field ≤ high → ⊥) → is_between low high field ≡ false
-is_between-untold low high field h = not_true _ (λ e. h (is_between-number low high field e) (is_between-bounds low high field e).1)
+is_between-untold low high field h = false_from_ne_true _ (λ e. h (is_between-number low high field e) (is_between-bounds low high field e).1)
 
 pub is_between-outside : (low high : ℕ) (field : List ℕ) → (low ≤ number field → number field ≤ high → ⊥) → is_between low high field ≡ false
-is_between-outside low high field h = not_true _ (λ e. let (l, g) = is_between-bounds low high field e in h l g)
+is_between-outside low high field h = false_from_ne_true _ (λ e. let (l, g) = is_between-bounds low high field e in h l g)
 
 pub number_in-some : (low high n : ℕ) (field : List ℕ) → Some n ≡ number_in low high field → (is_between low high field ≡ true) × (n ≡ number field) × (low ≤ n) × (n ≤ high)
 number_in-some low high n field e = by_test (is_between low high field) refl e
@@ -57,10 +53,10 @@ number_in-some low high n field e = by_test (is_between low high field) refl e
     by_test false is e = cc
 
 pub is_number-empty : (field : List ℕ) → length field ≡ 0 → is_number field ≡ false
-is_number-empty field e = not_true _ (λ h. let parts = is_number-parts field h in omega (arith, e, parts.0))
+is_number-empty field e = false_from_ne_true _ (λ h. let parts = is_number-parts field h in omega (arith, e, parts.0))
 
 pub is_number-long : (field : List ℕ) → 20 < length field → is_number field ≡ false
-is_number-long field lt = not_true _ (λ h. let parts = is_number-parts field h in omega (arith, lt, parts.1))
+is_number-long field lt = false_from_ne_true _ (λ h. let parts = is_number-parts field h in omega (arith, lt, parts.1))
 
 pub is_number-digits : (field : List ℕ) → 1 ≤ length field → length field ≤ 20 → is_number field ≡ list_all is_ascii_digit field
 unfolding is_number

@@ -5,16 +5,12 @@ use Rattle.std.specs.Ordering.{nat_cmp}
 use Rattle.std.specs.BTreeMap.{insert_entry, is_at}
 use Rattle.std.specs.Map.{lookup, remove_entry}
 use Rattle.std.specs.List.{filter}
-use Rattle.std.proofs.lemmas.Bool.{cases_eq, eq-eqb, eqb-true}
+use Rattle.std.proofs.lemmas.Bool.{cases_eq, eq-eqb, eqb-true, false_from_ne_true}
 use Rattle.std.proofs.lemmas.Bool.Decides.{nat_tests}
 use Rattle.std.proofs.lemmas.Grind.{common_steps}
 use Rattle.zorder.specs.SameName.{same_name, same_name-decides}
 use Rattle.plain_list.specs.State.{OpenSplit, split_name, without_number}
 use Rattle.recovery.specs.SplitMap.{splits_of, AreAbove, AreBelow, IsRisingSplits, without_split}
-
-pub not_true : (b : Bool) → (b ≡ true → ⊥) → b ≡ false
-not_true true refused = absurd (refused refl)
-not_true false refused = refl
 
 pub split_name-splits_of : (es : List (ℕ × List Bool)) (number : ℕ) → split_name (splits_of es) number ≡ lookup (is_at (nat_cmp number)) es
 split_name-splits_of [] number = refl
@@ -102,11 +98,11 @@ without_split-other number name [] rising other = refl
 without_split-other number name (s ∷ splits) rising other = elim (cases_eq s.number number) [
   | inl e ↦
       let above : AreAbove number splits = AreAbove-lower number s.number splits (omega (arith, e)) rising.0 in
-      let unlike : same_name s.name name ≡ false = not_true (same_name s.name name) (λ t. other (ap (λ b. cond b (Some s.name) (split_name splits number)) (eq-eqb s.number number e) ∙ ap Some ((same_name-decides s.name name).0 t))) in
+      let unlike : same_name s.name name ≡ false = false_from_ne_true (same_name s.name name) (λ t. other (ap (λ b. cond b (Some s.name) (split_name splits number)) (eq-eqb s.number number e) ∙ ap Some ((same_name-decides s.name name).0 t))) in
       let rest : without_split number name splits ≡ splits = without_split-absent number name splits above in
       grind (arith, nat_tests, common_steps)
   | inr apart ↦
-      let skip : (s.number == number) ≡ false = not_true (s.number == number) (λ t. apart (eqb-true s.number number t)) in
+      let skip : (s.number == number) ≡ false = false_from_ne_true (s.number == number) (λ t. apart (eqb-true s.number number t)) in
       let rest : without_split number name splits ≡ splits = without_split-other number name splits rising.1 (λ f. other (ap (λ b. cond b (Some s.name) (split_name splits number)) skip ∙ f)) in
       grind (arith, nat_tests, common_steps)
 ]
