@@ -1,5 +1,6 @@
 -- What a path through a trie leads to.
 use Rattle.std.proofs.Common.{◌≡◌, Bool, true, false, cond, List, [], ◌∷◌, ◌++◌, Some, refl, sym, ◌∙◌, ap, arith, append_assoc, append-nil, length-append}
+use Rattle.std.proofs.lemmas.Option.{same_Some}
 use Rattle.zorder.specs.Tile.{tiles_from}
 use Rattle.bucket_versions.specs.Rows.{Rows}
 use Rattle.index_layer.specs.Leaves.{Leaf, names_of, has_name, leaf_named}
@@ -9,12 +10,9 @@ use Rattle.index_layer.proofs.LeafNames.{IsFront, front-trans, front-length}
 use Rattle.index_layer.proofs.Places.{named-among, inner-among}
 use Rattle.bit_trie.specs.Tries.{Trie, tip, fork, halves, leaves_under, reach}
 
-same_trie : (t u : Trie) → Some t ≡ Some u → t ≡ u
-same_trie t u e = cc e
-
 -- one bit further
 pub reach-half : (path : List Bool) (b : Bool) (t z o : Trie) → reach path t ≡ Some (fork z o) → reach (path ++ b ∷ []) t ≡ Some (cond b o z)
-reach-half [] b t z o e = ap (reach (b ∷ [])) (same_trie t (fork z o) e) ∙ by_bit b
+reach-half [] b t z o e = ap (reach (b ∷ [])) (same_Some t (fork z o) e) ∙ by_bit b
   where
     by_bit : (b : Bool) → reach (b ∷ []) (fork z o) ≡ Some (cond b o z)
     by_bit true = refl
@@ -37,7 +35,7 @@ pub reached : (name path : List Bool) (t u : Trie) → reach path t ≡ Some u �
 reached name [] t u e = record {
   front = [];
   back = [];
-  is = (λ i. leaves_under (sym (append-nil name) i) (same_trie t u e i)) ∙ sym (append-nil (leaves_under (name ++ []) u));
+  is = (λ i. leaves_under (sym (append-nil name) i) (same_Some t u e i)) ∙ sym (append-nil (leaves_under (name ++ []) u));
 }
 reached name (x ∷ path) (tip a) u e = absurd (cc e)
 reached name (true ∷ path) (fork z o) u e =

@@ -1,6 +1,7 @@
 -- A trie with a row more or less in one leaf has leaves that are changed at that leaf.
 use Rattle.std.proofs.Common.{◌≡◌, ℕ, ◌<◌, ◌≤◌, ◌^◌, Bool, true, false, List, [], ◌∷◌, Some, length, IfSome, Result, Ok, Err, IfOk, OnOk, refl, sym, ◌∙◌, ap, subst}
 use Rattle.std.specs.List.{AllByRecursion}
+use Rattle.std.proofs.lemmas.Option.{same_Some}
 use Rattle.zorder.specs.Bits.{low_bits}
 use Rattle.zorder.specs.Key.{is_under}
 use Rattle.bucket_versions.specs.declared.row.Row.{Row}
@@ -17,10 +18,7 @@ use Rattle.bit_trie.proofs.TrieLeaves.{gap, within, name-under, leaves-put, leaf
 use Rattle.bit_trie.proofs.TrieRows.{height-changed, rows-bucket}
 
 changed-put : (path : List Bool) (change : Rows → Rows) (t : Trie) (a : Rows) → bucket_at path t ≡ Some a → changed_at path change t ≡ graft path (tip (change a)) t
-changed-put path change (tip b) a e = ap (λ (r : Rows). tip (change r)) (some b a e)
-  where
-    some : (x y : Rows) → Some x ≡ Some y → x ≡ y
-    some x y s = cc s
+changed-put path change (tip b) a e = ap (λ (r : Rows). tip (change r)) (same_Some b a e)
 changed-put [] change (fork z o) a e = absurd (cc e)
 changed-put (true ∷ path) change (fork z o) a e = ap (λ (s : Trie). fork z s) (changed-put path change o a e)
 changed-put (false ∷ path) change (fork z o) a e = ap (λ (s : Trie). fork s o) (changed-put path change z a e)
@@ -117,8 +115,5 @@ counts-made (Ok n) key made new lt h are ok is =
     is
     ∙ ap (λ (t : Trie). length (rows_at (low_bits 64 key) t)) ok
     ∙ ap length (rows-bucket (low_bits 64 key) made f.bucket f.held)
-    ∙ ap (λ (m : Leaf). length m.bucket.rows) (one (leaf_at f.name f.bucket) l (sym f.found ∙ ap (λ (t : Trie). leaf_under key (leaves_under [] t)) (sym ok) ∙ found))
-  where
-    one : (x y : Leaf) → Some x ≡ Some y → x ≡ y
-    one x y e = cc e
+    ∙ ap (λ (m : Leaf). length m.bucket.rows) (same_Some (leaf_at f.name f.bucket) l (sym f.found ∙ ap (λ (t : Trie). leaf_under key (leaves_under [] t)) (sym ok) ∙ found))
 counts-made (Err e) key made new lt h are ok is = tt

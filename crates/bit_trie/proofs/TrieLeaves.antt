@@ -1,6 +1,7 @@
 -- A trie with another bucket on a path has the leaves with another bucket under one name.
 use Rattle.std.proofs.Common.{◌≡◌, ℕ, zero, suc, ◌+◌, ◌<◌, ◌≤◌, Bool, true, false, List, [], ◌∷◌, ◌++◌, length, take, Some, Ok, Err, max, refl, sym, ◌∙◌, ap, subst, arith, append_assoc, append-nil, ◌^◌, Result, OnOk, OnErr}
 use Rattle.std.specs.List.{starts_with, AllByRecursion}
+use Rattle.std.proofs.lemmas.Option.{same_Some}
 use mathlib.Core.Bool.{beq}
 use Rattle.zorder.specs.Bits.{low_bits}
 use Rattle.zorder.specs.Name.{first_key, length-low_bits}
@@ -108,14 +109,11 @@ pub leaf-at_key : (key : ℕ) (a : Rows) (t : Trie) → height t ≤ 64 → tile
     → leaf_under key (leaves_under [] t) ≡ Some (leaf_at (name_at (low_bits 64 key) t) a)
 leaf-at_key key a t h tile lt held =
     let r = gap [] (low_bits 64 key) t (within key t h) in
-    let same : r.old ≡ a = some_same (sym r.held ∙ held) in
+    let same : r.old ≡ a = same_Some r.old a (sym r.held ∙ held) in
     let tiled : tiles_from 0 (names_of (r.front ++ leaf_at (name_at (low_bits 64 key) t) r.old ∷ r.back)) ≡ true = ap (λ (l : List Leaf). tiles_from 0 (names_of l)) (sym r.before) ∙ tile in
     ap (leaf_under key) r.before
     ∙ leaf_under-at 0 key r.front (leaf_at (name_at (low_bits 64 key) t) r.old) r.back tiled lt (name-under key t)
     ∙ ap (λ (b : Rows). Some (leaf_at (name_at (low_bits 64 key) t) b)) same
-  where
-    some_same : {x y : Rows} → Some x ≡ Some y → x ≡ y
-    some_same e = cc e
 
 -- the first key of a leaf's name leads to that leaf
 pub name-found : (name : List Bool) (t : Trie) → height t ≤ 64 → tiles_from 0 (names_of (leaves_under [] t)) ≡ true → has_name name (leaves_under [] t) ≡ true

@@ -1,5 +1,6 @@
 -- Rows in the leaf on a path.
 use Rattle.std.proofs.Common.{◌≡◌, Bool, true, false, ◌||◌, not, List, [], ◌∷◌, suc, max, Some, refl, ◌∙◌, ap, cond}
+use Rattle.std.proofs.lemmas.Option.{same_Some}
 use Rattle.bucket_versions.specs.declared.row.Row.{Row}
 use Rattle.bucket_versions.specs.declared.row.RowChange.{RowChange}
 use Rattle.bucket_versions.specs.Rows.{Rows, has_row, same_row, without_row, after_gone}
@@ -7,10 +8,7 @@ use Rattle.bucket_versions.proofs.RowOrder.{not_first}
 use Rattle.bit_trie.specs.Tries.{Trie, tip, fork, height, bucket_at, rows_at, changed_at}
 
 pub rows-bucket : (path : List Bool) (t : Trie) (b : Rows) → bucket_at path t ≡ Some b → rows_at path t ≡ b.rows
-rows-bucket path (tip a) b e = ap (λ (r : Rows). r.rows) (some a b e)
-  where
-    some : (x y : Rows) → Some x ≡ Some y → x ≡ y
-    some x y s = cc s
+rows-bucket path (tip a) b e = ap (λ (r : Rows). r.rows) (same_Some a b e)
 rows-bucket [] (fork z o) b e = absurd (cc e)
 rows-bucket (true ∷ path) (fork z o) b e = rows-bucket path o b e
 rows-bucket (false ∷ path) (fork z o) b e = rows-bucket path z b e

@@ -4,6 +4,7 @@ use Rattle.std.specs.Int.{bit_at}
 use Rattle.std.specs.List.{starts_with, AllByRecursion}
 use Rattle.std.proofs.lemmas.Bool.{eqb-true}
 use Rattle.std.proofs.lemmas.List.{nil_from_length}
+use Rattle.std.proofs.lemmas.Option.{same_Some}
 use mathlib.Core.Bool.{beq, true≢false}
 use Rattle.zorder.specs.Bits.{low_bits}
 use Rattle.zorder.specs.Key.{is_under, key_bits}
@@ -18,10 +19,7 @@ use Rattle.bit_trie.proofs.Reaching.{reached, first, reach-halves}
 
 -- one path after the other
 pub reach-on : (name path : List Bool) (w t u : Trie) → reach name w ≡ Some t → reach path t ≡ Some u → reach (name ++ path) w ≡ Some u
-reach-on [] path w t u e f = ap (reach path) (same w t e) ∙ f
-  where
-    same : (a b : Trie) → Some a ≡ Some b → a ≡ b
-    same a b s = cc s
+reach-on [] path w t u e f = ap (reach path) (same_Some w t e) ∙ f
 reach-on (x ∷ name) path (tip b) t u e f = absurd (cc e)
 reach-on (true ∷ name) path (fork z o) t u e f = reach-on name path o t u e f
 reach-on (false ∷ name) path (fork z o) t u e f = reach-on name path z t u e f
@@ -125,10 +123,7 @@ module _ (below : List Bool) where
   passed-on : (pre path : List Bool) (w t : Trie) → reach path w ≡ Some t → AreBareBeside below (leaves_under (pre ++ path) t) → AllByRecursion (IsPassed (pre ++ path)) (leaves_under pre w)
   passed-on pre [] w t e bare =
       all-from (λ (l : Leaf). starts_with beq l.name below ≡ false → l.bucket.rows ≡ []) (IsPassed (pre ++ [])) (λ l b here out. b out) (leaves_under pre w)
-      (subst (λ (v : Trie). AreBareBeside below (leaves_under pre v)) (sym (same w t e)) (subst (λ (m : List Bool). AreBareBeside below (leaves_under m t)) (append-nil pre) bare))
-    where
-      same : (a b : Trie) → Some a ≡ Some b → a ≡ b
-      same a b s = cc s
+      (subst (λ (v : Trie). AreBareBeside below (leaves_under pre v)) (sym (same_Some w t e)) (subst (λ (m : List Bool). AreBareBeside below (leaves_under m t)) (append-nil pre) bare))
   passed-on pre (x ∷ path) (tip b) t e bare = absurd (cc e)
   passed-on pre (true ∷ path) (fork z o) t e bare =
       all-both (IsPassed (pre ++ true ∷ path)) (leaves_under (pre ++ false ∷ []) z) (leaves_under (pre ++ true ∷ []) o)

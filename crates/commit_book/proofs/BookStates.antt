@@ -3,14 +3,12 @@ use Rattle.std.proofs.Common.{◌≡◌, ◌⊎◌, inl, inr, ℕ, ◌+◌, ◌-
 use Rattle.std.specs.Prelude.{◌&&◌, is_some}
 use Rattle.std.specs.List.{AllByRecursion}
 use Rattle.std.specs.Cmp.Derive.{both_true}
-use Rattle.std.proofs.lemmas.Bool.{eq-eqb}
+use Rattle.std.proofs.lemmas.Bool.{eq-eqb, false_from_ne_true}
 use mathlib.Core.Bool.{true≢false}
-use Rattle.zorder.specs.declared.points.Placed.{Placed}
 use Rattle.zorder.specs.SameName.{same_name, same_name-decides}
 use Rattle.bucket_versions.specs.Rows.{Rows, as_base}
 use Rattle.index_layer.specs.Leaves.{Leaf, AreLeaves, names_of}
 use Rattle.index_layer.specs.Stands.{HasRowsOf}
-use Rattle.index_layer.proofs.LeafKeys.{false_if}
 use Rattle.index_layer.proofs.LeafChanges.{names_of-replaced}
 use Rattle.plain_list.specs.declared.ops.Op.{Op}
 use Rattle.plain_list.specs.declared.entries.Entry.{Entry}
@@ -143,7 +141,7 @@ module _ {I D P : Type 0} (drive : D → Drive) (w : ℕ) (o : State) (old new :
           (KeepsBase-begun old.table.leaves (world_after o.world h) name folds.leaf are rows folds.named)
 
       other : (nm : List Bool) → is_splitting s.splits nm ≡ true → same_name nm name ≡ false
-      other nm is = false_if (same_name nm name) (λ same. true≢false (sym is ∙ ap (is_splitting s.splits) ((same_name-decides nm name).0 same) ∙ none))
+      other nm is = false_from_ne_true (same_name nm name) (λ same. true≢false (sym is ∙ ap (is_splitting s.splits) ((same_name-decides nm name).0 same) ∙ none))
 
       by_split : (before after : List Entry) (n : ℕ) (nm : List Bool) → h ≡ before ++ Begin n nm ∷ after → (split_name s.splits n ≡ Some nm) ⊎ ((old.splits.begun + 1 ≡ n) × (name ≡ nm)) → split_name s.splits n ≡ Some nm
       by_split before after n nm there (inl was) = was

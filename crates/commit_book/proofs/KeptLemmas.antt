@@ -2,6 +2,7 @@
 use Rattle.std.proofs.Common.{◌≡◌, ◌⊎◌, inl, inr, ℕ, Bool, true, false, cond, List, [], ◌∷◌, ◌++◌, append_assoc, Option, Some, refl, sym, ap, subst, ◌∙◌}
 use Rattle.std.specs.Prelude.{◌&&◌}
 use Rattle.std.specs.List.{AllByRecursion}
+use Rattle.std.proofs.lemmas.Bool.{false_from_ne_true}
 use mathlib.Core.Bool.{true≢false}
 use Rattle.zorder.specs.declared.points.Placed.{Placed}
 use Rattle.zorder.specs.Key.{is_under}
@@ -15,7 +16,7 @@ use Rattle.split_prepare.specs.Cut.{cut}
 use Rattle.point_table.proofs.Dividing.{length-cut}
 use Rattle.bucket_versions.specs.declared.row.Row.{Row}
 use Rattle.index_layer.specs.Stands.{HasRowsOf, places_have}
-use Rattle.index_layer.proofs.LeafKeys.{false_if, first_key-under, first_key-fits}
+use Rattle.index_layer.proofs.LeafKeys.{first_key-under, first_key-fits}
 use Rattle.index_layer.proofs.LeafNames.{IsAmong, later_leaf, find-among, among-any, some_found, short-among, one-leaf}
 use Rattle.plain_list.specs.declared.entries.Entry.{Entry}
 use Rattle.plain_list.specs.declared.entries.Entry.TheVariants.{Begin}
@@ -140,7 +141,7 @@ KeepsBase-bases splits old new places name same open_one kept =
     }
 
 other_leaf : (name other : List Bool) (l : Leaf) → same_name name other ≡ false → same_name l.name other ≡ true → same_name l.name name ≡ false
-other_leaf name other l apart is = false_if (same_name l.name name) (λ e.
+other_leaf name other l apart is = false_from_ne_true (same_name l.name name) (λ e.
     true≢false (sym ((same_name-decides name other).1 (sym ((same_name-decides l.name name).0 e) ∙ (same_name-decides l.name other).0 is)) ∙ apart))
 
 -- a leaf where another one has another bucket

@@ -3,7 +3,7 @@ use Rattle.std.proofs.Common.{◌≡◌, ℕ, zero, suc, ◌-◌, ◌^◌, ◌<�
 use Rattle.std.specs.Prelude.{nat_le}
 use Rattle.std.specs.List.{find, AllWithin, AllByRecursion}
 use Rattle.std.specs.Cmp.{first_so, second_so}
-use Rattle.std.proofs.lemmas.Bool.{leb-true, eqb-true}
+use Rattle.std.proofs.lemmas.Bool.{leb-true, eqb-true, false_from_ne_true}
 use Rattle.std.proofs.lemmas.Bool.Decides.{nat_tests}
 use Rattle.std.proofs.lemmas.Nat.{pow_pos}
 use mathlib.Core.Bool.{true≢false}
@@ -12,10 +12,6 @@ use Rattle.zorder.specs.Name.{first_key}
 use Rattle.zorder.specs.Tile.{tiles_from, next_key}
 use Rattle.zorder.proofs.Ranges.{under-range, range-under, high_number-end}
 use Rattle.index_layer.specs.Leaves.{Leaf, names_of, leaf_under}
-
-pub false_if : (b : Bool) → (b ≡ true → ⊥) → b ≡ false
-false_if true refused = absurd (refused refl)
-false_if false refused = refl
 
 -- the keys under a name end within the key space
 pub next_key-end : (name : List Bool) → length name ≤ 64 → next_key name ≤ 2 ^ 64
@@ -78,7 +74,7 @@ leaf_under-at k key (f ∷ front) l back tile fits under =
     let before : next_key f.name ≤ first_key l.name = ends_before k f front l back tile in
     let range = under-range l.name key (short_at (next_key f.name) front l back rest) fits under in
     let other : is_under f.name key ≡ false =
-    false_if (is_under f.name key) (λ e. let first = under-range f.name key (tile_short k f (front ++ l ∷ back) tile) fits e in omega (arith, first.1, before, range.0)) in
+    false_from_ne_true (is_under f.name key) (λ e. let first = under-range f.name key (tile_short k f (front ++ l ∷ back) tile) fits e in omega (arith, first.1, before, range.0)) in
     find_at (λ (m : Leaf). is_under m.name key) f (front ++ l ∷ back) false other ∙ leaf_under-at (next_key f.name) key front l back rest fits under
 
 -- the leaf that a key is under is the last whose first key is at most the key
@@ -109,7 +105,7 @@ leaf_under-place k key (suc (suc i)) (l ∷ m ∷ leaves) d tile from fits front
     let rest = tile_rest k l (m ∷ leaves) tile in
     let at_most : first_key m.name ≤ key = leb-true (first_key m.name) key (front 1 m (omega arith) (omega arith)) in
     let begin : next_key l.name ≤ key = omega (arith, tile_first (next_key l.name) m leaves rest) in
-    let other : is_under l.name key ≡ false = false_if (is_under l.name key) (λ e. let range = under-range l.name key (tile_short k l (m ∷ leaves) tile) fits e in omega (arith, range.1, begin)) in
+    let other : is_under l.name key ≡ false = false_from_ne_true (is_under l.name key) (λ e. let range = under-range l.name key (tile_short k l (m ∷ leaves) tile) fits e in omega (arith, range.1, begin)) in
     let later = leaf_under-place (next_key l.name) key (suc i) (m ∷ leaves) d rest begin fits (λ j e lo hi. front (suc j) e (omega arith) (omega arith)) (λ j e lo hi. back (suc j) e (omega arith) (omega arith)) (omega arith) in
     (suc later.0, ap suc later.1, find_at (λ (n : Leaf). is_under n.name key) l (m ∷ leaves) false other ∙ later.2)
 
@@ -140,7 +136,7 @@ some_from k (l ∷ leaves) key tile from fits = by_test (leb (next_key l.name) k
     by_test true e later =
         let begin : next_key l.name ≤ key = leb-true (next_key l.name) key e in
         let rest = later begin fits in
-        let other : is_under l.name key ≡ false = false_if (is_under l.name key) (λ u. let range = under-range l.name key (tile_short k l leaves tile) fits u in omega (arith, range.1, begin)) in
+        let other : is_under l.name key ≡ false = false_from_ne_true (is_under l.name key) (λ u. let range = under-range l.name key (tile_short k l leaves tile) fits u in omega (arith, range.1, begin)) in
         (rest.0, find_at (λ (m : Leaf). is_under m.name key) l leaves false other ∙ rest.1)
     by_test false e later =
         (l, find_at (λ (m : Leaf). is_under m.name key) l leaves true (range-under l.name key (tile_short k l leaves tile) fits (omega (arith, tile_first k l leaves tile, from)) (below (next_key l.name) key e)))

@@ -5,7 +5,8 @@ use Rattle.std.specs.Cmp.{booleans_Decides, both_ways, first_so, second_so}
 use Rattle.std.specs.Cmp.Derive.{both_true}
 use Rattle.std.specs.Cmp.Lexicographic.{pointwise_decides}
 use Rattle.std.proofs.lemmas.List.{take-append-drop, append-nil}
-use Rattle.std.proofs.lemmas.Bool.{leb-true, leb-false, ltb-true, lt-ltb}
+use Rattle.std.proofs.lemmas.Bool.{leb-true, leb-false, ltb-true, lt-ltb, false_from_ne_true}
+use Rattle.std.proofs.lemmas.Option.{same_Some}
 use mathlib.Core.Bool.{beq, true≢false}
 use Rattle.zorder.specs.Key.{is_under, key_bits}
 use Rattle.zorder.specs.Name.{first_key}
@@ -13,7 +14,7 @@ use Rattle.zorder.specs.SameName.{same_name, same_name-decides}
 use Rattle.zorder.specs.Tile.{tiles_from}
 use Rattle.index_layer.specs.Leaves.{Leaf, names_of, has_name, leaf_named, leaf_under}
 use Rattle.index_layer.specs.Part.{goes_on, is_inner}
-use Rattle.index_layer.proofs.LeafKeys.{false_if, find_at, first_key-under, first_key-fits, leaf_under-at, short_at}
+use Rattle.index_layer.proofs.LeafKeys.{find_at, first_key-under, first_key-fits, leaf_under-at, short_at}
 
 -- one list is the front of another
 abbrev pub IsFront : List Bool → List Bool → Type 0
@@ -91,12 +92,9 @@ pub find-among : (p : Leaf → Bool) (leaves : List Leaf) (l : Leaf) → find p 
 find-among p [] l e = absurd (cc e)
 find-among p (f ∷ leaves) l e = by_test (p f) refl e (find-among p leaves l)
   where
-    some : (a b : Leaf) → Some a ≡ Some b → a ≡ b
-    some a b e = cc e
-
     by_test : (b : Bool) → p f ≡ b → cond b (Some f) (find p leaves) ≡ Some l → (find p leaves ≡ Some l → IsAmong leaves l × (p l ≡ true)) → IsAmong (f ∷ leaves) l × (p l ≡ true)
     by_test true is e later =
-        let same : f ≡ l = some f l e in
+        let same : f ≡ l = same_Some f l e in
         (([], leaves, ap (λ (m : Leaf). m ∷ leaves) same), ap p (sym same) ∙ is)
     by_test false is e later = let rest = later e in (later_leaf f leaves l rest.0, rest.1)
 
@@ -119,10 +117,7 @@ short-among leaves l tile at = short_at 0 at.0 l at.1 (ap (λ (ls : List Leaf). 
 
 -- two leaves that one key is under are one
 pub one-leaf : (leaves : List Leaf) (l m : Leaf) (key : ℕ) → tiles_from 0 (names_of leaves) ≡ true → key < 2 ^ 64 → IsAmong leaves l → IsAmong leaves m → is_under l.name key ≡ true → is_under m.name key ≡ true → l ≡ m
-one-leaf leaves l m key tile fits at_l at_m under_l under_m = some l m (sym (leaf_under-among leaves l key tile fits at_l under_l) ∙ leaf_under-among leaves m key tile fits at_m under_m)
-  where
-    some : (a b : Leaf) → Some a ≡ Some b → a ≡ b
-    some a b e = cc e
+one-leaf leaves l m key tile fits at_l at_m under_l under_m = same_Some l m (sym (leaf_under-among leaves l key tile fits at_l under_l) ∙ leaf_under-among leaves m key tile fits at_m under_m)
 
 abbrev IsShort : List Bool → Type 0
 IsShort name = length name ≤ 64
@@ -140,7 +135,7 @@ goes_on-test name long short =
     let lt : length name < length long = ltb-true (length name) (length long) (first_so (ltb (length name) (length long)) (is_under name (first_key long)) e) in
     let under : is_under name (first_key long) ≡ true = second_so (ltb (length name) (length long)) (is_under name (first_key long)) e in
     let f : IsFront name long = under-fronts name long (first_key long) under (first_key-under long short) (omega (arith, lt)) in
-    let other : same_name long name ≡ false = false_if (same_name long name) (λ same. let e2 : length long ≡ length name = ap length ((same_name-decides long name).0 same) in omega (arith, lt, e2)) in
+    let other : same_name long name ≡ false = false_from_ne_true (same_name long name) (λ same. let e2 : length long ≡ length name = ap length ((same_name-decides long name).0 same) in omega (arith, lt, e2)) in
     both_true (front-test name long f) (ap not other))
   where
     not-true : (b : Bool) → not b ≡ true → b ≡ false

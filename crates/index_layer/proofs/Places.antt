@@ -4,7 +4,7 @@ use Rattle.std.specs.List.{starts_with}
 use Rattle.std.specs.Cmp.{first_so, second_so}
 use Rattle.std.specs.Cmp.Derive.{both_true}
 use Rattle.std.proofs.lemmas.List.{append-nil}
-use Rattle.std.proofs.lemmas.Bool.{leb-true, leb-false}
+use Rattle.std.proofs.lemmas.Bool.{leb-true, leb-false, false_from_ne_true}
 use mathlib.Core.Bool.{beq, true≢false}
 use Rattle.zorder.specs.Key.{is_under}
 use Rattle.zorder.specs.Name.{first_key}
@@ -13,7 +13,7 @@ use Rattle.zorder.specs.Tile.{tiles_from}
 use Rattle.index_layer.specs.Leaves.{Leaf, names_of, has_name, leaf_named}
 use Rattle.index_layer.specs.Part.{goes_on, is_inner}
 use Rattle.index_layer.specs.Below.{begins_some}
-use Rattle.index_layer.proofs.LeafKeys.{false_if, first_key-fits, first_key-under, leaf_under-some}
+use Rattle.index_layer.proofs.LeafKeys.{first_key-fits, first_key-under, leaf_under-some}
 use Rattle.index_layer.proofs.LeafNames.{IsFront, IsAmong, front-from_test, front-test, front-trans, under-fronts, under-front, any-among, among-any, find-among, leaf_under-among, leaf_named-first, short-among, one-leaf}
 
 not-true : (b : Bool) → not b ≡ true → b ≡ false
@@ -36,9 +36,9 @@ module _ (leaves : List Leaf) (tile : tiles_from 0 (names_of leaves) ≡ true) w
   inner-among name l at front longer =
       let short : length l.name ≤ 64 = short-among leaves l tile at in
       let key : ℕ = first_key l.name in
-      let other : same_name l.name name ≡ false = false_if (same_name l.name name) (λ e. let same : length l.name ≡ length name = ap length ((same_name-decides l.name name).0 e) in omega (arith, longer, same)) in (
+      let other : same_name l.name name ≡ false = false_from_ne_true (same_name l.name name) (λ e. let same : length l.name ≡ length name = ap length ((same_name-decides l.name name).0 e) in omega (arith, longer, same)) in (
         among-any (λ (m : Leaf). goes_on name m.name) leaves l at (both_true (front-test name l.name front) (ap not other)),
-        false_if (has_name name leaves)
+        false_from_ne_true (has_name name leaves)
             (λ e. let m = any-among (λ (n : Leaf). same_name n.name name) leaves e in
             let named : m.0.name ≡ name = (same_name-decides m.0.name name).0 m.2 in
             let over : is_under m.0.name key ≡ true = under-front m.0.name l.name key (subst (λ (n : List Bool). IsFront n l.name) (sym named) front) (first_key-under l.name short) in

@@ -3,7 +3,7 @@ use Rattle.std.proofs.Common.{◌≡◌, ◌⊎◌, inl, inr, ℕ, ◌^◌, ◌<
 use Rattle.std.specs.List.{filter, list_any, AllByRecursion}
 use Rattle.std.specs.Cmp.{both_ways, first_so}
 use Rattle.std.specs.Cmp.Derive.{both_true}
-use Rattle.std.proofs.lemmas.Bool.{eqb-true}
+use Rattle.std.proofs.lemmas.Bool.{eqb-true, false_from_ne_true}
 use mathlib.Core.Bool.{true≢false}
 use Rattle.zorder.specs.declared.points.Point.{Point}
 use Rattle.zorder.specs.declared.points.Placed.{Placed}
@@ -15,7 +15,7 @@ use Rattle.bucket_versions.specs.Rows.{Rows, IsRows, has_row, with_row, without_
 use Rattle.bucket_versions.proofs.RowOrder.{IsRows-with_row, IsRows-without_row, same_row-eq, same_row-refl}
 use Rattle.index_layer.specs.Leaves.{Leaf, AreUnder, leaf_under, with_bucket, replaced, all_rows}
 use Rattle.index_layer.specs.Stands.{Stands, HasRowsOf, places_have, is_at_key}
-use Rattle.index_layer.proofs.LeafKeys.{false_if, leaf_under-some}
+use Rattle.index_layer.proofs.LeafKeys.{leaf_under-some}
 use Rattle.index_layer.proofs.LeafNames.{IsAmong, later_leaf, find-among, any-among, among-any, one-leaf}
 use Rattle.index_layer.proofs.LeafChanges.{leaf_at, names_of-replaced, AreLeaves-replaced}
 use Rattle.index_layer.proofs.Puts.{where_is, HasMore, rows_with_put}
@@ -53,7 +53,7 @@ has_row-without_row g (s ∷ rows) q =
     ∙ (λ i. cond (not (same_row s g)) (same_row s q || has_row-without_row g rows q i) (has_row-without_row g rows q i))
     ∙ gone_step (same_row s g) (same_row s q) (same_row g q) (has_row q rows)
     (λ e. ap (λ r. same_row r q) (same_row-eq s g e))
-    (λ e one. false_if (same_row s q) (λ both. true≢false (sym (same_row-refl s) ∙ ap (same_row s) (same_row-eq s q both ∙ sym (same_row-eq g q one)) ∙ e)))
+    (λ e one. false_from_ne_true (same_row s q) (λ both. true≢false (sym (same_row-refl s) ∙ ap (same_row s) (same_row-eq s q both ∙ sym (same_row-eq g q one)) ∙ e)))
   where
     any_cond : (b : Bool) (s : Row) (rest : List Row) → has_row q (cond b (s ∷ rest) rest) ≡ cond b (same_row s q || has_row q rest) (has_row q rest)
     any_cond true s rest = refl
@@ -96,7 +96,7 @@ module _ (leaves : List Leaf) (old new : List Placed) (names : List (List Bool))
 
   -- no other leaf has the key
   not_under : (n : Leaf) → IsAmong leaves n → same_name n.name l.name ≡ false → is_under n.name (key_of m.at) ≡ false
-  not_under n at_n other = false_if (is_under n.name (key_of m.at)) (λ e.
+  not_under n at_n other = false_from_ne_true (is_under n.name (key_of m.at)) (λ e.
       true≢false (sym ((same_name-decides n.name l.name).1 (ap (λ (o : Leaf). o.name) (one-leaf leaves n l (key_of m.at) stands.are_leaves.tile (key_of-lt m.at) at_n at e over))) ∙ other))
 
   -- the rows of each leaf, where one gets other rows

@@ -3,12 +3,12 @@ use Rattle.std.proofs.Common.{◌≡◌, ◌<◌, suc, Bool, true, false, not, L
 use Rattle.std.specs.Cmp.{first_so, second_so}
 use Rattle.std.specs.Cmp.Derive.{both_true}
 use Rattle.std.specs.List.{starts_with}
+use Rattle.std.proofs.lemmas.Bool.{false_from_ne_true}
 use mathlib.Core.Bool.{beq, true≢false}
 use Rattle.zorder.specs.SameName.{same_name, same_name-decides}
 use Rattle.zorder.specs.Tile.{tiles_from}
 use Rattle.index_layer.specs.Leaves.{names_of, has_name}
 use Rattle.index_layer.specs.Part.{goes_on, is_inner}
-use Rattle.index_layer.proofs.LeafKeys.{false_if}
 use Rattle.index_layer.proofs.LeafNames.{front-test, front-from_test}
 use Rattle.kd_trie.specs.declared.stem.Side.{Side}
 use Rattle.bit_trie.specs.Tries.{Trie, halves, leaves_under, reach}
@@ -20,7 +20,7 @@ use Rattle.bit_trie.proofs.Reaching.{reach-half, reach-halves, below-fork}
 pub on-test : (name stem : List Bool) → GoesPast name stem → goes_on name stem ≡ true
 on-test name stem past =
     let longer : length stem ≡ length name → ⊥ = λ same. omega (arith, ap length past.2, length-append name (past.0 ∷ past.1), same) in
-    both_true (front-test name stem (past.0 ∷ past.1, past.2)) (ap not (false_if (same_name stem name) (λ same. longer (ap length ((same_name-decides stem name).0 same)))))
+    both_true (front-test name stem (past.0 ∷ past.1, past.2)) (ap not (false_from_ne_true (same_name stem name) (λ same. longer (ap length ((same_name-decides stem name).0 same)))))
 
 pub passing-at : (name rest : List Bool) (sides : List Side) (s : Side) → way_of sides ≡ name ++ rest → length name < length sides → s ≡ get_or sides (length name) s → Passing name sides s
 passing-at name rest [] s e lt at = absurd (omega (arith, lt))

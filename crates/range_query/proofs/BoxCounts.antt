@@ -3,6 +3,7 @@ use Rattle.std.proofs.Common.{◌≡◌, ℕ, ◌+◌, ◌<◌, ◌≤◌, ◌^�
 use Rattle.std.proofs.lemmas.Grind.{flat_map-append}
 use Rattle.std.proofs.lemmas.List.{append-nil}
 use Rattle.std.proofs.lemmas.List.Sorted.{length_permutation}
+use Rattle.std.proofs.lemmas.Bool.{false_from_ne_true}
 use Rattle.zorder.specs.declared.points.Point.{Point}
 use Rattle.zorder.specs.declared.points.Placed.{Placed}
 use Rattle.zorder.specs.declared.points.Region.{Region}
@@ -14,7 +15,6 @@ use Rattle.bucket_versions.specs.declared.row.Row.{Row}
 use Rattle.bucket_versions.specs.Rows.{Rows}
 use Rattle.index_layer.specs.Leaves.{Leaf, all_rows}
 use Rattle.index_layer.specs.Stands.{Stands}
-use Rattle.index_layer.proofs.LeafKeys.{false_if}
 use Rattle.index_layer.proofs.LeafChanges.{leaf_at}
 use Rattle.plain_list.specs.Places.{ArePlaces}
 use Rattle.plain_list.specs.Queries.{members_in}
@@ -57,7 +57,7 @@ module _ (leaf region : Region) (name : List Bool) (points : (p : Point) → IsP
   pub none_in : (rows : List Row) → (SharePoint leaf region → ⊥) → AreKeysUnder name rows → number_in region rows ≡ 0
   none_in [] apart under = refl
   none_in (r ∷ rows) apart under =
-      let out : has_point region (point_of r.key) ≡ false = false_if (has_point region (point_of r.key)) (λ e. apart (point_of r.key, in_leaf r under.0.0 under.0.1, e)) in
+      let out : has_point region (point_of r.key) ≡ false = false_from_ne_true (has_point region (point_of r.key)) (λ e. apart (point_of r.key, in_leaf r under.0.0 under.0.1, e)) in
       let none : cond (has_point region (point_of r.key)) 1 0 ≡ 0 = ap {B = ℕ} (λ b. cond b 1 0) out in
       omega (arith, number_in-cons region r rows, none, none_in rows apart under.1)
 

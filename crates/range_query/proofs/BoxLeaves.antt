@@ -5,6 +5,7 @@ use Rattle.std.specs.Cmp.Derive.{both_true}
 use Rattle.std.proofs.lemmas.Grind.{flat_map-append}
 use Rattle.std.proofs.lemmas.List.{map-append, append-nil, nil_from_length}
 use Rattle.std.proofs.lemmas.List.Elements.{filter-append}
+use Rattle.std.proofs.lemmas.Bool.{false_from_ne_true}
 use mathlib.Core.Bool.{true≢false}
 use Rattle.zorder.specs.declared.points.Placed.{Placed}
 use Rattle.zorder.specs.declared.points.Region.{Region}
@@ -19,7 +20,7 @@ use Rattle.prefix_names.proofs.HeldPoints.{so-held, meet-points, lies_in-points}
 use Rattle.bucket_versions.specs.declared.row.Row.{Row}
 use Rattle.bucket_versions.specs.Rows.{Rows}
 use Rattle.index_layer.specs.Leaves.{Leaf, names_of, all_rows, leaf_named}
-use Rattle.index_layer.proofs.LeafKeys.{false_if, tile_short, tile_rest}
+use Rattle.index_layer.proofs.LeafKeys.{tile_short, tile_rest}
 use Rattle.index_layer.proofs.LeafNames.{IsFront, under-front, front-length, find-among}
 use Rattle.index_layer.proofs.Standing.{among-all}
 use Rattle.plain_list.specs.Queries.{members_in}
@@ -52,7 +53,7 @@ module _ (region : Region) (is_box : IsBox region) where
       let met : is_met region long ≡ true = first_so (is_met region long) (not (lies_in (region_of long) region)) e in
       let out : not (lies_in (region_of long) region) ≡ true = second_so (is_met region long) (not (lies_in (region_of long) region)) e in
       let whole : lies_in (region_of name) region ≡ false =
-      false_if (lies_in (region_of name) region)
+      false_from_ne_true (lies_in (region_of name) region)
       (λ t. let all = (lies_in-points (region_of name) region (IsBox-region_of name (room name long front short))).0 t in
       let within : lies_in (region_of long) region ≡ true = (lies_in-points (region_of long) region (IsBox-region_of long short)).1 (λ p e. all p (region_within name long front short p e)) in
       true≢false (sym out ∙ ap not within)) in

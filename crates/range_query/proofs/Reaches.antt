@@ -3,7 +3,7 @@ use Rattle.std.proofs.Common.{◌≡◌, ◌≤◌, ℕ, Bool, true, false, cond
 use Rattle.std.specs.Prelude.{IsTrue, not}
 use Rattle.std.specs.Cmp.{first_so}
 use Rattle.std.specs.List.{starts_with}
-use Rattle.std.proofs.lemmas.Bool.{leb-true, leb-false}
+use Rattle.std.proofs.lemmas.Bool.{leb-true, leb-false, false_from_ne_true}
 use mathlib.Core.Bool.{beq, true≢false}
 use Rattle.zorder.specs.declared.points.Point.{Point}
 use Rattle.zorder.specs.declared.points.Region.{Region}
@@ -17,7 +17,7 @@ use Rattle.prefix_names.proofs.Corners.{has_point-region_of, IsBox-region_of}
 use Rattle.prefix_names.proofs.HeldPoints.{held-so, so-held, meet-points}
 use Rattle.index_layer.specs.Leaves.{Leaf, names_of}
 use Rattle.index_layer.specs.Below.{begins_some}
-use Rattle.index_layer.proofs.LeafKeys.{false_if, first_key-fits, first_key-under}
+use Rattle.index_layer.proofs.LeafKeys.{first_key-fits, first_key-under}
 use Rattle.index_layer.proofs.LeafNames.{IsAmong, IsFront, front-from_test, front-test, front-trans, front-length, under-fronts, under-front, any-among, later_leaf, one-leaf, short-among}
 use Rattle.table_share.specs.Subtree.{subtree, leaves_of}
 use Rattle.range_query.specs.Cut.{IsAreaOf, is_met, is_cut, leaves_met, leaves_cut}
@@ -39,7 +39,7 @@ kept_in passes name (l ∷ leaves) all = by_test (starts_with beq l.name name) r
         → leaves_of passes (cond b (l ∷ subtree name leaves) (subtree name leaves)) ≡ leaves_of passes (l ∷ leaves)
     by_test true e rest = λ i. cond (passes l.name) (l ∷ rest i) (rest i)
     by_test false e rest =
-        let out : passes l.name ≡ false = false_if (passes l.name) (λ t. true≢false (sym (all l ([], leaves, refl) t) ∙ e)) in
+        let out : passes l.name ≡ false = false_from_ne_true (passes l.name) (λ t. true≢false (sym (all l ([], leaves, refl) t) ∙ e)) in
         rest ∙ ap (λ (b : Bool). cond b (l ∷ leaves_of passes leaves) (leaves_of passes leaves)) (sym out)
 
 -- a name that some leaf's name begins with has at most 64 bits

@@ -6,7 +6,7 @@ use Rattle.std.specs.Cmp.{first_so, second_so}
 use Rattle.std.specs.Cmp.Derive.{both_true}
 use Rattle.std.proofs.lemmas.Grind.{flat_map-append}
 use Rattle.std.proofs.lemmas.List.{append-nil}
-use Rattle.std.proofs.lemmas.Bool.{le-leb, leb-true, lt-ltb, ltb-true}
+use Rattle.std.proofs.lemmas.Bool.{le-leb, leb-true, lt-ltb, ltb-true, false_from_ne_true}
 use Rattle.std.proofs.lemmas.List.Elements.{filter-append}
 use mathlib.Core.Bool.{true≢false}
 use Rattle.zorder.specs.Key.{is_under}
@@ -16,7 +16,7 @@ use Rattle.zorder.proofs.Ranges.{under-range, range-under}
 use Rattle.bucket_versions.specs.declared.row.Row.{Row}
 use Rattle.bucket_versions.specs.Rows.{Rows, rows_between}
 use Rattle.index_layer.specs.Leaves.{Leaf, AreLeaves, AreUnder, names_of, all_rows}
-use Rattle.index_layer.proofs.LeafKeys.{false_if, first_key-fits, first_key-under, first_key-next, next_key-end, tile_short, tile_rest}
+use Rattle.index_layer.proofs.LeafKeys.{first_key-fits, first_key-under, first_key-next, next_key-end, tile_short, tile_rest}
 use Rattle.index_layer.proofs.LeafNames.{IsFront, under-front, front-length}
 use Rattle.table_share.specs.Subtree.{shares_key, subtree, leaves_between}
 use Rattle.table_share.proofs.Subtrees.{Narrows, subtree-whole}
@@ -58,7 +58,7 @@ module _ (lo hi : ℕ) where
   none_shared name [] fits short under apart = refl
   none_shared name (r ∷ rows) fits short under apart =
       let out : (nat_le lo r.key && nat_le r.key hi) ≡ false =
-      false_if (nat_le lo r.key && nat_le r.key hi)
+      false_from_ne_true (nat_le lo r.key && nat_le r.key hi)
       (λ e. let low : lo ≤ r.key = leb-true lo r.key (first_so (nat_le lo r.key) (nat_le r.key hi) e) in
       let high : r.key ≤ hi = leb-true r.key hi (second_so (nat_le lo r.key) (nat_le r.key hi) e) in
       let range = under-range name r.key short (omega (arith, high, fits)) under.0 in

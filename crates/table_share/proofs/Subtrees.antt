@@ -5,6 +5,7 @@ use Rattle.std.specs.List.{filter, starts_with, AllByRecursion}
 use Rattle.std.specs.Cmp.{first_so, second_so}
 use Rattle.std.proofs.lemmas.List.{append-nil}
 use Rattle.std.proofs.lemmas.List.Elements.{filter-append}
+use Rattle.std.proofs.lemmas.Bool.{false_from_ne_true}
 use mathlib.Core.Bool.{beq, true≢false}
 use Rattle.zorder.specs.Key.{is_under}
 use Rattle.zorder.specs.Name.{first_key}
@@ -15,7 +16,7 @@ use Rattle.zorder.proofs.Tiles.{first_left, first_right}
 use Rattle.bucket_versions.specs.Rows.{Rows}
 use Rattle.index_layer.specs.Leaves.{Leaf, names_of, has_name, leaf_named}
 use Rattle.index_layer.specs.Part.{goes_on, is_inner}
-use Rattle.index_layer.proofs.LeafKeys.{false_if, first_from, first_key-next, tile_short, tile_rest, first_key-fits, first_key-under}
+use Rattle.index_layer.proofs.LeafKeys.{first_from, first_key-next, tile_short, tile_rest, first_key-fits, first_key-under}
 use Rattle.index_layer.proofs.LeafNames.{IsFront, front-from_test, front-test, front-trans, front-length, under-front, any-among, find-among, short-among}
 use Rattle.index_layer.proofs.Standing.{among-all}
 use Rattle.table_share.specs.Subtree.{subtree, leaves_of}
@@ -66,7 +67,7 @@ same_place (n ∷ name) a b x y e = same_place name a b x y (tail ((name ++ x �
 
 other_half : (name long : List Bool) (x y : Bool) → IsFront (name ++ x ∷ []) long → (x ≡ y → ⊥) → begins (name ++ y ∷ []) long ≡ false
 other_half name long x y f differ =
-    false_if (begins (name ++ y ∷ []) long) (λ e. let g = front-from_test (name ++ y ∷ []) long e in differ (same_place name f.0 g.0 x y (sym f.1 ∙ g.1)))
+    false_from_ne_true (begins (name ++ y ∷ []) long) (λ e. let g = front-from_test (name ++ y ∷ []) long e in differ (same_place name f.0 g.0 x y (sym f.1 ∙ g.1)))
 
 pub half_of : (name long : List Bool) → same_name long name ≡ false → Half name long
 half_of name long other = by_test (begins name long) refl
@@ -80,7 +81,7 @@ half_of name long other = by_test (begins name long) refl
     by_test false e = out e (none false) (none true)
       where
         none : (b : Bool) → begins (name ++ b ∷ []) long ≡ false
-        none b = false_if (begins (name ++ b ∷ []) long) (λ t. true≢false (sym (front-test name long (back_bit name long b (front-from_test (name ++ b ∷ []) long t))) ∙ e))
+        none b = false_from_ne_true (begins (name ++ b ∷ []) long) (λ t. true≢false (sym (front-test name long (back_bit name long b (front-from_test (name ++ b ∷ []) long t))) ∙ e))
 
 -- behind a leaf of the right half there is none of the left one
 module _ (name : List Bool) (room : length name + 1 ≤ 64) where
@@ -96,7 +97,7 @@ module _ (name : List Bool) (room : length name + 1 ≤ 64) where
   none_left : (k : ℕ) (leaves : List Leaf) → first_key (name ++ true ∷ []) ≤ k → tiles_from k (names_of leaves) ≡ true → AllByRecursion (λ (l : Leaf). begins (name ++ false ∷ []) l.name ≡ false) leaves
   none_left k [] le tile = tt
   none_left k (l ∷ leaves) le tile = (
-    false_if (begins (name ++ false ∷ []) l.name)
+    false_from_ne_true (begins (name ++ false ∷ []) l.name)
         (λ e. let short : length l.name ≤ 64 = tile_short k l leaves tile in
         let under : is_under (name ++ false ∷ []) (first_key l.name) ≡ true = under-front (name ++ false ∷ []) l.name (first_key l.name) (front-from_test (name ++ false ∷ []) l.name e) (first_key-under l.name short) in
         let range = under-range (name ++ false ∷ []) (first_key l.name) (short_half false) (first_key-fits l.name short) under in
@@ -153,7 +154,7 @@ none_behind name k [] room le tile = tt
 none_behind name k (l ∷ leaves) room le tile =
     let short : length l.name ≤ 64 = tile_short k l leaves tile in
     let first = first_from k k (l ∷ leaves) (omega arith) tile in (
-      false_if (begins name l.name)
+      false_from_ne_true (begins name l.name)
           (λ e. let under : is_under name (first_key l.name) ≡ true = under-front name l.name (first_key l.name) (front-from_test name l.name e) (first_key-under l.name short) in
           let range = under-range name (first_key l.name) room (first_key-fits l.name short) under in
           omega (arith, range.1, le, first.0)),
@@ -176,7 +177,7 @@ subtree-leaf name k (f ∷ leaves) l tile found = by_test (same_name f.name name
 
     -- a leaf of the name that comes later isn't behind one below the name
     behind : leaf_named name leaves ≡ Some l → begins name f.name ≡ false
-    behind later = false_if (begins name f.name)
+    behind later = false_from_ne_true (begins name f.name)
         (λ e. let it = find-among (λ (m : Leaf). same_name m.name name) leaves l later in
         let named : l.name ≡ name = (same_name-decides l.name name).0 it.1 in
         let same : first_key l.name ≡ first_key name = ap first_key named in
@@ -240,7 +241,7 @@ subtree-failing passes narrows name k (l ∷ leaves) tile fails = by_test (begin
     by_test false e rest = rest
     by_test true e rest =
         kept-no (λ (m : Leaf). passes m.name) l (subtree name leaves)
-        (false_if (passes l.name) (λ t. true≢false (sym (narrows name l.name (front-from_test name l.name e) (tile_short k l leaves tile) t) ∙ fails)))
+        (false_from_ne_true (passes l.name) (λ t. true≢false (sym (narrows name l.name (front-from_test name l.name e) (tile_short k l leaves tile) t) ∙ fails)))
         ∙ rest
 
 -- the leaves below a name that pass a test: those below its halves, or one leaf, or none
