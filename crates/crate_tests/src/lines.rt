@@ -413,10 +413,7 @@ fn rows_are_written_as_they_are_read(rt: HostRuntime) {
 }
 
 const TOLD: &[(RowsFault, &str)] = &[
-    (
-        RowsFault::Header,
-        "the header isn't `session,op,id,x,y,a,b`",
-    ),
+    (RowsFault::Header, "the first record isn't the header"),
     (RowsFault::Csv { row: 3 }, "row 3 hasn't seven fields"),
     (
         RowsFault::Field { row: 3, column: 6 },

@@ -55,7 +55,7 @@ impl Rows {
 #[derive(Clone, Copy, Debug, PartialEq, Eq, Error)]
 pub enum RowsFault {
     /// The bytes begin with two byte order marks, or the first record isn't the header, or there is none.
-    #[error("the header isn't `session,op,id,x,y,a,b`")]
+    #[error("the first record isn't the header")]
     Header,
     /// The record of this row hasn't seven fields.
     #[error("row {row} hasn't seven fields")]
