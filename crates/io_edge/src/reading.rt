@@ -1,7 +1,6 @@
 //! Reading to the end, up to a bound.
-ghost use Rattle.std.specs.Prelude.{◌≡◌, ◌≢◌, ◌+◌, ◌≤◌, ◌<◌, List, [], ℕ, Some, IfOk, IsErrOf, IsOkUnless, MatchResult, OnOk, ◌++◌, length};
-ghost use Rattle.causes.specs.Causes.{Rose};
-ghost use Rattle.io_edge.specs.Reads.{ConsumesUpTo};
+ghost use Rattle.std.specs.Prelude.{◌≡◌, ◌+◌, ◌≤◌, ◌<◌, List, [], ℕ, Some, IfOk, IsErrOf, IsOkUnless, OnOk, ◌++◌, length};
+ghost use Rattle.io_edge.specs.Reads.{ConsumesUpTo, CountsReads};
 
 use crate::source::{ReadFault, Source};
 use std::alloc::Global;
@@ -22,13 +21,8 @@ pub fn read_all<S: Source>(alloc: Global, source: &mut S, most: usize) -> Result
     // Whatever the answer, a rest is left.
     ensures taken { ConsumesUpTo (most + 1) (S.input source.old).left (S.input source.new).left }
 
-    // The source's fault comes only where its count rose.
-    ensures source { IsErrOf result ReadFault.Source → Rose (S.input source.old).faults (S.input source.new).faults }
-    ensures later { (S.input source.old).faults ≤ (S.input source.new).faults }
-
-    // A read that failed is never passed over.
-    ensures same { MatchResult result (λ _. (S.input source.new).faults ≡ (S.input source.old).faults)
-        (λ e. e ≢ ReadFault.Source → (S.input source.new).faults ≡ (S.input source.old).faults) }
+    // The source's fault comes only where its count rose, and a read that failed is never passed over.
+    ensures count { CountsReads (S.input source.old).faults (S.input source.new).faults result }
 {
     let mut buffer = buffer(alloc)?;
     let piece = buffer.as_mut_slice();

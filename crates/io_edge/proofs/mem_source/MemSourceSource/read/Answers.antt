@@ -1,6 +1,6 @@
 use Rattle.std.proofs.Common.{◌≡◌, ◌+◌, ◌-◌, ◌++◌, ℕ, List, length, take, drop, arith, sym, ap, min, ◌∙◌}
 use Rattle.std.proofs.lemmas.List.{length-drop, drop-drop}
-use Rattle.io_edge.specs.FailPlan.{FailPlan, counted}
+use Rattle.io_edge.specs.FailPlan.{counted}
 use Rattle.io_edge.specs.Views.{SourceView}
 use Rattle.io_edge.proofs.Progress.{next_read}
 use Rattle.io_edge.proofs.mem_source.MemSourceSource.read.Goals as goal
