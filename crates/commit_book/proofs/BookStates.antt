@@ -138,7 +138,7 @@ module _ {I D P : Type 0} (drive : D → Drive) (w : ℕ) (o : State) (old new :
       begun_base : KeepsBase new.table.leaves (places_of (world_after o.world h)) name
       begun_base =
           subst (λ (ls : List Leaf). KeepsBase ls (places_of (world_after o.world h)) name) (sym folds.leaves)
-          (KeepsBase-begun old.table.leaves (world_after o.world h) name folds.leaf are rows folds.named)
+          (KeepsBase-begun old.table.leaves (places_of (world_after o.world h)) name folds.leaf are rows folds.named)
 
       other : (nm : List Bool) → is_splitting s.splits nm ≡ true → same_name nm name ≡ false
       other nm is = false_from_ne_true (same_name nm name) (λ same. true≢false (sym is ∙ ap (is_splitting s.splits) ((same_name-decides nm name).0 same) ∙ none))

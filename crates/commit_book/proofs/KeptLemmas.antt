@@ -21,6 +21,7 @@ use Rattle.index_layer.proofs.LeafNames.{IsAmong, later_leaf, find-among, among-
 use Rattle.plain_list.specs.declared.entries.Entry.{Entry}
 use Rattle.plain_list.specs.declared.entries.Entry.TheVariants.{Begin}
 use Rattle.plain_list.specs.State.{State, OpenSplit, is_splitting, split_leaf, split_name, state_after}
+use Rattle.plain_list.specs.World.{places_of}
 use Rattle.plain_list.specs.History.{world_after}
 use Rattle.point_table.specs.Changes.{LeafBase, open_base, base_of, bases_of}
 use Rattle.point_table.proofs.Folding.{named_is}
@@ -59,7 +60,7 @@ last_or_earlier (x ∷ h) (b ∷ before) after e f same = by_rest (head x b (h +
 
 -- what keeps the bases through a step: the new split's leaf has its base, and each leaf of a split that was open and stays open keeps it
 pub record KeepsOn (w : ℕ) (o : State) (h : List Entry) (e : Entry) (old new : List Leaf) : Type 0 where
-  pub begun : (number : ℕ) (name : List Bool) → Begin number name ≡ e → KeepsBase new (world_after o.world h) name
+  pub begun : (number : ℕ) (name : List Bool) → Begin number name ≡ e → KeepsBase new (places_of (world_after o.world h)) name
   pub was : (before after : List Entry) (number : ℕ) (name : List Bool) → h ≡ before ++ Begin number name ∷ after → split_name (state_after w o (h ++ e ∷ [])).splits number ≡ Some name
       → split_name (state_after w o h).splits number ≡ Some name
   pub keeps : (number : ℕ) (name : List Bool) → split_name (state_after w o h).splits number ≡ Some name → split_name (state_after w o (h ++ e ∷ [])).splits number ≡ Some name
@@ -68,8 +69,8 @@ pub record KeepsOn (w : ℕ) (o : State) (h : List Entry) (e : Entry) (old new :
 pub KeepsBases-push : (w : ℕ) (o : State) (h : List Entry) (e : Entry) (old new : List Leaf) → KeepsOn w o h e old new → KeepsBases w o old h → KeepsBases w o new (h ++ e ∷ [])
 KeepsBases-push w o h e old new on kept before after number name same now = by_place (last_or_earlier h before after e (Begin number name) same)
   where
-    by_place : (before ≡ h) × (Begin number name ≡ e) ⊎ ((rest : List Entry) × (h ≡ before ++ Begin number name ∷ rest)) → KeepsBase new (world_after o.world before) name
-    by_place (inl last) = subst (λ (b : List Entry). KeepsBase new (world_after o.world b) name) (sym last.0) (on.begun number name last.1)
+    by_place : (before ≡ h) × (Begin number name ≡ e) ⊎ ((rest : List Entry) × (h ≡ before ++ Begin number name ∷ rest)) → KeepsBase new (places_of (world_after o.world before)) name
+    by_place (inl last) = subst (λ (b : List Entry). KeepsBase new (places_of (world_after o.world b)) name) (sym last.0) (on.begun number name last.1)
     by_place (inr earlier) =
         let was = on.was before earlier.0 number name earlier.1 now in
         on.keeps number name was now (world_after o.world before) (kept before earlier.0 number name earlier.1 was)

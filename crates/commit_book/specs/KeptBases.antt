@@ -9,6 +9,7 @@ use Rattle.index_layer.specs.Stands.{places_have}
 use Rattle.plain_list.specs.declared.entries.Entry.{Entry}
 use Rattle.plain_list.specs.declared.entries.Entry.TheVariants.{Begin}
 use Rattle.plain_list.specs.State.{State, split_name, state_after}
+use Rattle.plain_list.specs.World.{places_of}
 use Rattle.plain_list.specs.History.{world_after}
 
 -- the base of a leaf has the rows of a world that are under its name, in order, and no others
@@ -26,4 +27,4 @@ pub record KeepsBase (leaves : List Leaf) (places : List Placed) (name : List Bo
 abbrev pub KeepsBases : ℕ → State → List Leaf → List Entry → Type 0
 KeepsBases w s leaves entries =
     (before after : List Entry) (number : ℕ) (name : List Bool) → entries ≡ before ++ Begin number name ∷ after
-    → split_name (state_after w s entries).splits number ≡ Some name → KeepsBase leaves (world_after s.world before) name
+    → split_name (state_after w s entries).splits number ≡ Some name → KeepsBase leaves (places_of (world_after s.world before)) name

@@ -5,11 +5,11 @@ use Rattle.std.proofs.lemmas.Bool.{eqb-true}
 use mathlib.Core.Logic.{dite}
 use native.Mathlib.Decide.{ℕ_discrete}
 use mathlib.Core.List.{IsPrefix}
-use Rattle.zorder.specs.declared.points.Placed.{Placed}
 use Rattle.plain_list.specs.declared.ops.Op.{Op}
 use Rattle.plain_list.specs.declared.ops.Answer.{Answer}
 use Rattle.plain_list.specs.declared.entries.Entry.{Entry}
 use Rattle.plain_list.specs.declared.entries.Entry.TheVariants.{Fail, Call, Begin, Install, Abandon}
+use Rattle.plain_list.specs.World.{World}
 use Rattle.plain_list.specs.Answer.{answer_of, after_of}
 use Rattle.plain_list.specs.History.{world_after, replies, reply_at, call_count}
 use Rattle.plain_list.specs.Played.{calls_of, IsPlayed}
@@ -103,7 +103,7 @@ get-behind [] a ys = refl
 get-behind (x ∷ xs) a ys = get-behind xs a ys
 
 -- the reply there is the answer behind what stands before
-pub reply-of : (world : List Placed) (h before : List Entry) (s row : ℕ) (op : Op) → IsPrefix (before ++ Call s row op ∷ []) h
+pub reply-of : (world : World) (h before : List Entry) (s row : ℕ) (op : Op) → IsPrefix (before ++ Call s row op ∷ []) h
     → reply_at world h (call_count (before ++ Call s row op ∷ [])) ≡ Some (answer_of (world_after world before) op)
 reply-of world h before s row op (rest, is) =
     ap (reply_at world h) place ∙ ap (λ (l : List Entry). slice_get (replies world l) (call_count before)) (sym is ∙ append_assoc before (Call s row op ∷ []) rest)

@@ -1,22 +1,22 @@
 -- Rows that lanes kept, with the places and answers that a history gives them.
 use Rattle.std.specs.Prelude.{◌≡◌, List, [], ◌∷◌, Some, ⊤}
-use Rattle.zorder.specs.declared.points.Placed.{Placed}
 use Rattle.plain_list.specs.declared.entries.Entry.{Entry}
+use Rattle.plain_list.specs.World.{World}
 use Rattle.plain_list.specs.History.{reply_at}
 use Rattle.sessions.specs.declared.store.lanes.KeptRow.{KeptRow}
 use Rattle.sessions.specs.declared.store.lanes.Lane.{Lane}
 use Rattle.lane_history.specs.SessionRows.{row_place}
 
 -- the place of the row's call, and the reply there
-pub record IsRight (world : List Placed) (h : List Entry) (kept : KeptRow) : Type 0 where
+pub record IsRight (world : World) (h : List Entry) (kept : KeptRow) : Type 0 where
   pub place : row_place kept.row h ≡ Some kept.place
   pub answer : reply_at world h kept.place ≡ Some kept.answer
 
-abbrev pub AreRight : List Placed → List Entry → List KeptRow → Type 0
+abbrev pub AreRight : World → List Entry → List KeptRow → Type 0
 AreRight world h [] = ⊤
 AreRight world h (k ∷ kept) = IsRight world h k × AreRight world h kept
 
 -- the same of all lanes
-abbrev pub AllRight : {I D O P : Type 0} → List Placed → List Entry → List (Lane I D O P) → Type 0
+abbrev pub AllRight : {I D O P : Type 0} → World → List Entry → List (Lane I D O P) → Type 0
 AllRight world h [] = ⊤
 AllRight world h (lane ∷ lanes) = AreRight world h lane.kept.items × AllRight world h lanes

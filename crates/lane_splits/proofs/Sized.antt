@@ -5,8 +5,8 @@ use Rattle.std.specs.Prelude.{nat_lt}
 use Rattle.std.specs.List.{find, list_all}
 use Rattle.std.specs.Option.{option_map}
 use Rattle.std.proofs.lemmas.Bool.{ltb-true}
-use Rattle.zorder.specs.declared.points.Placed.{Placed}
 use Rattle.plain_list.specs.declared.entries.Entry.{Entry}
+use Rattle.plain_list.specs.World.{World, places_of}
 use Rattle.plain_list.specs.History.{world_after, failed_cell}
 use Rattle.plain_list.specs.State.{State, OpenSplit, is_leaf, is_splitting, state_after}
 use Rattle.plain_list.specs.Size.{is_over, full_leaf, IsSized}
@@ -25,15 +25,15 @@ use Rattle.sessions.specs.declared.faults.Settled.TheVariants.{Small, Room}
 use Rattle.lane_splits.proofs.Tidy.{end-seen}
 
 -- where no leaf is over the size, each is sized
-sized-none : (w size : ℕ) (world : List Placed) (splits : List OpenSplit) (leaves : List (List Bool)) → splits ≡ [] → find (λ n. is_over w size world n && not (is_splitting splits n)) leaves ≡ None
-    → list_all (λ n. not (is_over w size world n)) leaves ≡ true
+sized-none : (w size : ℕ) (world : World) (splits : List OpenSplit) (leaves : List (List Bool)) → splits ≡ [] → find (λ n. is_over w size (places_of world) n && not (is_splitting splits n)) leaves ≡ None
+    → list_all (λ n. not (is_over w size (places_of world) n)) leaves ≡ true
 sized-none w size world splits [] ended none = refl
 sized-none w size world splits (l ∷ leaves) ended none =
-    by_test (is_over w size world l) (is_splitting splits l) (ap (λ (s : List OpenSplit). is_splitting s l) ended) none (sized-none w size world splits leaves ended)
+    by_test (is_over w size (places_of world) l) (is_splitting splits l) (ap (λ (s : List OpenSplit). is_splitting s l) ended) none (sized-none w size world splits leaves ended)
   where
-    by_test : (over splitting : Bool) → splitting ≡ false → cond (over && not splitting) (Some l) (find (λ n. is_over w size world n && not (is_splitting splits n)) leaves) ≡ None
-        → (find (λ n. is_over w size world n && not (is_splitting splits n)) leaves ≡ None → list_all (λ n. not (is_over w size world n)) leaves ≡ true)
-        → (not over && list_all (λ n. not (is_over w size world n)) leaves) ≡ true
+    by_test : (over splitting : Bool) → splitting ≡ false → cond (over && not splitting) (Some l) (find (λ n. is_over w size (places_of world) n && not (is_splitting splits n)) leaves) ≡ None
+        → (find (λ n. is_over w size (places_of world) n && not (is_splitting splits n)) leaves ≡ None → list_all (λ n. not (is_over w size (places_of world) n)) leaves ≡ true)
+        → (not over && list_all (λ n. not (is_over w size (places_of world) n)) leaves) ≡ true
     by_test true true split here rest = absurd (true≢false split)
     by_test true false split here rest = absurd (cc)
     by_test false splitting split here rest = rest here
@@ -41,7 +41,7 @@ sized-none w size world splits (l ∷ leaves) ended none =
 sized-full : (w size : ℕ) (o : State) (h : List Entry) → (state_after w o h).splits ≡ [] → full_leaf w size (state_after w o h) ≡ None → IsSized w size (world_after o.world h) (state_after w o h).leaves
 sized-full w size o h ended none =
     let s = state_after w o h in
-    subst (λ (world : List Placed). IsSized w size world s.leaves) (state_after-world w o h) (sized-none w size s.world s.splits s.leaves ended none)
+    subst (λ (world : World). IsSized w size world s.leaves) (state_after-world w o h) (sized-none w size s.world s.splits s.leaves ended none)
 
 -- a begin that was refused for want of room
 abbrev is_room : BookFault → Bool

@@ -3,7 +3,7 @@ use Rattle.std.specs.Prelude.{⊤}
 use Rattle.std.proofs.Common.{◌≡◌, ◌≢◌, ℕ, ◌+◌, ◌<◌, Bool, true, false, cond, ◌==◌, List, [], ◌∷◌, ◌++◌, map, Option, Some, None, refl, sym, ap, subst, ◌∙◌, arith}
 use Rattle.std.proofs.lemmas.Bool.Decides.{nat_tests}
 use Rattle.std.proofs.lemmas.List.{append-nil}
-use Rattle.zorder.specs.declared.points.Placed.{Placed}
+use Rattle.plain_list.specs.World.{World}
 use Rattle.plain_list.specs.declared.ops.Op.{Op}
 use Rattle.plain_list.specs.declared.entries.Entry.{Entry}
 use Rattle.csv_rows.specs.declared.rows.InRow.{InRow}
@@ -44,7 +44,7 @@ played-numbers w s origin rows lane played calm =
     keeps-numbers w played.old.session played.old.pass plays.mid plays.front lane.kept.items plays.keeps ∙ ap (λ (l : List (ℕ × Op)). map (λ (r : ℕ × Op). r.0) l) front
 
 -- each end answers the rows of its session
-abbrev AllAnswer : List Placed → List Entry → List InRow → List LaneEnd → Type 0
+abbrev AllAnswer : World → List Entry → List InRow → List LaneEnd → Type 0
 AllAnswer world h rows [] = ⊤
 AllAnswer world h rows (end ∷ ends) = AreAnswers world h (session_rows rows end.session) end.kept.items × AllAnswer world h rows ends
 
@@ -53,7 +53,7 @@ abbrev ends_count : ℕ → List LaneEnd → ℕ
 ends_count s [] = 0
 ends_count s (end ∷ ends) = cond (end.session == s) 1 0 + ends_count s ends
 
-module _ (world : List Placed) (h : List Entry) (rows : List InRow) where
+module _ (world : World) (h : List Entry) (rows : List InRow) where
   answer-last : (ends : List LaneEnd) (end : LaneEnd) → AllAnswer world h rows ends → AreAnswers world h (session_rows rows end.session) end.kept.items → AllAnswer world h rows (ends ++ end ∷ [])
   answer-last [] end all one = (one, tt)
   answer-last (x ∷ ends) end (first, all) one = (first, answer-last ends end all one)
@@ -96,7 +96,7 @@ count-times w origin rows s (x ∷ sessions) (lane ∷ lanes) (first, played) =
     omega (arith, count-last s (ends_of lanes) (end_of lane), count-times w origin rows s sessions lanes played, at)
 
 -- what calm lanes leave answers all rows
-pub has-answers : {I D O P : Type 0} (w : ℕ) (origin : Origin) (world : List Placed) (h : List Entry) (rows : List InRow) (sessions : List ℕ) (lanes : List (Lane I D O P)) → AreSessions rows sessions → HaveAllPlayed w origin rows sessions lanes
+pub has-answers : {I D O P : Type 0} (w : ℕ) (origin : Origin) (world : World) (h : List Entry) (rows : List InRow) (sessions : List ℕ) (lanes : List (Lane I D O P)) → AreSessions rows sessions → HaveAllPlayed w origin rows sessions lanes
     → AreCalm lanes → AllRight world h lanes → HasAnswers world h rows (ends_of lanes)
 has-answers w origin world h rows sessions lanes are played calm right s =
     found world h rows s (ends_of lanes) (all-answer world h rows w origin sessions lanes played calm right) (λ some. omega (arith, count-times w origin rows s sessions lanes played, are.all s some))

@@ -2,9 +2,9 @@
 use Rattle.std.proofs.Common.{◌≡◌, ◌≢◌, ◌⊎◌, inl, inr, ◌∙◌, ℕ, List, ◌++◌, take, Option, Some, None, sym, ap, subst}
 use Rattle.std.proofs.lemmas.List.{append-nil}
 use Rattle.std.proofs.lemmas.Option.{same_Some}
-use Rattle.zorder.specs.declared.points.Placed.{Placed}
 use Rattle.cell_format.specs.declared.cell.Cell.{Cell}
 use Rattle.plain_list.specs.declared.entries.Entry.{Entry}
+use Rattle.plain_list.specs.World.{World}
 use Rattle.plain_list.specs.State.{State}
 use Rattle.plain_list.specs.History.{failed_cell}
 use Rattle.disk_trait.specs.Drive.{Drive, Stays, IsSynced}
@@ -21,18 +21,18 @@ use Rattle.play_run.specs.Origin.{Origin, IsFoundOrigin}
 use Rattle.play_run.specs.Crash.{RecoversToPrefix, KeepsAll, KeepsPlayed}
 
 -- an image of legal cells has leaves that tile
-to-prefix : (first : List Cell) (world : List Placed) (h : List Entry) (image : List ℕ) → IsPrefixRecovered width first world h image → RecoversToPrefix width first world h image
+to-prefix : (first : List Cell) (world : World) (h : List Entry) (image : List ℕ) → IsPrefixRecovered width first world h image → RecoversToPrefix width first world h image
 to-prefix first world h image (m, recovers) = (m, record { recovers = recovers; tile = leaves_tile width (first ++ take m (cells_of world h ++ failed_cells h)) recovers.legal })
 
 -- without a failed append all cells are those of the history
-all-placed : (first : List Cell) (world : List Placed) (h : List Entry) (image : List ℕ) → failed_cell h ≡ None
+all-placed : (first : List Cell) (world : World) (h : List Entry) (image : List ℕ) → failed_cell h ≡ None
     → Recovers width (first ++ cells_of world h) image ⊎ Recovers width (first ++ (cells_of world h ++ failed_cells h)) image → Recovers width (first ++ cells_of world h) image
 all-placed first world h image none (inl all) = all
 all-placed first world h image none (inr more) =
     subst (λ (l : List Cell). Recovers width (first ++ l) image) (ap (λ (l : List Cell). cells_of world h ++ l) (failed_cells-none h none) ∙ append-nil (cells_of world h)) more
 
 -- what a log keeps of a history, at the drive on which it was opened
-kept-all : (first : List Cell) (world : List Placed) (h : List Entry) (old start now : Drive) (failed : Option ℕ) (status : ℕ) → start.clock ≡ old.clock → KeepsHistory width first world h start.clock now failed
+kept-all : (first : List Cell) (world : World) (h : List Entry) (old start now : Drive) (failed : Option ℕ) (status : ℕ) → start.clock ≡ old.clock → KeepsHistory width first world h start.clock now failed
     → (status ≢ 7 → failed_cell h ≡ None) → KeepsAll width first world h old now status
 kept-all first world h old start now failed status moment kept going = record {
   any_moment = λ c left. to-prefix first world h c (kept.any_moment c (subst (λ (t : ℕ). now.since t c) (sym moment) left));

@@ -7,7 +7,7 @@ use Rattle.std.proofs.lemmas.Bool.Decides.{Decides-eqb}
 use Rattle.std.proofs.lemmas.List.{append-nil, drop_more, take_more, length-set, length-replicate, get_or-replicate, get_or-set_other}
 use Rattle.std.proofs.lemmas.List.FromFn.{length-range_with_len}
 use Rattle.std.proofs.lemmas.Grind.{get_or-set_at}
-use Rattle.zorder.specs.declared.points.Placed.{Placed}
+use Rattle.plain_list.specs.World.{World}
 use Rattle.plain_list.specs.declared.ops.Op.{Op}
 use Rattle.plain_list.specs.declared.entries.Entry.{Entry}
 use Rattle.std.specs.List.{AllByRecursion}
@@ -102,17 +102,17 @@ next-kept rows ends i row d numbers lt =
     let at = numbers-at (kept_of s ends) (session_rows rows s) (numbers s) (before rows i s) d e next.0 in
     (at.0, at.1 ∙ next.1)
 
-right-at : (world : List Placed) (h : List Entry) (kept : List KeptRow) → AreRight world h kept → (c : ℕ) (d : KeptRow) → c < length kept → IsRight world h (get_or kept c d)
+right-at : (world : World) (h : List Entry) (kept : List KeptRow) → AreRight world h kept → (c : ℕ) (d : KeptRow) → c < length kept → IsRight world h (get_or kept c d)
 right-at world h [] right c d lt = absurd (omega (arith, lt))
 right-at world h (k ∷ kept) (first, right) zero d lt = first
 right-at world h (k ∷ kept) (first, right) (suc c) d lt = right-at world h kept right c d (omega (arith, lt))
 
-line-right : (world : List Placed) (h : List Entry) (k : KeptRow) (row : ℕ) → k.row ≡ row → IsRight world h k → line_at world h row (row_place row h) ≡ line_text k.row k.place k.answer
+line-right : (world : World) (h : List Entry) (k : KeptRow) (row : ℕ) → k.row ≡ row → IsRight world h k → line_at world h row (row_place row h) ≡ line_text k.row k.place k.answer
 line-right world h k row at right =
     ap (λ (n : ℕ). line_at world h n (row_place n h)) (sym at) ∙ ap (λ p. line_at world h k.row p) right.place ∙ ap (λ a. line_if k.row k.place a) right.answer
 
 -- the line of a row is that of what its lane kept next
-pub next-line : (world : List Placed) (h : List Entry) (rows : List InRow) (ends : List LaneEnd) (i : ℕ) (row : InRow) (k : KeptRow) → HasAnswers world h rows ends → i < length rows
+pub next-line : (world : World) (h : List Entry) (rows : List InRow) (ends : List LaneEnd) (i : ℕ) (row : InRow) (k : KeptRow) → HasAnswers world h rows ends → i < length rows
     → get_or (kept_of (get_or rows i row).session ends) (before rows i (get_or rows i row).session) k ≡ k → line_at world h (i + 1) (row_place (i + 1) h) ≡ line_text k.row k.place k.answer
 next-line world h rows ends i row k answers lt is =
     let s = (get_or rows i row).session in
@@ -184,10 +184,10 @@ range-at start (suc n) zero d lt = omega arith
 range-at start (suc n) (suc i) d lt = omega (arith, range-at (start + 1) n i d (omega (arith, lt)))
 
 -- a row's line, by its number
-abbrev pub line_of : List Placed → List Entry → ℕ → List ℕ
+abbrev pub line_of : World → List Entry → ℕ → List ℕ
 line_of world h row = line_at world h row (row_place row h)
 
-module _ (world : List Placed) (h : List Entry) (rows : List InRow) (ends : List LaneEnd) (answers : HasAnswers world h rows ends) (old mid now : Option (List ℕ)) (faults later : ℕ) (i : ℕ) (row : InRow) (k : KeptRow) (held more : List ℕ)
+module _ (world : World) (h : List Entry) (rows : List InRow) (ends : List LaneEnd) (answers : HasAnswers world h rows ends) (old mid now : Option (List ℕ)) (faults later : ℕ) (i : ℕ) (row : InRow) (k : KeptRow) (held more : List ℕ)
     (lt : i < length rows) (is : get_or (kept_of (get_or rows i row).session ends) (before rows i (get_or rows i row).session) k ≡ k)
     (has : HasAdded (line_of world h) old mid faults later title_line (range_with_len 1 (length rows)) i held) (moved : Moves mid now (held ++ line_text k.row k.place k.answer) more) where
   abbrev items : List ℕ
@@ -214,19 +214,19 @@ module _ (world : List Placed) (h : List Entry) (rows : List InRow) (ends : List
       (puts-fault old now (title_line ++ flat_map (line_of world h) items) (more ++ flat_map (line_of world h) (drop (i + 1) items)) [] result err lost)
 
 -- a fault came on the way of the title
-pub title-lost : {T E : Type 0} (world : List Placed) (h : List Entry) (rows : List InRow) (old now : Option (List ℕ)) (empty lost : List ℕ) (result : Result T E) → empty ≡ [] → Moves old now (empty ++ title_line) lost → IsErr result
+pub title-lost : {T E : Type 0} (world : World) (h : List Entry) (rows : List InRow) (old now : Option (List ℕ)) (empty lost : List ℕ) (result : Result T E) → empty ≡ [] → Moves old now (empty ++ title_line) lost → IsErr result
     → Puts old now (lines_of world (length rows) h) result
 title-lost world h rows old now empty lost result none moved err =
     puts-fault old now title_line lost (flat_map (line_of world h) (range_with_len 1 (length rows))) result err (moves-is old now (empty ++ title_line) title_line lost (ap (λ (l : List ℕ). l ++ title_line) none) moved)
 
 -- the title was added, and no line
-pub title-added : (world : List Placed) (h : List Entry) (all : List ℕ) (old now : Option (List ℕ)) (faults later : ℕ) (empty held : List ℕ) → empty ≡ [] → Moves old now (empty ++ title_line) held → later ≡ faults
+pub title-added : (world : World) (h : List Entry) (all : List ℕ) (old now : Option (List ℕ)) (faults later : ℕ) (empty held : List ℕ) → empty ≡ [] → Moves old now (empty ++ title_line) held → later ≡ faults
     → HasAdded (line_of world h) old now faults later title_line all 0 held
 title-added world h all old now faults later empty held none moved same =
     record { moved = moves-is old now (empty ++ title_line) (title_line ++ []) held (ap (λ (l : List ℕ). l ++ title_line) none ∙ sym (append-nil title_line)) moved; same = same }
 
 -- all lines were added, and what was held back is put
-pub lines-put : {T E : Type 0} (world : List Placed) (h : List Entry) (rows : List InRow) (old mid now : Option (List ℕ)) (faults later i : ℕ) (held : List ℕ) (result : Result T E)
+pub lines-put : {T E : Type 0} (world : World) (h : List Entry) (rows : List InRow) (old mid now : Option (List ℕ)) (faults later i : ℕ) (held : List ℕ) (result : Result T E)
     → HasAdded (line_of world h) old mid faults later title_line (range_with_len 1 (length rows)) i held → i ≡ length rows → Puts mid now held result → Puts old now (lines_of world (length rows) h) result
 lines-put world h rows old mid now faults later i held result has end puts =
     let items : List ℕ = range_with_len 1 (length rows) in

@@ -3,12 +3,11 @@ use Rattle.std.proofs.Common.{◌≡◌, ℕ, ◌+◌, Bool, true, false, cond, 
 use Rattle.std.specs.Prelude.{⊤}
 use Rattle.std.specs.List.{AllByRecursion}
 use Rattle.std.proofs.lemmas.Bool.Decides.{nat_tests}
-use Rattle.zorder.specs.declared.points.Placed.{Placed}
 use Rattle.plain_list.specs.declared.ops.Op.{Op}
 use Rattle.plain_list.specs.declared.entries.Entry.{Entry}
 use Rattle.plain_list.specs.declared.entries.Entry.TheVariants.{Call, Begin, Install, Abandon, Fail}
 use Rattle.plain_list.specs.Answer.{FitsOp, after_of}
-use Rattle.plain_list.specs.World.{IsWorld}
+use Rattle.plain_list.specs.World.{World, IsWorld}
 use Rattle.plain_list.specs.History.{world_after}
 use Rattle.plain_list.specs.Played.{calls_of, IsPlayed}
 use Rattle.plain_list.proofs.Worlds.{IsWorld-after_of}
@@ -39,7 +38,7 @@ calls-fit rows h are played s = let (rest, whole) = played s in front-fits (call
 same-session : (s : ℕ) → (s == s) ≡ false → ⊥
 same-session s e = grind (arith, nat_tests)
 
-fit-after : (world : List Placed) (h : List Entry) → ((s : ℕ) → AllFit (calls_of s h)) → IsWorld world → IsWorld (world_after world h)
+fit-after : (world : World) (h : List Entry) → ((s : ℕ) → AllFit (calls_of s h)) → IsWorld world → IsWorld (world_after world h)
 fit-after world [] fit is = is
 fit-after world (Call session row op ∷ h) fit is = fit-after (after_of world op) h (λ s. rest s (session == s) (fit s)) (IsWorld-after_of world op (first (session == session) refl (fit session)) is)
   where
@@ -56,5 +55,5 @@ fit-after world (Abandon number ∷ h) fit is = fit-after world h fit is
 fit-after world (Fail cell lost ∷ h) fit is = fit-after world h fit is
 
 -- after calls of rows
-pub played-world : (rows : List InRow) (world : List Placed) (h : List Entry) → AreInRows rows → IsPlayed (session_rows rows) h → IsWorld world → IsWorld (world_after world h)
+pub played-world : (rows : List InRow) (world : World) (h : List Entry) → AreInRows rows → IsPlayed (session_rows rows) h → IsWorld world → IsWorld (world_after world h)
 played-world rows world h are played is = fit-after world h (calls-fit rows h are played) is

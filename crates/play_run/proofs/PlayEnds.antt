@@ -6,6 +6,7 @@ use Rattle.std.specs.Io.KnownBytes.{Appends}
 use Rattle.causes.specs.Causes.{Counts}
 use Rattle.disk_trait.specs.Drive.{Drive}
 use Rattle.plain_list.specs.declared.entries.Entry.{Entry}
+use Rattle.plain_list.specs.World.{places_of}
 use Rattle.plain_list.specs.State.{State, IsLegal, state_after}
 use Rattle.plain_list.specs.History.{world_after, failed_cell}
 use Rattle.index_layer.specs.Stands.{Stands}
@@ -67,7 +68,7 @@ module _ {D : Type 0} (drive : D → Drive) (report : Report) (rows : List InRow
   objects = record {
     is_world = played-world rows old.opening.world h are played.played begins.world;
     names = (state_after width new.opening h).leaves;
-    stands = subst (λ (s : State). Stands new.leaves (world_after s.world h) (state_after width new.opening h).leaves) played.opening book.stands;
+    stands = subst (λ (s : State). Stands new.leaves (places_of (world_after s.world h)) (state_after width new.opening h).leaves) played.opening book.stands;
   }
 
   -- what the answers say, where the text is written

@@ -1,8 +1,8 @@
 -- What a crash leaves of the log of a run.
 use Rattle.std.specs.Prelude.{◌≡◌, ◌≢◌, ℕ, List, ◌++◌, take, Some}
 use Rattle.zorder.specs.Tile.{Tile}
-use Rattle.zorder.specs.declared.points.Placed.{Placed}
 use Rattle.cell_format.specs.declared.cell.Cell.{Cell}
+use Rattle.plain_list.specs.World.{World}
 use Rattle.plain_list.specs.declared.entries.Entry.{Entry}
 use Rattle.disk_trait.specs.Drive.{Drive, IsSynced}
 use Rattle.disk_trait.specs.Moments.{LeavesNow, LeavesSince}
@@ -17,12 +17,12 @@ pub record RecoversTo (w : ℕ) (cells : List Cell) (image : List ℕ) : Type 0 
 
 -- An image that recovers to the cells that stood first and some of the history's, in order and none skipped. The cell of a failed append may
 -- stand after them.
-abbrev pub RecoversToPrefix : ℕ → List Cell → List Placed → List Entry → List ℕ → Type 0
+abbrev pub RecoversToPrefix : ℕ → List Cell → World → List Entry → List ℕ → Type 0
 RecoversToPrefix w first world h image = (m : ℕ) × RecoversTo w (first ++ take m (cells_of world h ++ failed_cells h)) image
 
 -- A crash at any moment of the run leaves the cells that stood first and some of the history's. A crash after it leaves all of them, and where
 -- the drive didn't fail nothing else.
-pub record KeepsAll (w : ℕ) (first : List Cell) (world : List Placed) (h : List Entry) (old new : Drive) (status : ℕ) : Type 0 where
+pub record KeepsAll (w : ℕ) (first : List Cell) (world : World) (h : List Entry) (old new : Drive) (status : ℕ) : Type 0 where
   pub any_moment : LeavesSince new old.clock (RecoversToPrefix w first world h)
   pub at_end : LeavesNow new (IsWhollyRecovered w first world h)
   pub all : status ≢ 7 → LeavesNow new (Recovers w (first ++ cells_of world h))

@@ -2,9 +2,9 @@
 ghost use Rattle.std.specs.Prelude.{◌≡◌, List, length};
 ghost use Rattle.causes.specs.Causes.{Counts};
 ghost use Rattle.io_edge.specs.Puts.{Puts};
-ghost use Rattle.zorder.specs.declared.points.Placed.{Placed};
 ghost use Rattle.plain_list.specs.declared.entries.Entry.{Entry};
 ghost use Rattle.csv_rows.specs.InRows.{AreInRows};
+ghost use Rattle.plain_list.specs.World.{World, places_of};
 ghost use Rattle.plain_list.specs.History.{world_after};
 ghost use Rattle.table_share.specs.Sums.{sums_of};
 ghost use Rattle.play_run.specs.Lines.{lines_of, text_of, summary_of};
@@ -34,7 +34,7 @@ pub(crate) fn tell_report<K: Sink, I: Index>(
 ) -> Result<(), SinkFault>
     requires rows { AreInRows rows.now }
     requires numbers { HasNumbers rows.now ends.now }
-    ensures bytes { (world : List Placed) (h : List Entry) → HasAnswers world h rows.now ends.now
+    ensures bytes { (world : World) (h : List Entry) → HasAnswers world h rows.now ends.now
         → HasObjects (I.leaves index.now) (world_after world h)
         → Puts (K.output sink.old).taken (K.output sink.new).taken (text_of report rows.now world h) result }
     ensures cause { Counts (K.output sink.old).faults (K.output sink.new).faults result }
@@ -47,7 +47,7 @@ pub(crate) fn tell_report<K: Sink, I: Index>(
 
 // What so many rows come to, with the objects of an index.
 fn summary_of<I: Index>(rows: usize, index: &I) -> Summary
-    ensures { (world : List Placed) → HasObjects (I.leaves index.now) world → result ≡ summary_of rows world }
+    ensures { (world : World) → HasObjects (I.leaves index.now) world → result ≡ summary_of rows world }
 {
     let Sums { points, sum } = count_objects::<I, Brand>(index, Blank::new(1));
     Summary {
@@ -62,7 +62,7 @@ fn count_objects<I: Index, L: Ledger>(index: &I, blank: Blank) -> Sums
     requires name { blank.name ≡ L.name }
     requires parts { blank.parts ≡ L.parts }
     requires one_part { blank.parts ≡ 1 }
-    ensures { (world : List Placed) → HasObjects (I.leaves index.now) world → result ≡ sums_of world }
+    ensures { (world : World) → HasObjects (I.leaves index.now) world → result ≡ sums_of (places_of world) }
 {
     let mut steps = Steps::<L>::new(blank);
     sum_up(index, &mut steps)
@@ -72,7 +72,7 @@ fn count_objects<I: Index, L: Ledger>(index: &I, blank: Blank) -> Sums
 fn write_lines<K: Sink>(sink: &mut K, rows: &[InRow], ends: &[LaneEnd]) -> Result<(), SinkFault>
     requires rows { AreInRows rows.now }
     requires numbers { HasNumbers rows.now ends.now }
-    ensures bytes { (world : List Placed) (h : List Entry) → HasAnswers world h rows.now ends.now
+    ensures bytes { (world : World) (h : List Entry) → HasAnswers world h rows.now ends.now
         → Puts (K.output sink.old).taken (K.output sink.new).taken (lines_of world (length rows.now) h) result }
     ensures cause { Counts (K.output sink.old).faults (K.output sink.new).faults result }
 {

@@ -1,10 +1,9 @@
 -- What lanes kept for the rows of their sessions, and books whose rows were played.
 use Rattle.std.specs.Prelude.{◌≡◌, ◌⊎◌, ℕ, ◌<◌, length, get_or, ◌==◌, Bool, List, [], ◌∷◌, map, if◌then◌else◌, Option, Some, None}
-use Rattle.zorder.specs.declared.points.Placed.{Placed}
 use Rattle.plain_list.specs.declared.ops.Op.{Op}
 use Rattle.plain_list.specs.declared.entries.Entry.{Entry}
 use Rattle.plain_list.specs.Played.{IsPlayed, IsPlayedWhole}
-use Rattle.plain_list.specs.World.{IsWorld}
+use Rattle.plain_list.specs.World.{World, places_of, IsWorld}
 use Rattle.plain_list.specs.History.{world_after, failed_cell}
 use Rattle.index_layer.specs.Leaves.{Leaf}
 use Rattle.index_layer.specs.Stands.{Stands}
@@ -37,7 +36,7 @@ pub record HasLanes {V : Type 0} (kept : V → List KeptRow) (ends : List LaneEn
   pub each : (s : ℕ) (d : V) → s < n → kept (get_or lanes s d) ≡ kept_of s ends
 
 -- rows that were kept have the numbers of a session's rows, and their places and answers are those of the history
-pub record AreAnswers (world : List Placed) (h : List Entry) (rows : List (ℕ × Op)) (kept : List KeptRow) : Type 0 where
+pub record AreAnswers (world : World) (h : List Entry) (rows : List (ℕ × Op)) (kept : List KeptRow) : Type 0 where
   pub numbers : map (λ (k : KeptRow). k.row) kept ≡ map (λ (r : ℕ × Op). r.0) rows
   pub right : AreRight world h kept
 
@@ -46,7 +45,7 @@ abbrev pub HasNumbers : List InRow → List LaneEnd → Type 0
 HasNumbers rows ends = (s : ℕ) → map (λ (k : KeptRow). k.row) (kept_of s ends) ≡ map (λ (r : ℕ × Op). r.0) (session_rows rows s)
 
 -- the kept rows of each session are the answers to its rows
-abbrev pub HasAnswers : List Placed → List Entry → List InRow → List LaneEnd → Type 0
+abbrev pub HasAnswers : World → List Entry → List InRow → List LaneEnd → Type 0
 HasAnswers world h rows ends = (s : ℕ) → AreAnswers world h (session_rows rows s) (kept_of s ends)
 
 -- rows were played over a store of this origin
@@ -76,16 +75,16 @@ pub record IsAnsweredBook {D : Type 0} (w : ℕ) (rows : List InRow) (old new : 
   pub settled : failed_cell new.entries ≡ None → SplitsAreDone w old.bucket old.opening (first_in old.log) new.entries
 
 -- leaves stand for these objects
-pub record HasObjects (leaves : List Leaf) (world : List Placed) : Type 0 where
+pub record HasObjects (leaves : List Leaf) (world : World) : Type 0 where
   pub is_world : IsWorld world
   pub names : List (List Bool)
-  pub stands : Stands leaves world names
+  pub stands : Stands leaves (places_of world) names
 
 -- the text is that of a history that gives the ends their answers, and for whose objects at the end the leaves stand
 pub record WritesText (report : Report) (rows : List InRow) (leaves : List Leaf) (ends : Option (List LaneEnd)) (status : ℕ) (old new : Output) : Type 0 where
   pub some : List LaneEnd
   pub ends_are : ends ≡ Some some
-  pub writes : (world : List Placed) (h : List Entry) → HasAnswers world h rows some → HasObjects leaves (world_after world h) → EndsWriting (text_of report rows world h) status old new
+  pub writes : (world : World) (h : List Entry) → HasAnswers world h rows some → HasObjects leaves (world_after world h) → EndsWriting (text_of report rows world h) status old new
 
 -- how rows end that were played: an append failed, memory ran out, or the text is written
 abbrev pub EndsPlay : Report → List InRow → Option ℕ → List Leaf → Option (List LaneEnd) → ℕ → Output → Output → Type 0
