@@ -1,22 +1,55 @@
-//! Threads that take the lock in rounds.
+//! Threads that take the lock in rounds: without a pause or at a pace, and beside others.
 ghost use Rattle.std.specs.Prelude.{◌≡◌, ◌+◌, ◌<◌, ◌≤◌, false};
 ghost use Rattle.std.specs.Thread.{IsSync};
 
 use crate::tally::Tally;
 use book_lock::{BookLock, Pass};
 use std::alloc::Global;
+use std::io::Print;
 use std::rt::Clock;
 use std::sync::Wait;
 use std::thread::{self, Threads, join_mut};
-use std::time::Duration;
+use std::time::{Duration, Instant};
+use std::{hint, io};
 
-// One round: asleep for so long while the lock is held, as over the sync of a file.
-fn run_round<R: Wait + Clock>(
-    rt: &R,
-    lock: &BookLock<Tally>,
-    pass: &mut Pass<Tally>,
-    asleep: Duration,
-)
+/// How many threads take the lock, and how.
+#[derive(Clone, Copy)]
+pub(crate) struct Plan {
+    /// Threads whose rounds are counted, and timed where `tells_times` says so.
+    pub threads: u8,
+    /// How many rounds each of them takes.
+    pub rounds: u32,
+    /// How long a round sleeps with the lock held, as over the sync of a file.
+    pub asleep: Duration,
+    /// How many short rests a round takes with the lock held.
+    pub rests: u32,
+    /// Of each thread a round in so many microseconds. Where it is 0, there is no pause.
+    pub pause: u32,
+    /// Threads of a batch that take rounds without a pause for as long as the others are to take.
+    pub batch: u8,
+    /// Other threads that do so.
+    pub busy: u8,
+    pub tells_times: bool,
+}
+
+impl Plan {
+    // When the round of this number is to begin.
+    fn due(&self, round: u32) -> Duration {
+        Duration::from_micros(u64::from(self.pause).saturating_mul(u64::from(round)))
+    }
+
+    // With the lock held.
+    fn stay<R: Clock>(&self, rt: &R) {
+        if !self.asleep.is_zero() {
+            thread::sleep(rt, self.asleep);
+        }
+        for _ in 0..self.rests {
+            hint::spin_loop();
+        }
+    }
+}
+
+fn run_round<R: Wait + Clock>(rt: &R, lock: &BookLock<Tally>, pass: &mut Pass<Tally>, plan: Plan)
     requires { (pass.old.lock ≡ lock.now) × (pass.old.holds ≡ false) }
     ensures { (pass.new.lock ≡ pass.old.lock) × (pass.new.holds ≡ false) × (pass.new.parts ≡ pass.old.parts) }
 {
@@ -24,74 +57,151 @@ fn run_round<R: Wait + Clock>(
     if tally.add() {
         lock.note(pass, &tally);
     }
-    if !asleep.is_zero() {
-        thread::sleep(rt, asleep);
-    }
+    plan.stay(rt);
     lock.put_back(pass, tally);
 }
 
-fn run_rounds<R: Wait + Clock>(
+fn run_rounds<R: Wait + Clock>(rt: &R, lock: &BookLock<Tally>, pass: &mut Pass<Tally>, plan: Plan)
+    requires { (pass.old.lock ≡ lock.now) × (pass.old.holds ≡ false) }
+    ensures { (pass.new.lock ≡ pass.old.lock) × (pass.new.holds ≡ false) × (pass.new.parts ≡ pass.old.parts) }
+{
+    for _ in 0..plan.rounds {
+        run_round(rt, lock, pass, plan);
+    }
+}
+
+fn since(rt: &impl Clock, start: Option<Instant>) -> Option<Duration> {
+    start?.elapsed(rt).ok()
+}
+
+fn wait_until(rt: &impl Clock, start: Option<Instant>, due: Duration) {
+    if let Some(gone) = since(rt, start) {
+        let left = due.saturating_sub(gone);
+        if !left.is_zero() {
+            thread::sleep(rt, left);
+        }
+    }
+}
+
+fn note(times: &mut Vec<Duration>, time: Option<Duration>) {
+    if let Some(time) = time {
+        let _ = times.push(time);
+    }
+}
+
+fn tell(rt: &impl Print, times: &[Duration]) -> io::Result<()> {
+    for time in times {
+        println!(rt; "ns {}", time.as_nanos())?;
+    }
+    Ok(())
+}
+
+// The rounds of one thread at its pace. In the end it tells how long each took.
+fn run_paced<R: Wait + Clock + Print>(
     rt: &R,
+    alloc: Global,
     lock: &BookLock<Tally>,
     pass: &mut Pass<Tally>,
-    rounds: u64,
-    asleep: Duration,
+    plan: Plan,
 )
     requires { (pass.old.lock ≡ lock.now) × (pass.old.holds ≡ false) }
     ensures { (pass.new.lock ≡ pass.old.lock) × (pass.new.holds ≡ false) × (pass.new.parts ≡ pass.old.parts) }
 {
-    for _ in 0..rounds {
-        run_round(rt, lock, pass, asleep);
+    let mut times = Vec::new(alloc);
+    let start = Instant::now(rt).ok();
+    for round in 0..plan.rounds {
+        wait_until(rt, start, plan.due(round));
+        let begun = Instant::now(rt).ok();
+        run_round(rt, lock, pass, plan);
+        note(&mut times, since(rt, begun));
+    }
+    if plan.tells_times {
+        let _ = tell(rt, times.as_slice());
     }
 }
 
-// So many threads, this one among them, take so many rounds each, all at once.
-fn run_all<R: Threads + Wait + Clock + Sync>(
-    rt: &R,
-    lock: &BookLock<Tally>,
-    pass: &mut Pass<Tally>,
-    threads: u8,
-    rounds: u64,
-    asleep: Duration,
-)
-    requires pass { (pass.old.lock ≡ lock.now) × (pass.old.holds ≡ false) }
-    requires parts { (1 ≤ threads) × (threads ≤ pass.old.parts) }
+// Rounds without a pause for as long as the paced threads are to take. The clock is read for one in 64.
+fn run_on<R: Wait + Clock>(rt: &R, lock: &BookLock<Tally>, pass: &mut Pass<Tally>, plan: Plan)
+    requires { (pass.old.lock ≡ lock.now) × (pass.old.holds ≡ false) }
     ensures { (pass.new.lock ≡ pass.old.lock) × (pass.new.holds ≡ false) × (pass.new.parts ≡ pass.old.parts) }
 {
-    if threads <= 1 {
-        run_rounds(rt, lock, pass, rounds, asleep);
+    let start = Instant::now(rt).ok();
+    for round in 0..u32::MAX {
+        if round % 64 == 0 && since(rt, start) >= Some(plan.due(plan.rounds)) {
+            break;
+        }
+        run_round(rt, lock, pass, plan);
+    }
+}
+
+// The part of one thread: the first are those whose rounds are counted, then come those of a batch, and then the others.
+fn run_as<R: Wait + Clock + Print>(
+    rt: &R,
+    alloc: Global,
+    lock: &BookLock<Tally>,
+    pass: &mut Pass<Tally>,
+    number: u8,
+    plan: Plan,
+)
+    requires { (pass.old.lock ≡ lock.now) × (pass.old.holds ≡ false) }
+    ensures { (pass.new.lock ≡ pass.old.lock) × (pass.new.holds ≡ false) × (pass.new.parts ≡ pass.old.parts) }
+{
+    if number >= plan.threads {
+        pass.in_batch(number - plan.threads < plan.batch);
+        run_on(rt, lock, pass, plan);
+    } else if plan.pause > 0 || plan.tells_times {
+        run_paced(rt, alloc, lock, pass, plan);
+    } else {
+        run_rounds(rt, lock, pass, plan);
+    }
+}
+
+// The thread of this number and those below it, all at once.
+fn run_all<R: Threads + Wait + Clock + Print + Sync>(
+    rt: &R,
+    alloc: Global,
+    lock: &BookLock<Tally>,
+    pass: &mut Pass<Tally>,
+    number: u8,
+    plan: Plan,
+)
+    requires pass { (pass.old.lock ≡ lock.now) × (pass.old.holds ≡ false) }
+    requires parts { number + 1 ≤ pass.old.parts }
+    ensures { (pass.new.lock ≡ pass.old.lock) × (pass.new.holds ≡ false) × (pass.new.parts ≡ pass.old.parts) }
+{
+    if number == 0 {
+        run_as(rt, alloc, lock, pass, 0, plan);
         return;
     }
     let mut mine = lock.split_pass(pass);
     join_mut(
         rt,
         &mut ||
-            requires { IsSync R.row × (1 < threads) × (pass.now.lock ≡ lock.now) × (pass.now.holds ≡ false)
-                × (threads ≤ pass.now.parts + 1) }
+            requires { IsSync R.row × (0 < number) × (pass.now.lock ≡ lock.now) × (pass.now.holds ≡ false)
+                × (number ≤ pass.now.parts) }
             ensures { (pass.exit.now.lock ≡ pass.entry.now.lock) × (pass.exit.now.holds ≡ false)
                 × (pass.exit.now.parts ≡ pass.entry.now.parts) }
-        { run_all(rt, lock, pass, threads - 1, rounds, asleep) },
+        { run_all(rt, alloc, lock, pass, number - 1, plan) },
         &mut ||
             requires { IsSync R.row × (mine.lock ≡ lock.now) × (mine.holds ≡ false) }
             ensures { (mine.exit.lock ≡ mine.entry.lock) × (mine.exit.holds ≡ false) × (mine.exit.parts ≡ mine.entry.parts) }
-        { run_rounds(rt, lock, &mut mine, rounds, asleep) },
+        { run_as(rt, alloc, lock, &mut mine, number, plan) },
     );
     lock.join_pass(pass, mine);
 }
 
-/// So many threads take so many rounds each around one value, and it says how many it counted.
-pub(crate) fn play<R: Threads + Wait + Clock + Sync>(
+/// The threads of a plan take their rounds around one value, and it says how many it counted.
+pub(crate) fn play<R: Threads + Wait + Clock + Print + Sync>(
     rt: &R,
     alloc: Global,
-    threads: u8,
-    rounds: u64,
-    asleep: Duration,
+    plan: Plan,
 ) -> Option<u64>
-    requires { 1 ≤ threads }
+    requires { (1 ≤ plan.threads) × (plan.threads ≤ 64) × (plan.batch ≤ 64) × (plan.busy ≤ 64) }
 {
-    let Ok((lock, mut pass)) = BookLock::new(alloc, Tally::new(!asleep.is_zero())) else {
+    let Ok((lock, mut pass)) = BookLock::new(alloc, Tally::new(!plan.asleep.is_zero())) else {
         return None;
     };
-    run_all(rt, &lock, &mut pass, threads, rounds, asleep);
+    let last = plan.threads - 1 + plan.batch + plan.busy;
+    run_all(rt, alloc, &lock, &mut pass, last, plan);
     Some(lock.close(pass).count())
 }

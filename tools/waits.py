@@ -1,0 +1,70 @@
+#!/usr/bin/env python3
+"""How long rounds of the lock take, by kind of caller: a table in Markdown.
+
+python3 tools/waits.py PROGRAM [--seconds 2] [--runs 3] [--processors 0,1]
+
+PROGRAM is crates/benches/out/benches, which `rt run` makes there; its head says what its words ask for. A round takes the lock, holds it
+for about a microsecond, as a change of the store does, and puts it back; the program tells how many nanoseconds it took. All runs of
+a kind are taken together, and interleaved with those of the others.
+"""
+
+import argparse
+import subprocess
+
+# What is asked of the program: threads, microseconds from round to round of each, threads of a batch and others beside them.
+KINDS = [
+    ("4 threads, 5,000 rounds a second each", 4, 200, 0, 0),
+    ("16 threads, 5,000 rounds a second each", 16, 200, 0, 0),
+    ("one, 1,000 rounds a second, beside a batch of 3", 1, 1000, 3, 0),
+    ("one, 1,000 rounds a second, beside one without a pause", 1, 1000, 0, 1),
+    ("4 threads without a pause", 4, 0, 0, 0),
+    ("16 threads without a pause", 16, 0, 0, 0),
+]
+
+# How many rounds without a pause stand for a second, in all.
+UNPACED = 200_000
+
+# No trie; and how many short rests a round has.
+TRIE = ['9', '0', '0', '0', '0', '0']
+RESTS = 60
+
+SHARES = [("median", 0.5), ("99 %", 0.99), ("99.9 %", 0.999), ("99.99 %", 0.9999)]
+
+
+def words(kind, seconds):
+    _, threads, pause, batch, busy = kind
+    rounds = threads * seconds * 1_000_000 // pause if pause else seconds * UNPACED
+    return TRIE + [str(it) for it in (threads, rounds, 0, RESTS, pause, batch, busy)] + ["times"]
+
+
+def run(program, processors, asked):
+    pinned = ["taskset", "-c", processors] if processors else []
+    ran = subprocess.run([*pinned, program, *asked], capture_output=True, text=True, check=True)
+    return [int(line[3:]) for line in ran.stdout.splitlines() if line.startswith("ns ")]
+
+
+def micros(nanos):
+    return f"{nanos / 1000:,.1f}" if nanos < 100_000 else f"{nanos / 1000:,.0f}"
+
+
+def main():
+    parser = argparse.ArgumentParser(description=__doc__.split("\n")[0])
+    parser.add_argument("program")
+    parser.add_argument("--seconds", type=int, default=2)
+    parser.add_argument("--runs", type=int, default=3)
+    parser.add_argument("--processors")
+    given = parser.parse_args()
+    times = {kind: [] for kind in KINDS}
+    for _ in range(given.runs):
+        for kind in KINDS:
+            times[kind] += run(given.program, given.processors, words(kind, given.seconds))
+    print("| Callers | Rounds | " + " | ".join(name for name, _ in SHARES) + " | greatest |")
+    print("|---|" + "--:|" * (len(SHARES) + 2))
+    for kind in KINDS:
+        told = sorted(times[kind])
+        parts = [micros(told[int(share * len(told))]) for _, share in SHARES] + [micros(told[-1])]
+        print(f"| {kind[0]} | {len(told):,} | " + " | ".join(parts) + " |")
+
+
+if __name__ == "__main__":
+    main()
