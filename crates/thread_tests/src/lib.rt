@@ -1,4 +1,4 @@
-//! Tests of the lock by itself, and of sessions that run at once: passes by hand, lanes in an order that a gate makes, and sixteen lanes together; and the index that one of them watches.
+//! Tests of the lock by itself, and of sessions that run at once: passes by hand, lanes in an order that a gate makes, also such as a store runs by itself, and sixteen lanes together; and the index that one of them watches.
 #![tactic(auto)]
 
 // `assert!` and `assert_eq!` as calls: the proof of a function with several of them is much shorter so.
@@ -22,6 +22,8 @@ mod checks;
 mod crowds;
 #[cfg(test)]
 mod fixtures;
+#[cfg(test)]
+mod lanes;
 #[cfg(test)]
 mod legal;
 #[cfg(test)]
