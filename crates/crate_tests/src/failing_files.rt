@@ -182,7 +182,7 @@ fn attaches<D: LogDisk>(disk: &mut D, alloc: Global) -> bool {
 // The length, the number of bytes that a read gives, and whether a write, a cut to seven bytes and a sync answer Ok.
 type Told = (Option<u64>, Option<usize>, bool, bool, bool);
 
-fn told<D: LogDisk>(disk: &mut D) -> Told {
+fn told(disk: &mut FileDisk<NotedFiles<'_>>) -> Told {
     (
         disk.len().ok(),
         disk.read(0, &mut [0; 4]).ok(),
