@@ -1,5 +1,5 @@
 -- No play tells that its words aren't accepted.
-use Rattle.std.proofs.Common.{◌≡◌, ◌⊎◌, inl, inr, ℕ, List, Option, Some, None, arith}
+use Rattle.std.proofs.Common.{◌≡◌, inl, inr, ℕ, List, Option, Some, None, arith}
 use Rattle.plain_list.specs.declared.entries.Entry.{Entry}
 use Rattle.csv_rows.specs.declared.rows.InRow.{InRow}
 use Rattle.csv_rows.specs.declared.rows.Refusal.TheVariants as refusal

@@ -1,6 +1,5 @@
 use Rattle.std.proofs.Common.{subst}
 use Rattle.std.specs.Option.{option_map}
-use Rattle.plain_list.specs.History.{failed_cell}
 use Rattle.play_run.specs.inside.Answered.{EndsPlay}
 use Rattle.play_run.proofs.play_book.tell_book.Goals as goal
 

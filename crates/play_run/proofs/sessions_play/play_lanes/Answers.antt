@@ -1,9 +1,8 @@
-use Rattle.std.proofs.Common.{refl, ◌≡◌, ◌∙◌, inl, inr, ◌<◌, ◌++◌, length, take, drop, sym, ap, subst, arith}
+use Rattle.std.proofs.Common.{refl, ◌≡◌, ◌∙◌, inl, inr, ◌<◌, ◌++◌, length, sym, ap, subst, arith}
 use Rattle.std.specs.Prelude.{slice_index_or}
 use Rattle.book_lock.specs.Pass.{Known}
 use Rattle.sessions.specs.Lanes.{IsReady}
 use Rattle.lane_history.specs.Lanes.{AreCalm}
-use Rattle.play_run.specs.inside.Dealt.{HasDealt}
 use Rattle.play_run.specs.inside.Joined.{AreIdle, Takes, HasRun, ends_of}
 use Rattle.play_run.proofs.Dealing.{lanes-few, lanes-idle, lanes-ready}
 use Rattle.play_run.proofs.Joining.{dealt-not, run-back, run-idle, run-not, parts-not, run-settled, parts-settled}
