@@ -1,20 +1,18 @@
 -- However lanes end, the begins of their history are few.
-use Rattle.std.proofs.Common.{◌≡◌, ◌⊎◌, inl, inr, ℕ, suc, ◌+◌, ◌≤◌, ◌==◌, Bool, true, false, not, ◌||◌, cond, List, [], ◌∷◌, ◌++◌, length, Option, Some, Ok, Err, Result, refl, sym, ap, subst, ◌∙◌, arith, append_assoc}
-use Rattle.std.specs.List.{list_any}
+use Rattle.std.proofs.Common.{◌≡◌, ◌⊎◌, inl, inr, ℕ, ◌+◌, ◌≤◌, ◌==◌, ◌||◌, List, [], ◌∷◌, ◌++◌, length, Ok, Err, Result, refl, sym, ap, subst, ◌∙◌, arith}
 use Rattle.std.proofs.lemmas.List.{append-nil, take_all}
 use Rattle.plain_list.specs.declared.entries.Entry.{Entry}
 use Rattle.plain_list.specs.declared.entries.Entry.TheVariants.{Fail, Call, Begin, Install, Abandon}
-use Rattle.plain_list.specs.declared.entries.Lost.{Lost}
 use Rattle.plain_list.specs.declared.entries.Lost.TheVariants as lost
 use Rattle.plain_list.specs.History.{call_count}
 use Rattle.plain_list.specs.Played.{IsPlayedWhole}
-use Rattle.plain_list.specs.State.{State, IsLegal, step, state_after}
+use Rattle.plain_list.specs.State.{IsLegal}
 use Rattle.csv_rows.specs.declared.rows.InRow.{InRow}
 use Rattle.book_lock.specs.Pass.{Known}
 use Rattle.book_lock.specs.declared.origin.Origin.{Origin}
-use Rattle.book_lock.proofs.Histories.{prefix_refl, prefix_length}
+use Rattle.book_lock.proofs.Histories.{prefix_refl}
 use Rattle.sessions.specs.Shared.{start_of, first_cells}
-use Rattle.sessions.specs.Steps.{all_parts, cells_at}
+use Rattle.sessions.specs.Steps.{cells_at}
 use Rattle.commit_book.specs.declared.faults.BookFault.{BookFault}
 use Rattle.sessions.specs.declared.faults.Settled.{Settled}
 use Rattle.sessions.specs.declared.store.lanes.Lane.{Lane}

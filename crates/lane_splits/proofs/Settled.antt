@@ -1,5 +1,5 @@
 -- What the splits of lanes that were played and settled come to.
-use Rattle.std.proofs.Common.{◌≡◌, ℕ, ◌+◌, ◌≤◌, List, [], ◌++◌, length, Option, None, Ok, ap, ◌∙◌, arith}
+use Rattle.std.proofs.Common.{◌≡◌, ℕ, ◌+◌, ◌≤◌, List, [], ◌++◌, length, None, Ok, ap, ◌∙◌, arith}
 use mathlib.Core.List.{IsPrefix}
 use Rattle.std.proofs.lemmas.List.{take_all, nil_from_length}
 use Rattle.plain_list.specs.declared.entries.Entry.{Entry}

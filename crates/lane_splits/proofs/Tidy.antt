@@ -22,7 +22,7 @@ use Rattle.sessions.specs.Splits.{BeginsSplit, RanOut, GivesUp, NotInstalled, Sp
 use Rattle.sessions.specs.Settles.{SplitsAll, SettleEnds, Settles}
 use Rattle.sessions.specs.declared.faults.Settled.{Settled}
 use Rattle.sessions.specs.declared.faults.Settled.TheVariants.{Small, Room}
-use Rattle.sessions.specs.declared.faults.Split.TheVariants.{Installed, NotSplit}
+use Rattle.sessions.specs.declared.faults.Split.TheVariants.{Installed}
 use Rattle.sessions.proofs.SplitLemmas.{split-same}
 use Rattle.lane_splits.specs.Settled.{stray_begins, is_stray, is_full_leaf, abandons}
 use Rattle.lane_splits.proofs.Weights.{sum_of}
