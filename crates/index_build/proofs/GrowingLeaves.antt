@@ -19,7 +19,7 @@ use Rattle.index_layer.proofs.Standing.{placed_key-lt}
 use Rattle.split_prepare.specs.Cut.{cut_out, cut, last_key}
 use Rattle.split_prepare.proofs.CutLemmas.{under-between}
 use Rattle.index_build.specs.Grown.{IsGrown, IsFolded}
-use Rattle.index_build.specs.Growing.{leaf_for, leaves_for, HasGrownTo}
+use Rattle.index_build.specs.Growing.{leaf_for, leaves_for, HasGrownTo, StandsThere, GrowsOn}
 use Rattle.index_build.proofs.ChildNames.{child-at, child-above, drop-at, some_at}
 use Rattle.index_build.proofs.GrownNames.{IsNext, name_short, name_rest, next_of, longer-behind, longer-there, next-longer, one_split_more, all_done}
 
@@ -65,10 +65,6 @@ module _ (rows : List Row) (wanted : List (List Bool)) where
 pub record IsGrowing (w : ℕ) (rows : List Row) (wanted : List (List Bool)) (name : List Bool) (first : ℕ) (old : List Leaf) (place done : ℕ) (leaves : List Leaf) : Type 0 where
   pub reached : (later : List (List Bool)) → HasGrownTo rows wanted first (name ∷ []) later old → HasGrownTo rows wanted done (drop place (children w name)) later leaves
   pub longer : place < 2 ^ w → (d : List Bool) → length name < length (get_or wanted done d)
-
--- the leaf that stands there, and those later
-abbrev pub StandsThere : List Row → List (List Bool) → ℕ → List Bool → List Leaf → Type 0
-StandsThere rows wanted done name leaves = (later : List (List Bool)) × HasGrownTo rows wanted done (name ∷ []) later leaves
 
 -- what is asked of a leaf that is to be grown, and what holds of each index
 pub record IsAsked (w : ℕ) (rows : List Row) (wanted : List (List Bool)) (first : ℕ) (name : List Bool) (old : List Leaf) : Type 0 where
@@ -159,7 +155,7 @@ whole-there rows wanted name bucket leaves whole cut_is is = is ∙ (λ i. recor
 
 -- where that leaf was grown on until nothing is left, the leaves are the wanted ones
 pub all_there : (rows : List Row) (wanted : List (List Bool)) (name : List Bool) (bucket : Rows) (first leaves : List Leaf) (done : ℕ) → name ≡ [] → bucket ≡ cut_out rows name → first ≡ one_leaf bucket
-    → tiles_from 0 wanted ≡ true → AreLeaves leaves → ((later : List (List Bool)) → HasGrownTo rows wanted 0 (name ∷ []) later first → HasGrownTo rows wanted done [] later leaves) → leaves ≡ leaves_for rows wanted
+    → tiles_from 0 wanted ≡ true → AreLeaves leaves → GrowsOn rows wanted 0 done name first leaves → leaves ≡ leaves_for rows wanted
 all_there rows wanted name bucket first leaves done whole cut_is one tile are grown =
     let is = grown [] (whole-there rows wanted name bucket first whole cut_is one) in
     is ∙ ap (leaves_for rows) (all_done wanted done tile (tile_there rows wanted done [] [] leaves is are))

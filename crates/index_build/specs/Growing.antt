@@ -1,5 +1,5 @@
 -- Leaves that are being split on, until they are the wanted ones.
-use Rattle.std.specs.Prelude.{◌≡◌, ℕ, Bool, List, ◌++◌, map, take}
+use Rattle.std.specs.Prelude.{◌≡◌, ℕ, Bool, List, [], ◌∷◌, ◌++◌, map, take}
 use Rattle.bucket_versions.specs.declared.row.Row.{Row}
 use Rattle.index_layer.specs.Leaves.{Leaf}
 use Rattle.split_prepare.specs.Cut.{cut_out}
@@ -15,3 +15,11 @@ leaves_for rows names = map (leaf_for rows) names
 -- the leaves are the first of the wanted ones, as many as are done, then those here, then those later
 abbrev pub HasGrownTo : List Row → List (List Bool) → ℕ → List (List Bool) → List (List Bool) → List Leaf → Type 0
 HasGrownTo rows wanted done here later leaves = leaves ≡ leaves_for rows (take done wanted ++ (here ++ later))
+
+-- the leaf that stands there, and those later
+abbrev pub StandsThere : List Row → List (List Bool) → ℕ → List Bool → List Leaf → Type 0
+StandsThere rows wanted done name leaves = (later : List (List Bool)) × HasGrownTo rows wanted done (name ∷ []) later leaves
+
+-- whatever stands later, the leaf that stood there has given way to wanted ones, so many of which are done then
+abbrev pub GrowsOn : List Row → List (List Bool) → ℕ → ℕ → List Bool → List Leaf → List Leaf → Type 0
+GrowsOn rows wanted before done name old new = (later : List (List Bool)) → HasGrownTo rows wanted before (name ∷ []) later old → HasGrownTo rows wanted done [] later new

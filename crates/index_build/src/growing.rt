@@ -3,7 +3,7 @@ ghost use Rattle.std.specs.Prelude.{◌≡◌, ◌≤◌, ◌+◌, ◌%◌, [], 
 ghost use Rattle.index_layer.specs.Leaves.{has_name, split};
 ghost use Rattle.split_prepare.specs.Cut.{cut};
 ghost use Rattle.index_build.specs.Grown.{IsGrown};
-ghost use Rattle.index_build.specs.Growing.{HasGrownTo};
+ghost use Rattle.index_build.specs.Growing.{StandsThere, GrowsOn};
 
 use bucket_versions::{AtOnce, Bucket, Undone};
 use index_layer::Index;
@@ -30,8 +30,8 @@ pub(crate) fn grow<I: Index>(
     requires grown { IsGrown I.WIDTH leaves.now }
     requires splits { length name.now % I.WIDTH ≡ 0 }
     requires longer { (d : List Bool) → length name.now ≤ length (slice_index_or leaves.now growing.done d) }
-    requires leaf { (later : List (List Bool)) × HasGrownTo whole.now.base leaves.now growing.done (name.now ∷ []) later (I.leaves growing.index) }
-    ensures { IfOk result (λ g. (later : List (List Bool)) → HasGrownTo whole.now.base leaves.now growing.done (name.now ∷ []) later (I.leaves growing.index) → HasGrownTo whole.now.base leaves.now g.done [] later (I.leaves g.index)) }
+    requires leaf { StandsThere whole.now.base leaves.now growing.done name.now (I.leaves growing.index) }
+    ensures { IfOk result (λ g. GrowsOn whole.now.base leaves.now growing.done g.done name.now (I.leaves growing.index) (I.leaves g.index)) }
 {
     let Growing { mut index, done } = growing;
     if leaves[done] == *name {
