@@ -2,10 +2,7 @@
 use Rattle.std.proofs.Common.{◌≡◌, ℕ, Bool, true, false, cond, not, List, [], ◌∷◌, Option, Some, None, refl, sym, ap, ◌∙◌, arith}
 use Rattle.std.specs.Prelude.{◌==◌, ◌&&◌, ◌||◌}
 use Rattle.std.specs.List.{AllByRecursion}
-use Rattle.std.specs.Cmp.{first_so, second_so}
 use Rattle.std.proofs.lemmas.Bool.{eqb-true as eqb-eq}
-use Rattle.std.proofs.lemmas.Bool.Decides.{nat_tests}
-use mathlib.Core.Bool.{true≢false}
 use Rattle.zorder.specs.declared.points.Point.{Point}
 use Rattle.zorder.specs.declared.points.Placed.{Placed}
 use Rattle.zorder.specs.Key.{key_of, is_under}
@@ -15,10 +12,9 @@ use Rattle.bucket_versions.specs.Rows.{Rows, has_row, without_row, same_row}
 use Rattle.index_layer.specs.Leaves.{Leaf, names_of, replaced}
 use Rattle.index_layer.specs.Stands.{places_have, is_at_key, HasRowsOf}
 use Rattle.index_layer.proofs.Puts.{where_is}
-use Rattle.point_table.proofs.Standing.{HasLess, rows_replaced}
-
-same_row-eq : (s r : Row) → same_row s r ≡ true → (s.key ≡ r.key) × (s.id ≡ r.id)
-same_row-eq s r e = (eqb-eq s.key r.key (first_so (s.key == r.key) (s.id == r.id) e), eqb-eq s.id r.id (second_so (s.key == r.key) (s.id == r.id) e))
+use Rattle.index_layer.proofs.Standing.{HasLess}
+use Rattle.table_share.proofs.FirstObjects.{has_row-less}
+use Rattle.point_table.proofs.Standing.{rows_replaced}
 
 and-true : (b : Bool) → (b && true) ≡ b
 and-true true = refl
@@ -27,39 +23,6 @@ and-true false = refl
 and-false : (b : Bool) → (b && false) ≡ false
 and-false true = refl
 and-false false = refl
-
-or_not : (a h x : Bool) → (a ≡ true → x ≡ false) → (a || (h && not x)) ≡ ((a || h) && not x)
-or_not true h x differ = sym (ap not (differ refl))
-or_not false h x differ = refl
-
-not_either : (x h : Bool) → (h && not x) ≡ ((x || h) && not x)
-not_either true true = refl
-not_either true false = refl
-not_either false true = refl
-not_either false false = refl
-
--- two rows that are one have one answer
-same_row-both : (s r q : Row) → same_row s r ≡ true → same_row s q ≡ same_row r q
-same_row-both s r q e = let is = same_row-eq s r e in ap (λ k. (k == q.key) && (s.id == q.id)) is.0 ∙ ap (λ i. (r.key == q.key) && (i == q.id)) is.1
-
-apart : (s r q : Row) → same_row s r ≡ false → same_row s q ≡ true → same_row r q ≡ false
-apart s r q e is = by_test (same_row r q) refl
-  where
-    by_test : (b : Bool) → same_row r q ≡ b → same_row r q ≡ false
-    by_test false e = e
-    by_test true both = absurd (true≢false (sym both_are ∙ e))
-      where
-        both_are : same_row s r ≡ true
-        both_are = grind (arith, nat_tests, (same_row-eq s q is).0, (same_row-eq s q is).1, (same_row-eq r q both).0, (same_row-eq r q both).1)
-
-pub has_row-without_row : (r : Row) (rows : List Row) (q : Row) → has_row q (without_row r rows) ≡ (has_row q rows && not (same_row r q))
-has_row-without_row r [] q = refl
-has_row-without_row r (s ∷ rows) q = by_test (same_row s r) refl (has_row-without_row r rows q)
-  where
-    by_test : (b : Bool) → same_row s r ≡ b → has_row q (without_row r rows) ≡ (has_row q rows && not (same_row r q))
-        → has_row q (cond (not b) (s ∷ without_row r rows) (without_row r rows)) ≡ (has_row q (s ∷ rows) && not (same_row r q))
-    by_test true e rest = rest ∙ not_either (same_row r q) (has_row q rows) ∙ ap (λ b. (b || has_row q rows) && not (same_row r q)) (sym (same_row-both s r q e))
-    by_test false e rest = ap (λ b. same_row s q || b) rest ∙ or_not (same_row s q) (has_row q rows) (same_row r q) (apart s r q e)
 
 -- the rows of a leaf from which an object's row was taken out
 by_gone : (same_id same_key under : Bool) (key : ℕ) (p : Point) (was : Option Point) (had : Bool) → same_key ≡ (key_of p == key) → had ≡ (is_at_key key was && under)
@@ -74,7 +37,7 @@ pub rows_without_gone : (old new : List Placed) (id : ℕ) (p : Point) (name : L
     → ((q : Row) → has_row q rows ≡ (places_have old q && is_under name q.key))
     → (q : Row) → has_row q (without_row (record { key = key_of p; id = id }) rows) ≡ (places_have new q && is_under name q.key)
 rows_without_gone old new id p name rows there less before q =
-    has_row-without_row (record { key = key_of p; id = id }) rows q
+    has_row-less (record { key = key_of p; id = id }) rows q
     ∙ by_gone (id == q.id) (key_of p == q.key) (is_under name q.key) q.key p (where_is old q.id) (has_row q rows) refl (before q)
     (λ e. sym (ap (where_is old) (eqb-eq id q.id e)) ∙ there)
     ∙ ap (λ o. is_at_key q.key o && is_under name q.key) (sym (less q.id))

@@ -1,5 +1,6 @@
 pub mod WalkLemmas
 pub mod FoldLemmas
+pub mod FirstObjects
 pub mod RowObjects
 pub mod RowsInOrder
 pub mod TableRows
