@@ -1,9 +1,10 @@
 -- A book keeps what holds of it through each kind of step.
 use Rattle.std.proofs.Common.{◌≡◌, ◌⊎◌, inl, inr, ℕ, ◌+◌, ◌-◌, ◌<◌, ◌≤◌, Bool, true, false, not, List, [], ◌∷◌, ◌++◌, length, length-append, Option, Some, None, refl, sym, ap, subst, ◌∙◌, arith}
-use Rattle.std.specs.Prelude.{◌&&◌, is_some}
+use Rattle.std.specs.Prelude.{◌&&◌, ◌||◌, nat_lt, is_some}
 use Rattle.std.specs.List.{AllByRecursion}
 use Rattle.std.specs.Cmp.Derive.{both_true}
 use Rattle.std.proofs.lemmas.Bool.{eq-eqb, false_from_ne_true}
+use Rattle.std.proofs.lemmas.Bool.Decides.{nat_tests}
 use mathlib.Core.Bool.{true≢false}
 use Rattle.zorder.specs.SameName.{same_name, same_name-decides}
 use Rattle.bucket_versions.specs.Rows.{Rows, as_base}
@@ -20,17 +21,19 @@ use Rattle.plain_list.specs.History.{world_after, failed_cell}
 use Rattle.plain_list.specs.State.{State, OpenSplit, IsLegal, state_after, step, is_possible, is_free, may_split, is_splitting, split_name, split_leaf, installed, without_number}
 use Rattle.plain_list.proofs.Histories.{has_failed, state_after-append, state_after-world, is_legal-push, has_failed-none, failed_cell-last}
 use Rattle.disk_trait.specs.Drive.{Drive}
-use Rattle.kept_log.specs.Journal.{KeepsIn}
+use Rattle.kept_log.specs.Journal.{KeepsIn, IsSinceIn, cells_in}
+use Rattle.kept_log.specs.Counts.{first_in, count_after}
 use Rattle.commit_book.specs.BookInside.{IsInside, book_of}
 use Rattle.point_table.specs.Changes.{bases_of}
 use Rattle.point_table.specs.Divisions.{Folds, Divides}
 use Rattle.point_table.specs.TableView.{TableView}
 use Rattle.commit_book.specs.IsBook.{IsBook, most_events}
 use Rattle.commit_book.specs.KeptBases.{KeepsBase}
+use Rattle.commit_book.specs.Room.{most_events_to_begin, most_cells_to_begin, has_no_room, BeginsInRoom}
 use Rattle.commit_book.specs.declared.book.Book.TheInside.{Inside}
 use Rattle.commit_book.proofs.BookSteps.{same_names}
-use Rattle.commit_book.proofs.OnLog.{in-named}
-use Rattle.commit_book.proofs.KeptLemmas.{KeepsBases-push, KeepsBase-bases, KeepsBase-begun, KeepsBase-replaced, KeepsBase-split}
+use Rattle.commit_book.proofs.OnLog.{in-named, in-count, in-first}
+use Rattle.commit_book.proofs.KeptLemmas.{KeepsBases-push, BeginsInRoom-push, KeepsBase-bases, KeepsBase-begun, KeepsBase-replaced, KeepsBase-split}
 use Rattle.plain_list.proofs.SplitHistories.{tidy-history, begun-number}
 use Rattle.plain_list.proofs.SplitStates.{without_name-none, splitting-found, left-open, left-apart, length-without, found-push}
 
@@ -56,16 +59,24 @@ is_book drive w b inside are rows = record {
     rows = subst (λ (ms : World). AllByRecursion (HasRowsOf (places_of ms)) b.table.leaves) (inside.world ∙ state_after-world w b.opening b.history.entries) rows;
   };
   bases = inside.bases;
+  room = inside.begins;
   few = inside.few;
   on_log = inside.on_log;
   named = in-named drive w b.opening b.history.entries b.journal inside.on_log;
 }
 
+-- there is room where there are few cells and events
+in_room : (cells events : ℕ) → cells ≤ most_cells_to_begin → events ≤ most_events_to_begin → has_no_room cells events ≡ false
+in_room cells events few short = λ i. not_less most_cells_to_begin cells few i || not_less most_events_to_begin events short i
+  where
+    not_less : (m n : ℕ) → n ≤ m → nat_lt m n ≡ false
+    not_less m n le = grind (arith, nat_tests)
+
 one_more : (h : List Entry) (e : Entry) → length h < most_events → length (h ++ e ∷ []) ≤ most_events
 one_more h e few = omega (arith, length-append h (e ∷ []), few)
 
 module _ {I D P : Type 0} (drive : D → Drive) (w : ℕ) (o : State) (old new : Inside I D P) (inside : IsInside drive w o old)
-    (going : failed_cell old.history.entries ≡ None) (on_log : KeepsIn drive w o new.history.entries new.journal) where
+    (going : failed_cell old.history.entries ≡ None) (on_log : KeepsIn drive w o new.history.entries new.journal) (since : IsSinceIn old.journal new.journal) where
   abbrev pub h : List Entry
   h = old.history.entries
 
@@ -74,6 +85,11 @@ module _ {I D P : Type 0} (drive : D → Drive) (w : ℕ) (o : State) (old new :
 
   sound : has_failed h ≡ false
   sound = has_failed-none h going
+
+  -- an entry that is no begin leaves each begin where it was
+  begins-on : (e : Entry) → ((number : ℕ) (name : List Bool) → Begin number name ≡ e → ⊥) → BeginsInRoom (first_in new.journal) o.world (h ++ e ∷ [])
+  begins-on e not_begin =
+      BeginsInRoom-push (first_in old.journal) (first_in new.journal) o.world h e (in-first old.journal new.journal since) (λ number name is. absurd (not_begin number name is)) inside.begins
 
   -- a call
   pub inside-call : (session row : ℕ) (op : Op) → length h < most_events → new.history.entries ≡ h ++ Call session row op ∷ [] → length old.splits.splits ≤ new.history.room
@@ -94,6 +110,7 @@ module _ {I D P : Type 0} (drive : D → Drive) (w : ℕ) (o : State) (old new :
           keeps = λ number name was now ms kept.
               KeepsBase-bases old.splits.splits old.table.leaves new.table.leaves ms name bases (ap (λ (os : List OpenSplit). is_splitting os name) inside.splits ∙ splitting-found s.splits number name was) kept;
         }) inside.bases);
+        begins = rw entries (begins-on e not_begin);
         few = rw entries (one_more h e few);
         room = λ _. omega (arith, room, ap (λ v. length v.splits) splits);
         on_log = on_log;
@@ -103,11 +120,11 @@ module _ {I D P : Type 0} (drive : D → Drive) (w : ℕ) (o : State) (old new :
       not_begin number name is = cc is
 
   -- the begin of a split
-  pub inside-begin : (name : List Bool) (bucket : Rows) → length h < most_events → AreLeaves old.table.leaves → AllByRecursion (HasRowsOf (places_of (world_after o.world h))) old.table.leaves
+  pub inside-begin : (name : List Bool) (bucket : Rows) → length h ≤ most_events_to_begin → cells_in old.journal ≤ most_cells_to_begin → AreLeaves old.table.leaves → AllByRecursion (HasRowsOf (places_of (world_after o.world h))) old.table.leaves
       → Folds name old.table.leaves new.table.leaves bucket → may_split w s name ≡ true → is_splitting s.splits name ≡ false
       → new.history.entries ≡ h ++ Begin (old.splits.begun + 1) name ∷ [] → length old.splits.splits + 1 ≤ new.history.room → new.table.world ≡ old.table.world
       → new.splits.splits ≡ old.splits.splits ++ record { number = old.splits.begun + 1; name = name } ∷ [] → new.splits.begun ≡ old.splits.begun + 1 → IsInside drive w o new
-  inside-begin name bucket few are rows folds may none entries room world splits begun =
+  inside-begin name bucket few cells are rows folds may none entries room world splits begun =
       let number : ℕ = old.splits.begun + 1 in
       let e : Entry = Begin number name in
       let next : number ≡ s.begun + 1 = ap (λ n. n + 1) inside.begun in
@@ -127,11 +144,15 @@ module _ {I D P : Type 0} (drive : D → Drive) (w : ℕ) (o : State) (old new :
           keeps = λ n nm was open_now ms kept.
               subst (λ (ls : List Leaf). KeepsBase ls ms nm) (sym folds.leaves) (KeepsBase-replaced old.table.leaves ms nm name (as_base folds.leaf.bucket.rows) (other nm (splitting-found s.splits n nm was)) kept);
         }) inside.bases);
-        few = rw entries (one_more h e few);
+        begins = rw entries (BeginsInRoom-push (first_in old.journal) (first_in new.journal) o.world h e (in-first old.journal new.journal since) (λ n nm is. there_was_room) inside.begins);
+        few = rw entries (one_more h e (omega (arith, few)));
         room = λ _. omega (arith, room, ap length splits, length-append old.splits.splits (record { number = number; name = name } ∷ []));
         on_log = on_log;
       }
     where
+      there_was_room : has_no_room (count_after (first_in old.journal) o.world h) (length h) ≡ false
+      there_was_room = ap (λ n. has_no_room n (length h)) (sym (in-count drive w o h old.journal inside.on_log)) ∙ in_room (cells_in old.journal) (length h) cells few
+
       same_begin : (n : ℕ) (nm : List Bool) → Begin n nm ≡ Begin (old.splits.begun + 1) name → nm ≡ name
       same_begin n nm is = cc is
 
@@ -175,6 +196,7 @@ module _ {I D P : Type 0} (drive : D → Drive) (w : ℕ) (o : State) (old new :
               (KeepsBase-split w old.table.leaves ms nm name _ (subst AreLeaves divides.leaves are)
               (left-apart s.splits number n name nm tidy.apart open_one (ap (λ (t : State). split_name t.splits n) (sym steps.after) ∙ now)) kept);
         }) inside.bases);
+        begins = rw entries (begins-on e not_begin);
         few = rw entries (one_more h e few);
         room = λ _. omega (arith, room, inside.room going, ap length splits, ap length inside.splits, ap (λ (os : List OpenSplit). length (without_number number os)) inside.splits, length-without s.splits number name tidy.apart open_one);
         on_log = on_log;
@@ -204,6 +226,7 @@ module _ {I D P : Type 0} (drive : D → Drive) (w : ℕ) (o : State) (old new :
           was = λ before after n nm there now. left-open s.splits number n nm (ap (λ (t : State). split_name t.splits n) (sym steps.after) ∙ now);
           keeps = λ n nm was now ms kept. subst (λ (v : TableView). KeepsBase v.leaves ms nm) (sym table) kept;
         }) inside.bases);
+        begins = rw entries (begins-on e not_begin);
         few = rw entries (one_more h e few);
         room = λ _. omega (arith, room, inside.room going, ap length splits, ap length inside.splits, ap (λ (os : List OpenSplit). length (without_number number os)) inside.splits, length-without s.splits number name tidy.apart open_one);
         on_log = on_log;
@@ -231,6 +254,7 @@ module _ {I D P : Type 0} (drive : D → Drive) (w : ℕ) (o : State) (old new :
           was = λ before after n nm there now. ap (λ (t : State). split_name t.splits n) (sym steps.after) ∙ now;
           keeps = λ n nm was now ms kept. subst (λ (ls : List Leaf). KeepsBase ls ms nm) (sym index) kept;
         }) inside.bases);
+        begins = rw entries (begins-on e not_begin);
         few = rw entries (one_more h e few);
         room = λ none. absurd (not_none (sym (failed_cell-last h cell lost sound) ∙ ap failed_cell (sym entries) ∙ none));
         on_log = on_log;

@@ -30,6 +30,7 @@ inside-first drive w o b opening history world names splits kept =
       splits = rw none (ap (λ (v : SplitsView). v.splits) splits ∙ sym opening.rests);
       begun = rw none (ap (λ (v : SplitsView). v.begun) splits);
       bases = rw none (λ before after number name is found. absurd (no_begin before after number name is));
+      begins = rw none (λ before after number name is. absurd (no_begin before after number name is));
       few = rw none (omega arith);
       room = λ _. omega (arith, ap (λ (v : SplitsView). length v.splits) splits);
       on_log = rw none kept;

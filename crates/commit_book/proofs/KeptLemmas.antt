@@ -1,5 +1,5 @@
--- The leaves of open splits keep their bases from step to step.
-use Rattle.std.proofs.Common.{◌≡◌, ◌⊎◌, inl, inr, ℕ, Bool, true, false, cond, List, [], ◌∷◌, ◌++◌, append_assoc, Option, Some, refl, sym, ap, subst, ◌∙◌}
+-- The leaves of open splits keep their bases from step to step, and a further entry leaves each begin within room.
+use Rattle.std.proofs.Common.{◌≡◌, ◌⊎◌, inl, inr, ℕ, Bool, true, false, cond, List, [], ◌∷◌, ◌++◌, length, append_assoc, Option, Some, refl, sym, ap, subst, ◌∙◌}
 use Rattle.std.specs.Prelude.{◌&&◌}
 use Rattle.std.specs.List.{AllByRecursion}
 use Rattle.std.proofs.lemmas.Bool.{false_from_ne_true}
@@ -21,12 +21,14 @@ use Rattle.index_layer.proofs.LeafNames.{IsAmong, later_leaf, find-among, among-
 use Rattle.plain_list.specs.declared.entries.Entry.{Entry}
 use Rattle.plain_list.specs.declared.entries.Entry.TheVariants.{Begin}
 use Rattle.plain_list.specs.State.{State, OpenSplit, is_splitting, split_leaf, split_name, state_after}
-use Rattle.plain_list.specs.World.{places_of}
+use Rattle.plain_list.specs.World.{World, places_of}
 use Rattle.plain_list.specs.History.{world_after}
+use Rattle.kept_log.specs.Counts.{count_after}
 use Rattle.point_table.specs.Changes.{LeafBase, open_base, base_of, bases_of}
 use Rattle.point_table.proofs.Folding.{named_is}
 use Rattle.point_table.specs.Divisions.{Folds}
 use Rattle.commit_book.specs.KeptBases.{KeepsBase, KeepsBases}
+use Rattle.commit_book.specs.Room.{has_no_room, BeginsInRoom}
 
 -- a step of a history with one more is the last one, or was there
 pub last_or_earlier : (h before after : List Entry) (e f : Entry) → h ++ e ∷ [] ≡ before ++ f ∷ after → (before ≡ h) × (f ≡ e) ⊎ ((rest : List Entry) × (h ≡ before ++ f ∷ rest))
@@ -74,6 +76,18 @@ KeepsBases-push w o h e old new on kept before after number name same now = by_p
     by_place (inr earlier) =
         let was = on.was before earlier.0 number name earlier.1 now in
         on.keeps number name was now (world_after o.world before) (kept before earlier.0 number name earlier.1 was)
+
+-- each begin was within room where each one before was, and the last entry, if it is a begin
+pub BeginsInRoom-push : (old new : Option ℕ) (world : World) (h : List Entry) (e : Entry) → new ≡ old
+    → ((number : ℕ) (name : List Bool) → Begin number name ≡ e → has_no_room (count_after old world h) (length h) ≡ false)
+    → BeginsInRoom old world h → BeginsInRoom new world (h ++ e ∷ [])
+BeginsInRoom-push old new world h e same last_one kept before after number name there = by_place (last_or_earlier h before after e (Begin number name) there)
+  where
+    by_place : (before ≡ h) × (Begin number name ≡ e) ⊎ ((rest : List Entry) × (h ≡ before ++ Begin number name ∷ rest)) → has_no_room (count_after new world before) (length before) ≡ false
+    by_place (inl last) =
+        (λ i. has_no_room (count_after (same i) world (last.0 i)) (length (last.0 i))) ∙ last_one number name last.1
+    by_place (inr earlier) =
+        (λ i. has_no_room (count_after (same i) world before) (length before)) ∙ kept before earlier.0 number name earlier.1
 
 -- a leaf among others that have the same names and bases
 pub record SameBase (splits : List OpenSplit) (name : List Bool) (new : List Leaf) (b : LeafBase) : Type 0 where

@@ -49,6 +49,7 @@ inside-reserved {I = I} {P = P} drive w o b splits history n inside opens begun 
       splits = opens ∙ inside.splits;
       begun = begun ∙ inside.begun;
       bases = inside.bases;
+      begins = inside.begins;
       few = inside.few;
       room = λ none. subst (λ (os : List OpenSplit). length os ≤ n) (sym opens) (enough none);
       on_log = inside.on_log;
@@ -80,7 +81,7 @@ module _ {I D P : Type 0} (drive : D → Drive) (w : ℕ) (o : State) (old : Ins
       subst (λ (v : Events). Ends drive a.lost (Fail (cells_in a.journal.now) a.lost) v b.history.now a.journal.now b.journal.now) events told.ends in
       let entries : b.history.now.entries ≡ h ++ Fail (cells_in a.journal.now) a.lost ∷ [] = ap (λ (v : Events). v.entries) ends.events in
       let kept = ends.keeps w o step (subst (λ (l : Option (KeptView D)). KeepsIn drive w o h l) (sym log) inside.on_log) in
-      inside-fail drive w o old _ inside going (subst (λ (g : List Entry). KeepsIn drive w o g b.journal.now) (sym entries) kept) (cells_in a.journal.now) a.lost few entries
+      inside-fail drive w o old _ inside going (subst (λ (g : List Entry). KeepsIn drive w o g b.journal.now) (sym entries) kept) (subst (λ (l : Option (KeptView D)). IsSinceIn l b.journal.now) log ends.since) (cells_in a.journal.now) a.lost few entries
       (ap (λ (t : TableView). t.world) same) (ap (λ (t : TableView). t.leaves) same) opens begun
   inside-undone A table splits opening n undone.Memory a b few step events log room same opens begun told =
       let entries : b.history.now.entries ≡ h = ap (λ (s : Step D). s.history.now.entries) told ∙ ap (λ (v : Events). v.entries) events in
@@ -94,6 +95,7 @@ module _ {I D P : Type 0} (drive : D → Drive) (w : ℕ) (o : State) (old : Ins
         splits = rw entries (opens ∙ inside.splits);
         begun = rw entries (begun ∙ inside.begun);
         bases = rw (entries, same) inside.bases;
+        begins = rw (entries, journal) inside.begins;
         few = rw entries inside.few;
         room = λ _. omega (arith, ap length opens, room, rooms);
         on_log = rw (entries, journal) inside.on_log;
@@ -136,6 +138,7 @@ module _ {I D P : Type 0} (drive : D → Drive) (w : ℕ) (o : State) (old : Ins
     pub entries : events.entries ≡ h ++ entry_of step ∷ []
     pub room : events.room ≡ n - 1
     pub keeps : KeepsIn drive w o events.entries log
+    pub since : IsSinceIn old.journal log
     pub moments : LeavesEither drive w o h (entry_of step) old.journal log
 
   pub taken : (n : ℕ) (a b : Step D) → IsStep w o h a.lost → a.history.now ≡ record { entries = h; room = n } → a.journal.now ≡ old.journal → Takes drive a b → Taken a.lost n b.history.now b.journal.now
@@ -148,6 +151,7 @@ module _ {I D P : Type 0} (drive : D → Drive) (w : ℕ) (o : State) (old : Ins
         entries = entries;
         room = ap (λ (v : Events). v.room) ends.events;
         keeps = subst (λ (g : List Entry). KeepsIn drive w o g b.journal.now) (sym entries) (ends.keeps w o step kept);
+        since = subst (λ (l : Option (KeptView D)). IsSinceIn l b.journal.now) log ends.since;
         moments = subst (λ (l : Option (KeptView D)). LeavesEither drive w o h (entry_of a.lost) l b.journal.now) log (ends.any_moment w o step kept);
       }
 
@@ -172,6 +176,7 @@ module _ {I D P : Type 0} (drive : D → Drive) (w : ℕ) (o : State) (old : Ins
         entries = entries;
         room = ap (λ (v : Events). v.room) pushed;
         keeps = rw (entries, journal) (in-call drive w o h session row op old.journal legal now inside.on_log);
+        since = subst (λ (l : Option (KeptView D)). IsSinceIn old.journal l) (sym journal) (since-same old.journal);
         moments = rw journal (leaves-quiet drive w o h (Call session row op) old.journal laws inside.on_log going);
       }
 

@@ -5,9 +5,11 @@ use Rattle.plain_list.specs.History.{failed_cell}
 use Rattle.index_layer.specs.Leaves.{names_of}
 use Rattle.disk_trait.specs.Drive.{Drive}
 use Rattle.kept_log.specs.Journal.{KeepsIn}
+use Rattle.kept_log.specs.Counts.{first_in}
 use Rattle.commit_book.specs.BookView.{BookView}
 use Rattle.commit_book.specs.IsBook.{most_events, IsOpening}
 use Rattle.commit_book.specs.KeptBases.{KeepsBases}
+use Rattle.commit_book.specs.Room.{BeginsInRoom}
 use Rattle.commit_book.specs.declared.book.Book.TheInside.{Inside}
 
 abbrev pub book_of : {I D P : Type 0} → Inside I D P → BookView D
@@ -23,6 +25,7 @@ pub record IsInside {I D P : Type 0} (drive : D → Drive) (w : ℕ) (o : State)
   pub splits : b.splits.splits ≡ (state_after w o b.history.entries).splits
   pub begun : b.splits.begun ≡ (state_after w o b.history.entries).begun
   pub bases : KeepsBases w o b.table.leaves b.history.entries
+  pub begins : BeginsInRoom (first_in b.journal) o.world b.history.entries
   pub few : length b.history.entries ≤ most_events
   pub room : failed_cell b.history.entries ≡ None → length b.splits.splits ≤ b.history.room
   pub on_log : KeepsIn drive w o b.history.entries b.journal

@@ -6,8 +6,10 @@ use Rattle.plain_list.specs.History.{world_after, failed_cell}
 use Rattle.index_layer.specs.Stands.{Stands}
 use Rattle.disk_trait.specs.Drive.{Drive}
 use Rattle.kept_log.specs.Journal.{cells_in, KeepsIn, IsSinceIn}
+use Rattle.kept_log.specs.Counts.{first_in}
 use Rattle.commit_book.specs.BookView.{BookView}
 use Rattle.commit_book.specs.KeptBases.{KeepsBases}
+use Rattle.commit_book.specs.Room.{BeginsInRoom}
 
 -- the most entries of a history
 abbrev pub most_events : ℕ
@@ -19,13 +21,14 @@ pub record IsOpening (s : State) : Type 0 where
   pub begun : s.begun ≤ 16777216
 
 -- The history is legal from the state at which the book began, the index stands for its world, with its leaves, and the base of each leaf
--- whose split is open has exactly the rows that stood there when it was begun. The log keeps the history, where there is one, and an append that
--- failed names its number of cells.
+-- whose split is open has exactly the rows that stood there when it was begun. Each split was begun where there was room. The log keeps the
+-- history, where there is one, and an append that failed names its number of cells.
 pub record IsBook {D : Type 0} (drive : D → Drive) (w : ℕ) (b : BookView D) : Type 0 where
   pub opening : IsOpening b.opening
   pub legal : IsLegal w b.opening b.entries
   pub stands : Stands b.leaves (places_of (world_after b.opening.world b.entries)) (state_after w b.opening b.entries).leaves
   pub bases : KeepsBases w b.opening b.leaves b.entries
+  pub room : BeginsInRoom (first_in b.log) b.opening.world b.entries
   pub few : length b.entries ≤ most_events
   pub on_log : KeepsIn drive w b.opening b.entries b.log
   pub named : (n : ℕ) → failed_cell b.entries ≡ Some n → n ≡ cells_in b.log

@@ -1,5 +1,5 @@
 -- Why a call of a book is refused: the cause that comes first.
-use Rattle.std.specs.Prelude.{◌≡◌, ◌⊎◌, ℕ, ◌+◌, nat_lt, ◌==◌, Bool, true, false, not, ◌&&◌, ◌||◌, List, [], ◌∷◌, ◌++◌, length, if◌then◌else◌, Option, Some, None, is_some, Result, Ok, Err, ⊤}
+use Rattle.std.specs.Prelude.{◌≡◌, ◌⊎◌, ℕ, ◌+◌, nat_lt, ◌==◌, Bool, true, false, not, ◌&&◌, List, [], ◌∷◌, ◌++◌, length, if◌then◌else◌, Option, Some, None, is_some, Result, Ok, Err, ⊤}
 use Rattle.std.specs.Option.{option_map, option_map_or}
 use Rattle.zorder.specs.SameName.{same_name}
 use Rattle.bucket_versions.specs.declared.row.Row.{Row}
@@ -19,6 +19,7 @@ pub use Rattle.split_log.specs.LogView.{most_cells}
 use Rattle.kept_log.specs.Journal.{cells_in, RoseIn}
 use Rattle.commit_book.specs.BookView.{BookView}
 use Rattle.commit_book.specs.IsBook.{most_events}
+pub use Rattle.commit_book.specs.Room.{most_events_to_begin, most_cells_to_begin, has_no_room}
 use Rattle.commit_book.specs.declared.faults.BookFault.{BookFault}
 use Rattle.commit_book.specs.declared.faults.BookFault.TheVariants.{Closed, Disk, HistoryFull, LogFull, Memory, Room, Splitting, Deep, NoLeaf, Stale, NotOpen}
 
@@ -89,14 +90,6 @@ update_refusal b op =
     first_of (call_refusal b.entries)
     (if (cells_in b.log == most_cells) && is_change (answer_of (world_after b.opening.world b.entries) op) then Some LogFull else None)
 
--- past so many events no split begins
-abbrev pub most_events_to_begin : ℕ
-most_events_to_begin = 4000000
-
--- nor past so many cells
-abbrev pub most_cells_to_begin : ℕ
-most_cells_to_begin = 16000000
-
 -- the number of the open split of this name
 abbrev pub split_number : List OpenSplit → List Bool → Option ℕ
 split_number [] name = None
@@ -108,10 +101,6 @@ leaf_refusal w s name =
     if not (is_leaf s.leaves name) then Some NoLeaf
     else if nat_lt 64 (length name + w) then Some Deep
     else option_map Splitting (split_number s.splits name)
-
--- whether there are too many cells or events for a further split
-abbrev pub has_no_room : ℕ → ℕ → Bool
-has_no_room cells events = nat_lt most_cells_to_begin cells || nat_lt most_events_to_begin events
 
 abbrev pub room_refusal : ℕ → ℕ → Option BookFault
 room_refusal cells events = if has_no_room cells events then Some (Room cells events) else None

@@ -65,7 +65,7 @@ invariant_of-self-2 g c =
     let it =
     taken g.D.LogDisk.drive w b.opening b c.self.invariant may.may.going b.history.room _ c.commit.new.self
     (abandon_step w b.opening b.history.entries c.self.invariant.legal may.may.going number name.0 name.1) refl refl (c.if-not-commit.ensures.done refl) in
-    inside-abandon g.D.LogDisk.drive w b.opening b _ c.self.invariant may.may.going it.keeps number name.0 may.may.few found refl it.entries (omega (arith, it.room)) c.remove.ensures.splits c.remove.ensures.begun
+    inside-abandon g.D.LogDisk.drive w b.opening b _ c.self.invariant may.may.going it.keeps it.since number name.0 may.may.few found refl it.entries (omega (arith, it.room)) c.remove.ensures.splits c.remove.ensures.begun
 
 pub returns-in_err-check_abandon-clause-refused : goal.returns-in_err-check_abandon-clause-refused
 returns-in_err-check_abandon-clause-refused g c = hands_on (Unit {0}) IsDisk _ c.in_err-check_abandon.field-0.0 _ c.in_err-check_abandon.ensures c.from_residual.ensures.1

@@ -119,7 +119,6 @@ invariant_of-self-2 g c =
     let h = b.history.entries in
     let name = c.args.name.now in
     let may : MayBegin w (state_after w o h) h (cells_in b.journal) name = may_begin w (book_of b) name (passed _ _ (rw (← c.self.view_is) at c.in_ok-check_begin.ensures)) in
-    let few : length h < most_events = omega (arith, may.few) in
     let number = c.next_number-number.result in
     let next : number ≡ (state_after w o h).begun + 1 = c.next_number-number.ensures ∙ ap (λ n. n + 1) (c.in_ok-reserve.ensures.begun ∙ c.self.invariant.begun) in
     let step = begin_step w o h c.self.invariant.legal may.going (cells_in b.journal) number name may next in
@@ -127,7 +126,7 @@ invariant_of-self-2 g c =
     let it = taken g.D.LogDisk.drive w o b c.self.invariant may.going (c.len.result + 2) _ c.fold.new.commit step c.in_ok-reserve-2.ensures.ok refl c.in-Ok.ensures.told in
     let begun : c.reserve.new.self.begun ≡ b.splits.begun = c.in_ok-reserve.ensures.begun in
     let same : number ≡ b.splits.begun + 1 = c.next_number-number.ensures ∙ ap (λ n. n + 1) begun in
-    inside-begin g.D.LogDisk.drive w o b _ c.self.invariant may.going it.keeps name _ few book.stands.are_leaves book.stands.rows c.in-Ok.ensures.folds
+    inside-begin g.D.LogDisk.drive w o b _ c.self.invariant may.going it.keeps it.since name _ may.few may.room book.stands.are_leaves book.stands.rows c.in-Ok.ensures.folds
     (both_true may.leaf (le-leb (length name + w) 64 may.short)) may.free (it.entries ∙ ap (λ n. h ++ Begin n name ∷ []) same) (omega (arith, it.room, c.len.ensures, ap length c.in_ok-reserve.ensures.splits))
     (ap (λ (t : TableView). t.world) c.in-Ok.ensures.rest)
     (c.push.ensures.splits ∙ (λ i. c.in_ok-reserve.ensures.splits i ++ record { number = begun i + 1; name = name } ∷ []))

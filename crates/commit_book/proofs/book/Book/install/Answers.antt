@@ -102,7 +102,7 @@ invariant_of-self-2 g c =
     let it = taken g.D.LogDisk.drive w o b c.self.invariant may.may.going b.history.room _ c.divide.new.commit step refl refl c.in_default.ensures.told in
     let open_here : split_name b.splits.splits p.number ≡ Some p.name = ap (λ (os : List OpenSplit). split_name os p.number) c.self.invariant.splits ∙ open_one in
     let divides : Divides w p.name b.table.leaves c.divide.new.self.leaves = subst (λ (nm : List Bool). Divides w nm b.table.leaves c.divide.new.self.leaves) c.name-name.ensures.name c.in_default.ensures.divides in
-    inside-install g.D.LogDisk.drive w o b _ c.self.invariant may.may.going it.keeps p.number p.name may.may.few c.len-told.ensures.leaves divides open_here
+    inside-install g.D.LogDisk.drive w o b _ c.self.invariant may.may.going it.keeps it.since p.number p.name may.may.few c.len-told.ensures.leaves divides open_here
     (ap names_of divides.leaves ∙ names_of-divided w p.name divides.leaf.bucket.rows b.table.leaves)
     (it.entries ∙ ap (λ n. h ++ Install n ∷ []) number) (omega (arith, it.room)) (ap (λ (t : TableView). t.world) c.in_default.ensures.rest)
     (c.remove.ensures.splits ∙ ap (λ n. without_number n b.splits.splits) number) c.remove.ensures.begun

@@ -38,7 +38,7 @@ invariant_of-self-2 g c =
     let entries : c.push.new.self.entries ≡ h ++ e ∷ [] = ap (λ (v : Events). v.entries) c.push.ensures ∙ ap (λ (v : Events). v.entries ++ e ∷ []) c.in_ok-reserve.ensures.ok in
     let room : length c.self.inside.splits.splits ≤ c.push.new.self.room = omega (arith, ap (λ (v : Events). v.room) c.push.ensures, ap (λ (v : Events). v.room) c.in_ok-reserve.ensures.ok, c.len.ensures) in
     let kept = keeps-query drive w o h c.args.session c.args.row op c.self.inside.journal c.requires steps.legal c.self.invariant.on_log in
-    inside-call drive w o c.self.inside _ c.self.invariant may.going (subst (λ (g : List Entry). KeepsIn drive w o g c.self.inside.journal) (sym entries) kept) c.args.session c.args.row op may.few entries room
+    inside-call drive w o c.self.inside _ c.self.invariant may.going (subst (λ (g : List Entry). KeepsIn drive w o g c.self.inside.journal) (sym entries) kept) (since-same c.self.inside.journal) c.args.session c.args.row op may.few entries room
     (sym (query_keeps op c.self.inside.table.world c.requires)) refl refl
 
 pub returns-clause-index : goal.returns-clause-index

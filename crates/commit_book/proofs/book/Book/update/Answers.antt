@@ -107,7 +107,7 @@ invariant_of-self-2 g c =
     c.in-Ok.answer _ c.update.new.commit c.note_quiet.new.history
     (call_step w b.opening h c.self.invariant.legal may.call.going c.args.session c.args.row op) steps.legal refl c.in_ok-reserve.ensures.ok refl now
     (ap is_change c.in-Ok.ensures.ok.answer_is) c.in-Ok.ensures.told c.note_quiet.ensures.noted c.note_quiet.ensures.quiet in
-    inside-call g.D.LogDisk.drive w b.opening b _ c.self.invariant may.call.going it.keeps c.args.session c.args.row op may.call.few it.entries (omega (arith, it.room, c.len.ensures))
+    inside-call g.D.LogDisk.drive w b.opening b _ c.self.invariant may.call.going it.keeps it.since c.args.session c.args.row op may.call.few it.entries (omega (arith, it.room, c.len.ensures))
     c.in-Ok.ensures.ok.changes.world (rw c.as_slice.ensures at c.in-Ok.ensures.ok.changes.bases) refl
 
 pub returns-clause-ok : goal.returns-clause-ok
