@@ -1,6 +1,6 @@
 use Rattle.std.proofs.Common.{ℕ, Bool, cond, List, Option, None, Some, Ok, Err, sym, ap, ◌∙◌}
 use Rattle.std.specs.Prelude.{is_some}
-use Rattle.plain_list.specs.State.{OpenSplit, split_name, state_after}
+use Rattle.plain_list.specs.State.{OpenSplit, split_name}
 use Rattle.kept_log.specs.Journal.{cells_in}
 use Rattle.commit_book.specs.Refusals.{end_refusal}
 use Rattle.commit_book.specs.declared.faults.BookFault.{BookFault}

@@ -1,7 +1,6 @@
-use Rattle.std.proofs.Common.{List, sym, ap, ◌∙◌}
+use Rattle.std.proofs.Common.{sym, ap, ◌∙◌}
 use Rattle.std.specs.Prelude.{◌&&◌}
-use Rattle.zorder.specs.declared.points.Placed.{Placed}
-use Rattle.plain_list.specs.World.{World, is_full}
+use Rattle.plain_list.specs.World.{World}
 use Rattle.plain_list.specs.Answer.{answer_of, is_change}
 use Rattle.plain_list.proofs.Histories.{state_after-world}
 use Rattle.commit_book.proofs.RefusalLemmas.{passed}
