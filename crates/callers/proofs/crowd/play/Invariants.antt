@@ -1,0 +1,6 @@
+use Rattle.std.specs.Prelude.{◌≡◌}
+use Rattle.callers.specs.Passes.{IsFree}
+use Rattle.callers.proofs.crowd.play.Given as goal
+
+abbrev pub invariant-loop-session : goal.invariant-loop-session
+invariant-loop-session g l = IsFree l.store l.pass × (l.pass.parts ≡ 65536)

@@ -1,0 +1,5 @@
+use Rattle.callers.specs.Passes.{KeepsPass}
+use Rattle.callers.proofs.work.call_at_pace.Given as goal
+
+abbrev pub invariant-loop-row : goal.invariant-loop-row
+invariant-loop-row g l = KeepsPass l.initial.pass l.pass

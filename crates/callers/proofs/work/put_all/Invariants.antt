@@ -1,0 +1,5 @@
+use Rattle.callers.specs.Passes.{KeepsPass}
+use Rattle.callers.proofs.work.put_all.Given as goal
+
+abbrev pub invariant-loop-object : goal.invariant-loop-object
+invariant-loop-object g l = KeepsPass l.initial.pass l.pass

@@ -1,0 +1,59 @@
+//! What is asked, and what is told.
+ghost use Rattle.plain_list.specs.Answer.{IsValid};
+
+use plain_list::{Answer, Op};
+use zorder::Point;
+
+/// How many objects each session has.
+pub const OBJECTS: u32 = 64;
+
+fn id(session: u8, object: u32) -> u64 {
+    u64::from(session) * u64::from(OBJECTS) + u64::from(object)
+}
+
+// Where an object is after so many rounds: anywhere, and a little farther on each time.
+fn place(session: u8, object: u32, round: u32) -> Point {
+    let number = u32::from(session)
+        .wrapping_mul(OBJECTS)
+        .wrapping_add(object);
+    let farther = round.wrapping_mul(65_536);
+    Point {
+        x: number.wrapping_mul(2_654_435_769).wrapping_add(farther),
+        y: number.wrapping_mul(1_640_531_527),
+    }
+}
+
+/// The put of an object.
+pub fn put_of(session: u8, object: u32) -> Op
+    ensures { IsValid result }
+{
+    Op::Put {
+        id: id(session, object),
+        at: place(session, object, 0),
+    }
+}
+
+/// What a session's row asks: three moves, and then the nearest eight.
+pub fn op_of(session: u8, row: u32) -> Op
+    ensures { IsValid result }
+{
+    let (object, round) = (row % OBJECTS, row / OBJECTS + 1);
+    let at = place(session, object, round);
+    if row % 4 == 3 {
+        Op::Near { at, k: 8 }
+    } else {
+        Op::Move {
+            id: id(session, object),
+            at,
+        }
+    }
+}
+
+/// Whether a row was told what it should be.
+pub fn is_good(row: u32, answer: &Answer) -> bool {
+    match answer {
+        Answer::Moved(_) => row % 4 != 3,
+        Answer::Found(found) => row % 4 == 3 && found.as_slice().len() == 8,
+        _ => false,
+    }
+}
