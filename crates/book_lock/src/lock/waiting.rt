@@ -162,6 +162,8 @@ impl<V: Held> BookLock<V> {
 
     /// Wakes one who naps, or sleeps for a slow value, if there is one: for a caller of a batch that won't come back soon.
     pub fn rouse(&self) {
-        self.table.shared.wake_one(1);
+        if self.waiters.sleepers.load(Ordering::SeqCst) > 0 {
+            self.table.shared.wake_one(1);
+        }
     }
 }

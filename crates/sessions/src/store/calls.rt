@@ -22,6 +22,9 @@ use std::sync::Wait;
 use std::sync::ledger::Ledger;
 use step_count::Steps;
 
+/// From this k on a near takes some ten microseconds.
+const LONG_NEAR: u32 = 64;
+
 // Whose call it is: the session, the number of its row, and what the row asks.
 #[derive(Drop)]
 struct Request {
@@ -89,6 +92,10 @@ impl<I: Index, D: LogDisk, O: Start> Store<I, D, O> {
             Ok(shown) => shown,
             Err(fault) => return Err(call_fault(fault)),
         };
+        if is_long(&request.op) {
+            // Another lane has the store meanwhile.
+            self.lock.rouse();
+        }
         gate.reach(GatePoint::Taken, request.session);
         let place = shown.place;
         match ask(alloc, &shown.index, &request.op, steps) {
@@ -155,6 +162,14 @@ impl<I: Index, D: LogDisk, O: Start> Store<I, D, O> {
         let answer = self.answer(rt, alloc, pass, &request, gate, steps);
         gate.reach(GatePoint::Answered, session);
         answer
+    }
+}
+
+// Whether its answer takes longer than it takes to wake somebody.
+fn is_long(op: &Op) -> bool {
+    match *op {
+        Op::Near { at: _, k } => k >= LONG_NEAR,
+        _ => false,
     }
 }
 
