@@ -1,33 +1,33 @@
 //! From a cell to its bytes.
 ghost use Rattle.std.specs.Prelude.{◌≡◌, ℕ, List, ◌≤◌, [], ◌∷◌, length};
 ghost use Rattle.zorder.specs.Key.{IsPoint};
-ghost use Rattle.cell_format.specs.Spelling.{Spells, body, header_text, name_bytes, point_bytes};
+ghost use Rattle.cell_format.specs.Spelling.{newest, Spells, body, header_text, name_bytes, position_bytes};
 
 use crate::cell::Cell;
 use crate::kinds;
 use zorder::{Name, Point};
 
 #[tactic(auto, unfolding(crate::specs::Spelling::header_text))]
-/// The head of a log whose splits make `2 ^ width` children.
-pub fn header(width: u8) -> [u8; 16]
-    ensures { result ≡ header_text width }
+/// The head of a log of this version, whose splits make `2 ^ width` children.
+pub fn header(version: u8, width: u8) -> [u8; 16]
+    ensures { result ≡ header_text version width }
 {
     let mut bytes = [0; 16];
     bytes[..8].copy_from_slice(b"MDLOCLOG");
-    bytes[8] = 1;
+    bytes[8] = version;
     bytes[9] = width;
     bytes
 }
 
 #[tactic(auto, unfolding(crate::specs::Spelling::body_of))]
-/// The bytes of a cell, its commit byte set.
+/// The bytes of a cell in a log of version 2, its commit byte set.
 pub fn encode(cell: &Cell) -> [u8; 32]
-    ensures spells { Spells cell.now result }
-    ensures one { (bytes : List ℕ) → Spells cell.now bytes → bytes ≡ result }
+    ensures spells { Spells newest cell.now result }
+    ensures one { (bytes : List ℕ) → Spells newest cell.now bytes → bytes ≡ result }
 {
     match *cell {
-        Cell::Put { id, at } => with_point(kinds::PUT, id, at),
-        Cell::Move { id, at } => with_point(kinds::MOVE, id, at),
+        Cell::Put { id, at, moment } => with_position(kinds::PUT, id, at, moment),
+        Cell::Move { id, at, moment } => with_position(kinds::MOVE, id, at, moment),
         Cell::Remove { id } => with_number(kinds::REMOVE, id),
         Cell::Begin { number, name } => with_name(number, &name),
         Cell::Install { number } => with_number(kinds::INSTALL, number),
@@ -45,13 +45,14 @@ fn with_number(kind: u8, number: u64) -> [u8; 32]
     bytes
 }
 
-fn with_point(kind: u8, id: u64, at: Point) -> [u8; 32]
-    ensures spelled { result ≡ 1 ∷ body kind id (point_bytes at) 14 }
+fn with_position(kind: u8, id: u64, at: Point, moment: u64) -> [u8; 32]
+    ensures spelled { result ≡ 1 ∷ body kind id (position_bytes at moment) 6 }
     ensures fits { IsPoint at }
 {
     let mut bytes = with_number(kind, id);
     bytes[10..14].copy_from_slice(&at.x.to_be_bytes());
     bytes[14..18].copy_from_slice(&at.y.to_be_bytes());
+    bytes[18..26].copy_from_slice(&moment.to_be_bytes());
     bytes
 }
 
