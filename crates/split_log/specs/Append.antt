@@ -2,7 +2,7 @@
 use Rattle.std.specs.Prelude.{◌≡◌, ℕ, ◌+◌, ◌≤◌, List, [], ◌∷◌, ◌++◌, Option, Some, None, is_some}
 use Rattle.causes.specs.Causes.{Rose}
 use Rattle.cell_format.specs.declared.cell.Cell.{Cell}
-use Rattle.cell_format.specs.Spelling.{IsCell, body_of}
+use Rattle.cell_format.specs.Spelling.{newest, IsCell, body_of}
 use Rattle.disk_trait.specs.Drive.{Drive, MadeWell, StopsAfter, SameFile}
 use Rattle.disk_trait.specs.Moments.{LeavesOnly, LeavesNow}
 use Rattle.split_log.specs.LogText.{IsLog, HoldsCells, HoldsEither, IsStaged}
@@ -10,13 +10,13 @@ use Rattle.split_log.specs.LogText.{IsLog, HoldsCells, HoldsEither, IsStaged}
 -- the drive has these cells, and the piece is the next one behind its commit byte, with a clear commit byte at its end
 pub record IsReady (width : ℕ) (cells : List Cell) (cell : Cell) (piece : List ℕ) (drive : Drive) : Type 0 where
   pub log : IsLog width cells drive
-  pub fits : IsCell cell
+  pub fits : IsCell newest cell
   pub piece_is : piece ≡ body_of cell ++ 0 ∷ []
 
 -- What stands after so many of the four calls went well and the next one failed: where the first write or the first sync failed, no crash
 -- leaves the new cell, and else it was written and synced behind its commit byte before.
 pub record StandsAfter (width : ℕ) (cells : List Cell) (cell : Cell) (went_well : ℕ) (old new : Drive) : Type 0 where
-  pub unstaged : went_well ≤ 1 → LeavesOnly old new (HoldsCells width cells)
+  pub unstaged : went_well ≤ 1 → LeavesOnly old new (HoldsCells newest width cells)
   pub staged : 2 ≤ went_well → LeavesNow new (IsStaged width cells cell)
 
 -- an append of a piece stopped at a fault

@@ -2,50 +2,50 @@
 use Rattle.std.specs.Prelude.{◌≡◌, ◌≢◌, ◌⊎◌, ℕ, List, [], ◌∷◌, ◌++◌, Some, length}
 use Rattle.std.specs.List.{flat_map, AllByRecursion}
 use Rattle.cell_format.specs.declared.cell.Cell.{Cell}
-use Rattle.cell_format.specs.Spelling.{IsCell, spelling, body_of, header_text}
+use Rattle.cell_format.specs.Spelling.{newest, IsCell, spelling, body_of, header_text}
 use Rattle.disk_trait.specs.Drive.{Drive, Only}
 
--- what stands before the last commit byte
-abbrev pub front_of : ℕ → List Cell → List ℕ
-front_of width cells = header_text width ++ flat_map spelling cells
+-- what stands before the last commit byte, in a log of this version and width
+abbrev pub front_of : ℕ → ℕ → List Cell → List ℕ
+front_of version width cells = header_text version width ++ flat_map spelling cells
 
 -- the text with this commit byte at its end
-abbrev pub log_text : ℕ → List Cell → ℕ → List ℕ
-log_text width cells commit_byte = header_text width ++ flat_map spelling cells ++ commit_byte ∷ []
+abbrev pub log_text : ℕ → ℕ → List Cell → ℕ → List ℕ
+log_text version width cells commit_byte = header_text version width ++ flat_map spelling cells ++ commit_byte ∷ []
 
 -- the bytes are the text of these cells
-pub record IsLogText (width : ℕ) (cells : List Cell) (bytes : List ℕ) : Type 0 where
-  pub cells_fit : AllByRecursion IsCell cells
+pub record IsLogText (version width : ℕ) (cells : List Cell) (bytes : List ℕ) : Type 0 where
+  pub cells_fit : AllByRecursion (IsCell version) cells
   pub commit_byte : ℕ
   pub clear : commit_byte ≢ 1
-  pub text : bytes ≡ log_text width cells commit_byte
+  pub text : bytes ≡ log_text version width cells commit_byte
 
--- the bytes are the text of so many cells
+-- the bytes are the text of so many cells, in the newest version
 pub record IsLogOf (count : ℕ) (bytes : List ℕ) : Type 0 where
   pub width : ℕ
   pub cells : List Cell
   pub count_is : length cells ≡ count
-  pub text : IsLogText width cells bytes
+  pub text : IsLogText newest width cells bytes
 
 -- some front of the bytes is the text of these cells
-pub record HoldsCells (width : ℕ) (cells : List Cell) (bytes : List ℕ) : Type 0 where
+pub record HoldsCells (version width : ℕ) (cells : List Cell) (bytes : List ℕ) : Type 0 where
   pub front : List ℕ
   pub rest : List ℕ
   pub parts : bytes ≡ front ++ rest
-  pub text : IsLogText width cells front
+  pub text : IsLogText version width cells front
 
 -- the cells, with one more or without it
 abbrev pub HoldsEither : ℕ → List Cell → Cell → List ℕ → Type 0
-HoldsEither width cells cell bytes = HoldsCells width cells bytes ⊎ HoldsCells width (cells ++ cell ∷ []) bytes
+HoldsEither width cells cell bytes = HoldsCells newest width cells bytes ⊎ HoldsCells newest width (cells ++ cell ∷ []) bytes
 
 -- the cells, one more that is written whole behind any commit byte, and a clear commit byte
 pub record IsStaged (width : ℕ) (cells : List Cell) (cell : Cell) (bytes : List ℕ) : Type 0 where
   pub commit_byte : ℕ
-  pub text : bytes ≡ front_of width cells ++ commit_byte ∷ (body_of cell ++ 0 ∷ [])
+  pub text : bytes ≡ front_of newest width cells ++ commit_byte ∷ (body_of cell ++ 0 ∷ [])
 
--- the file is the text of these cells, and a crash leaves it
+-- the file is the text of these cells in the newest version, and a crash leaves it
 pub record IsLog (width : ℕ) (cells : List Cell) (drive : Drive) : Type 0 where
   pub bytes : List ℕ
   pub told : drive.bytes ≡ Some bytes
-  pub text : IsLogText width cells bytes
+  pub text : IsLogText newest width cells bytes
   pub durable : Only bytes drive.images

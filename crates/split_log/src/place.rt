@@ -3,7 +3,7 @@ ghost use Rattle.std.specs.Prelude.{◌≡◌, ◌+◌, ◌≤◌, ◌^◌, ◌�
 ghost use Rattle.disk_trait.specs.Drive.{CountsFaults, MadeWell};
 ghost use Rattle.disk_trait.specs.Moments.{LeavesOnly};
 ghost use Rattle.cell_format.specs.declared.cell.Cell.{Cell};
-ghost use Rattle.cell_format.specs.Spelling.{IsCell, body_of};
+ghost use Rattle.cell_format.specs.Spelling.{newest, IsCell, body_of};
 ghost use Rattle.split_log.specs.LogText.{IsLog, HoldsEither};
 ghost use Rattle.split_log.specs.Append.{IsReady, Breaks};
 
@@ -36,7 +36,7 @@ pub(crate) fn place<D: LogDisk>(disk: &mut D, at: u64, piece: &[u8]) -> Result<(
 /// A cell without its commit byte, and a clear one for the cell after it.
 pub(crate) fn behind_commit_byte(cell: &Cell) -> [u8; 32]
     ensures bytes { result ≡ body_of cell.now ++ 0 ∷ [] }
-    ensures fits { IsCell cell.now }
+    ensures fits { IsCell newest cell.now }
 {
     let mut piece = [0; 32];
     piece[..31].copy_from_slice(&encode(cell)[1..]);
