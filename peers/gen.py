@@ -15,12 +15,15 @@ hot-spot     80 percent of the objects in a square of 1 percent of the area; a q
              move within reach, 20 where, 20 box of about 32 points in the spot, 20 near k 8
 boxes-large  uniform; half puts; then 70 move, 20 where, 10 box of 256 to 4,096 points (log-uniform)
 near-large   uniform; a quarter puts; then 70 move, 20 where, 10 near k 64 to 2,048 (log-uniform)
+
+The moment of a put or move is its row's number times 1,000, but one move in 50 is late by 1,000 to 5,000 rows, as those of a phone
+that comes out of a tunnel: it is stale where the object was put or moved in the meantime.
 """
 import math
 import random
 import sys
 
-HEADER = 'session,op,id,x,y,a,b'
+HEADER = 'session,op,id,x,y,a,b,moment'
 TOP = 2**32 - 1
 CITIES = [(182350000, 138850000), (106000000, 130700000), (319700000, 125700000), (331200000, 56100000)]
 PROFILES = ('taxi', 'cities', 'read-heavy', 'write-heavy', 'hot-spot', 'boxes-large', 'near-large')
@@ -96,7 +99,23 @@ MIXES = {
 }
 
 
+def with_moments(rows, seed):
+    """The rows with the column `moment`."""
+    rnd = random.Random(f'moments {len(rows)} {seed}')
+    out = []
+    for n, row in enumerate(rows, 1):
+        op = row.split(',', 2)[1]
+        late = rnd.randint(1000, 5000) if op == 'move' and rnd.randrange(50) == 0 else 0
+        out.append(f'{row},{max(0, n - late) * 1000 if op in ("put", "move") else ""}')
+    return out
+
+
 def profile(name, rows, seed=1):
+    return with_moments(rows_of(name, rows, seed), seed)
+
+
+def rows_of(name, rows, seed):
+    """The rows of a profile without moments."""
     rnd = random.Random(f'{name} {rows} {seed}')
     part, mix = MIXES[name]
     fleet, out = Fleet(rnd), []
@@ -182,7 +201,7 @@ def growth(points, kinds, ops, seed=1):
         i, _ = fleet.some(s)
         out.append({'move': lambda: fleet.move(s, i, x, y), 'where': lambda: f'{s},where,{i},,,,',
                     'box': lambda: box(s, x, y, w, w), 'near': lambda: near(s, x, y, 8)}[kind]())
-    return out
+    return with_moments(out, seed)
 
 
 def edge_cases(seed=1):
@@ -215,7 +234,7 @@ def edge_cases(seed=1):
     crowd += [f'1,box,,0,0,{TOP},{TOP}', f'2,box,,3000000000,7,3000000063,38', f'3,box,,3000000000,7,3000000063,39',
               near(4, 3000000031, 23, 2048), near(5, 0, TOP, 2048), near(6, TOP, 0, 1), near(7, 3000000000, 7, 100)]
     crowd += [f'8,drop,{5000 - i},,,,' for i in range(60)] + [f'1,box,,0,0,{TOP},{TOP}', near(4, 3000000031, 23, 2048)]
-    return {
+    cases = {
         'ties': mixed(2500, list(range(200)), lambda: rnd.randrange(12), [1, 2, 5, 40, 300]),
         'ends': mixed(2500, big, lambda: rnd.choice(ends) if rnd.random() < .5 else rnd.randrange(2**32), [1, 3, 8, 2048]),
         'far': mixed(2500, big, lambda: rnd.randrange(2**32), [1, 3, 8, 30, 2048]),
@@ -223,6 +242,17 @@ def edge_cases(seed=1):
         'empty': ['1,box,,0,0,5,5', '1,near,,7,7,3,', '1,where,7,,,,', '1,drop,7,,,,', '1,move,7,1,1,,', '1,put,7,3,5,,',
                   '1,put,7,8,8,,', '1,move,7,8,8,,', '1,drop,7,,,,', '1,drop,7,,,,', '1,near,,7,7,3,', '1,box,,0,0,9,9'],
     }
+    draw = {'ties': lambda: rnd.randrange(4), 'far': lambda: rnd.randrange(2**64),
+            'ends': lambda: rnd.choice([0, 1, 2**31, 2**53, 2**53 + 1, 2**63 - 1, 2**63, 2**64 - 2, 2**64 - 1])}
+    for name, rows in cases.items():
+        if name in draw:
+            cases[name] = [f'{r},{draw[name]() if r.split(",")[1] in ("put", "move") else ""}' for r in rows]
+        else:
+            cases[name] = with_moments(rows, seed)
+    cases['late'] = ['1,put,7,3,5,,,10', '1,move,7,4,5,,,9', '1,where,7,,,,,', '1,box,,0,0,9,9,', '1,move,7,4,5,,,10', '1,near,,9,9,1,,',
+                     '1,move,7,6,5,,,12', '1,put,7,1,1,,,99', '1,move,7,6,5,,,11', '1,move,8,1,1,,,0', '1,drop,7,,,,,', '1,move,7,1,1,,,99',
+                     '1,put,7,2,2,,,0', '1,move,7,3,3,,,0', '1,box,,0,0,9,9,', '1,where,7,,,,,']
+    return cases
 
 
 def in_sessions(row, n):

@@ -30,12 +30,13 @@ def told(what, run):
 
 
 def rows_of(kind, rnd, objects):
-    """As many rows of a kind as an input may have: moves and finds of any objects, boxes of 16 points, the nearest 8."""
+    """As many rows of a kind as an input may have: moves and finds of any objects, boxes of 16 points, the nearest 8. All moments are 0,
+    so that no move is stale."""
     side = gen.TOP * math.sqrt(16 / objects)
     for _ in range(MOST_ROWS):
         i, x, y = rnd.randint(1, objects), rnd.randrange(gen.TOP), rnd.randrange(gen.TOP)
-        yield {'move': gen.move(1, i, x, y), 'where': f'1,where,{i},,,,',
-               'box': gen.box(1, x, y, side, side), 'near': gen.near(1, x, y, 8)}[kind]
+        yield {'move': gen.move(1, i, x, y) + ',0', 'where': f'1,where,{i},,,,,',
+               'box': gen.box(1, x, y, side, side) + ',', 'near': gen.near(1, x, y, 8) + ','}[kind]
 
 
 def main(program, folder='/dev/shm', objects=2**20):
@@ -46,7 +47,7 @@ def main(program, folder='/dev/shm', objects=2**20):
         log = pathlib.Path(home) / 'long.log'
         subprocess.run([program, 'init', log], check=True, stdout=subprocess.DEVNULL)
         for first in range(0, len(ids), MOST_ROWS):
-            rows = [gen.put(1, i, rnd.randrange(gen.TOP), rnd.randrange(gen.TOP)) for i in ids[first:first + MOST_ROWS]]
+            rows = [gen.put(1, i, rnd.randrange(gen.TOP), rnd.randrange(gen.TOP)) + ',0' for i in ids[first:first + MOST_ROWS]]
             last = timed([program, 'play', log], gen.text(rows))
         told(f'the last play of {MOST_ROWS} puts', last)
         told('check', timed([program, 'check', log]))

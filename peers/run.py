@@ -121,7 +121,7 @@ def by_id(row):
 
 
 def overlap(csv, expected, out):
-    """How far approximate answers are from the expected ones. Rows by id must agree on whether the object is there."""
+    """How far approximate answers are from the expected ones. Rows by id must agree on whether the object is there, and on its moment."""
     want, have = ([l.split(',')[2:] for l in pathlib.Path(f).read_text().splitlines()[1:]] for f in (expected, out))
     if len(want) != len(have):
         return 'WRONG: lines'
@@ -131,10 +131,11 @@ def overlap(csv, expected, out):
             p, q = ({e.split(':')[0] for e in t[1].split(';') if e} for t in (a, b))
             if a[0] == b[0] == 'found':
                 shares[row.split(',')[1]].append(len(p & q) / len(p | q) if p or q else 1)
-        elif a[0] != b[0]:
+            continue
+        (x, y, moment), (u, v, kept) = ((t[1] or '0:0:0').split(':') for t in (a, b))
+        if a[0] != b[0] or moment != kept:
             return 'WRONG: ' + row
-        elif a[1]:
-            off = max(off, *(abs(int(s) - int(t)) for s, t in zip(a[1].split(':'), b[1].split(':'))))
+        off = max(off, abs(int(x) - int(u)), abs(int(y) - int(v)))
     means = [f'{k} {sum(v) / len(v):.3f}' for k, v in shares.items() if v]
     return ' '.join(['approximate:'] + means + [f'off {off}'])
 
@@ -290,7 +291,7 @@ class Bench:
     def input(self, name, make):
         n = self.args.sessions
         name += '' if n == 16 else f'-{n}s'
-        f = self.dir / 'inputs' / (name + '.csv')
+        f = self.dir / 'inputs' / (name + '-moments.csv')
         if not f.exists():
             f.parent.mkdir(exist_ok=True)
             f.with_suffix('.new').write_text(gen.text([gen.in_sessions(r, n) for r in make()]))

@@ -2,7 +2,8 @@
 // APPROXIMATE: coordinates become degrees within half a degree round (0, 0), by the bounding box of the input's points; GEO keeps
 // 26 bits of 360 degrees an axis, measures on a sphere, and breaks no ties by id. Redis has no nearest k: a script doubles the
 // radius of GEOSEARCH until k are in it, from one that the client learns from the answers before.
-// A put asks GEOPOS and GEOADD NX, a move GEOPOS and GEOADD XX, a drop GEOPOS and ZREM, each pair in one go, not as a transaction.
+// A put asks GEOPOS and GEOADD NX, a drop GEOPOS and ZREM, each pair in one go, not as a transaction. Moments are in a hash by id, as 20
+// digits: read by HGET beside each GEOPOS, written by HSETNX and HDEL. A move is a script, which compares them, since rows are sent ahead.
 #include "common.hpp"
 #include <cmath>
 #include <hiredis/hiredis.h>
@@ -17,6 +18,13 @@ static const char *const SCRIPT =
     "  if #v >= want or r > 400000 then return {tostring(r), v} end\n"
     "  r = r * 2\n"
     "end\n";
+static const char *const MOVE_SCRIPT =  // the old position and moment; nothing is changed where the moment is past the new one
+    "local p, m = redis.call('GEOPOS', KEYS[1], ARGV[1])[1], redis.call('HGET', KEYS[2], ARGV[1])\n"
+    "if p and m <= ARGV[4] then\n"
+    "  redis.call('GEOADD', KEYS[1], 'XX', ARGV[2], ARGV[3], ARGV[1])\n"
+    "  redis.call('HSET', KEYS[2], ARGV[1], ARGV[4])\n"
+    "end\n"
+    "return {p, m}\n";
 static const double METRES = 6372797.560856 * M_PI / 180;  // a degree, by Redis's radius
 struct Scale {
     double mx = 0, my = 0, s = 1;
@@ -34,20 +42,24 @@ struct Scale {
     double lon(double x) const { return std::max(-60.0, std::min(60.0, (x - mx) / s)); }
     double lat(double y) const { return std::max(-60.0, std::min(60.0, (y - my) / s)); }
     static u32 whole(double v) { return u32(std::max(0.0, std::min(4294967295.0, std::round(v)))); }
-    Point back(double lon, double lat) const { return {whole(lon * s + mx), whole(lat * s + my)}; }
+    Point back(double lon, double lat) const { return {whole(lon * s + mx), whole(lat * s + my), 0}; }
 };
 struct Red : InOrder {
     typedef std::unique_ptr<redisReply, void (*)(void *)> Reply;
     redisContext *c;
-    std::string sha;
+    std::string sha, move_sha;
     size_t window, sent = 0;
     double guess = 1000;  // metres for a root of k
     Scale scale;
     Red(int port, size_t window) : window(window) {
         c = redisConnect("127.0.0.1", port);
         if (!c || c->err) { fprintf(stderr, "redis: %s\n", c ? c->errstr : "memory"); exit(7); }
-        say({"SCRIPT", "LOAD", SCRIPT});
-        sha = next()->str;
+        sha = loaded(SCRIPT);
+        move_sha = loaded(MOVE_SCRIPT);
+    }
+    std::string loaded(const char *script) {
+        say({"SCRIPT", "LOAD", script});
+        return next()->str;
     }
     Reply next() {
         void *r = nullptr;
@@ -58,6 +70,7 @@ struct Red : InOrder {
         return Reply((redisReply *)r, freeReplyObject);
     }
     static std::string num(double v) { char t[40]; snprintf(t, sizeof t, "%.10f", v); return t; }
+    static std::string digits(u64 moment) { char t[24]; snprintf(t, sizeof t, "%020lu", moment); return t; }
     void say(std::initializer_list<std::string> w) {
         const char *a[16];
         size_t l[16], n = 0;
@@ -66,11 +79,16 @@ struct Red : InOrder {
     }
     void ask(const Row &r) {
         std::string id = std::to_string(r.id);
-        if (r.op <= WHERE) say({"GEOPOS", "g", id});
+        if (r.op == PUT || r.op == DROP || r.op == WHERE) { say({"GEOPOS", "g", id}); say({"HGET", "m", id}); }
         switch (r.op) {
-            case PUT: say({"GEOADD", "g", "NX", num(scale.lon(r.x)), num(scale.lat(r.y)), id}); break;
-            case MOVE: say({"GEOADD", "g", "XX", num(scale.lon(r.x)), num(scale.lat(r.y)), id}); break;
-            case DROP: say({"ZREM", "g", id}); break;
+            case PUT:
+                say({"HSETNX", "m", id, digits(r.moment)});
+                say({"GEOADD", "g", "NX", num(scale.lon(r.x)), num(scale.lat(r.y)), id});
+                break;
+            case MOVE:
+                say({"EVALSHA", move_sha, "2", "g", "m", id, num(scale.lon(r.x)), num(scale.lat(r.y)), digits(r.moment)});
+                break;
+            case DROP: say({"HDEL", "m", id}); say({"ZREM", "g", id}); break;
             case WHERE: break;
             case BOX: {
                 double x0 = scale.lon(r.x - 0.5), x1 = scale.lon(r.a + 0.5), y0 = scale.lat(r.y - 0.5), y1 = scale.lat(r.b + 0.5);
@@ -89,19 +107,27 @@ struct Red : InOrder {
         for (; sent < rows.size() && sent < i + window; ++sent) ask(rows[sent]);
     }
     Point at(const redisReply *p) { return scale.back(atof(p->element[0]->str), atof(p->element[1]->str)); }
-    bool find(u64, Point &q) {
-        auto r = next();
-        if (r->element[0]->type != REDIS_REPLY_ARRAY) return false;
-        q = at(r->element[0]);
+    bool kept(const redisReply *place, const redisReply *moment, Point &q) {
+        if (place->type != REDIS_REPLY_ARRAY) return false;
+        q = at(place);
+        q.moment = strtoull(moment->str, nullptr, 10);
         return true;
+    }
+    bool find(u64, Point &q) {
+        auto places = next(), moment = next();
+        return kept(places->element[0], moment.get(), q);
     }
     bool change(Point &q) {
         bool there = find(0, q);
         next();
+        next();
         return there;
     }
-    bool put(u64, u32, u32, Point &q) { return !change(q); }
-    bool move(u64, u32, u32, Point &q) { return change(q); }
+    bool put(u64, Point, Point &q) { return !change(q); }
+    bool move(u64, Point, Point &q) {
+        auto r = next();
+        return kept(r->element[0], r->element[1], q);
+    }
     bool drop(u64, Point &q) { return change(q); }
     u64 points(const redisReply *r, std::vector<Placed> &v) {
         for (size_t i = 0; i < std::min<size_t>(r->elements, MOST); ++i) {

@@ -18,7 +18,7 @@ inline u32 gather(u64 x) {
     return u32(x | x >> 16);
 }
 inline u64 zkey(u32 x, u32 y) { return spread(x) << 1 | spread(y); }
-inline Point zpoint(u64 z) { return {gather(z >> 1), gather(z)}; }
+inline Point zpoint(u64 z) { return {gather(z >> 1), gather(z), 0}; }
 
 struct Range { u64 lo, hi; };
 // Boxes as key ranges: from the common prefix of the corners, prefixes that miss the box are
