@@ -5,7 +5,8 @@ import struct
 import sys
 
 FIRST = "row,place,answer,detail\n"
-HEADER = b"MDLOCLOG\x01\x01" + bytes(6)
+VERSION, OLDEST, WIDTH = 2, 1, 1
+HEADER = b"MDLOCLOG" + bytes((VERSION, WIDTH)) + bytes(6)
 PUT, MOVE, DROP, BEGIN, INSTALL, ABANDON = range(1, 7)
 
 
@@ -13,17 +14,19 @@ class Damaged(Exception):
     """A file that is refused, by the line that says so."""
 
 
-def spelled(cell):
-    """A record without its commit byte: its kind, and its fields. A record that no bytes spell is refused by its cause."""
-    kind, number, place, length = cell[0], struct.unpack(">Q", cell[1:9])[0], struct.unpack(">Q", cell[9:17])[0], cell[17]
+def spelled(version, cell):
+    """A record of a version without its commit byte: its kind, its number, and what its kind has besides. That is point and moment of a put
+    or a move, bits and length of a begun leaf's name. A record that no bytes spell is refused by its cause."""
+    kind, number, place, moment, length = cell[0], *struct.unpack(">QQQ", cell[1:25]), cell[17]
     if not PUT <= kind <= ABANDON:
         raise Damaged("kind")
-    used = {PUT: 17, MOVE: 17, BEGIN: 18}.get(kind, 9)
+    placed = 17 if version == OLDEST else 25
+    used = {PUT: placed, MOVE: placed, BEGIN: 18}.get(kind, 9)
     if any(cell[used:]):
         raise Damaged("reserved")
     if kind == BEGIN and (length > 64 or place << length & (1 << 64) - 1):
         raise Damaged("name")
-    return kind, number, place, length
+    return kind, number, place, length if kind == BEGIN else moment if kind <= MOVE else 0
 
 
 def point(place):
@@ -31,20 +34,20 @@ def point(place):
 
 
 class State:
-    """What the records of a log stand for."""
+    """What the records of a log stand for. Objects are by id: x, y and moment."""
 
     def __init__(self):
         self.points, self.leaves, self.splits, self.begun, self.cells = {}, {(0, 0)}, {}, 0, []
 
     def add(self, cell):
         """Takes the next record, or refuses it where it can't follow."""
-        kind, number, place, length = cell
-        name = (place, length)
+        kind, number, place, more = cell
+        name = (place, more)
         possible = {
             PUT: number not in self.points and len(self.points) < 1 << 20,
-            MOVE: number in self.points,
+            MOVE: number in self.points and self.points[number][2] <= more,
             DROP: number in self.points,
-            BEGIN: number == self.begun + 1 and name in self.leaves and length < 64,
+            BEGIN: number == self.begun + 1 and name in self.leaves and more < 64,
             INSTALL: number in self.splits,
             ABANDON: number in self.splits,
         }
@@ -52,7 +55,7 @@ class State:
             raise Damaged("impossible")
         self.cells.append(cell)
         if kind in (PUT, MOVE):
-            self.points[number] = point(place)
+            self.points[number] = *point(place), more
         elif kind == DROP:
             del self.points[number]
         elif kind == BEGIN:
@@ -69,21 +72,21 @@ class State:
         return f"cells {len(self.cells)}\npoints {len(self.points)}\nleaves {len(self.leaves)}\nunfinished {len(self.splits)}\n"
 
     def listed(self):
-        return "id,x,y\n" + "".join(f"{i},{x},{y}\n" for i, (x, y) in sorted(self.points.items()))
+        return "id,x,y,moment\n" + "".join(f"{i},{x},{y},{moment}\n" for i, (x, y, moment) in sorted(self.points.items()))
 
 
-def read_log(data):
-    """The state of a file's records. A file that is no log is refused by its line."""
+def read_log(data, oldest=VERSION):
+    """The state of a file's records. A file that is no log, or one of a version before the oldest that is read, is refused by its line."""
     if len(data) < 17 or data[:8] != HEADER[:8] or data[10:16] != HEADER[10:]:
         raise Damaged("refused not a log\n")
-    if data[8:10] != HEADER[8:10]:
+    if not oldest <= data[8] <= VERSION or data[9] != WIDTH:
         raise Damaged(f"refused log version {data[8]} width {data[9]}\n")
     state, at = State(), 16
     while data[at] == 1:
         try:
             if len(data) < at + 33:
                 raise Damaged("short")
-            state.add(spelled(data[at + 1:at + 32]))
+            state.add(spelled(data[8], data[at + 1:at + 32]))
         except Damaged as cause:
             raise Damaged(f"refused cell {len(state.cells)} {cause}\n")
         at += 32
@@ -97,14 +100,14 @@ def load(path):
 
 def answered(points, row):
     """The answer of one plain list to a row, which changes it, and the record of that change."""
-    _, op, ident, x, y, a, b = row
+    _, op, ident, x, y, a, b, moment = row
     at = points.get(ident)
-    told = "" if at is None else f"{at[0]}:{at[1]}"
+    told = "" if at is None else f"{at[0]}:{at[1]}:{at[2]}"
     if op == "put":
         if at is not None:
             return f"present,{told}", None
-        points[ident] = (x, y)
-        return "done,", (PUT, ident, x << 32 | y, 0)
+        points[ident] = (x, y, moment)
+        return "done,", (PUT, ident, x << 32 | y, moment)
     if op in ("box", "near"):
         if op == "box":
             found = sorted((i, p) for i, p in points.items() if x <= p[0] <= a and y <= p[1] <= b)
@@ -120,8 +123,10 @@ def answered(points, row):
     if op == "drop":
         del points[ident]
         return f"gone,{told}", (DROP, ident, 0, 0)
-    points[ident] = (x, y)
-    return f"moved,{told}", (MOVE, ident, x << 32 | y, 0)
+    if moment < at[2]:
+        return f"stale,{told}", None
+    points[ident] = (x, y, moment)
+    return f"moved,{told}", (MOVE, ident, x << 32 | y, moment)
 
 
 def judge_changes(before, after, rows, whole):
@@ -174,7 +179,7 @@ def judge_shared(before, after, rows):
     """Says what is wrong with the records of a run whose sessions share ids and put or move to points that no other row has, or nothing."""
     if after.cells[:len(before.cells)] != before.cells:
         return "records that stood are lost"
-    numbers = {(PUT if row[1] == "put" else MOVE, row[2], row[3] << 32 | row[4], 0): number
+    numbers = {(PUT if row[1] == "put" else MOVE, row[2], row[3] << 32 | row[4], row[7]): number
                for number, row in enumerate(rows) if row[1] in ("put", "move")}
     drops, last = collections.Counter(row[2] for row in rows if row[1] == "drop"), {}
     for cell in changes_behind(before, after):
