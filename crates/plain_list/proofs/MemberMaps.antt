@@ -6,26 +6,24 @@ use Rattle.std.specs.BTreeMap.{insert_entry, is_at}
 use Rattle.std.specs.Map.{lookup, remove_entry, set_value}
 use Rattle.std.proofs.lemmas.Bool.Decides.{nat_tests}
 use Rattle.std.proofs.lemmas.Grind.{common_steps}
-use Rattle.zorder.specs.declared.points.Point.{Point}
-use Rattle.zorder.specs.declared.points.Placed.{Placed}
+use Rattle.plain_list.specs.declared.world.Stamped.{Stamped}
 use Rattle.zorder.specs.Key.{IsPoint}
 use Rattle.plain_list.specs.Places.{IsRising, IsAbove}
-use Rattle.plain_list.specs.World.{World, places_of, position_of, IsWorld, most_members}
+use Rattle.plain_list.specs.World.{World, places_of, position_of, IsWorld, most_members, member_of}
 use Rattle.plain_list.specs.Answer.{with_member, with_moved, without}
 use Rattle.plain_list.specs.MemberMap.{world_of}
-use Rattle.plain_list.proofs.RisingPlaces.{place_of-above}
 use Rattle.plain_list.proofs.Worlds.{IsWorld-with_member, IsWorld-with_moved}
 
-pub position_of-world_of : (es : List (ℕ × Point)) (id : ℕ) → position_of (world_of es) id ≡ lookup (is_at (nat_cmp id)) es
+pub position_of-world_of : (es : List (ℕ × Stamped)) (id : ℕ) → position_of (world_of es) id ≡ lookup (is_at (nat_cmp id)) es
 position_of-world_of [] id = refl
 position_of-world_of (e ∷ es) id =
     let rest : position_of (world_of es) id ≡ lookup (is_at (nat_cmp id)) es = position_of-world_of es id in
     grind (arith, nat_tests, common_steps)
 
-pub world_of-insert_entry : (id : ℕ) (at : Point) (es : List (ℕ × Point)) → position_of (world_of es) id ≡ None → world_of (insert_entry nat_cmp es id at) ≡ with_member (record { id = id; at = at }) (world_of es)
-world_of-insert_entry id at [] none = refl
-world_of-insert_entry id at (e ∷ es) none =
-    let rest : position_of (world_of es) id ≡ None → world_of (insert_entry nat_cmp es id at) ≡ with_member (record { id = id; at = at }) (world_of es) = world_of-insert_entry id at es in
+pub world_of-insert_entry : (id : ℕ) (to : Stamped) (es : List (ℕ × Stamped)) → position_of (world_of es) id ≡ None → world_of (insert_entry nat_cmp es id to) ≡ with_member (member_of id to) (world_of es)
+world_of-insert_entry id to [] none = refl
+world_of-insert_entry id to (e ∷ es) none =
+    let rest : position_of (world_of es) id ≡ None → world_of (insert_entry nat_cmp es id to) ≡ with_member (member_of id to) (world_of es) = world_of-insert_entry id to es in
     grind (arith, nat_tests, common_steps)
 
 pub IsAbove-lower : (a b : ℕ) (ms : World) → a ≤ b → IsAbove b (places_of ms) → IsAbove a (places_of ms)
@@ -39,14 +37,14 @@ without-absent id (m ∷ ms) above =
     let lt : id < m.id = above.0 in
     grind (arith, nat_tests, common_steps)
 
-pub with_moved-absent : (id : ℕ) (at : Point) (ms : World) → IsAbove id (places_of ms) → with_moved id at ms ≡ ms
-with_moved-absent id at [] above = refl
-with_moved-absent id at (m ∷ ms) above =
-    let rest : with_moved id at ms ≡ ms = with_moved-absent id at ms above.1 in
+pub with_moved-absent : (id : ℕ) (to : Stamped) (ms : World) → IsAbove id (places_of ms) → with_moved id to ms ≡ ms
+with_moved-absent id to [] above = refl
+with_moved-absent id to (m ∷ ms) above =
+    let rest : with_moved id to ms ≡ ms = with_moved-absent id to ms above.1 in
     let lt : id < m.id = above.0 in
     grind (arith, nat_tests, common_steps)
 
-pub world_of-remove_entry : (id : ℕ) (es : List (ℕ × Point)) → IsRising (places_of (world_of es)) → world_of (remove_entry (is_at (nat_cmp id)) es) ≡ without id (world_of es)
+pub world_of-remove_entry : (id : ℕ) (es : List (ℕ × Stamped)) → IsRising (places_of (world_of es)) → world_of (remove_entry (is_at (nat_cmp id)) es) ≡ without id (world_of es)
 world_of-remove_entry id [] rising = refl
 world_of-remove_entry id (e ∷ es) rising =
     let rest : world_of (remove_entry (is_at (nat_cmp id)) es) ≡ without id (world_of es) = world_of-remove_entry id es rising.1 in
@@ -54,45 +52,49 @@ world_of-remove_entry id (e ∷ es) rising =
     grind (arith, nat_tests, common_steps)
 
 pub position_of-above : (id : ℕ) (ms : World) → IsAbove id (places_of ms) → position_of ms id ≡ None
-position_of-above id ms above = place_of-above id (places_of ms) above
+position_of-above id [] above = refl
+position_of-above id (m ∷ ms) above =
+    let rest : position_of ms id ≡ None = position_of-above id ms above.1 in
+    let lt : id < m.id = above.0 in
+    grind (arith, nat_tests, common_steps)
 
 -- an object that is found is the first one, or stands behind it with a greater id
-pub world_of-insert_entry-there : (id : ℕ) (old at : Point) (es : List (ℕ × Point)) → IsRising (places_of (world_of es)) → position_of (world_of es) id ≡ Some old → world_of (insert_entry nat_cmp es id at) ≡ with_moved id at (world_of es)
-world_of-insert_entry-there id old at [] rising found = cc
-world_of-insert_entry-there id old at (e ∷ es) rising found =
-    let rest : position_of (world_of es) id ≡ Some old → world_of (insert_entry nat_cmp es id at) ≡ with_moved id at (world_of es) = world_of-insert_entry-there id old at es rising.1 in
-    let same : e.0 ≤ id → id ≤ e.0 → with_moved id at (world_of es) ≡ world_of es = λ le ge. with_moved-absent id at (world_of es) (IsAbove-lower id e.0 (world_of es) ge rising.0) in
+pub world_of-insert_entry-there : (id : ℕ) (old to : Stamped) (es : List (ℕ × Stamped)) → IsRising (places_of (world_of es)) → position_of (world_of es) id ≡ Some old → world_of (insert_entry nat_cmp es id to) ≡ with_moved id to (world_of es)
+world_of-insert_entry-there id old to [] rising found = cc
+world_of-insert_entry-there id old to (e ∷ es) rising found =
+    let rest : position_of (world_of es) id ≡ Some old → world_of (insert_entry nat_cmp es id to) ≡ with_moved id to (world_of es) = world_of-insert_entry-there id old to es rising.1 in
+    let same : e.0 ≤ id → id ≤ e.0 → with_moved id to (world_of es) ≡ world_of es = λ le ge. with_moved-absent id to (world_of es) (IsAbove-lower id e.0 (world_of es) ge rising.0) in
     let none : id < e.0 → position_of (world_of es) id ≡ None = λ lt. position_of-above id (world_of es) (IsAbove-lower id e.0 (world_of es) (omega arith) rising.0) in
     grind (arith, nat_tests, common_steps)
 
 -- an object is found, and moves where it stands
-pub world_of-set_value : (id : ℕ) (at : Point) (es : List (ℕ × Point)) → IsRising (places_of (world_of es)) → world_of (set_value (is_at (nat_cmp id)) es at) ≡ with_moved id at (world_of es)
-world_of-set_value id at [] rising = refl
-world_of-set_value id at (e ∷ es) rising =
-    let rest : world_of (set_value (is_at (nat_cmp id)) es at) ≡ with_moved id at (world_of es) = world_of-set_value id at es rising.1 in
-    let same : e.0 ≤ id → id ≤ e.0 → with_moved id at (world_of es) ≡ world_of es = λ le ge. with_moved-absent id at (world_of es) (IsAbove-lower id e.0 (world_of es) ge rising.0) in
+pub world_of-set_value : (id : ℕ) (to : Stamped) (es : List (ℕ × Stamped)) → IsRising (places_of (world_of es)) → world_of (set_value (is_at (nat_cmp id)) es to) ≡ with_moved id to (world_of es)
+world_of-set_value id to [] rising = refl
+world_of-set_value id to (e ∷ es) rising =
+    let rest : world_of (set_value (is_at (nat_cmp id)) es to) ≡ with_moved id to (world_of es) = world_of-set_value id to es rising.1 in
+    let same : e.0 ≤ id → id ≤ e.0 → with_moved id to (world_of es) ≡ world_of es = λ le ge. with_moved-absent id to (world_of es) (IsAbove-lower id e.0 (world_of es) ge rising.0) in
     grind (arith, nat_tests, common_steps)
 
 -- an object that isn't there doesn't move
-pub with_moved-none : (id : ℕ) (at : Point) (ms : World) → position_of ms id ≡ None → with_moved id at ms ≡ ms
-with_moved-none id at [] none = refl
-with_moved-none id at (n ∷ ns) none =
-    let rest : position_of ns id ≡ None → with_moved id at ns ≡ ns = with_moved-none id at ns in
+pub with_moved-none : (id : ℕ) (to : Stamped) (ms : World) → position_of ms id ≡ None → with_moved id to ms ≡ ms
+with_moved-none id to [] none = refl
+with_moved-none id to (n ∷ ns) none =
+    let rest : position_of ns id ≡ None → with_moved id to ns ≡ ns = with_moved-none id to ns in
     grind (arith, nat_tests, common_steps)
 
 -- an insert puts an object there, or moves it
-pub record Inserts (id : ℕ) (at : Point) (there : Option Point) (old new : World) : Type 0 where
+pub record Inserts (id : ℕ) (to : Stamped) (there : Option Stamped) (old new : World) : Type 0 where
   pub world : IsWorld new
-  pub is : MatchOption there (new ≡ with_member (record { id = id; at = at }) old) (λ _. new ≡ with_moved id at old)
+  pub is : MatchOption there (new ≡ with_member (member_of id to) old) (λ _. new ≡ with_moved id to old)
 
-pub inserts : (id : ℕ) (at : Point) (there : Option Point) (es : List (ℕ × Point)) → IsWorld (world_of es) → length (world_of es) < most_members → IsPoint at → position_of (world_of es) id ≡ there
-    → Inserts id at there (world_of es) (world_of (insert_entry nat_cmp es id at))
-inserts id at None es w few fits none =
-    let is = world_of-insert_entry id at es none in
-    record { world = rw is (IsWorld-with_member (record { id = id; at = at }) (world_of es) w none few fits); is = is }
-inserts id at (Some old) es w few fits there =
-    let is = world_of-insert_entry-there id old at es w.rising there in
-    record { world = rw is (IsWorld-with_moved id at (world_of es) w fits); is = is }
+pub inserts : (id : ℕ) (to : Stamped) (there : Option Stamped) (es : List (ℕ × Stamped)) → IsWorld (world_of es) → length (world_of es) < most_members → IsPoint to.at → position_of (world_of es) id ≡ there
+    → Inserts id to there (world_of es) (world_of (insert_entry nat_cmp es id to))
+inserts id to None es w few fits none =
+    let is = world_of-insert_entry id to es none in
+    record { world = rw is (IsWorld-with_member (member_of id to) (world_of es) w none few fits); is = is }
+inserts id to (Some old) es w few fits there =
+    let is = world_of-insert_entry-there id old to es w.rising there in
+    record { world = rw is (IsWorld-with_moved id to (world_of es) w fits); is = is }
 
 -- an insert of an object that wasn't there
 pub inserted_new : {A : Type 0} (there : Option A) (P : Type 0) (Q : A → Type 0) → MatchOption there P Q → there ≡ None → P

@@ -4,10 +4,10 @@ use Rattle.std.specs.Option.{MatchOption, is_none}
 use Rattle.std.proofs.lemmas.Grind.{common_steps, get_or-set_at}
 use Rattle.std.proofs.lemmas.Bool.Decides.{nat_tests, Decides-eqb, not_from_Decides}
 use Rattle.std.proofs.lemmas.List.{length-set, set-get_or, get_or-set_other, get_or_default, length-replicate}
-use Rattle.zorder.specs.declared.points.Point.{Point}
-use Rattle.zorder.specs.declared.points.Placed.{Placed}
+use Rattle.plain_list.specs.declared.world.Stamped.{Stamped}
+use Rattle.plain_list.specs.declared.world.Member.{Member}
 use Rattle.zorder.specs.Key.{IsPoint}
-use Rattle.plain_list.specs.World.{World, position_of, IsWorld, most_members}
+use Rattle.plain_list.specs.World.{World, position_of, IsWorld, most_members, stamped_of, member_of}
 use Rattle.plain_list.specs.Answer.{with_member, with_moved, without}
 use Rattle.plain_list.specs.MemberShards.{most_shards, shard_of, joined, IsShard, AreShards, AreMade}
 use Rattle.plain_list.proofs.Worlds.{length-with_member, length-with_moved, IsRising-with_member, IsRising-with_moved, IsRising-without, IsWorld-with_member, IsWorld-with_moved, IsWorld-without}
@@ -22,24 +22,24 @@ each-set shards here new lt is each index = by_test (index == here) (Decides-eqb
     by_test true tells = subst (IsShard index) (sym (get_or-set_at shards here index new [] (tells.0 refl) lt)) (subst (λ p. IsShard p new) (sym (tells.0 refl)) is)
     by_test false tells = subst (IsShard index) (sym (get_or-set_other shards here index new [] (not_from_Decides false tells refl))) (each index)
 
-position_of-with_moved_none : (id : ℕ) (at : Point) (world : World) (other : ℕ) → position_of world other ≡ None → position_of (with_moved id at world) other ≡ None
-position_of-with_moved_none id at [] other none = refl
-position_of-with_moved_none id at (n ∷ ns) other none =
-    let rest : position_of ns other ≡ None → position_of (with_moved id at ns) other ≡ None = position_of-with_moved_none id at ns other in
+position_of-with_moved_none : (id : ℕ) (to : Stamped) (world : World) (other : ℕ) → position_of world other ≡ None → position_of (with_moved id to world) other ≡ None
+position_of-with_moved_none id to [] other none = refl
+position_of-with_moved_none id to (n ∷ ns) other none =
+    let rest : position_of ns other ≡ None → position_of (with_moved id to ns) other ≡ None = position_of-with_moved_none id to ns other in
     grind (arith, nat_tests, common_steps)
 
-IsShard-with_member : (m : Placed) (ms : World) → position_of ms m.id ≡ None → IsShard (shard_of m.id) ms → IsShard (shard_of m.id) (with_member m ms)
+IsShard-with_member : (m : Member) (ms : World) → position_of ms m.id ≡ None → IsShard (shard_of m.id) ms → IsShard (shard_of m.id) (with_member m ms)
 IsShard-with_member m ms none is = record {
   rising = IsRising-with_member m ms none is.rising;
   others = λ id differ.
       let other : m.id ≢ id = λ same. differ (ap shard_of (sym same)) in
       let absent : position_of ms id ≡ None = is.others id differ in
-      let found : position_of (with_member m ms) id ≡ cond (m.id == id) (Some m.at) (position_of ms id) = position_of-with_member m ms id none in
+      let found : position_of (with_member m ms) id ≡ cond (m.id == id) (Some (stamped_of m)) (position_of ms id) = position_of-with_member m ms id none in
       grind (arith, nat_tests, common_steps);
 }
 
-IsShard-with_moved : (index id : ℕ) (at : Point) (ms : World) → IsShard index ms → IsShard index (with_moved id at ms)
-IsShard-with_moved index id at ms is = record { rising = IsRising-with_moved id at ms is.rising; others = λ other differ. position_of-with_moved_none id at ms other (is.others other differ) }
+IsShard-with_moved : (index id : ℕ) (to : Stamped) (ms : World) → IsShard index ms → IsShard index (with_moved id to ms)
+IsShard-with_moved index id to ms is = record { rising = IsRising-with_moved id to ms is.rising; others = λ other differ. position_of-with_moved_none id to ms other (is.others other differ) }
 
 IsShard-without : (index id : ℕ) (ms : World) → IsShard index ms → IsShard index (without id ms)
 IsShard-without index id ms is = record {
@@ -82,26 +82,26 @@ module _ (shards : List World) (size : ℕ) (all : AreShards shards size) (id : 
     pub shard_same : Becomes shards (shard_of id) (get_or shards (shard_of id) []) (joined shards) size
     shard_same = all-set (get_or shards (shard_of id) []) (joined shards) size (ap joined (set-get_or shards (shard_of id) [])) all.world all.len (all.each (shard_of id))
 
-    module _ (at : Point) (fits : IsPoint at) where
+    module _ (to : Stamped) (fits : IsPoint to.at) where
       pub shard_put : position_of (get_or shards (shard_of id) []) id ≡ None → length (joined shards) < most_members
-          → Becomes shards (shard_of id) (with_member (record { id = id; at = at }) (get_or shards (shard_of id) [])) (with_member (record { id = id; at = at }) (joined shards)) (size + 1)
+          → Becomes shards (shard_of id) (with_member (member_of id to) (get_or shards (shard_of id) [])) (with_member (member_of id to) (joined shards)) (size + 1)
       shard_put none few =
-          let m : Placed = record { id = id; at = at } in
+          let m : Member = member_of id to in
           all-set (with_member m (get_or shards (shard_of id) [])) (with_member m (joined shards)) (size + 1) (joined-with_member m shards (shard_of id) lt (nowhere none))
           (IsWorld-with_member m (joined shards) all.world (sym shard_found ∙ none) few fits)
           (omega (arith, length-with_member m (joined shards), all.len))
           (IsShard-with_member m (get_or shards (shard_of id) []) none (all.each (shard_of id)))
 
-      pub shard_moved : Becomes shards (shard_of id) (with_moved id at (get_or shards (shard_of id) [])) (with_moved id at (joined shards)) size
+      pub shard_moved : Becomes shards (shard_of id) (with_moved id to (get_or shards (shard_of id) [])) (with_moved id to (joined shards)) size
       shard_moved =
-          all-set (with_moved id at (get_or shards (shard_of id) [])) (with_moved id at (joined shards)) size (joined-with_moved id at shards (shard_of id) most)
-          (IsWorld-with_moved id at (joined shards) all.world fits)
-          (omega (arith, length-with_moved id at (joined shards), all.len))
-          (IsShard-with_moved (shard_of id) id at (get_or shards (shard_of id) []) (all.each (shard_of id)))
+          all-set (with_moved id to (get_or shards (shard_of id) [])) (with_moved id to (joined shards)) size (joined-with_moved id to shards (shard_of id) most)
+          (IsWorld-with_moved id to (joined shards) all.world fits)
+          (omega (arith, length-with_moved id to (joined shards), all.len))
+          (IsShard-with_moved (shard_of id) id to (get_or shards (shard_of id) []) (all.each (shard_of id)))
 
-    pub shard_left : (at : Point) → position_of (get_or shards (shard_of id) []) id ≡ Some at → (0 < size) × Becomes shards (shard_of id) (without id (get_or shards (shard_of id) [])) (without id (joined shards)) (size - 1)
-    shard_left at found =
-        let m : Placed = record { id = id; at = at } in
+    pub shard_left : (to : Stamped) → position_of (get_or shards (shard_of id) []) id ≡ Some to → (0 < size) × Becomes shards (shard_of id) (without id (get_or shards (shard_of id) [])) (without id (joined shards)) (size - 1)
+    shard_left to found =
+        let m : Member = member_of id to in
         let rising = (all.each (shard_of id)).rising in
         let left : World = joined (set shards (shard_of id) (without id (get_or shards (shard_of id) []))) in
         let was : length (joined shards) ≡ length (with_member m left) = ap length (joined-with_member_back m shards (shard_of id) lt rising most found) in
@@ -123,9 +123,9 @@ pub record Reads (shards : List World) (id i : ℕ) (shard : World) : Type 0 whe
   pub is : shard ≡ get_or shards i shard
 
 -- one shard takes an object, or moves it
-pub record Inserts (old shards : List World) (i id : ℕ) (at : Point) (new : World) (there : Option Point) (size : ℕ) : Type 0 where
+pub record Inserts (old shards : List World) (i id : ℕ) (to : Stamped) (new : World) (there : Option Stamped) (size : ℕ) : Type 0 where
   pub found : there ≡ position_of (joined old) id
-  pub is : MatchOption there (joined (set shards i new) ≡ with_member (record { id = id; at = at }) (joined old)) (λ _. joined (set shards i new) ≡ with_moved id at (joined old))
+  pub is : MatchOption there (joined (set shards i new) ≡ with_member (member_of id to) (joined old)) (λ _. joined (set shards i new) ≡ with_moved id to (joined old))
   pub all : AreShards (set shards i new) size
 
 module _ {shards : List World} {size : ℕ} {id i : ℕ} {shard : World} (all : AreShards shards size) (reads : Reads shards id i shard) where
@@ -146,14 +146,14 @@ module _ {shards : List World} {size : ℕ} {id i : ℕ} {shard : World} (all : 
   pub same_in : (new : World) → new ≡ shard → Becomes shards i new (joined shards) size
   same_in new is = subst (λ s. Becomes shards i s (joined shards) size) (sym is) (as_read (λ j s. Becomes shards j s (joined shards) size) (shard_same shards size all id lt))
 
-  pub moved_in : (at : Point) (new : World) → IsPoint at → new ≡ with_moved id at shard → Becomes shards i new (with_moved id at (joined shards)) size
-  moved_in at new fits is =
-      subst (λ s. Becomes shards i s (with_moved id at (joined shards)) size) (sym is) (as_read (λ j s. Becomes shards j (with_moved id at s) (with_moved id at (joined shards)) size) (shard_moved shards size all id lt at fits))
+  pub moved_in : (to : Stamped) (new : World) → IsPoint to.at → new ≡ with_moved id to shard → Becomes shards i new (with_moved id to (joined shards)) size
+  moved_in to new fits is =
+      subst (λ s. Becomes shards i s (with_moved id to (joined shards)) size) (sym is) (as_read (λ j s. Becomes shards j (with_moved id to s) (with_moved id to (joined shards)) size) (shard_moved shards size all id lt to fits))
 
-  pub left_in : (at : Point) (new : World) → position_of shard id ≡ Some at → new ≡ without id shard → (0 < size) × Becomes shards i new (without id (joined shards)) (size - 1)
-  left_in at new found is =
+  pub left_in : (to : Stamped) (new : World) → position_of shard id ≡ Some to → new ≡ without id shard → (0 < size) × Becomes shards i new (without id (joined shards)) (size - 1)
+  left_in to new found is =
       subst (λ s. (0 < size) × Becomes shards i s (without id (joined shards)) (size - 1)) (sym is)
-      (as_read (λ j s. position_of s id ≡ Some at → (0 < size) × Becomes shards j (without id s) (without id (joined shards)) (size - 1)) (shard_left shards size all id lt at) found)
+      (as_read (λ j s. position_of s id ≡ Some to → (0 < size) × Becomes shards j (without id s) (without id (joined shards)) (size - 1)) (shard_left shards size all id lt to) found)
 
   pub none_in : (new : World) → position_of shard id ≡ None → new ≡ without id shard → Becomes shards i new (without id (joined shards)) size
   none_in new none is =
@@ -161,12 +161,12 @@ module _ {shards : List World} {size : ℕ} {id i : ℕ} {shard : World} (all : 
       let nowhere : without id (joined shards) ≡ joined shards = without-none id (joined shards) (sym found_in ∙ none) in
       subst (λ w. Becomes shards i new w size) (sym nowhere) (same_in new (is ∙ there))
 
-  pub put_in : (at : Point) (new : World) → IsPoint at → length (joined shards) < most_members → position_of shard id ≡ None → new ≡ with_member (record { id = id; at = at }) shard
-      → Becomes shards i new (with_member (record { id = id; at = at }) (joined shards)) (size + 1)
-  put_in at new fits few none is =
-      let m : Placed = record { id = id; at = at } in
+  pub put_in : (to : Stamped) (new : World) → IsPoint to.at → length (joined shards) < most_members → position_of shard id ≡ None → new ≡ with_member (member_of id to) shard
+      → Becomes shards i new (with_member (member_of id to) (joined shards)) (size + 1)
+  put_in to new fits few none is =
+      let m : Member = member_of id to in
       subst (λ s. Becomes shards i s (with_member m (joined shards)) (size + 1)) (sym is)
-      (as_read (λ j s. position_of s id ≡ None → Becomes shards j (with_member m s) (with_member m (joined shards)) (size + 1)) (λ absent. shard_put shards size all id lt at fits absent few) none)
+      (as_read (λ j s. position_of s id ≡ None → Becomes shards j (with_member m s) (with_member m (joined shards)) (size + 1)) (λ absent. shard_put shards size all id lt to fits absent few) none)
 
 -- shards that were made where there were none stand for the same world
 get_or-replicate_none : (n index : ℕ) → get_or {A = World} (replicate n []) index [] ≡ []
@@ -214,14 +214,14 @@ module _ {old shards : List World} {size : ℕ} {id i : ℕ} {shard : World} (al
   pub same_made : (new : World) → new ≡ shard → Becomes shards i new (joined old) size
   same_made new is = subst (λ w. Becomes shards i new w size) stand.same (same_in stand.all reads new is)
 
-  pub inserts : (at : Point) (new : World) (there : Option Point) (more : ℕ) → IsPoint at → length (joined old) < most_members → there ≡ position_of shard id
-      → MatchOption there (new ≡ with_member (record { id = id; at = at }) shard) (λ _. new ≡ with_moved id at shard) → more ≡ (if is_none there then 1 else 0) → Inserts old shards i id at new there (size + more)
-  inserts at new None more fits few none is one =
-      let m : Placed = record { id = id; at = at } in
-      let into = put_in stand.all reads at new fits (omega (arith, few, ap length stand.same)) (sym none) is in
+  pub inserts : (to : Stamped) (new : World) (there : Option Stamped) (more : ℕ) → IsPoint to.at → length (joined old) < most_members → there ≡ position_of shard id
+      → MatchOption there (new ≡ with_member (member_of id to) shard) (λ _. new ≡ with_moved id to shard) → more ≡ (if is_none there then 1 else 0) → Inserts old shards i id to new there (size + more)
+  inserts to new None more fits few none is one =
+      let m : Member = member_of id to in
+      let into = put_in stand.all reads to new fits (omega (arith, few, ap length stand.same)) (sym none) is in
       let put = subst (λ w. Becomes shards i new (with_member m w) (size + 1)) stand.same into in
       record { found = none ∙ found_made; is = put.now; all = subst (λ n. AreShards (set shards i new) (size + n)) (sym one) put.all }
-  inserts at new (Some p) more fits few found is none =
-      let moved = subst (λ w. Becomes shards i new (with_moved id at w) size) stand.same (moved_in stand.all reads at new fits is) in
+  inserts to new (Some p) more fits few found is none =
+      let moved = subst (λ w. Becomes shards i new (with_moved id to w) size) stand.same (moved_in stand.all reads to new fits is) in
       let same : size ≡ size + more = omega (arith, none) in
       record { found = found ∙ found_made; is = moved.now; all = subst (AreShards (set shards i new)) same moved.all }

@@ -1,6 +1,5 @@
 -- Calls with the answers that they got.
 use Rattle.std.specs.Prelude.{◌≡◌, List, map}
-use Rattle.zorder.specs.declared.points.Placed.{Placed}
 use Rattle.plain_list.specs.declared.ops.Call.{Call}
 use Rattle.plain_list.specs.declared.entries.Entry.{Entry}
 use Rattle.plain_list.specs.declared.entries.Entry.TheVariants as entry

@@ -1,18 +1,18 @@
--- A map from ids to points, seen as a world.
+-- A map from ids to positions, seen as a world.
 use Rattle.std.specs.Prelude.{◌≡◌, ℕ, List, Option, MatchOption, map}
-use Rattle.zorder.specs.declared.points.Point.{Point}
-use Rattle.zorder.specs.declared.points.Placed.{Placed}
-use Rattle.plain_list.specs.World.{World, position_of}
+use Rattle.plain_list.specs.declared.world.Member.{Member}
+use Rattle.plain_list.specs.declared.world.Stamped.{Stamped}
+use Rattle.plain_list.specs.World.{World, member_of, position_of}
 use Rattle.plain_list.specs.Answer.{with_member, with_moved}
 
 -- an entry as an object
-abbrev pub placed_of : ℕ × Point → Placed
-placed_of e = record { id = e.0; at = e.1 }
+abbrev pub entry_member : ℕ × Stamped → Member
+entry_member e = member_of e.0 e.1
 
-abbrev pub world_of : List (ℕ × Point) → World
-world_of entries = map placed_of entries
+abbrev pub world_of : List (ℕ × Stamped) → World
+world_of entries = map entry_member entries
 
--- an object was put at a point, in place of the one of its id: where that was, and the world then
-pub record IsPut (id : ℕ) (at : Point) (there : Option Point) (old new : World) : Type 0 where
+-- an object was put at a position, in place of the one of its id: what was kept of that, and the world then
+pub record IsPut (id : ℕ) (to : Stamped) (there : Option Stamped) (old new : World) : Type 0 where
   pub found : there ≡ position_of old id
-  pub is : MatchOption there (new ≡ with_member (record { id = id; at = at }) old) (λ _. new ≡ with_moved id at old)
+  pub is : MatchOption there (new ≡ with_member (member_of id to) old) (λ _. new ≡ with_moved id to old)

@@ -1,6 +1,5 @@
 -- A world whose objects are dealt over shards by their ids.
 use Rattle.std.specs.Prelude.{◌≡◌, ◌≢◌, ℕ, ◌*◌, ◌/◌, ◌%◌, ◌^◌, ◌<◌, List, [], ◌∷◌, length, replicate, slice_index_or, None}
-use Rattle.zorder.specs.declared.points.Placed.{Placed}
 use Rattle.plain_list.specs.Places.{IsRising}
 use Rattle.plain_list.specs.World.{World, places_of, position_of, IsWorld}
 use Rattle.plain_list.specs.Answer.{with_member}

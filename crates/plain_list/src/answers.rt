@@ -1,12 +1,12 @@
 //! The answer of a world.
 ghost use Rattle.std.specs.Prelude.{◌≡◌, IfOk};
-ghost use Rattle.plain_list.specs.Answer.{answer_of};
+ghost use Rattle.plain_list.specs.Answer.{answer_of, moved_or_stale};
 
 use crate::boxes::within;
 use crate::nearest::near;
 use crate::ops::{Answer, Op};
 use crate::searches::find_id;
-use crate::world::{MOST_MEMBERS, World};
+use crate::world::{MOST_MEMBERS, Stamped, World};
 use std::alloc::Global;
 use zorder::Memory;
 
@@ -15,8 +15,8 @@ pub fn answer(alloc: Global, world: &World, op: &Op) -> Result<Answer, Memory>
     ensures { IfOk result (λ a. a ≡ answer_of world.now op.now) }
 {
     match *op {
-        Op::Put { id, at: _ } => Ok(match find_id(world, id) {
-            Some(at) => Answer::Present(at),
+        Op::Put { id, .. } => Ok(match find_id(world, id) {
+            Some(kept) => Answer::Present(kept),
             None => {
                 if world.as_slice().len() >= MOST_MEMBERS {
                     Answer::Full
@@ -25,19 +25,30 @@ pub fn answer(alloc: Global, world: &World, op: &Op) -> Result<Answer, Memory>
                 }
             }
         }),
-        Op::Move { id, at: _ } => Ok(match find_id(world, id) {
-            Some(at) => Answer::Moved(at),
+        Op::Move { id, moment, .. } => Ok(match find_id(world, id) {
+            Some(kept) => moved_or_stale(moment, kept),
             None => Answer::Absent,
         }),
         Op::Remove { id } => Ok(match find_id(world, id) {
-            Some(at) => Answer::Gone(at),
+            Some(kept) => Answer::Gone(kept),
             None => Answer::Absent,
         }),
         Op::Find { id } => Ok(match find_id(world, id) {
-            Some(at) => Answer::At(at),
+            Some(kept) => Answer::At(kept),
             None => Answer::Absent,
         }),
         Op::Within { region } => within(alloc, world, &region),
         Op::Near { at, k } => near(alloc, world, at, k),
+    }
+}
+
+// What a move of this moment answers, where this is kept.
+fn moved_or_stale(moment: u64, kept: Stamped) -> Answer
+    ensures { result ≡ moved_or_stale moment kept }
+{
+    if moment < kept.moment {
+        Answer::Stale(kept)
+    } else {
+        Answer::Moved(kept)
     }
 }

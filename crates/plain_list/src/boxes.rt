@@ -6,7 +6,7 @@ ghost use Rattle.plain_list.specs.World.{places_of};
 
 use crate::lists::PlacedList;
 use crate::ops::Answer;
-use crate::world::World;
+use crate::world::{Member, World};
 use std::alloc::{AllocError, Global};
 use zorder::{Memory, Placed, Region};
 
@@ -32,12 +32,12 @@ pub(crate) fn within(alloc: Global, world: &World, region: &Region) -> Result<An
     }
 }
 
-fn collect_in(alloc: Global, members: &[Placed], region: &Region) -> Result<Vec<Placed>, AllocError>
-    ensures { IfOk result (λ v. v.items ≡ members_in region.now members.now) }
+fn collect_in(alloc: Global, members: &[Member], region: &Region) -> Result<Vec<Placed>, AllocError>
+    ensures { IfOk result (λ v. v.items ≡ members_in region.now (places_of members.now)) }
 {
     members
         .iter()
-        .copied()
+        .map(|m| m.placed())
         .filter(|m| region.has(m.at))
         .collect(alloc)
 }

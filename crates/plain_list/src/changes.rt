@@ -5,20 +5,20 @@ ghost use Rattle.plain_list.specs.Answer.{after_of};
 
 use crate::ops::Op;
 use crate::searches::index_for;
-use crate::world::MOST_MEMBERS;
+use crate::world::{MOST_MEMBERS, Member};
 use std::alloc::AllocError;
-use zorder::{Placed, coordinates_fit};
+use zorder::coordinates_fit;
 
-pub(crate) fn change(members: &mut Vec<Placed>, op: &Op) -> Result<(), AllocError>
+pub(crate) fn change(members: &mut Vec<Member>, op: &Op) -> Result<(), AllocError>
     requires { IsWorld members.old.items }
     ensures ok { OnOk result (members.new.items ≡ after_of members.old.items op.now) }
     ensures err { OnErr result (members.new.items ≡ members.old.items) }
     ensures world { IsWorld members.new.items }
 {
     match *op {
-        Op::Put { id, at } => put(members, Placed { id, at }),
-        Op::Move { id, at } => {
-            move_to(members, Placed { id, at });
+        Op::Put { id, at, moment } => put(members, Member { id, at, moment }),
+        Op::Move { id, at, moment } => {
+            move_to(members, Member { id, at, moment });
             Ok(())
         }
         Op::Remove { id } => {
@@ -31,9 +31,9 @@ pub(crate) fn change(members: &mut Vec<Placed>, op: &Op) -> Result<(), AllocErro
     }
 }
 
-fn put(members: &mut Vec<Placed>, member: Placed) -> Result<(), AllocError>
+fn put(members: &mut Vec<Member>, member: Member) -> Result<(), AllocError>
     requires { IsWorld members.old.items }
-    ensures ok { OnOk result (members.new.items ≡ after_of members.old.items (Op.Put member.id member.at)) }
+    ensures ok { OnOk result (members.new.items ≡ after_of members.old.items (Op.Put member.id member.at member.moment)) }
     ensures err { OnErr result (members.new.items ≡ members.old.items) }
     ensures world { IsWorld members.new.items }
 {
@@ -49,18 +49,20 @@ fn put(members: &mut Vec<Placed>, member: Placed) -> Result<(), AllocError>
     }
 }
 
-fn move_to(members: &mut Vec<Placed>, member: Placed)
+fn move_to(members: &mut Vec<Member>, member: Member)
     requires { IsWorld members.old.items }
-    ensures after { members.new.items ≡ after_of members.old.items (Op.Move member.id member.at) }
+    ensures after { members.new.items ≡ after_of members.old.items (Op.Move member.id member.at member.moment) }
     ensures world { IsWorld members.new.items }
 {
     if let Ok(index) = index_for(members, member.id) {
-        coordinates_fit(member.at);
-        members[index] = member;
+        if members[index].moment <= member.moment {
+            coordinates_fit(member.at);
+            members[index] = member;
+        }
     }
 }
 
-fn remove(members: &mut Vec<Placed>, id: u64)
+fn remove(members: &mut Vec<Member>, id: u64)
     requires { IsWorld members.old.items }
     ensures after { members.new.items ≡ after_of members.old.items (Op.Remove id) }
     ensures world { IsWorld members.new.items }

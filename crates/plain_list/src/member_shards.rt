@@ -1,23 +1,22 @@
 //! A world as many small maps, for whoever looks up an object with each call.
 ghost use Rattle.std.specs.Prelude.{◌≡◌, ◌≤◌, ◌<◌, ◌+◌, [], length, None, OnOk, OnErr, IfOk, replicate};
-ghost use Rattle.zorder.specs.declared.points.Point.{Point};
 ghost use Rattle.plain_list.specs.World.{most_members, IsWorld, position_of};
 ghost use Rattle.plain_list.specs.Answer.{with_moved, without};
 ghost use Rattle.plain_list.specs.MemberMap.{IsPut};
 ghost use Rattle.plain_list.specs.MemberShards.{most_shards, shard_of, AreMade};
 
 use crate::member_map::MemberMap;
-use crate::world::World;
+use crate::world::{Member, Stamped, World};
 use std::alloc::{AllocError, Global};
 use std::marker::Model;
-use zorder::{Placed, Point, coordinates_fit};
+use zorder::coordinates_fit;
 
 const SHARDS: usize = 2_048;
 
 // The golden ratio's bits behind the point: ids that are dense, or so in each session, are spread over all shards.
 const MIXER: u64 = 0x9E37_79B9_7F4A_7C15;
 
-/// Where each object is, by its id: a world dealt over shards, so that a look-up mostly reads one node of a small map.
+/// The position of each object, by its id: a world dealt over shards, so that a look-up mostly reads one node of a small map.
 /// Whatever ids are chosen, a shard is an ordered map, and a look-up takes logarithmic time.
 #[derive(Drop)]
 pub struct MemberShards {
@@ -64,7 +63,7 @@ impl MemberShards {
         self.len
     }
 
-    pub fn position(&self, id: u64) -> Option<Point>
+    pub fn position(&self, id: u64) -> Option<Stamped>
         ensures { result ≡ position_of self.now id }
     {
         if self.shards.is_empty() {
@@ -73,36 +72,36 @@ impl MemberShards {
         self.shards[shard_of(id)].position(id)
     }
 
-    /// Puts an object at a point, in place of the one of its id, and says where that was.
-    pub fn insert(&mut self, id: u64, at: Point) -> Result<Option<Point>, AllocError>
+    /// Puts an object at a position, in place of the one of its id, and says what was kept of that.
+    pub fn insert(&mut self, id: u64, to: Stamped) -> Result<Option<Stamped>, AllocError>
         requires room { length self.old < most_members }
-        ensures ok { IfOk result (λ there. IsPut id at there self.old self.new) }
+        ensures ok { IfOk result (λ there. IsPut id to there self.old self.new) }
         ensures err { OnErr result (self.new ≡ self.old) }
         ensures absent { OnErr result (position_of self.old id ≡ None) }
         ensures world { IsWorld self.new }
     {
-        coordinates_fit(at);
+        coordinates_fit(to.at);
         make_shards(self.alloc, &mut self.shards)?;
-        let there = self.shards[shard_of(id)].insert(id, at)?;
+        let there = self.shards[shard_of(id)].insert(id, to)?;
         self.len += usize::from(there.is_none());
         Ok(there)
     }
 
-    /// Moves an object, if it is there, and says where it was. It takes no memory.
-    pub fn replace(&mut self, id: u64, at: Point) -> Option<Point>
+    /// Moves an object, if it is there, whatever its moment is, and says what was kept. It takes no memory.
+    pub fn replace(&mut self, id: u64, to: Stamped) -> Option<Stamped>
         ensures found { result ≡ position_of self.old id }
-        ensures moved { self.new ≡ with_moved id at self.old }
+        ensures moved { self.new ≡ with_moved id to self.old }
         ensures world { IsWorld self.new }
     {
-        coordinates_fit(at);
+        coordinates_fit(to.at);
         if self.shards.is_empty() {
             return None;
         }
-        self.shards[shard_of(id)].replace(id, at)
+        self.shards[shard_of(id)].replace(id, to)
     }
 
-    /// Takes an object out, if it is there, and says where it was.
-    pub fn remove(&mut self, id: u64) -> Option<Point>
+    /// Takes an object out, if it is there, and says what was kept of it.
+    pub fn remove(&mut self, id: u64) -> Option<Stamped>
         ensures found { result ≡ position_of self.old id }
         ensures gone { self.new ≡ without id self.old }
     {
@@ -146,13 +145,13 @@ fn empty_shards(alloc: Global) -> Result<Vec<MemberMap>, AllocError>
 }
 
 // The objects of a world, one after the other.
-fn shards_of(alloc: Global, world: &[Placed]) -> Result<MemberShards, AllocError>
+fn shards_of(alloc: Global, world: &[Member]) -> Result<MemberShards, AllocError>
     requires { IsWorld world.now }
     ensures { IfOk result (λ shards. shards ≡ world.now) }
 {
     let mut shards = MemberShards::new(alloc);
     for member in world {
-        shards.insert(member.id, member.at)?;
+        shards.insert(member.id, member.stamped())?;
     }
     Ok(shards)
 }

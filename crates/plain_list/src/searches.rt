@@ -4,22 +4,21 @@ ghost use Rattle.plain_list.specs.Places.{IsRising};
 ghost use Rattle.plain_list.specs.World.{places_of, position_of};
 ghost use Rattle.plain_list.specs.Answer.{IsIndexFor};
 
-use crate::world::World;
-use zorder::{Placed, Point};
+use crate::world::{Member, Stamped, World};
 
-/// Where the object with this id is.
-pub fn find_id(world: &World, id: u64) -> Option<Point>
+/// What is kept of the object with this id.
+pub fn find_id(world: &World, id: u64) -> Option<Stamped>
     ensures { result ≡ position_of world.now id }
 {
     let members = world.as_slice();
     match index_for(members, id) {
-        Ok(index) => Some(members[index].at),
+        Ok(index) => Some(members[index].stamped()),
         Err(_) => None,
     }
 }
 
 /// The index of the object with this id, or else the index where it belongs.
-pub(crate) fn index_for(members: &[Placed], id: u64) -> Result<usize, usize>
+pub(crate) fn index_for(members: &[Member], id: u64) -> Result<usize, usize>
     requires { IsRising (places_of members.now) }
     ensures { IsIndexFor id members.now result }
 {

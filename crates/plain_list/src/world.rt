@@ -1,4 +1,4 @@
-//! The world: every object that there is, by id.
+//! The world: every object that there is, by id, with its position and the moment of that.
 ghost use Rattle.std.specs.Prelude.{◌≡◌, [], IfOk, IfErr};
 ghost use Rattle.plain_list.specs.Answer.{after_of};
 
@@ -6,15 +6,55 @@ use crate::changes::change;
 use crate::ops::Op;
 use std::alloc::{AllocError, Global};
 use std::marker::Model;
-use zorder::Placed;
+use zorder::{Placed, Point};
 
 /// How many objects a world may have.
 pub const MOST_MEMBERS: usize = 1_048_576;
 
+/// A position with its moment, a number of the caller's that later positions of the object don't go below. It has nothing
+/// to do with a clock of ours.
+#[derive(Clone, Copy, Debug, PartialEq, Eq)]
+pub struct Stamped {
+    pub at: Point,
+    pub moment: u64,
+}
+
+/// An object with its position, and the moment of that.
+#[derive(Clone, Copy, Debug, PartialEq, Eq)]
+pub struct Member {
+    pub id: u64,
+    pub at: Point,
+    pub moment: u64,
+}
+
+impl Member {
+    ghost use Rattle.plain_list.specs.World.{stamped_of, placed_of};
+
+    /// What is kept of it beside its id.
+    pub fn stamped(&self) -> Stamped
+        ensures { result ≡ stamped_of self.now }
+    {
+        Stamped {
+            at: self.at,
+            moment: self.moment,
+        }
+    }
+
+    /// Where it is: all that an index and a query see of it.
+    pub fn placed(&self) -> Placed
+        ensures { result ≡ placed_of self.now }
+    {
+        Placed {
+            id: self.id,
+            at: self.at,
+        }
+    }
+}
+
 /// The objects that there are, in the order of their ids.
 #[derive(Drop)]
 pub struct World {
-    members: Vec<Placed>,
+    members: Vec<Member>,
 }
 
 impl Model for World {
@@ -46,14 +86,14 @@ impl World {
         }
     }
 
-    pub(crate) fn from_vec(members: Vec<Placed>) -> World
+    pub(crate) fn from_vec(members: Vec<Member>) -> World
         requires { IsWorld members.items }
         ensures { result ≡ members.items }
     {
         World { members }
     }
 
-    pub fn as_slice(&self) -> &[Placed]
+    pub fn as_slice(&self) -> &[Member]
         ensures members { result.now ≡ self.now }
         ensures world { IsWorld self.now }
     {

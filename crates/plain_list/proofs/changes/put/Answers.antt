@@ -1,7 +1,7 @@
-use Rattle.std.proofs.Common.{◌≡◌, ◌<◌, ◌∙◌, List, length, None, get_or, ap, sym, subst, arith, rules}
+use Rattle.std.proofs.Common.{◌≡◌, ◌<◌, ◌∙◌, length, None, get_or, ap, sym, subst, arith, rules}
 use Rattle.std.specs.List.{insert}
-use Rattle.zorder.specs.declared.points.Placed.{Placed}
-use Rattle.plain_list.specs.World.{World, position_of, IsWorld}
+use Rattle.plain_list.specs.declared.world.Member.{Member}
+use Rattle.plain_list.specs.World.{World, position_of, IsWorld, stamped_of}
 use Rattle.plain_list.specs.Answer.{index_for}
 use Rattle.plain_list.proofs.Members.{insert-index_for, index_for-le}
 use Rattle.plain_list.proofs.IdSearches.{position_of-at, after_put-present, after_put-new}
@@ -16,9 +16,9 @@ insert-requires c =
 pub returns-in-Ok-clause-ok : goal.returns-in-Ok-clause-ok
 returns-in-Ok-clause-ok c =
     let ms = c.args.members.now.items in
-    let there = subst (λ (l : World). (c.in-Ok.field-0 < length l) × ((d : Placed) → (get_or l c.in-Ok.field-0 d).id ≡ c.args.member.id)) c.deref.ensures.value c.in-Ok.ensures in
+    let there = subst (λ (l : World). (c.in-Ok.field-0 < length l) × ((d : Member) → (get_or l c.in-Ok.field-0 d).id ≡ c.args.member.id)) c.deref.ensures.value c.in-Ok.ensures in
     let m = c.args.member in
-    sym (after_put-present m ms (get_or ms c.in-Ok.field-0 m).at (position_of-at ms c.in-Ok.field-0 m.id m c.requires.rising there.0 (there.1 m)))
+    sym (after_put-present m ms (stamped_of (get_or ms c.in-Ok.field-0 m)) (position_of-at ms c.in-Ok.field-0 m.id m c.requires.rising there.0 (there.1 m)))
 
 pub returns-in_ok-insert-in-Err : goal.returns-in_ok-insert-in-Err
 returns-in_ok-insert-in-Err c =

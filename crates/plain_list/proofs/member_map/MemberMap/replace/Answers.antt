@@ -9,27 +9,27 @@ use Rattle.plain_list.proofs.Worlds.{IsWorld-with_moved}
 
 pub returns-in_err-position-clause-found : goal.returns-in_err-position-clause-found
 returns-in_err-position-clause-found c =
-    c.from_residual.ensures ∙ c.in_err-position.ensures.value ∙ sym (rw (← c.self.view_is) (position_of-world_of c.self.inside.points.entries c.args.id))
+    c.from_residual.ensures ∙ c.in_err-position.ensures.value ∙ sym (rw (← c.self.view_is) (position_of-world_of c.self.inside.positions.entries c.args.id))
 
 pub returns-in_err-position-clause-moved : goal.returns-in_err-position-clause-moved
 returns-in_err-position-clause-moved c =
-    let es = c.self.inside.points.entries in
+    let es = c.self.inside.positions.entries in
     let none : position_of (world_of es) c.args.id ≡ None = position_of-world_of es c.args.id ∙ sym c.in_err-position.ensures.value in
-    rw (← c.self.view_is) (ap (λ (m : BTreeMap _ _). world_of m.entries) c.get_mut.follows.holds-at-none ∙ sym (with_moved-none c.args.id c.args.at (world_of es) none))
+    rw (← c.self.view_is) (ap (λ (m : BTreeMap _ _). world_of m.entries) c.get_mut.follows.holds-at-none ∙ sym (with_moved-none c.args.id c.args.to (world_of es) none))
 
 pub invariant_of-self-2 : goal.invariant_of-self-2
 invariant_of-self-2 c =
-    let es = c.self.inside.points.entries in
+    let es = c.self.inside.positions.entries in
     let moves = ap world_of (c.get_mut.follows.holds c.replace.new.dest).0 ∙ world_of-set_value c.args.id c.replace.new.dest es c.self.invariant.rising ∙ ap (λ at. with_moved c.args.id at (world_of es)) c.replace.ensures.after in
-    rw moves (IsWorld-with_moved c.args.id c.args.at (world_of es) c.self.invariant c.coordinates_fit.ensures)
+    rw moves (IsWorld-with_moved c.args.id c.args.to (world_of es) c.self.invariant c.coordinates_fit.ensures)
 
 pub returns-clause-found : goal.returns-clause-found
 returns-clause-found c =
-    ap Some c.replace.ensures.value ∙ c.in_ok-position.ensures.value ∙ sym (rw (← c.self.view_is) (position_of-world_of c.self.inside.points.entries c.args.id))
+    ap Some c.replace.ensures.value ∙ c.in_ok-position.ensures.value ∙ sym (rw (← c.self.view_is) (position_of-world_of c.self.inside.positions.entries c.args.id))
 
 pub returns-clause-moved : goal.returns-clause-moved
 returns-clause-moved c =
-    let es = c.self.inside.points.entries in
+    let es = c.self.inside.positions.entries in
     let moves = ap world_of (c.get_mut.follows.holds c.replace.new.dest).0 ∙ world_of-set_value c.args.id c.replace.new.dest es c.self.invariant.rising ∙ ap (λ at. with_moved c.args.id at (world_of es)) c.replace.ensures.after in
     rw (← c.self.view_is) moves
 

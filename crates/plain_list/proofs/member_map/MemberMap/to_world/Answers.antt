@@ -1,8 +1,8 @@
 use Rattle.std.proofs.Common.{ℕ, List, [], ◌∷◌, ◌++◌, ◌∙◌, append_assoc, sym, ap}
 use Rattle.std.proofs.lemmas.List.{append-nil}
-use Rattle.zorder.specs.declared.points.Placed.{Placed}
-use Rattle.zorder.specs.declared.points.Point.{Point}
-use Rattle.plain_list.specs.World.{World}
+use Rattle.plain_list.specs.declared.world.Member.{Member}
+use Rattle.plain_list.specs.declared.world.Stamped.{Stamped}
+use Rattle.plain_list.specs.World.{World, member_of}
 use Rattle.plain_list.specs.MemberMap.{world_of}
 use Rattle.plain_list.proofs.member_map.MemberMap.to_world.Goals as goal
 
@@ -10,10 +10,10 @@ pub loop-id-preserved : goal.loop-id-preserved
 loop-id-preserved c =
     let members = c.loop-id.members.items in
     let left = world_of c.next.new.self in
-    let member : Placed = record { id = c.in-Some.id.now; at = c.in-Some.at.now } in
+    let member : Member = member_of c.in-Some.id.now c.in-Some.kept.now in
     ap (λ (all : World). all ++ left) c.in_ok-push.ensures.items
     ∙ append_assoc members (member ∷ []) left
-    ∙ ap (λ (entries : List (ℕ × Point)). members ++ world_of entries) (sym c.in-Some.ensures.steps)
+    ∙ ap (λ (entries : List (ℕ × Stamped)). members ++ world_of entries) (sym c.in-Some.ensures.steps)
     ∙ c.loop-id.invariant
 
 pub returns : goal.returns
@@ -21,5 +21,5 @@ returns c =
     let members = c.loop-id.members.items in
     c.from_vec.ensures
     ∙ sym (append-nil members)
-    ∙ ap (λ (entries : List (ℕ × Point)). members ++ world_of entries) (sym c.in-None.ensures.steps.0)
+    ∙ ap (λ (entries : List (ℕ × Stamped)). members ++ world_of entries) (sym c.in-None.ensures.steps.0)
     ∙ c.loop-id.invariant

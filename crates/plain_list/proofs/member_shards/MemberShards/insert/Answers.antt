@@ -34,12 +34,12 @@ invariant_of-self-2 c =
     let reads : Reads c.make_shards.new.shards.items c.args.id c.shard_of.result c.index_mut.result.now = record { index = c.shard_of.ensures.index; lt = below_made c.shard_of.result c.self.invariant c.in_ok-make_shards.ensures.ok c.shard_of.ensures.within; is = c.index_mut.ensures.value } in
     let one : c.from.result ≡ (if is_none c.in_ok-there.there then 1 else 0) = search rules in
     let few = rw (← c.self.view_is) at c.requires.room in
-    (inserts c.self.invariant c.in_ok-make_shards.ensures.ok reads c.args.at c.insert.new.self c.in_ok-there.there c.from.result c.coordinates_fit.ensures few c.in_ok-there.ensures.ok.found c.in_ok-there.ensures.ok.is one).all
+    (inserts c.self.invariant c.in_ok-make_shards.ensures.ok reads c.args.to c.insert.new.self c.in_ok-there.there c.from.result c.coordinates_fit.ensures few c.in_ok-there.ensures.ok.found c.in_ok-there.ensures.ok.is one).all
 
 pub returns : goal.returns
 returns c =
     let reads : Reads c.make_shards.new.shards.items c.args.id c.shard_of.result c.index_mut.result.now = record { index = c.shard_of.ensures.index; lt = below_made c.shard_of.result c.self.invariant c.in_ok-make_shards.ensures.ok c.shard_of.ensures.within; is = c.index_mut.ensures.value } in
     let one : c.from.result ≡ (if is_none c.in_ok-there.there then 1 else 0) = search rules in
     let few = rw (← c.self.view_is) at c.requires.room in
-    let is = inserts c.self.invariant c.in_ok-make_shards.ensures.ok reads c.args.at c.insert.new.self c.in_ok-there.there c.from.result c.coordinates_fit.ensures few c.in_ok-there.ensures.ok.found c.in_ok-there.ensures.ok.is one in
+    let is = inserts c.self.invariant c.in_ok-make_shards.ensures.ok reads c.args.to c.insert.new.self c.in_ok-there.there c.from.result c.coordinates_fit.ensures few c.in_ok-there.ensures.ok.found c.in_ok-there.ensures.ok.is one in
     record { ok = record { found = rw (← c.self.view_is) is.found; is = rw (← c.self.view_is) is.is }; err = tt; absent = tt; world = is.all.world }
