@@ -1,11 +1,12 @@
 //! What a value behind the lock began from.
+use plain_list::Member;
 use std::collections::LinkedList;
-use zorder::{Name, Placed};
+use zorder::Name;
 
 /// No value of it is made: contracts alone speak of it, so that whoever closes a lock knows that the value is still of
 /// the beginning that it had when it was put in.
 pub struct Origin {
-    pub world: LinkedList<Placed>,
+    pub world: LinkedList<Member>,
     pub leaves: LinkedList<Name>,
     /// How many splits had been begun.
     pub begun: u64,
