@@ -1,6 +1,5 @@
 -- A history has no more cells than entries.
 use Rattle.std.proofs.Common.{◌≤◌, Bool, true, false, cond, List, [], ◌∷◌, length, arith, length-append}
-use Rattle.zorder.specs.declared.points.Placed.{Placed}
 use Rattle.plain_list.specs.declared.ops.Op.{Op}
 use Rattle.plain_list.specs.declared.ops.Op.TheVariants as op
 use Rattle.plain_list.specs.declared.entries.Entry.{Entry}
@@ -10,8 +9,8 @@ use Rattle.plain_list.specs.Answer.{answer_of, after_of, is_change}
 use Rattle.log_state.specs.Changes.{change_cells, cells_of}
 
 change-few : (o : Op) → length (change_cells o) ≤ 1
-change-few (op.Put id at) = omega arith
-change-few (op.Move id at) = omega arith
+change-few (op.Put id at moment) = omega arith
+change-few (op.Move id at moment) = omega arith
 change-few (op.Remove id) = omega arith
 change-few (op.Find id) = omega arith
 change-few (op.Within region) = omega arith

@@ -8,7 +8,6 @@ use Rattle.std.specs.Cmp.Derive.{both_true}
 use Rattle.std.proofs.lemmas.Bool.{cases_Bool, eqb-true, lt-ltb, ltb-true}
 use Rattle.std.proofs.lemmas.Option.{none-some, same_Some}
 use Rattle.std.proofs.lemmas.List.Elements.{filter-append}
-use Rattle.zorder.specs.declared.points.Placed.{Placed}
 use Rattle.zorder.specs.SameName.{same_name}
 use Rattle.cell_format.specs.declared.cell.Cell.{Cell}
 use Rattle.cell_format.specs.declared.cell.Cell.TheVariants as cell
@@ -128,8 +127,8 @@ asking w b s c last op rest same f on false = on c (keeps b s c (after_of s.worl
 
 called : (w b : ℕ) (s c last : State) (op : Op) (rest : List Cell) → Follows b s c → ((d : State) → Follows b (step w s (entry.Call 0 0 op)) d → Goes w b last d rest)
     → Goes w b last c (cond (is_change (answer_of s.world op)) (change_cells op) [] ++ rest)
-called w b s c last (op.Put id at) rest f on = changing w b s c last (op.Put id at) (cell.Put id at) rest refl refl f on (is_change (answer_of s.world (op.Put id at))) refl
-called w b s c last (op.Move id at) rest f on = changing w b s c last (op.Move id at) (cell.Move id at) rest refl refl f on (is_change (answer_of s.world (op.Move id at))) refl
+called w b s c last (op.Put id at moment) rest f on = changing w b s c last (op.Put id at moment) (cell.Put id at moment) rest refl refl f on (is_change (answer_of s.world (op.Put id at moment))) refl
+called w b s c last (op.Move id at moment) rest f on = changing w b s c last (op.Move id at moment) (cell.Move id at moment) rest refl refl f on (is_change (answer_of s.world (op.Move id at moment))) refl
 called w b s c last (op.Remove id) rest f on = changing w b s c last (op.Remove id) (cell.Remove id) rest refl refl f on (is_change (answer_of s.world (op.Remove id))) refl
 called w b s c last (op.Find id) rest f on = asking w b s c last (op.Find id) rest refl f on (is_change (answer_of s.world (op.Find id)))
 called w b s c last (op.Within region) rest f on = asking w b s c last (op.Within region) rest refl f on (is_change (answer_of s.world (op.Within region)))

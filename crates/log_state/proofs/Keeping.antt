@@ -1,13 +1,13 @@
 -- How a log goes on keeping a history while entries are added.
 use Rattle.std.proofs.Common.{◌≡◌, inl, inr, ⊎_elim, ℕ, zero, suc, ◌≤◌, List, [], ◌∷◌, ◌++◌, take, Option, Some, None, refl, sym, ◌∙◌, ap, subst, append_assoc}
 use Rattle.std.proofs.lemmas.List.{append-nil}
-use Rattle.zorder.specs.declared.points.Placed.{Placed}
 use Rattle.cell_format.specs.declared.cell.Cell.{Cell}
 use Rattle.plain_list.specs.declared.entries.Entry.{Entry}
 use Rattle.plain_list.specs.World.{World}
 use Rattle.plain_list.specs.State.{empty_state}
 use Rattle.disk_trait.specs.Drive.{Drive}
 use Rattle.disk_trait.specs.Moments.{LeavesOnly, LeavesNow, LeavesSince}
+use Rattle.cell_format.specs.Spelling.{newest}
 use Rattle.split_log.specs.LogText.{IsLog, HoldsCells, HoldsEither}
 use Rattle.log_state.specs.Recovers.{Recovers, IsLegalCells, is_legal_cells}
 use Rattle.log_state.specs.Changes.{cells_of, failed_cells, IsPrefixRecovered}
@@ -43,8 +43,8 @@ module _ (w : ℕ) (first : List Cell) (world : World) (h : List Entry) (e : Ent
 
   -- what holds the cells, or one more, recovers to them
   pub recovers : (c : List ℕ) → HoldsEither w (first ++ cells_of world h) cell c → RecoversEither w (first ++ cells_of world h) cell c
-  recovers c (inl holds) = inl (record { holds = holds; legal = legal_before })
-  recovers c (inr holds) = inr (record { holds = holds; legal = ap (is_legal_cells w empty_state) (append_assoc first (cells_of world h) (cell ∷ [])) ∙ legal })
+  recovers c (inl holds) = inl (record { version = newest; known = inr refl; holds = holds; legal = legal_before })
+  recovers c (inr holds) = inr (record { version = newest; known = inr refl; holds = holds; legal = ap (is_legal_cells w empty_state) (append_assoc first (cells_of world h) (cell ∷ [])) ∙ legal })
 
   -- at any moment of the append a crash leaves the cells that stood at its start, or one more
   pub either_since : LeavesOnly d0 d1 (RecoversEither w (first ++ cells_of world h) cell)
@@ -71,11 +71,11 @@ module _ (w : ℕ) (first : List Cell) (world : World) (h : List Entry) (e : Ent
     ]
 
     -- the cell was added
-    pub kept_added : cells_of world g ≡ cells_of world h ++ cell ∷ [] → LeavesNow d1 (HoldsCells w (first ++ (cells_of world h ++ cell ∷ []))) → (failed : Option ℕ)
+    pub kept_added : cells_of world g ≡ cells_of world h ++ cell ∷ [] → LeavesNow d1 (HoldsCells newest w (first ++ (cells_of world h ++ cell ∷ []))) → (failed : Option ℕ)
         → IsLog w ((first ++ cells_of world h) ++ cell ∷ []) d1 → KeepsHistory w first world g t d1 failed
     kept_added cells now failed log = record {
       any_moment = since_then;
-      at_end = λ c left. inl (record { holds = subst (λ l. HoldsCells w (first ++ l) c) (sym cells) (now c left); legal = ap (λ l. is_legal_cells w empty_state (first ++ l)) cells ∙ legal });
+      at_end = λ c left. inl (record { version = newest; known = inr refl; holds = subst (λ l. HoldsCells newest w (first ++ l) c) (sym cells) (now c left); legal = ap (λ l. is_legal_cells w empty_state (first ++ l)) cells ∙ legal });
       log = λ none. subst (λ l. IsLog w l d1) (append_assoc first (cells_of world h) (cell ∷ []) ∙ ap (λ l. first ++ l) (sym cells)) log;
     }
 

@@ -1,6 +1,5 @@
 -- The cells of a history, and what a crash may leave of them.
 use Rattle.std.specs.Prelude.{◌⊎◌, ℕ, List, [], ◌∷◌, ◌++◌, take, if◌then◌else◌}
-use Rattle.zorder.specs.declared.points.Placed.{Placed}
 use Rattle.cell_format.specs.declared.cell.Cell.{Cell}
 use Rattle.cell_format.specs.declared.cell.Cell.TheVariants as cell
 use Rattle.plain_list.specs.declared.ops.Op.{Op}
@@ -15,8 +14,8 @@ use Rattle.log_state.specs.Recovers.{Recovers}
 
 -- the cell of an operation that changes a world
 abbrev pub change_cells : Op → List Cell
-change_cells (op.Put id at) = cell.Put id at ∷ []
-change_cells (op.Move id at) = cell.Move id at ∷ []
+change_cells (op.Put id at moment) = cell.Put id at moment ∷ []
+change_cells (op.Move id at moment) = cell.Move id at moment ∷ []
 change_cells (op.Remove id) = cell.Remove id ∷ []
 change_cells (op.Find id) = []
 change_cells (op.Within region) = []

@@ -1,6 +1,5 @@
 -- What a log keeps of the history since it was opened.
 use Rattle.std.specs.Prelude.{◌≡◌, ◌⊎◌, ℕ, List, [], ◌∷◌, ◌++◌, Option, None}
-use Rattle.zorder.specs.declared.points.Placed.{Placed}
 use Rattle.cell_format.specs.declared.cell.Cell.{Cell}
 use Rattle.plain_list.specs.World.{World}
 use Rattle.plain_list.specs.declared.entries.Entry.{Entry}
