@@ -37,10 +37,10 @@ word_by-op_of Near c = refl
 columns_of-op_of : (word : Word) (c : Columns ℕ) → AreKept word c → columns_of (op_of word c) ≡ c
 columns_of-op_of Put c k = λ i. record c { a = sym k.a i; b = sym k.b i }
 columns_of-op_of Move c k = λ i. record c { a = sym k.a i; b = sym k.b i }
-columns_of-op_of Drop c k = λ i. record c { x = sym k.x i; y = sym k.y i; a = sym k.a i; b = sym k.b i }
-columns_of-op_of Where c k = λ i. record c { x = sym k.x i; y = sym k.y i; a = sym k.a i; b = sym k.b i }
-columns_of-op_of Box c k = λ i. record c { id = sym k.id i }
-columns_of-op_of Near c k = λ i. record c { id = sym k.id i; b = sym k.b i }
+columns_of-op_of Drop c k = λ i. record c { x = sym k.x i; y = sym k.y i; a = sym k.a i; b = sym k.b i; moment = sym k.moment i }
+columns_of-op_of Where c k = λ i. record c { x = sym k.x i; y = sym k.y i; a = sym k.a i; b = sym k.b i; moment = sym k.moment i }
+columns_of-op_of Box c k = λ i. record c { id = sym k.id i; moment = sym k.moment i }
+columns_of-op_of Near c k = λ i. record c { id = sym k.id i; b = sym k.b i; moment = sym k.moment i }
 
 module _ (word : Word) (c : Columns ℕ) (front back : Columns Rule) (begins : front ≡ rules_of word 0 0) (ends : back ≡ rules_of word c.x c.y) where
   id_rule-is : front.id ≡ (rules_of word c.x c.y).id
@@ -53,20 +53,22 @@ module _ (word : Word) (c : Columns ℕ) (front back : Columns Rule) (begins : f
   y_rule-is = ap (λ (r : Columns Rule). r.y) begins ∙ (same_front word 0 0 c.x c.y).y
 
   -- columns that were taken one by one keep the rules
-  pub kept-columns : Fits front.id c.id → Fits front.x c.x → Fits front.y c.y → Fits back.a c.a → Fits back.b c.b → AreKept word c
-  kept-columns id x y a b = record {
+  pub kept-columns : Fits front.id c.id → Fits front.x c.x → Fits front.y c.y → Fits back.a c.a → Fits back.b c.b → Fits back.moment c.moment → AreKept word c
+  kept-columns id x y a b moment = record {
     id = subst (λ (r : Rule). Fits r c.id) id_rule-is id;
     x = subst (λ (r : Rule). Fits r c.x) x_rule-is x;
     y = subst (λ (r : Rule). Fits r c.y) y_rule-is y;
     a = subst (λ (r : Columns Rule). Fits r.a c.a) ends a;
     b = subst (λ (r : Columns Rule). Fits r.b c.b) ends b;
+    moment = subst (λ (r : Columns Rule). Fits r.moment c.moment) ends moment;
   }
 
   -- and stand in the text that they were taken of
-  pub taken-columns : (t0 t1 t2 t3 t4 t5 rest : List ℕ) → t0 ≡ codes "," ++ (text_by front.id c.id ++ t1) → t1 ≡ codes "," ++ (text_by front.x c.x ++ t2) → t2 ≡ codes "," ++ (text_by front.y c.y ++ t3)
-      → t3 ≡ codes "," ++ (text_by back.a c.a ++ t4) → t4 ≡ codes "," ++ (text_by back.b c.b ++ t5) → t5 ≡ codes "\n" ++ rest → t0 ≡ line_then (column_texts word c) rest
-  taken-columns t0 t1 t2 t3 t4 t5 rest id x y a b end =
-      let b_is = b ∙ ap (λ (r : Columns Rule). codes "," ++ (text_by r.b c.b ++ t5)) ends ∙ ap (λ (l : List ℕ). codes "," ++ (text_by (rules_of word c.x c.y).b c.b ++ l)) end in
+  pub taken-columns : (t0 t1 t2 t3 t4 t5 t6 rest : List ℕ) → t0 ≡ codes "," ++ (text_by front.id c.id ++ t1) → t1 ≡ codes "," ++ (text_by front.x c.x ++ t2) → t2 ≡ codes "," ++ (text_by front.y c.y ++ t3)
+      → t3 ≡ codes "," ++ (text_by back.a c.a ++ t4) → t4 ≡ codes "," ++ (text_by back.b c.b ++ t5) → t5 ≡ codes "," ++ (text_by back.moment c.moment ++ t6) → t6 ≡ codes "\n" ++ rest → t0 ≡ line_then (column_texts word c) rest
+  taken-columns t0 t1 t2 t3 t4 t5 t6 rest id x y a b moment end =
+      let moment_is = moment ∙ ap (λ (r : Columns Rule). codes "," ++ (text_by r.moment c.moment ++ t6)) ends ∙ ap (λ (l : List ℕ). codes "," ++ (text_by (rules_of word c.x c.y).moment c.moment ++ l)) end in
+      let b_is = b ∙ ap (λ (r : Columns Rule). codes "," ++ (text_by r.b c.b ++ t5)) ends ∙ ap (λ (l : List ℕ). codes "," ++ (text_by (rules_of word c.x c.y).b c.b ++ l)) moment_is in
       let a_is = a ∙ ap (λ (r : Columns Rule). codes "," ++ (text_by r.a c.a ++ t4)) ends ∙ ap (λ (l : List ℕ). codes "," ++ (text_by (rules_of word c.x c.y).a c.a ++ l)) b_is in
       let y_is = y ∙ ap (λ (r : Rule). codes "," ++ (text_by r c.y ++ t3)) y_rule-is ∙ ap (λ (l : List ℕ). codes "," ++ (text_by (rules_of word c.x c.y).y c.y ++ l)) a_is in
       let x_is = x ∙ ap (λ (r : Rule). codes "," ++ (text_by r c.x ++ t2)) x_rule-is ∙ ap (λ (l : List ℕ). codes "," ++ (text_by (rules_of word c.x c.y).x c.x ++ l)) y_is in
@@ -79,6 +81,6 @@ op_fields-taken word c o kept is =
     let columns_is = ap columns_of is ∙ columns_of-op_of word c kept in
     ap (λ (w : Word). word_text w ∷ column_texts w (columns_of o)) word_is ∙ ap (λ (d : Columns ℕ). word_text word ∷ column_texts word d) columns_is
 
--- six fields that were pushed one by one, each behind a comma, and the end of the line
-pub pushed_fields : (old a b c d e f : List ℕ) → old ++ codes "," ++ a ++ (codes "," ++ b) ++ (codes "," ++ c) ++ (codes "," ++ d) ++ (codes "," ++ e) ++ (codes "," ++ f) ++ codes "\n" ≡ old ++ line_then (a ∷ b ∷ c ∷ d ∷ e ∷ f ∷ []) []
-pushed_fields old a b c d e f = simp append_assoc
+-- seven fields that were pushed one by one, each behind a comma, and the end of the line
+pub pushed_fields : (old a b c d e f g : List ℕ) → old ++ codes "," ++ a ++ (codes "," ++ b) ++ (codes "," ++ c) ++ (codes "," ++ d) ++ (codes "," ++ e) ++ (codes "," ++ f) ++ (codes "," ++ g) ++ codes "\n" ≡ old ++ line_then (a ∷ b ∷ c ∷ d ∷ e ∷ f ∷ g ∷ []) []
+pushed_fields old a b c d e f g = simp append_assoc

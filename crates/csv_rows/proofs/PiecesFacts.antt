@@ -159,7 +159,15 @@ moves-line a b c old kept front detail end held h g =
 pub listed-written : (id x y : List ℕ) → 59 ∷ (id ++ (58 ∷ (x ++ (58 ∷ (y ++ []))))) ≡ 59 ∷ (id ++ codes ":" ++ (x ++ codes ":" ++ y))
 listed-written id x y = simp (append_assoc, append-nil)
 
+-- a position with its moment, written from its end to its start
+pub stamped-written : (old x y moment : List ℕ) (mark : ℕ) → old ++ (x ++ (mark ∷ (y ++ (mark ∷ (moment ++ []))))) ≡ old ++ x ++ (mark ∷ []) ++ y ++ (mark ∷ []) ++ moment
+stamped-written old x y moment mark = simp (append_assoc, append-nil)
+
+-- all that stands from there on in a text of this length
+pub from-there : (text : List ℕ) (len at : ℕ) → length text ≡ len → take (len - at) (drop at text) ≡ drop at text
+from-there text len at long = ap (λ n. take n (drop at text)) (ap (λ n. n - at) (sym long) ∙ sym (length-drop at text)) ∙ take-length (drop at text)
+
 -- what stands behind a mark in a text of this length
 pub behind-mark : (text rest : List ℕ) (len at mark : ℕ) → length text ≡ len → drop at text ≡ mark ∷ rest → take (len - (at + 1)) (drop (at + 1) text) ≡ rest
 behind-mark text rest len at mark long e =
-    ap (λ n. take n (drop (at + 1) text)) (ap (λ n. n - (at + 1)) (sym long) ∙ sym (length-drop (at + 1) text)) ∙ take-length (drop (at + 1) text) ∙ sym (drop-drop 1 at text) ∙ ap (λ l. drop 1 l) e
+    from-there text len (at + 1) long ∙ sym (drop-drop 1 at text) ∙ ap (λ l. drop 1 l) e

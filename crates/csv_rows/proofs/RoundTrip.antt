@@ -84,12 +84,12 @@ coordinate-plain : (n : ℕ) → n < 2 ^ 32 → Plain (decimal n)
 coordinate-plain n lt = decimal-plain n (omega (arith, lt))
 
 op-plain : (o : Op) → FitsOp o → IsValid o → AllByRecursion Plain (op_fields o)
-op-plain (op.Put id at) f v = (refl, (decimal-plain id f.0, (coordinate-plain at.x f.1.x, (coordinate-plain at.y f.1.y, (refl, (refl, tt))))))
-op-plain (op.Move id at) f v = (refl, (decimal-plain id f.0, (coordinate-plain at.x f.1.x, (coordinate-plain at.y f.1.y, (refl, (refl, tt))))))
-op-plain (op.Remove id) f v = (refl, (decimal-plain id f, (refl, (refl, (refl, (refl, tt))))))
-op-plain (op.Find id) f v = (refl, (decimal-plain id f, (refl, (refl, (refl, (refl, tt))))))
-op-plain (op.Within region) f v = (refl, (refl, (coordinate-plain region.lo.x f.0.x, (coordinate-plain region.lo.y f.0.y, (coordinate-plain region.hi.x f.1.x, (coordinate-plain region.hi.y f.1.y, tt))))))
-op-plain (op.Near at k) f v = (refl, (refl, (coordinate-plain at.x f.x, (coordinate-plain at.y f.y, (decimal-plain k (omega (arith, v.1)), (refl, tt))))))
+op-plain (op.Put id at moment) f v = (refl, (decimal-plain id f.0, (coordinate-plain at.x f.1.x, (coordinate-plain at.y f.1.y, (refl, (refl, (decimal-plain moment f.2, tt)))))))
+op-plain (op.Move id at moment) f v = (refl, (decimal-plain id f.0, (coordinate-plain at.x f.1.x, (coordinate-plain at.y f.1.y, (refl, (refl, (decimal-plain moment f.2, tt)))))))
+op-plain (op.Remove id) f v = (refl, (decimal-plain id f, (refl, (refl, (refl, (refl, (refl, tt)))))))
+op-plain (op.Find id) f v = (refl, (decimal-plain id f, (refl, (refl, (refl, (refl, (refl, tt)))))))
+op-plain (op.Within region) f v = (refl, (refl, (coordinate-plain region.lo.x f.0.x, (coordinate-plain region.lo.y f.0.y, (coordinate-plain region.hi.x f.1.x, (coordinate-plain region.hi.y f.1.y, (refl, tt)))))))
+op-plain (op.Near at k) f v = (refl, (refl, (coordinate-plain at.x f.x, (coordinate-plain at.y f.y, (decimal-plain k (omega (arith, v.1)), (refl, (refl, tt)))))))
 
 -- the rest of a text behind a row is read next
 row-next : (session : ℕ) (o : Op) (tail : List ℕ) → session ≤ 16 → FitsOp o → IsValid o
@@ -100,8 +100,8 @@ row-next session o tail le f v = by_op o f v
     of x y ys h = ap (λ (l : List ℕ). next_record default_config st.StartRecord [] [] (l ++ tail)) (line-written x y ys h) ∙ read-write-many x y ys tail
 
     by_op : (o : Op) → FitsOp o → IsValid o → next_record default_config st.StartRecord [] [] (fields_line (decimal session ∷ op_fields o) ++ tail) ≡ Some (decimal session ∷ op_fields o, st.StartRecord, tail)
-    by_op (op.Put id at) f v = of (decimal session) _ _ (decimal-plain session (omega (arith, le)), op-plain (op.Put id at) f v)
-    by_op (op.Move id at) f v = of (decimal session) _ _ (decimal-plain session (omega (arith, le)), op-plain (op.Move id at) f v)
+    by_op (op.Put id at moment) f v = of (decimal session) _ _ (decimal-plain session (omega (arith, le)), op-plain (op.Put id at moment) f v)
+    by_op (op.Move id at moment) f v = of (decimal session) _ _ (decimal-plain session (omega (arith, le)), op-plain (op.Move id at moment) f v)
     by_op (op.Remove id) f v = of (decimal session) _ _ (decimal-plain session (omega (arith, le)), op-plain (op.Remove id) f v)
     by_op (op.Find id) f v = of (decimal session) _ _ (decimal-plain session (omega (arith, le)), op-plain (op.Find id) f v)
     by_op (op.Within region) f v = of (decimal session) _ _ (decimal-plain session (omega (arith, le)), op-plain (op.Within region) f v)
@@ -134,10 +134,10 @@ coordinate-kept n lt = corner-kept 0 n (omega arith) lt
 
 -- the fields of a row are read as that row
 row_of-fields : (session : ℕ) (o : Op) → 1 ≤ session → session ≤ 16 → FitsOp o → IsValid o → row_of (decimal session ∷ op_fields o) ≡ Ok (record { session = session; op = o })
-row_of-fields session (op.Put id at) low high f v =
-    rw (session-kept session low high, id-kept id f.0, coordinate-kept at.x f.1.x, coordinate-kept at.y f.1.y, number-decimal session (omega (arith, high)), number-decimal id f.0, number-decimal at.x (omega (arith, f.1.x)), number-decimal at.y (omega (arith, f.1.y))) refl
-row_of-fields session (op.Move id at) low high f v =
-    rw (session-kept session low high, id-kept id f.0, coordinate-kept at.x f.1.x, coordinate-kept at.y f.1.y, number-decimal session (omega (arith, high)), number-decimal id f.0, number-decimal at.x (omega (arith, f.1.x)), number-decimal at.y (omega (arith, f.1.y))) refl
+row_of-fields session (op.Put id at moment) low high f v =
+    rw (session-kept session low high, id-kept id f.0, coordinate-kept at.x f.1.x, coordinate-kept at.y f.1.y, id-kept moment f.2, number-decimal session (omega (arith, high)), number-decimal id f.0, number-decimal at.x (omega (arith, f.1.x)), number-decimal at.y (omega (arith, f.1.y)), number-decimal moment f.2) refl
+row_of-fields session (op.Move id at moment) low high f v =
+    rw (session-kept session low high, id-kept id f.0, coordinate-kept at.x f.1.x, coordinate-kept at.y f.1.y, id-kept moment f.2, number-decimal session (omega (arith, high)), number-decimal id f.0, number-decimal at.x (omega (arith, f.1.x)), number-decimal at.y (omega (arith, f.1.y)), number-decimal moment f.2) refl
 row_of-fields session (op.Remove id) low high f v = rw (session-kept session low high, id-kept id f, number-decimal session (omega (arith, high)), number-decimal id f) refl
 row_of-fields session (op.Find id) low high f v = rw (session-kept session low high, id-kept id f, number-decimal session (omega (arith, high)), number-decimal id f) refl
 row_of-fields session (op.Within region) low high f v =

@@ -14,7 +14,7 @@ pub use Rattle.csv_rows.specs.Numbers.{number}
 
 -- the fields of the header
 abbrev pub header_fields : List (List ℕ)
-header_fields = codes "session" ∷ codes "op" ∷ codes "id" ∷ codes "x" ∷ codes "y" ∷ codes "a" ∷ codes "b" ∷ []
+header_fields = codes "session" ∷ codes "op" ∷ codes "id" ∷ codes "x" ∷ codes "y" ∷ codes "a" ∷ codes "b" ∷ codes "moment" ∷ []
 
 -- all words
 abbrev pub words : List Word
@@ -29,7 +29,7 @@ word_text Where = codes "where"
 word_text Box = codes "box"
 word_text Near = codes "near"
 
--- the rules of sessions, ids and coordinates
+-- the rules of sessions, ids, coordinates and moments
 abbrev pub session_rule : Rule
 session_rule = Between 1 16
 
@@ -39,22 +39,25 @@ id_rule = Between 0 18446744073709551615
 abbrev pub coordinate_rule : Rule
 coordinate_rule = Between 0 4294967295
 
+abbrev pub moment_rule : Rule
+moment_rule = Between 0 18446744073709551615
+
 -- what the columns of a word may hold, where columns 4 and 5 say these numbers: a box's upper corner isn't below its lower one
 abbrev pub rules_of : Word → ℕ → ℕ → Columns Rule
-rules_of Put x y = record { id = id_rule; x = coordinate_rule; y = coordinate_rule; a = Empty; b = Empty }
-rules_of Move x y = record { id = id_rule; x = coordinate_rule; y = coordinate_rule; a = Empty; b = Empty }
-rules_of Drop x y = record { id = id_rule; x = Empty; y = Empty; a = Empty; b = Empty }
-rules_of Where x y = record { id = id_rule; x = Empty; y = Empty; a = Empty; b = Empty }
-rules_of Box x y = record { id = Empty; x = coordinate_rule; y = coordinate_rule; a = Between x 4294967295; b = Between y 4294967295 }
-rules_of Near x y = record { id = Empty; x = coordinate_rule; y = coordinate_rule; a = Between 1 2048; b = Empty }
+rules_of Put x y = record { id = id_rule; x = coordinate_rule; y = coordinate_rule; a = Empty; b = Empty; moment = moment_rule }
+rules_of Move x y = record { id = id_rule; x = coordinate_rule; y = coordinate_rule; a = Empty; b = Empty; moment = moment_rule }
+rules_of Drop x y = record { id = id_rule; x = Empty; y = Empty; a = Empty; b = Empty; moment = Empty }
+rules_of Where x y = record { id = id_rule; x = Empty; y = Empty; a = Empty; b = Empty; moment = Empty }
+rules_of Box x y = record { id = Empty; x = coordinate_rule; y = coordinate_rule; a = Between x 4294967295; b = Between y 4294967295; moment = Empty }
+rules_of Near x y = record { id = Empty; x = coordinate_rule; y = coordinate_rule; a = Between 1 2048; b = Empty; moment = Empty }
 
 abbrev pub point_of : ℕ → ℕ → Point
 point_of x y = record { x = x; y = y }
 
 -- what a word and its columns say
 abbrev pub op_of : Word → Columns ℕ → Op
-op_of Put c = op.Put c.id (point_of c.x c.y)
-op_of Move c = op.Move c.id (point_of c.x c.y)
+op_of Put c = op.Put c.id (point_of c.x c.y) c.moment
+op_of Move c = op.Move c.id (point_of c.x c.y) c.moment
 op_of Drop c = op.Remove c.id
 op_of Where c = op.Find c.id
 op_of Box c = op.Within (record { lo = point_of c.x c.y; hi = point_of c.a c.b })
@@ -62,8 +65,8 @@ op_of Near c = op.Near (point_of c.x c.y) c.a
 
 -- the word of an operation
 abbrev pub word_by : Op → Word
-word_by (op.Put id at) = Put
-word_by (op.Move id at) = Move
+word_by (op.Put id at moment) = Put
+word_by (op.Move id at moment) = Move
 word_by (op.Remove id) = Drop
 word_by (op.Find id) = Where
 word_by (op.Within region) = Box
@@ -71,16 +74,16 @@ word_by (op.Near at k) = Near
 
 -- the columns that say an operation, behind its word; one that holds nothing is 0
 abbrev pub columns_of : Op → Columns ℕ
-columns_of (op.Put id at) = record { id = id; x = at.x; y = at.y; a = 0; b = 0 }
-columns_of (op.Move id at) = record { id = id; x = at.x; y = at.y; a = 0; b = 0 }
-columns_of (op.Remove id) = record { id = id; x = 0; y = 0; a = 0; b = 0 }
-columns_of (op.Find id) = record { id = id; x = 0; y = 0; a = 0; b = 0 }
-columns_of (op.Within region) = record { id = 0; x = region.lo.x; y = region.lo.y; a = region.hi.x; b = region.hi.y }
-columns_of (op.Near at k) = record { id = 0; x = at.x; y = at.y; a = k; b = 0 }
+columns_of (op.Put id at moment) = record { id = id; x = at.x; y = at.y; a = 0; b = 0; moment = moment }
+columns_of (op.Move id at moment) = record { id = id; x = at.x; y = at.y; a = 0; b = 0; moment = moment }
+columns_of (op.Remove id) = record { id = id; x = 0; y = 0; a = 0; b = 0; moment = 0 }
+columns_of (op.Find id) = record { id = id; x = 0; y = 0; a = 0; b = 0; moment = 0 }
+columns_of (op.Within region) = record { id = 0; x = region.lo.x; y = region.lo.y; a = region.hi.x; b = region.hi.y; moment = 0 }
+columns_of (op.Near at k) = record { id = 0; x = at.x; y = at.y; a = k; b = 0; moment = 0 }
 
 -- columns from left to right
 abbrev pub in_order : {T : Type 0} → Columns T → List T
-in_order c = c.id ∷ c.x ∷ c.y ∷ c.a ∷ c.b ∷ []
+in_order c = c.id ∷ c.x ∷ c.y ∷ c.a ∷ c.b ∷ c.moment ∷ []
 
 -- whether a text keeps a rule
 abbrev pub keeps : Rule → List ℕ → Bool
@@ -105,8 +108,9 @@ pub record AreKept (word : Word) (c : Columns ℕ) : Type 0 where
   pub y : Fits (rules_of word c.x c.y).y c.y
   pub a : Fits (rules_of word c.x c.y).a c.a
   pub b : Fits (rules_of word c.x c.y).b c.b
+  pub moment : Fits (rules_of word c.x c.y).moment c.moment
 
 -- the texts of a word's columns, from left to right
 abbrev pub column_texts : Word → Columns ℕ → List (List ℕ)
 column_texts word c =
-    let rules = rules_of word c.x c.y in text_by rules.id c.id ∷ text_by rules.x c.x ∷ text_by rules.y c.y ∷ text_by rules.a c.a ∷ text_by rules.b c.b ∷ []
+    let rules = rules_of word c.x c.y in text_by rules.id c.id ∷ text_by rules.x c.x ∷ text_by rules.y c.y ∷ text_by rules.a c.a ∷ text_by rules.b c.b ∷ text_by rules.moment c.moment ∷ []

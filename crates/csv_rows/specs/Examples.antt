@@ -8,17 +8,21 @@ use Rattle.zorder.specs.declared.points.Point.{Point}
 use Rattle.zorder.specs.declared.points.Placed.{Placed}
 use Rattle.plain_list.specs.declared.ops.Answer.TheVariants as ans
 use Rattle.plain_list.specs.declared.ops.Op.TheVariants as op
+use Rattle.plain_list.specs.declared.world.Stamped.{Stamped}
+use Rattle.plain_list.specs.declared.world.Member.{Member}
+use Rattle.zorder.specs.declared.points.Region.{Region}
 use Rattle.csv_rows.specs.declared.rows.InRow.{InRow}
 use Rattle.csv_rows.specs.declared.rows.RowsFault.TheVariants as fault
 use Rattle.cell_format.specs.declared.cell.Cause.TheVariants as cause
 use Rattle.csv_rows.specs.declared.rows.Refusal.TheVariants as refusal
 use Rattle.csv_rows.specs.Lines.{line_text, refusal_text}
+use Rattle.csv_rows.specs.ObjectLines.{objects_text}
 use Rattle.csv_rows.specs.RowLines.{rows_text}
 use Rattle.csv_rows.specs.Numbers.{is_between, is_number, number_in}
 use Rattle.csv_rows.specs.Rows.{rows_of}
 
 abbrev header : List ℕ
-header = codes "session,op,id,x,y,a,b\n"
+header = codes "session,op,id,x,y,a,b,moment\n"
 
 abbrev pt : ℕ → ℕ → Point
 pt x y = record { x = x; y = y }
@@ -26,8 +30,11 @@ pt x y = record { x = x; y = y }
 abbrev placed : ℕ → ℕ → ℕ → Placed
 placed id x y = record { id = id; at = pt x y }
 
+abbrev stamped : ℕ → ℕ → ℕ → Stamped
+stamped x y moment = record { at = pt x y; moment = moment }
+
 abbrev put_7 : InRow
-put_7 = record { session = 1; op = op.Put 7 (pt 3 5) }
+put_7 = record { session = 1; op = op.Put 7 (pt 3 5) 10 }
 
 abbrev where_7 : InRow
 where_7 = record { session = 1; op = op.Find 7 }
@@ -40,11 +47,11 @@ no_sign : number_in 0 16 (codes "+7") ≡ None
 unfolding is_between is_number
 no_sign = refl
 
-two_rows : rows_of (header ++ codes "1,put,7,3,5,,\n1,where,7,,,,\n") ≡ Ok (put_7 ∷ where_7 ∷ [])
+two_rows : rows_of (header ++ codes "1,put,7,3,5,,,10\n1,where,7,,,,,\n") ≡ Ok (put_7 ∷ where_7 ∷ [])
 unfolding rows_of records_from next_record is_between is_number
 two_rows = refl
 
-quoted : rows_of (header ++ codes "\"1\",\"put\",\"007\",\"3\",\"5\",\"\",\"\"\r\n\n") ≡ Ok (put_7 ∷ [])
+quoted : rows_of (header ++ codes "\"1\",\"put\",\"007\",\"3\",\"5\",\"\",\"\",\"10\"\r\n\n") ≡ Ok (put_7 ∷ [])
 unfolding rows_of records_from next_record is_between is_number
 quoted = refl
 
@@ -60,19 +67,31 @@ nothing : rows_of [] ≡ Err fault.Header
 unfolding rows_of records_from next_record
 nothing = refl
 
-bad_session : rows_of (header ++ codes "17,put,7,3,5,,\n") ≡ Err (fault.Field 1 1)
+bad_session : rows_of (header ++ codes "17,put,7,3,5,,,0\n") ≡ Err (fault.Field 1 1)
 unfolding rows_of records_from next_record is_between is_number
 bad_session = refl
 
-bad_box : rows_of (header ++ codes "1,put,7,3,5,,\n1,box,,4,5,3,5\n") ≡ Err (fault.Field 2 6)
+bad_box : rows_of (header ++ codes "1,put,7,3,5,,,0\n1,box,,4,5,3,5,\n") ≡ Err (fault.Field 2 6)
 unfolding rows_of records_from next_record is_between is_number
 bad_box = refl
 
-six_fields : rows_of (header ++ codes "1,put,7,3,5,\n") ≡ Err (fault.Csv 1)
-unfolding rows_of records_from next_record
-six_fields = refl
+no_moment : rows_of (header ++ codes "1,put,7,3,5,,,\n") ≡ Err (fault.Field 1 8)
+unfolding rows_of records_from next_record is_between is_number
+no_moment = refl
 
-line_2 : line_text 2 2 (ans.At (pt 3 5)) ≡ codes "2,2,at,3:5\n"
+moment_of_drop : rows_of (header ++ codes "1,drop,7,,,,,0\n") ≡ Err (fault.Field 1 8)
+unfolding rows_of records_from next_record is_between is_number
+moment_of_drop = refl
+
+old_header : rows_of (codes "session,op,id,x,y,a,b\n") ≡ Err fault.Header
+unfolding rows_of records_from next_record
+old_header = refl
+
+seven_fields : rows_of (header ++ codes "1,put,7,3,5,,\n") ≡ Err (fault.Csv 1)
+unfolding rows_of records_from next_record
+seven_fields = refl
+
+line_2 : line_text 2 2 (ans.Stale (stamped 3 5 10)) ≡ codes "2,2,stale,3:5:10\n"
 unfolding line_text digits
 line_2 = refl
 
@@ -96,6 +115,13 @@ in_use : refusal_text (refusal.InUse 49) ≡ codes "refused in use 49\n"
 unfolding refusal_text digits
 in_use = refl
 
-text_of_rows : rows_text (put_7 ∷ where_7 ∷ []) ≡ header ++ codes "1,put,7,3,5,,\n1,where,7,,,,\n"
+text_of_rows : rows_text (put_7 ∷ where_7 ∷ []) ≡ header ++ codes "1,put,7,3,5,,,10\n1,where,7,,,,,\n"
 unfolding rows_text digits
 text_of_rows = refl
+
+abbrev whole : Region
+whole = record { lo = pt 0 0; hi = pt 9 9 }
+
+shown : objects_text whole (record { id = 7; at = pt 3 5; moment = 10 } ∷ []) ≡ codes "id,x,y,moment\n7,3,5,10\n"
+unfolding objects_text digits
+shown = refl

@@ -20,11 +20,11 @@ word_of field = find (λ (word : Word). is_text field (word_text word)) words
 
 -- what slices hold
 abbrev pub texts : Columns (Bor (List ℕ)) → Columns (List ℕ)
-texts c = record { id = c.id.now; x = c.x.now; y = c.y.now; a = c.a.now; b = c.b.now }
+texts c = record { id = c.id.now; x = c.x.now; y = c.y.now; a = c.a.now; b = c.b.now; moment = c.moment.now }
 
 -- what texts say as numbers; none says 0
 abbrev pub numbers : Columns (List ℕ) → Columns ℕ
-numbers c = record { id = number c.id; x = number c.x; y = number c.y; a = number c.a; b = number c.b }
+numbers c = record { id = number c.id; x = number c.x; y = number c.y; a = number c.a; b = number c.b; moment = number c.moment }
 
 -- the first column at fault, where the first of these fields is of this column
 abbrev pub first_fault : ℕ → List Rule → List (List ℕ) → Option ℕ
@@ -41,7 +41,7 @@ unless (Some column) value = Err (Column column)
 abbrev pub number_by : ℕ → Rule → List ℕ → Result ℕ Wrong
 number_by column rule field = if keeps rule field then Ok (number field) else Err (Column column)
 
--- the numbers of columns 3 to 7 behind this word, or the leftmost of them at fault
+-- the numbers of columns 3 to 8 behind this word, or the leftmost of them at fault
 abbrev pub numbers_by : Word → Columns (List ℕ) → Result (Columns ℕ) Wrong
 numbers_by word c = unless (first_fault 3 (in_order (rules_of word (number c.x) (number c.y))) (in_order c)) (numbers c)
 
@@ -50,13 +50,13 @@ abbrev pub row_with : ℕ → Word → Result (Columns ℕ) Wrong → Result InR
 row_with session word (Ok c) = Ok (record { session = session; op = op_of word c })
 row_with session word (Err wrong) = Err wrong
 
--- the row of a session, of the word that column 2 names, and of columns 3 to 7, or what is wrong with it
+-- the row of a session, of the word that column 2 names, and of columns 3 to 8, or what is wrong with it
 abbrev pub row_by : ℕ → Option Word → Columns (List ℕ) → Result InRow Wrong
 row_by session None c = Err (Column 2)
 row_by session (Some word) c = row_with session word (numbers_by word c)
 
 -- the row of a record's fields, or what is wrong with it: its length, or else the leftmost column at fault
 abbrev pub row_of : List (List ℕ) → Result InRow Wrong
-row_of (session ∷ word ∷ id ∷ x ∷ y ∷ a ∷ b ∷ []) =
-    if keeps session_rule session then row_by (number session) (word_of word) (record { id = id; x = x; y = y; a = a; b = b }) else Err (Column 1)
+row_of (session ∷ word ∷ id ∷ x ∷ y ∷ a ∷ b ∷ moment ∷ []) =
+    if keeps session_rule session then row_by (number session) (word_of word) (record { id = id; x = x; y = y; a = a; b = b; moment = moment }) else Err (Column 1)
 row_of fields = Err Length

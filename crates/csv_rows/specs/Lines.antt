@@ -6,6 +6,7 @@ use Rattle.zorder.specs.declared.points.Point.{Point}
 use Rattle.zorder.specs.declared.points.Placed.{Placed}
 use Rattle.plain_list.specs.declared.ops.Answer.{Answer}
 use Rattle.plain_list.specs.declared.ops.Answer.TheVariants as ans
+use Rattle.plain_list.specs.declared.world.Stamped.{Stamped}
 use Rattle.cell_format.specs.declared.cell.Cause.{Cause}
 use Rattle.cell_format.specs.declared.cell.Cause.TheVariants as cause
 use Rattle.csv_rows.specs.declared.rows.Refusal.{Refusal}
@@ -14,6 +15,10 @@ use Rattle.csv_rows.specs.declared.rows.Refusal.TheVariants as refusal
 -- x:y
 abbrev pub point_text : Point → List ℕ
 point_text p = decimal p.x ++ codes ":" ++ decimal p.y
+
+-- x:y:moment
+abbrev pub stamped_text : Stamped → List ℕ
+stamped_text s = point_text s.at ++ codes ":" ++ decimal s.moment
 
 -- id:x:y
 abbrev pub placed_text : Placed → List ℕ
@@ -26,11 +31,12 @@ listed_text list = join_by placed_text (codes ";") list
 -- the word of an answer
 abbrev pub word_text : Answer → List ℕ
 word_text ans.Done = codes "done"
-word_text (ans.Present p) = codes "present"
+word_text (ans.Present s) = codes "present"
 word_text ans.Full = codes "full"
-word_text (ans.Moved p) = codes "moved"
-word_text (ans.Gone p) = codes "gone"
-word_text (ans.At p) = codes "at"
+word_text (ans.Moved s) = codes "moved"
+word_text (ans.Stale s) = codes "stale"
+word_text (ans.Gone s) = codes "gone"
+word_text (ans.At s) = codes "at"
 word_text ans.Absent = codes "absent"
 word_text (ans.Found ms) = codes "found"
 word_text (ans.Many n) = codes "many"
@@ -38,11 +44,12 @@ word_text (ans.Many n) = codes "many"
 -- what an answer says besides its word; listed points stand in the list's order
 abbrev pub detail_text : Answer → List ℕ
 detail_text ans.Done = []
-detail_text (ans.Present p) = point_text p
+detail_text (ans.Present s) = stamped_text s
 detail_text ans.Full = []
-detail_text (ans.Moved p) = point_text p
-detail_text (ans.Gone p) = point_text p
-detail_text (ans.At p) = point_text p
+detail_text (ans.Moved s) = stamped_text s
+detail_text (ans.Stale s) = stamped_text s
+detail_text (ans.Gone s) = stamped_text s
+detail_text (ans.At s) = stamped_text s
 detail_text ans.Absent = []
 detail_text (ans.Found ms) = listed_text ms
 detail_text (ans.Many n) = decimal n

@@ -6,11 +6,11 @@ use Rattle.plain_list.specs.declared.ops.Op.{Op}
 use Rattle.csv_rows.specs.Columns.{column_texts, columns_of, header_fields, word_by, word_text}
 use Rattle.csv_rows.specs.declared.rows.InRow.{InRow}
 
--- columns 2 to 7 of an operation
+-- columns 2 to 8 of an operation
 abbrev pub op_fields : Op → List (List ℕ)
 op_fields op = word_text (word_by op) ∷ column_texts (word_by op) (columns_of op)
 
--- the seven columns of a row
+-- the eight columns of a row
 abbrev pub row_fields : InRow → List (List ℕ)
 row_fields row = decimal row.session ∷ op_fields row.op
 

@@ -29,7 +29,7 @@ pub(crate) const WORDS: [Word; 6] = [
     Word::Near,
 ];
 
-/// Columns 3 to 7: their texts, their numbers, or what they may hold.
+/// Columns 3 to 8: their texts, their numbers, or what they may hold.
 #[derive(Clone, Copy)]
 pub(crate) struct Columns<T> {
     pub id: T,
@@ -37,6 +37,7 @@ pub(crate) struct Columns<T> {
     pub y: T,
     pub a: T,
     pub b: T,
+    pub moment: T,
 }
 
 /// What a column may hold: nothing, or a number that lies between these two.
@@ -50,6 +51,11 @@ pub(crate) enum Rule {
 pub(crate) const SESSION: Rule = Rule::Between { low: 1, high: 16 };
 
 const ID: Rule = Rule::Between {
+    low: 0,
+    high: u64::MAX,
+};
+
+const MOMENT: Rule = Rule::Between {
     low: 0,
     high: u64::MAX,
 };
@@ -102,6 +108,7 @@ pub(crate) fn rules_of(word: Word, x: u64, y: u64) -> Columns<Rule>
             y: COORDINATE,
             a: Rule::Empty,
             b: Rule::Empty,
+            moment: MOMENT,
         },
         Word::Drop | Word::Where => Columns {
             id: ID,
@@ -109,6 +116,7 @@ pub(crate) fn rules_of(word: Word, x: u64, y: u64) -> Columns<Rule>
             y: Rule::Empty,
             a: Rule::Empty,
             b: Rule::Empty,
+            moment: Rule::Empty,
         },
         Word::Box => Columns {
             id: Rule::Empty,
@@ -116,6 +124,7 @@ pub(crate) fn rules_of(word: Word, x: u64, y: u64) -> Columns<Rule>
             y: COORDINATE,
             a: at_least(x),
             b: at_least(y),
+            moment: Rule::Empty,
         },
         Word::Near => Columns {
             id: Rule::Empty,
@@ -123,6 +132,7 @@ pub(crate) fn rules_of(word: Word, x: u64, y: u64) -> Columns<Rule>
             y: COORDINATE,
             a: COUNT,
             b: Rule::Empty,
+            moment: Rule::Empty,
         },
     }
 }
@@ -138,10 +148,12 @@ pub(crate) fn op_of(word: Word, columns: Columns<u64>) -> Op
         Word::Put => Op::Put {
             id: columns.id,
             at: point_of(columns.x, columns.y),
+            moment: columns.moment,
         },
         Word::Move => Op::Move {
             id: columns.id,
             at: point_of(columns.x, columns.y),
+            moment: columns.moment,
         },
         Word::Drop => Op::Remove { id: columns.id },
         Word::Where => Op::Find { id: columns.id },
@@ -189,22 +201,25 @@ pub(crate) fn columns_of(op: &Op) -> Columns<u64>
     ensures { result ≡ columns_of op.now }
 {
     match *op {
-        Op::Put { id, at } | Op::Move { id, at } => columns_at(id, at, 0, 0),
-        Op::Remove { id } | Op::Find { id } => columns_at(id, ORIGIN, 0, 0),
+        Op::Put { id, at, moment } | Op::Move { id, at, moment } => columns_at(
+            id, at, 0, 0, moment,
+        ),
+        Op::Remove { id } | Op::Find { id } => columns_at(id, ORIGIN, 0, 0, 0),
         Op::Within { region } => columns_at(
             0,
             region.lo,
             u64::from(region.hi.x),
             u64::from(region.hi.y),
+            0,
         ),
-        Op::Near { at, k } => columns_at(0, at, u64::from(k), 0),
+        Op::Near { at, k } => columns_at(0, at, u64::from(k), 0, 0),
     }
 }
 
 const ORIGIN: Point = Point { x: 0, y: 0 };
 
-fn columns_at(id: u64, at: Point, a: u64, b: u64) -> Columns<u64>
-    ensures { result ≡ record { id = id; x = at.x; y = at.y; a = a; b = b } }
+fn columns_at(id: u64, at: Point, a: u64, b: u64, moment: u64) -> Columns<u64>
+    ensures { result ≡ record { id = id; x = at.x; y = at.y; a = a; b = b; moment = moment } }
 {
     Columns {
         id,
@@ -212,5 +227,6 @@ fn columns_at(id: u64, at: Point, a: u64, b: u64) -> Columns<u64>
         y: u64::from(at.y),
         a,
         b,
+        moment,
     }
 }

@@ -1,5 +1,6 @@
 //! The fields of a record, column by column.
 ghost use Rattle.std.specs.Prelude.{◌≡◌, ◌≢◌, ◌<◌, ◌∷◌, [], length, IfOk, MatchOption};
+ghost use Rattle.std.specs.Cmp.Lexicographic.{pointwise};
 ghost use Rattle.csv.specs.Records.{field_at, fields_of};
 ghost use Rattle.csv_rows.specs.Columns.{AreKept, Fits, in_order};
 ghost use Rattle.csv_rows.specs.Fields.{is_text, number_by, numbers_by, row_of, texts, word_of};
@@ -29,6 +30,7 @@ pub(crate) const HEADER: Fields<'static> = Fields {
         y: b"y",
         a: b"a",
         b: b"b",
+        moment: b"moment",
     },
 };
 
@@ -60,18 +62,26 @@ pub(crate) fn is_header(record: &ByteRecord) -> bool
     };
     fields.session == HEADER.session
         && fields.op == HEADER.op
-        && fields.columns.id == HEADER.columns.id
-        && fields.columns.x == HEADER.columns.x
-        && fields.columns.y == HEADER.columns.y
-        && fields.columns.a == HEADER.columns.a
-        && fields.columns.b == HEADER.columns.b
+        && are_same(&fields.columns, &HEADER.columns)
+}
+
+// Whether columns hold the same texts.
+fn are_same(columns: &Columns<&[u8]>, others: &Columns<&[u8]>) -> bool
+    ensures { result ≡ pointwise is_text (in_order (texts columns.now)) (in_order (texts others.now)) }
+{
+    columns.id == others.id
+        && columns.x == others.x
+        && columns.y == others.y
+        && columns.a == others.a
+        && columns.b == others.b
+        && columns.moment == others.moment
 }
 
 fn fields_in(record: &ByteRecord) -> Option<Fields<'_>>
-    ensures { MatchOption result (length (fields_of record.now) ≢ 7)
+    ensures { MatchOption result (length (fields_of record.now) ≢ 8)
         (λ f. fields_of record.now ≡ f.session.now ∷ f.op.now ∷ in_order (texts f.columns)) }
 {
-    if record.len() != 7 {
+    if record.len() != 8 {
         return None;
     }
     Some(Fields {
@@ -83,6 +93,7 @@ fn fields_in(record: &ByteRecord) -> Option<Fields<'_>>
             y: field_in(record, 4),
             a: field_in(record, 5),
             b: field_in(record, 6),
+            moment: field_in(record, 7),
         },
     })
 }
@@ -126,7 +137,15 @@ fn numbers_of(word: Word, fields: &Columns<&[u8]>) -> Result<Columns<u64>, Wrong
     let rules = rules_of(word, x, y);
     let a = number_at(6, rules.a, fields.a)?;
     let b = number_at(7, rules.b, fields.b)?;
-    Ok(Columns { id, x, y, a, b })
+    let moment = number_at(8, rules.moment, fields.moment)?;
+    Ok(Columns {
+        id,
+        x,
+        y,
+        a,
+        b,
+        moment,
+    })
 }
 
 fn number_at(column: u8, rule: Rule, field: &[u8]) -> Result<u64, Wrong>

@@ -8,7 +8,7 @@ ghost use Rattle.csv_rows.specs.Lines.{listed_text, word_text, detail_text, fron
 ghost use Rattle.csv_rows.specs.Pieces.{Adds};
 
 use crate::pieces::{
-    Piece, add_listed, add_number, add_pair, add_placed, add_point, make_room, push_str,
+    Piece, add_listed, add_number, add_pair, add_placed, add_stamped, make_room, push_str,
 };
 use crate::rows::Refusal;
 use cell_format::Cause;
@@ -60,7 +60,7 @@ pub(crate) fn add_line<K: Sink>(
 
 // Adds what stands before the detail of an answer.
 fn add_front(piece: &mut Piece, row: u32, place: u64, answer: &Answer)
-    requires { array_vec_len piece.old ≤ 65408 }
+    requires { array_vec_len piece.old ≤ 65392 }
     ensures bytes { piece.new.items ≡ piece.old.items ++ front_text row place answer.now }
     ensures len { array_vec_len piece.new ≤ array_vec_len piece.old + 50 }
 {
@@ -78,6 +78,7 @@ fn word_of(answer: &Answer) -> &'static str
         Answer::Present(_) => ",present,",
         Answer::Full => ",full,",
         Answer::Moved(_) => ",moved,",
+        Answer::Stale(_) => ",stale,",
         Answer::Gone(_) => ",gone,",
         Answer::At(_) => ",at,",
         Answer::Absent => ",absent,",
@@ -94,8 +95,12 @@ fn add_detail<K: Sink>(sink: &mut K, piece: &mut Piece, answer: &Answer) -> Resu
 {
     match answer {
         Answer::Done | Answer::Full | Answer::Absent => Ok(()),
-        Answer::Present(at) | Answer::Moved(at) | Answer::Gone(at) | Answer::At(at) => {
-            add_point(piece, *at, b':');
+        Answer::Present(kept)
+        | Answer::Moved(kept)
+        | Answer::Stale(kept)
+        | Answer::Gone(kept)
+        | Answer::At(kept) => {
+            add_stamped(piece, *kept, b':');
             Ok(())
         }
         Answer::Found(list) => add_list(sink, piece, list.as_slice()),

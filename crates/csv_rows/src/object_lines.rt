@@ -6,22 +6,23 @@ ghost use Rattle.io_edge.specs.Puts.{Puts};
 ghost use Rattle.csv_rows.specs.ObjectLines.{object_line, line_in, objects_text};
 ghost use Rattle.csv_rows.specs.Pieces.{Adds};
 
-use crate::pieces::{Piece, add_number, add_point, make_room, push_str};
+use crate::pieces::{Piece, add_number, add_stamped, make_room, push_str};
 use io_edge::{Sink, SinkFault};
-use zorder::{Placed, Region};
+use plain_list::Member;
+use zorder::Region;
 
 /// Writes a title and the line of each object that is in the box, in their order, in pieces of up to 64 KiB. Corners that no point lies
 /// between give the title alone.
 pub fn write_objects<K: Sink>(
     sink: &mut K,
-    objects: &[Placed],
+    objects: &[Member],
     region: &Region,
 ) -> Result<(), SinkFault>
     ensures bytes { Puts (K.output sink.old).taken (K.output sink.new).taken (objects_text region.now objects.now) result }
     ensures cause { Counts (K.output sink.old).faults (K.output sink.new).faults result }
 {
     let mut piece = Piece::new();
-    push_str(&mut piece, "id,x,y\n");
+    push_str(&mut piece, "id,x,y,moment\n");
     for object in objects {
         add_within(sink, &mut piece, object, region)?;
     }
@@ -32,7 +33,7 @@ pub fn write_objects<K: Sink>(
 fn add_within<K: Sink>(
     sink: &mut K,
     piece: &mut Piece,
-    object: &Placed,
+    object: &Member,
     region: &Region,
 ) -> Result<(), SinkFault>
     ensures bytes { Adds (K.output sink.old) (K.output sink.new) piece.old.items (line_in region.now object.now) piece.new.items result }
@@ -46,12 +47,12 @@ fn add_within<K: Sink>(
     Ok(())
 }
 
-fn add_object(piece: &mut Piece, object: &Placed)
-    requires { array_vec_len piece.old ≤ 65408 }
+fn add_object(piece: &mut Piece, object: &Member)
+    requires { array_vec_len piece.old ≤ 65392 }
     ensures bytes { piece.new.items ≡ piece.old.items ++ object_line object.now }
 {
     add_number(piece, object.id);
     push_str(piece, ",");
-    add_point(piece, object.at, b',');
+    add_stamped(piece, object.stamped(), b',');
     push_str(piece, "\n");
 }

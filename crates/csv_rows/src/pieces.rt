@@ -9,19 +9,20 @@ ghost use Rattle.csv_rows.specs.Pieces.{HoldsBack};
 use arrayvec::ArrayVec;
 use io_edge::{Sink, SinkFault};
 use itoa::{Buffer, write_digits};
-use zorder::{Placed, Point};
+use plain_list::Stamped;
+use zorder::Placed;
 
 /// The piece that is built, and put when it is nearly full.
 pub(crate) type Piece = ArrayVec<u8, 65536>;
 
-// A piece with as much as this has room for one more entry, which has at most 128 bytes.
-const ROOM_FOR_ONE: usize = 65_408;
+// A piece with as much as this has room for one more entry, which has at most 144 bytes.
+const ROOM_FOR_ONE: usize = 65_392;
 
 /// Puts the piece where it is nearly full, and begins the next.
 pub(crate) fn make_room<K: Sink>(sink: &mut K, piece: &mut Piece) -> Result<(), SinkFault>
     ensures bytes { HoldsBack (K.output sink.old).taken (K.output sink.new).taken piece.old.items piece.new.items result }
     ensures cause { Counts (K.output sink.old).faults (K.output sink.new).faults result }
-    ensures room { OnOk result (array_vec_len piece.new ≤ 65408) }
+    ensures room { OnOk result (array_vec_len piece.new ≤ 65392) }
 {
     if piece.len() <= ROOM_FOR_ONE {
         return Ok(());
@@ -72,13 +73,17 @@ pub(crate) fn add_pair(piece: &mut Piece, first: u64, mark: u8, second: u64)
     push_bytes(piece, &text[start..]);
 }
 
-/// Adds both coordinates, with a mark between them.
-pub(crate) fn add_point(piece: &mut Piece, at: Point, mark: u8)
-    requires { array_vec_len piece.old ≤ 65495 }
-    ensures bytes { piece.new.items ≡ piece.old.items ++ decimal at.x ++ (mark ∷ []) ++ decimal at.y }
-    ensures len { array_vec_len piece.new ≤ array_vec_len piece.old + 41 }
+/// Adds both coordinates and their moment, with a mark between each two, all at once.
+pub(crate) fn add_stamped(piece: &mut Piece, kept: Stamped, mark: u8)
+    requires { array_vec_len piece.old ≤ 65474 }
+    ensures bytes { piece.new.items ≡ piece.old.items ++ decimal kept.at.x ++ (mark ∷ []) ++ decimal kept.at.y ++ (mark ∷ []) ++ decimal kept.moment }
+    ensures len { array_vec_len piece.new ≤ array_vec_len piece.old + 62 }
 {
-    add_pair(piece, u64::from(at.x), mark, u64::from(at.y));
+    let mut text = [0; 62];
+    let moment = write_marked(&mut text, mark, kept.moment, 62);
+    let y = write_marked(&mut text, mark, u64::from(kept.at.y), moment);
+    let start = write_digits(u64::from(kept.at.x), &mut text, y);
+    push_bytes(piece, &text[start..]);
 }
 
 /// Adds a point with its id.
@@ -94,7 +99,7 @@ pub(crate) fn add_placed(piece: &mut Piece, placed: &Placed)
 
 /// Adds a listed point behind another, with its id: all at once, since a list may have thousands.
 pub(crate) fn add_listed(piece: &mut Piece, placed: &Placed)
-    requires { array_vec_len piece.old ≤ 65408 }
+    requires { array_vec_len piece.old ≤ 65392 }
     ensures bytes { piece.new.items ≡ piece.old.items ++ (codes ";" ++ placed_text placed.now) }
     ensures len { array_vec_len piece.new ≤ array_vec_len piece.old + 63 }
 {

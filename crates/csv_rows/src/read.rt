@@ -14,7 +14,7 @@ use std::alloc::Global;
 
 pub(crate) const MOST_ROWS: u32 = 65_536;
 
-/// The rows of an input: a header, and then at most 65,536 rows of seven fields.
+/// The rows of an input: a header, and then at most 65,536 rows of eight fields.
 ///
 /// One byte order mark may stand in front. Empty lines are no records, and numbers may have leading zeros. A text that is
 /// byte for byte as `write_rows` writes its rows is read about three times as fast as any other.

@@ -32,7 +32,7 @@ pub fn write_rows<K: Sink>(sink: &mut K, rows: &Rows) -> Result<(), SinkFault>
 
 /// Adds the first line.
 pub(crate) fn add_header(piece: &mut Piece)
-    requires { array_vec_len piece.old ≤ 65408 }
+    requires { array_vec_len piece.old ≤ 65392 }
     ensures { piece.new.items ≡ piece.old.items ++ header_line }
 {
     push_bytes(piece, HEADER.session);
@@ -42,6 +42,7 @@ pub(crate) fn add_header(piece: &mut Piece)
     add_field(piece, HEADER.columns.y);
     add_field(piece, HEADER.columns.a);
     add_field(piece, HEADER.columns.b);
+    add_field(piece, HEADER.columns.moment);
     push_str(piece, "\n");
 }
 
@@ -56,9 +57,9 @@ fn add_field(piece: &mut Piece, field: &[u8])
 }
 
 fn add_row(piece: &mut Piece, row: &InRow)
-    requires { array_vec_len piece.old ≤ 65408 }
+    requires { array_vec_len piece.old ≤ 65392 }
     ensures bytes { piece.new.items ≡ piece.old.items ++ row_line row.now }
-    ensures len { array_vec_len piece.new ≤ array_vec_len piece.old + 120 }
+    ensures len { array_vec_len piece.new ≤ array_vec_len piece.old + 136 }
 {
     add_number(piece, u64::from(row.session));
     add_op(piece, &row.op);
@@ -66,9 +67,9 @@ fn add_row(piece: &mut Piece, row: &InRow)
 
 // Adds what stands behind the session.
 fn add_op(piece: &mut Piece, op: &Op)
-    requires { array_vec_len piece.old ≤ 65424 }
+    requires { array_vec_len piece.old ≤ 65400 }
     ensures bytes { piece.new.items ≡ piece.old.items ++ op_tail op.now }
-    ensures len { array_vec_len piece.new ≤ array_vec_len piece.old + 112 }
+    ensures len { array_vec_len piece.new ≤ array_vec_len piece.old + 133 }
 {
     let word = word_by(op);
     let columns = columns_of(op);
@@ -80,6 +81,7 @@ fn add_op(piece: &mut Piece, op: &Op)
     add_column(piece, rules.y, columns.y);
     add_column(piece, rules.a, columns.a);
     add_column(piece, rules.b, columns.b);
+    add_column(piece, rules.moment, columns.moment);
     push_str(piece, "\n");
 }
 

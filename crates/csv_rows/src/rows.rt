@@ -57,8 +57,8 @@ pub enum RowsFault {
     /// The bytes begin with two byte order marks, or the first record isn't the header, or there is none.
     #[error("the first record isn't the header")]
     Header,
-    /// The record of this row hasn't seven fields.
-    #[error("row {row} hasn't seven fields")]
+    /// The record of this row hasn't eight fields.
+    #[error("row {row} hasn't eight fields")]
     Csv { row: u32 },
     /// This column, counted from 1, is the leftmost of its row that breaks its rule.
     #[error("row {row}: column {column} breaks its rule")]
@@ -137,7 +137,7 @@ pub struct Summary {
     pub sum: u64,
 }
 
-/// What is wrong with a record: it hasn't seven fields, or a column breaks its rule.
+/// What is wrong with a record: it hasn't eight fields, or a column breaks its rule.
 #[derive(Clone, Copy)]
 pub enum Wrong {
     Length,

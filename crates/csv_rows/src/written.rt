@@ -144,10 +144,21 @@ fn take_columns(word: Word, text: &[u8]) -> Option<(Columns<u64>, &[u8])>
     let Some((b, rest)) = take_column(rules.b, rest) else {
         return None;
     };
+    let Some((moment, rest)) = take_column(rules.moment, rest) else {
+        return None;
+    };
     let [b'\n', rest @ ..] = rest else {
         return None;
     };
-    Some((Columns { id, x, y, a, b }, rest))
+    let columns = Columns {
+        id,
+        x,
+        y,
+        a,
+        b,
+        moment,
+    };
+    Some((columns, rest))
 }
 
 // A comma and a column that keeps a rule, and what stands behind it.

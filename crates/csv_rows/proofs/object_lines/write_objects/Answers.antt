@@ -1,13 +1,13 @@
 use Rattle.std.proofs.Common.{[], arith, ◌∙◌}
 use Rattle.std.proofs.lemmas.List.{append-nil}
-use Rattle.zorder.specs.declared.points.Placed.{Placed}
+use Rattle.plain_list.specs.declared.world.Member.{Member}
 use Rattle.csv_rows.specs.ObjectLines.{line_in}
 use Rattle.csv_rows.proofs.ObjectFacts.{objects-text}
 use Rattle.csv_rows.proofs.PiecesFacts.{added-all, added-behind, added-moved, added-none, counts-lost, puts-fault, puts-is, puts-last}
 use Rattle.csv_rows.proofs.object_lines.write_objects.Goals as goal
 
-abbrev blank : Placed
-blank = record { id = 0; at = record { x = 0; y = 0 } }
+abbrev blank : Member
+blank = record { id = 0; at = record { x = 0; y = 0 }; moment = 0 }
 
 pub loop-object-init : goal.loop-object-init
 loop-object-init g c = added-none (line_in c.args.region.now) _ _ c.push_str.new.piece.items c.args.objects.now

@@ -13,6 +13,7 @@ returns-clause-bytes c =
     let rules = rules_of word n.x n.y in
     rw (
       c.push_str-3.ensures.bytes,
+      c.add_column-6.ensures.bytes,
       c.add_column-5.ensures.bytes,
       c.add_column-4.ensures.bytes,
       c.add_column-3.ensures.bytes,
@@ -24,4 +25,4 @@ returns-clause-bytes c =
       c.rules_of-rules.ensures,
       c.word_by-word.ensures,
       c.columns_of-columns.ensures,
-    ) (pushed_fields old (word_text word) (text_by rules.id n.id) (text_by rules.x n.x) (text_by rules.y n.y) (text_by rules.a n.a) (text_by rules.b n.b) ∙ ap (λ (l : List ℕ). old ++ l) (sym (op_tail-line op)))
+    ) (pushed_fields old (word_text word) (text_by rules.id n.id) (text_by rules.x n.x) (text_by rules.y n.y) (text_by rules.a n.a) (text_by rules.b n.b) (text_by rules.moment n.moment) ∙ ap (λ (l : List ℕ). old ++ l) (sym (op_tail-line op)))

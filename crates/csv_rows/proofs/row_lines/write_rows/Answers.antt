@@ -14,7 +14,7 @@ unfolding rows_text
 text-is empty front items rows none e is = ap (λ l. l ++ flat_map row_line items) (e ∙ ap (λ l. l ++ header_line) none) ∙ ap (λ (l : List InRow). header_line ++ flat_map row_line l) is
 
 abbrev blank : InRow
-blank = record { session = 0; op = op.Put 0 (record { x = 0; y = 0 }) }
+blank = record { session = 0; op = op.Put 0 (record { x = 0; y = 0 }) 0 }
 
 pub loop-row-init : goal.loop-row-init
 loop-row-init g c = added-none row_line _ _ c.add_header.new.piece.items c.as_slice-row-items.result.now
