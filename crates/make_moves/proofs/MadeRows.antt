@@ -11,7 +11,7 @@ use Rattle.plain_list.specs.declared.ops.Op.TheVariants as op
 use Rattle.plain_list.specs.Answer.{IsValid, FitsOp}
 use Rattle.csv_rows.specs.InRows.{IsInRow, AreInRows}
 use Rattle.make_moves.specs.Draws.{next_state, after_draws, drawn, draw_at}
-use Rattle.make_moves.specs.Moves.{made_id, reach, box_from, op_by, session_at, row_drawn, made_row, made_rows}
+use Rattle.make_moves.specs.Moves.{made_id, moment_of, reach, box_from, op_by, session_at, row_drawn, made_row, made_rows}
 
 drawn-fits : (state : ℕ) → drawn (next_state state) < 2 ^ 32
 drawn-fits state = omega arith
@@ -28,6 +28,9 @@ reach-above x fits = omega arith
 IsBox-box_from : (at : Point) → IsPoint at → IsBox (box_from at)
 IsBox-box_from at fits = record { x = reach-above at.x fits.x; y = reach-above at.y fits.y }
 
+moment-fits : (at : Point) → IsPoint at → moment_of at < 2 ^ 64
+moment-fits at fits = omega (arith, fits.x)
+
 -- what a row asks of its operation
 pub record KeepsRules (o : Op) : Type 0 where
   pub valid : IsValid o
@@ -37,9 +40,9 @@ pub record KeepsRules (o : Op) : Type 0 where
 op-rules : (digit id k : ℕ) (at : Point) → id < 2 ^ 64 → 1 ≤ k → k ≤ 2048 → IsPoint at → KeepsRules (op_by digit id k at)
 op-rules digit id k at id_fits low high fits = by_tests (nat_lt digit 4) (nat_lt digit 6) (digit == 6) (digit == 7) (digit == 8)
   where
-    by_tests : (a b c d e : Bool) → KeepsRules (cond a (op.Put id at) (cond b (op.Move id at) (cond c (op.Remove id) (cond d (op.Find id) (cond e (op.Within (box_from at)) (op.Near at k))))))
-    by_tests true b c d e = record { valid = tt; fits = (id_fits, fits) }
-    by_tests false true c d e = record { valid = tt; fits = (id_fits, fits) }
+    by_tests : (a b c d e : Bool) → KeepsRules (cond a (op.Put id at (moment_of at)) (cond b (op.Move id at (moment_of at)) (cond c (op.Remove id) (cond d (op.Find id) (cond e (op.Within (box_from at)) (op.Near at k))))))
+    by_tests true b c d e = record { valid = tt; fits = (id_fits, fits, moment-fits at fits) }
+    by_tests false true c d e = record { valid = tt; fits = (id_fits, fits, moment-fits at fits) }
     by_tests false false true d e = record { valid = tt; fits = id_fits }
     by_tests false false false true e = record { valid = tt; fits = id_fits }
     by_tests false false false false true = record { valid = IsBox-box_from at fits; fits = (fits, record { x = reach-fits at.x; y = reach-fits at.y }) }

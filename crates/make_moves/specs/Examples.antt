@@ -14,5 +14,5 @@ first_of_1 = refl
 first_of_2 : draw_at 2 0 ≡ 3299435481
 first_of_2 = refl
 
-first_of_seed_2 : made_rows 1 2 ≡ record { session = 1; op = op.Put 1717 (record { x = 3938983765; y = 2969520912 }) } ∷ []
+first_of_seed_2 : made_rows 1 2 ≡ record { session = 1; op = op.Put 1717 (record { x = 3938983765; y = 2969520912 }) 60104 } ∷ []
 first_of_seed_2 = refl

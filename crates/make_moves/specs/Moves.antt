@@ -24,10 +24,14 @@ reach x = min (x + 16777216) 4294967295
 abbrev pub box_from : Point → Region
 box_from at = record { lo = at; hi = record { x = reach at.x; y = reach at.y } }
 
+-- the moment of a position: the upper half of its first coordinate
+abbrev pub moment_of : Point → ℕ
+moment_of at = at.x / 65536
+
 -- the operation by the last digit of the first draw: four puts, two moves, a drop, a where, a box, a near
 abbrev pub op_by : ℕ → ℕ → ℕ → Point → Op
 op_by digit id k at =
-    if nat_lt digit 4 then op.Put id at else if nat_lt digit 6 then op.Move id at else if digit == 6 then op.Remove id else if digit == 7 then op.Find id else if digit == 8 then op.Within (box_from at) else op.Near at k
+    if nat_lt digit 4 then op.Put id at (moment_of at) else if nat_lt digit 6 then op.Move id at (moment_of at) else if digit == 6 then op.Remove id else if digit == 7 then op.Find id else if digit == 8 then op.Within (box_from at) else op.Near at k
 
 -- the operation of a session, from its first draw and the point of the two others
 abbrev pub made_op : ℕ → ℕ → Point → Op

@@ -12,6 +12,9 @@ use zorder::{Memory, Point, Region};
 /// How far a box reaches on each axis.
 const REACH: u32 = 16_777_216;
 
+/// A moment is the first coordinate without its low bits.
+const MOMENTS: u32 = 65_536;
+
 /// The first rows, this many, that this seed makes.
 pub fn make(alloc: Global, n: u32, seed: u64) -> Result<Rows, Memory>
     requires { n ≤ 65536 }
@@ -46,9 +49,10 @@ fn op_from(session: u8, u: u32, at: Point) -> Op
 {
     let r = u / 16;
     let id = 1000 * u64::from(session) + u64::from(r % 1000);
+    let moment = u64::from(at.x / MOMENTS);
     match u % 10 {
-        0..=3 => Op::Put { id, at },
-        4 | 5 => Op::Move { id, at },
+        0..=3 => Op::Put { id, at, moment },
+        4 | 5 => Op::Move { id, at, moment },
         6 => Op::Remove { id },
         7 => Op::Find { id },
         8 => Op::Within {
