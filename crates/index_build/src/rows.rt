@@ -4,12 +4,12 @@ ghost use Rattle.bucket_versions.specs.declared.row.Row.{Row};
 ghost use Rattle.bucket_versions.specs.Rows.{IsRows, has_row};
 ghost use Rattle.plain_list.specs.World.{places_of};
 ghost use Rattle.index_layer.specs.Stands.{places_have};
-ghost use Rattle.index_build.specs.WorldRows.{bucket_row};
+ghost use Rattle.index_build.specs.WorldRows.{member_row};
 
 use bucket_versions::Row;
-use plain_list::World;
+use plain_list::{Member, World};
 use std::alloc::{AllocError, Global};
-use zorder::{Placed, key};
+use zorder::key;
 
 /// A row for each object, in order.
 pub(crate) fn rows_of(alloc: Global, world: &World) -> Result<Vec<Row>, AllocError>
@@ -21,8 +21,8 @@ pub(crate) fn rows_of(alloc: Global, world: &World) -> Result<Vec<Row>, AllocErr
     Ok(rows)
 }
 
-fn listed(alloc: Global, members: &[Placed]) -> Result<Vec<Row>, AllocError>
-    ensures { IfOk result (λ rows. rows.items ≡ map bucket_row members.now) }
+fn listed(alloc: Global, members: &[Member]) -> Result<Vec<Row>, AllocError>
+    ensures { IfOk result (λ rows. rows.items ≡ map member_row members.now) }
 {
     members
         .iter()

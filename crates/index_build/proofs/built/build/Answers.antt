@@ -18,7 +18,7 @@ returns-clause-stands g c =
     all_there rows c.args.leaves.now c.whole-name.result (arc_value c.in_ok-cut_out.field-0) (g.I.Index.leaves c.in_ok-index.index) leaves c.in_ok-growing.growing.done
     c.whole-name.ensures c.in_ok-cut_out.ensures c.in_ok-index.ensures c.requires.tile are c.in_ok-growing.ensures in
     let has : (r : Row) → has_row r rows ≡ places_have (places_of c.args.world.now) r = λ r. ap (λ (b : Rows). has_row r b.base) c.from_vec-whole.ensures ∙ c.in_ok-rows_of.ensures.has r in
-    Stands-leaves_for c.args.world.now rows has leaves c.args.leaves.now are c.requires.tile is
+    Stands-leaves_for (places_of c.args.world.now) rows has leaves c.args.leaves.now are c.requires.tile is
 
 pub returns-clause-folded : goal.returns-clause-folded
 returns-clause-folded g c =
