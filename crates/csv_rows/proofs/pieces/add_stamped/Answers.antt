@@ -1,4 +1,4 @@
-use Rattle.std.proofs.Common.{◌∙◌, ◌++◌, ap, arith}
+use Rattle.std.proofs.Common.{arith}
 use Rattle.std.proofs.lemmas.Fmt.{length-decimal-le}
 use Rattle.csv_rows.proofs.PiecesFacts.{from-there, stamped-written}
 use Rattle.csv_rows.proofs.pieces.add_stamped.Goals as goal
