@@ -1,11 +1,14 @@
 -- The head of a file, and the header of a log.
-use Rattle.std.proofs.Common.{◌≡◌, ◌≢◌, ℕ, ◌<◌, ◌≤◌, false, inl, inr, ⊎_elim, List, [], ◌∷◌, ◌++◌, length, get_or, take, drop, replicate, refl, sym, ◌∙◌, ap, arith, length-drop, length-take}
-use Rattle.std.specs.Prelude.{slice_index, ◌==◌, Result, Ok, Err, OnOk}
+use Rattle.std.proofs.Common.{◌≡◌, ◌≢◌, ℕ, ◌<◌, ◌≤◌, false, inl, inr, ⊎_elim, List, [], ◌∷◌, ◌++◌, length, get_or, take, drop, replicate, refl, sym, ◌∙◌, ap, arith, length-drop, length-take, append_assoc}
+use Rattle.std.specs.Prelude.{slice_index, ◌==◌}
 use Rattle.std.specs.Cmp.{unsigned_Decides}
 use Rattle.std.specs.Cmp.Lexicographic.{pointwise, pointwise_decides}
 use Rattle.std.proofs.lemmas.Bool.{true≢false}
 use Rattle.std.proofs.lemmas.List.{append-nil, take-append-drop, take-append-le, take_all, drop-take, drop_more, get_or_append_left}
-use Rattle.cell_format.specs.Spelling.{header_text}
+use Rattle.cell_format.specs.Spelling.{newest, spelling, header_text}
+use Rattle.std.specs.List.{flat_map}
+use Rattle.cell_format.specs.declared.cell.Cell.{Cell}
+use Rattle.split_log.specs.LogText.{front_of, HoldsCells}
 use Rattle.recovery.specs.declared.seen.OpenFault.{OpenFault}
 use Rattle.recovery.specs.declared.seen.OpenFault.TheVariants as fault
 use Rattle.recovery.specs.Faults.{HasOtherHead, IsFault, BeginsWith}
@@ -14,25 +17,40 @@ use Rattle.recovery.specs.Headers.{HasHeader, FailsHead}
 pub bytes_unlike : (xs ys : List ℕ) → pointwise (λ x y. x == y) xs ys ≡ false → xs ≢ ys
 bytes_unlike xs ys test same = true≢false (sym ((pointwise_decides unsigned_Decides xs ys).1 same) ∙ test)
 
--- the word and the zeros of a header, of any width
-pub header_word : (w : ℕ) → take 8 (header_text w) ≡ take 8 (header_text 1)
+-- the word and the zeros of a header, of any version and width
+pub header_word : (v w : ℕ) → take 8 (header_text v w) ≡ take 8 (header_text newest 1)
 unfolding header_text
-header_word w = refl
+header_word v w = refl
 
-pub header_zeros : (w : ℕ) → take 6 (drop 10 (header_text w)) ≡ replicate 6 0
+pub header_zeros : (v w : ℕ) → take 6 (drop 10 (header_text v w)) ≡ replicate 6 0
 unfolding header_text
-header_zeros w = refl
+header_zeros v w = refl
 
-header_parts : (w : ℕ) → header_text w ≡ take 8 (header_text w) ++ 1 ∷ w ∷ take 6 (drop 10 (header_text w))
+header_parts : (v w : ℕ) → header_text v w ≡ take 8 (header_text newest w) ++ v ∷ w ∷ take 6 (drop 10 (header_text newest w))
 unfolding header_text
-header_parts w = refl
+header_parts v w = refl
+
+-- a header names its version and its width
+pub header_bytes : (v w : ℕ) (rest : List ℕ) → (slice_index (header_text v w ++ rest) 8 ≡ v) × (slice_index (header_text v w ++ rest) 9 ≡ w)
+unfolding header_text
+header_bytes v w rest = (refl, refl)
+
+-- and so does a log
+pub index_version : (v w : ℕ) (cells : List Cell) (bytes : List ℕ) → HoldsCells v w cells bytes → slice_index bytes 8 ≡ v
+index_version v w cells bytes holds =
+    let behind : List ℕ = flat_map spelling cells ++ holds.text.commit_byte ∷ holds.rest in
+    let parts : bytes ≡ header_text v w ++ behind =
+    holds.parts ∙ ap (λ (l : List ℕ). l ++ holds.rest) holds.text.text ∙ append_assoc (front_of v w cells) (holds.text.commit_byte ∷ []) holds.rest
+    ∙ append_assoc (header_text v w) (flat_map spelling cells) (holds.text.commit_byte ∷ holds.rest) in
+    ap (λ (l : List ℕ). slice_index l 8) parts ∙ (header_bytes v w behind).0
 
 -- 16 bytes with the four parts of a header
-pub is_header : (w : ℕ) (head : List ℕ) → length head ≡ 16 → take 8 head ≡ take 8 (header_text w) → take 6 (drop 10 head) ≡ take 6 (drop 10 (header_text w)) → get_or head 8 0 ≡ 1 → get_or head 9 0 ≡ w → head ≡ header_text w
-is_header w head long word zeros version width =
+pub is_header : (v w : ℕ) (head : List ℕ) → length head ≡ 16 → take 8 head ≡ take 8 (header_text newest w) → take 6 (drop 10 head) ≡ take 6 (drop 10 (header_text newest w)) → get_or head 8 0 ≡ v → get_or head 9 0 ≡ w
+    → head ≡ header_text v w
+is_header v w head long word zeros version width =
     let rest : drop 10 head ≡ take 6 (drop 10 head) = sym (take_all 6 (drop 10 head) (omega (arith, long, length-drop 10 head))) in
     let middle : drop 8 head ≡ get_or head 8 0 ∷ get_or head 9 0 ∷ drop 10 head = drop_more head 8 0 (omega (arith, long)) ∙ ap (λ (l : List ℕ). get_or head 8 0 ∷ l) (drop_more head 9 0 (omega (arith, long))) in
-    sym (take-append-drop 8 head) ∙ (λ i. word i ++ middle i) ∙ (λ i. take 8 (header_text w) ++ version i ∷ width i ∷ (rest ∙ zeros) i) ∙ sym (header_parts w)
+    sym (take-append-drop 8 head) ∙ (λ i. word i ++ middle i) ∙ (λ i. take 8 (header_text newest w) ++ version i ∷ width i ∷ (rest ∙ zeros) i) ∙ sym (header_parts v w)
 
 take_front : (n m : ℕ) (xs : List ℕ) → n ≤ m → m ≤ length xs → take n (take m xs) ≡ take n xs
 take_front n m xs le long = sym (take-append-le n (take m xs) (drop m xs) (omega (arith, le, long, length-take m xs))) ∙ ap (take n) (take-append-drop m xs)
@@ -40,7 +58,7 @@ take_front n m xs le long = sym (take-append-le n (take m xs) (drop m xs) (omega
 index_front : (xs : List ℕ) (i m : ℕ) → i < m → m ≤ length xs → slice_index (take m xs) i ≡ slice_index xs i
 index_front xs i m lt long = sym (get_or_append_left (take m xs) (drop m xs) 0 i (omega (arith, lt, long, length-take m xs))) ∙ ap (λ (l : List ℕ). slice_index l i) (take-append-drop m xs)
 
-module _ (w : ℕ) (xs : List ℕ) (long : 17 ≤ length xs) where
+module _ (oldest w : ℕ) (xs : List ℕ) (long : 17 ≤ length xs) where
   head_other : HasOtherHead (take 16 xs) → HasOtherHead xs
   head_other other = ⊎_elim
       (λ word. inl (λ e. word (take_front 8 16 xs (omega arith) (omega (arith, long)) ∙ e)))
@@ -52,7 +70,7 @@ module _ (w : ℕ) (xs : List ℕ) (long : 17 ≤ length xs) where
       (λ zeros. inr (λ e. zeros (sym (take_front 6 6 (drop 10 xs) (omega arith) (omega (arith, long, length-drop 10 xs))) ∙ sym (ap (take 6) (drop-take 10 6 xs)) ∙ e))) other
 
   -- what is at fault in the head is at fault in the file
-  pub head_fails : (most : ℕ) (e : OpenFault) → FailsHead w (take 16 xs) e → IsFault w most xs e
+  pub head_fails : (most : ℕ) (e : OpenFault) → FailsHead oldest w (take 16 xs) e → IsFault oldest w most xs e
   head_fails most fault.NotLog other = inr (head_other other)
   head_fails most (fault.OldLog version width) fails = record {
     is_log = ⊎_elim (λ short. absurd (omega (arith, short, long))) (λ other. fails.0 (other_head other));
@@ -65,19 +83,15 @@ module _ (w : ℕ) (xs : List ℕ) (long : 17 ≤ length xs) where
   head_fails most fault.Disk fails = absurd fails
   head_fails most fault.Memory fails = absurd fails
 
-  pub head_stands : take 16 xs ≡ header_text w → HasHeader w xs
-  head_stands head = record { rest = drop 16 xs; parts = sym (take-append-drop 16 xs) ∙ ap (λ (l : List ℕ). l ++ drop 16 xs) head; long = long }
+  pub head_stands : (v : ℕ) → take 16 xs ≡ header_text v w → HasHeader v w xs
+  head_stands v head = record { rest = drop 16 xs; parts = sym (take-append-drop 16 xs) ∙ ap (λ (l : List ℕ). l ++ drop 16 xs) head; long = long }
 
 -- a header, and no cell yet
-pub begins_first : (w : ℕ) (xs : List ℕ) (has : HasHeader w xs) → BeginsWith w [] has.rest xs
-begins_first w xs has = record { cells_fit = tt; legal = refl; parts = has.parts ∙ ap (λ (l : List ℕ). l ++ has.rest) (sym (append-nil (header_text w))) }
+pub begins_first : (v w : ℕ) (xs : List ℕ) (has : HasHeader v w xs) → BeginsWith v w [] has.rest xs
+begins_first v w xs has = record { cells_fit = tt; legal = refl; parts = has.parts ∙ ap (λ (l : List ℕ). l ++ has.rest) (sym (append-nil (header_text v w))) }
 
 -- a read of 16 bytes at the front
 pub read_head : (got : ℕ) (into xs : List ℕ) → length into ≡ 16 → got ≤ 16 → 16 ≤ got → take got into ≡ take got xs → into ≡ take 16 xs
 read_head got into xs long le ge read =
     let all : got ≡ 16 = omega (arith, le, ge) in
     sym (take_all got into (omega (arith, long, ge))) ∙ read ∙ ap (λ n. take n xs) all
-
-pub on_ok_weaker : {T E : Type 0} (result : Result T E) (P Q : Type 0) → (P → Q) → OnOk result P → OnOk result Q
-on_ok_weaker (Ok x) P Q gives holds = gives holds
-on_ok_weaker (Err e) P Q gives holds = tt

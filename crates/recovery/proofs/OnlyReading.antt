@@ -1,5 +1,5 @@
 -- Calls that only read, one after the other.
-use Rattle.std.proofs.Common.{◌≡◌, ◌≢◌, ℕ, ◌≤◌, List, length, Some, sym, ◌∙◌, ap, subst, arith}
+use Rattle.std.proofs.Common.{◌≡◌, ◌≢◌, ◌⊎◌, ℕ, ◌≤◌, List, length, Some, sym, ◌∙◌, ap, subst, arith}
 use Rattle.std.specs.Prelude.{Result, Ok, Err, IfErr, MatchResult, IsErrOf}
 use Rattle.std.specs.Result.{IsErrAnd}
 use Rattle.causes.specs.Causes.{Rose}
@@ -11,8 +11,10 @@ use Rattle.recovery.specs.declared.pieces.Stop.TheVariants.{Set}
 use Rattle.recovery.specs.Faults.{IsFault}
 use Rattle.recovery.specs.Walk.{WalkView}
 use Rattle.recovery.specs.declared.seen.Seen.{Seen}
-use Rattle.recovery.specs.Found.{IsFound}
-use Rattle.recovery.specs.Reading.{Reaches, Ends, GoesOn, OnlyReads, IsReading, IsFoundIn}
+use Rattle.log_state.specs.Recovers.{state_of}
+use Rattle.recovery.specs.Found.{Shows, IsWanted, IsFound}
+use Rattle.recovery.specs.Reading.{Reaches, Ends, FailsIn, GoesOn, OnlyReads, IsReading, IsFoundIn}
+use Rattle.recovery.proofs.Heads.{index_version}
 
 pub stays-trans : (a b c : Drive) → Stays a b → Stays b c → Stays a c
 stays-trans a b c first second = record {
@@ -71,19 +73,21 @@ reaches_stays most len n b c walk stays came = record {
 }
 
 module _ (most len n : ℕ) (before now : Drive) (first walk : WalkView) (buffer : List ℕ) (reading : IsReading most len n before now first walk buffer) where
-  pub reading_next : {T : Type 0} (m : ℕ) (after : Drive) (new : WalkView) (piece : List ℕ) (result : Result T OpenFault) → GoesOn most len n now new (Set m) → OnlyReads now after result → new.width ≡ walk.width → length piece ≡ 65537 → after.faults ≡ now.faults
+  pub reading_next : {T : Type 0} (m : ℕ) (after : Drive) (new : WalkView) (piece : List ℕ) (result : Result T OpenFault) → GoesOn most len n now new (Set m) → OnlyReads now after result → new.version ≡ walk.version → new.width ≡ walk.width → length piece ≡ 65537 → after.faults ≡ now.faults
       → IsReading most len m before after first new piece
-  reading_next m after new piece result on reads width long same = record {
+  reading_next m after new piece result on reads version width long same = record {
     came = reaches_stays most len m now after new reads.stays on.1;
     stays = stays-trans before now after reading.stays reads.stays;
     same = same ∙ reading.same;
     file = λ all told. reading.file all (reads.file all told);
+    version = version ∙ reading.version;
     width = width ∙ reading.width;
     long = long;
   }
 
-  pub reading_fails : (e : OpenFault) → ((xs : List ℕ) → now.bytes ≡ Some xs → IsFault walk.width most xs e) → (xs : List ℕ) → before.bytes ≡ Some xs → IsFault first.width most xs e
-  reading_fails e fails xs told = subst (λ w. IsFault w most xs e) reading.width (fails xs (reading.stays.bytes ∙ told))
+  pub reading_fails : (e : OpenFault) → FailsIn most now walk e → FailsIn most before first e
+  reading_fails e fails xs told oldest wanted =
+      subst (λ w. IsFault oldest w most xs e) reading.width (fails xs (reading.stays.bytes ∙ told) oldest (subst (IsWanted oldest) (sym reading.version) wanted))
 
   pub reading_ends : (m : ℕ) (new : WalkView) → Ends most len m now new → Ends most len m before new
   reading_ends m new ends = record {
@@ -96,13 +100,38 @@ module _ (most len n : ℕ) (before now : Drive) (first walk : WalkView) (buffer
     text = λ xs told. ends.text xs (reading.stays.bytes ∙ told);
   }
 
--- what was found is said of the drive before calls that left its bytes
-pub found_before : (w most : ℕ) (a b : Drive) (seen : Seen) → b.bytes ≡ a.bytes → IsFound w most b seen → IsFound w most a seen
-found_before w most a b seen kept found = record { cells = found.cells; legal = found.legal; few = found.few; finds = found.finds; recovers = λ bytes told. found.recovers bytes (kept ∙ told) }
+-- what is found in a log that was read to its end
+pub found_at_end : (oldest most len number : ℕ) (drive : Drive) (walk : WalkView) (seen : Seen) → Ends most len number drive walk → Shows walk.state number seen → seen.version ≡ walk.version → (walk.version ≡ 1) ⊎ (walk.version ≡ 2)
+    → ((xs : List ℕ) → drive.bytes ≡ Some xs → length xs ≡ len) → IsWanted oldest walk.version → IsFoundIn oldest walk.width most drive seen len
+found_at_end oldest most len number drive walk seen ends shows version known whole wanted = record {
+  found = record {
+    cells = ends.cells;
+    legal = ends.legal;
+    few = omega (arith, ends.count, ends.few);
+    finds = subst (λ n. Shows (state_of walk.width ends.cells) n seen) (sym ends.count) (subst (λ s. Shows s number seen) ends.state shows);
+    wanted = subst (IsWanted oldest) (sym version) wanted;
+    recovers = λ bytes told. record { version = walk.version; known = known; holds = ends.text bytes told; legal = ends.legal };
+    named = λ bytes told. version ∙ sym (index_version walk.version walk.width ends.cells bytes (ends.text bytes told));
+  };
+  room = omega (arith, ends.room, shows.count);
+  whole = whole;
+}
 
-pub found_in_before : (v w most len : ℕ) (a b : Drive) (seen : Seen) → v ≡ w → b.bytes ≡ a.bytes → IsFoundIn v most b seen len → IsFoundIn w most a seen len
-found_in_before v w most len a b seen width kept found = record {
-  found = found_before w most a b seen kept (subst (λ u. IsFound u most b seen) width found.found);
+-- what was found is said of the drive before calls that left its bytes
+pub found_before : (oldest w most : ℕ) (a b : Drive) (seen : Seen) → b.bytes ≡ a.bytes → IsFound oldest w most b seen → IsFound oldest w most a seen
+found_before oldest w most a b seen kept found = record {
+  cells = found.cells;
+  legal = found.legal;
+  few = found.few;
+  finds = found.finds;
+  wanted = found.wanted;
+  recovers = λ bytes told. found.recovers bytes (kept ∙ told);
+  named = λ bytes told. found.named bytes (kept ∙ told);
+}
+
+pub found_in_before : (oldest v w most len : ℕ) (a b : Drive) (seen : Seen) → v ≡ w → b.bytes ≡ a.bytes → IsFoundIn oldest v most b seen len → IsFoundIn oldest w most a seen len
+found_in_before oldest v w most len a b seen width kept found = record {
+  found = found_before oldest w most a b seen kept (subst (λ u. IsFound oldest u most b seen) width found.found);
   room = found.room;
   whole = λ bytes told. found.whole bytes (kept ∙ told);
 }

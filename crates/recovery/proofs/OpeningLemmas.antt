@@ -1,5 +1,5 @@
 -- What a crash leaves while a log is opened.
-use Rattle.std.proofs.Common.{◌≡◌, ◌≢◌, ◌⊎◌, ℕ, ◌+◌, ◌*◌, ◌<◌, ◌≤◌, inl, inr, ⊎_elim, true, false, List, [], ◌∷◌, ◌++◌, length, take, drop, Some, is_some, refl, sym, ◌∙◌, ap, subst, lit≤, arith}
+use Rattle.std.proofs.Common.{◌≡◌, ◌≢◌, ◌⊎◌, ℕ, ◌+◌, ◌*◌, ◌<◌, ◌≤◌, inl, inr, ⊎_elim, true, false, List, [], ◌∷◌, ◌++◌, length, take, drop, Some, is_some, refl, sym, ◌∙◌, ap, subst, lit≤, arith, length-append}
 use Rattle.std.specs.Prelude.{Result, Ok, Err, IfOk, IsErrOf}
 use Rattle.std.specs.Result.{IsErrAnd}
 use Rattle.causes.specs.Causes.{Rose}
@@ -10,16 +10,18 @@ use Rattle.disk_trait.specs.Drive.{Drive, HasNoMore, Made, MadeWell, SameFile, K
 use Rattle.disk_trait.specs.Moments.{LeavesNow, LeavesOnly}
 use Rattle.disk_trait.proofs.Calls.{made-then, made-still, still-made}
 use Rattle.disk_trait.proofs.Stretches.{started, goes_on}
-use Rattle.split_log.specs.LogText.{IsLogText, HoldsCells}
-use Rattle.split_log.proofs.Cells.{length-log}
+use Rattle.cell_format.specs.Spelling.{newest}
+use Rattle.split_log.specs.LogText.{front_of, IsLogText, HoldsCells}
+use Rattle.split_log.proofs.Cells.{length-front_of}
 use Rattle.split_log.proofs.Unique.{holds-same}
 use Rattle.recovery.specs.declared.seen.Seen.{Seen}
 use Rattle.log_state.specs.Recovers.{Recovers}
 use Rattle.recovery.specs.declared.seen.OpenFault.{OpenFault}
 use Rattle.recovery.specs.declared.seen.OpenFault.TheVariants.{Disk}
-use Rattle.recovery.specs.Found.{IsFound}
+use Rattle.recovery.specs.Found.{IsWanted, IsFound}
 use Rattle.recovery.specs.Opening.{KeepsCells, CallsToCut, CallsToOpen, CallsRefused, LeavesUnopened, IsReady, IsUntouched}
 use Rattle.recovery.specs.Reading.{IsFoundIn}
+use Rattle.recovery.proofs.Heads.{index_version}
 
 -- one stretch after another
 pub leaves-trans : (a b c : Drive) (P : List ℕ → Type 0) → LeavesOnly a b P → LeavesOnly b c P → LeavesOnly a c P
@@ -41,19 +43,26 @@ leaves-stays a b P laws now stays = record {
 pub leaves-sync : {T : Type 0} (a b : Drive) (P : List ℕ → Type 0) (result : Result T DiskFault) → KeepsLaws a → LeavesNow a P → Syncs a b result → LeavesOnly a b P
 leaves-sync a b P result laws now syncs = goes_on a a b P (started a P laws now) syncs.time (λ x left. now x (syncs.crash x left))
 
+-- the version of a log that is wanted from the newest on
+pub newest_is : (v : ℕ) → IsWanted newest v → v ≡ newest
+newest_is v wanted = omega (arith, wanted.least, wanted.most)
+
 -- the text of cells ends here
 module _ (w : ℕ) (cells : List Cell) (end : ℕ) (at_end : end ≡ 17 + 32 * length cells) where
-  front_long : (bytes : List ℕ) (holds : HoldsCells w cells bytes) → length holds.front ≡ end
-  front_long bytes holds = omega (arith, at_end, length-log (length cells) holds.front (record { width = w; cells = cells; count_is = refl; text = holds.text }))
+  front_long : (v : ℕ) (bytes : List ℕ) (holds : HoldsCells v w cells bytes) → length holds.front ≡ end
+  front_long v bytes holds =
+      omega (arith, at_end, ap length holds.text.text, length-append (front_of v w cells) (holds.text.commit_byte ∷ []), length-front_of v w cells)
 
-  pub front_is : (bytes : List ℕ) (holds : HoldsCells w cells bytes) → take end bytes ≡ holds.front
-  front_is bytes holds = ap (take end) holds.parts ∙ take_at holds.front holds.rest end (front_long bytes holds)
+  pub front_is : (v : ℕ) (bytes : List ℕ) (holds : HoldsCells v w cells bytes) → take end bytes ≡ holds.front
+  front_is v bytes holds = ap (take end) holds.parts ∙ take_at holds.front holds.rest end (front_long v bytes holds)
 
   -- bytes that recover to them still do when they are cut there, or partly
   pub recovers-shortened : (old new : List ℕ) → Recovers w cells old → Shortened end old new → Recovers w cells new
   recovers-shortened old new recovers cut =
-      let front : take end new ≡ recovers.holds.front = cut.before ∙ front_is old recovers.holds in
+      let front : take end new ≡ recovers.holds.front = cut.before ∙ front_is recovers.version old recovers.holds in
       record {
+        version = recovers.version;
+        known = recovers.known;
         holds = record {
           front = recovers.holds.front;
           rest = drop end new;
@@ -70,12 +79,13 @@ module _ (w : ℕ) (cells : List Cell) (end : ℕ) (at_end : end ≡ 17 + 32 * l
       (goes_on a a b (Recovers w cells) (started a (Recovers w cells) laws now) cuts.time here, here)
 
 module _ (w most len : ℕ) (d0 d1 d2 : Drive) (seen : Seen) (laws0 : KeepsLaws d0) (laws1 : KeepsLaws d1) (bytes_kept : d1.bytes ≡ d0.bytes) (images_kept : (c : List ℕ) → d1.images c → d0.images c)
-    (in_file : IsFoundIn w most d1 seen len) (stays : Stays d1 d2) where
+    (in_file : IsFoundIn newest w most d1 seen len) (stays : Stays d1 d2) where
   -- the cells that were found are those that a crash leaves
   found_cells : (bytes : List ℕ) (cells : List Cell) → d0.bytes ≡ Some bytes → LeavesNow d0 (Recovers w cells) → 17 + 32 * seen.cells ≡ 17 + 32 * length cells
   found_cells bytes cells told now =
       let recovers = now bytes (laws0.held bytes told) in
-      let same : cells ≡ in_file.found.cells = holds-same w cells in_file.found.cells bytes recovers.holds (in_file.found.recovers bytes (bytes_kept ∙ told)).holds in
+      let found = in_file.found.recovers bytes (bytes_kept ∙ told) in
+      let same : cells ≡ in_file.found.cells = holds-same recovers.version found.version w cells in_file.found.cells bytes recovers.holds found.holds in
       omega (arith, ap length same, in_file.found.finds.count)
 
   pub keeps_cells : (d3 : Drive) → ((P : List ℕ → Type 0) → LeavesNow d0 P → LeavesOnly d0 d1 P) → ((v : ℕ) (cells : List Cell) → 17 + 32 * seen.cells ≡ 17 + 32 * length cells → LeavesNow d2 (Recovers v cells) → LeavesOnly d2 d3 (Recovers v cells)) → KeepsCells w d0 d3
@@ -103,6 +113,8 @@ module _ (w most len : ℕ) (d0 d1 d2 : Drive) (seen : Seen) (laws0 : KeepsLaws 
     told = told_kept ∙ ap is_some (stays.bytes ∙ bytes_kept);
     log = λ bytes told.
         let recovers = in_file.found.recovers bytes (bytes_kept ∙ told) in
+        let version : recovers.version ≡ newest =
+        sym (index_version recovers.version w in_file.found.cells bytes recovers.holds) ∙ sym (in_file.found.named bytes (bytes_kept ∙ told)) ∙ newest_is seen.version in_file.found.wanted in
         let left = cut bytes (stays.bytes ∙ bytes_kept ∙ told) (λ c image. only bytes told c (stays.images c image)) in
         let end : 17 + 32 * seen.cells ≡ 17 + 32 * length in_file.found.cells = omega (arith, in_file.found.finds.count) in (
           in_file.found.cells,
@@ -111,7 +123,8 @@ module _ (w most len : ℕ) (d0 d1 d2 : Drive) (seen : Seen) (laws0 : KeepsLaws 
           record {
             bytes = take (17 + 32 * seen.cells) bytes;
             told = left.0;
-            text = subst (IsLogText w in_file.found.cells) (sym (front_is w in_file.found.cells (17 + 32 * seen.cells) end bytes recovers.holds)) recovers.holds.text;
+            text = subst (IsLogText newest w in_file.found.cells) (sym (front_is w in_file.found.cells (17 + 32 * seen.cells) end recovers.version bytes recovers.holds))
+                (subst (λ v. IsLogText v w in_file.found.cells recovers.holds.front) version recovers.holds.text);
             durable = left.1;
           },
         );
@@ -177,11 +190,11 @@ refused_read w most a b c result fault syncs made stays same calm file = record 
   file = file;
 }
 
-pub refused_cut : (w most : ℕ) (a b c d : Drive) (seen : Seen) → b.bytes ≡ a.bytes → IsFound w most b seen → MadeWell 1 a b → Stays b c → Made (false ∷ []) c d ⊎ Made (true ∷ false ∷ []) c d → SameFile a d → LeavesUnopened w most a d Disk
+pub refused_cut : (w most : ℕ) (a b c d : Drive) (seen : Seen) → b.bytes ≡ a.bytes → IsFound newest w most b seen → MadeWell 1 a b → Stays b c → Made (false ∷ []) c d ⊎ Made (true ∷ false ∷ []) c d → SameFile a d → LeavesUnopened w most a d Disk
 refused_cut w most a b c d seen kept found made stays failed file = record {
   unfailed = λ other. absurd (other refl);
   calm = λ other. absurd (other refl);
-  no_log = λ bytes told none. absurd (none found.cells (found.recovers bytes (kept ∙ told)) found.few);
+  no_log = λ bytes told none. absurd (none found.cells (found.recovers bytes (kept ∙ told)) (sym (found.named bytes (kept ∙ told)) ∙ newest_is seen.version found.wanted) found.few);
   calls = cut_refused a b c d made stays.calls failed;
   file = file;
 }

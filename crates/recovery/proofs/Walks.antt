@@ -50,7 +50,7 @@ kept_name : (b : Bool) → not b ≡ true → b ≡ false
 kept_name true e = sym e
 kept_name false e = refl
 
-module _ (width begun : ℕ) (leaves : List MarkedLeaf) where
+module _ (version width begun : ℕ) (leaves : List MarkedLeaf) where
   pub below : (splits : List OpenSplit) → AllByRecursion (IsOpen width begun leaves) splits → (number : ℕ) → begun + 1 ≤ number → AreBelow number splits
   below [] all number le = tt
   below (s ∷ splits) all number le = (omega (arith, all.0.number, le), below splits all.1 number le)
@@ -69,16 +69,17 @@ module _ (width begun : ℕ) (leaves : List MarkedLeaf) where
       ]
 
   -- splits that end leave a walk
-  pub IsWalk-filter : (p : OpenSplit → Bool) (splits : List OpenSplit) → IsWalk width begun leaves splits → IsWalk width begun leaves (filter p splits)
+  pub IsWalk-filter : (p : OpenSplit → Bool) (splits : List OpenSplit) → IsWalk version width begun leaves splits → IsWalk version width begun leaves (filter p splits)
   IsWalk-filter p splits walk = record {
-    known = walk.known;
+    version_is = walk.version_is;
+    width_is = walk.width_is;
     rising = IsRisingSplits-filter p splits walk.rising;
     each = all_left (IsOpen width begun leaves) (IsOpen width begun leaves) p splits (λ s left holds. holds) walk.each;
   }
 
   -- a split is begun of a leaf, and an earlier one of it is ended
-  pub IsWalk-begun : (splits : List OpenSplit) (name : List Bool) (earlier number : ℕ) → IsWalk width begun leaves splits → split_at leaves name ≡ Some earlier → length name + width ≤ 64 → number ≡ begun + 1
-      → IsWalk width number (with_begun name number leaves) (without_name name splits ++ record { number = number; name = name } ∷ [])
+  pub IsWalk-begun : (splits : List OpenSplit) (name : List Bool) (earlier number : ℕ) → IsWalk version width begun leaves splits → split_at leaves name ≡ Some earlier → length name + width ≤ 64 → number ≡ begun + 1
+      → IsWalk version width number (with_begun name number leaves) (without_name name splits ++ record { number = number; name = name } ∷ [])
   IsWalk-begun splits name earlier number walk mark short next =
       let new = with_begun name number leaves in
       let old : (s : OpenSplit) → not (same_name s.name name) ≡ true → IsOpen width begun leaves s → IsOpen width number new s = λ s left holds.
@@ -87,15 +88,16 @@ module _ (width begun : ℕ) (leaves : List MarkedLeaf) where
       let left = all_left (IsOpen width begun leaves) (IsOpen width number new) (λ s. not (same_name s.name name)) splits old walk.each in
       let le : begun + 1 ≤ number = omega (arith, next) in
       record {
-        known = walk.known;
+        version_is = walk.version_is;
+        width_is = walk.width_is;
         rising = IsRisingSplits-push (without_name name splits) (record { number = number; name = name }) (IsRisingSplits-filter _ splits walk.rising) (below (without_name name splits) (IsWalk-filter (λ s. not (same_name s.name name)) splits walk).each number le);
         each = all_push (IsOpen width number new) (without_name name splits) (record { number = number; name = name }) left
             (record { mark = split_at-begun leaves name number (leaf_marked leaves name earlier mark); short = short; number = omega arith });
       }
 
   -- a split is ended, and marks of other leaves are kept
-  pub IsWalk-installed : (splits : List OpenSplit) (name : List Bool) (number : ℕ) (new : List MarkedLeaf) → IsWalk width begun leaves splits → split_name splits number ≡ Some name → KeepsMarks name leaves new
-      → IsWalk width begun new (without_number number splits)
+  pub IsWalk-installed : (splits : List OpenSplit) (name : List Bool) (number : ℕ) (new : List MarkedLeaf) → IsWalk version width begun leaves splits → split_name splits number ≡ Some name → KeepsMarks name leaves new
+      → IsWalk version width begun new (without_number number splits)
   IsWalk-installed splits name number new walk found keeps =
       let it : IsOpen width begun leaves (record { number = number; name = name }) = all_found (IsOpen width begun leaves) splits number name walk.each found in
       let old : (s : OpenSplit) → not (s.number == number) ≡ true → IsOpen width begun leaves s → IsOpen width begun new s = λ s left holds.
@@ -104,13 +106,14 @@ module _ (width begun : ℕ) (leaves : List MarkedLeaf) where
       absurd (true≢false (sym (eq-eqb s.number number twice) ∙ kept_name (s.number == number) left)) in
       record { mark = keeps s.name s.number unlike holds.mark; short = holds.short; number = holds.number } in
       record {
-        known = walk.known;
+        version_is = walk.version_is;
+        width_is = walk.width_is;
         rising = IsRisingSplits-filter _ splits walk.rising;
         each = all_left (IsOpen width begun leaves) (IsOpen width begun new) (λ s. not (s.number == number)) splits old walk.each;
       }
 
   -- the leaf of a split that is found
-  pub found_open : (splits : List OpenSplit) (name : List Bool) (number : ℕ) → IsWalk width begun leaves splits → split_name splits number ≡ Some name → IsOpen width begun leaves (record { number = number; name = name })
+  pub found_open : (splits : List OpenSplit) (name : List Bool) (number : ℕ) → IsWalk version width begun leaves splits → split_name splits number ≡ Some name → IsOpen width begun leaves (record { number = number; name = name })
   found_open splits name number walk found = all_found (IsOpen width begun leaves) splits number name walk.each found
 
 and_false : (a : Bool) {b : Bool} → b ≡ false → (a && b) ≡ false

@@ -10,8 +10,9 @@ use Rattle.log_state.specs.Recovers.{entry_of, is_possible_cell}
 use Rattle.recovery.specs.SplitMap.{IsRisingSplits}
 use Rattle.recovery.specs.LeafMap.{split_at}
 
--- the width of the splits, and the state
+-- the version of the log and the width of its splits, and the state
 pub record WalkView : Type 0 where
+  pub version : ℕ
   pub width : ℕ
   pub state : State
 
@@ -21,8 +22,9 @@ pub record IsOpen (width begun : ℕ) (leaves : List MarkedLeaf) (s : OpenSplit)
   pub short : length s.name + width ≤ 64
   pub number : s.number ≤ begun
 
-pub record IsWalk (width begun : ℕ) (leaves : List MarkedLeaf) (splits : List OpenSplit) : Type 0 where
-  pub known : (width ≡ 1) ⊎ (width ≡ 2)
+pub record IsWalk (version width begun : ℕ) (leaves : List MarkedLeaf) (splits : List OpenSplit) : Type 0 where
+  pub version_is : (version ≡ 1) ⊎ (version ≡ 2)
+  pub width_is : (width ≡ 1) ⊎ (width ≡ 2)
   pub rising : IsRisingSplits splits
   pub each : AllByRecursion (IsOpen width begun leaves) splits
 

@@ -1,9 +1,9 @@
 //! Makes a log of no cells.
 ghost use Rattle.std.specs.Prelude.{◌≡◌, ◌⊎◌, ◌++◌, ◌∷◌, [], OnOk, IfOk, IfErr, MatchResult};
-ghost use Rattle.cell_format.specs.Spelling.{header_text};
+ghost use Rattle.cell_format.specs.Spelling.{newest, header_text};
 ghost use Rattle.recovery.specs.Making.{Makes, RefusesInit, KeepsSmall};
 
-use crate::seen::{InitFault, InitRefused};
+use crate::seen::{InitFault, InitRefused, NEWEST};
 use cell_format::header;
 use disk_trait::LogDisk;
 
@@ -41,9 +41,9 @@ fn make<D: LogDisk>(disk: &mut D, width: u8) -> Result<(), InitFault>
 
 /// A header and a clear commit byte.
 fn empty_log(width: u8) -> [u8; 17]
-    ensures { result ≡ header_text width ++ 0 ∷ [] }
+    ensures { result ≡ header_text newest width ++ 0 ∷ [] }
 {
     let mut bytes = [0; 17];
-    bytes[..16].copy_from_slice(&header(width));
+    bytes[..16].copy_from_slice(&header(NEWEST, width));
     bytes
 }

@@ -1,9 +1,10 @@
 //! Opens a log for appends.
-ghost use Rattle.std.specs.Prelude.{◌≡◌, ◌⊎◌, ◌≤◌, ◌+◌, ◌*◌, ℕ, List, Some, None, is_some, take, length, OnOk, IfOk, IfErr, IsErrOf, MatchResult};
+ghost use Rattle.std.specs.Prelude.{◌≡◌, ◌⊎◌, ◌≤◌, ◌+◌, ◌*◌, ℕ, List, Some, None, is_some, take, length, slice_index, OnOk, IfOk, IfErr, IsErrOf, MatchResult};
 ghost use Rattle.std.specs.Result.{IsErrAnd};
 ghost use Rattle.recovery.specs.declared.seen.OpenFault.{OpenFault};
 ghost use Rattle.causes.specs.Causes.{Rose};
 ghost use Rattle.cell_format.specs.declared.cell.Cell.{Cell};
+ghost use Rattle.cell_format.specs.Spelling.{newest};
 ghost use Rattle.disk_trait.specs.Drive.{Only, CountsFaults};
 ghost use Rattle.disk_trait.specs.Moments.{LeavesNow, LeavesOnly};
 ghost use Rattle.log_state.specs.Recovers.{Recovers};
@@ -13,14 +14,14 @@ ghost use Rattle.recovery.specs.Found.{IsFound, IsFree};
 ghost use Rattle.recovery.specs.Opening.{KeepsCells, CallsToCut, LeavesUnopened, IsReady};
 
 use crate::inspecting::read_log;
-use crate::seen::{OpenFault, OpenRefused, Opened, Seen};
+use crate::seen::{NEWEST, OpenFault, OpenRefused, Opened, Seen};
 use disk_trait::{DiskFault, LogDisk};
 use split_log::SplitLog;
 use std::alloc::Global;
 use std::snapshot::Snapshot;
 
-/// Opens a log whose splits make `2 ^ width` children, where it has at most `most` cells, and cuts off what stands behind its last
-/// commit byte.
+/// Opens a log of version 2 whose splits make `2 ^ width` children, where it has at most `most` cells, and cuts off what stands
+/// behind its last commit byte.
 pub fn open<D: LogDisk>(
     alloc: Global,
     mut disk: D,
@@ -30,15 +31,16 @@ pub fn open<D: LogDisk>(
     requires width { (width ≡ 1) ⊎ (width ≡ 2) }
     requires few { most ≤ most_cells }
 
-    ensures found { IfOk result (λ o. IsFound width most (D.drive disk) o.seen) }
+    ensures found { IfOk result (λ o. IsFound newest width most (D.drive disk) o.seen) }
+    ensures version { IfOk result (λ o. o.seen.version ≡ newest) }
     ensures ready { IfOk result (λ o. IsReady width o.seen (D.drive disk) (D.drive o.log.disk)) }
     ensures log { IfOk result (λ o. (o.log.cells ≡ o.seen.cells) × (o.log.failed ≡ None)) }
     ensures start { IfOk result (λ o. o.start.value ≡ disk) }
-    ensures fault { IfErr result (λ e. (bytes : List ℕ) → (D.drive disk).bytes ≡ Some bytes → IsFault width most bytes e.cause) }
+    ensures fault { IfErr result (λ e. (bytes : List ℕ) → (D.drive disk).bytes ≡ Some bytes → IsFault newest width most bytes e.cause) }
     ensures exact { (bytes : List ℕ) (fault : OpenFault) → (D.drive disk).bytes ≡ Some bytes → IsInBytes fault
-        → IsFault width most bytes fault → IsErrAnd result (λ e. (e.cause ≡ fault) ⊎ IsFree (D.drive disk) (D.drive e.disk) e.cause) }
+        → IsFault newest width most bytes fault → IsErrAnd result (λ e. (e.cause ≡ fault) ⊎ IsFree (D.drive disk) (D.drive e.disk) e.cause) }
     ensures whole { (bytes : List ℕ) (cells : List Cell) → (D.drive disk).bytes ≡ Some bytes → Recovers width cells bytes
-        → length cells ≤ most → IfErr result (λ e. IsFree (D.drive disk) (D.drive e.disk) e.cause) }
+        → slice_index bytes 8 ≡ newest → length cells ≤ most → IfErr result (λ e. IsFree (D.drive disk) (D.drive e.disk) e.cause) }
     ensures untouched { IfErr result (λ e. LeavesUnopened width most (D.drive disk) (D.drive e.disk) e.cause) }
     ensures any_moment { MatchResult result (λ o. KeepsCells width (D.drive disk) (D.drive o.log.disk))
         (λ e. KeepsCells width (D.drive disk) (D.drive e.disk)) }
@@ -61,9 +63,9 @@ pub fn open<D: LogDisk>(
 fn settle<D: LogDisk>(alloc: Global, disk: &mut D, width: u8, most: u64) -> Result<Seen, OpenFault>
     requires width { (width ≡ 1) ⊎ (width ≡ 2) }
 
-    ensures found { IfOk result (IsFound width most (D.drive disk.old)) }
+    ensures found { IfOk result (IsFound newest width most (D.drive disk.old)) }
     ensures ready { IfOk result (λ seen. IsReady width seen (D.drive disk.old) (D.drive disk.new)) }
-    ensures fault { IfErr result (λ e. (bytes : List ℕ) → (D.drive disk.old).bytes ≡ Some bytes → IsFault width most bytes e) }
+    ensures fault { IfErr result (λ e. (bytes : List ℕ) → (D.drive disk.old).bytes ≡ Some bytes → IsFault newest width most bytes e) }
     ensures untouched { IfErr result (LeavesUnopened width most (D.drive disk.old) (D.drive disk.new)) }
     ensures any_moment { KeepsCells width (D.drive disk.old) (D.drive disk.new) }
     ensures rose { IsErrOf result OpenFault.Disk → Rose (D.drive disk.old).faults (D.drive disk.new).faults }
@@ -71,7 +73,7 @@ fn settle<D: LogDisk>(alloc: Global, disk: &mut D, width: u8, most: u64) -> Resu
 {
     // Synced first: what is read is then what a crash leaves.
     disk.sync()?;
-    let found = read_log(alloc, disk, width, most)?;
+    let found = read_log(alloc, disk, NEWEST, width, most)?;
     cut_behind(disk, 17 + 32 * found.seen.cells, found.len)?;
     Ok(found.seen)
 }

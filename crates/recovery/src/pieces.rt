@@ -28,8 +28,9 @@ pub(crate) fn walk_piece(
     requires few { from ≤ most }
     requires some { 1 ≤ length piece.now }
 
-    ensures ok { IfOk result (Walks walk.old.width most from walk.old.state walk.new.state piece.now) }
-    ensures err { IfErr result (Breaks walk.old.width most from walk.old.state piece.now) }
+    ensures ok { IfOk result (Walks walk.old.version walk.old.width most from walk.old.state walk.new.state piece.now) }
+    ensures err { IfErr result (Breaks walk.old.version walk.old.width most from walk.old.state piece.now) }
+    ensures version { walk.new.version ≡ walk.old.version }
     ensures width { walk.new.width ≡ walk.old.width }
 {
     let mut tail = piece;
@@ -47,11 +48,12 @@ fn walk_cell(walk: &mut Walk, tail: &[u8], number: u64) -> Result<(), OpenFault>
     requires long { 33 ≤ length tail.now }
     requires committed { slice_index tail.now 0 ≡ 1 }
 
-    ensures ok { OnOk result (PassesOne walk.old.width walk.old.state walk.new.state tail.now) }
-    ensures err { IfErr result (λ e. (most : ℕ) → number < most → FailsAt walk.old.width most number walk.old.state tail.now e) }
+    ensures ok { OnOk result (PassesOne walk.old.version walk.old.width walk.old.state walk.new.state tail.now) }
+    ensures err { IfErr result (λ e. (most : ℕ) → number < most → FailsAt walk.old.version walk.old.width most number walk.old.state tail.now e) }
+    ensures version { walk.new.version ≡ walk.old.version }
     ensures width { walk.new.width ≡ walk.old.width }
 {
-    let cell = match decode(&front(tail)) {
+    let cell = match decode(walk.version(), &front(tail)) {
         Ok(cell) => cell,
         Err(fault) => return Err(damaged(number, cause_of(fault))),
     };
@@ -102,7 +104,7 @@ fn stop_at(tail: &[u8], cells: u64, most: u64) -> Result<Stop, OpenFault>
     requires done { (length tail.now ≤ 32) ⊎ (slice_index tail.now 0 ≢ 1) ⊎ (most ≤ cells) }
 
     ensures ok { IfOk result (StopsAt most cells tail.now) }
-    ensures err { IfErr result (λ e. (w : ℕ) (s : State) → FailsAt w most cells s tail.now e) }
+    ensures err { IfErr result (λ e. (v w : ℕ) (s : State) → FailsAt v w most cells s tail.now e) }
 {
     if tail[0] != 1 {
         Ok(Stop::Clear { cells })

@@ -1,8 +1,7 @@
 //! Reads the cells of a log, in pieces.
 ghost use Rattle.std.specs.Prelude.{◌≡◌, ◌≤◌, ◌+◌, ◌-◌, ◌*◌, ◌<◌, ℕ, List, Some, take, drop, min, length, IfOk, IfErr};
 ghost use Rattle.disk_trait.specs.Drive.{Stays, CountsFaults};
-ghost use Rattle.recovery.specs.Faults.{IsFault};
-ghost use Rattle.recovery.specs.Reading.{HasRoom, Reaches, Ends, GoesOn, OnlyReads, ReadsPiece};
+ghost use Rattle.recovery.specs.Reading.{HasRoom, Reaches, Ends, FailsIn, GoesOn, OnlyReads, ReadsPiece};
 
 use crate::pieces::{Stop, damaged, walk_piece};
 use crate::seen::OpenFault;
@@ -25,8 +24,9 @@ pub(crate) fn walk_cells<D: LogDisk>(
     requires first { Reaches most len 0 (D.drive disk.old) walk.old }
 
     ensures ok { IfOk result (λ cells. Ends most len cells (D.drive disk.old) walk.new) }
-    ensures err { IfErr result (λ e. (xs : List ℕ) → (D.drive disk.old).bytes ≡ Some xs → IsFault walk.old.width most xs e) }
+    ensures err { IfErr result (FailsIn most (D.drive disk.old) walk.old) }
     ensures reads { OnlyReads (D.drive disk.old) (D.drive disk.new) result }
+    ensures version { walk.new.version ≡ walk.old.version }
     ensures width { walk.new.width ≡ walk.old.width }
 {
     let mut buffer = vec![in alloc; 0; PIECE]?;
@@ -44,8 +44,9 @@ fn walk_pieces<D: LogDisk>(
     requires long { length buffer.old ≡ 65537 }
 
     ensures ok { IfOk result (λ cells. Ends most len cells (D.drive disk.old) walk.new) }
-    ensures err { IfErr result (λ e. (xs : List ℕ) → (D.drive disk.old).bytes ≡ Some xs → IsFault walk.old.width most xs e) }
+    ensures err { IfErr result (FailsIn most (D.drive disk.old) walk.old) }
     ensures reads { OnlyReads (D.drive disk.old) (D.drive disk.new) result }
+    ensures version { walk.new.version ≡ walk.old.version }
     ensures width { walk.new.width ≡ walk.old.width }
 {
     let mut cells = 0;
@@ -70,9 +71,9 @@ fn walk_next<D: LogDisk>(
     requires long { length buffer.old ≡ 65537 }
 
     ensures ok { IfOk result (GoesOn most len cells (D.drive disk.old) walk.new) }
-    ensures err { IfErr result (λ e. (xs : List ℕ) → (D.drive disk.old).bytes ≡ Some xs → IsFault walk.old.width most xs e) }
+    ensures err { IfErr result (FailsIn most (D.drive disk.old) walk.old) }
     ensures reads { OnlyReads (D.drive disk.old) (D.drive disk.new) result }
-    ensures room { HasRoom walk.old.width walk.new buffer.new }
+    ensures room { HasRoom walk.old walk.new buffer.new }
 {
     let got = read_piece(disk, buffer, 16 + 32 * cells, len)?;
     if got == 0 {

@@ -9,10 +9,10 @@ use crate::leaf_map::LeafMap;
 use crate::seen::Seen;
 use crate::split_map::SplitMap;
 use cell_format::Cell;
-use plain_list::{MOST_MEMBERS, MemberMap};
+use plain_list::{MOST_MEMBERS, MemberMap, Stamped};
 use std::alloc::{AllocError, Global};
 use std::marker::Model;
-use zorder::{Name, Point};
+use zorder::Name;
 
 /// Why no step was made.
 #[derive(Clone, Copy)]
@@ -35,6 +35,7 @@ impl From<AllocError> for StepFault {
 /// The state after the cells so far.
 #[derive(Drop)]
 pub(crate) struct Walk {
+    version: u8,
     width: u8,
     members: MemberMap,
     leaves: LeafMap,
@@ -48,18 +49,20 @@ impl Model for Walk {
 
     ghost Value = { WalkView };
 
-    ghost view = { λ w. record { width = w.width; state = record { world = w.members; leaves = names_of w.leaves; splits = w.splits; begun = w.begun } } };
+    ghost view = { λ w. record { version = w.version; width = w.width; state = record { world = w.members; leaves = names_of w.leaves; splits = w.splits; begun = w.begun } } };
 
-    ghost invariant = { λ w. IsWalk w.width w.begun w.leaves w.splits };
+    ghost invariant = { λ w. IsWalk w.version w.width w.begun w.leaves w.splits };
 }
 
 impl Walk {
-    /// Before the first cell.
-    pub(crate) fn new(alloc: Global, width: u8) -> Result<Walk, AllocError>
-        requires { (width ≡ 1) ⊎ (width ≡ 2) }
-        ensures { IfOk result (λ w. w ≡ record { width = width; state = empty_state }) }
+    /// Before the first cell of a log of this version.
+    pub(crate) fn new(alloc: Global, version: u8, width: u8) -> Result<Walk, AllocError>
+        requires version { (version ≡ 1) ⊎ (version ≡ 2) }
+        requires width { (width ≡ 1) ⊎ (width ≡ 2) }
+        ensures { IfOk result (λ w. w ≡ record { version = version; width = width; state = empty_state }) }
     {
         Ok(Walk {
+            version,
             width,
             members: MemberMap::new(alloc),
             leaves: LeafMap::whole(alloc)?,
@@ -68,13 +71,22 @@ impl Walk {
         })
     }
 
+    /// The version of the log.
+    pub(crate) fn version(&self) -> u8
+        ensures value { result ≡ self.now.version }
+        ensures known { (result ≡ 1) ⊎ (result ≡ 2) }
+    {
+        self.version
+    }
+
     pub(crate) fn step(&mut self, cell: &Cell) -> Result<(), StepFault>
         ensures steps { Steps self.old.width self.old.state self.new.state cell.now result }
+        ensures version { self.new.version ≡ self.old.version }
         ensures width { self.new.width ≡ self.old.width }
     {
         match *cell {
-            Cell::Put { id, at } => self.put(id, at),
-            Cell::Move { id, at } => self.relocate(id, at),
+            Cell::Put { id, at, moment } => self.put(id, Stamped { at, moment }),
+            Cell::Move { id, at, moment } => self.relocate(id, Stamped { at, moment }),
             Cell::Remove { id } => self.remove(id),
             Cell::Begin { number, name } => self.begin(number, name),
             Cell::Install { number } => self.install(number),
@@ -82,24 +94,28 @@ impl Walk {
         }
     }
 
-    fn put(&mut self, id: u64, at: Point) -> Result<(), StepFault>
-        ensures steps { Steps self.old.width self.old.state self.new.state (Cell.Put id at) result }
+    fn put(&mut self, id: u64, to: Stamped) -> Result<(), StepFault>
+        ensures steps { Steps self.old.width self.old.state self.new.state (Cell.Put id to.at to.moment) result }
+        ensures version { self.new.version ≡ self.old.version }
         ensures width { self.new.width ≡ self.old.width }
     {
         if self.members.len() >= MOST_MEMBERS {
             return Err(StepFault::Impossible);
         }
-        match self.members.insert(id, at)? {
+        match self.members.insert(id, to)? {
             Some(_) => Err(StepFault::Impossible),
             None => Ok(()),
         }
     }
 
-    fn relocate(&mut self, id: u64, at: Point) -> Result<(), StepFault>
-        ensures steps { Steps self.old.width self.old.state self.new.state (Cell.Move id at) result }
+    fn relocate(&mut self, id: u64, to: Stamped) -> Result<(), StepFault>
+        ensures steps { Steps self.old.width self.old.state self.new.state (Cell.Move id to.at to.moment) result }
+        ensures version { self.new.version ≡ self.old.version }
         ensures width { self.new.width ≡ self.old.width }
     {
-        match self.members.replace(id, at) {
+        match self.members.replace(id, to) {
+            // Not put back: a walk that is refused goes no further.
+            Some(old) if to.moment < old.moment => Err(StepFault::Impossible),
             Some(_) => Ok(()),
             None => Err(StepFault::Impossible),
         }
@@ -107,6 +123,7 @@ impl Walk {
 
     fn remove(&mut self, id: u64) -> Result<(), StepFault>
         ensures steps { Steps self.old.width self.old.state self.new.state (Cell.Remove id) result }
+        ensures version { self.new.version ≡ self.old.version }
         ensures width { self.new.width ≡ self.old.width }
     {
         match self.members.remove(id) {
@@ -117,6 +134,7 @@ impl Walk {
 
     fn begin(&mut self, number: u64, name: Name) -> Result<(), StepFault>
         ensures steps { Steps self.old.width self.old.state self.new.state (Cell.Begin number name) result }
+        ensures version { self.new.version ≡ self.old.version }
         ensures width { self.new.width ≡ self.old.width }
     {
         if number == 0 || number - 1 != self.begun || name.len() + self.width > 64 {
@@ -134,6 +152,7 @@ impl Walk {
 
     fn install(&mut self, number: u64) -> Result<(), StepFault>
         ensures steps { Steps self.old.width self.old.state self.new.state (Cell.Install number) result }
+        ensures version { self.new.version ≡ self.old.version }
         ensures width { self.new.width ≡ self.old.width }
     {
         let Some(name) = self.splits.name(number) else {
@@ -146,6 +165,7 @@ impl Walk {
 
     fn abandon(&mut self, number: u64) -> Result<(), StepFault>
         ensures steps { Steps self.old.width self.old.state self.new.state (Cell.Abandon number) result }
+        ensures version { self.new.version ≡ self.old.version }
         ensures width { self.new.width ≡ self.old.width }
     {
         if self.splits.name(number).is_none() {
@@ -157,7 +177,9 @@ impl Walk {
 
     /// What was found after so many cells.
     pub(crate) fn to_seen(&self, alloc: Global, cells: u64) -> Result<Seen, AllocError>
-        ensures { IfOk result (Shows self.now.state cells) }
+        ensures shows { IfOk result (Shows self.now.state cells) }
+        ensures version { IfOk result (λ seen. seen.version ≡ self.now.version) }
+        ensures known { (self.now.version ≡ 1) ⊎ (self.now.version ≡ 2) }
     {
         Ok(Seen {
             world: self.members.to_world(alloc)?,
@@ -165,6 +187,7 @@ impl Walk {
             unfinished: self.splits.len() as u64,
             begun: self.begun,
             cells,
+            version: self.version,
         })
     }
 }

@@ -1,12 +1,13 @@
 use Rattle.std.proofs.Common.{List, ℕ, inl, inr, take, drop, sym, ap, ◌∙◌}
+use Rattle.cell_format.specs.Spelling.{newest}
 use Rattle.recovery.proofs.Heads.{bytes_unlike, header_word, header_zeros}
 use Rattle.recovery.proofs.inspecting.has_marks.Goals as goal
 
 pub returns-else-eq-clause-no : goal.returns-else-eq-clause-no
 returns-else-eq-clause-no c fails =
-    inl (λ e. bytes_unlike (take 8 c.args.head.now) (take 8 c.header-whole.result) (sym c.eq.ensures ∙ fails) (e ∙ sym (ap (λ (l : List ℕ). take 8 l) c.header-whole.ensures ∙ header_word c.args.width)))
+    inl (λ e. bytes_unlike (take 8 c.args.head.now) (take 8 c.header-whole.result) (sym c.eq.ensures ∙ fails) (e ∙ sym (ap (λ (l : List ℕ). take 8 l) c.header-whole.ensures ∙ header_word newest c.args.width)))
 
 pub returns-then-eq-clause-no : goal.returns-then-eq-clause-no
 returns-then-eq-clause-no c fails =
     inr (λ e. bytes_unlike (take 6 (drop 10 c.args.head.now)) (take 6 (drop 10 c.header-whole.result)) (sym c.eq-then-eq.ensures ∙ fails)
-    (e ∙ sym (ap (λ (l : List ℕ). take 6 (drop 10 l)) c.header-whole.ensures ∙ header_zeros c.args.width)))
+    (e ∙ sym (ap (λ (l : List ℕ). take 6 (drop 10 l)) c.header-whole.ensures ∙ header_zeros newest c.args.width)))

@@ -1,6 +1,6 @@
 use Rattle.std.proofs.Common.{◌≤◌, length, ◌∙◌, arith, inl, inr, true, false, [], ◌∷◌, ap, lit≤, length-append}
 use Rattle.causes.specs.Causes.{Rose}
-use Rattle.cell_format.specs.Spelling.{header_text}
+use Rattle.cell_format.specs.Spelling.{newest, header_text}
 use Rattle.disk_trait.proofs.Calls.{made-then, still-made}
 use Rattle.split_log.proofs.Cells.{length-header}
 use Rattle.recovery.proofs.MakingLemmas.{log_made, not_made, refused_on, small_stays, small_written, small_synced}
@@ -74,14 +74,14 @@ returns-in_err-sync-clause-refused g c =
 
 pub returns-in_err-write-clause-small : goal.returns-in_err-write-clause-small
 returns-in_err-write-clause-small g c =
-    let short : length c.empty_log.result ≤ 17 = omega (arith, ap length c.empty_log.ensures, length-append (header_text c.args.width) (0 ∷ []), length-header c.args.width) in
+    let short : length c.empty_log.result ≤ 17 = omega (arith, ap length c.empty_log.ensures, length-append (header_text newest c.args.width) (0 ∷ []), length-header newest c.args.width) in
     small_written (g.D.LogDisk.drive c.args.disk.now) (g.D.LogDisk.drive c.len.new.self) (g.met.D.LogDisk.keeps_laws c.args.disk.now) c.len.ensures.stays (g.D.LogDisk.drive c.write.new.self) c.empty_log.result c.write.result short c.write.ensures.writes
     (λ bytes told. omega (arith, c.in_ok-len.ensures.len bytes told, c.if-len-gt-MOST_BYTES.false)) (omega (arith, c.len.ensures.cause.later, c.write.ensures.cause.later))
     (λ all told. c.len.ensures.cause.file all (c.write.ensures.cause.file all told))
 
 pub returns-in_err-sync-clause-small : goal.returns-in_err-sync-clause-small
 returns-in_err-sync-clause-small g c =
-    let short : length c.empty_log.result ≤ 17 = omega (arith, ap length c.empty_log.ensures, length-append (header_text c.args.width) (0 ∷ []), length-header c.args.width) in
+    let short : length c.empty_log.result ≤ 17 = omega (arith, ap length c.empty_log.ensures, length-append (header_text newest c.args.width) (0 ∷ []), length-header newest c.args.width) in
     small_synced (g.D.LogDisk.drive c.args.disk.now) (g.D.LogDisk.drive c.len.new.self) (g.met.D.LogDisk.keeps_laws c.args.disk.now) c.len.ensures.stays (g.D.LogDisk.drive c.write.new.self) c.empty_log.result c.write.result short c.write.ensures.writes
     (λ bytes told. omega (arith, c.in_ok-len.ensures.len bytes told, c.if-len-gt-MOST_BYTES.false)) (g.D.LogDisk.drive c.sync.new.self) c.sync.result c.sync.ensures.syncs
     (omega (arith, c.len.ensures.cause.later, c.write.ensures.cause.later, c.sync.ensures.cause.later))
@@ -89,7 +89,7 @@ returns-in_err-sync-clause-small g c =
 
 pub returns-clause-small : goal.returns-clause-small
 returns-clause-small g c =
-    let short : length c.empty_log.result ≤ 17 = omega (arith, ap length c.empty_log.ensures, length-append (header_text c.args.width) (0 ∷ []), length-header c.args.width) in
+    let short : length c.empty_log.result ≤ 17 = omega (arith, ap length c.empty_log.ensures, length-append (header_text newest c.args.width) (0 ∷ []), length-header newest c.args.width) in
     small_synced (g.D.LogDisk.drive c.args.disk.now) (g.D.LogDisk.drive c.len.new.self) (g.met.D.LogDisk.keeps_laws c.args.disk.now) c.len.ensures.stays (g.D.LogDisk.drive c.write.new.self) c.empty_log.result c.write.result short c.write.ensures.writes
     (λ bytes told. omega (arith, c.in_ok-len.ensures.len bytes told, c.if-len-gt-MOST_BYTES.false)) (g.D.LogDisk.drive c.sync.new.self) c.sync.result c.sync.ensures.syncs
     (omega (arith, c.len.ensures.cause.later, c.write.ensures.cause.later, c.sync.ensures.cause.later))

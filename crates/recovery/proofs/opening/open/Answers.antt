@@ -1,5 +1,8 @@
-use Rattle.std.proofs.Common.{Err, ap, ◌∙◌}
+use Rattle.std.proofs.Common.{Err, ap, sym, subst, lit≤, ◌∙◌}
+use Rattle.cell_format.specs.Spelling.{newest}
+use Rattle.recovery.specs.Found.{IsWanted}
 use Rattle.recovery.proofs.Exclusive.{recovers_no_fault, told_fault, told_free}
+use Rattle.recovery.proofs.OpeningLemmas.{newest_is}
 use Rattle.recovery.proofs.opening.open.Goals as goal
 
 pub returns-in-Ok-clause-any_moment : goal.returns-in-Ok-clause-any_moment
@@ -8,21 +11,25 @@ returns-in-Ok-clause-any_moment g c = rw c.adopt.ensures c.settle.ensures.any_mo
 pub returns-in-Ok-clause-exact : goal.returns-in-Ok-clause-exact
 returns-in-Ok-clause-exact g c bytes fault told shown is =
     let found = c.in-Ok.ensures.found in
-    recovers_no_fault c.args.width c.args.most found.cells bytes fault (found.recovers bytes told) found.few shown is
+    recovers_no_fault newest c.args.width c.args.most (lit≤ tt) bytes found.cells fault (found.recovers bytes told) (subst (IsWanted newest) (found.named bytes told) found.wanted) found.few shown is
 
 pub returns-in-Err-clause-exact : goal.returns-in-Err-clause-exact
 returns-in-Err-clause-exact g c bytes fault told shown is =
-    told_fault c.args.width c.args.most (g.D.LogDisk.drive c.args.disk) (g.D.LogDisk.drive c.settle.new.disk) c.in-Err.cause fault bytes (c.in-Err.ensures.fault bytes told)
+    told_fault newest c.args.width c.args.most (lit≤ tt) bytes (g.D.LogDisk.drive c.args.disk) (g.D.LogDisk.drive c.settle.new.disk) c.in-Err.cause fault (c.in-Err.ensures.fault bytes told)
     (λ e. c.settle.ensures.rose (c.in-Err.is ∙ ap (λ x. Err x) e)) shown is
 
 pub returns-in-Err-clause-whole : goal.returns-in-Err-clause-whole
-returns-in-Err-clause-whole g c bytes cells told recovers few =
-    told_free c.args.width c.args.most (g.D.LogDisk.drive c.args.disk) (g.D.LogDisk.drive c.settle.new.disk) c.in-Err.cause bytes cells (c.in-Err.ensures.fault bytes told)
-    (λ e. c.settle.ensures.rose (c.in-Err.is ∙ ap (λ x. Err x) e)) recovers few
+returns-in-Err-clause-whole g c bytes cells told recovers named few =
+    told_free newest c.args.width c.args.most (lit≤ tt) bytes (g.D.LogDisk.drive c.args.disk) (g.D.LogDisk.drive c.settle.new.disk) c.in-Err.cause cells (c.in-Err.ensures.fault bytes told)
+    (λ e. c.settle.ensures.rose (c.in-Err.is ∙ ap (λ x. Err x) e)) recovers (subst (IsWanted newest) (sym named) (record { least = lit≤ tt; most = lit≤ tt })) few
 
 pub returns-in-Ok-clause-found : goal.returns-in-Ok-clause-found
 returns-in-Ok-clause-found g c =
     c.in-Ok.ensures.found
+
+pub returns-in-Ok-clause-version : goal.returns-in-Ok-clause-version
+returns-in-Ok-clause-version g c =
+    newest_is c.in-Ok.seen.version c.in-Ok.ensures.found.wanted
 
 pub returns-in-Ok-clause-ready : goal.returns-in-Ok-clause-ready
 returns-in-Ok-clause-ready g c =
@@ -66,7 +73,7 @@ returns-in-Ok-clause-rose g c =
 
 pub returns-in-Ok-clause-whole : goal.returns-in-Ok-clause-whole
 returns-in-Ok-clause-whole g c =
-    λ bytes cells told recovers few. tt
+    λ bytes cells told recovers named few. tt
 
 pub returns-in-Err-clause-found : goal.returns-in-Err-clause-found
 returns-in-Err-clause-found g c =

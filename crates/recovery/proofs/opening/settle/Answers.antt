@@ -1,5 +1,6 @@
-use Rattle.std.proofs.Common.{Err, ap, sym, ◌∙◌, arith}
+use Rattle.std.proofs.Common.{lit≤, Err, ap, sym, ◌∙◌, arith}
 use Rattle.log_state.specs.Recovers.{Recovers}
+use Rattle.cell_format.specs.Spelling.{newest}
 use Rattle.recovery.proofs.PieceLemmas.{passed_on}
 use Rattle.recovery.proofs.OnlyReading.{found_before}
 use Rattle.recovery.proofs.OpeningLemmas.{leaves-stays, leaves-sync, leaves-trans, keeps_cells, calls_open, is_ready, not_ok, rose_on, refused_sync, refused_read, refused_cut}
@@ -84,7 +85,7 @@ returns-in_err-cut_behind-clause-later g c =
 
 pub returns-clause-found : goal.returns-clause-found
 returns-clause-found g c =
-    found_before c.args.width c.args.most (g.D.LogDisk.drive c.args.disk.now) (g.D.LogDisk.drive c.sync.new.self) c.in_ok-found.found.seen c.sync.ensures.syncs.bytes c.in_ok-found.ensures.found.found
+    found_before newest c.args.width c.args.most (g.D.LogDisk.drive c.args.disk.now) (g.D.LogDisk.drive c.sync.new.self) c.in_ok-found.found.seen c.sync.ensures.syncs.bytes c.in_ok-found.ensures.found.found
 
 pub returns-clause-fault : goal.returns-clause-fault
 returns-clause-fault g c =
@@ -154,4 +155,4 @@ cut_behind-requires-clause-whole g c =
 
 pub read_log-requires : goal.read_log-requires
 read_log-requires g c =
-    c.requires
+    record { oldest = lit≤ tt; width = c.requires.width }

@@ -1,4 +1,5 @@
-use Rattle.std.proofs.Common.{refl, sym, subst}
+use Rattle.std.proofs.Common.{Err, refl, sym, subst}
+use Rattle.cell_format.specs.Decodes.{Decodes}
 use Rattle.cell_format.specs.Spelling.{Spells}
 use Rattle.recovery.specs.Faults.{IsWrong}
 use Rattle.recovery.proofs.PieceLemmas.{wrong_cell}
@@ -6,12 +7,14 @@ use Rattle.recovery.proofs.pieces.walk_cell.Goals as goal
 
 pub returns-in-Err-Impossible-clause-err : goal.returns-in-Err-Impossible-clause-err
 returns-in-Err-Impossible-clause-err c most lt =
-    let spelled = subst (Spells c.in-Ok.cell) c.front.ensures c.in-Ok.ensures.says.spelled in
+    let decoded = subst (λ v. Spells v c.in-Ok.cell c.front.result) c.version.ensures.value c.in-Ok.ensures.says.spelled in
+    let spelled = subst (Spells c.args.walk.now.version c.in-Ok.cell) c.front.ensures decoded in
     let bad = c.step.ensures.steps.refused (rw c.in-Err-Impossible.field-0-is at c.in-Err-Impossible.is) in
     rw c.damaged-in-Err-Impossible.ensures (refl, lt, c.requires.committed, c.requires.long, (c.requires.long, c.in-Ok.cell, spelled, bad))
 
 pub returns-in-Err-clause-err : goal.returns-in-Err-clause-err
 returns-in-Err-clause-err c most lt =
-    let wrong = wrong_cell c.args.walk.now.width c.args.walk.now.state c.args.tail.now c.front.result c.in-Err.fault c.front.ensures c.requires.long c.in-Err.ensures.says in
-    let told = subst (IsWrong c.args.walk.now.width c.args.walk.now.state c.args.tail.now) (sym c.cause_of.ensures) wrong in
+    let says = subst (λ v. Decodes v c.front.result (Err c.in-Err.fault)) c.version.ensures.value c.in-Err.ensures.says in
+    let wrong = wrong_cell c.args.walk.now.version c.args.walk.now.width c.args.walk.now.state c.args.tail.now c.front.result c.in-Err.fault c.front.ensures c.requires.long says in
+    let told = subst (IsWrong c.args.walk.now.version c.args.walk.now.width c.args.walk.now.state c.args.tail.now) (sym c.cause_of.ensures) wrong in
     rw c.damaged.ensures (refl, lt, c.requires.committed, c.requires.long, told)

@@ -6,7 +6,7 @@ pub loop-tail-preserved : goal.loop-tail-preserved
 loop-tail-preserved c =
     let long : 33 ≤ length c.loop-tail.tail.now = omega (arith, c.loop-tail-test.true) in
     rw c.behind-tail.ensures (comes_more c.args.most c.args.from c.loop-tail.cells c.args.walk.now c.loop-tail.walk c.walk_cell.new.walk c.args.piece.now c.loop-tail.tail.now
-    c.loop-tail.invariant c.in_ok-walk_cell.ensures.ok c.walk_cell.ensures.width long c.if-cells-most.true)
+    c.loop-tail.invariant c.in_ok-walk_cell.ensures.ok c.walk_cell.ensures.version c.walk_cell.ensures.width long c.if-cells-most.true)
 
 pub returns-in_err-walk_cell-clause-err : goal.returns-in_err-walk_cell-clause-err
 returns-in_err-walk_cell-clause-err c =

@@ -30,4 +30,4 @@ loop-all-preserved g c =
     let l = c.loop-all in
     let on = rw c.in-Set.is at c.in_ok-all.ensures.ok in
     reading_next c.args.most c.args.len l.cells (g.D.LogDisk.drive c.args.disk.now) (g.D.LogDisk.drive l.disk) c.args.walk.now l.walk l.buffer l.invariant
-    c.in-Set.next (g.D.LogDisk.drive c.walk_next.new.disk) c.walk_next.new.walk c.walk_next.new.buffer c.walk_next.result on c.walk_next.ensures.reads c.walk_next.ensures.room.width_is c.walk_next.ensures.room.long c.in_ok-all.ensures.reads.same
+    c.in-Set.next (g.D.LogDisk.drive c.walk_next.new.disk) c.walk_next.new.walk c.walk_next.new.buffer c.walk_next.result on c.walk_next.ensures.reads c.walk_next.ensures.room.version_is c.walk_next.ensures.room.width_is c.walk_next.ensures.room.long c.in_ok-all.ensures.reads.same

@@ -12,12 +12,12 @@ returns-in_default-clause-steps c =
 
 pub push-requires : goal.push-requires
 push-requires c =
-    rw c.remove_named.ensures (below c.self.inside.width c.self.inside.begun c.self.inside.leaves _
-    (IsWalk-filter c.self.inside.width c.self.inside.begun c.self.inside.leaves _ c.self.inside.splits c.self.invariant).each c.args.number (omega (arith, c.if-number-eq0.false, c.if-number-self.false)))
+    rw c.remove_named.ensures (below c.self.inside.version c.self.inside.width c.self.inside.begun c.self.inside.leaves _
+    (IsWalk-filter c.self.inside.version c.self.inside.width c.self.inside.begun c.self.inside.leaves _ c.self.inside.splits c.self.invariant).each c.args.number (omega (arith, c.if-number-eq0.false, c.if-number-self.false)))
 
 pub invariant_of-self : goal.invariant_of-self
 invariant_of-self c =
-    rw (c.in_err-push.ensures.err, c.remove_named.ensures) (IsWalk-filter c.self.inside.width c.self.inside.begun c.self.inside.leaves _ c.self.inside.splits c.self.invariant)
+    rw (c.in_err-push.ensures.err, c.remove_named.ensures) (IsWalk-filter c.self.inside.version c.self.inside.width c.self.inside.begun c.self.inside.leaves _ c.self.inside.splits c.self.invariant)
 
 pub begin-requires : goal.begin-requires
 begin-requires c = leaf_marked c.self.inside.leaves c.args.name c.in-Some.earlier (sym c.split_at.ensures ∙ c.in-Some.is)
@@ -26,16 +26,16 @@ pub invariant_of-self-2 : goal.invariant_of-self-2
 invariant_of-self-2 c =
     let mark = sym c.split_at.ensures ∙ c.in-Some.is in
     let next : c.args.number ≡ c.self.inside.begun + 1 = omega (arith, c.if-number-eq0.false, c.if-number-self.false) in
-    let ended = without_name-split c.self.inside.width c.self.inside.begun c.self.inside.leaves c.self.inside.splits c.args.name c.in-Some.earlier mark c.self.invariant.each in
+    let ended = without_name-split c.self.inside.version c.self.inside.width c.self.inside.begun c.self.inside.leaves c.self.inside.splits c.args.name c.in-Some.earlier mark c.self.invariant.each in
     rw (c.begin.ensures, c.in_ok-push.ensures.ok, c.remove_named.ensures, ← ended)
-    (IsWalk-begun c.self.inside.width c.self.inside.begun c.self.inside.leaves c.self.inside.splits c.args.name c.in-Some.earlier c.args.number c.self.invariant mark (omega (arith, c.len.ensures.len, c.if-len-self-gt64.false)) next)
+    (IsWalk-begun c.self.inside.version c.self.inside.width c.self.inside.begun c.self.inside.leaves c.self.inside.splits c.args.name c.in-Some.earlier c.args.number c.self.invariant mark (omega (arith, c.len.ensures.len, c.if-len-self-gt64.false)) next)
 
 pub returns-clause-steps : goal.returns-clause-steps
 returns-clause-steps c =
     let w = c.self.inside in
     let mark = sym c.split_at.ensures ∙ c.in-Some.is in
     let next : c.args.number ≡ w.begun + 1 = omega (arith, c.if-number-eq0.false, c.if-number-self.false) in
-    let ended = without_name-split w.width w.begun w.leaves w.splits c.args.name c.in-Some.earlier mark c.self.invariant.each in
+    let ended = without_name-split w.version w.width w.begun w.leaves w.splits c.args.name c.in-Some.earlier mark c.self.invariant.each in
     let splits = c.in_ok-push.ensures.ok ∙ ap (λ (l : List OpenSplit). l ++ record { number = c.args.number; name = c.args.name } ∷ []) (c.remove_named.ensures ∙ sym ended) in
     let names = ap names_of c.begin.ensures ∙ names_of-with_begun w.leaves c.args.name c.args.number in
     rw (← c.self.view_is)
