@@ -76,7 +76,8 @@ pub(crate) fn add_pair(piece: &mut Piece, first: u64, mark: u8, second: u64)
 /// Adds both coordinates and their moment, with a mark between each two, all at once.
 pub(crate) fn add_stamped(piece: &mut Piece, kept: Stamped, mark: u8)
     requires { array_vec_len piece.old ≤ 65474 }
-    ensures bytes { piece.new.items ≡ piece.old.items ++ decimal kept.at.x ++ (mark ∷ []) ++ decimal kept.at.y ++ (mark ∷ []) ++ decimal kept.moment }
+    ensures bytes { piece.new.items ≡ piece.old.items ++ decimal kept.at.x ++ (mark ∷ []) ++ decimal kept.at.y
+        ++ (mark ∷ []) ++ decimal kept.moment }
     ensures len { array_vec_len piece.new ≤ array_vec_len piece.old + 62 }
 {
     let mut text = [0; 62];
