@@ -11,14 +11,14 @@ use Rattle.csv_rows.specs.declared.rows.Refusal.TheVariants as refusal
 use Rattle.run_ends.specs.LogFaults.{IsReadingCause, log_refusal}
 
 -- why a log isn't read
-pub reading-after : (most : ℕ) (a b c : Drive) (cause : OpenFault) → Stays a b → a.faults ≤ b.faults → ((bytes : List ℕ) → b.bytes ≡ Some bytes → IsFault 1 most bytes cause)
-    → (cause ≡ open_fault.Disk → Rose b.faults c.faults) → IsReadingCause most a c (log_refusal cause)
-reading-after most a b c open_fault.NotLog stays later wrong rose = λ bytes told. wrong bytes (stays.bytes ∙ told)
-reading-after most a b c (open_fault.OldLog version width) stays later wrong rose = λ bytes told. wrong bytes (stays.bytes ∙ told)
-reading-after most a b c (open_fault.Damaged cell cause) stays later wrong rose = λ bytes told. wrong bytes (stays.bytes ∙ told)
-reading-after most a b c open_fault.Disk stays later wrong rose = rose-earlier a.faults b.faults c.faults later (rose refl)
-reading-after most a b c open_fault.Memory stays later wrong rose = tt
-reading-after most a b c (open_fault.TooLong limit) stays later wrong rose = λ bytes told. (wrong bytes (stays.bytes ∙ told)).1
+pub reading-after : (oldest most : ℕ) (a b c : Drive) (cause : OpenFault) → Stays a b → a.faults ≤ b.faults → ((bytes : List ℕ) → b.bytes ≡ Some bytes → IsFault oldest 1 most bytes cause)
+    → (cause ≡ open_fault.Disk → Rose b.faults c.faults) → IsReadingCause oldest most a c (log_refusal cause)
+reading-after oldest most a b c open_fault.NotLog stays later wrong rose = λ bytes told. wrong bytes (stays.bytes ∙ told)
+reading-after oldest most a b c (open_fault.OldLog version width) stays later wrong rose = λ bytes told. wrong bytes (stays.bytes ∙ told)
+reading-after oldest most a b c (open_fault.Damaged cell cause) stays later wrong rose = λ bytes told. wrong bytes (stays.bytes ∙ told)
+reading-after oldest most a b c open_fault.Disk stays later wrong rose = rose-earlier a.faults b.faults c.faults later (rose refl)
+reading-after oldest most a b c open_fault.Memory stays later wrong rose = tt
+reading-after oldest most a b c (open_fault.TooLong limit) stays later wrong rose = λ bytes told. (wrong bytes (stays.bytes ∙ told)).1
 
 -- an answer that the bytes don't decide is want of memory where the count didn't rise
 pub calm-free : (a b c : Drive) (fault : OpenFault) → a.faults ≤ b.faults → (Rose a.faults c.faults → ⊥) → IsFree b c fault → log_refusal fault ≡ refusal.Memory

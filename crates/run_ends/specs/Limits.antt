@@ -1,5 +1,6 @@
 -- The limits of a run, and the width of its splits.
 use Rattle.std.specs.Prelude.{ℕ}
+use Rattle.cell_format.specs.Spelling.{newest}
 
 -- how many bits a leaf's children have more in their names
 abbrev pub width : ℕ
@@ -12,6 +13,13 @@ most_bytes = 16777216
 -- how many cells a log may have that is inspected
 abbrev pub most_inspected : ℕ
 most_inspected = 16777216
+
+-- the oldest version of a log that is read alone, and of one over which rows are played
+abbrev pub oldest_read : ℕ
+oldest_read = 1
+
+abbrev pub oldest_played : ℕ
+oldest_played = newest
 
 -- how many points a bucket should have where made rows are played
 abbrev pub trial_bucket : ℕ

@@ -25,12 +25,13 @@ log_refusal open_fault.Disk = refusal.Disk None
 log_refusal open_fault.Memory = refusal.Memory
 log_refusal (open_fault.TooLong most) = refusal.LongLog
 
--- why a log of at most so many cells isn't read: what is first at fault in its bytes, the drive's count rose, or memory ran out
-abbrev pub IsReadingCause : ℕ → Drive → Drive → Refusal → Type 0
-IsReadingCause most old new refusal.NotLog = (bytes : List ℕ) → old.bytes ≡ Some bytes → IsNotLog bytes
-IsReadingCause most old new (refusal.OldLog version w) = (bytes : List ℕ) → old.bytes ≡ Some bytes → IsOldLog width bytes version w
-IsReadingCause most old new (refusal.Damaged cell cause) = (bytes : List ℕ) → old.bytes ≡ Some bytes → IsDamaged width most bytes cell cause
-IsReadingCause most old new (refusal.Disk None) = Rose old.faults new.faults
-IsReadingCause most old new refusal.LongLog = (bytes : List ℕ) → old.bytes ≡ Some bytes → IsTooLong width most bytes
-IsReadingCause most old new refusal.Memory = ⊤
-IsReadingCause most old new _ = ⊥
+-- why a log of at most so many cells isn't read, of this version or a later one: what is first at fault in its bytes, the drive's count rose, or memory
+-- ran out
+abbrev pub IsReadingCause : ℕ → ℕ → Drive → Drive → Refusal → Type 0
+IsReadingCause oldest most old new refusal.NotLog = (bytes : List ℕ) → old.bytes ≡ Some bytes → IsNotLog bytes
+IsReadingCause oldest most old new (refusal.OldLog version w) = (bytes : List ℕ) → old.bytes ≡ Some bytes → IsOldLog oldest width bytes version w
+IsReadingCause oldest most old new (refusal.Damaged cell cause) = (bytes : List ℕ) → old.bytes ≡ Some bytes → IsDamaged oldest width most bytes cell cause
+IsReadingCause oldest most old new (refusal.Disk None) = Rose old.faults new.faults
+IsReadingCause oldest most old new refusal.LongLog = (bytes : List ℕ) → old.bytes ≡ Some bytes → IsTooLong oldest width most bytes
+IsReadingCause oldest most old new refusal.Memory = ⊤
+IsReadingCause oldest most old new _ = ⊥
