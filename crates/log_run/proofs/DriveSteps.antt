@@ -1,8 +1,7 @@
 -- What an attach and what follows it come to.
-use Rattle.std.proofs.Common.{◌≡◌, ◌⊎◌, inl, inr, ◌∙◌, ℕ, ◌≤◌, Bool, true, List, [], ◌∷◌, length, Some, Result, Err, refl, ap, subst, arith}
+use Rattle.std.proofs.Common.{◌≡◌, ◌⊎◌, inr, ◌∙◌, ℕ, ◌≤◌, Bool, true, List, [], ◌∷◌, length, Some, Result, Err, refl, ap, subst, arith}
 use Rattle.std.specs.Prelude.{IfErr, ◌≢◌}
 use Rattle.std.specs.Result.{IsErrAnd}
-use Rattle.causes.specs.Causes.{Rose}
 use Rattle.disk_trait.specs.declared.disk.AttachFault.{AttachFault}
 use Rattle.disk_trait.specs.declared.disk.AttachFault.TheVariants as attach_fault
 use Rattle.disk_trait.specs.Drive.{Drive, Stays, CountsAttach, KeepsLaws}
@@ -20,9 +19,8 @@ use Rattle.recovery.specs.declared.seen.OpenFault.TheVariants as open_fault
 use Rattle.disk_trait.proofs.Calls.{still-made}
 use Rattle.recovery.proofs.OnlyReading.{rose-earlier, stays-trans}
 use Rattle.recovery.proofs.OpeningLemmas.{leaves-trans, leaves-stays}
-use Rattle.csv_rows.specs.declared.rows.Refusal.TheVariants as refusal
 use Rattle.run_ends.specs.Limits.{most_inspected}
-use Rattle.run_ends.specs.LogFaults.{IsReadingCause, attach_refusal, log_refusal}
+use Rattle.run_ends.specs.LogFaults.{attach_refusal, log_refusal}
 use Rattle.log_run.specs.Checking.{IsCheckingCause, IsDecidedBy}
 use Rattle.log_run.specs.Making.{IsMakingCause, LeavesFile, making_refusal}
 use Rattle.run_ends.specs.Status.{status_of}
@@ -34,11 +32,11 @@ makes-after a b c stays calm makes =
 
 -- a log in which something is at fault
 pub checking-after : (a b c : Drive) (result : Result Seen OpenFault) (fault : OpenFault) → result ≡ Err fault → Stays a b → a.faults ≤ b.faults
-    → ((bytes : List ℕ) → b.bytes ≡ Some bytes → IsFault 1 most_inspected bytes fault) → OnlyReads b c result → IsCheckingCause a c (log_refusal fault)
-checking-after a b c result fault is stays later wrong reads = reading-after most_inspected a b c fault stays later wrong (λ disk. reads.failed (is ∙ ap (λ (e : OpenFault). Err e) disk))
+    → ((bytes : List ℕ) → b.bytes ≡ Some bytes → IsFault 1 1 most_inspected bytes fault) → OnlyReads b c result → IsCheckingCause a c (log_refusal fault)
+checking-after a b c result fault is stays later wrong reads = reading-after 1 most_inspected a b c fault stays later wrong (λ disk. reads.failed (is ∙ ap (λ (e : OpenFault). Err e) disk))
 
 pub decided-err : (a b c : Drive) (why : OpenFault) (result : Result Seen OpenFault) → result ≡ Err why → Stays a b → a.faults ≤ b.faults
-    → ((bytes : List ℕ) (fault : OpenFault) → b.bytes ≡ Some bytes → IsInBytes fault → IsFault 1 most_inspected bytes fault → IsErrAnd result (λ e. (e ≡ fault) ⊎ IsFree b c e))
+    → ((bytes : List ℕ) (fault : OpenFault) → b.bytes ≡ Some bytes → IsInBytes fault → IsFault 1 1 most_inspected bytes fault → IsErrAnd result (λ e. (e ≡ fault) ⊎ IsFree b c e))
     → ((bytes : List ℕ) (cells : List Cell) → b.bytes ≡ Some bytes → Recovers 1 cells bytes → length cells ≤ most_inspected → IfErr result (IsFree b c)) → IsDecidedBy {T = Seen} most_inspected a c (Err (log_refusal why))
 decided-err a b c why result is stays later exact whole = record {
   exact = λ bytes fault told shown wrong calm.
@@ -86,9 +84,9 @@ module _ {T : Type 0} (name : List ℕ) (make : Bool) (a b : Drive) where
   decided-attached attach_fault.Memory counts = record { exact = λ bytes what told shown wrong calm. inr refl; whole = λ bytes cells told text few calm. refl }
 
 -- what was found behind an attach
-pub found-after : (most : ℕ) (a b : Drive) (seen : Seen) → Stays a b → IsFound 1 most b seen → IsFound 1 most a seen
+pub found-after : (most : ℕ) (a b : Drive) (seen : Seen) → Stays a b → IsFound 1 1 most b seen → IsFound 1 1 most a seen
 found-after most a b seen stays found =
-    record { cells = found.cells; legal = found.legal; few = found.few; finds = found.finds; recovers = λ bytes told. found.recovers bytes (stays.bytes ∙ told) }
+    record { cells = found.cells; legal = found.legal; few = found.few; finds = found.finds; wanted = found.wanted; recovers = λ bytes told. found.recovers bytes (stays.bytes ∙ told); named = λ bytes told. found.named bytes (stays.bytes ∙ told) }
 
 -- the count stays where the drive isn't told to have failed
 pub calm-read : (a b c : ℕ) (fault : OpenFault) → b ≡ a → (fault ≢ open_fault.Disk → c ≡ b) → status_of (log_refusal fault) ≢ 7 → c ≡ a

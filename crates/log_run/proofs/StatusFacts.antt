@@ -1,7 +1,5 @@
 -- No command on a log tells that its words aren't accepted.
 use Rattle.std.proofs.Common.{◌≡◌, ◌⊎◌, inl, inr, ℕ, List}
-use Rattle.io_edge.specs.Streams.{Output}
-use Rattle.disk_trait.specs.Drive.{Drive}
 use Rattle.cell_format.specs.declared.cell.Cell.{Cell}
 use Rattle.run_ends.specs.Ends.{Targets}
 use Rattle.run_ends.specs.Ending.{EndsRefused}

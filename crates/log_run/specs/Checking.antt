@@ -1,23 +1,20 @@
 -- The command `check`.
-use Rattle.std.specs.Prelude.{◌≡◌, ◌≢◌, ◌⊎◌, ◌≤◌, ℕ, List, [], length, Some, None, false, ⊤, Result, IfErr}
+use Rattle.std.specs.Prelude.{◌≡◌, ◌≢◌, ◌⊎◌, ◌≤◌, ℕ, List, length, Some, false, Result, IfErr}
 use Rattle.std.specs.Result.{IsErrAnd}
 use Rattle.causes.specs.Causes.{Rose}
 use Rattle.disk_trait.specs.Drive.{Drive, AttachedOne, Stays}
-use Rattle.disk_trait.specs.declared.disk.AttachFault.{AttachFault}
-use Rattle.disk_trait.specs.declared.disk.AttachFault.TheVariants as attach_fault
 use Rattle.plain_list.specs.declared.entries.Entry.{Entry}
 use Rattle.cell_format.specs.declared.cell.Cell.{Cell}
 use Rattle.log_state.specs.Recovers.{IsLegalCells, Recovers, state_of}
-use Rattle.recovery.specs.Faults.{IsFault, IsInBytes, IsNotLog, IsOldLog, IsDamaged, IsTooLong}
+use Rattle.recovery.specs.Faults.{IsFault, IsInBytes}
 use Rattle.recovery.specs.declared.seen.Seen.{Seen}
 use Rattle.recovery.specs.declared.seen.OpenFault.{OpenFault}
-use Rattle.recovery.specs.declared.seen.OpenFault.TheVariants as open_fault
 use Rattle.csv_rows.specs.declared.rows.LogCounts.{LogCounts}
 use Rattle.csv_rows.specs.declared.rows.Refusal.{Refusal}
 use Rattle.csv_rows.specs.declared.rows.Refusal.TheVariants as refusal
 use Rattle.csv_rows.specs.LogLines.{counts_text}
 use Rattle.run_ends.specs.LogFaults.{IsReadingCause, log_refusal}
-use Rattle.run_ends.specs.Limits.{width, most_inspected}
+use Rattle.run_ends.specs.Limits.{width, oldest_read, most_inspected}
 use Rattle.run_ends.specs.Status.{status_of}
 use Rattle.io_edge.specs.Streams.{Output}
 use Rattle.run_ends.specs.Ends.{Ends, Targets, IsQuiet}
@@ -25,9 +22,9 @@ use Rattle.run_ends.specs.Taking.{Refuses}
 use Rattle.run_ends.specs.Ending.{EndsWriting, EndsRefused}
 use Rattle.run_ends.specs.Attaching.{AttachesOnce}
 
--- why a log isn't told
+-- why a log isn't told, of either version
 abbrev pub IsCheckingCause : Drive → Drive → Refusal → Type 0
-IsCheckingCause old new why = IsReadingCause most_inspected old new why
+IsCheckingCause old new why = IsReadingCause oldest_read most_inspected old new why
 
 -- legal cells, few enough; where the drive's content is known, its bytes recover to them
 pub record FindsCells (old : Drive) (cells : List Cell) : Type 0 where
@@ -64,14 +61,14 @@ TellsCells text old status before after = (cells : List Cell) × FindsCells old 
 
 -- a fault that the bytes show is told, and bytes that recover to cells have their text, unless the count rose or memory ran out
 pub record IsDecided (old new : Drive) (status : ℕ) (before after : Output) : Type 0 where
-  pub exact : (bytes : List ℕ) (fault : OpenFault) → old.bytes ≡ Some bytes → IsInBytes fault → IsFault width most_inspected bytes fault → (Rose old.faults new.faults → ⊥)
+  pub exact : (bytes : List ℕ) (fault : OpenFault) → old.bytes ≡ Some bytes → IsInBytes fault → IsFault oldest_read width most_inspected bytes fault → (Rose old.faults new.faults → ⊥)
       → Refuses (log_refusal fault) status before after ⊎ (status ≡ 9)
   pub whole : (bytes : List ℕ) (cells : List Cell) → old.bytes ≡ Some bytes → Recovers width cells bytes → length cells ≤ most_inspected → (Rose old.faults new.faults → ⊥) → (Rose before.faults after.faults → ⊥)
       → (status ≡ 0) ⊎ (status ≡ 9)
 
 -- the same of the answer, where at most so many cells are read
 pub record IsDecidedBy {T : Type 0} (most : ℕ) (old new : Drive) (result : Result T Refusal) : Type 0 where
-  pub exact : (bytes : List ℕ) (fault : OpenFault) → old.bytes ≡ Some bytes → IsInBytes fault → IsFault width most bytes fault → (Rose old.faults new.faults → ⊥)
+  pub exact : (bytes : List ℕ) (fault : OpenFault) → old.bytes ≡ Some bytes → IsInBytes fault → IsFault oldest_read width most bytes fault → (Rose old.faults new.faults → ⊥)
       → IsErrAnd result (λ why. (why ≡ log_refusal fault) ⊎ (why ≡ refusal.Memory))
   pub whole : (bytes : List ℕ) (cells : List Cell) → old.bytes ≡ Some bytes → Recovers width cells bytes → length cells ≤ most → (Rose old.faults new.faults → ⊥) → IfErr result (λ why. why ≡ refusal.Memory)
 

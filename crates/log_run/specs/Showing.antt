@@ -1,5 +1,5 @@
 -- The command `show`.
-use Rattle.std.specs.Prelude.{◌≡◌, ℕ, List, []}
+use Rattle.std.specs.Prelude.{ℕ, List}
 use Rattle.zorder.specs.declared.points.Region.{Region}
 use Rattle.plain_list.specs.declared.entries.Entry.{Entry}
 use Rattle.cell_format.specs.declared.cell.Cell.{Cell}
@@ -9,7 +9,7 @@ use Rattle.run_ends.specs.Limits.{width}
 use Rattle.run_ends.specs.Ends.{Ends, Targets, IsQuiet}
 use Rattle.log_run.specs.Checking.{EndsTelling}
 
--- a title, and a line for each object in the box, in the order of their ids, of the state after cells
+-- a title, and a line for each object in the box, with its moment, in the order of their ids, of the state after cells
 abbrev pub shown_text : Region → List Cell → List ℕ
 shown_text region cells = objects_text region (state_of width cells).world
 

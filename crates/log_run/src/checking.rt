@@ -2,7 +2,7 @@
 ghost use Rattle.std.specs.Prelude.{◌≡◌, ◌≤◌, [], IfOk, IfErr, MatchResult, length};
 ghost use Rattle.disk_trait.specs.Drive.{Stays};
 ghost use Rattle.recovery.specs.Found.{IsFound};
-ghost use Rattle.run_ends.specs.Limits.{width, most_inspected};
+ghost use Rattle.run_ends.specs.Limits.{width, oldest_read, most_inspected};
 ghost use Rattle.run_ends.specs.Ends.{targets};
 ghost use Rattle.log_run.specs.Checking.{HasRead, HasReadUnless, IsCheckingCause, IsDecidedBy, EndsChecking, counts_of};
 
@@ -15,7 +15,7 @@ use run_ends::{
 };
 use std::alloc::Global;
 
-/// Tells what the log in a file of this name says.
+/// Tells what the log in a file of this name says, of version 1 or 2.
 pub fn check_log<K: Sink, D: LogDisk>(alloc: Global, file: &str, sink: &mut K, disk: D) -> Ended<D>
     ensures ends { EndsChecking file.now (targets K.output D.drive sink.old disk)
         (targets K.output D.drive sink.new result.disk) result.status }
@@ -38,7 +38,7 @@ fn tell_counts<K: Sink, D: LogDisk>(alloc: Global, file: &str, sink: &mut K, dis
 
 /// What the log in a file of this name says.
 pub(crate) fn find<D: LogDisk>(alloc: Global, file: &str, disk: &mut D) -> Result<Seen, Refusal>
-    ensures found { IfOk result (IsFound width most_inspected (D.drive disk.old)) }
+    ensures found { IfOk result (IsFound oldest_read width most_inspected (D.drive disk.old)) }
     ensures cause { IfErr result (IsCheckingCause (D.drive disk.old) (D.drive disk.new)) }
     ensures decided { IsDecidedBy most_inspected (D.drive disk.old) (D.drive disk.new) result }
     ensures read { MatchResult result (λ _. HasRead file.now (D.drive disk.old) (D.drive disk.new))

@@ -11,7 +11,7 @@ use run_ends::{Ended, put_refusal, without_rows, written};
 use std::alloc::Global;
 use zorder::Region;
 
-/// Lists the objects in the box, of the log in a file of this name.
+/// Lists the objects in the box with their moments, of the log in a file of this name, of version 1 or 2.
 pub fn show_log<K: Sink, D: LogDisk>(
     alloc: Global,
     file: &str,
