@@ -1,6 +1,6 @@
 -- A leaf of an index that stands for a world has as many rows as the world has objects in the leaf's region.
-use Rattle.std.proofs.Common.{◌≡◌, ℕ, suc, ◌+◌, Bool, true, false, cond, not, List, [], ◌∷◌, length, Some, None, refl, sym, ap, ◌∙◌, arith, zero-add}
-use Rattle.std.specs.Prelude.{◌==◌, ◌&&◌, ◌||◌}
+use Rattle.std.proofs.Common.{◌≡◌, ℕ, suc, ◌+◌, Bool, true, false, cond, not, List, [], ◌∷◌, length, refl, sym, ap, ◌∙◌, arith, zero-add}
+use Rattle.std.specs.Prelude.{◌&&◌, ◌||◌}
 use Rattle.std.proofs.lemmas.List.Sums.{sum_by-cons}
 use mathlib.Core.Bool.{true≢false}
 use Rattle.zorder.specs.declared.points.Placed.{Placed}
@@ -8,8 +8,7 @@ use Rattle.zorder.specs.Key.{key_of, is_under, is_in}
 use Rattle.bucket_versions.specs.declared.row.Row.{Row}
 use Rattle.bucket_versions.specs.Rows.{IsRows, has_row, without_row, same_row}
 use Rattle.bucket_versions.proofs.RowOrder.{IsRows-without_row}
-use Rattle.index_layer.specs.Stands.{places_have, is_at_key}
-use Rattle.index_layer.proofs.Puts.{where_is}
+use Rattle.index_layer.specs.Stands.{places_have}
 use Rattle.plain_list.specs.Places.{IsRising}
 use Rattle.plain_list.specs.Size.{count_in_name}
 use Rattle.table_share.proofs.FirstObjects.{IsAbove-same, without_row-absent, same_first, first_gone, first_there, has_first}

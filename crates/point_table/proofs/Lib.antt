@@ -7,6 +7,7 @@ pub mod Folding
 pub mod FullLemmas
 pub mod KeyPlaces
 pub mod MemberSteps
+pub mod PlacesAfter
 pub mod Rising
 pub mod RowSteps
 pub mod Settled

@@ -4,6 +4,8 @@ use Rattle.std.specs.Prelude.{IfSome, ◌==◌, ◌&&◌}
 use Rattle.std.specs.List.{AllByRecursion}
 use Rattle.std.specs.Option.{option_map}
 use Rattle.zorder.specs.declared.points.Point.{Point}
+use Rattle.zorder.specs.declared.points.Placed.{Placed}
+use Rattle.plain_list.specs.declared.world.Stamped.{Stamped}
 use Rattle.zorder.specs.Key.{key_of, is_under}
 use Rattle.zorder.specs.SameName.{same_name, same_name-decides}
 use Rattle.bucket_versions.specs.declared.row.RowChange.{RowChange}
@@ -25,8 +27,8 @@ use Rattle.plain_list.proofs.Members.{position_of-without}
 use Rattle.point_table.proofs.CrowdLemmas.{crowded_of-replaced}
 use Rattle.std.proofs.lemmas.Bool.Decides.{nat_tests}
 use Rattle.std.proofs.lemmas.Grind.{common_steps}
-use Rattle.plain_list.specs.Places.{IsRising}
-use Rattle.plain_list.specs.World.{World, places_of, position_of, IsWorld}
+use Rattle.plain_list.specs.Places.{IsRising, place_of}
+use Rattle.plain_list.specs.World.{World, member_of, places_of, position_of, IsWorld}
 use Rattle.plain_list.specs.Answer.{with_member, with_moved, without}
 use Rattle.plain_list.proofs.MemberMaps.{with_moved-absent, IsAbove-lower}
 use Rattle.point_table.specs.Changes.{KeepsAt}
@@ -53,21 +55,21 @@ change_of id at keeps = record { row = record { key = key_of at; id = id }; keep
 
 module _ (w size : ℕ) (splits : List OpenSplit) (keeps : Bool) (old new : List Leaf) (world : World) (names after : List (List Bool)) (are : AreLeaves old)
     (rows : AllByRecursion (HasRowsOf (places_of world)) old) (was : names ≡ crowded_of w size old) where
-  pub put_after : (id : ℕ) (at : Point) → position_of world id ≡ None → (change : ChangesAt (key_of at) (after_put (change_of id at keeps)) old new) → KeepsAt splits old (key_of at) keeps
-      → ((l : Leaf) → leaf_under (key_of at) new ≡ Some l → after ≡ mark_under w size l names) → Steps w size splits old new (with_member (record { id = id; at = at }) world) after
-  put_after id at none change keeps_is marks =
-      let key = key_of at in
-      let row = after_put (change_of id at keeps) in
-      let steps = put_steps w size splits keeps old new world (record { id = id; at = at }) _ _ names are.tile rows none (as_leaf w size key row old new change) was (keeps_is change.leaf change.found) in
+  pub put_after : (id : ℕ) (to : Stamped) → position_of world id ≡ None → (change : ChangesAt (key_of to.at) (after_put (change_of id to.at keeps)) old new) → KeepsAt splits old (key_of to.at) keeps
+      → ((l : Leaf) → leaf_under (key_of to.at) new ≡ Some l → after ≡ mark_under w size l names) → Steps w size splits old new (with_member (member_of id to) world) after
+  put_after id to none change keeps_is marks =
+      let key = key_of to.at in
+      let row = after_put (change_of id to.at keeps) in
+      let steps = put_steps w size splits keeps old new world (member_of id to) _ _ names are.tile rows none (as_leaf w size key row old new change) was (keeps_is change.leaf change.found) in
       record { rows = steps.rows; crowded = marks _ (leaf_after key row old new change) ∙ steps.crowded; bases = steps.bases; settled = steps.settled }
 
-  pub gone_after : (id : ℕ) (at : Point) → position_of world id ≡ Some at → (change : ChangesAt (key_of at) (after_gone (change_of id at keeps)) old new) → KeepsAt splits old (key_of at) keeps
-      → ((l : Leaf) → leaf_under (key_of at) new ≡ Some l → after ≡ left_under w size l names) → Steps w size splits old new (without id world) after
-  gone_after id at there change keeps_is marks =
-      let key = key_of at in
-      let gone = change_of id at keeps in
+  pub gone_after : (id : ℕ) (kept : Stamped) → position_of world id ≡ Some kept → (change : ChangesAt (key_of kept.at) (after_gone (change_of id kept.at keeps)) old new) → KeepsAt splits old (key_of kept.at) keeps
+      → ((l : Leaf) → leaf_under (key_of kept.at) new ≡ Some l → after ≡ left_under w size l names) → Steps w size splits old new (without id world) after
+  gone_after id kept there change keeps_is marks =
+      let key = key_of kept.at in
+      let gone = change_of id kept.at keeps in
       let row = after_gone gone in
-      let steps = gone_steps w size splits keeps old new world id at _ _ names are.tile rows there (as_leaf w size key row old new change) was (keeps_is change.leaf change.found) in
+      let steps = gone_steps w size splits keeps old new world id kept _ _ names are.tile rows there (as_leaf w size key row old new change) was (keeps_is change.leaf change.found) in
       let left = left_names w size key gone change.leaf old names was change.found in
       record { rows = steps.rows; crowded = marks _ (leaf_after key row old new change) ∙ left ∙ steps.crowded; bases = steps.bases; settled = steps.settled }
 
@@ -85,11 +87,11 @@ replaced-twice name a b [] = refl
 replaced-twice name a b (l ∷ leaves) = λ i. same_bucket name a b l i ∷ replaced-twice name a b leaves i
 
 -- an object that stays where it is
-pub with_moved-same : (id : ℕ) (at : Point) (ms : World) → IsRising (places_of ms) → position_of ms id ≡ Some at → with_moved id at ms ≡ ms
-with_moved-same id at [] rising there = refl
-with_moved-same id at (m ∷ ms) rising there =
-    let rest : position_of ms id ≡ Some at → with_moved id at ms ≡ ms = with_moved-same id at ms rising.1 in
-    let kept : m.id ≤ id → id ≤ m.id → with_moved id at ms ≡ ms = λ le ge. with_moved-absent id at ms (IsAbove-lower id m.id ms ge rising.0) in
+pub with_moved-same : (id : ℕ) (kept : Stamped) (ms : World) → IsRising (places_of ms) → position_of ms id ≡ Some kept → with_moved id kept ms ≡ ms
+with_moved-same id kept [] rising there = refl
+with_moved-same id kept (m ∷ ms) rising there =
+    let rest : position_of ms id ≡ Some kept → with_moved id kept ms ≡ ms = with_moved-same id kept ms rising.1 in
+    let behind : m.id ≤ id → id ≤ m.id → with_moved id kept ms ≡ ms = λ le ge. with_moved-absent id kept ms (IsAbove-lower id m.id ms ge rising.0) in
     grind (arith, nat_tests, common_steps)
 
 -- an object that has gone isn't there
@@ -117,14 +119,14 @@ once w size n a b old new names is tile has was =
     ∙ ap (crowded_of w size) (sym (replaced-twice n a b old) ∙ sym is)
 
 pub move_after : (w size : ℕ) (splits : List OpenSplit) (from_keeps to_keeps : Bool) (old new : List Leaf) (world : World) (names after : List (List Bool)) → AreLeaves old → AllByRecursion (HasRowsOf (places_of world)) old → names ≡ crowded_of w size old
-    → IsWorld world → (id : ℕ) (from at : Point) → position_of world id ≡ Some from
-    → (moves : Moves (change_of id from from_keeps) (change_of id at to_keeps) old new) → KeepsAt splits old (key_of from) from_keeps → KeepsAt splits old (key_of at) to_keeps
-    → ((l m : Leaf) → leaf_under (key_of from) new ≡ Some l → leaf_under (key_of at) new ≡ Some m → after ≡ marked_two w size (key_of from) l m names)
-    → Steps w size splits old new (with_moved id at world) after
-move_after w size splits from_keeps to_keeps old new world names after are rows was is_world id from at there moves from_is_open to_is_open marks =
+    → IsWorld world → (id : ℕ) (kept wanted : Stamped) → position_of world id ≡ Some kept
+    → (moves : Moves (change_of id kept.at from_keeps) (change_of id wanted.at to_keeps) old new) → KeepsAt splits old (key_of kept.at) from_keeps → KeepsAt splits old (key_of wanted.at) to_keeps
+    → ((l m : Leaf) → leaf_under (key_of kept.at) new ≡ Some l → leaf_under (key_of wanted.at) new ≡ Some m → after ≡ marked_two w size (key_of kept.at) l m names)
+    → Steps w size splits old new (with_moved id wanted world) after
+move_after w size splits from_keeps to_keeps old new world names after are rows was is_world id kept wanted there moves from_is_open to_is_open marks =
     record {
-      rows = subst (λ (ms : World). AllByRecursion (HasRowsOf (places_of ms)) new) (with_member-without id from at world is_world there) put.rows;
-      crowded = marks _ _ from_is to_is ∙ by_under (is_under to.name (key_of from)) refl;
+      rows = subst (λ (ms : World). AllByRecursion (HasRowsOf (places_of ms)) new) (with_member-without id kept wanted world is_world there) put.rows;
+      crowded = marks _ _ from_is to_is ∙ by_under (is_under to.name (key_of kept.at)) refl;
       bases = put.bases ∙ gone.bases;
       settled = settled_then splits old between new gone.settled put.settled;
     }
@@ -133,10 +135,10 @@ move_after w size splits from_keeps to_keeps old new world names after are rows 
     between = moves.between
 
     take_it : Rows → Rows
-    take_it = after_gone (change_of id from from_keeps)
+    take_it = after_gone (change_of id kept.at from_keeps)
 
     put_it : Rows → Rows
-    put_it = after_put (change_of id at to_keeps)
+    put_it = after_put (change_of id wanted.at to_keeps)
 
     here : Leaf
     here = record { name = moves.takes.leaf.name; bucket = take_it moves.takes.leaf.bucket }
@@ -146,13 +148,13 @@ move_after w size splits from_keeps to_keeps old new world names after are rows 
 
     gone : Steps w size splits old between (without id world) (mark_under w size here names)
     gone =
-        gone_steps w size splits from_keeps old between world id from _ _ names are.tile rows there (as_leaf w size (key_of from) take_it old between moves.takes) was
+        gone_steps w size splits from_keeps old between world id kept _ _ names are.tile rows there (as_leaf w size (key_of kept.at) take_it old between moves.takes) was
         (from_is_open moves.takes.leaf moves.takes.found)
 
     tile : tiles_from 0 (names_of between) ≡ true
     tile = ap (λ (ls : List Leaf). tiles_from 0 (names_of ls)) moves.takes.leaves ∙ ap (tiles_from 0) (names_of-replaced here.name here.bucket old) ∙ are.tile
 
-    named : (o : Option Leaf) → leaf_under (key_of at) old ≡ o → option_map (with_bucket here.name here.bucket) o ≡ Some moves.puts.leaf → to_keeps ≡ is_splitting splits moves.puts.leaf.name
+    named : (o : Option Leaf) → leaf_under (key_of wanted.at) old ≡ o → option_map (with_bucket here.name here.bucket) o ≡ Some moves.puts.leaf → to_keeps ≡ is_splitting splits moves.puts.leaf.name
     named None found is = cc is
     named (Some l) found is =
         to_is_open l found ∙ ap (is_splitting splits) (sym (with_bucket-name here.name here.bucket l) ∙ ap (λ (m : Leaf). m.name) (some_is (with_bucket here.name here.bucket l) moves.puts.leaf is))
@@ -162,29 +164,29 @@ move_after w size splits from_keeps to_keeps old new world names after are rows 
 
     to_between : to_keeps ≡ is_splitting splits moves.puts.leaf.name
     to_between =
-        named (leaf_under (key_of at) old) refl
-        (sym (leaf_under-replaced (key_of at) here.name here.bucket old) ∙ ap (leaf_under (key_of at)) (sym moves.takes.leaves) ∙ moves.puts.found)
+        named (leaf_under (key_of wanted.at) old) refl
+        (sym (leaf_under-replaced (key_of wanted.at) here.name here.bucket old) ∙ ap (leaf_under (key_of wanted.at)) (sym moves.takes.leaves) ∙ moves.puts.found)
 
-    put : Steps w size splits between new (with_member (record { id = id; at = at }) (without id world)) (mark_under w size to (mark_under w size here names))
+    put : Steps w size splits between new (with_member (member_of id wanted) (without id world)) (mark_under w size to (mark_under w size here names))
     put =
-        put_steps w size splits to_keeps between new (without id world) (record { id = id; at = at }) _ _ (mark_under w size here names) tile gone.rows (position_of-gone id world)
-        (as_leaf w size (key_of at) put_it between new moves.puts) gone.crowded to_between
+        put_steps w size splits to_keeps between new (without id world) (member_of id wanted) _ _ (mark_under w size here names) tile gone.rows (position_of-gone id world)
+        (as_leaf w size (key_of wanted.at) put_it between new moves.puts) gone.crowded to_between
 
-    from_is : leaf_under (key_of from) new ≡ Some (with_bucket to.name to.bucket here)
+    from_is : leaf_under (key_of kept.at) new ≡ Some (with_bucket to.name to.bucket here)
     from_is =
-        ap (leaf_under (key_of from)) moves.puts.leaves ∙ leaf_under-replaced (key_of from) to.name to.bucket between
-        ∙ ap (option_map (with_bucket to.name to.bucket)) (leaf_after (key_of from) take_it old between moves.takes)
+        ap (leaf_under (key_of kept.at)) moves.puts.leaves ∙ leaf_under-replaced (key_of kept.at) to.name to.bucket between
+        ∙ ap (option_map (with_bucket to.name to.bucket)) (leaf_after (key_of kept.at) take_it old between moves.takes)
 
-    to_is : leaf_under (key_of at) new ≡ Some to
-    to_is = leaf_after (key_of at) put_it between new moves.puts
+    to_is : leaf_under (key_of wanted.at) new ≡ Some to
+    to_is = leaf_after (key_of wanted.at) put_it between new moves.puts
 
     has : has_name here.name old ≡ true
-    has = (found_named (key_of from) old moves.takes.leaf moves.takes.found).0
+    has = (found_named (key_of kept.at) old moves.takes.leaf moves.takes.found).0
 
     had : has_name here.name (replaced here.name to.bucket old) ≡ true
     had =
-        (found_named (key_of from) (replaced here.name to.bucket old) (record { name = here.name; bucket = to.bucket })
-        (leaf_after (key_of from) (λ _. to.bucket) old (replaced here.name to.bucket old) (record { leaf = moves.takes.leaf; found = moves.takes.found; leaves = refl }))).0
+        (found_named (key_of kept.at) (replaced here.name to.bucket old) (record { name = here.name; bucket = to.bucket })
+        (leaf_after (key_of kept.at) (λ _. to.bucket) old (replaced here.name to.bucket old) (record { leaf = moves.takes.leaf; found = moves.takes.found; leaves = refl }))).0
 
     by_name : (t : Bool) → same_name here.name to.name ≡ t → mark_under w size to (mark_under w size (cond t (record { name = here.name; bucket = to.bucket }) here) names) ≡ crowded_of w size new
     by_name true is =
@@ -200,13 +202,13 @@ move_after w size splits from_keeps to_keeps old new world names after are rows 
     from_leaf : Leaf
     from_leaf = with_bucket to.name to.bucket here
 
-    one_name : is_under to.name (key_of from) ≡ true → here.name ≡ to.name
+    one_name : is_under to.name (key_of kept.at) ≡ true → here.name ≡ to.name
     one_name under =
-        let at_from = find-among (λ (l : Leaf). is_under l.name (key_of from)) new from_leaf from_is in
-        let at_to = find-among (λ (l : Leaf). is_under l.name (key_of at)) new to to_is in
-        sym (with_bucket-name to.name to.bucket here) ∙ ap (λ (l : Leaf). l.name) (one-leaf new from_leaf to (key_of from) tile_new (key_of-lt from) at_from.0 at_to.0 at_from.1 under)
+        let at_from = find-among (λ (l : Leaf). is_under l.name (key_of kept.at)) new from_leaf from_is in
+        let at_to = find-among (λ (l : Leaf). is_under l.name (key_of wanted.at)) new to to_is in
+        sym (with_bucket-name to.name to.bucket here) ∙ ap (λ (l : Leaf). l.name) (one-leaf new from_leaf to (key_of kept.at) tile_new (key_of-lt kept.at) at_from.0 at_to.0 at_from.1 under)
 
-    by_under : (u : Bool) → is_under to.name (key_of from) ≡ u → mark_under w size to (cond u names (left_under w size from_leaf names)) ≡ crowded_of w size new
+    by_under : (u : Bool) → is_under to.name (key_of kept.at) ≡ u → mark_under w size to (cond u names (left_under w size from_leaf names)) ≡ crowded_of w size new
     by_under true under =
         let one : here.name ≡ to.name = one_name under in
         ap (λ (n : List Bool). mark_under w size (record { name = n; bucket = to.bucket }) names) (sym one)
@@ -215,17 +217,17 @@ move_after w size splits from_keeps to_keeps old new world names after are rows 
     by_under false other =
         ap (mark_under w size to) (by_same (same_name here.name to.name) refl) ∙ by_name (same_name here.name to.name) refl
       where
-        from_under : same_name here.name to.name ≡ true → is_under to.name (key_of from) ≡ true
-        from_under is = ap (λ n. is_under n (key_of from)) (sym ((same_name-decides here.name to.name).0 is)) ∙ (found_named (key_of from) old moves.takes.leaf moves.takes.found).1
+        from_under : same_name here.name to.name ≡ true → is_under to.name (key_of kept.at) ≡ true
+        from_under is = ap (λ n. is_under n (key_of kept.at)) (sym ((same_name-decides here.name to.name).0 is)) ∙ (found_named (key_of kept.at) old moves.takes.leaf moves.takes.found).1
 
         by_same : (t : Bool) → same_name here.name to.name ≡ t
             → left_under w size (cond t (record { name = here.name; bucket = to.bucket }) here) names ≡ mark_under w size (cond t (record { name = here.name; bucket = to.bucket }) here) names
         by_same true is = absurd (true≢false (sym (from_under is) ∙ other))
-        by_same false is = left_names w size (key_of from) (change_of id from from_keeps) moves.takes.leaf old names was moves.takes.found
+        by_same false is = left_names w size (key_of kept.at) (change_of id kept.at from_keeps) moves.takes.leaf old names was moves.takes.found
 
 -- a row of an object that is elsewhere isn't in its leaf
-pub row_elsewhere : (world : World) (leaves : List Leaf) (id : ℕ) (from at : Point) → AllByRecursion (HasRowsOf (places_of world)) leaves → position_of world id ≡ Some from → (key_of from == key_of at) ≡ false
+pub row_elsewhere : (places : List Placed) (leaves : List Leaf) (id : ℕ) (from at : Point) → AllByRecursion (HasRowsOf places) leaves → place_of places id ≡ Some from → (key_of from == key_of at) ≡ false
     → (l : Leaf) → leaf_under (key_of at) leaves ≡ Some l → has_row (record { key = key_of at; id = id }) l.bucket.rows ≡ false
-row_elsewhere world leaves id from at rows there other l found =
-    found_has (HasRowsOf (places_of world)) (key_of at) leaves l found rows (record { key = key_of at; id = id })
+row_elsewhere places leaves id from at rows there other l found =
+    found_has (HasRowsOf places) (key_of at) leaves l found rows (record { key = key_of at; id = id })
     ∙ ap (λ o. is_at_key (key_of at) o && is_under l.name (key_of at)) there ∙ ap (λ b. b && is_under l.name (key_of at)) other

@@ -1,6 +1,6 @@
 -- An index that stands for a world goes on to stand for it where a row is taken out with its object.
-use Rattle.std.proofs.Common.{◌≡◌, ℕ, Bool, true, false, cond, not, List, [], ◌∷◌, Option, Some, None, refl, sym, ap, ◌∙◌, arith}
-use Rattle.std.specs.Prelude.{◌==◌, ◌&&◌, ◌||◌}
+use Rattle.std.proofs.Common.{◌≡◌, ℕ, Bool, true, false, cond, not, List, Option, Some, None, refl, sym, ap, ◌∙◌}
+use Rattle.std.specs.Prelude.{◌==◌, ◌&&◌}
 use Rattle.std.specs.List.{AllByRecursion}
 use Rattle.std.proofs.lemmas.Bool.{eqb-true as eqb-eq}
 use Rattle.zorder.specs.declared.points.Point.{Point}
@@ -8,7 +8,7 @@ use Rattle.zorder.specs.declared.points.Placed.{Placed}
 use Rattle.zorder.specs.Key.{key_of, is_under}
 use Rattle.zorder.specs.SameName.{same_name}
 use Rattle.bucket_versions.specs.declared.row.Row.{Row}
-use Rattle.bucket_versions.specs.Rows.{Rows, has_row, without_row, same_row}
+use Rattle.bucket_versions.specs.Rows.{Rows, has_row, without_row}
 use Rattle.index_layer.specs.Leaves.{Leaf, names_of, replaced}
 use Rattle.index_layer.specs.Stands.{places_have, is_at_key, HasRowsOf}
 use Rattle.index_layer.proofs.Puts.{where_is}

@@ -9,6 +9,8 @@ use Rattle.std.proofs.lemmas.Bool.Decides.{nat_tests}
 use Rattle.std.proofs.lemmas.Grind.{common_steps}
 use Rattle.zorder.specs.declared.points.Point.{Point}
 use Rattle.zorder.specs.declared.points.Placed.{Placed}
+use Rattle.plain_list.specs.declared.world.Member.{Member}
+use Rattle.plain_list.specs.declared.world.Stamped.{Stamped}
 use Rattle.zorder.specs.Key.{key_of, is_under}
 use Rattle.zorder.specs.Tile.{tiles_from, next_key}
 use Rattle.zorder.proofs.Places.{key_of-lt}
@@ -19,10 +21,9 @@ use Rattle.index_layer.specs.Leaves.{Leaf, names_of, leaf_under, replaced}
 use Rattle.index_layer.specs.RowChanges.{ChangesAt}
 use Rattle.index_layer.specs.Stands.{HasRowsOf, is_at_key}
 use Rattle.index_layer.proofs.FoundLeaves.{found_named, found_has}
-use Rattle.plain_list.specs.Places.{IsRising, IsAbove}
-use Rattle.plain_list.specs.World.{World, places_of, position_of, IsWorld}
+use Rattle.plain_list.specs.Places.{IsRising, IsAbove, place_of}
+use Rattle.plain_list.specs.World.{World, placed_of, member_of, places_of, position_of, IsWorld}
 use Rattle.plain_list.specs.Answer.{with_member, with_moved, without}
-use Rattle.plain_list.proofs.Members.{position_of-with_member, position_of-without}
 use Rattle.plain_list.specs.State.{OpenSplit, is_splitting}
 use Rattle.point_table.specs.Changes.{ChangesLeaf, open_base, base_of, bases_of, AreSettled}
 use Rattle.point_table.specs.Crowded.{remarked}
@@ -30,23 +31,24 @@ use Rattle.point_table.specs.Crowds.{is_crowded, crowded_of}
 use Rattle.point_table.proofs.Covered.{Tiles, tiles, none_under, below_next, only_under}
 use Rattle.point_table.proofs.CrowdLemmas.{crowded_of-replaced}
 use Rattle.plain_list.proofs.MemberMaps.{IsAbove-lower, without-absent, with_moved-absent, position_of-above}
+use Rattle.point_table.proofs.PlacesAfter.{place-none, place-some, places-with_member, places-without}
 use Rattle.point_table.proofs.Settled.{open_or_none, settled_replaced}
 use Rattle.point_table.proofs.Standing.{find-names_of, rows_after_put}
 use Rattle.point_table.proofs.StandingLess.{rows_after_gone}
 
 -- the object's row isn't in its leaf
-pub row_absent : (world : World) (leaves : List Leaf) (id : ℕ) (at : Point) → AllByRecursion (HasRowsOf (places_of world)) leaves → position_of world id ≡ None
+pub row_absent : (places : List Placed) (leaves : List Leaf) (id : ℕ) (at : Point) → AllByRecursion (HasRowsOf places) leaves → place_of places id ≡ None
     → (l : Leaf) → leaf_under (key_of at) leaves ≡ Some l → has_row (record { key = key_of at; id = id }) l.bucket.rows ≡ false
-row_absent world leaves id at rows none l found =
+row_absent places leaves id at rows none l found =
     let row : Row = record { key = key_of at; id = id } in
-    found_has (HasRowsOf (places_of world)) (key_of at) leaves l found rows row ∙ ap (λ o. is_at_key (key_of at) o && is_under l.name (key_of at)) none
+    found_has (HasRowsOf places) (key_of at) leaves l found rows row ∙ ap (λ o. is_at_key (key_of at) o && is_under l.name (key_of at)) none
 
 -- the object's row is in its leaf
-pub row_there : (world : World) (leaves : List Leaf) (id : ℕ) (at : Point) → AllByRecursion (HasRowsOf (places_of world)) leaves → position_of world id ≡ Some at
+pub row_there : (places : List Placed) (leaves : List Leaf) (id : ℕ) (at : Point) → AllByRecursion (HasRowsOf places) leaves → place_of places id ≡ Some at
     → (l : Leaf) → leaf_under (key_of at) leaves ≡ Some l → has_row (record { key = key_of at; id = id }) l.bucket.rows ≡ true
-row_there world leaves id at rows there l found =
+row_there places leaves id at rows there l found =
     let row : Row = record { key = key_of at; id = id } in
-    found_has (HasRowsOf (places_of world)) (key_of at) leaves l found rows row
+    found_has (HasRowsOf places) (key_of at) leaves l found rows row
     ∙ ap (λ o. is_at_key (key_of at) o && is_under l.name (key_of at)) there
     ∙ ap (λ b. b && is_under l.name (key_of at)) (eq-eqb (key_of at) (key_of at) refl)
     ∙ (found_named (key_of at) leaves l found).1
@@ -107,7 +109,7 @@ pub record Steps (w size : ℕ) (splits : List OpenSplit) (old new : List Leaf) 
   pub bases : bases_of splits new ≡ bases_of splits old
   pub settled : AreSettled splits old new
 
-pub put_steps : (w size : ℕ) (splits : List OpenSplit) (keeps : Bool) (old new : List Leaf) (world : World) (m : Placed) (name : List Bool) (crowded : Bool) (names : List (List Bool)) → tiles_from 0 (names_of old) ≡ true → AllByRecursion (HasRowsOf (places_of world)) old
+pub put_steps : (w size : ℕ) (splits : List OpenSplit) (keeps : Bool) (old new : List Leaf) (world : World) (m : Member) (name : List Bool) (crowded : Bool) (names : List (List Bool)) → tiles_from 0 (names_of old) ≡ true → AllByRecursion (HasRowsOf (places_of world)) old
     → position_of world m.id ≡ None → (change : ChangesLeaf w size (key_of m.at) (after_put (record { row = record { key = key_of m.at; id = m.id }; keeps_base = keeps })) old new name crowded) → names ≡ crowded_of w size old
     → keeps ≡ is_splitting splits change.leaf.name → Steps w size splits old new (with_member m world) (remarked crowded name names)
 put_steps w size splits keeps old new world m name crowded names tile rows none change was keeps_is =
@@ -119,7 +121,7 @@ put_steps w size splits keeps old new world m name crowded names tile rows none 
     let only = only_under 0 key (names_of old) leaf.name tile (key_of-lt m.at) found in
     record {
       rows = subst (AllByRecursion (HasRowsOf (places_of (with_member m world)))) (sym change.leaves)
-          (rows_after_put world (with_member m world) m leaf bucket old only.1 only.0 none (λ id. position_of-with_member m world id none) (found_has (HasRowsOf (places_of world)) key old leaf change.found rows) refl rows);
+          (rows_after_put (places_of world) (places_of (with_member m world)) (placed_of m) leaf bucket old only.1 only.0 (place-none world m.id none) (places-with_member m world none) (found_has (HasRowsOf (places_of world)) key old leaf change.found rows) refl rows);
       crowded =
           ap (λ (n : List Bool). remarked crowded n names) change.name_is ∙ ap (remarked crowded leaf.name) was ∙ ap (λ b. remarked b leaf.name (crowded_of w size old)) change.crowded_is
           ∙ sym (crowded_of-replaced w size 0 leaf.name bucket old tile (found_named key old leaf change.found).0) ∙ ap (crowded_of w size) (sym change.leaves);
@@ -131,49 +133,49 @@ put_steps w size splits keeps old new world m name crowded names tile rows none 
           (settled_replaced splits leaf.name bucket old (open_or_none keeps (is_splitting splits leaf.name) leaf.bucket.base (with_row row leaf.bucket.rows) keeps_is));
     }
 
-pub gone_steps : (w size : ℕ) (splits : List OpenSplit) (keeps : Bool) (old new : List Leaf) (world : World) (id : ℕ) (at : Point) (name : List Bool) (crowded : Bool) (names : List (List Bool)) → tiles_from 0 (names_of old) ≡ true → AllByRecursion (HasRowsOf (places_of world)) old
-    → position_of world id ≡ Some at → (change : ChangesLeaf w size (key_of at) (after_gone (record { row = record { key = key_of at; id = id }; keeps_base = keeps })) old new name crowded) → names ≡ crowded_of w size old
+pub gone_steps : (w size : ℕ) (splits : List OpenSplit) (keeps : Bool) (old new : List Leaf) (world : World) (id : ℕ) (kept : Stamped) (name : List Bool) (crowded : Bool) (names : List (List Bool)) → tiles_from 0 (names_of old) ≡ true → AllByRecursion (HasRowsOf (places_of world)) old
+    → position_of world id ≡ Some kept → (change : ChangesLeaf w size (key_of kept.at) (after_gone (record { row = record { key = key_of kept.at; id = id }; keeps_base = keeps })) old new name crowded) → names ≡ crowded_of w size old
     → keeps ≡ is_splitting splits change.leaf.name → Steps w size splits old new (without id world) (remarked crowded name names)
-gone_steps w size splits keeps old new world id at name crowded names tile rows there change was keeps_is =
-    let key = key_of at in
+gone_steps w size splits keeps old new world id kept name crowded names tile rows there change was keeps_is =
+    let key = key_of kept.at in
     let leaf = change.leaf in
     let row : Row = record { key = key; id = id } in
     let bucket = after_gone (record { row = row; keeps_base = keeps }) leaf.bucket in
     let found : find (λ n. is_under n key) (names_of old) ≡ Some leaf.name = find-names_of key old ∙ ap (option_map (λ (l : Leaf). l.name)) change.found in
-    let only = only_under 0 key (names_of old) leaf.name tile (key_of-lt at) found in
+    let only = only_under 0 key (names_of old) leaf.name tile (key_of-lt kept.at) found in
     record {
       rows = subst (AllByRecursion (HasRowsOf (places_of (without id world)))) (sym change.leaves)
-          (rows_after_gone world (without id world) id at leaf bucket old only.1 there (λ i. position_of-without id world i) (found_has (HasRowsOf (places_of world)) key old leaf change.found rows) refl rows);
+          (rows_after_gone (places_of world) (places_of (without id world)) id kept.at leaf bucket old only.1 (place-some world id kept there) (places-without id world) (found_has (HasRowsOf (places_of world)) key old leaf change.found rows) refl rows);
       crowded =
           ap (λ (n : List Bool). remarked crowded n names) change.name_is ∙ ap (remarked crowded leaf.name) was ∙ ap (λ b. remarked b leaf.name (crowded_of w size old)) change.crowded_is
           ∙ sym (crowded_of-replaced w size 0 leaf.name bucket old tile (found_named key old leaf change.found).0) ∙ ap (crowded_of w size) (sym change.leaves);
       bases =
           ap (bases_of splits) change.leaves
-          ∙ bases_of-replaced splits leaf bucket old (λ is. ap (λ b. cond b leaf.bucket.base (without_row row leaf.bucket.rows)) (keeps_is ∙ is)) (only_found 0 key old leaf tile (key_of-lt at) change.found);
+          ∙ bases_of-replaced splits leaf bucket old (λ is. ap (λ b. cond b leaf.bucket.base (without_row row leaf.bucket.rows)) (keeps_is ∙ is)) (only_found 0 key old leaf tile (key_of-lt kept.at) change.found);
       settled =
           subst (AreSettled splits old) (sym change.leaves)
           (settled_replaced splits leaf.name bucket old (open_or_none keeps (is_splitting splits leaf.name) leaf.bucket.base (without_row row leaf.bucket.rows) keeps_is));
     }
 
-above_first : (id : ℕ) (at : Point) (ms : World) → IsAbove id (places_of ms) → with_member (record { id = id; at = at }) ms ≡ record { id = id; at = at } ∷ ms
-above_first id at [] above = refl
-above_first id at (m ∷ ms) above =
+above_first : (id : ℕ) (to : Stamped) (ms : World) → IsAbove id (places_of ms) → with_member (member_of id to) ms ≡ member_of id to ∷ ms
+above_first id to [] above = refl
+above_first id to (m ∷ ms) above =
     let lt : id < m.id = above.0 in
     grind (arith, nat_tests, common_steps)
 
-moves : (id : ℕ) (old at : Point) (ms : World) → IsRising (places_of ms) → position_of ms id ≡ Some old → with_member (record { id = id; at = at }) (without id ms) ≡ with_moved id at ms
-moves id old at [] rising there = cc
-moves id old at (m ∷ ms) rising there =
-    let rest : position_of ms id ≡ Some old → with_member (record { id = id; at = at }) (without id ms) ≡ with_moved id at ms = moves id old at ms rising.1 in
+moves : (id : ℕ) (old to : Stamped) (ms : World) → IsRising (places_of ms) → position_of ms id ≡ Some old → with_member (member_of id to) (without id ms) ≡ with_moved id to ms
+moves id old to [] rising there = cc
+moves id old to (m ∷ ms) rising there =
+    let rest : position_of ms id ≡ Some old → with_member (member_of id to) (without id ms) ≡ with_moved id to ms = moves id old to ms rising.1 in
     let gone : m.id ≤ id → id ≤ m.id → without id ms ≡ ms = λ le ge. without-absent id ms (IsAbove-lower id m.id ms ge rising.0) in
-    let kept : m.id ≤ id → id ≤ m.id → with_moved id at ms ≡ ms = λ le ge. with_moved-absent id at ms (IsAbove-lower id m.id ms ge rising.0) in
-    let first : m.id ≤ id → id ≤ m.id → with_member (record { id = id; at = at }) ms ≡ record { id = id; at = at } ∷ ms = λ le ge. above_first id at ms (IsAbove-lower id m.id ms ge rising.0) in
+    let kept : m.id ≤ id → id ≤ m.id → with_moved id to ms ≡ ms = λ le ge. with_moved-absent id to ms (IsAbove-lower id m.id ms ge rising.0) in
+    let first : m.id ≤ id → id ≤ m.id → with_member (member_of id to) ms ≡ member_of id to ∷ ms = λ le ge. above_first id to ms (IsAbove-lower id m.id ms ge rising.0) in
     let none : id < m.id → position_of ms id ≡ None = λ lt. position_of-above id ms (IsAbove-lower id m.id ms (omega arith) rising.0) in
     grind (arith, nat_tests, common_steps)
 
 -- an object that moves is one that goes and comes
-pub with_member-without : (id : ℕ) (old at : Point) (world : World) → IsWorld world → position_of world id ≡ Some old → with_member (record { id = id; at = at }) (without id world) ≡ with_moved id at world
-with_member-without id old at world w there = moves id old at world w.rising there
+pub with_member-without : (id : ℕ) (old to : Stamped) (world : World) → IsWorld world → position_of world id ≡ Some old → with_member (member_of id to) (without id world) ≡ with_moved id to world
+with_member-without id old to world w there = moves id old to world w.rising there
 
 -- one leaf's bucket has changed, and whether it is to be split is told by its rows
 abbrev pub as_leaf : (w size key : ℕ) (change : Rows → Rows) (old new : List Leaf) (at : ChangesAt key change old new)

@@ -1,22 +1,22 @@
 -- What a change of a table is answered, where it changes the world and where it doesn't.
-use Rattle.std.proofs.Common.{◌≡◌, ℕ, Bool, true, false, List, Option, Some, None, refl, sym, ap, subst, ◌∙◌, arith, if◌then◌else◌}
+use Rattle.std.proofs.Common.{◌≡◌, ℕ, ◌<◌, ◌≤◌, Bool, true, false, List, Option, Some, None, refl, sym, ap, subst, ◌∙◌, arith, if◌then◌else◌}
 use Rattle.std.specs.Prelude.{◌==◌, ◌&&◌}
 use Rattle.std.specs.Bool.{nat_eq}
 use Rattle.std.proofs.lemmas.Bool.Decides.{nat_tests}
 use Rattle.std.proofs.lemmas.Grind.{common_steps}
-use Rattle.std.proofs.lemmas.Bool.{eqb-true}
+use Rattle.std.proofs.lemmas.Bool.{eqb-true, lt-ltb, le-ltb}
 use mathlib.Core.Bool.{true≢false}
 use Rattle.zorder.specs.Key.{key_of, point_of}
 use Rattle.std.specs.List.{AllByRecursion}
 use Rattle.std.specs.Option.{option_map_or, MatchOption}
 use Rattle.zorder.specs.declared.points.Point.{Point}
-use Rattle.zorder.specs.declared.points.Placed.{Placed}
+use Rattle.plain_list.specs.declared.world.Stamped.{Stamped}
 use Rattle.plain_list.specs.declared.ops.Op.{Op}
-use Rattle.plain_list.specs.declared.ops.Op.TheVariants.{Put}
+use Rattle.plain_list.specs.declared.ops.Op.TheVariants.{Put, Move}
 use Rattle.plain_list.specs.declared.ops.Answer.{Answer}
-use Rattle.plain_list.specs.declared.ops.Answer.TheVariants.{Done, Present, Full}
+use Rattle.plain_list.specs.declared.ops.Answer.TheVariants.{Done, Present, Full, Moved, Stale, Absent}
 use Rattle.plain_list.specs.World.{World, places_of, position_of, IsWorld, is_full}
-use Rattle.plain_list.specs.Answer.{answer_of, changed, is_change}
+use Rattle.plain_list.specs.Answer.{answer_of, moved_or_stale, changed, is_change}
 use Rattle.plain_list.specs.State.{OpenSplit}
 use Rattle.index_layer.specs.Leaves.{Leaf}
 use Rattle.index_layer.specs.Stands.{HasRowsOf}
@@ -51,17 +51,32 @@ updates_some splits old new op answer is loud changes =
     }
 
 -- a put into a full world changes nothing
-full_quiet : (o : Option Point) (b : Bool) → b ≡ true → is_change (option_map_or Present o (if b then Full else Done)) ≡ false
+full_quiet : (o : Option Stamped) (b : Bool) → b ≡ true → is_change (option_map_or Present o (if b then Full else Done)) ≡ false
 full_quiet None b is = ap (λ c. is_change (if c then Full else Done)) is
-full_quiet (Some at) b is = refl
+full_quiet (Some kept) b is = refl
 
-pub put-full : (world : World) (id : ℕ) (at : Point) → is_full world ≡ true → is_change (answer_of world (Put id at)) ≡ false
-put-full world id at is = full_quiet (position_of world id) (is_full world) is
+pub put-full : (world : World) (id : ℕ) (at : Point) (moment : ℕ) → is_full world ≡ true → is_change (answer_of world (Put id at moment)) ≡ false
+put-full world id at moment is = full_quiet (position_of world id) (is_full world) is
 
 -- a put of an object that isn't there is done where there is room
-pub put-done : (world : World) (id : ℕ) (at : Point) → position_of world id ≡ None → is_full world ≡ false → Done ≡ answer_of world (Put id at)
-put-done world id at none room =
+pub put-done : (world : World) (id : ℕ) (at : Point) (moment : ℕ) → position_of world id ≡ None → is_full world ≡ false → Done ≡ answer_of world (Put id at moment)
+put-done world id at moment none room =
     sym (ap (λ o. option_map_or Present o (if is_full world then Full else Done)) none ∙ ap (λ b. if b then Full else Done) room)
+
+-- a move of an object that isn't there
+pub move-absent : (world : World) (id : ℕ) (to : Stamped) → position_of world id ≡ None → Absent ≡ answer_of world (Move id to.at to.moment)
+move-absent world id to none = sym (ap (λ o. option_map_or (moved_or_stale to.moment) o Absent) none)
+
+move_answer : (world : World) (id : ℕ) (to kept : Stamped) → position_of world id ≡ Some kept → moved_or_stale to.moment kept ≡ answer_of world (Move id to.at to.moment)
+move_answer world id to kept there = sym (ap (λ o. option_map_or (moved_or_stale to.moment) o Absent) there)
+
+-- a move whose moment is below the kept one comes too late
+pub move-stale : (world : World) (id : ℕ) (to kept : Stamped) → position_of world id ≡ Some kept → to.moment < kept.moment → Stale kept ≡ answer_of world (Move id to.at to.moment)
+move-stale world id to kept there less = sym (ap (λ b. if b then Stale kept else Moved kept) (lt-ltb to.moment kept.moment less)) ∙ move_answer world id to kept there
+
+-- each other one is made
+pub move-moved : (world : World) (id : ℕ) (to kept : Stamped) → position_of world id ≡ Some kept → kept.moment ≤ to.moment → Moved kept ≡ answer_of world (Move id to.at to.moment)
+move-moved world id to kept there le = sym (ap (λ b. if b then Stale kept else Moved kept) (le-ltb to.moment kept.moment le)) ∙ move_answer world id to kept there
 
 -- a table whose map went and came back
 pub same_table : {I P : Type 0} (leaves : I → List Leaf) (w : ℕ) (old new : Inside I P) → IsTable leaves w old → new.members ≡ old.members → leaves new.index ≡ leaves old.index → new.crowded.names ≡ old.crowded.names

@@ -1,7 +1,6 @@
 -- What a clause sees of a table.
 use Rattle.std.specs.Prelude.{◌≡◌, ℕ, Bool, ◌&&◌, not, List, Option, Some}
 use Rattle.std.specs.List.{find}
-use Rattle.zorder.specs.declared.points.Placed.{Placed}
 use Rattle.bucket_versions.specs.Rows.{Rows}
 use Rattle.plain_list.specs.World.{World, places_of}
 use Rattle.plain_list.specs.Size.{is_over}

@@ -2,7 +2,6 @@
 use Rattle.std.specs.Prelude.{◌≡◌, Bool, true, false, List, Result, Ok, Err, ⊤}
 use Rattle.bucket_versions.specs.Told.{Told}
 use Rattle.bucket_versions.specs.declared.commit.Undone.{Undone}
-use Rattle.zorder.specs.declared.points.Placed.{Placed}
 use Rattle.plain_list.specs.declared.ops.Op.{Op}
 use Rattle.plain_list.specs.declared.ops.Op.TheVariants.{Within, Near}
 use Rattle.plain_list.specs.declared.ops.Answer.{Answer}

@@ -1,5 +1,5 @@
 //! An index and a map by id that stand for one world.
-ghost use Rattle.std.specs.Prelude.{◌≡◌, ◌+◌, ◌-◌, ◌<◌, ◌≤◌, ◌∷◌, [], true, false, IfOk, OnOk, OnErr, MatchOption, length};
+ghost use Rattle.std.specs.Prelude.{◌≡◌, ℕ, ◌+◌, ◌-◌, ◌<◌, ◌≤◌, ◌∷◌, [], true, false, IfOk, OnOk, OnErr, MatchOption, length};
 ghost use Rattle.std.specs.Arc.{arc_value};
 ghost use Rattle.std.specs.List.{AllByRecursion};
 ghost use Rattle.bucket_versions.specs.Told.{Told};
@@ -23,11 +23,11 @@ mod splits;
 use crate::crowded::{Begun, Crowded, is_among, is_over};
 use bucket_versions::{Bucket, Commit, Row, RowChange, Undone};
 use index_layer::{Index, Part};
-use plain_list::{Answer, MOST_MEMBERS, MemberShards, Op};
+use plain_list::{Answer, MOST_MEMBERS, MemberShards, Op, Stamped};
 use std::alloc::Global;
 use std::marker::Model;
 use std::sync::Arc;
-use zorder::{Memory, Name, Point, begins, key};
+use zorder::{Memory, Name, begins, key};
 
 /// Objects, by their ids and by their keys.
 #[derive(Drop)]
@@ -86,8 +86,8 @@ impl<I: Index> PointTable<I> {
         self.members.len()
     }
 
-    /// Where an object is.
-    pub fn position(&self, id: u64) -> Option<Point>
+    /// What is kept of an object.
+    pub fn position(&self, id: u64) -> Option<Stamped>
         ensures { result ≡ position_of self.now.world id }
     {
         self.members.position(id)
@@ -99,7 +99,10 @@ impl<I: Index> PointTable<I> {
     {
         match *op {
             Op::Put { id, .. } => self.position(id).is_none() && !self.is_full(),
-            Op::Move { id, .. } => self.position(id).is_some(),
+            Op::Move { id, moment, .. } => match self.position(id) {
+                Some(kept) => kept.moment <= moment,
+                None => false,
+            },
             Op::Remove { id } => self.position(id).is_some(),
             Op::Find { .. } => false,
             Op::Within { .. } => false,
@@ -122,8 +125,10 @@ impl<I: Index> PointTable<I> {
         ensures told { TellsIf C.done C.lost (is_change (answer_of self.old.world op.now)) commit.old commit.new result }
     {
         match *op {
-            Op::Put { id, at } => self.put(id, at, begun, commit),
-            Op::Move { id, at } => self.relocate(id, at, begun, commit),
+            Op::Put { id, at, moment } => self.put(id, Stamped { at, moment }, begun, commit),
+            Op::Move { id, at, moment } => {
+                self.relocate(id, Stamped { at, moment }, begun, commit)
+            }
             Op::Remove { id } => self.remove(id, begun, commit),
             Op::Find { id } => Ok(self.find(id)),
             Op::Within { .. } => unreachable!(),
@@ -135,24 +140,27 @@ impl<I: Index> PointTable<I> {
     fn put<C: Commit>(
         &mut self,
         id: u64,
-        at: Point,
+        to: Stamped,
         begun: &[Begun],
         commit: &mut C,
     ) -> Result<Answer, Undone>
-        requires { is_change (answer_of self.old.world (Op.Put id at)) ≡ true → C.can commit.old }
-        ensures ok { IfOk result (λ a. Updates (splits_of begun.now) self.old self.new (Op.Put id at) a) }
+        requires { is_change (answer_of self.old.world (Op.Put id to.at to.moment)) ≡ true → C.can commit.old }
+        ensures ok { IfOk result (λ a. Updates (splits_of begun.now) self.old self.new (Op.Put id to.at to.moment) a) }
         ensures err { OnErr result (self.new ≡ self.old) }
-        ensures told { TellsIf C.done C.lost (is_change (answer_of self.old.world (Op.Put id at))) commit.old commit.new result }
+        ensures told { TellsIf C.done C.lost (is_change (answer_of self.old.world (Op.Put id to.at to.moment))) commit.old commit.new result }
     {
         if self.is_full() {
             return Ok(self.full(id));
         }
         // The map goes first, and back where the index can't follow: so the object is looked for once.
-        if let Some(there) = self.members.insert(id, at)? {
+        if let Some(there) = self.members.insert(id, to)? {
             self.members.replace(id, there);
             return Ok(Answer::Present(there));
         }
-        let row = Row { key: key(at), id };
+        let row = Row {
+            key: key(to.at),
+            id,
+        };
         let put = change(&self.index, begun, row);
         match put_row(&mut self.index, &mut self.crowded, put, commit) {
             Ok(count) => {
@@ -175,10 +183,10 @@ impl<I: Index> PointTable<I> {
     // What a put is answered in a full world.
     fn full(&self, id: u64) -> Answer
         requires { is_full self.now.world ≡ true }
-        ensures { (at : Point) → result ≡ answer_of self.now.world (Op.Put id at) }
+        ensures { (at : Point) (moment : ℕ) → result ≡ answer_of self.now.world (Op.Put id at moment) }
     {
         match self.position(id) {
-            Some(at) => Answer::Present(at),
+            Some(kept) => Answer::Present(kept),
             None => Answer::Full,
         }
     }
@@ -187,29 +195,39 @@ impl<I: Index> PointTable<I> {
     fn relocate<C: Commit>(
         &mut self,
         id: u64,
-        at: Point,
+        to: Stamped,
         begun: &[Begun],
         commit: &mut C,
     ) -> Result<Answer, Undone>
-        requires { is_change (answer_of self.old.world (Op.Move id at)) ≡ true → C.can commit.old }
-        ensures ok { IfOk result (λ a. Updates (splits_of begun.now) self.old self.new (Op.Move id at) a) }
+        requires { is_change (answer_of self.old.world (Op.Move id to.at to.moment)) ≡ true → C.can commit.old }
+        ensures ok { IfOk result (λ a. Updates (splits_of begun.now) self.old self.new (Op.Move id to.at to.moment) a) }
         ensures err { OnErr result (self.new ≡ self.old) }
-        ensures told { TellsIf C.done C.lost (is_change (answer_of self.old.world (Op.Move id at))) commit.old commit.new result }
+        ensures told { TellsIf C.done C.lost (is_change (answer_of self.old.world (Op.Move id to.at to.moment))) commit.old commit.new result }
     {
-        // The map goes first, and back where the index can't follow: so the object is looked for once.
-        let Some(old) = self.members.replace(id, at) else {
+        // The map goes first, and back where the move is stale or can't be made: so the object is looked for once where it moves.
+        let Some(old) = self.members.replace(id, to) else {
             return Ok(Answer::Absent);
         };
-        if old == at {
-            // The step is taken, and nothing changes.
-            return if commit.commit() {
-                Ok(Answer::Moved(old))
-            } else {
-                Err(Undone::Lost)
-            };
+        if to.moment < old.moment {
+            self.members.replace(id, old);
+            return Ok(Answer::Stale(old));
         }
-        let from = Row { key: key(old), id };
-        let to = Row { key: key(at), id };
+        if old.at == to.at {
+            // The rows stay: no index is asked, and the step is taken here.
+            if !commit.commit() {
+                self.members.replace(id, old);
+                return Err(Undone::Lost);
+            }
+            return Ok(Answer::Moved(old));
+        }
+        let from = Row {
+            key: key(old.at),
+            id,
+        };
+        let to = Row {
+            key: key(to.at),
+            id,
+        };
         let gone = change(&self.index, begun, from);
         let put = change(&self.index, begun, to);
         match move_row(&mut self.index, &mut self.crowded, gone, put, commit) {
@@ -241,7 +259,10 @@ impl<I: Index> PointTable<I> {
             return Ok(Answer::Absent);
         };
         self.crowded.reserve(1)?;
-        let row = Row { key: key(old), id };
+        let row = Row {
+            key: key(old.at),
+            id,
+        };
         let gone = change(&self.index, begun, row);
         self.index.take_row(gone, commit)?;
         self.members.remove(id);
@@ -253,7 +274,7 @@ impl<I: Index> PointTable<I> {
         ensures { result ≡ answer_of self.now.world (Op.Find id) }
     {
         match self.position(id) {
-            Some(at) => Answer::At(at),
+            Some(kept) => Answer::At(kept),
             None => Answer::Absent,
         }
     }

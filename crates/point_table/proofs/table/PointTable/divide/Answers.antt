@@ -58,7 +58,7 @@ invariant_of-self-2 g c =
     let tiled = ap (λ (ls : List Leaf). tiles_from 0 (names_of ls)) (sym after) ∙ (g.met.I.Index.are_leaves c.divide.new.self).tile in
     record {
       world = c.self.invariant.world;
-      rows = subst (AllByRecursion (HasRowsOf (places_of world))) (sym after) (rows_of-divided w world name leaf leaves at.1 short had c.self.invariant.rows);
+      rows = subst (AllByRecursion (HasRowsOf (places_of world))) (sym after) (rows_of-divided w (places_of world) name leaf leaves at.1 short had c.self.invariant.rows);
       crowded =
           ap (λ (v : Crowd). v.names) c.set_each.ensures
           ∙ (λ i. remarked_each (marks i) ((c.in_ok-reserve.ensures.names ∙ c.self.invariant.crowded) i))

@@ -36,7 +36,7 @@ invariant_of-self-2 g c =
     let world = inside.members in
     record {
       world = c.self.invariant.world;
-      rows = subst (AllByRecursion (HasRowsOf (places_of world))) (sym after) (rows_folded name leaf world leaves only c.self.invariant.rows);
+      rows = subst (AllByRecursion (HasRowsOf (places_of world))) (sym after) (rows_folded name leaf (places_of world) leaves only c.self.invariant.rows);
       crowded = c.self.invariant.crowded ∙ sym (crowded_of-folded name leaf w inside.size leaves only) ∙ ap (crowded_of w inside.size) (sym after);
     }
 

@@ -1,8 +1,7 @@
-use Rattle.std.proofs.Common.{◌≡◌, List, Some, refl, sym, ap, subst, rules}
+use Rattle.std.proofs.Common.{◌≡◌, Some, refl, sym, ap, subst, rules}
 use Rattle.std.specs.Option.{option_map_or}
 use Rattle.std.specs.List.{AllByRecursion}
 use Rattle.zorder.specs.Key.{key_of}
-use Rattle.zorder.specs.declared.points.Placed.{Placed}
 use Rattle.index_layer.specs.Stands.{HasRowsOf}
 use Rattle.plain_list.specs.declared.ops.Op.TheVariants.{Remove}
 use Rattle.plain_list.specs.declared.ops.Answer.TheVariants.{Gone, Absent}
@@ -10,6 +9,7 @@ use Rattle.plain_list.specs.World.{World, places_of, position_of, IsWorld}
 use Rattle.plain_list.specs.Answer.{without}
 use Rattle.plain_list.proofs.Worlds.{IsWorld-without}
 use Rattle.point_table.specs.Splits.{splits_of}
+use Rattle.point_table.proofs.PlacesAfter.{place-some}
 use Rattle.point_table.proofs.TableSteps.{row_there}
 use Rattle.point_table.proofs.RowSteps.{if_some, gone_after}
 use Rattle.point_table.proofs.Updating.{updates_some}
@@ -18,7 +18,7 @@ use Rattle.point_table.proofs.table.PointTable.remove.Goals as goal
 pub take_row-requires-clause-present : goal.take_row-requires-clause-present
 take_row-requires-clause-present g c =
     let there : position_of c.self.inside.members c.args.id ≡ Some c.in-Some.old = rw (← c.self.view_is) at (sym c.in-Some.ensures) in
-    rw (c.change-gone.ensures.row, c.key.ensures.sum) (if_some _ _ (row_there c.self.inside.members (g.I.Index.leaves c.self.inside.index) c.args.id c.in-Some.old c.self.invariant.rows there))
+    rw (c.change-gone.ensures.row, c.key.ensures.sum) (if_some _ _ (row_there (places_of c.self.inside.members) (g.I.Index.leaves c.self.inside.index) c.args.id c.in-Some.old.at c.self.invariant.rows (place-some c.self.inside.members c.args.id c.in-Some.old there)))
 
 pub invariant_of-self-2 : goal.invariant_of-self-2
 invariant_of-self-2 g c =
@@ -26,7 +26,7 @@ invariant_of-self-2 g c =
     let inside = c.self.inside in
     let id = c.args.id in
     let old = c.in-Some.old in
-    let key : c.key.result ≡ key_of old = c.key.ensures.sum in
+    let key : c.key.result ≡ key_of old.at = c.key.ensures.sum in
     let there : position_of inside.members id ≡ Some old = rw (← c.self.view_is) at (sym c.in-Some.ensures) in
     let change = rw (c.change-gone.ensures.row, key) at c.in_ok-take_row.ensures.ok in
     let keeps = rw key at c.change-gone.ensures.keeps in
@@ -47,7 +47,7 @@ returns-clause-ok g c =
     let inside = c.self.inside in
     let id = c.args.id in
     let old = c.in-Some.old in
-    let key : c.key.result ≡ key_of old = c.key.ensures.sum in
+    let key : c.key.result ≡ key_of old.at = c.key.ensures.sum in
     let there : position_of inside.members id ≡ Some old = rw (← c.self.view_is) at (sym c.in-Some.ensures) in
     let change = rw (c.change-gone.ensures.row, key) at c.in_ok-take_row.ensures.ok in
     let keeps = rw key at c.change-gone.ensures.keeps in
