@@ -3,8 +3,8 @@ use Rattle.std.proofs.Common.{◌≡◌, ℕ, ◌+◌, Bool, true, false, ◌&&�
 use Rattle.std.proofs.lemmas.Bool.{true≢false}
 use Rattle.std.proofs.lemmas.List.{append-nil}
 use Rattle.std.specs.Cmp.{second_so}
-use Rattle.zorder.specs.declared.points.Placed.{Placed}
 use Rattle.cell_format.specs.declared.cell.Cell.{Cell}
+use Rattle.cell_format.specs.Spelling.{newest}
 use Rattle.plain_list.specs.declared.entries.Entry.{Entry}
 use Rattle.plain_list.specs.declared.entries.Entry.TheVariants.{Fail, Call, Begin, Install, Abandon}
 use Rattle.plain_list.specs.declared.entries.Lost.{Lost}
@@ -90,7 +90,7 @@ module _ (w : ℕ) (s : State) (h : List Entry) (e : Entry) (cell : Cell) (next 
             (ap (λ l. cells_of s.world (h ++ e ∷ []) ++ l) (failed_cells-append h (e ∷ []) sound ∙ lost_none (world_after s.world h) e cell next.cells)
             ∙ append-nil (cells_of s.world (h ++ e ∷ [])) ∙ cells_with)
             cells_with
-            (λ c left. subst (λ l. HoldsCells w l c) (append_assoc first (cells_of s.world h) (cell ∷ []))
+            (λ c left. subst (λ l. HoldsCells newest w l c) (append_assoc first (cells_of s.world h) (cell ∷ []))
             (leaves-log w ((first ++ cells_of s.world h) ++ cell ∷ []) d1 log c left))
             None log;
       }

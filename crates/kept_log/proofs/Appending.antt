@@ -1,6 +1,7 @@
 -- What an append makes of each history that a log keeps.
 use Rattle.std.proofs.Common.{◌≡◌, ◌⊎◌, inl, inr, ⊎_elim, ℕ, List, [], ◌∷◌, ◌++◌, length, Option, Some, None, refl, sym, ◌∙◌, ap, subst, arith, append_assoc, length-append}
 use Rattle.cell_format.specs.declared.cell.Cell.{Cell}
+use Rattle.cell_format.specs.Spelling.{newest}
 use Rattle.plain_list.specs.declared.entries.Entry.{Entry}
 use Rattle.plain_list.specs.declared.entries.Entry.TheVariants.{Fail}
 use Rattle.plain_list.specs.declared.entries.Lost.{Lost}
@@ -51,15 +52,15 @@ module _ {D : Type 0} (drive : D → Drive) (cell : Cell) (old new : KeptView D)
 
   -- where the new cell is in no image, it leaves the cells that stood
   pub leaves-alone : (w : ℕ) (s : State) (h : List Entry) (e : Entry) (first : List Cell) → IsNext w s h e cell → Keeps drive w s h old
-      → StartsWith w first (drive old.start) → ((cells : List Cell) → IsLog w cells (drive old.disk) → LeavesOnly (drive old.disk) (drive new.disk) (HoldsCells w cells))
+      → StartsWith w first (drive old.start) → ((cells : List Cell) → IsLog w cells (drive old.disk) → LeavesOnly (drive old.disk) (drive new.disk) (HoldsCells newest w cells))
       → LeavesOnly (drive old.disk) (drive new.disk) (Recovers w (first ++ cells_of s.world h))
   leaves-alone w s h e first next kept starts alone =
       let only = alone (first ++ cells_of s.world h) (log_of w s h kept first starts) in
       let legal = legal_alone w s h e cell next first (drive old.start) (drive old.disk) (drive new.disk) starts.recovers.legal (still w s h kept first starts) in
       record {
         later = only.later;
-        each = λ c left. record { holds = only.each c left; legal = legal };
-        before = λ t c le left. ⊎_elim (λ was. inl was) (λ holds. inr (record { holds = holds; legal = legal })) (only.before t c le left);
+        each = λ c left. record { version = newest; known = inr refl; holds = only.each c left; legal = legal };
+        before = λ t c le left. ⊎_elim (λ was. inl was) (λ holds. inr (record { version = newest; known = inr refl; holds = holds; legal = legal })) (only.before t c le left);
       }
 
   -- the history with any entry that the cell is of is kept

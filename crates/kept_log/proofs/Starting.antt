@@ -1,7 +1,8 @@
 -- A log that was just opened keeps the empty history.
-use Rattle.std.proofs.Common.{◌≡◌, ℕ, List, [], ◌++◌, Some, sym, ◌∙◌, ap, inl, subst, arith}
+use Rattle.std.proofs.Common.{◌≡◌, ℕ, List, [], ◌++◌, Some, sym, ◌∙◌, ap, inl, inr, refl, subst, arith}
 use Rattle.std.proofs.lemmas.List.{append-nil}
 use Rattle.cell_format.specs.declared.cell.Cell.{Cell}
+use Rattle.cell_format.specs.Spelling.{newest}
 use Rattle.plain_list.specs.State.{State, at_rest}
 use Rattle.disk_trait.specs.Drive.{Drive, IsSynced}
 use Rattle.disk_trait.specs.Moments.{LeavesNow}
@@ -25,7 +26,7 @@ starts-settled w first drive bytes settled told recovers = record {
 }
 
 -- a crash leaves a log's cells
-pub leaves-log : (w : ℕ) (cells : List Cell) (drive : Drive) → IsLog w cells drive → LeavesNow drive (HoldsCells w cells)
+pub leaves-log : (w : ℕ) (cells : List Cell) (drive : Drive) → IsLog w cells drive → LeavesNow drive (HoldsCells newest w cells)
 leaves-log w cells drive log c left = record { front = log.bytes; rest = []; parts = log.durable c left ∙ sym (append-nil log.bytes); text = log.text }
 
 since-opened : (w : ℕ) (s : State) (first : List Cell) (start now : Drive) (failed : _) → IsOpened w s start now → StartsWith w first start
@@ -33,7 +34,7 @@ since-opened : (w : ℕ) (s : State) (first : List Cell) (start now : Drive) (fa
 since-opened w s first start now failed opened starts =
     let (cells, recovers, log) = opened.log starts.bytes starts.told in
     let same : first ++ [] ≡ first = append-nil first in
-    let is_log : IsLog w first now = subst (λ (l : List Cell). IsLog w l now) (holds-same w cells first starts.bytes recovers.holds starts.recovers.holds) log in
+    let is_log : IsLog w first now = subst (λ (l : List Cell). IsLog w l now) (holds-same recovers.version starts.recovers.version w cells first starts.bytes recovers.holds starts.recovers.holds) log in
     let any_moment = opened.any_moment starts.bytes first starts.told starts.images in
     record {
       opening = opened.state starts.bytes first starts.told starts.recovers;
@@ -41,7 +42,7 @@ since-opened w s first start now failed opened starts =
       history = record {
         any_moment = λ c left. (0, subst (λ (l : List Cell). Recovers w l c) (sym same) (any_moment.each c left));
         at_end = λ c left. inl (subst (λ (l : List Cell). Recovers w l c) (sym same)
-            (record { holds = leaves-log w first now is_log c left; legal = starts.recovers.legal }));
+            (record { version = newest; known = inr refl; holds = leaves-log w first now is_log c left; legal = starts.recovers.legal }));
         log = λ none. subst (λ (l : List Cell). IsLog w l now) (sym same) is_log;
       };
     }
@@ -54,11 +55,12 @@ kept-opened drive w s log same opened = record {
 }
 
 -- what the opening of a log answers says that it was opened at the state that was found
-pub opened-found : (w most : ℕ) (start now : Drive) (seen : Seen) → IsFound w most start seen → IsReady w seen start now → KeepsCells w start now
+pub opened-found : (w most : ℕ) (start now : Drive) (seen : Seen) → IsFound newest w most start seen → IsReady w seen start now → KeepsCells w start now
     → IsOpened w (found_state seen) start now
 opened-found w most start now seen found ready any_moment = record {
   state = λ bytes first told recovers.
-      let same : first ≡ found.cells = holds-same w first found.cells bytes recovers.holds (found.recovers bytes told).holds in
+      let there = found.recovers bytes told in
+      let same : first ≡ found.cells = holds-same recovers.version there.version w first found.cells bytes recovers.holds there.holds in
       ap (λ cells. at_rest (state_of w cells)) same
       ∙ (λ i. record { world = sym found.finds.world i; leaves = sym found.finds.leaves i; splits = []; begun = sym found.finds.begun i });
   log = λ bytes told. let (cells, count, recovers, log) = ready.log bytes told in (cells, recovers, log);

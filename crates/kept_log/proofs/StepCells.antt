@@ -1,7 +1,6 @@
 -- The cells of one entry behind a history.
 use Rattle.std.proofs.Common.{◌≡◌, ℕ, false, List, [], ◌∷◌, ◌++◌, cond, ◌∙◌, ap}
 use Rattle.std.proofs.lemmas.List.{append-nil}
-use Rattle.zorder.specs.declared.points.Placed.{Placed}
 use Rattle.plain_list.specs.declared.ops.Op.{Op}
 use Rattle.plain_list.specs.declared.entries.Entry.{Entry}
 use Rattle.plain_list.specs.declared.entries.Entry.TheVariants.{Fail, Call}

@@ -1,7 +1,7 @@
 -- How many cells a log has, where there is one.
 use Rattle.std.specs.Prelude.{ℕ, ◌+◌, List, length, Option}
 use Rattle.std.specs.Option.{option_map, option_map_or}
-use Rattle.zorder.specs.declared.points.Placed.{Placed}
+use Rattle.plain_list.specs.World.{World}
 use Rattle.plain_list.specs.declared.entries.Entry.{Entry}
 use Rattle.log_state.specs.Changes.{cells_of}
 use Rattle.kept_log.specs.KeptView.{KeptView}
@@ -11,5 +11,5 @@ abbrev pub first_in : {D : Type 0} → Option (KeptView D) → Option ℕ
 first_in {D = D} log = option_map (λ (l : KeptView D). l.first) log
 
 -- how many it has after a history that began at a world, where it had so many at first: none without a log
-abbrev pub count_after : Option ℕ → List Placed → List Entry → ℕ
+abbrev pub count_after : Option ℕ → World → List Entry → ℕ
 count_after first world h = option_map_or (λ (n : ℕ). n + length (cells_of world h)) first 0

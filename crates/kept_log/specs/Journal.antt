@@ -5,7 +5,6 @@ use Rattle.cell_format.specs.declared.cell.Cell.{Cell}
 use Rattle.plain_list.specs.declared.entries.Entry.{Entry}
 use Rattle.plain_list.specs.declared.entries.Entry.TheVariants.{Fail}
 use Rattle.plain_list.specs.declared.entries.Lost.{Lost}
-use Rattle.zorder.specs.declared.points.Placed.{Placed}
 use Rattle.plain_list.specs.World.{World}
 use Rattle.plain_list.specs.State.{State}
 pub use Rattle.plain_list.specs.History.{failed_cell}
