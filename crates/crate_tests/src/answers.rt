@@ -1,17 +1,18 @@
 //! Answers as plain data, for tables of them.
-use plain_list::{Answer, PlacedList};
+use plain_list::{Answer, PlacedList, Stamped};
 use std::alloc::{AllocError, Global};
-use zorder::{Placed, Point};
+use zorder::Placed;
 
 /// An answer, with the points of its list at hand.
 #[derive(Clone, Copy)]
 pub enum Told {
     Done,
-    Present(Point),
+    Present(Stamped),
     Full,
-    Moved(Point),
-    Gone(Point),
-    At(Point),
+    Moved(Stamped),
+    Stale(Stamped),
+    Gone(Stamped),
+    At(Stamped),
     Absent,
     Found(&'static [Placed]),
     Many(u64),
@@ -21,11 +22,12 @@ pub enum Told {
 pub fn answer_of(alloc: Global, told: Told) -> Result<Answer, AllocError> {
     match told {
         Told::Done => Ok(Answer::Done),
-        Told::Present(at) => Ok(Answer::Present(at)),
+        Told::Present(kept) => Ok(Answer::Present(kept)),
         Told::Full => Ok(Answer::Full),
-        Told::Moved(at) => Ok(Answer::Moved(at)),
-        Told::Gone(at) => Ok(Answer::Gone(at)),
-        Told::At(at) => Ok(Answer::At(at)),
+        Told::Moved(kept) => Ok(Answer::Moved(kept)),
+        Told::Stale(kept) => Ok(Answer::Stale(kept)),
+        Told::Gone(kept) => Ok(Answer::Gone(kept)),
+        Told::At(kept) => Ok(Answer::At(kept)),
         Told::Absent => Ok(Answer::Absent),
         Told::Found(points) => found(alloc, points),
         Told::Many(count) => Ok(Answer::Many(count)),

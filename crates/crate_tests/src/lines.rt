@@ -9,7 +9,7 @@ use csv_rows::{
     write_title,
 };
 use io_edge::{Sink, SinkFault};
-use plain_list::{Answer, Op, PlacedList};
+use plain_list::{Answer, Op, PlacedList, Stamped};
 use std::alloc::{AllocError, Global};
 use std::process::Abort;
 use zorder::{Placed, Point, Region};
@@ -70,7 +70,7 @@ fn expect_refused(rt: &impl Abort, alloc: Global, rows: &[u8], fault: RowsFault)
 }
 
 fn with_header(rt: &impl Abort, alloc: Global, rows: &[u8]) -> Vec<u8> {
-    let mut text = b"session,op,id,x,y,a,b\n"
+    let mut text = b"session,op,id,x,y,a,b,moment\n"
         .to_vec(alloc)
         .expect(rt, "no memory");
     add(rt, &mut text, rows);
@@ -87,6 +87,7 @@ const FIRST_ROWS: &[InRow] = &[
         op: Op::Put {
             id: 7,
             at: Point { x: 3, y: 5 },
+            moment: 10,
         },
     },
     InRow {
@@ -96,11 +97,11 @@ const FIRST_ROWS: &[InRow] = &[
 ];
 
 const SPELLINGS: &[&[u8]] = &[
-    b"session,op,id,x,y,a,b\n1,put,7,3,5,,\n1,where,7,,,,\n",
-    b"session,op,id,x,y,a,b\r\n\"1\",\"put\",\"7\",\"3\",\"5\",\"\",\"\"\r\n\"1\",\"where\",\"7\",,,,\r\n",
-    b"\xEF\xBB\xBFsession,op,id,x,y,a,b\n1,put,7,3,5,,\n1,where,7,,,,\n",
-    b"\nsession,op,id,x,y,a,b\n\n\n1,put,7,3,5,,\n\n1,where,7,,,,",
-    b"session,op,id,x,y,a,b\n01,put,007,03,0000000005,,\n1,where,00000000000000000007,,,,\n",
+    b"session,op,id,x,y,a,b,moment\n1,put,7,3,5,,,10\n1,where,7,,,,,\n",
+    b"session,op,id,x,y,a,b,moment\r\n\"1\",\"put\",\"7\",\"3\",\"5\",\"\",\"\",\"10\"\r\n\"1\",\"where\",\"7\",,,,,\r\n",
+    b"\xEF\xBB\xBFsession,op,id,x,y,a,b,moment\n1,put,7,3,5,,,10\n1,where,7,,,,,\n",
+    b"\nsession,op,id,x,y,a,b,moment\n\n\n1,put,7,3,5,,,10\n\n1,where,7,,,,,",
+    b"session,op,id,x,y,a,b,moment\n01,put,007,03,0000000005,,,00000000000000000010\n1,where,00000000000000000007,,,,,\n",
 ];
 
 #[test]
@@ -121,6 +122,15 @@ const OTHER_ROWS: &[InRow] = &[
                 x: 4_294_967_295,
                 y: 0,
             },
+            moment: 18_446_744_073_709_551_615,
+        },
+    },
+    InRow {
+        session: 2,
+        op: Op::Put {
+            id: 0,
+            at: CORNER,
+            moment: 0,
         },
     },
     InRow {
@@ -146,19 +156,21 @@ const OTHER_ROWS: &[InRow] = &[
 ];
 
 const OTHER_TEXT: &[u8] =
-    b"session,op,id,x,y,a,b\n16,move,18446744073709551615,4294967295,0,,\n2,drop,0,,,,\n1,box,,3,5,3,5\n1,near,,0,0,2048,\n";
+    b"session,op,id,x,y,a,b,moment\n16,move,18446744073709551615,4294967295,0,,,18446744073709551615\n2,put,0,3,5,,,0\n2,drop,0,,,,,\n1,box,,3,5,3,5,\n1,near,,0,0,2048,,\n";
 
 #[test]
-fn the_other_operations_are_read(rt: HostRuntime) {
+fn the_other_operations_and_the_least_and_the_greatest_moment_are_read(rt: HostRuntime) {
     expect_rows(&rt, rt.alloc(), OTHER_TEXT, OTHER_ROWS);
 }
 
 const NO_HEADERS: &[&[u8]] = &[
     b"",
-    b"1,put,7,3,5,,\n",
-    b"session,op,id,x,y,a\n",
-    b"session,op,id,x,y,a,B\n",
-    b"\xEF\xBB\xBF\xEF\xBB\xBFsession,op,id,x,y,a,b\n",
+    b"1,put,7,3,5,,,10\n",
+    b"session,op,id,x,y,a,b\n",
+    b"session,op,id,x,y,a,b\n1,put,7,3,5,,\n",
+    b"session,op,id,x,y,a,b,Moment\n",
+    b"session,op,id,x,y,a,b,moment,\n",
+    b"\xEF\xBB\xBF\xEF\xBB\xBFsession,op,id,x,y,a,b,moment\n",
 ];
 
 #[test]
@@ -166,30 +178,49 @@ fn the_header_is_the_first_record_behind_one_mark(rt: HostRuntime) {
     for text in NO_HEADERS {
         expect_many(&rt, rt.alloc(), text, Err(RowsFault::Header));
     }
-    expect_many(&rt, rt.alloc(), b"session,op,id,x,y,a,b", Ok(0));
+    expect_many(&rt, rt.alloc(), b"session,op,id,x,y,a,b,moment", Ok(0));
 }
 
 const FAULTS: &[(&[u8], u32, u8)] = &[
-    (b"17,put,7,3,5,,\n", 1, 1),
-    (b"0,put,7,3,5,,\n", 1, 1),
-    (b"17,push,7,3,5,,\n", 1, 1),
-    (b"1,Put,7,3,5,,\n", 1, 2),
-    (b"1,,,,,,\n", 1, 2),
-    (b"1,put,,3,5,,\n", 1, 3),
-    (b"1,put,18446744073709551616,3,5,,\n", 1, 3),
-    (b"1,where,000000000000000000007,,,,\n", 1, 3),
-    (b"1,near,7,0,0,1,\n", 1, 3),
-    (b"1,put,7,-3,5,,\n", 1, 4),
-    (b"1,put,7,+3,5,,\n", 1, 4),
-    (b"1,put,7, 3,5,,\n", 1, 4),
-    (b"1,put,7,4294967296,-5,,\n", 1, 4),
-    (b"1,put,7,3,5.,1,\n", 1, 5),
-    (b"1,put,7,3,5,0,\n", 1, 6),
-    (b"1,put,7,3,5,,\n1,box,,4,5,3,5\n1,put,-7,3,5,,\n", 2, 6),
-    (b"1,put,9,0,5,,\n1,put,4,3,4,,\n1,near,,0,0,0,\n", 3, 6),
-    (b"1,near,,0,0,2049,\n", 1, 6),
-    (b"1,box,,3,5,3,4\n", 1, 7),
-    (b"1,drop,7,,,,1\n", 1, 7),
+    (b"17,put,7,3,5,,,10\n", 1, 1),
+    (b"0,put,7,3,5,,,10\n", 1, 1),
+    (b"17,push,7,3,5,,,10\n", 1, 1),
+    (b"1,Put,7,3,5,,,10\n", 1, 2),
+    (b"1,,,,,,,\n", 1, 2),
+    (b"1,put,,3,5,,,10\n", 1, 3),
+    (b"1,put,18446744073709551616,3,5,,,10\n", 1, 3),
+    (b"1,where,000000000000000000007,,,,,\n", 1, 3),
+    (b"1,near,7,0,0,1,,\n", 1, 3),
+    (b"1,put,7,-3,5,,,10\n", 1, 4),
+    (b"1,put,7,+3,5,,,10\n", 1, 4),
+    (b"1,put,7, 3,5,,,10\n", 1, 4),
+    (b"1,put,7,4294967296,-5,,,10\n", 1, 4),
+    (b"1,put,7,3,5.,1,,10\n", 1, 5),
+    (b"1,put,7,3,5,0,,10\n", 1, 6),
+    (
+        b"1,put,7,3,5,,,10\n1,box,,4,5,3,5,\n1,put,-7,3,5,,,10\n",
+        2,
+        6,
+    ),
+    (
+        b"1,put,9,0,5,,,10\n1,put,4,3,4,,,10\n1,near,,0,0,0,,\n",
+        3,
+        6,
+    ),
+    (b"1,near,,0,0,2049,,\n", 1, 6),
+    (b"1,box,,3,5,3,4,\n", 1, 7),
+    (b"1,drop,7,,,,1,\n", 1, 7),
+    (b"1,put,7,3,5,,1,\n", 1, 7),
+    (b"1,put,7,3,5,,,\n", 1, 8),
+    (b"1,move,7,3,5,,,\n", 1, 8),
+    (b"1,put,7,3,5,,,18446744073709551616\n", 1, 8),
+    (b"1,move,7,3,5,,,18446744073709551616\n", 1, 8),
+    (b"1,put,7,3,5,,,000000000000000000010\n", 1, 8),
+    (b"1,put,7,3,5,,,-1\n", 1, 8),
+    (b"1,drop,7,,,,,10\n", 1, 8),
+    (b"1,where,7,,,,,0\n", 1, 8),
+    (b"1,box,,3,5,3,5,10\n", 1, 8),
+    (b"1,near,,0,0,1,,10\n", 1, 8),
 ];
 
 #[test]
@@ -201,12 +232,12 @@ fn the_leftmost_column_of_the_first_row_at_fault_is_named(rt: HostRuntime) {
 }
 
 const LENGTHS: &[(&[u8], u32)] = &[
-    (b"1,put,7,3,5,\n", 1),
-    (b"1,put,7,3,5,,\n1,put,7,3,5,,,\n", 2),
+    (b"1,put,7,3,5,,\n", 1),
+    (b"1,put,7,3,5,,,10\n1,put,7,3,5,,,10,\n", 2),
 ];
 
 #[test]
-fn a_row_of_six_or_eight_fields_is_named(rt: HostRuntime) {
+fn a_row_of_seven_or_nine_fields_is_named(rt: HostRuntime) {
     for (rows, row) in LENGTHS {
         expect_refused(&rt, rt.alloc(), rows, RowsFault::Csv { row: *row });
     }
@@ -216,7 +247,7 @@ fn a_row_of_six_or_eight_fields_is_named(rt: HostRuntime) {
 fn many_rows(rt: &impl Abort, alloc: Global) -> Vec<u8> {
     let mut text = with_header(rt, alloc, b"");
     for _ in 0..65_536 {
-        add(rt, &mut text, b"1,where,7,,,,\n");
+        add(rt, &mut text, b"1,where,7,,,,,\n");
     }
     text
 }
@@ -243,7 +274,15 @@ fn a_number_has_one_to_twenty_digits(rt: HostRuntime) {
     }
 }
 
-const GONE: Point = Point { x: 8, y: 8 };
+const KEPT: Stamped = Stamped {
+    at: CORNER,
+    moment: 10,
+};
+
+const LAST: Stamped = Stamped {
+    at: Point { x: 8, y: 0 },
+    moment: 18_446_744_073_709_551_615,
+};
 
 const NEAR: &[Placed] = &[
     Placed {
@@ -258,10 +297,11 @@ const NEAR: &[Placed] = &[
 
 const LINES: &[(u32, Told, &[u8])] = &[
     (1, Told::Done, b"1,1,done,\n"),
-    (2, Told::At(CORNER), b"2,2,at,3:5\n"),
-    (2, Told::Present(CORNER), b"2,2,present,3:5\n"),
-    (3, Told::Moved(CORNER), b"3,3,moved,3:5\n"),
-    (4, Told::Gone(GONE), b"4,4,gone,8:8\n"),
+    (2, Told::At(KEPT), b"2,2,at,3:5:10\n"),
+    (2, Told::Present(KEPT), b"2,2,present,3:5:10\n"),
+    (2, Told::Stale(KEPT), b"2,2,stale,3:5:10\n"),
+    (3, Told::Moved(KEPT), b"3,3,moved,3:5:10\n"),
+    (4, Told::Gone(LAST), b"4,4,gone,8:0:18446744073709551615\n"),
     (5, Told::Absent, b"5,5,absent,\n"),
     (6, Told::Full, b"6,6,full,\n"),
     (7, Told::Many(2049), b"7,7,many,2049\n"),
@@ -400,21 +440,23 @@ fn expect_written(rt: &impl Abort, alloc: Global, rows: &Rows, text: &[u8]) {
     expect_text(rt, &sink, text);
 }
 
+// The made row and each operation, with moments of up to 19 digits; and moments of 20 digits.
+const WRITTEN: &[&[u8]] = &[
+    b"session,op,id,x,y,a,b,moment\n1,put,1717,3938983765,2969520912,,,60104\n1,put,7,3,5,,,0\n16,move,7,8,8,,,1000000000000000000\n16,move,7,8,8,,,9999999999999999999\n1,drop,7,,,,,\n1,where,7,,,,,\n1,box,,3,5,3,5,\n1,near,,0,0,2048,,\n",
+    b"session,op,id,x,y,a,b,moment\n1,put,7,3,5,,,10000000000000000000\n1,move,7,8,8,,,18446744073709551615\n1,where,7,,,,,\n",
+];
+
 #[test]
 fn rows_are_written_as_they_are_read(rt: HostRuntime) {
-    let text: &[u8] =
-        b"session,op,id,x,y,a,b\n1,put,1717,3938983765,2969520912,,\n16,move,7,8,8,,\n1,drop,7,,,,\n1,where,7,,,,\n1,box,,3,5,3,5\n1,near,,0,0,2048,\n";
-    expect_written(
-        &rt,
-        rt.alloc(),
-        &read_rows(rt.alloc(), text).expect(&rt, "it failed"),
-        text,
-    );
+    for text in WRITTEN {
+        let rows = read_rows(rt.alloc(), text).expect(&rt, "it failed");
+        expect_written(&rt, rt.alloc(), &rows, text);
+    }
 }
 
 const TOLD: &[(RowsFault, &str)] = &[
     (RowsFault::Header, "the first record isn't the header"),
-    (RowsFault::Csv { row: 3 }, "row 3 hasn't seven fields"),
+    (RowsFault::Csv { row: 3 }, "row 3 hasn't eight fields"),
     (
         RowsFault::Field { row: 3, column: 6 },
         "row 3: column 6 breaks its rule",

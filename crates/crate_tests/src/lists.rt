@@ -2,7 +2,8 @@
 use crate::answers::{Told, answer_of};
 use crate::worlds::next;
 use plain_list::{
-    Answer, Call, Entries, Entry, Op, World, answer, find_id, is_box, is_legal, ranking_is_in_order,
+    Answer, Call, Entries, Entry, Op, Stamped, World, answer, find_id, is_box, is_legal,
+    ranking_is_in_order,
 };
 use std::alloc::Global;
 use std::process::Abort;
@@ -18,6 +19,8 @@ const SECOND: Point = Point { x: 8, y: 8 };
 
 const NEAR: Point = Point { x: 3, y: 4 };
 
+const LAST: u64 = 18_446_744_073_709_551_615;
+
 const AS_NEAR: Point = Point { x: 0, y: 5 };
 
 const FOUR: Placed = Placed { id: 4, at: NEAR };
@@ -30,9 +33,42 @@ const FIND_7: Op = Op::Find { id: 7 };
 
 const DROP_7: Op = Op::Remove { id: 7 };
 
+// Where no moment is given, it is 0.
 macro_rules! put {
     ($id:expr, $at:expr) => {
-        Op::Put { id: $id, at: $at }
+        put!($id, $at, 0)
+    };
+    ($id:expr, $at:expr, $moment:expr) => {
+        Op::Put {
+            id: $id,
+            at: $at,
+            moment: $moment,
+        }
+    };
+}
+
+macro_rules! move_7 {
+    ($at:expr) => {
+        move_7!($at, 0)
+    };
+    ($at:expr, $moment:expr) => {
+        Op::Move {
+            id: 7,
+            at: $at,
+            moment: $moment,
+        }
+    };
+}
+
+macro_rules! kept {
+    ($at:expr) => {
+        kept!($at, 0)
+    };
+    ($at:expr, $moment:expr) => {
+        Stamped {
+            at: $at,
+            moment: $moment,
+        }
     };
 }
 
@@ -74,18 +110,48 @@ fn are_legal(rt: &impl Abort, alloc: Global, rows: &[Row]) -> bool {
 
 const WORKED: &[Row] = &[
     (1, 1, put!(7, FIRST), Told::Done),
-    (1, 2, FIND_7, Told::At(FIRST)),
-    (1, 3, put!(7, SECOND), Told::Present(FIRST)),
-    (1, 4, Op::Move { id: 7, at: SECOND }, Told::Moved(FIRST)),
-    (1, 5, DROP_7, Told::Gone(SECOND)),
+    (1, 2, FIND_7, Told::At(kept!(FIRST))),
+    (1, 3, put!(7, SECOND), Told::Present(kept!(FIRST))),
+    (1, 4, move_7!(SECOND), Told::Moved(kept!(FIRST))),
+    (1, 5, DROP_7, Told::Gone(kept!(SECOND))),
     (1, 6, DROP_7, Told::Absent),
-    (1, 7, Op::Move { id: 7, at: BESIDE }, Told::Absent),
+    (1, 7, move_7!(BESIDE), Told::Absent),
     (1, 8, FIND_7, Told::Absent),
+];
+
+// A late move, one of an equal moment, and a put of a greater one.
+const STALE: &[Row] = &[
+    (1, 1, put!(7, FIRST, 10), Told::Done),
+    (1, 2, move_7!(NEAR, 9), Told::Stale(kept!(FIRST, 10))),
+    (1, 3, move_7!(NEAR, 10), Told::Moved(kept!(FIRST, 10))),
+    (1, 4, FIND_7, Told::At(kept!(NEAR, 10))),
+    (1, 5, put!(7, SECOND, 11), Told::Present(kept!(NEAR, 10))),
+    (1, 6, FIND_7, Told::At(kept!(NEAR, 10))),
+];
+
+// Moves to the point where the object is, a put behind a drop, and the least and the greatest moment.
+const MOMENTS: &[Row] = &[
+    (1, 1, put!(7, FIRST, 10), Told::Done),
+    (1, 2, move_7!(FIRST, 12), Told::Moved(kept!(FIRST, 10))),
+    (1, 3, move_7!(FIRST, 11), Told::Stale(kept!(FIRST, 12))),
+    (1, 4, DROP_7, Told::Gone(kept!(FIRST, 12))),
+    (1, 5, put!(7, SECOND, 3), Told::Done),
+    (1, 6, move_7!(NEAR, 0), Told::Stale(kept!(SECOND, 3))),
+    (1, 7, move_7!(NEAR, LAST), Told::Moved(kept!(SECOND, 3))),
+    (
+        1,
+        8,
+        move_7!(FIRST, LAST - 1),
+        Told::Stale(kept!(NEAR, LAST)),
+    ),
+    (1, 9, move_7!(FIRST, LAST), Told::Moved(kept!(NEAR, LAST))),
 ];
 
 #[test]
 fn the_worked_calls_have_their_answers(rt: HostRuntime) {
-    assert_is!(rt; are_legal(&rt, rt.alloc(), WORKED));
+    for calls in [WORKED, STALE, MOMENTS] {
+        assert_is!(rt; are_legal(&rt, rt.alloc(), calls));
+    }
 }
 
 const TIES: &[Row] = &[
@@ -116,15 +182,24 @@ fn ties_go_to_the_lesser_id_and_boxes_have_both_corners(rt: HostRuntime) {
     assert_is!(rt; are_legal(&rt, rt.alloc(), TIES));
 }
 
-// A put of session 1, and a find of session 2 that isn't told of it.
-const UNTOLD: &[Row] = &[
-    (1, 1, put!(1, FIRST), Told::Done),
-    (2, 2, Op::Find { id: 1 }, Told::Absent),
+// What the call of session 2 isn't told behind a put of 7 at (3,5), of moment 10.
+const UNTOLD: &[(Op, Told)] = &[
+    (FIND_7, Told::Absent),
+    (FIND_7, Told::At(kept!(FIRST, 9))),
+    (put!(7, SECOND, 11), Told::Done),
+    (put!(7, SECOND, 11), Told::Present(kept!(FIRST, 11))),
+    (move_7!(NEAR, 9), Told::Moved(kept!(FIRST, 10))),
+    (move_7!(NEAR, 9), Told::Stale(kept!(NEAR, 9))),
+    (move_7!(NEAR, 10), Told::Stale(kept!(FIRST, 10))),
+    (move_7!(NEAR, 11), Told::Moved(kept!(FIRST, 11))),
 ];
 
 #[test]
-fn absent_after_a_put_is_not_legal(rt: HostRuntime) {
-    assert_is!(rt; !are_legal(&rt, rt.alloc(), UNTOLD));
+fn a_call_that_is_not_told_of_a_put_is_not_legal(rt: HostRuntime) {
+    for (op, told) in UNTOLD {
+        let calls = [(1, 1, put!(7, FIRST, 10), Told::Done), (2, 2, *op, *told)];
+        assert_is!(rt; !are_legal(&rt, rt.alloc(), &calls));
+    }
 }
 
 fn count_of(answer: &Answer) -> (usize, u64) {
@@ -147,27 +222,20 @@ fn expect_in_a_box(rt: &impl Abort, alloc: Global, world: &World, wanted: (usize
 fn world_of(alloc: Global, objects: u64) -> Result<World, Memory> {
     let mut world = World::empty(alloc);
     for id in 1..=objects {
-        world = next(world, &Op::Put { id, at: FIRST })?;
+        world = next(world, &put!(id, FIRST))?;
     }
     Ok(world)
 }
 
 fn expect_last(rt: &impl Abort, world: &World) {
-    assert_same!(rt; find_id(world, 2049), Some(FIRST));
-    ranking_is_in_order(ORIGIN, world.as_slice());
+    assert_same!(rt; find_id(world, 2049), Some(kept!(FIRST)));
+    ranking_is_in_order(ORIGIN, &[FOUR, NINE]);
 }
 
 fn lists_and_counts(rt: &impl Abort, alloc: Global) {
     let world = world_of(alloc, 2048).expect(rt, "it failed");
     expect_in_a_box(rt, alloc, &world, (2048, 0));
-    let world = next(
-        world,
-        &Op::Put {
-            id: 2049,
-            at: FIRST,
-        },
-    )
-    .expect(rt, "it failed");
+    let world = next(world, &put!(2049, FIRST)).expect(rt, "it failed");
     expect_in_a_box(rt, alloc, &world, (0, 2049));
     expect_last(rt, &world);
 }

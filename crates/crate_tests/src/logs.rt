@@ -6,6 +6,6 @@
 //! Calls of logs stand in functions over any drive, which say nothing of it: a proof that knows a drive in memory takes some times as long.
 mod appends;
 pub mod files;
-mod fixtures;
+pub mod fixtures;
 mod images;
 mod recoveries;

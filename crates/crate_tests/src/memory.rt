@@ -3,8 +3,8 @@ use disk_mem::{Fail, MemDisk};
 use std::alloc::Global;
 use std::process::Abort;
 
-/// A log of width 1 with no cells.
-pub const EMPTY_LOG: &[u8] = b"MDLOCLOG\x01\x01\0\0\0\0\0\0\0";
+/// A log of version 2 and width 1 with no cells.
+pub const EMPTY_LOG: &[u8] = b"MDLOCLOG\x02\x01\0\0\0\0\0\0\0";
 
 /// A drive with these bytes, with room for a log of some cells, where these calls fail.
 pub fn disk_of(rt: &impl Abort, alloc: Global, bytes: &[u8], failing: &[Fail]) -> MemDisk {

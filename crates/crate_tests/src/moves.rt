@@ -13,6 +13,7 @@ const PUT: InRow = InRow {
             x: 3938983765,
             y: 2969520912,
         },
+        moment: 60104,
     },
 };
 

@@ -11,12 +11,12 @@ pub fn next(world: World, op: &Op) -> Result<World, Memory> {
     }
 }
 
-/// A world of these objects.
+/// A world of these objects, each of moment 0.
 pub fn world_of(alloc: Global, objects: &[Placed]) -> Result<World, Memory> {
     let mut world = World::empty(alloc);
     for object in objects {
         let Placed { id, at } = *object;
-        world = next(world, &Op::Put { id, at })?;
+        world = next(world, &Op::Put { id, at, moment: 0 })?;
     }
     Ok(world)
 }

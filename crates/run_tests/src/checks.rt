@@ -68,7 +68,7 @@ impl<'a> Case<'a> {
 pub const NO_LOG: Case<'static> = Case {
     name: "a run over no log",
     words: &["play", "-"],
-    input: "session,op,id,x,y,a,b\n",
+    input: "session,op,id,x,y,a,b,moment\n",
     file: None,
     reads: &[],
     puts: &[],

@@ -9,7 +9,7 @@ use std::sync::Wait;
 use std::thread::Threads;
 use zorder::Memory;
 
-const ROW: &str = rows!("1,put,7,3,5,,\n");
+const ROW: &str = rows!("1,put,7,3,5,,,0\n");
 
 // Whether this is the history of two calls, and of a third row whose put was lost.
 fn is_third_put_lost(entries: &[Entry]) -> bool {
@@ -23,21 +23,23 @@ fn is_third_put_lost(entries: &[Entry]) -> bool {
     }
 }
 
-// Whether the put of 9 at (5,5) was lost, the third row.
+// Whether the put of 9 at (5,5) of moment 12 was lost, the third row.
 fn is_put_of_9(lost: &Lost) -> bool {
     match lost {
         Lost::Call {
             session: 1,
             row: 3,
             op,
-        } => is_put(op, 9, 5, 5),
+        } => is_put(op, 9, 5, 5, 12),
         _ => false,
     }
 }
 
-fn is_put(op: &Op, wanted: u64, x: u32, y: u32) -> bool {
+fn is_put(op: &Op, wanted: u64, x: u32, y: u32, since: u64) -> bool {
     match op {
-        Op::Put { id, at } => *id == wanted && at.x == x && at.y == y,
+        Op::Put { id, at, moment } => {
+            *id == wanted && at.x == x && at.y == y && *moment == since
+        }
         _ => false,
     }
 }
@@ -51,7 +53,7 @@ fn image_of(disk: &MemDisk, commit_byte: u8) -> Result<Vec<u8>, Memory> {
 }
 
 const THREE_PUTS: &Case<'static> = &Case {
-    input: rows!("1,put,7,3,5,,\n1,put,8,4,5,,\n1,put,9,5,5,,\n"),
+    input: rows!("1,put,7,3,5,,,0\n1,put,8,4,5,,,0\n1,put,9,5,5,,,12\n"),
     ..EMPTY
 };
 
@@ -158,11 +160,11 @@ macro_rules! first {
     };
 }
 
-const SHORT: &[u8] = b"MDLOCLOG\x01\x01\0\0\0\0\0\0\x01";
+const SHORT: &[u8] = b"MDLOCLOG\x02\x01\0\0\0\0\0\0\x01";
 
-const OLD: &[u8] = b"MDLOCLOG\x03\x01\0\0\0\0\0\0\0";
+const OTHER: &[u8] = b"MDLOCLOG\x03\x01\0\0\0\0\0\0\0";
 
-const HEADER_ALONE: &[u8] = b"MDLOCLOG\x01\x01\0\0\0\0\0\0";
+const HEADER_ALONE: &[u8] = b"MDLOCLOG\x02\x01\0\0\0\0\0\0";
 
 // A put that calls nothing and leaves the file.
 const UNOPENED: &[Case<'static>] = &[
@@ -174,10 +176,10 @@ const UNOPENED: &[Case<'static>] = &[
         ..NO_LOG
     },
     Case {
-        name: "a put over an old version",
-        file: Some(OLD),
+        name: "a put over another version",
+        file: Some(OTHER),
         text: "refused log version 3 width 1\n",
-        held: OLD,
+        held: OTHER,
         ..NO_LOG
     },
     Case {
@@ -233,7 +235,7 @@ const IN_ORDER: &[Case<'static>] = &[
     },
     Case {
         name: "a row at fault, and no drive",
-        input: rows!("1,put,7,-3,5,,\n"),
+        input: rows!("1,put,7,-3,5,,,0\n"),
         calls: first!(DiskCall::Attach),
         status: 3,
         text: "refused row 1 column 4\n",

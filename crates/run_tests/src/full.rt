@@ -11,7 +11,7 @@ use zorder::Memory;
 
 // A log of 1,048,576 puts with rising ids, at points of the axis.
 fn full_log(alloc: Global) -> Result<Vec<u8>, AllocError> {
-    let mut log = b"MDLOCLOG\x01\x01\0\0\0\0\0\0".to_vec(alloc)?;
+    let mut log = b"MDLOCLOG\x02\x01\0\0\0\0\0\0".to_vec(alloc)?;
     for id in 0..1_048_576u32 {
         add_put(&mut log, id)?;
     }
@@ -40,7 +40,7 @@ const BEHIND: &[u8] = b"\
 
 const CHANGES: &Plan<'static> = &Plan {
     words: &["play", "log", "--bucket", "4096"],
-    input: rows!("1,put,1048576,3,5,,\n1,put,1,3,5,,\n1,drop,2,,,,\n1,put,1048576,3,5,,\n"),
+    input: rows!("1,put,1048576,3,5,,,0\n1,put,1,3,5,,,0\n1,drop,2,,,,,\n1,put,1048576,3,5,,,0\n"),
     file: None,
     reads: &[],
     puts: &[],
@@ -48,7 +48,7 @@ const CHANGES: &Plan<'static> = &Plan {
 };
 
 const LINES: &str = lines!(
-    "1,1,full,\n2,2,present,2147483648:0\n3,3,gone,1073741824:0\n4,4,done,\n"
+    "1,1,full,\n2,2,present,2147483648:0:0\n3,3,gone,1073741824:0:0\n4,4,done,\n"
 );
 
 fn full_disk(alloc: Global) -> Result<MemDisk, Memory> {

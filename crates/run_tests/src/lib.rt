@@ -11,7 +11,7 @@
 #[cfg(test)]
 macro_rules! rows {
     ($rows:literal) => {
-        concat!("session,op,id,x,y,a,b\n", $rows)
+        concat!("session,op,id,x,y,a,b,moment\n", $rows)
     };
 }
 

@@ -14,7 +14,7 @@ const INITS: Case<'static> = Case {
     ..INIT
 };
 
-const SHORT: &[u8] = b"MDLOCLOG\x01\x01\0\0\0\0\0\0\x01";
+const SHORT: &[u8] = b"MDLOCLOG\x02\x01\0\0\0\0\0\0\x01";
 
 const MADE: &[Case<'static>] = &[
     Case {
@@ -67,17 +67,17 @@ const DAMAGED: Case<'static> = Case {
     ..CHECKS
 };
 
-const BAD_KIND: &[u8] = b"MDLOCLOG\x01\x01\0\0\0\0\0\0\
+const BAD_KIND: &[u8] = b"MDLOCLOG\x02\x01\0\0\0\0\0\0\
     \x01\x09\0\0\0\0\0\0\0\x07\0\0\0\0\0\0\0\0\0\0\0\0\0\0\0\0\0\0\0\0\0\0\
     \0";
 
-const UNINSTALLED: &[u8] = b"MDLOCLOG\x01\x01\0\0\0\0\0\0\
+const UNINSTALLED: &[u8] = b"MDLOCLOG\x02\x01\0\0\0\0\0\0\
     \x01\x05\0\0\0\0\0\0\0\x01\0\0\0\0\0\0\0\0\0\0\0\0\0\0\0\0\0\0\0\0\0\0\
     \0";
 
-const OLD: &[u8] = b"MDLOCLOG\x03\x01\0\0\0\0\0\0\0";
+const OTHER: &[u8] = b"MDLOCLOG\x03\x01\0\0\0\0\0\0\0";
 
-const HEADER_ALONE: &[u8] = b"MDLOCLOG\x01\x01\0\0\0\0\0\0";
+const HEADER_ALONE: &[u8] = b"MDLOCLOG\x02\x01\0\0\0\0\0\0";
 
 const CHECKED: &[Case<'static>] = &[
     Case {
@@ -113,10 +113,10 @@ const CHECKED: &[Case<'static>] = &[
         ..DAMAGED
     },
     Case {
-        name: "check of an old version",
-        file: Some(OLD),
+        name: "check of another version",
+        file: Some(OTHER),
         text: "refused log version 3 width 1\n",
-        held: OLD,
+        held: OTHER,
         ..DAMAGED
     },
     Case {
@@ -177,4 +177,60 @@ const ATTACHES: &[Case<'static>] = &[
 #[test]
 fn a_command_over_a_log_attaches_its_file_once(rt: HostRuntime) {
     each_is_left(&rt, rt.alloc(), ATTACHES);
+}
+
+// A log of version 1, of put 7 at (3,5) and move 7 to (4,5).
+const LOG_OF_1: &[u8] = b"MDLOCLOG\x01\x01\0\0\0\0\0\0\
+    \x01\x01\0\0\0\0\0\0\0\x07\0\0\0\x03\0\0\0\x05\0\0\0\0\0\0\0\0\0\0\0\0\0\0\
+    \x01\x02\0\0\0\0\0\0\0\x07\0\0\0\x04\0\0\0\x05\0\0\0\0\0\0\0\0\0\0\0\0\0\0\
+    \0";
+
+const OVER_1: Case<'static> = Case {
+    input: rows!("1,where,7,,,,,\n"),
+    file: Some(LOG_OF_1),
+    held: LOG_OF_1,
+    ..EMPTY
+};
+
+const NOT_OPENED: Case<'static> = Case {
+    status: 4,
+    text: "refused log version 1 width 1\n",
+    ..OVER_1
+};
+
+const EACH_COMMAND: &[Case<'static>] = &[
+    Case {
+        name: "check of version 1",
+        words: &["check", "log"],
+        text: "cells 2\npoints 1\nleaves 1\nunfinished 0\n",
+        ..OVER_1
+    },
+    Case {
+        name: "show of version 1",
+        words: &["show", "log", "0", "0", "9", "9"],
+        text: "id,x,y,moment\n7,4,5,0\n",
+        ..OVER_1
+    },
+    Case {
+        name: "init of version 1",
+        words: &["init", "log"],
+        status: 10,
+        text: "refused in use 81\n",
+        attaches: "makes log\n",
+        ..OVER_1
+    },
+    Case {
+        name: "play over version 1",
+        ..NOT_OPENED
+    },
+    Case {
+        name: "trial over version 1",
+        words: &["trial", "log", "1", "2"],
+        ..NOT_OPENED
+    },
+];
+
+#[test]
+fn a_log_of_version_1_is_read_and_not_played_over(rt: HostRuntime) {
+    each_is_left(&rt, rt.alloc(), EACH_COMMAND);
 }

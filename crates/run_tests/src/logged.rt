@@ -8,12 +8,12 @@ use std::sync::Wait;
 use std::thread::Threads;
 
 // A log of begin 1 of the empty name.
-const BEGUN_LOG: &[u8] = b"MDLOCLOG\x01\x01\0\0\0\0\0\0\
+const BEGUN_LOG: &[u8] = b"MDLOCLOG\x02\x01\0\0\0\0\0\0\
     \x01\x04\0\0\0\0\0\0\0\x01\0\0\0\0\0\0\0\0\0\0\0\0\0\0\0\0\0\0\0\0\0\0\
     \0";
 
 // A log of begin 1 of the empty name, the five puts below, begin 2 of the empty name, and install 2.
-const BEGUN_ANEW_LOG: &[u8] = b"MDLOCLOG\x01\x01\0\0\0\0\0\0\
+const BEGUN_ANEW_LOG: &[u8] = b"MDLOCLOG\x02\x01\0\0\0\0\0\0\
     \x01\x04\0\0\0\0\0\0\0\x01\0\0\0\0\0\0\0\0\0\0\0\0\0\0\0\0\0\0\0\0\0\0\
     \x01\x01\0\0\0\0\0\0\0\x01\0\0\0\0\0\0\0\0\0\0\0\0\0\0\0\0\0\0\0\0\0\0\
     \x01\x01\0\0\0\0\0\0\0\x02\x80\0\0\0\0\0\0\0\0\0\0\0\0\0\0\0\0\0\0\0\0\0\
@@ -25,15 +25,15 @@ const BEGUN_ANEW_LOG: &[u8] = b"MDLOCLOG\x01\x01\0\0\0\0\0\0\
     \0";
 
 const CORNERS: &str = rows!(
-    "1,put,1,0,0,,\n1,put,2,2147483648,0,,\n1,put,3,0,2147483648,,\n1,put,4,2147483648,2147483648,,\n1,put,5,1,1,,\n"
+    "1,put,1,0,0,,,0\n1,put,2,2147483648,0,,,0\n1,put,3,0,2147483648,,,0\n1,put,4,2147483648,2147483648,,,0\n1,put,5,1,1,,,0\n"
 );
 
-const BOX: &str = rows!("1,box,,0,0,3,5\n");
+const BOX: &str = rows!("1,box,,0,0,3,5,\n");
 
 const ONE_CELL: &str = "cells 1\npoints 1\nleaves 1\nunfinished 0\n";
 
 // A log of put 7 at (3,5), with 40 bytes behind it.
-const LONG_LOG: &[u8] = b"MDLOCLOG\x01\x01\0\0\0\0\0\0\
+const LONG_LOG: &[u8] = b"MDLOCLOG\x02\x01\0\0\0\0\0\0\
     \x01\x01\0\0\0\0\0\0\0\x07\0\0\0\x03\0\0\0\x05\0\0\0\0\0\0\0\0\0\0\0\0\0\0\
     \0\
     \x05\x05\x05\x05\x05\x05\x05\x05\x05\x05\x05\x05\x05\x05\x05\x05\x05\x05\x05\x05\
@@ -43,7 +43,7 @@ const LONG_LOG: &[u8] = b"MDLOCLOG\x01\x01\0\0\0\0\0\0\
 const FOUND: &[Case<'static>] = &[
     Case {
         name: "a put",
-        input: rows!("1,put,7,3,5,,\n"),
+        input: rows!("1,put,7,3,5,,,0\n"),
         text: lines!("1,1,done,\n"),
         held: PUT_LOG,
         entries: 1,
@@ -57,8 +57,8 @@ const FOUND: &[Case<'static>] = &[
     },
     Case {
         name: "the put again",
-        input: rows!("1,put,7,3,5,,\n"),
-        text: lines!("1,1,present,3:5\n"),
+        input: rows!("1,put,7,3,5,,,0\n"),
+        text: lines!("1,1,present,3:5:0\n"),
         entries: 1,
         ..ONE_PUT
     },
@@ -79,9 +79,9 @@ const FOUND: &[Case<'static>] = &[
     },
     Case {
         name: "a play over a log with bytes behind it",
-        input: rows!("1,where,7,,,,\n"),
+        input: rows!("1,where,7,,,,,\n"),
         file: Some(LONG_LOG),
-        text: lines!("1,1,at,3:5\n"),
+        text: lines!("1,1,at,3:5:0\n"),
         held: PUT_LOG,
         entries: 1,
         ..EMPTY
@@ -166,6 +166,7 @@ fn many_leaves_log(alloc: Global) -> Result<Vec<u8>, AllocError> {
             kind: PUT,
             number,
             place: 0x3_0000_0005,
+            moment: 0,
             len: 0,
         })?;
     }
@@ -181,6 +182,7 @@ fn add_split(records: &mut Vec<Record>, len: u8) -> Result<(), AllocError> {
         kind: BEGIN,
         number: (len as u64).saturating_add(1),
         place: KEY & !u64::MAX.checked_shr(len as u32).unwrap_or(0),
+        moment: 0,
         len,
     };
     records.push(begin)?;
@@ -196,7 +198,9 @@ fn add_split(records: &mut Vec<Record>, len: u8) -> Result<(), AllocError> {
 // Five puts at one point, over a log of no cells.
 const AT_ONE_POINT: &Case<'static> = &Case {
     name: "five puts at one point",
-    input: rows!("1,put,1,3,5,,\n1,put,2,3,5,,\n1,put,3,3,5,,\n1,put,4,3,5,,\n1,put,5,3,5,,\n"),
+    input: rows!(
+        "1,put,1,3,5,,,0\n1,put,2,3,5,,,0\n1,put,3,3,5,,,0\n1,put,4,3,5,,,0\n1,put,5,3,5,,,0\n"
+    ),
     entries: 133,
     ..PUTS_BY_4
 };

@@ -3,19 +3,26 @@ use crate::checks::{CHECK, Case, EMPTY, each_is_left};
 use crate::memory::TWO_LEAVES_LOG;
 
 // A log of put 7 at (3,5) and a cell of kind 9.
-const DAMAGED_LOG: &[u8] = b"MDLOCLOG\x01\x01\0\0\0\0\0\0\
+const DAMAGED_LOG: &[u8] = b"MDLOCLOG\x02\x01\0\0\0\0\0\0\
     \x01\x01\0\0\0\0\0\0\0\x07\0\0\0\x03\0\0\0\x05\0\0\0\0\0\0\0\0\0\0\0\0\0\0\
     \x01\x09\0\0\0\0\0\0\0\x07\0\0\0\0\0\0\0\0\0\0\0\0\0\0\0\0\0\0\0\0\0\0\
     \0";
 
 // The first 48 bytes of a log of put 7 at (3,5).
-const SHORT_LOG: &[u8] = b"MDLOCLOG\x01\x01\0\0\0\0\0\0\
+const SHORT_LOG: &[u8] = b"MDLOCLOG\x02\x01\0\0\0\0\0\0\
     \x01\x01\0\0\0\0\0\0\0\x07\0\0\0\x03\0\0\0\x05\0\0\0\0\0\0\0\0\0\0\0\0\0\0";
+
+// A log of put 7 at (3,5) and move 7 to (4,5), both of moment 10, and put 8 at (9,9), of the last moment.
+const MOMENTS_LOG: &[u8] = b"MDLOCLOG\x02\x01\0\0\0\0\0\0\
+    \x01\x01\0\0\0\0\0\0\0\x07\0\0\0\x03\0\0\0\x05\0\0\0\0\0\0\0\x0a\0\0\0\0\0\0\
+    \x01\x02\0\0\0\0\0\0\0\x07\0\0\0\x04\0\0\0\x05\0\0\0\0\0\0\0\x0a\0\0\0\0\0\0\
+    \x01\x01\0\0\0\0\0\0\0\x08\0\0\0\x09\0\0\0\x09\xff\xff\xff\xff\xff\xff\xff\xff\0\0\0\0\0\0\
+    \0";
 
 const SHOWS: Case<'static> = Case {
     name: "show of no cells",
     words: &["show", "log", "0", "0", "9", "9"],
-    text: "id,x,y\n",
+    text: "id,x,y,moment\n",
     ..EMPTY
 };
 
@@ -30,20 +37,27 @@ const BOXES: &[Case<'static>] = &[
     Case {
         name: "a box of two points",
         words: &["show", "log", "0", "0", "1", "1"],
-        text: "id,x,y\n1,0,0\n5,1,1\n",
+        text: "id,x,y,moment\n1,0,0,0\n5,1,1,0\n",
         ..LISTS
     },
     Case {
         name: "a box of all points",
         words: &["show", "log", "0", "0", "4294967295", "4294967295"],
-        text: "id,x,y\n1,0,0\n2,2147483648,0\n3,0,2147483648\n4,2147483648,2147483648\n5,1,1\n",
+        text: "id,x,y,moment\n1,0,0,0\n2,2147483648,0,0\n3,0,2147483648,0\n4,2147483648,2147483648,0\n5,1,1,0\n",
         ..LISTS
     },
     Case {
         name: "a box with points in its corners",
         words: &["show", "log", "1", "1", "2147483648", "2147483648"],
-        text: "id,x,y\n4,2147483648,2147483648\n5,1,1\n",
+        text: "id,x,y,moment\n4,2147483648,2147483648,0\n5,1,1,0\n",
         ..LISTS
+    },
+    Case {
+        name: "points with moments",
+        file: Some(MOMENTS_LOG),
+        text: "id,x,y,moment\n7,4,5,10\n8,9,9,18446744073709551615\n",
+        held: MOMENTS_LOG,
+        ..SHOWS
     },
     Case {
         name: "a box of no points",

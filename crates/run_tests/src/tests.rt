@@ -11,8 +11,8 @@ use std::thread::Threads;
 const ROWS: &[Case<'static>] = &[
     Case {
         name: "two rows",
-        input: rows!("1,put,7,3,5,,\n1,where,7,,,,\n"),
-        text: lines!("1,1,done,\n2,2,at,3:5\n"),
+        input: rows!("1,put,7,3,5,,,0\n1,where,7,,,,,\n"),
+        text: lines!("1,1,done,\n2,2,at,3:5:0\n"),
         entries: 2,
         ..NO_LOG
     },
@@ -24,7 +24,7 @@ const ROWS: &[Case<'static>] = &[
         name: "queries of split leaves",
         words: &["play", "-", "--bucket", "4"],
         input: rows!(
-            "1,put,1,0,0,,\n1,put,2,2147483648,0,,\n1,put,3,0,2147483648,,\n1,put,4,2147483648,2147483648,,\n1,put,5,1,1,,\n1,near,,0,0,2,\n1,box,,0,0,1,1\n"
+            "1,put,1,0,0,,,0\n1,put,2,2147483648,0,,,0\n1,put,3,0,2147483648,,,0\n1,put,4,2147483648,2147483648,,,0\n1,put,5,1,1,,,0\n1,near,,0,0,2,,\n1,box,,0,0,1,1,\n"
         ),
         text: lines!(
             "1,1,done,\n2,2,done,\n3,3,done,\n4,4,done,\n5,5,done,\n6,6,found,1:0:0;5:1:1\n7,7,found,1:0:0;5:1:1\n"
@@ -45,12 +45,14 @@ fn each_row_has_its_line(rt: HostRuntime) {
 }
 
 const SEVERAL: &Case<'static> = &Case {
-    input: rows!("3,put,7,3,5,,\n1,put,8,4,6,,\n16,where,9,,,,\n3,where,7,,,,\n1,move,8,4,7,,\n"),
+    input: rows!(
+        "3,put,7,3,5,,,0\n1,put,8,4,6,,,0\n16,where,9,,,,,\n3,where,7,,,,,\n1,move,8,4,7,,,0\n"
+    ),
     ..NO_LOG
 };
 
 // For `?` there may be any place.
-const IN_ORDER: &str = lines!("1,?,done,\n2,?,done,\n3,?,absent,\n4,?,at,3:5\n5,?,moved,4:6\n");
+const IN_ORDER: &str = lines!("1,?,done,\n2,?,done,\n3,?,absent,\n4,?,at,3:5:0\n5,?,moved,4:6:0\n");
 
 fn are_but_for_places(lines: &[u8], wanted: &[u8]) -> bool {
     for (byte, wanted) in lines.iter().zip(wanted) {
@@ -90,26 +92,38 @@ const NOT_PLAYED: &[Case<'static>] = &[
         ..REFUSED
     },
     Case {
-        name: "a row of six fields",
-        input: rows!("1,put,7,3,5,\n"),
+        name: "the header of rows without moments",
+        input: "session,op,id,x,y,a,b\n1,put,7,3,5,,\n",
+        text: "refused header\n",
+        ..REFUSED
+    },
+    Case {
+        name: "a row of seven fields",
+        input: rows!("1,put,7,3,5,,\n"),
         text: "refused row 1 length\n",
         ..REFUSED
     },
     Case {
         name: "a sign in column 4",
-        input: rows!("1,put,7,-3,5,,\n"),
+        input: rows!("1,put,7,-3,5,,,0\n"),
         text: "refused row 1 column 4\n",
         ..REFUSED
     },
     Case {
+        name: "a put without a moment",
+        input: rows!("1,put,7,3,5,,,\n"),
+        text: "refused row 1 column 8\n",
+        ..REFUSED
+    },
+    Case {
         name: "session 17",
-        input: rows!("1,where,7,,,,\n17,where,7,,,,\n"),
+        input: rows!("1,where,7,,,,,\n17,where,7,,,,,\n"),
         text: "refused row 2 column 1\n",
         ..REFUSED
     },
     Case {
         name: "a source that fails",
-        input: rows!("1,put,7,3,5,,\n"),
+        input: rows!("1,put,7,3,5,,,0\n"),
         reads: &[1],
         status: 5,
         text: "refused source\n",
@@ -117,7 +131,7 @@ const NOT_PLAYED: &[Case<'static>] = &[
     },
     Case {
         name: "a sink that fails",
-        input: rows!("1,put,7,3,5,,\n"),
+        input: rows!("1,put,7,3,5,,,0\n"),
         puts: &[1],
         status: 6,
         text: "",
@@ -186,7 +200,7 @@ fn other_words_are_usage_and_touch_nothing(rt: HostRuntime) {
 
 const LIMITS: &[(u32, &str)] = &[
     (65_537, "refused limit rows\n"),
-    (1_198_373, "refused limit bytes\n"),
+    (1_118_480, "refused limit bytes\n"),
 ];
 
 const OVER_A_LIMIT: &Case<'static> = &Case {
@@ -210,7 +224,7 @@ fn is_over_a_limit<R: Abort + Threads + Wait + Sync>(
     count: u32,
     line: &str,
 ) {
-    let input = repeated(alloc, NO_LOG.input, count, "1,where,7,,,,\n").expect(rt, "it failed");
+    let input = repeated(alloc, NO_LOG.input, count, "1,where,7,,,,,\n").expect(rt, "it failed");
     is_left(rt, alloc, &over_a_limit(&input, line));
 }
 

@@ -18,9 +18,9 @@ const TRIAL: Case<'static> = Case {
     ..NO_LOG
 };
 
-// A log of put 1717 at (3938983765, 2969520912).
-const MADE_LOG: &[u8] = b"MDLOCLOG\x01\x01\0\0\0\0\0\0\
-    \x01\x01\0\0\0\0\0\0\x06\xb5\xea\xc8\x1f\x55\xb0\xff\x4b\x10\0\0\0\0\0\0\0\0\0\0\0\0\0\0\
+// A log of put 1717 at (3938983765, 2969520912), of moment 60104.
+const MADE_LOG: &[u8] = b"MDLOCLOG\x02\x01\0\0\0\0\0\0\
+    \x01\x01\0\0\0\0\0\0\x06\xb5\xea\xc8\x1f\x55\xb0\xff\x4b\x10\0\0\0\0\0\0\xea\xc8\0\0\0\0\0\0\
     \0";
 
 // A trial of seed 2 over a log.
@@ -39,7 +39,7 @@ const AGAIN: Case<'static> = Case {
     ..OVER
 };
 
-// Seed 2 makes a put of 1717 at (3938983765, 2969520912), seed 1 a box, and seed 0 a move.
+// Seed 2 makes a put of 1717 at (3938983765, 2969520912), of moment 60104, seed 1 a box, and seed 0 a move.
 const ONE_ROW: &[Case<'static>] = &[
     TRIAL,
     Case {
@@ -66,7 +66,7 @@ const ONE_ROW: &[Case<'static>] = &[
     Case {
         name: "show behind the trial",
         words: &["show", "log", "0", "0", "4294967295", "4294967295"],
-        text: "id,x,y\n1717,3938983765,2969520912\n",
+        text: "id,x,y,moment\n1717,3938983765,2969520912,60104\n",
         entries: 0,
         ..AGAIN
     },
@@ -117,7 +117,7 @@ const SEED: u64 = 3;
 const LONG_TRIAL: &Case<'static> = &Case {
     name: "a trial of 65,536 rows",
     words: &["trial", "-", "65536", "3"],
-    text: "rows 65536\npoints 11038\nsum 11205466132021950541\n",
+    text: "rows 65536\npoints 11038\nsum 3519966882705042377\n",
     ..NO_LOG
 };
 

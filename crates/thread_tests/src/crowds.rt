@@ -27,20 +27,24 @@ fn reached(from: u32) -> Option<u32> {
     Some(from.saturating_add(REACH))
 }
 
-// The operation of a session's row, and its fields: its puts, and then every operation in turn on the ids that it has put.
-fn fields_of(session: u32, row: u32) -> (&'static str, [Option<u32>; 5]) {
+// The operation of a session's row, and its fields: its puts, and then every operation in turn on the ids that it has put. A moment is as if
+// by chance too, so that some moves are late.
+fn fields_of(session: u32, row: u32) -> (&'static str, [Option<u32>; 6]) {
     let number = session.wrapping_mul(1_000).wrapping_add(row % PUTS);
     let corner = (spread(number), spread(row));
     let (id, x, y) = (Some(number), Some(corner.0), Some(corner.1));
     if row < PUTS {
-        return ("put", [id, x, y, None, None]);
+        return ("put", [id, x, y, None, None, x]);
     }
     match row % 5 {
-        0 => ("move", [id, y, x, None, None]),
-        1 => ("where", [id, None, None, None, None]),
-        2 => ("box", [None, x, y, reached(corner.0), reached(corner.1)]),
-        3 => ("near", [None, x, y, Some(3), None]),
-        _ => ("drop", [id, None, None, None, None]),
+        0 => ("move", [id, y, x, None, None, y]),
+        1 => ("where", [id, None, None, None, None, None]),
+        2 => (
+            "box",
+            [None, x, y, reached(corner.0), reached(corner.1), None],
+        ),
+        3 => ("near", [None, x, y, Some(3), None, None]),
+        _ => ("drop", [id, None, None, None, None, None]),
     }
 }
 

@@ -10,7 +10,7 @@ use std::sync::Wait;
 use std::thread::Threads;
 use zorder::Memory;
 
-pub const HEADER: &str = "session,op,id,x,y,a,b\n";
+pub const HEADER: &str = "session,op,id,x,y,a,b,moment\n";
 
 // How many bytes of output there is room for.
 const ROOM: usize = 16_777_216;

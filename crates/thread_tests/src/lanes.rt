@@ -22,52 +22,24 @@ use std::sync::Wait;
 use std::thread::Threads;
 use zorder::{Name, Point, child, key};
 
+// The put of an object, of moment 0.
+macro_rules! put {
+    ($id:expr, $x:expr, $y:expr) => {
+        Op::Put {
+            id: $id,
+            at: Point { x: $x, y: $y },
+            moment: 0,
+        }
+    };
+}
+
 // Five puts, one more than a bucket has room for.
 const PUTS: [(u32, Op); 5] = [
-    (
-        1,
-        Op::Put {
-            id: 1,
-            at: Point { x: 0, y: 0 },
-        },
-    ),
-    (
-        2,
-        Op::Put {
-            id: 2,
-            at: Point {
-                x: 2_147_483_648,
-                y: 0,
-            },
-        },
-    ),
-    (
-        3,
-        Op::Put {
-            id: 3,
-            at: Point {
-                x: 0,
-                y: 2_147_483_648,
-            },
-        },
-    ),
-    (
-        4,
-        Op::Put {
-            id: 4,
-            at: Point {
-                x: 2_147_483_648,
-                y: 2_147_483_648,
-            },
-        },
-    ),
-    (
-        5,
-        Op::Put {
-            id: 5,
-            at: Point { x: 1, y: 1 },
-        },
-    ),
+    (1, put!(1, 0, 0)),
+    (2, put!(2, 2_147_483_648, 0)),
+    (3, put!(3, 0, 2_147_483_648)),
+    (4, put!(4, 2_147_483_648, 2_147_483_648)),
+    (5, put!(5, 1, 1)),
 ];
 
 // Where the other lane puts its object, behind a question that it waits at.
@@ -76,19 +48,7 @@ const THERE: Point = Point {
     y: 0,
 };
 
-const BESIDE: [(u32, Op); 2] = [
-    (6, Op::Find { id: 9 }),
-    (
-        7,
-        Op::Put {
-            id: 9,
-            at: Point {
-                x: 2_147_483_648,
-                y: 0,
-            },
-        },
-    ),
-];
+const BESIDE: [(u32, Op); 2] = [(6, Op::Find { id: 9 }), (7, put!(9, 2_147_483_648, 0))];
 
 // A lane with these rows, and room for their answers.
 fn lane<I: Index, D: LogDisk>(

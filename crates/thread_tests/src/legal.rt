@@ -1,21 +1,25 @@
 //! Whether a history is legal with what its rows were told.
-use plain_list::{Answer, Call, Entries, Entry, World, is_legal};
+use plain_list::{Answer, Call, Entries, Entry, Stamped, World, is_legal};
 use std::alloc::Global;
 use std::process::Abort;
-use zorder::{Memory, Point};
+use zorder::Memory;
 
-/// What a put or a find was told.
+/// What a put, a move or a find was told.
 #[derive(Clone, Copy)]
 pub enum Told {
     Done,
-    Present(Point),
+    Present(Stamped),
+    Moved(Stamped),
+    Stale(Stamped),
     Absent,
 }
 
 fn answer(told: Told) -> Answer {
     match told {
         Told::Done => Answer::Done,
-        Told::Present(at) => Answer::Present(at),
+        Told::Present(kept) => Answer::Present(kept),
+        Told::Moved(kept) => Answer::Moved(kept),
+        Told::Stale(kept) => Answer::Stale(kept),
         Told::Absent => Answer::Absent,
     }
 }

@@ -6,7 +6,7 @@ use crate::fixtures::{Left, play};
 use crate::legal::{Told, is_legal_with};
 use crate::turns::{Turn, Turns};
 use io_edge::GatePoint;
-use plain_list::{Entries, Entry};
+use plain_list::{Entries, Entry, Stamped};
 use std::alloc::Global;
 use std::process::Abort;
 use std::sync::Wait;
@@ -31,7 +31,7 @@ macro_rules! answered {
 
 macro_rules! rows {
     ($rows:literal) => {
-        concat!("session,op,id,x,y,a,b\n", $rows)
+        concat!("session,op,id,x,y,a,b,moment\n", $rows)
     };
 }
 
@@ -76,7 +76,7 @@ fn is_played<R: Threads + Wait + Abort + Sync>(rt: &R, alloc: Global, scene: &Sc
 
 // Each of two lanes stays behind its row until the other has come there too.
 const SIDE_BY_SIDE: Scene = Scene {
-    input: rows!("1,where,9,,,,\n2,where,9,,,,\n"),
+    input: rows!("1,where,9,,,,,\n2,where,9,,,,,\n"),
     turns: &[answered!(1, 2), answered!(2, 2)],
     these: lines!("1,1,absent,\n2,2,absent,\n"),
     those: lines!("1,2,absent,\n2,1,absent,\n"),
@@ -89,7 +89,9 @@ fn lanes_run_side_by_side(rt: HostRuntime) {
 
 // Lane 1 has taken the index for its box, and stays until the put of lane 2 was answered.
 const OVERTAKEN: Scene = Scene {
-    input: rows!("1,put,1,0,0,,\n1,box,,0,0,9,9\n2,where,9,,,,\n2,put,2,5,5,,\n2,box,,0,0,9,9\n"),
+    input: rows!(
+        "1,put,1,0,0,,,0\n1,box,,0,0,9,9,\n2,where,9,,,,,\n2,put,2,5,5,,,0\n2,box,,0,0,9,9,\n"
+    ),
     turns: &[
         answered!(1, 2),
         answered!(2, 3),
@@ -108,7 +110,7 @@ fn a_query_that_is_held_answers_as_at_its_place(rt: HostRuntime) {
 // Lane 1's fifth put makes the one leaf full. It has begun the split, and stays until the put of lane 2 was answered.
 const BETWEEN: Scene = Scene {
     input: rows!(
-        "1,put,1,0,0,,\n1,put,2,1,0,,\n1,put,3,2,0,,\n1,put,4,3,0,,\n1,put,5,4000000000,0,,\n1,box,,4000000000,0,4000000009,9\n2,where,9,,,,\n2,put,6,4000000001,0,,\n"
+        "1,put,1,0,0,,,0\n1,put,2,1,0,,,0\n1,put,3,2,0,,,0\n1,put,4,3,0,,,0\n1,put,5,4000000000,0,,,0\n1,box,,4000000000,0,4000000009,9,\n2,where,9,,,,,\n2,put,6,4000000001,0,,,0\n"
     ),
     turns: &[
         answered!(1, 2),
@@ -146,24 +148,33 @@ fn a_put_between_begin_and_install_lands_in_the_child(rt: HostRuntime) {
     assert_is!(rt; is_call_in_a_split(left.events.as_slice().get(6..9)));
 }
 
-const FIRST: Told = Told::Present(Point { x: 3, y: 5 });
+macro_rules! kept {
+    ($x:expr, $y:expr, $moment:expr) => {
+        Stamped {
+            at: Point { x: $x, y: $y },
+            moment: $moment,
+        }
+    };
+}
 
-const SECOND: Told = Told::Present(Point { x: 8, y: 8 });
+const FIRST: Told = Told::Present(kept!(3, 5, 20));
+
+const SECOND: Told = Told::Present(kept!(8, 8, 10));
 
 // Both sessions put the same taxi, and session 1 comes first.
 const FIRST_PUT: Scene = Scene {
-    input: rows!("1,put,7,3,5,,\n2,where,9,,,,\n2,put,7,8,8,,\n"),
+    input: rows!("1,put,7,3,5,,,20\n2,where,9,,,,,\n2,put,7,8,8,,,10\n"),
     turns: &[answered!(1, 0), answered!(2, 0)],
-    these: lines!("1,1,done,\n2,2,absent,\n3,3,present,3:5\n"),
-    those: lines!("1,2,done,\n2,1,absent,\n3,3,present,3:5\n"),
+    these: lines!("1,1,done,\n2,2,absent,\n3,3,present,3:5:20\n"),
+    those: lines!("1,2,done,\n2,1,absent,\n3,3,present,3:5:20\n"),
 };
 
 // The same, and session 2 comes first.
 const SECOND_PUT: Scene = Scene {
-    input: rows!("1,where,9,,,,\n1,put,7,3,5,,\n2,put,7,8,8,,\n"),
+    input: rows!("1,where,9,,,,,\n1,put,7,3,5,,,20\n2,put,7,8,8,,,10\n"),
     turns: &[answered!(2, 0), answered!(1, 0)],
-    these: lines!("1,1,absent,\n2,3,present,8:8\n3,2,done,\n"),
-    those: lines!("1,2,absent,\n2,3,present,8:8\n3,1,done,\n"),
+    these: lines!("1,1,absent,\n2,3,present,8:8:10\n3,2,done,\n"),
+    those: lines!("1,2,absent,\n2,3,present,8:8:10\n3,1,done,\n"),
 };
 
 // What the rows of each are told, and what they aren't.
@@ -195,4 +206,56 @@ fn is_told<R: Threads + Wait + Abort + Sync>(
 fn of_two_puts_of_one_id_the_first_stands(rt: HostRuntime) {
     is_told(&rt, rt.alloc(), &FIRST_PUT, FIRST_TOLD, FIRST_UNTOLD);
     is_told(&rt, rt.alloc(), &SECOND_PUT, SECOND_TOLD, SECOND_UNTOLD);
+}
+
+// Lane 2 moves the taxi with a lesser moment than lane 1 has moved it with.
+const LATE: Scene = Scene {
+    input: rows!("1,put,7,3,5,,,10\n1,move,7,4,5,,,20\n2,where,9,,,,,\n2,move,7,8,8,,,15\n"),
+    turns: &[answered!(1, 2), answered!(2, 3), answered!(1, 0)],
+    these: lines!("1,1,done,\n2,3,moved,3:5:10\n3,2,absent,\n4,4,stale,4:5:20\n"),
+    those: lines!("1,2,done,\n2,3,moved,3:5:10\n3,1,absent,\n4,4,stale,4:5:20\n"),
+};
+
+// The same, and lane 2 comes first.
+const IN_TIME: Scene = Scene {
+    turns: &[answered!(1, 3), answered!(2, 2), answered!(2, 0)],
+    these: lines!("1,1,done,\n2,4,moved,8:8:15\n3,2,absent,\n4,3,moved,3:5:10\n"),
+    those: lines!("1,2,done,\n2,4,moved,8:8:15\n3,1,absent,\n4,3,moved,3:5:10\n"),
+    ..LATE
+};
+
+const PUT_AT: Stamped = kept!(3, 5, 10);
+
+const LATE_TOLD: &[Told] = &[
+    Told::Done,
+    Told::Moved(PUT_AT),
+    Told::Absent,
+    Told::Stale(kept!(4, 5, 20)),
+];
+
+const LATE_UNTOLD: &[Told] = &[
+    Told::Done,
+    Told::Moved(PUT_AT),
+    Told::Absent,
+    Told::Moved(kept!(4, 5, 20)),
+];
+
+const IN_TIME_TOLD: &[Told] = &[
+    Told::Done,
+    Told::Moved(kept!(8, 8, 15)),
+    Told::Absent,
+    Told::Moved(PUT_AT),
+];
+
+const IN_TIME_UNTOLD: &[Told] = &[
+    Told::Done,
+    Told::Moved(PUT_AT),
+    Told::Absent,
+    Told::Stale(PUT_AT),
+];
+
+#[test]
+fn of_two_moves_of_one_id_the_late_one_is_stale(rt: HostRuntime) {
+    is_told(&rt, rt.alloc(), &LATE, LATE_TOLD, LATE_UNTOLD);
+    is_told(&rt, rt.alloc(), &IN_TIME, IN_TIME_TOLD, IN_TIME_UNTOLD);
 }

@@ -10,7 +10,7 @@ use std::thread::Threads;
 // The five puts stand in the same half of the plane: the split of the whole plane, which the fifth one tells, leaves them in one leaf, which
 // is split at the end. The box takes the index.
 const INPUT: &str =
-    "session,op,id,x,y,a,b\n3,put,1,0,0,,\n3,put,2,1,0,,\n3,put,3,2,0,,\n3,put,4,0,2147483648,,\n3,put,5,1,2147483648,,\n3,box,,0,0,9,9\n";
+    "session,op,id,x,y,a,b,moment\n3,put,1,0,0,,,0\n3,put,2,1,0,,,0\n3,put,3,2,0,,,0\n3,put,4,0,2147483648,,,0\n3,put,5,1,2147483648,,,0\n3,box,,0,0,9,9,\n";
 
 // Lane 3 alone has rows, and the splits at the end are those of lane 0.
 const POINTS: &[(GatePoint, u8)] = &[

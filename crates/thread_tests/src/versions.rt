@@ -86,7 +86,7 @@ fn put<I: Index, D: LogDisk, R: Wait, G: Gate>(
     ensures { KeepsPass pass.old pass.new }
 {
     let Placed { id, at } = object;
-    let op = Op::Put { id, at };
+    let op = Op::Put { id, at, moment: 0 };
     let _ = call::<I, D, Brand, R, G>(rt, alloc, store, pass, session, &op, gate, Blank::new(1));
 }
 

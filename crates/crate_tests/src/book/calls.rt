@@ -4,7 +4,7 @@ ghost use Rattle.std.specs.Prelude.{◌≡◌};
 use commit_book::{Book, BookFault, Done, Snapshot};
 use disk_trait::LogDisk;
 use index_layer::Index;
-use plain_list::{Answer, Op};
+use plain_list::{Answer, Op, Stamped};
 use split_prepare::{Prepared, prepare};
 use std::alloc::Global;
 use std::process::Abort;
@@ -17,8 +17,8 @@ pub enum Leaf {
     Zero,
 }
 
-/// What a call is told: its place or a number, a word, and a point or two sizes.
-pub type Told = (u64, &'static str, Option<(u64, u64)>);
+/// What a call is told: its place or a number, a word, and a position with its moment, or two sizes and 0.
+pub type Told = (u64, &'static str, Option<[u64; 3]>);
 
 /// Of a step that tells no more than that it was taken.
 pub const TAKEN: Told = (0, "taken", None);
@@ -30,8 +30,8 @@ fn name_of(leaf: Leaf) -> Name {
     }
 }
 
-fn pair(at: Point) -> Option<(u64, u64)> {
-    Some((u64::from(at.x), u64::from(at.y)))
+fn numbers(kept: Stamped) -> Option<[u64; 3]> {
+    Some([u64::from(kept.at.x), u64::from(kept.at.y), kept.moment])
 }
 
 fn told(done: Result<Done, BookFault>) -> Result<Told, BookFault> {
@@ -44,8 +44,11 @@ fn told(done: Result<Done, BookFault>) -> Result<Told, BookFault> {
 fn told_of(done: &Done) -> Told {
     match done.answer {
         Answer::Done => (done.place, "done", None),
-        Answer::Present(at) => (done.place, "present", pair(at)),
-        Answer::At(at) => (done.place, "at", pair(at)),
+        Answer::Present(kept) => (done.place, "present", numbers(kept)),
+        Answer::Moved(kept) => (done.place, "moved", numbers(kept)),
+        Answer::Stale(kept) => (done.place, "stale", numbers(kept)),
+        Answer::Gone(kept) => (done.place, "gone", numbers(kept)),
+        Answer::At(kept) => (done.place, "at", numbers(kept)),
         _ => (done.place, "other", None),
     }
 }
@@ -55,11 +58,30 @@ pub fn put<I: Index, D: LogDisk>(
     book: &mut Book<I, D>,
     row: u32,
     id: u64,
-    x: u32,
-    y: u32,
+    to: Stamped,
 ) -> Result<Told, BookFault> {
-    let at = Point { x, y };
-    told(book.update(1, row, &Op::Put { id, at }))
+    let Stamped { at, moment } = to;
+    told(book.update(1, row, &Op::Put { id, at, moment }))
+}
+
+/// Moves an object.
+pub fn relocate<I: Index, D: LogDisk>(
+    book: &mut Book<I, D>,
+    row: u32,
+    id: u64,
+    to: Stamped,
+) -> Result<Told, BookFault> {
+    let Stamped { at, moment } = to;
+    told(book.update(1, row, &Op::Move { id, at, moment }))
+}
+
+/// Takes an object away.
+pub fn remove<I: Index, D: LogDisk>(
+    book: &mut Book<I, D>,
+    row: u32,
+    id: u64,
+) -> Result<Told, BookFault> {
+    told(book.update(1, row, &Op::Remove { id }))
 }
 
 /// Asks where an object is.
@@ -88,7 +110,7 @@ pub fn seen_in<I: Index>(seen: &Snapshot<I>) -> Told {
     (
         seen.place,
         "seen",
-        Some((bucket.delta_len(), bucket.count())),
+        Some([bucket.delta_len(), bucket.count(), 0]),
     )
 }
 

@@ -9,7 +9,7 @@ const STEPS: &[Taken] = &[
     (Step::PutMany(1, 40), Ok(TAKEN), (0, 40, None)),
     (
         Step::Look(41),
-        Ok((41, "seen", Some((0, 40)))),
+        Ok((41, "seen", Some([0, 40, 0]))),
         (0, 41, None),
     ),
     (
@@ -20,19 +20,19 @@ const STEPS: &[Taken] = &[
     (Step::PutMany(101, 40), Ok(TAKEN), (0, 82, None)),
     (
         Step::Look(141),
-        Ok((82, "seen", Some((40, 80)))),
+        Ok((82, "seen", Some([40, 80, 0]))),
         (0, 83, None),
     ),
     (Step::Abandon(1), Ok(TAKEN), (0, 84, None)),
     (
         Step::Look(142),
-        Ok((83, "seen", Some((40, 80)))),
+        Ok((83, "seen", Some([40, 80, 0]))),
         (0, 85, None),
     ),
     (Step::PutMany(201, 1), Ok(TAKEN), (0, 86, None)),
     (
         Step::Look(202),
-        Ok((85, "seen", Some((0, 81)))),
+        Ok((85, "seen", Some([0, 81, 0]))),
         (0, 87, None),
     ),
 ];

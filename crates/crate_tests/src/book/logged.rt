@@ -13,7 +13,7 @@ use std::process::Abort;
 use zorder::Point;
 
 // Put 7 at (3,5), begin 1 of the empty name, install 1, begin 2 of `0`, abandon 2.
-const SPLIT_LOG: &[u8] = b"MDLOCLOG\x01\x01\0\0\0\0\0\0\
+const SPLIT_LOG: &[u8] = b"MDLOCLOG\x02\x01\0\0\0\0\0\0\
     \x01\x01\0\0\0\0\0\0\0\x07\0\0\0\x03\0\0\0\x05\0\0\0\0\0\0\0\0\0\0\0\0\0\0\
     \x01\x04\0\0\0\0\0\0\0\x01\0\0\0\0\0\0\0\0\0\0\0\0\0\0\0\0\0\0\0\0\0\0\
     \x01\x05\0\0\0\0\0\0\0\x01\0\0\0\0\0\0\0\0\0\0\0\0\0\0\0\0\0\0\0\0\0\0\
@@ -24,14 +24,26 @@ const SPLIT_LOG: &[u8] = b"MDLOCLOG\x01\x01\0\0\0\0\0\0\
 // Four rows, a split, and one that is given up.
 const ADDING: &[Taken] = &[
     (Step::Stand, Ok(TAKEN), (0, 0, None)),
-    (Step::Put(1, 7, 3, 5), Ok((1, "done", None)), (1, 1, None)),
     (
-        Step::Put(2, 7, 8, 8),
-        Ok((2, "present", Some((3, 5)))),
+        Step::Put(1, 7, at!(3, 5)),
+        Ok((1, "done", None)),
+        (1, 1, None),
+    ),
+    (
+        Step::Put(2, 7, at!(8, 8)),
+        Ok((2, "present", Some([3, 5, 0]))),
         (1, 2, None),
     ),
-    (Step::Find(3, 7), Ok((3, "at", Some((3, 5)))), (1, 3, None)),
-    (Step::Look(4), Ok((4, "seen", Some((0, 1)))), (1, 4, None)),
+    (
+        Step::Find(3, 7),
+        Ok((3, "at", Some([3, 5, 0]))),
+        (1, 3, None),
+    ),
+    (
+        Step::Look(4),
+        Ok((4, "seen", Some([0, 1, 0]))),
+        (1, 4, None),
+    ),
     (Step::Split(Leaf::Whole), Ok(TAKEN), (3, 6, None)),
     (
         Step::Begin(Leaf::Zero),
@@ -42,7 +54,7 @@ const ADDING: &[Taken] = &[
 ];
 
 // Takes these steps over the log that a drive has, and gives the drive.
-fn drive_behind<I: Index, D: LogDisk>(
+pub fn drive_behind<I: Index, D: LogDisk>(
     rt: &impl Abort,
     alloc: Global,
     disk: D,
@@ -52,9 +64,9 @@ fn drive_behind<I: Index, D: LogDisk>(
     parts.disk
 }
 
-fn has_split_log(disk: &Option<MemDisk>) -> bool {
+fn has_log(disk: &Option<MemDisk>, log: &[u8]) -> bool {
     match disk {
-        Some(disk) => disk.bytes() == SPLIT_LOG,
+        Some(disk) => disk.bytes() == log,
         None => false,
     }
 }
@@ -63,7 +75,85 @@ fn has_split_log(disk: &Option<MemDisk>) -> bool {
 fn a_change_and_a_step_of_a_split_add_a_cell_each(rt: HostRuntime) {
     let disk = disk_of(&rt, rt.alloc(), EMPTY_LOG, &[]);
     let left = drive_behind::<KdTrie, MemDisk>(&rt, rt.alloc(), disk, ADDING);
-    assert_is!(rt; has_split_log(&left));
+    assert_is!(rt; has_log(&left, SPLIT_LOG));
+}
+
+// Put 7 at (3,5) and move 7 to (4,5), both of moment 10.
+const MOVED_LOG: &[u8] = b"MDLOCLOG\x02\x01\0\0\0\0\0\0\
+    \x01\x01\0\0\0\0\0\0\0\x07\0\0\0\x03\0\0\0\x05\0\0\0\0\0\0\0\x0a\0\0\0\0\0\0\
+    \x01\x02\0\0\0\0\0\0\0\x07\0\0\0\x04\0\0\0\x05\0\0\0\0\0\0\0\x0a\0\0\0\0\0\0\
+    \0";
+
+// A late move, one of an equal moment, and a put of a greater one.
+const MOVING: &[Taken] = &[
+    (
+        Step::Put(1, 7, at!(3, 5, 10)),
+        Ok((1, "done", None)),
+        (1, 1, None),
+    ),
+    (
+        Step::Move(2, 7, at!(4, 5, 9)),
+        Ok((2, "stale", Some([3, 5, 10]))),
+        (1, 2, None),
+    ),
+    (
+        Step::Move(3, 7, at!(4, 5, 10)),
+        Ok((3, "moved", Some([3, 5, 10]))),
+        (2, 3, None),
+    ),
+    (
+        Step::Find(4, 7),
+        Ok((4, "at", Some([4, 5, 10]))),
+        (2, 4, None),
+    ),
+    (
+        Step::Put(5, 7, at!(8, 8, 11)),
+        Ok((5, "present", Some([4, 5, 10]))),
+        (2, 5, None),
+    ),
+];
+
+// A late move, moves to the point where the object is, and a put behind a drop, over the log of those.
+const MOVING_ON: &[Taken] = &[
+    (
+        Step::Move(1, 7, at!(3, 5, 9)),
+        Ok((1, "stale", Some([4, 5, 10]))),
+        (2, 1, None),
+    ),
+    (
+        Step::Move(2, 7, at!(4, 5, 12)),
+        Ok((2, "moved", Some([4, 5, 10]))),
+        (3, 2, None),
+    ),
+    (
+        Step::Move(3, 7, at!(4, 5, 11)),
+        Ok((3, "stale", Some([4, 5, 12]))),
+        (3, 3, None),
+    ),
+    (
+        Step::Drop(4, 7),
+        Ok((4, "gone", Some([4, 5, 12]))),
+        (4, 4, None),
+    ),
+    (
+        Step::Put(5, 7, at!(8, 8, 3)),
+        Ok((5, "done", None)),
+        (5, 5, None),
+    ),
+    (
+        Step::Find(6, 7),
+        Ok((6, "at", Some([8, 8, 3]))),
+        (5, 6, None),
+    ),
+];
+
+#[test]
+fn moments_are_kept_and_a_late_move_adds_no_cell(rt: HostRuntime) {
+    let disk = disk_of(&rt, rt.alloc(), EMPTY_LOG, &[]);
+    let left = drive_behind::<KdTrie, MemDisk>(&rt, rt.alloc(), disk, MOVING);
+    assert_is!(rt; has_log(&left, MOVED_LOG));
+    let disk = disk_of(&rt, rt.alloc(), MOVED_LOG, &[]);
+    let _left = drive_behind::<KdTrie, MemDisk>(&rt, rt.alloc(), disk, MOVING_ON);
 }
 
 // Whether this is the history of a first row whose append failed.
@@ -74,14 +164,14 @@ fn is_lost_put(entries: &[Entry]) -> bool {
     }
 }
 
-// Whether the put of 7 at (3,5) was lost, the first row.
+// Whether the put of 7 at (3,5) of moment 10 was lost, the first row.
 fn is_put_of_7(lost: &Lost) -> bool {
     match lost {
         Lost::Call {
             session: 1,
             row: 1,
-            op: Op::Put { id: 7, at },
-        } => *at == Point { x: 3, y: 5 },
+            op: Op::Put { id: 7, at, moment },
+        } => *at == Point { x: 3, y: 5 } && *moment == 10,
         _ => false,
     }
 }
@@ -89,12 +179,12 @@ fn is_put_of_7(lost: &Lost) -> bool {
 // A put whose append fails, and one behind it.
 const CLOSING: &[Taken] = &[
     (
-        Step::Put(1, 7, 3, 5),
+        Step::Put(1, 7, at!(3, 5, 10)),
         Err(BookFault::Disk { cell: 0 }),
         (0, 1, Some(0)),
     ),
     (
-        Step::Put(2, 8, 1, 1),
+        Step::Put(2, 8, at!(1, 1)),
         Err(BookFault::Closed { cell: 0 }),
         (0, 1, Some(0)),
     ),
@@ -134,10 +224,14 @@ fn a_put_whose_append_fails_closes_the_book(rt: HostRuntime) {
 // A row that asks for what the log has, one that finds it there, and splits.
 const GOING_ON: &[Taken] = &[
     (Step::Stand, Ok(TAKEN), (5, 0, None)),
-    (Step::Find(1, 7), Ok((1, "at", Some((3, 5)))), (5, 1, None)),
     (
-        Step::Put(2, 7, 8, 8),
-        Ok((2, "present", Some((3, 5)))),
+        Step::Find(1, 7),
+        Ok((1, "at", Some([3, 5, 0]))),
+        (5, 1, None),
+    ),
+    (
+        Step::Put(2, 7, at!(8, 8)),
+        Ok((2, "present", Some([3, 5, 0]))),
         (5, 2, None),
     ),
     (

@@ -5,13 +5,21 @@ use kd_trie::KdTrie;
 
 // A snapshot that is kept over a put, and one behind it.
 const STEPS: &[Taken] = &[
-    (Step::Put(1, 7, 3, 5), Ok((1, "done", None)), (0, 1, None)),
+    (
+        Step::Put(1, 7, at!(3, 5)),
+        Ok((1, "done", None)),
+        (0, 1, None),
+    ),
     (
         Step::LookOverPut(2),
-        Ok((2, "seen", Some((0, 1)))),
+        Ok((2, "seen", Some([0, 1, 0]))),
         (0, 3, None),
     ),
-    (Step::Look(4), Ok((4, "seen", Some((0, 2)))), (0, 4, None)),
+    (
+        Step::Look(4),
+        Ok((4, "seen", Some([0, 2, 0]))),
+        (0, 4, None),
+    ),
 ];
 
 #[test]

@@ -1,12 +1,13 @@
 //! Lists of steps that a book takes.
 use crate::book::books::book_on;
 use crate::book::calls::{
-    Leaf, Stands, TAKEN, Told, abandon, begin, begin_and_cut, find, install, look, put, seen_in,
-    stands,
+    Leaf, Stands, TAKEN, Told, abandon, begin, begin_and_cut, find, install, look, put, relocate,
+    remove, seen_in, stands,
 };
 use commit_book::{Book, BookFault};
 use disk_trait::LogDisk;
 use index_layer::Index;
+use plain_list::Stamped;
 use std::alloc::Global;
 use std::process::Abort;
 
@@ -15,8 +16,10 @@ use std::process::Abort;
 pub enum Step {
     /// None at all.
     Stand,
-    /// Puts an object, by the row, its id and its point.
-    Put(u32, u64, u32, u32),
+    /// Puts an object, by the row, its id and its position.
+    Put(u32, u64, Stamped),
+    Move(u32, u64, Stamped),
+    Drop(u32, u64),
     /// Puts so many objects with rising ids, from this one on, at points of their own.
     PutMany(u32, u32),
     /// Asks where an object is.
@@ -41,7 +44,7 @@ fn put_many<I: Index, D: LogDisk>(
     count: u32,
 ) -> Result<Told, BookFault> {
     for id in first..first.saturating_add(count) {
-        put(book, id, u64::from(id), id, 7)?;
+        put(book, id, u64::from(id), at!(id, 7))?;
     }
     Ok(TAKEN)
 }
@@ -56,7 +59,7 @@ fn look_over_put<I: Index, D: LogDisk>(
     row: u32,
 ) -> Result<Told, BookFault> {
     let seen = look(book, row)?;
-    put(book, row.saturating_add(1), 8, 4, 4).expect(rt, "the put failed");
+    put(book, row.saturating_add(1), 8, at!(4, 4)).expect(rt, "the put failed");
     Ok(seen_in(&seen))
 }
 
@@ -89,7 +92,9 @@ fn take<I: Index, D: LogDisk>(
 ) -> Result<Told, BookFault> {
     match step {
         Step::Stand => Ok(TAKEN),
-        Step::Put(row, id, x, y) => put(book, row, id, x, y),
+        Step::Put(row, id, to) => put(book, row, id, to),
+        Step::Move(row, id, to) => relocate(book, row, id, to),
+        Step::Drop(row, id) => remove(book, row, id),
         Step::PutMany(first, count) => put_many(book, first, count),
         Step::Find(row, id) => find(book, row, id),
         Step::Look(row) => look_at(book, row),

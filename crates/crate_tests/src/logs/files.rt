@@ -33,7 +33,7 @@ pub fn is_read_back<R: Abort + Files + AllocGlobal, D: LogDisk>(rt: &R, disk: D,
 // What stands behind the one cell of a log: no commit byte, and more than a cell.
 const TAIL: &[u8] = &[77; 41];
 
-const TWO_CELLS: Found = ([2, 0, 0], (1, true), (0, None));
+const TWO_CELLS: Found = ([2, 2, 0, 0], (1, true), (0, None));
 
 // A log of one cell and a tail goes on with a second cell.
 fn goes_on(rt: &impl Abort, alloc: Global) {

@@ -5,51 +5,54 @@ use crate::hostile::records::{BEGIN, INSTALL, MOVE, PUT, Record, front};
 use crate::hostile::runs::{found_in, images_of, is_log_of, is_refused, must, playing};
 use crate::memory::{EMPTY_LOG, Left, run_plan};
 use disk_mem::{DiskCall, Fail as Failing};
+use plain_list::Member;
 use std::alloc::Global;
 use std::process::Abort;
 use std::sync::Wait;
 use std::thread::Threads;
-use zorder::{Placed, Point};
+use zorder::Point;
 
-// Five puts, the last of which is one more than a leaf of four holds, and a move.
+// Five puts, the last of which is one more than a leaf of four holds, a move, and one that is late.
 const INPUT: &str =
-    "session,op,id,x,y,a,b\n1,put,1,0,0,,\n1,put,2,2147483648,0,,\n1,put,3,0,2147483648,,\n\
-    1,put,4,2147483648,2147483648,,\n1,put,5,1,1,,\n1,move,1,0,1,,\n";
+    "session,op,id,x,y,a,b,moment\n1,put,1,0,0,,,11\n1,put,2,2147483648,0,,,12\n1,put,3,0,2147483648,,,13\n\
+    1,put,4,2147483648,2147483648,,,14\n1,put,5,1,1,,,15\n1,move,1,0,1,,,16\n1,move,1,7,7,,,15\n";
 
 // Their lines over a log of no records.
-const FRESH: &[&str; 6] = &[
+const FRESH: &[&str; 7] = &[
     "1,1,done,\n",
     "2,2,done,\n",
     "3,3,done,\n",
     "4,4,done,\n",
     "5,5,done,\n",
-    "6,6,moved,0:0\n",
+    "6,6,moved,0:0:11\n",
+    "7,7,stale,0:1:16\n",
 ];
 
-// Their lines over a log that has the puts.
+// Those of the first six over a log that has the puts.
 const AGAIN: &[&str; 6] = &[
-    "1,1,present,0:0\n",
-    "2,2,present,2147483648:0\n",
-    "3,3,present,0:2147483648\n",
-    "4,4,present,2147483648:2147483648\n",
-    "5,5,present,1:1\n",
-    "6,6,moved,0:0\n",
+    "1,1,present,0:0:11\n",
+    "2,2,present,2147483648:0:12\n",
+    "3,3,present,0:2147483648:13\n",
+    "4,4,present,2147483648:2147483648:14\n",
+    "5,5,present,1:1:15\n",
+    "6,6,moved,0:0:11\n",
 ];
 
-// Their lines over a log that has the move too.
+// The same over a log that has the move too.
 const AGAIN_MOVED: &[&str; 6] = &[
-    "1,1,present,0:1\n",
-    "2,2,present,2147483648:0\n",
-    "3,3,present,0:2147483648\n",
-    "4,4,present,2147483648:2147483648\n",
-    "5,5,present,1:1\n",
-    "6,6,moved,0:1\n",
+    "1,1,present,0:1:16\n",
+    "2,2,present,2147483648:0:12\n",
+    "3,3,present,0:2147483648:13\n",
+    "4,4,present,2147483648:2147483648:14\n",
+    "5,5,present,1:1:15\n",
+    "6,6,moved,0:1:16\n",
 ];
 
 const PUT_1: Record = Record {
     kind: PUT,
     number: 1,
     place: 0,
+    moment: 11,
     len: 0,
 };
 
@@ -57,6 +60,7 @@ const BEGIN_1: Record = Record {
     kind: BEGIN,
     number: 1,
     place: 0,
+    moment: 0,
     len: 0,
 };
 
@@ -79,34 +83,39 @@ const MOVE_1: Record = Record {
     kind: MOVE,
     number: 1,
     place: 1,
+    moment: 16,
     len: 0,
 };
 
 const PUT_2: Record = Record {
     number: 2,
     place: 0x8000_0000_0000_0000,
+    moment: 12,
     ..PUT_1
 };
 
 const PUT_3: Record = Record {
     number: 3,
     place: 0x8000_0000,
+    moment: 13,
     ..PUT_1
 };
 
 const PUT_4: Record = Record {
     number: 4,
     place: 0x8000_0000_8000_0000,
+    moment: 14,
     ..PUT_1
 };
 
 const PUT_5: Record = Record {
     number: 5,
     place: 0x1_0000_0001,
+    moment: 15,
     ..PUT_1
 };
 
-// The records that these rows leave: the split of the one leaf stands before the move.
+// The records that these rows leave: the split of the one leaf stands before the move, and the late one has none.
 const WHOLE: &[Record] = &[
     PUT_1, PUT_2, PUT_3, PUT_4, PUT_5, BEGIN_1, INSTALL_1, MOVE_1,
 ];
@@ -151,51 +160,35 @@ fn is_output(text: &[u8], first: usize) -> bool {
 
 const HALF: u32 = 1 << 31;
 
-const OBJECT_2: Placed = Placed {
-    id: 2,
-    at: Point { x: HALF, y: 0 },
-};
-
-const OBJECT_3: Placed = Placed {
-    id: 3,
-    at: Point { x: 0, y: HALF },
-};
-
-const OBJECT_4: Placed = Placed {
-    id: 4,
-    at: Point { x: HALF, y: HALF },
-};
-
-const OBJECT_5: Placed = Placed {
-    id: 5,
-    at: Point { x: 1, y: 1 },
-};
+macro_rules! object {
+    ($id:expr, $x:expr, $y:expr, $moment:expr) => {
+        Member {
+            id: $id,
+            at: Point { x: $x, y: $y },
+            moment: $moment,
+        }
+    };
+}
 
 // The objects in the order of their ids, before the move.
-const OBJECTS: &[Placed; 5] = &[
-    Placed {
-        id: 1,
-        at: Point { x: 0, y: 0 },
-    },
-    OBJECT_2,
-    OBJECT_3,
-    OBJECT_4,
-    OBJECT_5,
+const OBJECTS: &[Member; 5] = &[
+    object!(1, 0, 0, 11),
+    object!(2, HALF, 0, 12),
+    object!(3, 0, HALF, 13),
+    object!(4, HALF, HALF, 14),
+    object!(5, 1, 1, 15),
 ];
 
-const MOVED_OBJECTS: &[Placed; 5] = &[
-    Placed {
-        id: 1,
-        at: Point { x: 0, y: 1 },
-    },
-    OBJECT_2,
-    OBJECT_3,
-    OBJECT_4,
-    OBJECT_5,
+const MOVED_OBJECTS: &[Member; 5] = &[
+    object!(1, 0, 1, 16),
+    object!(2, HALF, 0, 12),
+    object!(3, 0, HALF, 13),
+    object!(4, HALF, HALF, 14),
+    object!(5, 1, 1, 15),
 ];
 
 // Whether these are the objects of the first so many records.
-fn are_objects(objects: &[Placed], count: usize) -> bool {
+fn are_objects(objects: &[Member], count: usize) -> bool {
     let all = if count == 8 { MOVED_OBJECTS } else { OBJECTS };
     let (wanted, _) = all.split_at(count.min(5));
     objects == wanted

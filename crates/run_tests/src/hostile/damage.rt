@@ -1,4 +1,4 @@
-//! Damaged logs: what is found in them, and what each command makes of them.
+//! Damaged logs of both versions: what is found in them, and what each command makes of them.
 use crate::checks::{Case, EMPTY, is_untouched, run_case};
 use crate::hostile::records::{ABANDON, BEGIN, DROP, INSTALL, MOVE, PUT, Record, log_of};
 use crate::hostile::runs::{found_in, images_of, must};
@@ -10,7 +10,7 @@ use std::process::Abort;
 use std::sync::Wait;
 use std::thread::Threads;
 
-// What is to be found in a file.
+// What is to be found in a file of version 2. One of version 1 isn't played over (`played`).
 #[derive(Clone, Copy)]
 struct Want {
     // How many cells, points, leaves, unfinished splits, and splits that were begun.
@@ -28,14 +28,26 @@ const PUT_7: Record = Record {
     kind: PUT,
     number: 7,
     place: 0x3_0000_0005,
+    moment: 0,
     len: 0,
 };
 
-const PUT_WITH_LEN: Record = Record { len: 1, ..PUT_7 };
+// Byte 25 set, and byte 18.
+const PUT_OF_1: Record = Record { moment: 1, ..PUT_7 };
+
+const PUT_OF_BYTE_18: Record = Record {
+    moment: 0x100_0000_0000_0000,
+    ..PUT_7
+};
 
 const MOVE_7: Record = Record {
     kind: MOVE,
     ..PUT_7
+};
+
+const MOVE_OF_1: Record = Record {
+    kind: MOVE,
+    ..PUT_OF_1
 };
 
 const DROP_7: Record = Record {
@@ -60,6 +72,7 @@ const BEGIN_1: Record = Record {
     kind: BEGIN,
     number: 1,
     place: 0,
+    moment: 0,
     len: 0,
 };
 
@@ -102,7 +115,7 @@ const NOT_LOG: Want = Want {
     texts: ["refused not a log\n"; 3],
 };
 
-const VERSION_0: Want = Want {
+const OF_VERSION_0: Want = Want {
     found: Err(OpenFault::OldLog {
         version: 0,
         width: 1,
@@ -111,7 +124,25 @@ const VERSION_0: Want = Want {
     ..NOT_LOG
 };
 
-const WIDTH_2: Want = Want {
+const OF_VERSION_3: Want = Want {
+    found: Err(OpenFault::OldLog {
+        version: 3,
+        width: 1,
+    }),
+    texts: ["refused log version 3 width 1\n"; 3],
+    ..NOT_LOG
+};
+
+const OF_WIDTH_2: Want = Want {
+    found: Err(OpenFault::OldLog {
+        version: 2,
+        width: 2,
+    }),
+    texts: ["refused log version 2 width 2\n"; 3],
+    ..NOT_LOG
+};
+
+const OF_1_AND_WIDTH_2: Want = Want {
     found: Err(OpenFault::OldLog {
         version: 1,
         width: 2,
@@ -188,7 +219,7 @@ const NOTHING: Want = Want {
     status: 0,
     texts: [
         "cells 0\npoints 0\nleaves 1\nunfinished 0\n",
-        "id,x,y\n",
+        "id,x,y,moment\n",
         lines!("1,1,absent,\n"),
     ],
 };
@@ -198,9 +229,46 @@ const ONE_PUT: Want = Want {
     status: 0,
     texts: [
         "cells 1\npoints 1\nleaves 1\nunfinished 0\n",
-        "id,x,y\n7,3,5\n",
-        lines!("1,1,at,3:5\n"),
+        "id,x,y,moment\n7,3,5,0\n",
+        lines!("1,1,at,3:5:0\n"),
     ],
+};
+
+const PUT_AND_MOVE: Want = Want {
+    found: Ok([2, 1, 1, 0, 0]),
+    texts: [
+        "cells 2\npoints 1\nleaves 1\nunfinished 0\n",
+        "id,x,y,moment\n7,3,5,0\n",
+        lines!("1,1,at,3:5:0\n"),
+    ],
+    ..ONE_PUT
+};
+
+const PUT_AND_MOVE_OF_1: Want = Want {
+    texts: [
+        "cells 2\npoints 1\nleaves 1\nunfinished 0\n",
+        "id,x,y,moment\n7,3,5,1\n",
+        lines!("1,1,at,3:5:1\n"),
+    ],
+    ..PUT_AND_MOVE
+};
+
+const ONE_PUT_OF_1: Want = Want {
+    texts: [
+        "cells 1\npoints 1\nleaves 1\nunfinished 0\n",
+        "id,x,y,moment\n7,3,5,1\n",
+        lines!("1,1,at,3:5:1\n"),
+    ],
+    ..ONE_PUT
+};
+
+const ONE_PUT_OF_BYTE_18: Want = Want {
+    texts: [
+        "cells 1\npoints 1\nleaves 1\nunfinished 0\n",
+        "id,x,y,moment\n7,3,5,72057594037927936\n",
+        lines!("1,1,at,3:5:72057594037927936\n"),
+    ],
+    ..ONE_PUT
 };
 
 const SECOND_BEGIN_INSTALLED: Want = Want {
@@ -208,7 +276,7 @@ const SECOND_BEGIN_INSTALLED: Want = Want {
     status: 0,
     texts: [
         "cells 3\npoints 0\nleaves 2\nunfinished 0\n",
-        "id,x,y\n",
+        "id,x,y,moment\n",
         lines!("1,1,absent,\n"),
     ],
 };
@@ -218,12 +286,13 @@ const SECOND_BEGIN_OPEN: Want = Want {
     status: 0,
     texts: [
         "cells 3\npoints 0\nleaves 1\nunfinished 1\n",
-        "id,x,y\n",
+        "id,x,y,moment\n",
         lines!("1,1,absent,\n"),
     ],
 };
 
-// The files in which each is to be found. Bytes 0 to 15 are the header, and record n stands at byte 16 + 32 n.
+// The files in which each is to be found in both versions. Bytes 0 to 15 are the header, whose byte 8 is the version, and record n stands at
+// byte 16 + 32 n.
 const FILES: &[(Want, &[Damage])] = &[
     (
         NOT_LOG,
@@ -235,8 +304,8 @@ const FILES: &[(Want, &[Damage])] = &[
             Damage(&[], Some((15, 1)), 0),
         ],
     ),
-    (VERSION_0, &[Damage(&[], Some((8, 0)), 0)]),
-    (WIDTH_2, &[Damage(&[], Some((9, 2)), 0)]),
+    (OF_VERSION_0, &[Damage(&[], Some((8, 0)), 0)]),
+    (OF_VERSION_3, &[Damage(&[], Some((8, 3)), 0)]),
     // Commit bytes.
     (
         NOTHING,
@@ -273,7 +342,7 @@ const FILES: &[(Want, &[Damage])] = &[
     (
         RESERVED,
         &[
-            Damage(&[PUT_WITH_LEN], None, 0),
+            Damage(&[PUT_7], Some((42, 1)), 0),
             Damage(&[PUT_7], Some((47, 1)), 0),
             Damage(&[DROP_AT_A_PLACE], None, 0),
             Damage(&[BEGIN_OF_65_BITS], Some((35, 1)), 0),
@@ -300,6 +369,7 @@ const FILES: &[(Want, &[Damage])] = &[
         ],
     ),
     (IMPOSSIBLE_1, &[Damage(&[PUT_7, PUT_7], None, 0)]),
+    (PUT_AND_MOVE, &[Damage(&[PUT_7, MOVE_7], None, 0)]),
     (
         IMPOSSIBLE_2,
         &[
@@ -318,28 +388,60 @@ const FILES: &[(Want, &[Damage])] = &[
     ),
 ];
 
-fn file_of(alloc: Global, damage: &Damage) -> Result<Vec<u8>, AllocError> {
+// The files in which each is to be found in one version alone: the moments of version 2 are reserved bytes in version 1.
+const FILES_OF_1: &[(Want, &[Damage])] = &[
+    (OF_1_AND_WIDTH_2, &[Damage(&[], Some((9, 2)), 0)]),
+    (
+        RESERVED,
+        &[
+            Damage(&[PUT_OF_1], None, 0),
+            Damage(&[PUT_OF_BYTE_18], None, 0),
+            Damage(&[MOVE_OF_1], None, 0),
+        ],
+    ),
+];
+
+const FILES_OF_2: &[(Want, &[Damage])] = &[
+    (OF_WIDTH_2, &[Damage(&[], Some((9, 2)), 0)]),
+    (ONE_PUT_OF_1, &[Damage(&[PUT_OF_1], None, 0)]),
+    (ONE_PUT_OF_BYTE_18, &[Damage(&[PUT_OF_BYTE_18], None, 0)]),
+    (
+        PUT_AND_MOVE_OF_1,
+        &[
+            Damage(&[PUT_7, MOVE_OF_1], None, 0),
+            Damage(&[PUT_OF_1, MOVE_OF_1], None, 0),
+        ],
+    ),
+    (IMPOSSIBLE_1, &[Damage(&[PUT_OF_1, MOVE_7], None, 0)]),
+];
+
+fn file_of(alloc: Global, version: u8, damage: &Damage) -> Result<Vec<u8>, AllocError> {
     let Damage(records, edit, cut) = *damage;
     let mut file = log_of(alloc, records, &[0])?;
+    set(&mut file, 8, version);
     if let Some((at, byte)) = edit {
-        if let Some(slot) = file.get_mut(at) {
-            *slot = byte;
-        }
+        set(&mut file, at, byte);
     }
     file.truncate(file.len().saturating_sub(cut));
     Ok(file)
 }
 
-fn is_found<R: Abort>(rt: &R, alloc: Global, file: &[u8], want: &Want) -> bool {
+fn set(file: &mut Vec<u8>, at: usize, byte: u8) {
+    if let Some(slot) = file.get_mut(at) {
+        *slot = byte;
+    }
+}
+
+fn is_found<R: Abort>(rt: &R, alloc: Global, file: &[u8], version: u8, want: &Want) -> bool {
     match found_in(rt, alloc, file) {
-        Ok(found) => want.found == Ok(found.counts),
+        Ok(found) => want.found == Ok(found.counts) && found.version == version,
         Err(fault) => want.found == Err(fault),
     }
 }
 
 // A run where `play` asks for object 7.
 const ASKING: &Case<'static> = &Case {
-    input: rows!("1,where,7,,,,\n"),
+    input: rows!("1,where,7,,,,,\n"),
     ..EMPTY
 };
 
@@ -382,11 +484,30 @@ fn judge_kept<R: Abort>(rt: &R, alloc: Global, left: &Left, file: &[u8]) {
     must(rt, is_kept, "play of a file of length", file.len() as u64);
 }
 
-fn judge_play<R: Abort + Threads + Wait + Sync>(rt: &R, alloc: Global, file: &[u8], want: &Want) {
-    let [_, _, played] = want.texts;
+// The status and the text of a play: one over version 1 is refused, unless the header is at fault.
+fn played(version: u8, want: &Want) -> (u8, &'static str) {
+    let is_header = matches!(
+        want.found,
+        Err(OpenFault::NotLog) | Err(OpenFault::OldLog { .. })
+    );
+    if version == 1 && !is_header {
+        return (4, "refused log version 1 width 1\n");
+    }
+    let [_, _, text] = want.texts;
+    (want.status, text)
+}
+
+fn judge_play<R: Abort + Threads + Wait + Sync>(
+    rt: &R,
+    alloc: Global,
+    file: &[u8],
+    version: u8,
+    want: &Want,
+) {
+    let (status, text) = played(version, want);
     let left = run_case(rt, alloc, &asking(file, want));
-    must(rt, left.tells(want.status, played), played, 0);
-    if want.status != 0 {
+    must(rt, left.tells(status, text), text, version as u64);
+    if status != 0 {
         judge_kept(rt, alloc, &left, file);
     }
 }
@@ -394,28 +515,36 @@ fn judge_play<R: Abort + Threads + Wait + Sync>(rt: &R, alloc: Global, file: &[u
 fn judge<R: Abort + Threads + Wait + Sync>(
     rt: &R,
     alloc: Global,
-    number: usize,
+    version: u8,
     damage: &Damage,
     want: &Want,
 ) {
-    let file = file_of(alloc, damage).expect(rt, "it failed");
+    let file = file_of(alloc, version, damage).expect(rt, "it failed");
     let file = file.as_slice();
     let [checked, _, _] = want.texts;
-    let is_found = is_found(rt, alloc, file, want);
-    must(rt, is_found, checked, number as u64);
+    let is_found = is_found(rt, alloc, file, version, want);
+    must(rt, is_found, checked, version as u64);
     judge_reads(rt, alloc, file, want);
-    judge_play(rt, alloc, file, want);
+    judge_play(rt, alloc, file, version, want);
 }
 
-fn each_file<R: Abort + Threads + Wait + Sync>(rt: &R, alloc: Global) {
-    for (want, files) in FILES {
-        for (number, damage) in files.iter().enumerate() {
-            judge(rt, alloc, number, damage, want);
+fn each_file<R: Abort + Threads + Wait + Sync>(
+    rt: &R,
+    alloc: Global,
+    version: u8,
+    all: &[(Want, &[Damage])],
+) {
+    for (want, files) in all {
+        for damage in files.iter() {
+            judge(rt, alloc, version, damage, want);
         }
     }
 }
 
 #[test]
 fn each_damaged_log_has_its_line_under_each_command(rt: HostRuntime) {
-    each_file(&rt, rt.alloc());
+    each_file(&rt, rt.alloc(), 1, FILES);
+    each_file(&rt, rt.alloc(), 1, FILES_OF_1);
+    each_file(&rt, rt.alloc(), 2, FILES);
+    each_file(&rt, rt.alloc(), 2, FILES_OF_2);
 }

@@ -8,12 +8,12 @@ use std::process::Abort;
 use std::sync::Wait;
 use std::thread::Threads;
 
-const ROWS: u32 = 9_000;
+const ROWS: u32 = 8_500;
 
 // A put and many rows that ask where it is: more than a piece of 64 KiB, as input and as output.
 fn long_input(alloc: Global) -> Result<String, AllocError> {
-    let put = "session,op,id,x,y,a,b\n1,put,7,3,5,,\n";
-    repeated(alloc, put, ROWS.saturating_sub(1), "1,where,7,,,,\n")
+    let put = "session,op,id,x,y,a,b,moment\n1,put,7,3,5,,,0\n";
+    repeated(alloc, put, ROWS.saturating_sub(1), "1,where,7,,,,,\n")
 }
 
 fn long_output(alloc: Global) -> Result<String, AllocError> {
@@ -25,12 +25,12 @@ fn long_output(alloc: Global) -> Result<String, AllocError> {
 }
 
 fn add_line(alloc: Global, text: &mut String, row: u32) -> Result<(), AllocError> {
-    let line = format!(in alloc; "{row},{row},at,3:5\n")?;
+    let line = format!(in alloc; "{row},{row},at,3:5:0\n")?;
     text.push_str(&line)
 }
 
 const LONG_RUN: &Case<'static> = &Case {
-    name: "a run of 9,000 rows",
+    name: "a run of 8,500 rows",
     held: PUT_LOG,
     entries: ROWS as usize,
     ..EMPTY
@@ -121,12 +121,12 @@ const NO_INPUT: Case<'static> = Case {
 };
 
 const ONE_ROW: Case<'static> = Case {
-    input: rows!("1,put,7,3,5,,\n"),
+    input: rows!("1,put,7,3,5,,,0\n"),
     ..EMPTY
 };
 
 // A log of no records, with the bytes of put 7 at (3,5) behind its clear commit byte, and a clear one behind that.
-const UNSET_PUT_LOG: &[u8] = b"MDLOCLOG\x01\x01\0\0\0\0\0\0\
+const UNSET_PUT_LOG: &[u8] = b"MDLOCLOG\x02\x01\0\0\0\0\0\0\
     \0\x01\0\0\0\0\0\0\0\x07\0\0\0\x03\0\0\0\x05\0\0\0\0\0\0\0\0\0\0\0\0\0\0\
     \0";
 
@@ -141,14 +141,14 @@ const REFUSED: &[Case<'static>] = &[
         ..ONE_ROW
     },
     Case {
-        name: "a row of six fields",
-        input: rows!("1,put,7,3,5,\n"),
+        name: "a row of seven fields",
+        input: rows!("1,put,7,3,5,,\n"),
         text: "refused row 1 length\n",
         ..NO_INPUT
     },
     Case {
         name: "a sign in column 4",
-        input: rows!("1,put,7,-3,5,,\n"),
+        input: rows!("1,put,7,-3,5,,,0\n"),
         text: "refused row 1 column 4\n",
         ..NO_INPUT
     },

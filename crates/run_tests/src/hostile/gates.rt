@@ -80,7 +80,7 @@ fn meet<R: Abort + Threads + Wait + Sync>(
     left
 }
 
-const QUERY: &str = rows!("1,box,,0,0,10,10\n2,where,9,,,,\n2,put,9,3,5,,\n");
+const QUERY: &str = rows!("1,box,,0,0,10,10,\n2,where,9,,,,,\n2,put,9,3,5,,,0\n");
 
 const BOX_FIRST: &str = lines!("1,1,found,\n2,2,absent,\n3,3,done,\n");
 
@@ -98,14 +98,15 @@ fn query_beside_put<R: Abort + Threads + Wait + Sync>(rt: &R, alloc: Global) {
 }
 
 const SPLIT: &str =
-    "session,op,id,x,y,a,b\n1,put,1,0,0,,\n1,put,2,2147483648,0,,\n1,put,3,0,2147483648,,\n\
-    1,put,4,2147483648,2147483648,,\n1,put,5,1,1,,\n2,where,9,,,,\n2,put,9,2147483648,0,,\n";
+    "session,op,id,x,y,a,b,moment\n1,put,1,0,0,,,0\n1,put,2,2147483648,0,,,0\n1,put,3,0,2147483648,,,0\n\
+    1,put,4,2147483648,2147483648,,,0\n1,put,5,1,1,,,0\n2,where,9,,,,,\n2,put,9,2147483648,0,,,0\n";
 
 // A put of id 1 at (0,0).
 const PUT_1: Record = Record {
     kind: PUT,
     number: 1,
     place: 0,
+    moment: 0,
     len: 0,
 };
 
@@ -187,7 +188,7 @@ impl Gate for Greeting {
 
 const TWO_PUTS: &Plan<'static> = &Plan {
     words: &["play", "-"],
-    input: rows!("1,put,1,0,0,,\n2,put,2,1,1,,\n"),
+    input: rows!("1,put,1,0,0,,,0\n2,put,2,1,1,,,0\n"),
     file: Some(&[]),
     reads: &[],
     puts: &[],

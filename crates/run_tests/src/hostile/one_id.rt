@@ -4,7 +4,7 @@ use crate::hostile::records::{DROP, MOVE, PUT, Record};
 use crate::hostile::runs::{is_log_of, is_refused, must, playing};
 use crate::memory::{EMPTY_LOG, Left, run_plan};
 use disk_mem::{DiskCall, Fail as Failing};
-use plain_list::{Entry, Lost, Op};
+use plain_list::{Answer, Call, Entry, Lost, Op, Stamped, World, is_legal};
 use std::alloc::{AllocError, Global};
 use std::process::Abort;
 use std::sync::Wait;
@@ -12,78 +12,171 @@ use std::thread::Threads;
 use zorder::Point;
 
 // Each session puts the id at a point of its own.
-const PUTS: &str = "session,op,id,x,y,a,b\n\
-    1,put,1,1,0,,\n2,put,1,2,0,,\n3,put,1,3,0,,\n4,put,1,4,0,,\n\
-    5,put,1,5,0,,\n6,put,1,6,0,,\n7,put,1,7,0,,\n8,put,1,8,0,,\n\
-    9,put,1,9,0,,\n10,put,1,10,0,,\n11,put,1,11,0,,\n12,put,1,12,0,,\n\
-    13,put,1,13,0,,\n14,put,1,14,0,,\n15,put,1,15,0,,\n16,put,1,16,0,,\n";
+const PUTS: &str = "session,op,id,x,y,a,b,moment\n\
+    1,put,1,1,0,,,0\n2,put,1,2,0,,,0\n3,put,1,3,0,,,0\n4,put,1,4,0,,,0\n\
+    5,put,1,5,0,,,0\n6,put,1,6,0,,,0\n7,put,1,7,0,,,0\n8,put,1,8,0,,,0\n\
+    9,put,1,9,0,,,0\n10,put,1,10,0,,,0\n11,put,1,11,0,,,0\n12,put,1,12,0,,,0\n\
+    13,put,1,13,0,,,0\n14,put,1,14,0,,,0\n15,put,1,15,0,,,0\n16,put,1,16,0,,,0\n";
 
 // Each session puts, moves, drops and asks for it.
-const CHANGES: &str = "session,op,id,x,y,a,b\n\
-    1,put,1,1,0,,\n1,move,1,1,1,,\n1,drop,1,,,,\n1,where,1,,,,\n\
-    2,put,1,2,0,,\n2,move,1,2,1,,\n2,drop,1,,,,\n2,where,1,,,,\n\
-    3,put,1,3,0,,\n3,move,1,3,1,,\n3,drop,1,,,,\n3,where,1,,,,\n\
-    4,put,1,4,0,,\n4,move,1,4,1,,\n4,drop,1,,,,\n4,where,1,,,,\n\
-    5,put,1,5,0,,\n5,move,1,5,1,,\n5,drop,1,,,,\n5,where,1,,,,\n\
-    6,put,1,6,0,,\n6,move,1,6,1,,\n6,drop,1,,,,\n6,where,1,,,,\n\
-    7,put,1,7,0,,\n7,move,1,7,1,,\n7,drop,1,,,,\n7,where,1,,,,\n\
-    8,put,1,8,0,,\n8,move,1,8,1,,\n8,drop,1,,,,\n8,where,1,,,,\n\
-    9,put,1,9,0,,\n9,move,1,9,1,,\n9,drop,1,,,,\n9,where,1,,,,\n\
-    10,put,1,10,0,,\n10,move,1,10,1,,\n10,drop,1,,,,\n10,where,1,,,,\n\
-    11,put,1,11,0,,\n11,move,1,11,1,,\n11,drop,1,,,,\n11,where,1,,,,\n\
-    12,put,1,12,0,,\n12,move,1,12,1,,\n12,drop,1,,,,\n12,where,1,,,,\n\
-    13,put,1,13,0,,\n13,move,1,13,1,,\n13,drop,1,,,,\n13,where,1,,,,\n\
-    14,put,1,14,0,,\n14,move,1,14,1,,\n14,drop,1,,,,\n14,where,1,,,,\n\
-    15,put,1,15,0,,\n15,move,1,15,1,,\n15,drop,1,,,,\n15,where,1,,,,\n\
-    16,put,1,16,0,,\n16,move,1,16,1,,\n16,drop,1,,,,\n16,where,1,,,,\n";
+const CHANGES: &str = "session,op,id,x,y,a,b,moment\n\
+    1,put,1,1,0,,,0\n1,move,1,1,1,,,0\n1,drop,1,,,,,\n1,where,1,,,,,\n\
+    2,put,1,2,0,,,0\n2,move,1,2,1,,,0\n2,drop,1,,,,,\n2,where,1,,,,,\n\
+    3,put,1,3,0,,,0\n3,move,1,3,1,,,0\n3,drop,1,,,,,\n3,where,1,,,,,\n\
+    4,put,1,4,0,,,0\n4,move,1,4,1,,,0\n4,drop,1,,,,,\n4,where,1,,,,,\n\
+    5,put,1,5,0,,,0\n5,move,1,5,1,,,0\n5,drop,1,,,,,\n5,where,1,,,,,\n\
+    6,put,1,6,0,,,0\n6,move,1,6,1,,,0\n6,drop,1,,,,,\n6,where,1,,,,,\n\
+    7,put,1,7,0,,,0\n7,move,1,7,1,,,0\n7,drop,1,,,,,\n7,where,1,,,,,\n\
+    8,put,1,8,0,,,0\n8,move,1,8,1,,,0\n8,drop,1,,,,,\n8,where,1,,,,,\n\
+    9,put,1,9,0,,,0\n9,move,1,9,1,,,0\n9,drop,1,,,,,\n9,where,1,,,,,\n\
+    10,put,1,10,0,,,0\n10,move,1,10,1,,,0\n10,drop,1,,,,,\n10,where,1,,,,,\n\
+    11,put,1,11,0,,,0\n11,move,1,11,1,,,0\n11,drop,1,,,,,\n11,where,1,,,,,\n\
+    12,put,1,12,0,,,0\n12,move,1,12,1,,,0\n12,drop,1,,,,,\n12,where,1,,,,,\n\
+    13,put,1,13,0,,,0\n13,move,1,13,1,,,0\n13,drop,1,,,,,\n13,where,1,,,,,\n\
+    14,put,1,14,0,,,0\n14,move,1,14,1,,,0\n14,drop,1,,,,,\n14,where,1,,,,,\n\
+    15,put,1,15,0,,,0\n15,move,1,15,1,,,0\n15,drop,1,,,,,\n15,where,1,,,,,\n\
+    16,put,1,16,0,,,0\n16,move,1,16,1,,,0\n16,drop,1,,,,,\n16,where,1,,,,,\n";
+
+// Each session puts it, moves it twice and asks for it. Of two sessions at once the moments of one rise and those of the other fall.
+const MOVES: &str = "session,op,id,x,y,a,b,moment\n\
+    1,put,1,1,0,,,8\n1,move,1,1,1,,,1\n1,move,1,1,2,,,16\n1,where,1,,,,,\n\
+    2,put,1,2,0,,,8\n2,move,1,2,1,,,2\n2,move,1,2,2,,,15\n2,where,1,,,,,\n\
+    3,put,1,3,0,,,8\n3,move,1,3,1,,,3\n3,move,1,3,2,,,14\n3,where,1,,,,,\n\
+    4,put,1,4,0,,,8\n4,move,1,4,1,,,4\n4,move,1,4,2,,,13\n4,where,1,,,,,\n\
+    5,put,1,5,0,,,8\n5,move,1,5,1,,,5\n5,move,1,5,2,,,12\n5,where,1,,,,,\n\
+    6,put,1,6,0,,,8\n6,move,1,6,1,,,6\n6,move,1,6,2,,,11\n6,where,1,,,,,\n\
+    7,put,1,7,0,,,8\n7,move,1,7,1,,,7\n7,move,1,7,2,,,10\n7,where,1,,,,,\n\
+    8,put,1,8,0,,,8\n8,move,1,8,1,,,8\n8,move,1,8,2,,,9\n8,where,1,,,,,\n\
+    9,put,1,9,0,,,8\n9,move,1,9,1,,,9\n9,move,1,9,2,,,8\n9,where,1,,,,,\n\
+    10,put,1,10,0,,,8\n10,move,1,10,1,,,10\n10,move,1,10,2,,,7\n10,where,1,,,,,\n\
+    11,put,1,11,0,,,8\n11,move,1,11,1,,,11\n11,move,1,11,2,,,6\n11,where,1,,,,,\n\
+    12,put,1,12,0,,,8\n12,move,1,12,1,,,12\n12,move,1,12,2,,,5\n12,where,1,,,,,\n\
+    13,put,1,13,0,,,8\n13,move,1,13,1,,,13\n13,move,1,13,2,,,4\n13,where,1,,,,,\n\
+    14,put,1,14,0,,,8\n14,move,1,14,1,,,14\n14,move,1,14,2,,,3\n14,where,1,,,,,\n\
+    15,put,1,15,0,,,8\n15,move,1,15,1,,,15\n15,move,1,15,2,,,2\n15,where,1,,,,,\n\
+    16,put,1,16,0,,,8\n16,move,1,16,1,,,16\n16,move,1,16,2,,,1\n16,where,1,,,,,\n";
+
+// Which rows each session has.
+#[derive(Clone, Copy)]
+enum Script {
+    // Those of `CHANGES`, or the first of them.
+    Changes,
+    // Those of `MOVES`.
+    Moves,
+}
+
+fn put_at(x: u32, moment: u64) -> Op {
+    let at = Point { x, y: 0 };
+    Op::Put { id: 1, at, moment }
+}
+
+fn move_at(x: u32, y: u32, moment: u64) -> Op {
+    let at = Point { x, y };
+    Op::Move { id: 1, at, moment }
+}
 
 // The row of a session with this number, from 0.
-fn op_of(session: u8, number: u32) -> Op {
+fn op_of(script: Script, session: u8, number: u32) -> Op {
     let x = session as u32;
-    match number {
-        0 => Op::Put {
-            id: 1,
-            at: Point { x, y: 0 },
-        },
-        1 => Op::Move {
-            id: 1,
-            at: Point { x, y: 1 },
-        },
-        2 => Op::Remove { id: 1 },
+    let moment = session as u64;
+    match (script, number) {
+        (Script::Changes, 0) => put_at(x, 0),
+        (Script::Changes, 1) => move_at(x, 1, 0),
+        (Script::Changes, 2) => Op::Remove { id: 1 },
+        (Script::Moves, 0) => put_at(x, 8),
+        (Script::Moves, 1) => move_at(x, 1, moment),
+        (Script::Moves, 2) => move_at(x, 2, 17_u64.saturating_sub(moment)),
         _ => Op::Find { id: 1 },
     }
 }
 
-// What a row comes to: its answer, the point behind that, and the record of its change.
+// What a row is told.
 #[derive(Clone, Copy)]
-struct Reply(&'static str, Option<Point>, Option<Record>);
+enum Told {
+    Done,
+    Absent,
+    Present(Stamped),
+    Moved(Stamped),
+    Stale(Stamped),
+    Gone(Stamped),
+    At(Stamped),
+}
 
-fn reply_of(object: Option<Point>, op: &Op) -> Reply {
+// That, and the record of its change.
+#[derive(Clone, Copy)]
+struct Reply(Told, Option<Record>);
+
+fn reply_of(object: Option<Stamped>, op: &Op) -> Reply {
     match (*op, object) {
-        (Op::Put { id, at }, None) => Reply("done", None, Some(Record::at(PUT, id, at))),
-        (Op::Put { .. }, Some(_)) => Reply("present", object, None),
-        (_, None) => Reply("absent", None, None),
-        (Op::Move { id, at }, Some(_)) => Reply("moved", object, Some(Record::at(MOVE, id, at))),
-        (Op::Remove { id }, Some(_)) => Reply("gone", object, Some(Record::of(DROP, id))),
-        (_, Some(_)) => Reply("at", object, None),
+        (Op::Put { id, at, moment }, None) => {
+            Reply(
+                Told::Done,
+                Some(Record::at(PUT, id, Stamped { at, moment })),
+            )
+        }
+        (Op::Put { .. }, Some(kept)) => Reply(Told::Present(kept), None),
+        (_, None) => Reply(Told::Absent, None),
+        (Op::Move { id, at, moment }, Some(kept)) => moved(id, Stamped { at, moment }, kept),
+        (Op::Remove { id }, Some(kept)) => Reply(Told::Gone(kept), Some(Record::of(DROP, id))),
+        (_, Some(kept)) => Reply(Told::At(kept), None),
     }
 }
 
-fn line_of(alloc: Global, row: u32, place: u64, reply: &Reply) -> Result<String, AllocError> {
-    let Reply(word, point, _) = *reply;
-    match point {
-        Some(Point { x, y }) => format!(in alloc; "{row},{place},{word},{x}:{y}\n"),
+fn moved(id: u64, to: Stamped, kept: Stamped) -> Reply {
+    if to.moment < kept.moment {
+        Reply(Told::Stale(kept), None)
+    } else {
+        Reply(Told::Moved(kept), Some(Record::at(MOVE, id, to)))
+    }
+}
+
+// The word of an answer, and the position behind it.
+fn said(told: Told) -> (&'static str, Option<Stamped>) {
+    match told {
+        Told::Done => ("done", None),
+        Told::Absent => ("absent", None),
+        Told::Present(kept) => ("present", Some(kept)),
+        Told::Moved(kept) => ("moved", Some(kept)),
+        Told::Stale(kept) => ("stale", Some(kept)),
+        Told::Gone(kept) => ("gone", Some(kept)),
+        Told::At(kept) => ("at", Some(kept)),
+    }
+}
+
+fn answer_of(told: Told) -> Answer {
+    match told {
+        Told::Done => Answer::Done,
+        Told::Absent => Answer::Absent,
+        Told::Present(kept) => Answer::Present(kept),
+        Told::Moved(kept) => Answer::Moved(kept),
+        Told::Stale(kept) => Answer::Stale(kept),
+        Told::Gone(kept) => Answer::Gone(kept),
+        Told::At(kept) => Answer::At(kept),
+    }
+}
+
+fn line_of(alloc: Global, row: u32, place: u64, told: Told) -> Result<String, AllocError> {
+    let (word, kept) = said(told);
+    match kept {
+        Some(
+            Stamped {
+                at: Point { x, y },
+                moment,
+            },
+        ) => format!(in alloc; "{row},{place},{word},{x}:{y}:{moment}\n"),
         None => format!(in alloc; "{row},{place},{word},\n"),
     }
 }
 
-// A history told anew: where the object is, the records of its changes, the line of each row at its place in the input, and how many rows
-// of each session were called. Where an append failed, its record is the last one.
+// A history told anew: where the object is, the records of its changes, its calls with their answers, the line of each row at its place in
+// the input, and how many rows of each session were called. Where an append failed, its record is the last one.
 #[derive(Drop)]
 struct Tale {
+    script: Script,
     each: u32,
-    object: Option<Point>,
+    object: Option<Stamped>,
     records: Vec<Record>,
+    calls: Vec<Call>,
     lines: Vec<String>,
     called: Vec<u32>,
     place: u64,
@@ -98,11 +191,13 @@ fn no_lines(alloc: Global, rows: u32) -> Result<Vec<String>, AllocError> {
 }
 
 impl Tale {
-    fn new(alloc: Global, each: u32) -> Result<Tale, AllocError> {
+    fn new(alloc: Global, script: Script, each: u32) -> Result<Tale, AllocError> {
         Ok(Tale {
+            script,
             each,
             object: None,
             records: Vec::new(alloc),
+            calls: Vec::new(alloc),
             lines: no_lines(alloc, each.saturating_mul(16))?,
             called: vec![in alloc; 0; 16]?,
             place: 0,
@@ -118,7 +213,9 @@ impl Tale {
         let number = *slot;
         *slot = number.saturating_add(1);
         let place = before.saturating_mul(self.each).saturating_add(number);
-        number < self.each && row == place.saturating_add(1) && *op == op_of(session, number)
+        number < self.each
+            && row == place.saturating_add(1)
+            && *op == op_of(self.script, session, number)
     }
 
     fn set_line(&mut self, row: u32, line: String) {
@@ -133,31 +230,36 @@ impl Tale {
             self.object = if record.kind == DROP {
                 None
             } else {
-                Some(record.point())
+                Some(record.position())
             };
         }
         Ok(())
     }
 
-    fn call(&mut self, alloc: Global, row: u32, op: &Op) -> Result<(), AllocError> {
-        let reply = reply_of(self.object, op);
+    fn call(&mut self, alloc: Global, session: u8, row: u32, op: Op) -> Result<(), AllocError> {
+        let Reply(told, record) = reply_of(self.object, &op);
         self.place = self.place.saturating_add(1);
-        let line = line_of(alloc, row, self.place, &reply)?;
+        let line = line_of(alloc, row, self.place, told)?;
         self.set_line(row, line);
-        let Reply(_, _, record) = reply;
+        self.calls.push(Call {
+            session,
+            row,
+            op,
+            answer: answer_of(told),
+        })?;
         self.change(record)
     }
 
     fn add<R: Abort>(&mut self, rt: &R, alloc: Global, event: &Entry) {
         match *event {
             Entry::Call { session, row, op } if self.is_next(session, row, &op) => {
-                self.call(alloc, row, &op).expect(rt, "it failed");
+                self.call(alloc, session, row, op).expect(rt, "it failed");
             }
             Entry::Fail {
                 lost: Lost::Call { op, .. },
                 ..
             } => {
-                let Reply(_, _, record) = reply_of(self.object, &op);
+                let Reply(_, record) = reply_of(self.object, &op);
                 self.change(record).expect(rt, "it failed");
             }
             _ => rt.panic("neither a session's next row nor a failed one"),
@@ -174,8 +276,8 @@ impl Tale {
 }
 
 // Tells the history of a run of so many rows of each session.
-fn told<R: Abort>(rt: &R, alloc: Global, each: u32, events: &[Entry]) -> Tale {
-    let mut tale = Tale::new(alloc, each).expect(rt, "it failed");
+fn tale_of<R: Abort>(rt: &R, alloc: Global, script: Script, each: u32, events: &[Entry]) -> Tale {
+    let mut tale = Tale::new(alloc, script, each).expect(rt, "it failed");
     for event in events {
         tale.add(rt, alloc, event);
     }
@@ -202,21 +304,25 @@ fn judge<R: Abort>(rt: &R, alloc: Global, tale: &Tale, left: &Left, is_closed: b
     judge_images(rt, alloc, &trial, left);
 }
 
+// Whether each row was told what the tale says, and one plain list says the same.
 fn has_told<R: Abort>(rt: &R, alloc: Global, tale: &Tale, left: &Left) -> bool {
     let output = tale.output(alloc).expect(rt, "it failed");
-    tale.place == tale.lines.len() as u64 && left.tells(0, &output)
+    let is_told = tale.place == tale.lines.len() as u64 && left.tells(0, &output);
+    let world = World::empty(alloc);
+    is_told && is_legal(alloc, &world, tale.calls.as_slice()).expect(rt, "it failed")
 }
 
-// A run of so many rows of each session, where nothing fails. It gives how many records it left.
+// A run of so many rows of each session, where nothing fails. It gives its tale.
 fn race<R: Abort + Threads + Wait + Sync>(
     rt: &R,
     alloc: Global,
     input: &str,
+    script: Script,
     each: u32,
     round: u64,
-) -> usize {
+) -> Tale {
     let left = play(rt, alloc, input, &[]);
-    let tale = told(rt, alloc, each, left.history());
+    let tale = tale_of(rt, alloc, script, each, left.history());
     must(
         rt,
         has_told(rt, alloc, &tale, &left),
@@ -231,13 +337,13 @@ fn race<R: Abort + Threads + Wait + Sync>(
         round,
     );
     judge(rt, alloc, &tale, &left, false);
-    records.len()
+    tale
 }
 
 fn race_puts<R: Abort + Threads + Wait + Sync>(rt: &R, alloc: Global) {
     for round in 0..20 {
-        let count = race(rt, alloc, PUTS, 1, round);
-        must(rt, count == 1, "records of round", round);
+        let tale = race(rt, alloc, PUTS, Script::Changes, 1, round);
+        must(rt, tale.records.len() == 1, "records of round", round);
     }
 }
 
@@ -248,13 +354,36 @@ fn one_put_of_one_id_is_done_of_16_sessions(rt: HostRuntime) {
 
 fn race_changes<R: Abort + Threads + Wait + Sync>(rt: &R, alloc: Global) {
     for round in 0..20 {
-        race(rt, alloc, CHANGES, 4, round);
+        let _tale = race(rt, alloc, CHANGES, Script::Changes, 4, round);
     }
 }
 
 #[test]
 fn sixteen_sessions_on_one_id_have_one_history(rt: HostRuntime) {
     race_changes(&rt, rt.alloc());
+}
+
+fn race_moves<R: Abort + Threads + Wait + Sync>(rt: &R, alloc: Global) {
+    for round in 0..20 {
+        let tale = race(rt, alloc, MOVES, Script::Moves, 4, round);
+        must(rt, keeps_the_last(&tale), "moment of round", round);
+    }
+}
+
+// Whether the object has the greatest moment, and the 14 moves of moments below that of the puts were late, as they are in any order.
+fn keeps_the_last(tale: &Tale) -> bool {
+    let mut stale: u64 = 0;
+    for call in tale.calls.iter() {
+        if matches!(call.answer, Answer::Stale(_)) {
+            stale = stale.saturating_add(1);
+        }
+    }
+    stale >= 14 && matches!(tale.object, Some(Stamped { moment: 16, .. }))
+}
+
+#[test]
+fn sixteen_sessions_that_move_one_id_keep_the_greatest_moment(rt: HostRuntime) {
+    race_moves(&rt, rt.alloc());
 }
 
 // A run where a sync fails. Whichever session drops the id first has moved it before, behind a put: at least three appends, each with two
@@ -266,7 +395,7 @@ fn race_and_fail<R: Abort + Threads + Wait + Sync>(rt: &R, alloc: Global, input:
         number: (round % 6).saturating_add(2),
     };
     let left = play(rt, alloc, input, &[failing]);
-    let tale = told(rt, alloc, 4, left.history());
+    let tale = tale_of(rt, alloc, Script::Changes, 4, left.history());
     must(
         rt,
         is_refused(rt, alloc, &left, Some(cell)),

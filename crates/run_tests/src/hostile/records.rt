@@ -1,9 +1,10 @@
 //! The bytes of a log, spelled and read as docs/FORMATS has them, by code that shares nothing with the program's.
+use plain_list::Stamped;
 use std::alloc::{AllocError, Global};
 use zorder::Point;
 
 /// The header of a log whose splits make two children.
-pub const HEADER: &[u8] = b"MDLOCLOG\x01\x01\0\0\0\0\0\0";
+pub const HEADER: &[u8] = b"MDLOCLOG\x02\x01\0\0\0\0\0\0";
 
 pub const PUT: u8 = 1;
 
@@ -17,22 +18,25 @@ pub const INSTALL: u8 = 5;
 
 pub const ABANDON: u8 = 6;
 
-/// A record by its kind, its id or number, the eight bytes behind that (a point, or a name's bits), and the byte behind these.
+/// A record by its kind, its id or number, the eight bytes behind that (a point, or a name's bits), and what stands behind these: a
+/// moment, or the length of a name in one byte. One of the two is 0.
 #[derive(Clone, Copy)]
 pub struct Record {
     pub kind: u8,
     pub number: u64,
     pub place: u64,
+    pub moment: u64,
     pub len: u8,
 }
 
 impl Record {
     /// A put or a move.
-    pub fn at(kind: u8, id: u64, at: Point) -> Record {
+    pub fn at(kind: u8, id: u64, to: Stamped) -> Record {
         Record {
             kind,
             number: id,
-            place: (at.x as u64) << 32 | at.y as u64,
+            place: (to.at.x as u64) << 32 | to.at.y as u64,
+            moment: to.moment,
             len: 0,
         }
     }
@@ -43,6 +47,7 @@ impl Record {
             kind,
             number,
             place: 0,
+            moment: 0,
             len: 0,
         }
     }
@@ -53,16 +58,23 @@ impl Record {
         bytes[1] = self.kind;
         bytes[2..10].copy_from_slice(&self.number.to_be_bytes());
         bytes[10..18].copy_from_slice(&self.place.to_be_bytes());
-        bytes[18] = self.len;
+        bytes[18..26].copy_from_slice(&self.moment.to_be_bytes());
+        if self.len != 0 {
+            bytes[18] = self.len;
+        }
         bytes
     }
 
-    /// The point of a put or a move.
-    pub fn point(&self) -> Point {
+    /// The position of a put or a move.
+    pub fn position(&self) -> Stamped {
         let [a, b, c, d, e, f, g, h] = self.place.to_be_bytes();
-        Point {
+        let at = Point {
             x: u32::from_be_bytes([a, b, c, d]),
             y: u32::from_be_bytes([e, f, g, h]),
+        };
+        Stamped {
+            at,
+            moment: self.moment,
         }
     }
 }

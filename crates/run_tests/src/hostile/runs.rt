@@ -5,10 +5,10 @@ use crate::hostile::records::{Record, log_of};
 use crate::memory::{Left, Plan};
 use disk_mem::{Fail as Failing, MemDisk};
 use disk_trait::LogDisk;
+use plain_list::Member;
 use recovery::{OpenFault, Seen, inspect};
 use std::alloc::{AllocError, Global};
 use std::process::Abort;
-use zorder::Placed;
 
 /// These rows over a file with buckets of 4, where these calls fail.
 pub fn playing<'a>(input: &'a str, file: &'a [u8], calls: &'a [Failing]) -> Plan<'a> {
@@ -66,11 +66,13 @@ pub fn images_of<R: Abort>(rt: &R, alloc: Global, left: &Left) -> Vec<Image> {
     images
 }
 
-/// What a log was found to say: how many cells, points, leaves, unfinished splits, and splits that were begun, and which objects.
+/// What a log was found to say: its version, how many cells, points, leaves, unfinished splits, and splits that were begun, and which
+/// objects.
 #[derive(Drop)]
 pub struct Found {
+    pub version: u8,
     pub counts: [u64; 5],
-    pub objects: Vec<Placed>,
+    pub objects: Vec<Member>,
 }
 
 fn inspect_any<D: LogDisk>(alloc: Global, disk: &mut D) -> Result<Seen, OpenFault> {
@@ -82,6 +84,7 @@ fn seen_in(alloc: Global, seen: &Seen) -> Result<Found, AllocError> {
     let points = objects.len() as u64;
     let leaves = seen.leaves.as_slice().len() as u64;
     Ok(Found {
+        version: seen.version,
         counts: [seen.cells, points, leaves, seen.unfinished, seen.begun],
         objects,
     })
