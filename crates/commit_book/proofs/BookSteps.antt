@@ -23,8 +23,8 @@ same_names splits old new same = sym (names_from_bases splits new) ∙ ap (map (
 
 -- a query leaves the world
 pub query_keeps : (op : Op) (world : World) → IsQuery op → after_of world op ≡ world
-query_keeps (Put id at) world is = absurd is
-query_keeps (Move id at) world is = absurd is
+query_keeps (Put id at moment) world is = absurd is
+query_keeps (Move id at moment) world is = absurd is
 query_keeps (Remove id) world is = absurd is
 query_keeps (Find id) world is = absurd is
 query_keeps (Within region) world is = within_keeps (members_in region (places_of world)) world

@@ -13,8 +13,8 @@ use Rattle.index_build.proofs.GrownStates.{IsGrownState, grown-empty, grown-step
 
 -- the entry of a possible cell is possible
 entry-possible : (w : ℕ) (s : State) (c : Cell) → is_possible_cell w s c ≡ true → is_possible w s (entry_of c) ≡ true
-entry-possible w s (Put id at) may = refl
-entry-possible w s (Move id at) may = refl
+entry-possible w s (Put id at moment) may = refl
+entry-possible w s (Move id at moment) may = refl
 entry-possible w s (Remove id) may = refl
 entry-possible w s (Begin number name) may = may
 entry-possible w s (Install number) may = may
@@ -29,8 +29,8 @@ grown-cells w s (c ∷ cells) g legal =
 
 -- a cell begins one split at most
 begun-step : (w : ℕ) (s : State) (c : Cell) → (step w s (entry_of c)).begun ≤ s.begun + 1
-begun-step w s (Put id at) = omega arith
-begun-step w s (Move id at) = omega arith
+begun-step w s (Put id at moment) = omega arith
+begun-step w s (Move id at moment) = omega arith
 begun-step w s (Remove id) = omega arith
 begun-step w s (Begin number name) = omega arith
 begun-step w s (Install number) = omega arith
@@ -40,10 +40,10 @@ begun-cells : (w : ℕ) (s : State) (cells : List Cell) → (cells_after w s cel
 begun-cells w s [] = omega arith
 begun-cells w s (c ∷ cells) = omega (arith, begun-step w s c, begun-cells w (step w s (entry_of c)) cells)
 
-pub found-grown : (w most : ℕ) (drive : Drive) (seen : Seen) → IsFound w most drive seen → IsGrown w seen.leaves
-found-grown w most drive seen found = subst (IsGrown w) (sym found.finds.leaves) (grown-cells w empty_state found.cells (grown-empty w) found.legal).leaves
+pub found-grown : (oldest w most : ℕ) (drive : Drive) (seen : Seen) → IsFound oldest w most drive seen → IsGrown w seen.leaves
+found-grown oldest w most drive seen found = subst (IsGrown w) (sym found.finds.leaves) (grown-cells w empty_state found.cells (grown-empty w) found.legal).leaves
 
-pub found-begun : (w most : ℕ) (drive : Drive) (seen : Seen) → IsFound w most drive seen → seen.begun ≤ most
-found-begun w most drive seen found =
+pub found-begun : (oldest w most : ℕ) (drive : Drive) (seen : Seen) → IsFound oldest w most drive seen → seen.begun ≤ most
+found-begun oldest w most drive seen found =
     let few : (state_of w found.cells).begun ≤ 0 + length found.cells = begun-cells w empty_state found.cells in
     omega (arith, few, found.few, found.finds.begun)

@@ -75,7 +75,7 @@ KeepsBases-push w o h e old new on kept before after number name same now = by_p
     by_place (inl last) = subst (λ (b : List Entry). KeepsBase new (places_of (world_after o.world b)) name) (sym last.0) (on.begun number name last.1)
     by_place (inr earlier) =
         let was = on.was before earlier.0 number name earlier.1 now in
-        on.keeps number name was now (world_after o.world before) (kept before earlier.0 number name earlier.1 was)
+        on.keeps number name was now (places_of (world_after o.world before)) (kept before earlier.0 number name earlier.1 was)
 
 -- each begin was within room where each one before was, and the last entry, if it is a begin
 pub BeginsInRoom-push : (old new : Option ℕ) (world : World) (h : List Entry) (e : Entry) → new ≡ old

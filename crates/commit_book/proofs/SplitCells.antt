@@ -6,7 +6,7 @@ use Rattle.std.specs.Cmp.Derive.{both_true}
 use Rattle.std.proofs.lemmas.Bool.{eq-eqb, le-leb}
 use Rattle.std.proofs.lemmas.Bool.Decides.{nat_tests}
 use mathlib.Core.Bool.{true≢false}
-use Rattle.zorder.specs.declared.points.Point.{Point}
+use Rattle.plain_list.specs.declared.world.Stamped.{Stamped}
 use Rattle.cell_format.specs.declared.cell.Cell.{Cell}
 use Rattle.cell_format.specs.declared.cell.Cell.TheVariants as cell
 use Rattle.plain_list.specs.declared.ops.Op.{Op}
@@ -59,14 +59,14 @@ module _ (w : ℕ) (o : State) (h : List Entry) (legal : IsLegal w o h) (going :
 
 -- a call that changes the world has a cell
 pub cell_there : (op : Op) (world : World) → IsUpdate op → is_change (answer_of world op) ≡ true → (c : Cell) × (change_cells op ≡ c ∷ [])
-cell_there (Put id at) world is change = (cell.Put id at, refl)
-cell_there (Move id at) world is change = (cell.Move id at, refl)
+cell_there (Put id at moment) world is change = (cell.Put id at moment, refl)
+cell_there (Move id at moment) world is change = (cell.Move id at moment, refl)
 cell_there (Remove id) world is change = (cell.Remove id, refl)
 cell_there (Find id) world is change = absurd (true≢false (sym change ∙ no_change (position_of world id)))
   where
-    no_change : (p : Option Point) → is_change (option_map_or At p Absent) ≡ false
+    no_change : (kept : Option Stamped) → is_change (option_map_or At kept Absent) ≡ false
     no_change None = refl
-    no_change (Some at) = refl
+    no_change (Some s) = refl
 cell_there (Within region) world is change = absurd is
 cell_there (Near at k) world is change = absurd is
 

@@ -61,8 +61,8 @@ fewer_cells n le e = grind (arith, nat_tests)
 
 -- a query has no cell
 pub query_cells : (op : Op) → IsQuery op → change_cells op ≡ []
-query_cells (Put id at) is = absurd is
-query_cells (Move id at) is = absurd is
+query_cells (Put id at moment) is = absurd is
+query_cells (Move id at moment) is = absurd is
 query_cells (Remove id) is = absurd is
 query_cells (Find id) is = refl
 query_cells (Within region) is = refl

@@ -3,6 +3,7 @@ ghost use Rattle.std.specs.Prelude.{◌≡◌, ◌^◌, ◌<◌, true, false, []
 ghost use Rattle.plain_list.specs.Size.{full_leaf};
 ghost use Rattle.plain_list.specs.State.{empty_state, state_after};
 ghost use Rattle.plain_list.specs.Answer.{is_change};
+ghost use Rattle.cell_format.specs.Spelling.{newest};
 ghost use Rattle.recovery.specs.Found.{IsFound};
 ghost use Rattle.kept_log.specs.Kept.{IsOpened, found_state};
 ghost use Rattle.kept_log.specs.Journal.{failed_cell, cells_in, disk_in};
@@ -108,7 +109,7 @@ impl<I: Index, D: LogDisk> Book<I, D> {
     /// 4,096. Where memory runs out, what was opened is handed back.
     pub fn opened(alloc: Global, opened: Opened<D>, bucket: u32) -> Result<Book<I, D>, Opened<D>>
         requires log { (opened.log.cells ≡ opened.seen.cells) × (opened.log.failed ≡ None) }
-        requires found { IsFound I.WIDTH (2 ^ 24) (D.drive opened.start.value) opened.seen }
+        requires found { IsFound newest I.WIDTH (2 ^ 24) (D.drive opened.start.value) opened.seen }
         requires ready { IsOpened I.WIDTH (found_state opened.seen) (D.drive opened.start.value) (D.drive opened.log.disk) }
         ensures opening { IfOk result (λ b. (b.opening ≡ found_state opened.seen) × (b.entries ≡ []) × (b.bucket ≡ bucket)) }
         ensures log { IfOk result (λ b. b.log ≡ Some (first_log opened.log opened.start.value)) }

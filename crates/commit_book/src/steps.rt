@@ -87,8 +87,8 @@ fn change_cell(op: &Op) -> Option<Cell>
     ensures { MatchOption result (change_cells op.now ≡ []) (λ cell. change_cells op.now ≡ cell ∷ []) }
 {
     match *op {
-        Op::Put { id, at } => Some(Cell::Put { id, at }),
-        Op::Move { id, at } => Some(Cell::Move { id, at }),
+        Op::Put { id, at, moment } => Some(Cell::Put { id, at, moment }),
+        Op::Move { id, at, moment } => Some(Cell::Move { id, at, moment }),
         Op::Remove { id } => Some(Cell::Remove { id }),
         Op::Find { .. } => None,
         Op::Within { .. } => None,

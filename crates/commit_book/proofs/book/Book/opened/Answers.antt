@@ -10,7 +10,7 @@ use Rattle.commit_book.proofs.book.Book.opened.Goals as goal
 
 pub built-requires : goal.built-requires
 built-requires g c =
-    subst (IsGrown g.I.Index.WIDTH) (sym c.as_slice-leaves.ensures) (found-grown g.I.Index.WIDTH _ _ c.args.opened.seen c.requires.found)
+    subst (IsGrown g.I.Index.WIDTH) (sym c.as_slice-leaves.ensures) (found-grown _ g.I.Index.WIDTH _ _ c.args.opened.seen c.requires.found)
 
 pub invariant_of-result : goal.invariant_of-result
 invariant_of-result g c =
@@ -19,7 +19,7 @@ invariant_of-result g c =
     let drive = g.D.LogDisk.drive in
     let world = c.in-Ok.ensures.world in
     let leaves = c.in-Ok.ensures.leaves ∙ c.as_slice-leaves.ensures in
-    let begun : seen.begun ≤ 16777216 = found-begun w _ _ seen c.requires.found in
+    let begun : seen.begun ≤ 16777216 = found-begun _ w _ _ seen c.requires.found in
     let same : c.of.result ≡ found_state seen = c.of.ensures ∙ (λ i. record { world = world i; leaves = leaves i; splits = []; begun = seen.begun }) in
     let kept = c.opened.ensures.keeps w (found_state seen) c.requires.ready c.requires.log.1 in
     inside-first drive w c.of.result _
