@@ -47,16 +47,16 @@ use Rattle.sessions.proofs.Origins.{same-origin, start-of-origin}
 use Rattle.sessions.proofs.StepLemmas.{BookStep, first-none, stepped, same-added, same-seen}
 
 told-update : (w : ℕ) (op : Op) (pass : Known) → IsUpdate op → told_full w op pass ≡ next_full w pass
-told-update w (Put id at) pass is = refl
-told-update w (Move id at) pass is = refl
+told-update w (Put id at moment) pass is = refl
+told-update w (Move id at moment) pass is = refl
 told-update w (Remove id) pass is = refl
 told-update w (Find id) pass is = refl
 told-update w (Within region) pass is = absurd is
 told-update w (Near at k) pass is = absurd is
 
 told-query : (w : ℕ) (op : Op) (pass : Known) → IsQuery op → told_full w op pass ≡ None
-told-query w (Put id at) pass is = absurd is
-told-query w (Move id at) pass is = absurd is
+told-query w (Put id at moment) pass is = absurd is
+told-query w (Move id at moment) pass is = absurd is
 told-query w (Remove id) pass is = absurd is
 told-query w (Find id) pass is = absurd is
 told-query w (Within region) pass is = refl
@@ -68,8 +68,8 @@ listed-quiet false ms n = refl
 
 -- a query changes nothing
 query-quiet : (world : World) (op : Op) → IsQuery op → is_change (answer_of world op) ≡ false
-query-quiet world (Put id at) is = absurd is
-query-quiet world (Move id at) is = absurd is
+query-quiet world (Put id at moment) is = absurd is
+query-quiet world (Move id at moment) is = absurd is
 query-quiet world (Remove id) is = absurd is
 query-quiet world (Find id) is = absurd is
 query-quiet world (Within region) is = listed-quiet _ (members_in region (places_of world)) (length (members_in region (places_of world)))

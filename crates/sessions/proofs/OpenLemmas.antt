@@ -62,8 +62,8 @@ module _ (p : Point) (k : ℕ) (leaves : List Leaf) (names : List (List Bool)) (
 
 -- a change or a find opens nothing
 pub opens-still : (op : Op) (names : List (List Bool)) (places : List Placed) (listed : Option (List Placed)) (steps : ℕ) → IsUpdate op → Opens op names places listed steps steps
-opens-still (Put id at) names places listed steps update = refl
-opens-still (Move id at) names places listed steps update = refl
+opens-still (Put id at moment) names places listed steps update = refl
+opens-still (Move id at moment) names places listed steps update = refl
 opens-still (Remove id) names places listed steps update = refl
 opens-still (Find id) names places listed steps update = refl
 opens-still (Within region) names places listed steps update = absurd update
@@ -71,8 +71,8 @@ opens-still (Near at k) names places listed steps update = absurd update
 
 -- a call that was refused opens nothing
 pub opens-none : (op : Op) (names : List (List Bool)) (places : List Placed) (steps : ℕ) → Opens op names places None steps steps
-opens-none (Put id at) names places steps = refl
-opens-none (Move id at) names places steps = refl
+opens-none (Put id at moment) names places steps = refl
+opens-none (Move id at moment) names places steps = refl
 opens-none (Remove id) names places steps = refl
 opens-none (Find id) names places steps = refl
 opens-none (Within region) names places steps = record { most = omega arith; exact = tt }

@@ -3,7 +3,7 @@ use Rattle.std.proofs.Common.{◌≡◌, inl, inr, ℕ, ◌+◌, ◌≤◌, ◌=
 use Rattle.std.specs.Option.{option_map}
 use Rattle.std.proofs.lemmas.Bool.Decides.{Decides-eqb}
 use borrow.Author.Tests.{ltb-false}
-use Rattle.zorder.specs.declared.points.Placed.{Placed}
+use Rattle.plain_list.specs.World.{World}
 use Rattle.plain_list.specs.declared.entries.Entry.{Entry}
 use Rattle.plain_list.specs.declared.entries.Entry.TheVariants.{Begin}
 use Rattle.plain_list.specs.History.{world_after}
@@ -76,7 +76,7 @@ has-room cells events none = by_tests (nat_lt 16000000 cells) (nat_lt 4000000 ev
     by_tests false false few less none = (ltb-false 4000000 events less, ltb-false 16000000 cells few)
 
 -- one entry behind that there is room for an end
-cells-next : (first : Option ℕ) (world : List Placed) (before : List Entry) (e : Entry) → count_after first world (before ++ e ∷ []) ≤ count_after first world before + 1
+cells-next : (first : Option ℕ) (world : World) (before : List Entry) (e : Entry) → count_after first world (before ++ e ∷ []) ≤ count_after first world before + 1
 cells-next None world before e = omega arith
 cells-next (Some n) world before e =
     let more : length (cells_of world (before ++ e ∷ [])) ≡ length (cells_of world before) + length (cells_of (world_after world before) (e ∷ [])) =

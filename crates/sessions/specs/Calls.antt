@@ -84,8 +84,8 @@ next_full w pass = full_leaf w pass.origin.bucket (state_after w (start_of pass.
 
 -- the leaf that a call tells: queries tell none
 abbrev pub told_full : ℕ → Op → Known → Option (List Bool)
-told_full w (Put id at) pass = next_full w pass
-told_full w (Move id at) pass = next_full w pass
+told_full w (Put id at moment) pass = next_full w pass
+told_full w (Move id at moment) pass = next_full w pass
 told_full w (Remove id) pass = next_full w pass
 told_full w (Find id) pass = next_full w pass
 told_full w (Within region) pass = None

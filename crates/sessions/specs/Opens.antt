@@ -61,8 +61,8 @@ pub record OpensNearest (p : Point) (k : ℕ) (names : List (List Bool)) (places
 
 -- how often a bucket is opened for an operation, over these leaves and places
 abbrev pub Opens : Op → List (List Bool) → List Placed → Option (List Placed) → ℕ → ℕ → Type 0
-Opens (Put id at) names places listed before now = now ≡ before
-Opens (Move id at) names places listed before now = now ≡ before
+Opens (Put id at moment) names places listed before now = now ≡ before
+Opens (Move id at moment) names places listed before now = now ≡ before
 Opens (Remove id) names places listed before now = now ≡ before
 Opens (Find id) names places listed before now = now ≡ before
 Opens (Within region) names places listed before now = OpensBox region names listed before now

@@ -166,8 +166,8 @@ fn told(op: Op)
     ensures { FitsOp op }
 {
     match op {
-        Op::Put { id, at } => told_object(id, at),
-        Op::Move { id, at } => told_object(id, at),
+        Op::Put { id, at, moment } => told_object(id, at, moment),
+        Op::Move { id, at, moment } => told_object(id, at, moment),
         Op::Remove { id } => told_id(id),
         Op::Find { id } => told_id(id),
         Op::Within { region } => told_region(region),
@@ -175,11 +175,12 @@ fn told(op: Op)
     }
 }
 
-fn told_object(id: u64, at: Point)
-    ensures { (id < 2 ^ 64) × IsPoint at }
+fn told_object(id: u64, at: Point, moment: u64)
+    ensures { (id < 2 ^ 64) × IsPoint at × (moment < 2 ^ 64) }
 {
     told_id(id);
     coordinates_fit(at);
+    let _ = moment;
 }
 
 fn told_id(id: u64)

@@ -13,8 +13,8 @@ use Rattle.sessions.proofs.store.Store.answer.Goals as goal
 
 -- what isn't a query is a change or a find
 updates : (op : Op) → ((region : Region) → op ≡ Within region → ⊥) → ((at : Point) (k : ℕ) → op ≡ Near at k → ⊥) → IsUpdate op
-updates (Put id at) within near = tt
-updates (Move id at) within near = tt
+updates (Put id at moment) within near = tt
+updates (Move id at moment) within near = tt
 updates (Remove id) within near = tt
 updates (Find id) within near = tt
 updates (Within region) within near = absurd (within region refl)
