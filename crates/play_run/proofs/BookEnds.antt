@@ -12,13 +12,13 @@ use Rattle.kept_log.specs.KeptView.{KeptView}
 use Rattle.kept_log.specs.Counts.{first_in}
 use Rattle.kept_log.specs.Kept.{found_state}
 use Rattle.commit_book.specs.BookView.{BookView}
-use Rattle.run_ends.specs.Limits.{width, most_played}
+use Rattle.run_ends.specs.Limits.{width, oldest_played, most_played}
 use Rattle.play_run.specs.Origin.{origin_of}
 use Rattle.play_run.specs.inside.Books.{OpensBook}
 
 -- a book over what was found
 pub opens-book : {D : Type 0} (drive : D → Drive) (file : List ℕ) (old : Drive) (size : ℕ) (b : BookView D) (log : KeptView D) (seen : Seen) (start : D) → Stays old (drive start) → (drive start).faults ≡ old.faults → AttachedOne file false old (drive start)
-    → IsFound width most_played (drive start) seen → ((bytes : List ℕ) (fault : OpenFault) → (drive start).bytes ≡ Some bytes → IsInBytes fault → IsFault width most_played bytes fault → ⊥)
+    → IsFound oldest_played width most_played (drive start) seen → ((bytes : List ℕ) (fault : OpenFault) → (drive start).bytes ≡ Some bytes → IsInBytes fault → IsFault oldest_played width most_played bytes fault → ⊥)
     → log.first ≡ log.cells → log.start ≡ start → log.cells ≡ seen.cells → b.opening ≡ found_state seen → b.bucket ≡ size → b.log ≡ Some log → OpensBook drive file old size b
 opens-book {D = D} drive file old size b log seen start stays calm attached found shows first here count opening bucket log_is = record {
   bucket = bucket;

@@ -34,8 +34,8 @@ all-placed first world h image none (inr more) =
 -- what a log keeps of a history, at the drive on which it was opened
 kept-all : (first : List Cell) (world : World) (h : List Entry) (old start now : Drive) (failed : Option ℕ) (status : ℕ) → start.clock ≡ old.clock → KeepsHistory width first world h start.clock now failed
     → (status ≢ 7 → failed_cell h ≡ None) → KeepsAll width first world h old now status
-kept-all first world h old start now failed status moment kept going = record {
-  any_moment = λ c left. to-prefix first world h c (kept.any_moment c (subst (λ (t : ℕ). now.since t c) (sym moment) left));
+kept-all first world h old start now failed status clock kept going = record {
+  any_moment = λ c left. to-prefix first world h c (kept.any_moment c (subst (λ (t : ℕ). now.since t c) (sym clock) left));
   at_end = kept.at_end;
   all = λ whole c left. all-placed first world h c (going whole) (kept.at_end c left);
 }

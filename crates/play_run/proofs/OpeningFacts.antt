@@ -1,23 +1,25 @@
 -- What the opening of a log comes to.
-use Rattle.std.proofs.Common.{◌≡◌, ◌⊎◌, inl, inr, ◌∙◌, ℕ, ◌≤◌, false, List, length, Some, Result, Ok, Err, refl, sym, ap, subst}
-use Rattle.std.specs.Prelude.{IfErr}
+use Rattle.std.proofs.Common.{◌≡◌, ◌⊎◌, inl, inr, ◌∙◌, ℕ, ◌≤◌, false, List, length, Some, Result, Ok, Err, refl, sym, ap, subst, arith}
+use Rattle.std.specs.Prelude.{IfErr, slice_index}
 use Rattle.causes.specs.Causes.{Rose}
 use Rattle.disk_trait.specs.declared.disk.AttachFault.{AttachFault}
 use Rattle.disk_trait.specs.declared.disk.AttachFault.TheVariants as attach_fault
 use Rattle.disk_trait.specs.Drive.{Drive, AttachedOne, CountsAttach, KeepsLaws, Stays}
 use Rattle.disk_trait.proofs.Calls.{attached-still}
 use Rattle.cell_format.specs.declared.cell.Cell.{Cell}
+use Rattle.cell_format.specs.Spelling.{newest}
 use Rattle.log_state.specs.Recovers.{Recovers}
 use Rattle.recovery.specs.Faults.{IsFault, IsInBytes}
-use Rattle.recovery.specs.Found.{IsFree}
-use Rattle.recovery.specs.Opening.{KeepsCells, IsUntouched, LeavesUnopened}
+use Rattle.recovery.specs.Found.{IsFound, IsFree}
+use Rattle.recovery.specs.declared.seen.Seen.{Seen}
+use Rattle.recovery.specs.Opening.{KeepsCells, HasNoLog, IsUntouched, LeavesUnopened}
 use Rattle.recovery.specs.declared.seen.OpenFault.{OpenFault}
 use Rattle.recovery.specs.declared.seen.OpenFault.TheVariants as open_fault
 use Rattle.recovery.proofs.OpeningLemmas.{leaves-trans, leaves-stays}
 use Rattle.csv_rows.specs.declared.rows.Refusal.{Refusal}
 use Rattle.csv_rows.specs.declared.rows.Refusal.TheVariants as refusal
 use Rattle.run_ends.specs.LogFaults.{attach_refusal, log_refusal}
-use Rattle.run_ends.specs.Limits.{width, most_played}
+use Rattle.run_ends.specs.Limits.{width, oldest_played, most_played}
 use Rattle.run_ends.specs.Status.{status_of}
 use Rattle.run_ends.proofs.Attaching.{attaches-one, attaches-none}
 use Rattle.play_run.specs.Playing.{IsNotOpened}
@@ -39,18 +41,20 @@ untouched-after a b c stays left = record {
     by_moment t x (inl was) = inl (stays.since t x was)
     by_moment t x (inr now) = inr (stays.images x now)
 
--- the bytes are no log of few enough cells
-abbrev pub IsNoLog : List ℕ → Type 0
-IsNoLog bytes = (first : List Cell) → Recovers width first bytes → length first ≤ most_played → ⊥
+-- a log that was found is of the newest version
+pub named-newest : (drive : Drive) (seen : Seen) (bytes : List ℕ) → IsFound oldest_played width most_played drive seen → drive.bytes ≡ Some bytes → slice_index bytes 8 ≡ newest
+named-newest drive seen bytes found told =
+    let version : seen.version ≡ newest = omega (arith, found.wanted.least, found.wanted.most) in
+    sym (found.named bytes told) ∙ version
 
-pub open-refused : (file : List ℕ) (a b c : Drive) (why : OpenFault) → AttachedOne file false a b → KeepsLaws a → Stays a b → a.faults ≤ b.faults → b.faults ≡ a.faults → ((bytes : List ℕ) → b.bytes ≡ Some bytes → IsFault 1 most_played bytes why)
-    → ((bytes : List ℕ) (fault : OpenFault) → b.bytes ≡ Some bytes → IsInBytes fault → IsFault 1 most_played bytes fault → (why ≡ fault) ⊎ IsFree b c why)
-    → ((bytes : List ℕ) (cells : List Cell) → b.bytes ≡ Some bytes → Recovers 1 cells bytes → length cells ≤ most_played → IsFree b c why)
+pub open-refused : (file : List ℕ) (a b c : Drive) (why : OpenFault) → AttachedOne file false a b → KeepsLaws a → Stays a b → a.faults ≤ b.faults → b.faults ≡ a.faults → ((bytes : List ℕ) → b.bytes ≡ Some bytes → IsFault 2 1 most_played bytes why)
+    → ((bytes : List ℕ) (fault : OpenFault) → b.bytes ≡ Some bytes → IsInBytes fault → IsFault 2 1 most_played bytes fault → (why ≡ fault) ⊎ IsFree b c why)
+    → ((bytes : List ℕ) (cells : List Cell) → b.bytes ≡ Some bytes → Recovers 1 cells bytes → slice_index bytes 8 ≡ newest → length cells ≤ most_played → IsFree b c why)
     → KeepsCells 1 b c → (why ≡ open_fault.Disk → Rose b.faults c.faults) → LeavesUnopened 1 most_played b c why → IsNotOpened file a c (log_refusal why)
 open-refused file a b c why attached laws stays later same wrong exact whole keeps rose leaves = record {
-  cause = reading-after most_played a b c why stays later wrong rose;
+  cause = reading-after 2 most_played a b c why stays later wrong rose;
   exact = λ bytes fault told shown at calm. calm-named a b c why fault later calm (exact bytes fault (stays.bytes ∙ told) shown at);
-  whole = λ good. calm-free a b c why later good.calm (whole good.bytes good.first (stays.bytes ∙ good.told) good.recovers good.few);
+  whole = λ good. calm-free a b c why later good.calm (whole good.bytes good.first (stays.bytes ∙ good.told) good.recovers good.version good.few);
   keeps = keeps-cells-after 1 a b c laws stays keeps;
   untouched = λ bytes told none. untouched-after a b c stays (leaves.no_log bytes (stays.bytes ∙ told) none);
   calm = λ other. leaves.calm (λ disk. other (ap log_refusal disk)) ∙ same;
@@ -82,7 +86,7 @@ attach-refused file a b attach_fault.Memory laws stays counts = record {
 }
 
 -- memory ran out once the log was open
-pub memory-refused : (file : List ℕ) (a c : Drive) (why : Refusal) → AttachedOne file false a c → why ≡ refusal.Memory → KeepsCells 1 a c → ((bytes : List ℕ) → a.bytes ≡ Some bytes → IsNoLog bytes → ⊥) → c.faults ≡ a.faults → IsNotOpened file a c why
+pub memory-refused : (file : List ℕ) (a c : Drive) (why : Refusal) → AttachedOne file false a c → why ≡ refusal.Memory → KeepsCells 1 a c → ((bytes : List ℕ) → a.bytes ≡ Some bytes → HasNoLog width most_played bytes → ⊥) → c.faults ≡ a.faults → IsNotOpened file a c why
 memory-refused file a c why attached memory keeps log same = subst (IsNotOpened file a c) (sym memory) (record {
   cause = tt;
   exact = λ bytes fault told shown at calm. inr refl;

@@ -2,7 +2,7 @@
 ghost use Rattle.std.specs.Prelude.{◌≡◌, ◌≤◌, Some, None, IfOk, IfErr};
 ghost use Rattle.kept_log.specs.Kept.{IsOpened, found_state};
 ghost use Rattle.recovery.specs.Found.{IsFound};
-ghost use Rattle.run_ends.specs.Limits.{width, most_played};
+ghost use Rattle.run_ends.specs.Limits.{width, oldest_played, most_played};
 ghost use Rattle.play_run.specs.inside.Books.{IsNewBook, OpensBook};
 ghost use Rattle.play_run.specs.Playing.{IsNotOpened};
 
@@ -15,7 +15,7 @@ use recovery::{OpenRefused, Opened, open};
 use run_ends::{MOST_PLAYED, Unmade, WIDTH, attach_refusal, log_refusal};
 use std::alloc::Global;
 
-/// A book over the log in a file of this name, with buckets of this size.
+/// A book over the log of the newest version in a file of this name, with buckets of this size.
 pub(crate) fn open_book<D: LogDisk>(
     alloc: Global,
     file: &str,
@@ -46,7 +46,7 @@ fn book_of<D: LogDisk>(
     size: u32,
 ) -> Result<Book<StoreIndex, D>, Unmade<D>>
     requires log { (opened.log.cells ≡ opened.seen.cells) × (opened.log.failed ≡ None) }
-    requires found { IsFound width most_played (D.drive opened.start.value) opened.seen }
+    requires found { IsFound oldest_played width most_played (D.drive opened.start.value) opened.seen }
     requires ready { IsOpened width (found_state opened.seen) (D.drive opened.start.value) (D.drive opened.log.disk) }
     ensures opening { IfOk result (λ b. (b.opening ≡ found_state opened.seen) × (b.bucket ≡ size)) }
     ensures log { IfOk result (λ b. b.log ≡ Some (record {

@@ -19,7 +19,7 @@ use std::alloc::Global;
 use std::sync::Wait;
 use std::thread::Threads;
 
-/// Plays the rows of a source, over the log in a file of this name or over none, with buckets of this size.
+/// Plays the rows of a source, over the log of version 2 in a file of this name or over none, with buckets of this size.
 pub fn play<R: Threads + Wait + Sync, S: Source, K: Sink, D: LogDisk + Send, G: Gate + Sync>(
     rt: &R,
     alloc: Global,

@@ -14,7 +14,7 @@ use Rattle.kept_log.specs.Counts.{first_in}
 use Rattle.sessions.specs.Shared.{StartsAs}
 use Rattle.csv_rows.specs.declared.rows.Refusal.{Refusal}
 use Rattle.csv_rows.specs.declared.rows.Refusal.TheVariants as refusal
-use Rattle.run_ends.specs.Limits.{width, most_played}
+use Rattle.run_ends.specs.Limits.{width, oldest_played, most_played}
 use Rattle.plain_list.specs.declared.entries.Lost.{Lost}
 use Rattle.plain_list.specs.History.{failed_cell}
 use Rattle.lane_history.specs.LostSteps.{LosesStep}
@@ -30,7 +30,7 @@ pub record IsNewBook {D : Type 0} (b : BookView D) : Type 0 where
   pub few : cells_in b.log ≤ most_played
   pub world : IsWorld b.opening.world
 
--- a drive over which a log was opened is like this one: its bytes, images, moment, count and file
+-- a drive over which a log was opened is like this one: its bytes, images, clock, count and file
 pub record IsLike (old new : Drive) : Type 0 where
   pub stays : Stays old new
   pub calm : new.faults ≡ old.faults
@@ -69,4 +69,4 @@ pub record OpensBook {D : Type 0} (drive : D → Drive) (file : List ℕ) (old :
   pub stays : Stays old (drive log.start)
   pub calm : (drive log.start).faults ≡ old.faults
   pub attached : AttachedOne file false old (drive log.start)
-  pub shows : (bytes : List ℕ) (fault : OpenFault) → old.bytes ≡ Some bytes → IsInBytes fault → IsFault width most_played bytes fault → ⊥
+  pub shows : (bytes : List ℕ) (fault : OpenFault) → old.bytes ≡ Some bytes → IsInBytes fault → IsFault oldest_played width most_played bytes fault → ⊥

@@ -7,7 +7,7 @@ use Rattle.play_run.proofs.Parting.{parted-more}
 use Rattle.play_run.proofs.lanes.part_rows.Goals as goal
 
 abbrev blank : InRow
-blank = record { session = 0; op = Put 0 (record { x = 0; y = 0 }) }
+blank = record { session = 0; op = Put 0 (record { x = 0; y = 0 }) 0 }
 
 pub loop-i-preserved : goal.loop-i-preserved
 loop-i-preserved c =

@@ -7,7 +7,7 @@ use Rattle.kept_log.proofs.Starting.{opened-found}
 use Rattle.csv_rows.specs.declared.rows.Refusal.{Refusal}
 use Rattle.run_ends.specs.Limits.{most_played}
 use Rattle.play_run.specs.Playing.{IsNotOpened}
-use Rattle.play_run.proofs.OpeningFacts.{attach-refused, open-refused, memory-refused, keeps-cells-after, if-err}
+use Rattle.play_run.proofs.OpeningFacts.{attach-refused, open-refused, memory-refused, keeps-cells-after, named-newest, if-err}
 use Rattle.play_run.proofs.BookEnds.{if-ok, opens-book}
 use Rattle.play_run.proofs.log_book.open_book.Goals as goal
 
@@ -26,7 +26,8 @@ returns-in-Ok-clause-refused g c =
     (subst (λ d. AttachedOne c.args.file.now false (drive c.args.disk) (drive d)) (sym back.0) (attached-still c.args.file.now false (drive c.args.disk) (drive c.attach.new.self) (drive c.in-Ok.opened.log.disk) c.in_default.ensures.cause.named c.in-Ok.ensures.ready.file))
     back.1
     (subst (λ d. KeepsCells 1 (drive c.args.disk) (drive d)) (sym back.0) (keeps-cells-after 1 (drive c.args.disk) (drive c.attach.new.self) (drive c.in-Ok.opened.log.disk) (g.met.D.LogDisk.keeps_laws c.args.disk) c.in_default.ensures.stays c.in-Ok.ensures.any_moment))
-    (λ bytes told none. none c.in-Ok.ensures.found.cells (c.in-Ok.ensures.found.recovers bytes (c.in_default.ensures.stays.bytes ∙ told)) c.in-Ok.ensures.found.few)
+    (λ bytes told none. none c.in-Ok.ensures.found.cells (c.in-Ok.ensures.found.recovers bytes (c.in_default.ensures.stays.bytes ∙ told))
+    (named-newest (drive c.attach.new.self) c.in-Ok.opened.seen bytes c.in-Ok.ensures.found (c.in_default.ensures.stays.bytes ∙ told)) c.in-Ok.ensures.found.few)
     (ap (λ d. (drive d).faults) back.0 ∙ c.in-Ok.ensures.ready.same ∙ c.in_default.ensures.cause.same))
     c.book_of.ensures.back
 

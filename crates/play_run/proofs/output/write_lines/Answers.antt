@@ -8,7 +8,7 @@ use Rattle.play_run.proofs.LineOrder.{before, told-none, title-added, title-lost
 use Rattle.play_run.proofs.output.write_lines.Goals as goal
 
 abbrev blank : InRow
-blank = record { session = 0; op = Put 0 (record { x = 0; y = 0 }) }
+blank = record { session = 0; op = Put 0 (record { x = 0; y = 0 }) 0 }
 
 pub returns-in_err-add_title-clause-bytes : goal.returns-in_err-add_title-clause-bytes
 returns-in_err-add_title-clause-bytes g c = λ world h answers.
