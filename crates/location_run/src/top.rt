@@ -21,7 +21,7 @@ use std::thread::Threads;
 /// The order of work, and of refusals, is for rows: words, source, length of the input, rows, then where there is a log its opening, then
 /// answers, each kept in the log before the next, and lines. The first line is written once all is there. For `init`, `check` and
 /// `show` it is: words, attach, making or inspecting, lines; for `trial`: words, making the rows, then as for rows. None of them reads the
-/// source.
+/// source. `check` and `show` read a log of version 1 or 2; rows are played over one of version 2 alone.
 pub fn run<R: Threads + Wait + Sync, S: Source, K: Sink, D: LogDisk + Send, G: Gate + Sync>(
     rt: &R,
     alloc: Global,
