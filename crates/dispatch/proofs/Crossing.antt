@@ -18,7 +18,7 @@ use Rattle.dispatch.specs.contracts.callers.Caller as Caller
 pub caller_send : (I D P : RattleType) (g : Ghosts I.Denot P.Denot) (h : DriveGhosts D.Denot) → IsSend I → IsSend D → IsSend (Caller.the_row I D P g h)
 caller_send I D P g h i d =
     recorded_send (Caller.the_field I D P g h).row _ _ (Caller.the_type I D P g h).to_one (struct_send (shape (Caller.the_type I D P g h))
-    (plain_send _ _ _ _ _, (pass_send I D Brand.the_row P g h started.ghosts i d brand.the_send, (plain_send _ _ _ _ _, tt))))
+    (plain_send _ _ _ _ _, (pass_send I D Brand.the_row P g h started.ghosts i d brand.the_send, (plain_send _ _ _ _ _, (plain_send _ _ _ _ _, tt)))))
 
 -- a closure over three captures
 pub closure_sync : (ν : Sym) (A B C : RattleType) → IsSync A → IsSync B → IsSync C → IsSync (TupleAt ν (A ∷ B ∷ C ∷ []))

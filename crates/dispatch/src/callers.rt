@@ -24,13 +24,14 @@ pub type Taxis<I, D> = Store<I, D, Brand>;
 pub type TaxiPass<I, D> = Pass<SharedBook<I, D, Brand>>;
 
 // How many calls a session makes.
-const ROWS: u32 = 100;
+const ROWS: u32 = 101;
 
-/// A session, and how many of its answers were as they should be.
+/// A session, how many of its answers were as they should be, and how many of these told that a position came too late.
 pub struct Caller<I: Index, D: LogDisk> {
     pub session: u8,
     pub pass: TaxiPass<I, D>,
     pub good: u32,
+    pub stale: u32,
 }
 
 impl<I: Index, D: LogDisk> Caller<I, D> {
@@ -41,6 +42,7 @@ impl<I: Index, D: LogDisk> Caller<I, D> {
             session,
             pass,
             good: 0,
+            stale: 0,
         }
     }
 
@@ -50,6 +52,8 @@ impl<I: Index, D: LogDisk> Caller<I, D> {
     {
         if is_good(self.session, row, answer) {
             self.good = self.good.saturating_add(1);
+            let is_stale = matches!(answer, Answer::Stale(_));
+            self.stale = self.stale.saturating_add(u32::from(is_stale));
         }
     }
 }

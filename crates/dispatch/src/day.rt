@@ -19,11 +19,17 @@ use std::sync::ledger::{Blank, Ledger};
 use std::thread::{self, Threads};
 use step_count::Steps;
 
+/// How many of a session's answers were as they should be, and how many of these told that a position came too late.
+#[derive(Clone, Copy)]
+pub struct Told {
+    pub good: u32,
+    pub stale: u32,
+}
+
 /// What a day came to.
 #[derive(Drop)]
 pub struct Day {
-    /// Of each session, how many answers were as they should be.
-    pub good: [u32; 4],
+    pub told: [Told; 4],
     pub events: Entries,
     /// The taxis nearest to the station in the end.
     pub nearest: PlacedList,
@@ -66,12 +72,12 @@ pub fn play_day<I: Index + Send, D: LogDisk + Send, R: Threads + Wait + Sync, L:
 {
     let (taxis, mut pass) = open_store(alloc, book)?;
     let mut steps = Steps::<L>::new(blank);
-    let (good, nearest) = call_all_day(rt, alloc, &taxis, &mut pass, &mut steps);
+    let (told, nearest) = call_all_day(rt, alloc, &taxis, &mut pass, &mut steps);
     let _ = taxis.settle(rt, alloc, &mut pass, &OpenGate);
     let events = history_of(taxis.close(pass));
     let nearest = found(nearest)?;
     Some(Day {
-        good,
+        told,
         events,
         nearest,
     })
@@ -109,7 +115,7 @@ fn call_all_day<I: Index + Send, D: LogDisk + Send, R: Threads + Wait + Sync, L:
     taxis: &Taxis<I, D>,
     pass: &mut TaxiPass<I, D>,
     steps: &mut Steps<L>,
-) -> ([u32; 4], Result<Answer, CallFault>)
+) -> ([Told; 4], Result<Answer, CallFault>)
     requires free { IsFree taxis.now pass.old }
     requires parts { 5 ≤ pass.old.parts }
     ensures { KeepsPass pass.old pass.new }
@@ -126,13 +132,13 @@ fn call_all_day<I: Index + Send, D: LogDisk + Send, R: Threads + Wait + Sync, L:
     // From here on the dispatcher has seen what the first driver did.
     taxis.meet(&mut one.pass, &mut four.pass);
     let nearest = ask_nearest(rt, alloc, taxis, &mut four.pass, steps);
-    let good = [
+    let told = [
         go_home(taxis, pass, one),
         go_home(taxis, pass, two),
         go_home(taxis, pass, three),
         go_home(taxis, pass, four),
     ];
-    (good, nearest)
+    (told, nearest)
 }
 
 fn put_waiting<I: Index, D: LogDisk, R: Wait, L: Ledger>(
@@ -148,6 +154,7 @@ fn put_waiting<I: Index, D: LogDisk, R: Wait, L: Ledger>(
     let waits = Op::Put {
         id: WAITING,
         at: STATION,
+        moment: 0,
     };
     let _ = call(rt, alloc, taxis, pass, DISPATCHER, 0, &waits, steps);
 }
@@ -166,12 +173,12 @@ fn ask_nearest<I: Index, D: LogDisk, R: Wait, L: Ledger>(
     call(rt, alloc, taxis, pass, DISPATCHER, 101, &near, steps)
 }
 
-// Joins a caller's pass to another, and gives how many answers were as they should be.
+// Joins a caller's pass to another, and gives what the caller was told.
 fn go_home<I: Index, D: LogDisk>(
     taxis: &Taxis<I, D>,
     pass: &mut TaxiPass<I, D>,
     caller: Caller<I, D>,
-) -> u32
+) -> Told
     requires lock { IsFree taxis.now pass.old × IsFree taxis.now caller.pass }
     ensures same { IsFree taxis.now pass.new }
     ensures parts { pass.new.parts ≡ pass.old.parts + caller.pass.parts }
@@ -180,9 +187,10 @@ fn go_home<I: Index, D: LogDisk>(
         session: _,
         pass: other,
         good,
+        stale,
     } = caller;
     taxis.join_pass(pass, other);
-    good
+    Told { good, stale }
 }
 
 impl Day {

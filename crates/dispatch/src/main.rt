@@ -1,5 +1,5 @@
 //! A taxi company over the store, and no CSV: three drivers put and move their taxis while a dispatcher asks who is nearest to the station,
-//! each in a thread of their own.
+//! each in a thread of their own. In the end each driver sends an old position late, and is told that it is stale: nothing is changed.
 //!
 //! What it prints is the same however the threads run: the drivers move taxis of their own, each in a quarter of the town of their own, so
 //! what each is told, how many calls and splits there are, and who is nearest in the end don't depend on who comes first.
@@ -10,7 +10,7 @@ mod day;
 mod town;
 
 use commit_book::Book;
-use day::{Day, play_day};
+use day::{Day, Told, play_day};
 use disk_mem::MemDisk;
 use kd_trie::KdTrie;
 use std::io;
@@ -23,14 +23,19 @@ use zorder::Placed;
 const BUCKET: u32 = 4;
 
 fn tell(rt: &impl Print, day: &Day) -> io::Result<()> {
-    tell_good(rt, &day.good)?;
+    tell_told(rt, &day.told)?;
     println!(rt; "calls {}, splits {}", day.calls(), day.splits())?;
     tell_nearest(rt, day.nearest.as_slice())
 }
 
-fn tell_good(rt: &impl Print, good: &[u32; 4]) -> io::Result<()> {
-    for (i, good) in good.iter().enumerate() {
-        println!(rt; "session {}: {good} answers as they should be", i + 1)?;
+fn tell_told(rt: &impl Print, told: &[Told; 4]) -> io::Result<()> {
+    for (i, told) in told.iter().enumerate() {
+        println!(rt;
+            "session {}: {} answers as they should be, {} of them stale",
+            i + 1,
+            told.good,
+            told.stale
+        )?;
     }
     Ok(())
 }
