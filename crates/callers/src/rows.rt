@@ -30,6 +30,7 @@ pub fn put_of(session: u8, object: u32) -> Op
     Op::Put {
         id: id(session, object),
         at: place(session, object, 0),
+        moment: 0,
     }
 }
 
@@ -45,6 +46,7 @@ pub fn op_of(session: u8, row: u32) -> Op
         Op::Move {
             id: id(session, object),
             at,
+            moment: u64::from(round),
         }
     }
 }
