@@ -1,0 +1,4 @@
+pub mod Order
+pub mod Forest
+pub mod Prefixes
+pub mod Inner

@@ -1,0 +1,2 @@
+//! Writes the state of a log anew, as the shortest log that has it.
+#![tactic(auto)]
