@@ -63,7 +63,7 @@ walked w width _ _ _ (split n roots leaves inner f) aligned old short =
     ∙ append_assoc (new_names w n) (n ∷ []) inner
 
 -- each of these names is left of each root
-abbrev AreLeft : List (List Bool) → List (List Bool) → Type 0
+abbrev pub AreLeft : List (List Bool) → List (List Bool) → Type 0
 AreLeft names roots = AllByRecursion (λ n. ArePartedFrom n roots) names
 
 parted-append : (names roots : List (List Bool)) → AreParted names → AreParted roots → AreLeft names roots → AreParted (names ++ roots)

@@ -2,3 +2,5 @@ pub mod Order
 pub mod Forest
 pub mod Prefixes
 pub mod Inner
+pub mod FreshState
+pub mod Counting
