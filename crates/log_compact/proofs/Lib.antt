@@ -4,3 +4,4 @@ pub mod Prefixes
 pub mod Inner
 pub mod FreshState
 pub mod Counting
+pub mod Lefts

@@ -1,8 +1,11 @@
 -- The inner names of leaves, each at the first leaf under it.
-use Rattle.std.specs.Prelude.{ℕ, ◌%◌, Bool, ◌&&◌, List, length, ◌==◌}
+use Rattle.std.specs.Prelude.{ℕ, ◌+◌, ◌%◌, Bool, ◌&&◌, List, [], ◌∷◌, ◌++◌, length, drop, if◌then◌else◌, ◌==◌}
 use Rattle.std.specs.List.{filter, flat_map}
 use Rattle.zorder.specs.Name.{first_key}
-use Rattle.log_compact.specs.Fresh.{proper_prefixes}
+use Rattle.cell_format.specs.declared.cell.Cell.{Cell}
+use Rattle.cell_format.specs.declared.cell.Cell.TheVariants.{Install}
+use Rattle.plain_list.specs.declared.world.Member.{Member}
+use Rattle.log_compact.specs.Fresh.{proper_prefixes, split_cells, put_cells}
 
 -- whether a prefix of a leaf may be split by w bits, and the leaf is the first one under it
 abbrev pub is_first : ℕ → List Bool → List Bool → Bool
@@ -14,3 +17,17 @@ new_names w leaf = filter (is_first w leaf) (proper_prefixes leaf)
 
 abbrev pub all_new_names : ℕ → List (List Bool) → List (List Bool)
 all_new_names w leaves = flat_map (new_names w) leaves
+
+-- those of them that have at least so many bits
+abbrev pub left_at : ℕ → List Bool → ℕ → List (List Bool)
+left_at w leaf least = filter (is_first w leaf) (drop least (proper_prefixes leaf))
+
+-- the inner names that are left where the walk is at the first of these leaves, at names of so many bits
+abbrev pub names_left : ℕ → List (List Bool) → ℕ → List (List Bool)
+names_left w [] least = []
+names_left w (leaf ∷ leaves) least = left_at w leaf least ++ all_new_names w leaves
+
+-- where the number of the last begin is this, the cells that are left: its install, if that is due, the cells of the names that are left, and
+-- the puts of the objects that are left
+abbrev pub cells_left : ℕ → Bool → List (List Bool) → List Member → List Cell
+cells_left begun due names members = (if due then Install begun ∷ [] else []) ++ split_cells (begun + 1) names ++ put_cells members

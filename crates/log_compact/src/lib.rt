@@ -1,2 +1,4 @@
 //! Writes the state of a log anew, as the shortest log that has it.
 #![tactic(auto)]
+
+mod names;
