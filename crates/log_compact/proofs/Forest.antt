@@ -9,6 +9,7 @@ use Rattle.zorder.specs.Name.{first_key}
 use Rattle.zorder.proofs.Tiles.{first_left, first_right}
 use Rattle.plain_list.specs.State.{split_leaf}
 use Rattle.log_compact.specs.Fresh.{ComesBySplits}
+use Rattle.log_compact.specs.Walk.{AreShort}
 use Rattle.log_compact.proofs.Order.{is_left, left-under, all-append, all-weaken}
 
 -- splits are of one bit or of two
@@ -177,10 +178,6 @@ leads-split w width name roots leaves inner f =
     let cs = children_are w name width in
     let c : IsChild w name cs.first = (subst (AllByRecursion (IsChild w name)) cs.are cs.grown).0 in
     (c.bits, subst (λ (m : List Bool). Leads m leaves) c.is (leads w width (children w name ++ roots) leaves inner f cs.first (cs.others ++ roots) (ap (λ (l : List (List Bool)). l ++ roots) cs.are)), c.long)
-
--- each leaf has at most 64 bits
-abbrev pub AreShort : List (List Bool) → Type 0
-AreShort names = AllByRecursion (λ (n : List Bool). length n ≤ 64) names
 
 pub split-room : (w : ℕ) → IsWidth w → (name : List Bool) (roots leaves inner : List (List Bool)) → Forest w (children w name ++ roots) leaves inner → AreShort leaves → length name + w ≤ 64
 split-room w width name roots leaves inner f short =

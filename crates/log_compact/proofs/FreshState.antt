@@ -23,9 +23,10 @@ use Rattle.plain_list.proofs.IdSearches.{after_put-new}
 use Rattle.log_state.specs.Recovers.{is_legal_cells, cells_after, state_of, IsLegalCells}
 use Rattle.log_state.proofs.LegalCells.{legal-append, cells_after-append}
 use Rattle.log_compact.specs.Fresh.{split_cells, put_cells, fresh_cells, inner_names, ComesBySplits}
+use Rattle.log_compact.specs.Walk.{AreShort}
 use Rattle.log_compact.specs.State.{IsStateOf}
 use Rattle.log_compact.proofs.Order.{is_left, left-before, left-more, before-differ, all-append, all-weaken}
-use Rattle.log_compact.proofs.Forest.{IsWidth, Forest, none, leaf, split, forest_of, ArePartedFrom, AreParted, IsChild, children_are, AreShort, split-room}
+use Rattle.log_compact.proofs.Forest.{IsWidth, Forest, none, leaf, split, forest_of, ArePartedFrom, AreParted, IsChild, children_are, split-room}
 use Rattle.log_compact.proofs.Inner.{inner_names-forest, AreLeft, parted-children}
 
 -- a state without an open split

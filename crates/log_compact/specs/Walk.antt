@@ -1,6 +1,6 @@
 -- The inner names of leaves, each at the first leaf under it.
-use Rattle.std.specs.Prelude.{ℕ, ◌+◌, ◌%◌, Bool, ◌&&◌, List, [], ◌∷◌, ◌++◌, length, drop, if◌then◌else◌, ◌==◌}
-use Rattle.std.specs.List.{filter, flat_map}
+use Rattle.std.specs.Prelude.{ℕ, ◌+◌, ◌≤◌, ◌%◌, Bool, ◌&&◌, List, [], ◌∷◌, ◌++◌, length, drop, if◌then◌else◌, ◌==◌}
+use Rattle.std.specs.List.{filter, flat_map, AllByRecursion}
 use Rattle.zorder.specs.Name.{first_key}
 use Rattle.cell_format.specs.declared.cell.Cell.{Cell}
 use Rattle.cell_format.specs.declared.cell.Cell.TheVariants.{Install}
@@ -17,6 +17,10 @@ new_names w leaf = filter (is_first w leaf) (proper_prefixes leaf)
 
 abbrev pub all_new_names : ℕ → List (List Bool) → List (List Bool)
 all_new_names w leaves = flat_map (new_names w) leaves
+
+-- each leaf has at most as many bits as a key
+abbrev pub AreShort : List (List Bool) → Type 0
+AreShort leaves = AllByRecursion (λ (leaf : List Bool). length leaf ≤ 64) leaves
 
 -- those of them that have at least so many bits
 abbrev pub left_at : ℕ → List Bool → ℕ → List (List Bool)
