@@ -5,3 +5,4 @@ pub mod Inner
 pub mod FreshState
 pub mod Counting
 pub mod Lefts
+pub mod PieceTexts

@@ -1,3 +1,4 @@
 pub mod Fresh
 pub mod Walk
 pub mod State
+pub mod Staging

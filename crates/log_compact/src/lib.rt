@@ -4,3 +4,4 @@
 mod cells;
 mod laws;
 mod names;
+mod pieces;

@@ -1,0 +1,12 @@
+use Rattle.std.proofs.Common.{◌≡◌, ◌+◌, ◌*◌, ◌≤◌, ◌∷◌, ◌++◌, take, length}
+use Rattle.log_compact.specs.Staging.{behind_first, AreCells}
+use Rattle.log_compact.proofs.pieces.fill.Given as goal
+
+-- the piece so far, and what stands behind the commit byte of the cell that is next
+abbrev pub invariant-loop-place : goal.invariant-loop-place
+invariant-loop-place l = record {
+  text : behind_first (l.fn.first ∷ l.initial.cells) ≡ take (32 * l.place) l.piece ++ behind_first (l.cell ∷ l.cells);
+  fits : AreCells (l.cell ∷ l.cells) → AreCells (l.fn.first ∷ l.initial.cells);
+  fewer : length l.cells + l.place ≤ length l.initial.cells;
+  long : length l.piece ≡ 65536;
+}
