@@ -6,3 +6,4 @@ pub mod FreshState
 pub mod Counting
 pub mod Lefts
 pub mod PieceTexts
+pub mod Stages

@@ -5,3 +5,4 @@ mod cells;
 mod laws;
 mod names;
 mod pieces;
+mod staging;
