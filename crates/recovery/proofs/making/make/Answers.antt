@@ -1,4 +1,4 @@
-use Rattle.std.proofs.Common.{◌≤◌, length, ◌∙◌, arith, inl, inr, true, false, [], ◌∷◌, ap, lit≤, length-append}
+use Rattle.std.proofs.Common.{is_some, ◌≤◌, length, ◌∙◌, arith, inl, inr, true, false, [], ◌∷◌, ap, lit≤, length-append}
 use Rattle.causes.specs.Causes.{Rose}
 use Rattle.cell_format.specs.Spelling.{newest, header_text}
 use Rattle.disk_trait.proofs.Calls.{made-then, still-made}
@@ -8,6 +8,7 @@ use Rattle.recovery.proofs.making.make.Goals as goal
 
 pub returns-clause-made : goal.returns-clause-made
 returns-clause-made g c = record {
+  told = ap is_some c.sync.ensures.syncs.bytes ∙ c.write.ensures.writes.told ∙ ap is_some c.len.ensures.stays.bytes;
   same = c.in_ok-sync.ensures.cause.same ∙ c.in_ok-write.ensures.cause.same ∙ c.in_ok-len.ensures.cause.same;
   calls = still-made (true ∷ true ∷ []) (g.D.LogDisk.drive c.args.disk.now) (g.D.LogDisk.drive c.len.new.self) (g.D.LogDisk.drive c.sync.new.self) c.len.ensures.stays.calls
       (made-then (true ∷ []) (true ∷ []) (g.D.LogDisk.drive c.len.new.self) (g.D.LogDisk.drive c.write.new.self) (g.D.LogDisk.drive c.sync.new.self) c.in_ok-write.ensures.made c.in_ok-sync.ensures.made);
