@@ -7,3 +7,4 @@ pub mod Counting
 pub mod Lefts
 pub mod PieceTexts
 pub mod Stages
+pub mod OnWay

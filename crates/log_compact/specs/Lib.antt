@@ -2,3 +2,10 @@ pub mod Fresh
 pub mod Walk
 pub mod State
 pub mod Staging
+pub mod Compacting
+pub use Rattle.log_state.specs.Recovers
+pub use Rattle.split_log.specs.LogText
+pub use Rattle.recovery.specs.Making
+pub use Rattle.disk_trait.specs.Drive
+pub use Rattle.disk_trait.specs.Moments
+pub use Rattle.causes.specs.Causes

@@ -1,8 +1,16 @@
 //! Writes the state of a log anew, as the shortest log that has it.
+//!
+//! Contracts see the new log as `fresh_cells` of a world and its leaves: a begin and an install for each name that was split, and a put for each
+//! object. `compact` makes it on a drive of its own: at each moment a crash leaves at most 17 bytes, or no cell, or all of them.
+//!
+//! Not here: how the old log is read (`recovery`), appends to a log (`split_log`).
 #![tactic(auto)]
 
 mod cells;
+mod compacting;
 mod laws;
 mod names;
 mod pieces;
 mod staging;
+
+pub use compacting::{CompactFault, CompactRefused, compact};
