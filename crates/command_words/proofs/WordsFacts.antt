@@ -4,7 +4,7 @@ use Rattle.std.specs.Prelude.{codes, sum, IsTrue}
 use Rattle.std.proofs.lemmas.Bool.{true≢false}
 use Rattle.zorder.specs.declared.points.Region.{Region}
 use Rattle.csv_rows.specs.Numbers.{number_in}
-use Rattle.command_words.specs.Words.{Command, AsksFor, NamesFile, SpellsBox, SpellsNoSize, SpellsPlay, SpellsShow, IsInit, IsCheck, IsPlay, IsShow, IsUnlogged, IsLogged, is_file_name, Init, Check, Play, Show, Trial}
+use Rattle.command_words.specs.Words.{Command, AsksFor, NamesFile, SpellsBox, SpellsNoSize, SpellsPlay, SpellsShow, IsInit, IsCheck, IsPlay, IsShow, IsUnlogged, IsLogged, IsCompact, is_file_name, Init, Check, Play, Show, Trial, Compact}
 use Rattle.command_words.proofs.TrialFacts.{trial-word, one-trial, word-at}
 
 init-word : (words : List (List ℕ)) → IsInit words → get_or words 0 [] ≡ codes "init"
@@ -62,6 +62,9 @@ unlogged-logged words (size, plain) (file, n, (named, over)) =
 shown-word : (words : List (List ℕ)) → IsShow words → get_or words 0 [] ≡ codes "show"
 shown-word words (file, region, (named, spells)) = show-word words file region spells
 
+compact-word : (words : List (List ℕ)) → IsCompact words → get_or words 0 [] ≡ codes "compact"
+compact-word words (file, new, asks) = ap (λ (ws : List (List ℕ)). get_or ws 0 []) asks.spells
+
 -- the word of a command
 abbrev command_word : Command → List ℕ
 command_word (Init file) = codes "init"
@@ -69,6 +72,7 @@ command_word (Check file) = codes "check"
 command_word (Play log size) = codes "play"
 command_word (Show file region) = codes "show"
 command_word (Trial log made) = codes "trial"
+command_word (Compact file new) = codes "compact"
 
 -- words that ask for a command begin with its word
 begins : (words : List (List ℕ)) (a : Command) → AsksFor words a → get_or words 0 [] ≡ command_word a
@@ -77,6 +81,7 @@ begins words (Check file) asks = check-word words (file, asks)
 begins words (Play log size) asks = play-word words (size, (log, asks))
 begins words (Show file region) asks = shown-word words (file, region, asks)
 begins words (Trial log made) asks = trial-word words (log, made, asks)
+begins words (Compact file new) asks = compact-word words (file, new, asks)
 
 -- the letters of a command's word, added up: no two commands have the same sum
 letters : (words : List (List ℕ)) (a b : Command) → AsksFor words a → AsksFor words b → sum (command_word a) ≡ sum (command_word b)
@@ -145,6 +150,9 @@ one-show words f g q r (named, first) (also, second) =
     let region : q ≡ r = same-shown words f g q r first second in
     λ i. Show (file i) (region i)
 
+one-compact : (words : List (List ℕ)) (f g k l : List ℕ) → AsksFor words (Compact f k) → AsksFor words (Compact g l) → Compact f k ≡ Compact g l
+one-compact words f g k l first second = let file : f ≡ g = word-at 1 words _ _ first.spells second.spells in let new : k ≡ l = word-at 2 words _ _ first.spells second.spells in λ i. Compact (file i) (new i)
+
 -- words ask for one command
 pub one-command : (words : List (List ℕ)) (a b : Command) → AsksFor words a → AsksFor words b → a ≡ b
 one-command words (Init f) (Init g) first second = ap Init (same-file (codes "init") words f g first second)
@@ -152,4 +160,5 @@ one-command words (Check f) (Check g) first second = ap Check (same-file (codes 
 one-command words (Play k m) (Play l n) first second = one-play words k l m n first second
 one-command words (Show f q) (Show g r) first second = one-show words f g q r first second
 one-command words (Trial k a) (Trial l b) first second = one-trial words k l a b first second
+one-command words (Compact f k) (Compact g l) first second = one-compact words f g k l first second
 one-command words a b first second = let e = letters words a b first second in absurd (omega (arith, e))

@@ -8,6 +8,7 @@
 #![tactic(auto)]
 
 mod boxes;
+mod compactions;
 mod files;
 mod parsing;
 mod plays;

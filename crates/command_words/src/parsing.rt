@@ -1,10 +1,11 @@
 //! What words ask for.
 ghost use Rattle.std.specs.Prelude.{map, MatchOption};
 ghost use Rattle.std.specs.String.{string_bytes};
-ghost use Rattle.command_words.specs.Words.{AsksFor, IsAccepted, IsPlay, IsShow, IsTrial};
+ghost use Rattle.command_words.specs.Words.{AsksFor, IsAccepted, IsCompact, IsPlay, IsShow, IsTrial};
 ghost use Rattle.command_words.specs.Asked.{command_of};
 
 use crate::boxes::show_words;
+use crate::compactions::compact_words;
 use crate::files::{file_after, is_file_name};
 use crate::plays::play_words;
 use crate::trials::{Made, trial_words};
@@ -23,6 +24,8 @@ pub enum Command<'a> {
     Show(&'a str, Region),
     /// To play rows that are made, over the log in this file or over none.
     Trial(Option<&'a str>, Made),
+    /// To write the log in the first file anew into the second, which has another name.
+    Compact(&'a str, &'a str),
 }
 
 /// The command that the words ask for; `words` are the command line without the program's name.
@@ -40,6 +43,9 @@ pub fn command_in(words: &[String]) -> Option<Command<'_>>
     }
     if let Some(trial) = trial_in(words) {
         return Some(trial);
+    }
+    if let Some(compact) = compact_in(words) {
+        return Some(compact);
     }
     play_in(words)
 }
@@ -85,6 +91,19 @@ fn trial_in(words: &[String]) -> Option<Command<'_>>
     }
     if is_file_name(trial.log) {
         return Some(Command::Trial(Some(trial.log), trial.made));
+    }
+    None
+}
+
+// What the words ask for, where it is to write a log anew.
+fn compact_in(words: &[String]) -> Option<Command<'_>>
+    ensures { MatchOption result (IsCompact (map string_bytes words.now) → ⊥) (λ c. AsksFor (map string_bytes words.now) (command_of c)) }
+{
+    let Some(files) = compact_words(words) else {
+        return None;
+    };
+    if files.file != files.new && is_file_name(files.file) && is_file_name(files.new) {
+        return Some(Command::Compact(files.file, files.new));
     }
     None
 }

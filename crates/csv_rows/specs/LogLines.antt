@@ -19,3 +19,7 @@ counts_text c = count_line (codes "cells ") c.cells ++ count_line (codes "points
 -- the three lines of what made rows leave
 unfoldable pub summary_text : Summary → List ℕ
 summary_text s = count_line (codes "rows ") s.rows ++ count_line (codes "points ") s.points ++ count_line (codes "sum ") s.sum
+
+-- the line of a log that was written anew, of so many cells
+abbrev pub compacted_line : ℕ → List ℕ
+compacted_line cells = count_line (codes "compacted ") cells

@@ -3,9 +3,9 @@
 //! Contracts see the rows of an input as `rows_of` its bytes: a list of rows, or the first place at fault, both taken
 //! from the records that `csv` reads. `read_rows` answers exactly that, or want of memory. `Rows` is seen as a list of
 //! rows that each keep the rules of their columns. `write_line`, `refusal_line`, `write_made`, `write_counts`,
-//! `write_summary`, `write_objects` and `write_rows` put exactly the texts of `Lines`, `LogLines`, `ObjectLines` and
-//! `RowLines`, and take no memory; what `write_rows` puts reads again as the same rows. A `Gathered` has many lines go
-//! out in large pieces.
+//! `write_summary`, `write_compacted`, `write_objects` and `write_rows` put exactly the texts of `Lines`, `LogLines`,
+//! `ObjectLines` and `RowLines`, and take no memory; what `write_rows` puts reads again as the same rows. A `Gathered`
+//! has many lines go out in large pieces.
 //!
 //! Not here: what an operation answers (`plain_list`), which refusal comes when (`location_run`).
 #![tactic(auto)]
@@ -26,7 +26,7 @@ mod written;
 
 pub use gathering::Gathered;
 pub use lines::{refusal_line, write_line, write_title};
-pub use log_lines::{write_counts, write_made, write_summary};
+pub use log_lines::{write_compacted, write_counts, write_made, write_summary};
 pub use numbers::number_in;
 pub use object_lines::write_objects;
 pub use read::read_rows;

@@ -1,9 +1,9 @@
-//! Lines of counts: what was found in a log, and what made rows leave.
+//! Lines of counts: what was found in a log, what made rows leave, and what was written of a log.
 ghost use Rattle.std.specs.Prelude.{◌≡◌, ◌≤◌, ◌+◌, ◌++◌, length};
 ghost use Rattle.arrayvec.specs.ArrayVec.{array_vec_len};
 ghost use Rattle.causes.specs.Causes.{Counts};
 ghost use Rattle.io_edge.specs.Puts.{Puts};
-ghost use Rattle.csv_rows.specs.LogLines.{made_line, count_line, counts_text, summary_text};
+ghost use Rattle.csv_rows.specs.LogLines.{made_line, count_line, counts_text, summary_text, compacted_line};
 
 use crate::pieces::{Piece, add_number, push_str};
 use crate::rows::{LogCounts, Summary};
@@ -39,6 +39,16 @@ pub fn write_summary<K: Sink>(sink: &mut K, summary: &Summary) -> Result<(), Sin
     add_count(&mut piece, "rows ", summary.rows);
     add_count(&mut piece, "points ", summary.points);
     add_count(&mut piece, "sum ", summary.sum);
+    sink.put(piece.as_slice())
+}
+
+/// Writes how many cells a log has that was written anew.
+pub fn write_compacted<K: Sink>(sink: &mut K, cells: u64) -> Result<(), SinkFault>
+    ensures bytes { Puts (K.output sink.old).taken (K.output sink.new).taken (compacted_line cells) result }
+    ensures cause { Counts (K.output sink.old).faults (K.output sink.new).faults result }
+{
+    let mut piece = Piece::new();
+    add_count(&mut piece, "compacted ", cells);
     sink.put(piece.as_slice())
 }
 
