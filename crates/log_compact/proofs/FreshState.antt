@@ -92,10 +92,10 @@ left-split w width name before roots left =
     let cs = children_are w name width in
     all-weaken (λ b. ArePartedFrom b (name ∷ roots)) (λ b. ArePartedFrom b (children w name ++ roots))
     (λ b all. all-append (λ c. is_left b c ≡ true) (children w name) roots
-        (all-weaken (IsChild w name) (λ c. is_left b c ≡ true)
-            (λ c is. subst (λ (m : List Bool). is_left b m ≡ true) (sym is.is) (subst (λ (m : List Bool). is_left m (name ++ is.bits) ≡ true) (append-nil b) (left-more b name [] is.bits all.0)))
-            (children w name) cs.grown)
-        all.1)
+    (all-weaken (IsChild w name) (λ c. is_left b c ≡ true)
+    (λ c is. subst (λ (m : List Bool). is_left b m ≡ true) (sym is.is) (subst (λ (m : List Bool). is_left m (name ++ is.bits) ≡ true) (append-nil b) (left-more b name [] is.bits all.0)))
+    (children w name) cs.grown)
+    all.1)
     before left
 
 left-head : (before roots : List (List Bool)) (name : List Bool) → AreLeft before (name ∷ roots) → AllByRecursion (λ b. is_left b name ≡ true) before
@@ -140,12 +140,12 @@ puts-lead w world is leaves k (suc j) i e =
     let rest = puts-lead w world is leaves k j (i + 1) (omega (arith, e)) in
     let next : after_of (take i world) (Put m.id m.at m.moment) ≡ take (i + 1) world = after_put-new m (take i world) none room ∙ with_member-next world i d lt is.rising in
     let possible : is_change (option_map_or Present (position_of (take i world) m.id) (cond (is_full (take i world)) Full Done)) ≡ true =
-        (λ t. is_change (option_map_or Present (none t) (cond (not_full t) Full Done))) in
+    (λ t. is_change (option_map_or Present (none t) (cond (not_full t) Full Done))) in
     subst (λ (l : World). Leads_to w (settled (take i world) leaves k) (settled world leaves k) (put_cells l)) (sym (drop_more world i d lt))
     (record {
-        legal = both_true possible (ap (λ (l : World). is_legal_cells w (settled l leaves k) (put_cells (drop (i + 1) world))) next ∙ rest.legal);
-        after = ap (λ (l : World). cells_after w (settled l leaves k) (put_cells (drop (i + 1) world))) next ∙ rest.after;
-      })
+      legal = both_true possible (ap (λ (l : World). is_legal_cells w (settled l leaves k) (put_cells (drop (i + 1) world))) next ∙ rest.legal);
+      after = ap (λ (l : World). cells_after w (settled l leaves k) (put_cells (drop (i + 1) world))) next ∙ rest.after;
+    })
   where
     full-not : (n : ℕ) → n < most_members → nat_le most_members n ≡ false
     full-not n lt = grind (arith, nat_tests)
@@ -159,8 +159,8 @@ fresh_state w width world leaves is by short =
     let cells : List Cell = split_cells 1 inner ++ put_cells world in
     let same : fresh_cells w world leaves ≡ cells = ap (λ (l : List (List Bool)). split_cells 1 l ++ put_cells world) (inner_names-forest w width leaves inner f) in
     let after : state_of w cells ≡ settled world leaves (0 + length inner) =
-        cells_after-append w (settled [] ([] ∷ []) 0) (split_cells 1 inner) (put_cells world) ∙ ap (λ s. cells_after w s (put_cells world)) split.after ∙ put.after in
+    cells_after-append w (settled [] ([] ∷ []) 0) (split_cells 1 inner) (put_cells world) ∙ ap (λ s. cells_after w s (put_cells world)) split.after ∙ put.after in
     let legal : IsLegalCells w cells =
-        legal-append w (settled [] ([] ∷ []) 0) (split_cells 1 inner) (put_cells world) split.legal (ap (λ s. is_legal_cells w s (put_cells world)) split.after ∙ put.legal) in
+    legal-append w (settled [] ([] ∷ []) 0) (split_cells 1 inner) (put_cells world) split.legal (ap (λ s. is_legal_cells w s (put_cells world)) split.after ∙ put.legal) in
     subst (λ (l : List Cell). IsStateOf w l world leaves) (sym same)
     (record { legal = legal; world_is = ap (λ s. s.world) after; leaves_are = ap (λ s. s.leaves) after; at_rest = ap (λ s. s.splits) after })

@@ -55,7 +55,7 @@ walked w width _ _ _ (split n roots leaves inner f) aligned old short =
     let cs = children_are w n width in
     let grown : AllByRecursion (IsChild w n) (cs.first ∷ cs.others) = subst (AllByRecursion (IsChild w n)) cs.are cs.grown in
     let old_now : AreOldBehind w (children w n ++ roots) = subst (λ (l : List (List Bool)). AreOldBehind w (l ++ roots)) (sym cs.are)
-        (all-append (λ m. new_names w m ≡ []) cs.others roots (old-others w width n aligned.0 cs.others grown.1 (cs.above room)) old) in
+    (all-append (λ m. new_names w m ≡ []) cs.others roots (old-others w width n aligned.0 cs.others grown.1 (cs.above room)) old) in
     let aligned_now : AreAligned w (children w n ++ roots) = all-append (λ m. is_aligned w m ≡ true) (children w n) roots (aligned-children w width n aligned.0 (children w n) cs.grown) aligned.1 in
     walked w width (children w n ++ roots) leaves inner f aligned_now old_now short
     ∙ ap (λ (l : List (List Bool)). new_at_head w (l ++ roots) ++ inner) cs.are
@@ -74,9 +74,10 @@ parted-append (n ∷ names) roots first second left =
 -- what is left of other names is so with more bits
 left-grown : (name c : List Bool) (w : ℕ) → IsChild w name c → (roots : List (List Bool)) → ArePartedFrom name roots → ArePartedFrom c roots
 left-grown name c w is [] left = tt
-left-grown name c w is (r ∷ roots) left =
-    (subst (λ (a : List Bool). is_left a r ≡ true) (sym is.is) (subst (λ (b : List Bool). is_left (name ++ is.bits) b ≡ true) (append-nil r) (left-more name r is.bits [] left.0)),
-    left-grown name c w is roots left.1)
+left-grown name c w is (r ∷ roots) left = (
+  subst (λ (a : List Bool). is_left a r ≡ true) (sym is.is) (subst (λ (b : List Bool). is_left (name ++ is.bits) b ≡ true) (append-nil r) (left-more name r is.bits [] left.0)),
+  left-grown name c w is roots left.1,
+)
 
 pub parted-children : (w : ℕ) → IsWidth w → (name : List Bool) (roots : List (List Bool)) → ArePartedFrom name roots → AreParted roots → AreParted (children w name ++ roots)
 parted-children w width name roots left parted =
@@ -112,7 +113,7 @@ before-child : (w : ℕ) → IsWidth w → (names : List (List Bool)) (name c : 
 before-child w width names name c before is =
     before-push names name c
     (all-weaken (λ n. comes_before n name ≡ true) (λ n. comes_before n c ≡ true)
-        (λ n e. subst (λ (m : List Bool). comes_before n m ≡ true) (sym is.is) (before-more n name is.bits e)) names before)
+    (λ n e. subst (λ (m : List Bool). comes_before n m ≡ true) (sym is.is) (before-more n name is.bits e)) names before)
     (before_child w width name c is)
 
 among-child : (w : ℕ) → IsWidth w → (names : List (List Bool)) (name c : List Bool) → is_aligned w name ≡ true → AllByRecursion (IsAmong names) (prefixes_by w name) → IsChild w name c
@@ -120,7 +121,7 @@ among-child : (w : ℕ) → IsWidth w → (names : List (List Bool)) (name c : L
 among-child w width names name c aligned among is =
     subst (AllByRecursion (IsAmong (names ++ name ∷ []))) (sym (prefixes_by-child w width name c aligned is))
     (all-append (IsAmong (names ++ name ∷ [])) (prefixes_by w name) (name ∷ []) (all-weaken (IsAmong names) (IsAmong (names ++ name ∷ [])) (λ n. among-push names name n) (prefixes_by w name) among)
-        (among-last names name, tt))
+    (among-last names name, tt))
 
 ready-split : (w : ℕ) → IsWidth w → (names : List (List Bool)) (name : List Bool) (roots : List (List Bool)) → IsReady w names (name ∷ roots) → IsReady w (names ++ name ∷ []) (children w name ++ roots)
 ready-split w width names name roots ready =
@@ -135,7 +136,7 @@ ready-split w width names name roots ready =
       among = all-append (λ r. AllByRecursion (IsAmong more) (prefixes_by w r)) (children w name) roots
           (all-weaken (IsChild w name) (λ r. AllByRecursion (IsAmong more) (prefixes_by w r)) (λ c is. among-child w width names name c ready.aligned.0 ready.among.0 is) (children w name) cs.grown)
           (all-weaken (λ r. AllByRecursion (IsAmong names) (prefixes_by w r)) (λ r. AllByRecursion (IsAmong more) (prefixes_by w r))
-              (λ r all. all-weaken (IsAmong names) (IsAmong more) (λ n. among-push names name n) (prefixes_by w r) all) roots ready.among.1);
+          (λ r all. all-weaken (IsAmong names) (IsAmong more) (λ n. among-push names name n) (prefixes_by w r) all) roots ready.among.1);
       aligned = all-append (λ m. is_aligned w m ≡ true) (children w name) roots (aligned-children w width name ready.aligned.0 (children w name) cs.grown) ready.aligned.1;
     }
 
@@ -154,21 +155,21 @@ put-split w width names name roots leaves ready (b ∷ bits) long below =
     let rest : List (List Bool) = flat_map (prefixes_by w) below.rest in
     let put = λ (ns : List (List Bool)) (n : List Bool). with_name n ns in
     let text : flat_map (prefixes_by w) leaves ≡ old ++ (name ∷ tail ++ rest) =
-        ap (flat_map (prefixes_by w)) below.are
-        ∙ ap (λ (m : List Bool). prefixes_by w m ++ rest) (append_assoc name (b ∷ bits) below.bits)
-        ∙ ap (λ (l : List (List Bool)). l ++ rest) (prefixes_by-append w name b (bits ++ below.bits) ready.aligned.0)
-        ∙ append_assoc old (name ∷ tail) rest in
+    ap (flat_map (prefixes_by w)) below.are
+    ∙ ap (λ (m : List Bool). prefixes_by w m ++ rest) (append_assoc name (b ∷ bits) below.bits)
+    ∙ ap (λ (l : List (List Bool)). l ++ rest) (prefixes_by-append w name b (bits ++ below.bits) ready.aligned.0)
+    ∙ append_assoc old (name ∷ tail) rest in
     let rising : AreRising more = rising-push name names ready.rising ready.before.0 in
     let among : AllByRecursion (IsAmong more) (old ++ name ∷ []) =
-        all-append (IsAmong more) old (name ∷ []) (all-weaken (IsAmong names) (IsAmong more) (λ n. among-push names name n) old ready.among.0) (among-last names name, tt) in
+    all-append (IsAmong more) old (name ∷ []) (all-weaken (IsAmong names) (IsAmong more) (λ n. among-push names name n) old ready.among.0) (among-last names name, tt) in
     let once : with_names names (old ++ (name ∷ tail ++ rest)) ≡ with_names more (tail ++ rest) =
-        fold-append put names old (name ∷ tail ++ rest)
-        ∙ ap (λ (ns : List (List Bool)). with_names ns (name ∷ tail ++ rest)) (with_names-among names old ready.rising ready.among.0)
-        ∙ ap (λ (ns : List (List Bool)). with_names ns (tail ++ rest)) (with_name-last name names ready.before.0) in
+    fold-append put names old (name ∷ tail ++ rest)
+    ∙ ap (λ (ns : List (List Bool)). with_names ns (name ∷ tail ++ rest)) (with_names-among names old ready.rising ready.among.0)
+    ∙ ap (λ (ns : List (List Bool)). with_names ns (tail ++ rest)) (with_name-last name names ready.before.0) in
     let again : with_names more (old ++ (name ∷ tail ++ rest)) ≡ with_names more (tail ++ rest) =
-        ap (with_names more) (sym (append_assoc old (name ∷ []) (tail ++ rest)))
-        ∙ fold-append put more (old ++ name ∷ []) (tail ++ rest)
-        ∙ ap (λ (ns : List (List Bool)). with_names ns (tail ++ rest)) (with_names-among more (old ++ name ∷ []) rising among) in
+    ap (with_names more) (sym (append_assoc old (name ∷ []) (tail ++ rest)))
+    ∙ fold-append put more (old ++ name ∷ []) (tail ++ rest)
+    ∙ ap (λ (ns : List (List Bool)). with_names ns (tail ++ rest)) (with_names-among more (old ++ name ∷ []) rising among) in
     ap (with_names names) text ∙ once ∙ sym again ∙ sym (ap (with_names more) text)
 
 -- put in order, the prefixes of the leaves are the names that were split

@@ -33,7 +33,7 @@ pub left_at-next : (w : ℕ) (leaf : List Bool) (k : ℕ) → k < length leaf
 left_at-next w leaf k lt =
     ap (filter (is_first w leaf))
     (drop_more (proper_prefixes leaf) k [] (omega (arith, lt, length-proper_prefixes leaf))
-        ∙ ap (λ (p : List Bool). p ∷ drop (k + 1) (proper_prefixes leaf)) (get_or-proper_prefixes leaf k lt))
+    ∙ ap (λ (p : List Bool). p ∷ drop (k + 1) (proper_prefixes leaf)) (get_or-proper_prefixes leaf k lt))
 
 pub left_at-none : (w : ℕ) (leaf : List Bool) (k : ℕ) → length leaf ≤ k → left_at w leaf k ≡ []
 left_at-none w leaf k le = ap (filter (is_first w leaf)) (drop_all k (proper_prefixes leaf) (omega (arith, le, length-proper_prefixes leaf)))

@@ -50,10 +50,10 @@ module _ (w : ℕ) (cells : List Cell) (legal : IsLegalCells w cells) (old mid n
 pub small-on_way : (w : ℕ) (cells : List Cell) (old new : Drive) → KeepsSmall old new → KeepsOnWay w cells old new
 small-on_way w cells old new kept = record {
   on_way = λ bytes told small. (let leaves = kept.small small in record {
-      later = leaves.later;
-      each = λ c left. inl (leaves.each c left);
-      before = λ t c le left. ⊎_elim (λ earlier. inl earlier) (λ s. inr (inl s)) (leaves.before t c le left);
-    });
+    later = leaves.later;
+    each = λ c left. inl (leaves.each c left);
+    before = λ t c le left. ⊎_elim (λ earlier. inl earlier) (λ s. inr (inl s)) (leaves.before t c le left);
+  });
   in_use = kept.in_use;
   later = kept.later;
   file = kept.file;

@@ -25,7 +25,6 @@ length-part cell byte = omega (arith, length-append (body_of cell) (byte ∷ [])
 -- a piece with one cell more
 module _ (all piece new : List ℕ) (place : ℕ) (cell : Cell) (cells : List Cell) (long : length piece ≡ 65536) (within : place < 2048)
     (so_far : all ≡ take (32 * place) piece ++ behind_first (cell ∷ cells)) where
-
   taken : (byte n : ℕ) → new ≡ body_of cell ++ byte ∷ [] → n ≡ 32 * place + 32
       → take n (put_mid (32 * place) (32 * place + 32 - 32 * place) piece new) ≡ take (32 * place) piece ++ (body_of cell ++ byte ∷ [])
   taken byte n is e =

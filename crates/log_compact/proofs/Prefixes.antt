@@ -22,7 +22,7 @@ proper_prefixes-append (a ∷ name) more = ap (λ (l : List (List Bool)). [] ∷
     ap (map (λ (p : List Bool). a ∷ p)) (proper_prefixes-append name more)
     ∙ map-append (λ (p : List Bool). a ∷ p) (proper_prefixes name) (map (λ p. name ++ p) (proper_prefixes more))
     ∙ ap (λ (l : List (List Bool)). map (λ p. a ∷ p) (proper_prefixes name) ++ l) (under_both a name (proper_prefixes more))
-)
+    )
 
 -- whether a name may be split by w bits
 abbrev pub is_aligned : ℕ → List Bool → Bool
@@ -49,7 +49,7 @@ later-none w (inr both) name b (c ∷ d ∷ more) aligned long = absurd (omega a
 later-none w (inr both) name b (c ∷ []) aligned long =
     let even : length name % 2 ≡ 0 = subst (λ v. length name % v ≡ 0) both (eqb-true (length name % w) 0 aligned) in
     let odd : (length (name ++ b ∷ []) % w == 0) ≡ false = subst (λ v. (length (name ++ b ∷ []) % v == 0) ≡ false) (sym both)
-        (ne_eqb (length (name ++ b ∷ []) % 2) 0 (λ e. absurd (omega (arith, e, length-append name (b ∷ []), even)))) in
+    (ne_eqb (length (name ++ b ∷ []) % 2) 0 (λ e. absurd (omega (arith, e, length-append name (b ∷ []), even)))) in
     ap (λ t. cond t ((name ++ b ∷ []) ∷ []) []) odd
 
 -- the prefixes of a child: those of the name, and the name

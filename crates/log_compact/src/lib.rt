@@ -6,6 +6,7 @@
 //! Not here: how the old log is read (`recovery`), appends to a log (`split_log`).
 #![tactic(auto)]
 
+mod cell_count;
 mod cells;
 mod compacting;
 mod laws;
@@ -13,4 +14,5 @@ mod names;
 mod pieces;
 mod staging;
 
+pub use cell_count::count_fresh;
 pub use compacting::{CompactFault, CompactRefused, compact};

@@ -17,7 +17,11 @@ pub(crate) const PIECE: usize = CELL * MOST;
 
 /// Fills a piece with a cell and those after it, as many as have room: of each what stands behind its commit byte, and the commit byte of the
 /// one after it, which is set, or clear where none is left. Gives the number of bytes, and the first cell that had no room.
-pub(crate) fn fill(piece: &mut [u8; PIECE], first: Cell, cells: &mut FreshCells) -> (usize, Option<Cell>)
+pub(crate) fn fill(
+    piece: &mut [u8; PIECE],
+    first: Cell,
+    cells: &mut FreshCells,
+) -> (usize, Option<Cell>)
     ensures text { behind_first (first ∷ cells.old) ≡ take result.0 piece.new ++ behind_first (and_taken result.1 cells.new) }
     ensures fits { AreCells (and_taken result.1 cells.new) → AreCells (first ∷ cells.old) }
     ensures fewer { length (and_taken result.1 cells.new) ≤ length cells.old }

@@ -17,16 +17,16 @@ pub returns-in-Ok-write_cells-clause-ok : goal.returns-in-Ok-write_cells-clause-
 returns-in-Ok-write_cells-clause-ok g c =
     subst (λ (cells : List Cell). IsCompacted c.args.width cells (g.D.LogDisk.drive c.args.target) (g.D.LogDisk.drive c.write_cells.new.disk)) c.of-cells.ensures.cells
     (compacted c.args.width c.of-cells.result c.of-cells.ensures.state.legal (g.D.LogDisk.drive c.args.target) (g.D.LogDisk.drive c.in-Ok.disk) (g.D.LogDisk.drive c.write_cells.new.disk)
-        c.in-Ok.ensures.made (c.in-Ok-write_cells.ensures.written c.args.width) c.in-Ok-write_cells.ensures.cause.same)
+    c.in-Ok.ensures.made (c.in-Ok-write_cells.ensures.written c.args.width) c.in-Ok-write_cells.ensures.cause.same)
 
 pub returns-in-Ok-write_cells-clause-any_moment : goal.returns-in-Ok-write_cells-clause-any_moment
 returns-in-Ok-write_cells-clause-any_moment g c =
     subst (λ (cells : List Cell). KeepsOnWay c.args.width cells (g.D.LogDisk.drive c.args.target) (g.D.LogDisk.drive c.write_cells.new.disk)) c.of-cells.ensures.cells
     (kept-on_way c.args.width c.of-cells.result c.of-cells.ensures.state.legal (g.D.LogDisk.drive c.args.target) (g.D.LogDisk.drive c.in-Ok.disk) (g.D.LogDisk.drive c.write_cells.new.disk)
-        c.in-Ok.ensures.made c.in-Ok.ensures.small (c.write_cells.ensures.any_moment c.args.width) c.write_cells.ensures.cause.later c.write_cells.ensures.cause.file)
+    c.in-Ok.ensures.made c.in-Ok.ensures.small (c.write_cells.ensures.any_moment c.args.width) c.write_cells.ensures.cause.later c.write_cells.ensures.cause.file)
 
 pub returns-in-Err-write_cells-clause-any_moment : goal.returns-in-Err-write_cells-clause-any_moment
 returns-in-Err-write_cells-clause-any_moment g c =
     subst (λ (cells : List Cell). KeepsOnWay c.args.width cells (g.D.LogDisk.drive c.args.target) (g.D.LogDisk.drive c.write_cells.new.disk)) c.of-cells.ensures.cells
     (kept-on_way c.args.width c.of-cells.result c.of-cells.ensures.state.legal (g.D.LogDisk.drive c.args.target) (g.D.LogDisk.drive c.in-Ok.disk) (g.D.LogDisk.drive c.write_cells.new.disk)
-        c.in-Ok.ensures.made c.in-Ok.ensures.small (c.write_cells.ensures.any_moment c.args.width) c.write_cells.ensures.cause.later c.write_cells.ensures.cause.file)
+    c.in-Ok.ensures.made c.in-Ok.ensures.small (c.write_cells.ensures.any_moment c.args.width) c.write_cells.ensures.cause.later c.write_cells.ensures.cause.file)

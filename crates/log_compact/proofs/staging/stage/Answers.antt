@@ -49,4 +49,4 @@ pieces-preserved g c =
     let long : length sent ≡ c.fill-filled.result.0 = omega (arith, length-take c.fill-filled.result.0 c.fill-filled.new.piece, c.fill-filled.ensures.most, c.fill-filled.array_long) in
     subst (λ n. IsStaging all left (c.pieces.at + n) here next) long
     (staging-more here now next (g.met.D.LogDisk.keeps_laws c.pieces.disk) c.pieces.at sent c.write.result (omega (arith, so_far.at_is)) c.write.ensures.writes
-        c.in_ok-write.ensures.writes.done so_far.whole all rest left so_far c.fill-filled.ensures.text c.fill-filled.ensures.fits c.in_ok-write.ensures.cause.same c.in_ok-write.ensures.cause.file)
+    c.in_ok-write.ensures.writes.done so_far.whole all rest left so_far c.fill-filled.ensures.text c.fill-filled.ensures.fits c.in_ok-write.ensures.cause.same c.in_ok-write.ensures.cause.file)

@@ -1,0 +1,17 @@
+//! How many cells a fresh log has.
+ghost use Rattle.std.specs.Prelude.{◌≡◌, ◌⊎◌, ◌≤◌, ◌^◌, length};
+ghost use Rattle.log_compact.specs.Fresh.{fresh_cells, ComesBySplits};
+
+use crate::cells::FreshCells;
+use recovery::Seen;
+
+/// How many cells `compact` writes. It takes no memory.
+pub fn count_fresh(seen: &Seen, width: u8) -> u64
+    requires width { (width ≡ 1) ⊎ (width ≡ 2) }
+    requires splits { ComesBySplits width seen.now.leaves }
+    requires few { length (fresh_cells width seen.now.world seen.now.leaves) ≤ 2 ^ 24 }
+
+    ensures { result ≡ length (fresh_cells width seen.now.world seen.now.leaves) }
+{
+    FreshCells::of(seen, width).count() as u64
+}
