@@ -1,5 +1,5 @@
 -- What an attach and what follows it come to.
-use Rattle.std.proofs.Common.{◌≡◌, ◌⊎◌, inr, ◌∙◌, ℕ, ◌≤◌, Bool, true, List, [], ◌∷◌, length, Some, Result, Err, refl, ap, subst, arith}
+use Rattle.std.proofs.Common.{◌≡◌, ◌⊎◌, inr, ◌∙◌, ℕ, ◌≤◌, Bool, true, List, [], ◌∷◌, length, Some, is_some, Result, Err, refl, ap, subst, arith}
 use Rattle.std.specs.Prelude.{IfErr, ◌≢◌}
 use Rattle.std.specs.Result.{IsErrAnd}
 use Rattle.disk_trait.specs.declared.disk.AttachFault.{AttachFault}
@@ -28,7 +28,7 @@ use Rattle.run_ends.proofs.LogFaults.{reading-after, calm-free, calm-named}
 
 pub makes-after : (a b c : Drive) → Stays a b → b.faults ≡ a.faults → Makes 1 b c → Makes 1 a c
 makes-after a b c stays calm makes =
-    record { log = λ bytes told. makes.log bytes (stays.bytes ∙ told); same = makes.same ∙ calm; calls = still-made (true ∷ true ∷ []) a b c stays.calls makes.calls }
+    record { log = λ bytes told. makes.log bytes (stays.bytes ∙ told); same = makes.same ∙ calm; told = makes.told ∙ ap is_some stays.bytes; calls = still-made (true ∷ true ∷ []) a b c stays.calls makes.calls }
 
 -- a log in which something is at fault
 pub checking-after : (a b c : Drive) (result : Result Seen OpenFault) (fault : OpenFault) → result ≡ Err fault → Stays a b → a.faults ≤ b.faults
