@@ -16,7 +16,7 @@ use Rattle.run_ends.specs.LogFaults.{log_refusal}
 use Rattle.log_run.specs.Checking.{IsDecided, IsDecidedBy, IsCheckingCause, HasReadUnless, EndsTelling}
 
 -- the line of a refusal is put
-decided-refused : (old new : Drive) (why : Refusal) (status : ℕ) (before after : Output) → IsDecidedBy {T = Seen} most_inspected old new (Err why) → Refuses why status before after → IsDecided old new status before after
+pub decided-refused : (old new : Drive) (why : Refusal) (status : ℕ) (before after : Output) → IsDecidedBy {T = Seen} most_inspected old new (Err why) → Refuses why status before after → IsDecided old new status before after
 decided-refused old new why status before after by refuses = record {
   exact = λ bytes fault told shown wrong calm. named fault (by.exact bytes fault told shown wrong calm);
   whole = λ bytes cells told text few calm quiet. inr (refuses.status_is ∙ ap status_of (by.whole bytes cells told text few calm));

@@ -1,4 +1,5 @@
 pub mod DriveSteps
 pub mod MakingEnds
 pub mod CheckingFacts
+pub mod AnewEnds
 pub mod StatusFacts

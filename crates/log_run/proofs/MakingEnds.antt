@@ -19,15 +19,15 @@ use Rattle.run_ends.specs.Taking.{Refuses}
 use Rattle.log_run.specs.Making.{IsMakingCause, LeavesFile, EndsMaking}
 
 -- a line that was put, or couldn't be
-ends-writing : {T E : Type 0} (text : List ℕ) (old new : Output) (wrote : Result T E) → Puts old.taken new.taken text wrote → Counts old.faults new.faults wrote → EndsWriting text (written_status wrote) old new
+pub ends-writing : {T E : Type 0} (text : List ℕ) (old new : Output) (wrote : Result T E) → Puts old.taken new.taken text wrote → Counts old.faults new.faults wrote → EndsWriting text (written_status wrote) old new
 ends-writing text old new (Ok x) puts counts = inl (refl, puts, counts.same)
 ends-writing text old new (Err e) puts counts = inr (refl, counts.failed, (puts.0, puts.2))
 
-whole-writing : {T E : Type 0} (before now : ℕ) (wrote : Result T E) → Counts before now wrote → (Rose before now → ⊥) → written_status wrote ≡ 0
+pub whole-writing : {T E : Type 0} (before now : ℕ) (wrote : Result T E) → Counts before now wrote → (Rose before now → ⊥) → written_status wrote ≡ 0
 whole-writing before now (Ok x) counts calm = refl
 whole-writing before now (Err e) counts calm = absurd (calm counts.failed)
 
-not-ten : {T E : Type 0} (wrote : Result T E) → written_status wrote ≡ 10 → ⊥
+pub not-ten : {T E : Type 0} (wrote : Result T E) → written_status wrote ≡ 10 → ⊥
 not-ten (Ok x) ten = omega (arith, ten)
 not-ten (Err e) ten = omega (arith, ten)
 
@@ -45,12 +45,12 @@ ends-made file old new wrote puts counts made attached leaves = record {
 }
 
 -- what the bytes say of a refusal
-record Bears (old new : Drive) (status : ℕ) : Type 0 where
+pub record Bears (old new : Drive) (status : ℕ) : Type 0 where
   pub in_use : status ≡ 10 → (bytes : List ℕ) → old.bytes ≡ Some bytes → 17 < length bytes
   pub exact : (bytes : List ℕ) → old.bytes ≡ Some bytes → 17 < length bytes → (Rose old.faults new.faults → ⊥) → (status ≡ 10) ⊎ (status ≡ 9)
   pub whole : (bytes : List ℕ) → old.bytes ≡ Some bytes → length bytes ≤ 17 → (Rose old.faults new.faults → ⊥) → (status ≡ 0) ⊎ (status ≡ 9)
 
-bears : (old new : Drive) (why : Refusal) → IsMakingCause old new why → Bears old new (status_of why)
+pub bears : (old new : Drive) (why : Refusal) → IsMakingCause old new why → Bears old new (status_of why)
 bears old new refusal.Usage cause = absurd cause
 bears old new refusal.Header cause = absurd cause
 bears old new (refusal.Csv row) cause = absurd cause

@@ -9,9 +9,11 @@
 #![tactic(auto)]
 
 mod checking;
+mod compacting;
 mod making;
 mod showing;
 
 pub use checking::check_log;
+pub use compacting::compact_log;
 pub use making::make_log;
 pub use showing::show_log;

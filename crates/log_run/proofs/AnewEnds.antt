@@ -1,0 +1,174 @@
+-- How a writing anew ends.
+use Rattle.std.proofs.Common.{◌≡◌, inl, inr, ◌∙◌, ℕ, ◌≤◌, Bool, true, false, List, length, Result, Ok, Err, refl, sym, ap, subst, arith}
+use Rattle.std.specs.Prelude.{◌≢◌}
+use Rattle.causes.specs.Causes.{Rose, Counts}
+use Rattle.io_edge.specs.Puts.{Puts}
+use Rattle.io_edge.specs.Streams.{Output}
+use Rattle.disk_trait.specs.Drive.{Drive, AttachedOne, KeepsLaws, Stays}
+use Rattle.cell_format.specs.declared.cell.Cell.{Cell}
+use Rattle.plain_list.specs.World.{World}
+use Rattle.log_state.specs.Recovers.{state_of}
+use Rattle.recovery.specs.Found.{IsFound}
+use Rattle.recovery.specs.declared.seen.Seen.{Seen}
+use Rattle.recovery.proofs.OnlyReading.{rose-earlier, stays-trans}
+use Rattle.recovery.proofs.OpeningLemmas.{leaves-trans, leaves-stays}
+use Rattle.log_compact.specs.Fresh.{ComesBySplits}
+use Rattle.log_compact.specs.Compacting.{IsCompacted, IsOnWay, KeepsOnWay, RefusesCompact}
+use Rattle.log_compact.specs.declared.compacting.CompactFault.{CompactFault}
+use Rattle.log_compact.specs.declared.compacting.CompactFault.TheVariants as compact_fault
+use Rattle.log_compact.proofs.Counting.{comes_by_splits, fresh_few}
+use Rattle.csv_rows.specs.declared.rows.Refusal.{Refusal}
+use Rattle.csv_rows.specs.declared.rows.Refusal.TheVariants as refusal
+use Rattle.csv_rows.specs.LogLines.{compacted_line}
+use Rattle.run_ends.specs.Limits.{width, oldest_read, most_inspected}
+use Rattle.run_ends.specs.Status.{status_of, written_status}
+use Rattle.run_ends.specs.Taking.{Refuses}
+use Rattle.run_ends.specs.Attaching.{AttachesOnce}
+use Rattle.run_ends.proofs.Attaching.{attaches-one, attaches-as}
+use Rattle.log_run.specs.Making.{IsMakingCause}
+use Rattle.log_run.specs.Checking.{IsCheckingCause, IsDecidedBy, FindsCells, HasRead, HasReadUnless}
+use Rattle.log_run.specs.Compacting.{MakesAnew, LeavesNew, EndsAnew, BothTargets, RecoversFew, EndsCompacting, compact_refusal, anew}
+use Rattle.log_run.proofs.MakingEnds.{bears, ends-writing, whole-writing, not-ten}
+use Rattle.log_run.proofs.CheckingFacts.{decided-refused}
+
+-- what was found may be written anew
+module _ (drive : Drive) (seen : Seen) (found : IsFound oldest_read width most_inspected drive seen) where
+  pub splits-found : ComesBySplits width seen.leaves
+  splits-found = subst (ComesBySplits width) (sym found.finds.leaves) (comes_by_splits width found.cells)
+
+  pub few-found : length (anew seen.world seen.leaves) ≤ most_inspected
+  few-found =
+      let few = fresh_few width (inl refl) found.cells found.legal in
+      let same : anew seen.world seen.leaves ≡ anew (state_of width found.cells).world (state_of width found.cells).leaves = λ i. anew (found.finds.world i) (found.finds.leaves i) in
+      omega (arith, ap length same, few, found.few)
+
+  ends-found : (name : List ℕ) (old new : Drive) (status : ℕ) (before after : Output) → EndsAnew seen.world seen.leaves name old new status before after
+      → EndsAnew (state_of width found.cells).world (state_of width found.cells).leaves name old new status before after
+  ends-found name old new status before after ends =
+      subst (λ (w : World). EndsAnew w (state_of width found.cells).leaves name old new status before after) found.finds.world
+      (subst (λ (l : List (List Bool)). EndsAnew seen.world l name old new status before after) found.finds.leaves ends)
+
+  cells-found : FindsCells drive found.cells
+  cells-found = record { legal = found.legal; few = found.few; recovers = found.recovers }
+
+-- a file that was attached, and what was written to it
+module _ (fresh : List Cell) (a b c : Drive) (laws : KeepsLaws a) (stays : Stays a b) where
+  pub compacted-after : b.faults ≡ a.faults → IsCompacted width fresh b c → IsCompacted width fresh a c
+  compacted-after calm is = record { log = λ bytes told. is.log bytes (stays.bytes ∙ told); same = is.same ∙ calm }
+
+  pub leaves-attached : a.faults ≤ b.faults → LeavesNew fresh a b
+  leaves-attached later = record {
+    on_way = λ bytes told now. leaves-stays a b (IsOnWay width fresh) laws (λ bytes is. inl (now bytes is)) stays;
+    in_use = λ bytes told long. stays;
+    later = later;
+  }
+
+  pub leaves-written : a.faults ≤ b.faults → KeepsOnWay width fresh b c → LeavesNew fresh a c
+  leaves-written later keeps = record {
+    on_way = λ xs told now. leaves-trans a b c (IsOnWay width fresh) (leaves-stays a b (IsOnWay width fresh) laws (λ bytes is. inl (now bytes is)) stays) (keeps.on_way xs (stays.bytes ∙ told) (λ bytes is. now bytes (stays.images bytes is)));
+    in_use = λ bytes told long. stays-trans a b c stays (keeps.in_use bytes (stays.bytes ∙ told) long);
+    later = omega (arith, later, keeps.later);
+  }
+
+-- why nothing is written to the attached file
+pub cause-refused : (a b c : Drive) (cause : CompactFault) → Stays a b → a.faults ≤ b.faults → RefusesCompact b c cause → IsMakingCause a c (compact_refusal cause)
+cause-refused a b c (compact_fault.InUse len) stays later refuses = (refuses.0, (λ bytes told. refuses.1 bytes (stays.bytes ∙ told)), stays-trans a b c stays refuses.2)
+cause-refused a b c compact_fault.Disk stays later rose = rose-earlier a.faults b.faults c.faults later rose
+
+pub calm-refused : (a b c : Drive) (cause : CompactFault) → b.faults ≡ a.faults → RefusesCompact b c cause → status_of (compact_refusal cause) ≢ 7 → c.faults ≡ a.faults
+calm-refused a b c (compact_fault.InUse len) same refuses other = refuses.3 ∙ same
+calm-refused a b c compact_fault.Disk same rose other = absurd (other refl)
+
+-- the cells were written
+pub ends-anew : {T E : Type 0} (world : World) (leaves : List (List Bool)) (name : List ℕ) (old new : Drive) (before after : Output) (wrote : Result T E)
+    → Puts before.taken after.taken (compacted_line (length (anew world leaves))) wrote → Counts before.faults after.faults wrote → MakesAnew world leaves old new → AttachedOne name true old new
+    → LeavesNew (anew world leaves) old new → EndsAnew world leaves name old new (written_status wrote) before after
+ends-anew world leaves name old new before after wrote puts counts made attached left = record {
+  ends = inl (made, ends-writing (compacted_line (length (anew world leaves))) before after wrote puts counts);
+  in_use = λ ten. absurd (not-ten wrote ten);
+  exact = λ bytes told long calm. let small = (made.made.log bytes told).0 in absurd (omega (arith, small, long));
+  whole = λ bytes told small calm quiet. inl (whole-writing before.faults after.faults wrote counts quiet);
+  keeps = left;
+  calm = λ other. made.made.same;
+  attached = attaches-one name true old new (written_status wrote) attached;
+}
+
+-- they weren't
+pub ends-refused : (world : World) (leaves : List (List Bool)) (name : List ℕ) (old new : Drive) (before after : Output) (why : Refusal) (status : ℕ) → Refuses why status before after → IsMakingCause old new why
+    → AttachesOnce name true old new (status_of why) → (status_of why ≢ 7 → new.faults ≡ old.faults) → LeavesNew (anew world leaves) old new
+    → EndsAnew world leaves name old new status before after
+ends-refused world leaves name old new before after why status refuses cause attached calm left =
+    let is = refuses.status_is in
+    let it = bears old new why cause in
+    record {
+      ends = inr (why, cause, refuses);
+      in_use = λ ten. it.in_use (sym is ∙ ten);
+      exact = λ bytes told long steady. rw is (it.exact bytes told long steady);
+      whole = λ bytes told small steady quiet. rw is (it.whole bytes told small steady);
+      keeps = left;
+      calm = λ other. calm (λ e. other (is ∙ e));
+      attached = attaches-as name true old new status (status_of why) is attached;
+    }
+
+-- a log that was read
+pub compacts-found : {D : Type 0} (file name : List ℕ) (old new : BothTargets D) (seen : Seen) (status : ℕ) (found : IsFound oldest_read width most_inspected old.to.drive seen)
+    → IsDecidedBy most_inspected old.to.drive new.to.drive (Ok seen) → HasRead file old.to.drive new.to.drive → Stays old.to.drive new.to.drive
+    → EndsAnew seen.world seen.leaves name old.other_drive new.other_drive status old.to.output new.to.output → EndsCompacting file name old new status
+compacts-found file name old new seen status found decided read stays ends = record {
+  ends = inr (record {
+    cells = found.cells;
+    found = cells-found old.to.drive seen found;
+    read = read;
+    ends = ends-found old.to.drive seen found name old.other_drive new.other_drive status old.to.output new.to.output ends;
+  });
+  decided = record {
+    exact = λ bytes fault told shown wrong calm. absurd (decided.exact bytes fault told shown wrong calm);
+    recovers = λ ten bytes told. (found.cells, (bytes, told, found.recovers bytes told, found.few));
+    long = ends.in_use;
+    in_use = λ cells bytes few told long calm steady. ends.exact bytes told long steady;
+    whole = λ cells bytes few told small calm steady quiet. ends.whole bytes told small steady quiet;
+  };
+  stays = stays;
+  calm = λ other. read.calm;
+  attached = attaches-one file false old.to.drive new.to.drive status read.attached;
+}
+
+-- no log is in use that is only read
+not-used : (old new : Drive) (why : Refusal) → IsCheckingCause old new why → status_of why ≡ 10 → ⊥
+not-used old new refusal.Usage cause ten = absurd cause
+not-used old new refusal.Header cause ten = absurd cause
+not-used old new (refusal.Csv row) cause ten = absurd cause
+not-used old new (refusal.Field row column) cause ten = absurd cause
+not-used old new refusal.NotLog cause ten = omega (arith, ten)
+not-used old new (refusal.OldLog version w) cause ten = omega (arith, ten)
+not-used old new (refusal.Damaged cell what) cause ten = omega (arith, ten)
+not-used old new refusal.Source cause ten = absurd cause
+not-used old new (refusal.Disk cell) cause ten = omega (arith, ten)
+not-used old new refusal.LongInput cause ten = absurd cause
+not-used old new refusal.ManyRows cause ten = absurd cause
+not-used old new refusal.LongLog cause ten = omega (arith, ten)
+not-used old new refusal.Memory cause ten = omega (arith, ten)
+not-used old new (refusal.InUse len) cause ten = absurd cause
+
+-- a log that wasn't
+pub compacts-refused : {D : Type 0} (file name : List ℕ) (old new : BothTargets D) (why : Refusal) (status : ℕ) → IsCheckingCause old.to.drive new.to.drive why
+    → IsDecidedBy {T = Seen} most_inspected old.to.drive new.to.drive (Err why) → HasReadUnless file old.to.drive new.to.drive why → Stays old.to.drive new.to.drive → Refuses why status old.to.output new.to.output
+    → new.other ≡ old.other → EndsCompacting file name old new status
+compacts-refused file name old new why status cause decided read stays refused other =
+    let is = refused.status_is in
+    let never : status ≡ 10 → ⊥ = λ ten. not-used old.to.drive new.to.drive why cause (sym is ∙ ten) in
+    let memory : (cells : List Cell) → RecoversFew old.to.drive cells → (Rose old.to.drive.faults new.to.drive.faults → ⊥) → status ≡ 9 =
+    λ cells few calm. is ∙ ap status_of (decided.whole few.0 cells few.1 few.2 few.3 calm) in
+    record {
+      ends = inl (record { refused = (why, cause, refused); other = other });
+      decided = record {
+        exact = (decided-refused old.to.drive new.to.drive why status old.to.output new.to.output decided refused).exact;
+        recovers = λ ten. absurd (never ten);
+        long = λ ten. absurd (never ten);
+        in_use = λ cells bytes few told long calm steady. inr (memory cells few calm);
+        whole = λ cells bytes few told small calm steady quiet. inr (memory cells few calm);
+      };
+      stays = stays;
+      calm = λ seven. read.calm (λ e. seven (is ∙ e));
+      attached = attaches-as file false old.to.drive new.to.drive status (status_of why) is read.attached;
+    }

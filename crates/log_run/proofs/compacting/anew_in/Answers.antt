@@ -1,0 +1,7 @@
+use Rattle.log_run.specs.Compacting.{anew}
+use Rattle.log_run.proofs.AnewEnds.{compacted-after}
+use Rattle.log_run.proofs.compacting.anew_in.Goals as goal
+
+pub returns-in-Ok-clause-made : goal.returns-in-Ok-clause-made
+returns-in-Ok-clause-made g c =
+    record { made = compacted-after (anew c.args.seen.now.world c.args.seen.now.leaves) (g.D.LogDisk.drive c.args.other) (g.D.LogDisk.drive c.attach.new.self) (g.D.LogDisk.drive c.in-Ok.other) (g.met.D.LogDisk.keeps_laws c.args.other) c.in_default.ensures.stays c.in_default.ensures.cause.same c.in-Ok.ensures.ok; state = c.in-Ok.ensures.state }

@@ -1,0 +1,126 @@
+-- The command `compact`.
+use Rattle.std.specs.Prelude.{◌≡◌, ◌≢◌, ◌⊎◌, ◌<◌, ◌≤◌, ℕ, Bool, List, [], length, Some, None, true, false}
+use Rattle.causes.specs.Causes.{Rose}
+use Rattle.disk_trait.specs.Drive.{Drive, Stays}
+use Rattle.disk_trait.specs.Moments.{LeavesNow, LeavesOnly}
+use Rattle.plain_list.specs.declared.entries.Entry.{Entry}
+use Rattle.plain_list.specs.World.{World}
+use Rattle.cell_format.specs.declared.cell.Cell.{Cell}
+use Rattle.log_state.specs.Recovers.{Recovers, state_of}
+use Rattle.recovery.specs.Faults.{IsFault, IsInBytes}
+use Rattle.recovery.specs.Making.{IsSmall}
+use Rattle.recovery.specs.declared.seen.OpenFault.{OpenFault}
+use Rattle.log_compact.specs.Fresh.{fresh_cells}
+use Rattle.log_compact.specs.State.{IsStateOf}
+use Rattle.log_compact.specs.Compacting.{IsCompacted, IsOnWay}
+use Rattle.log_compact.specs.declared.compacting.CompactFault.{CompactFault}
+use Rattle.log_compact.specs.declared.compacting.CompactFault.TheVariants as compact_fault
+use Rattle.csv_rows.specs.declared.rows.Refusal.{Refusal}
+use Rattle.csv_rows.specs.declared.rows.Refusal.TheVariants as refusal
+use Rattle.csv_rows.specs.LogLines.{compacted_line}
+use Rattle.io_edge.specs.Streams.{Output}
+use Rattle.run_ends.specs.LogFaults.{log_refusal}
+use Rattle.run_ends.specs.Limits.{width, oldest_read, most_inspected}
+use Rattle.run_ends.specs.Ends.{Ends, Targets, targets}
+use Rattle.run_ends.specs.Taking.{Refuses}
+use Rattle.run_ends.specs.Ending.{EndsWriting, EndsRefused}
+use Rattle.run_ends.specs.Attaching.{AttachesOnce}
+use Rattle.log_run.specs.Making.{IsMakingCause}
+use Rattle.log_run.specs.Checking.{IsCheckingCause, FindsCells, HasRead}
+
+-- what a command writes to that has both drives
+pub record BothTargets (D : Type 0) : Type 1 where
+  pub to : Targets D
+  -- the second drive, as it was handed in and as contracts see it
+  pub other : D
+  pub other_drive : Drive
+
+abbrev pub both_targets : {K D : Type 0} → (K → Output) → (D → Drive) → K → D → D → BothTargets D
+both_targets output drive sink disk other = record { to = targets output drive sink disk; other = other; other_drive = drive other }
+
+abbrev pub both_of : {S D : Type 0} → Ends S D → BothTargets D
+both_of ends = record { to = ends.to; other = ends.other; other_drive = ends.other_drive }
+
+-- the refusal of a fault of writing anew
+abbrev pub compact_refusal : CompactFault → Refusal
+compact_refusal (compact_fault.InUse len) = refusal.InUse len
+compact_refusal compact_fault.Disk = refusal.Disk None
+
+-- this world and these leaves, written anew
+abbrev pub anew : World → List (List Bool) → List Cell
+anew world leaves = fresh_cells width world leaves
+
+-- a log was made that has this world and these leaves, and no open split
+pub record MakesAnew (world : World) (leaves : List (List Bool)) (old new : Drive) : Type 0 where
+  pub made : IsCompacted width (anew world leaves) old new
+  pub state : IsStateOf width (anew world leaves) world leaves
+
+-- it was made and the number of its cells put, or the line of why none was: the causes are those of `init`
+abbrev pub WritesOrRefuses : World → List (List Bool) → Drive → Drive → ℕ → Output → Output → Type 0
+WritesOrRefuses world leaves old new status before after =
+    (MakesAnew world leaves old new × EndsWriting (compacted_line (length (anew world leaves))) status before after) ⊎ EndsRefused (IsMakingCause old new) status before after
+
+-- Where the file's content was known and a crash left a small one, it leaves a small file at each moment, a log of no cells, or one of all of these.
+-- A file that isn't small is left as it was.
+pub record LeavesNew (fresh : List Cell) (old new : Drive) : Type 0 where
+  pub on_way : (bytes : List ℕ) → old.bytes ≡ Some bytes → LeavesNow old IsSmall → LeavesOnly old new (IsOnWay width fresh)
+  pub in_use : (bytes : List ℕ) → old.bytes ≡ Some bytes → 17 < length bytes → Stays old new
+  pub later : old.faults ≤ new.faults
+
+-- A world and leaves were written to the file of this name and the number of cells put, or the line of a refusal. Status 10 comes exactly where
+-- the file has more than 17 bytes, and a smaller one is made such a log, unless a count rose or memory ran out.
+pub record EndsAnew (world : World) (leaves : List (List Bool)) (name : List ℕ) (old new : Drive) (status : ℕ) (before after : Output) : Type 0 where
+  pub ends : WritesOrRefuses world leaves old new status before after
+  pub in_use : status ≡ 10 → (bytes : List ℕ) → old.bytes ≡ Some bytes → 17 < length bytes
+  pub exact : (bytes : List ℕ) → old.bytes ≡ Some bytes → 17 < length bytes → (Rose old.faults new.faults → ⊥) → (status ≡ 10) ⊎ (status ≡ 9)
+  pub whole : (bytes : List ℕ) → old.bytes ≡ Some bytes → length bytes ≤ 17 → (Rose old.faults new.faults → ⊥) → (Rose before.faults after.faults → ⊥) → (status ≡ 0) ⊎ (status ≡ 9)
+  pub keeps : LeavesNew (anew world leaves) old new
+  -- the drive's count is as it was, but where a drive is what is told to have failed
+  pub calm : status ≢ 7 → new.faults ≡ old.faults
+  -- this file is attached, and made where it isn't there
+  pub attached : AttachesOnce name true old new status
+
+-- the log in the first file isn't read, and nothing was done to the second drive
+pub record RefusesFile {D : Type 0} (old new : BothTargets D) (status : ℕ) : Type 0 where
+  pub refused : EndsRefused (IsCheckingCause old.to.drive new.to.drive) status old.to.output new.to.output
+  pub other : new.other ≡ old.other
+
+-- it was read, and what was found goes to the file of this name on the second drive
+pub record WritesAnew {D : Type 0} (file name : List ℕ) (old new : BothTargets D) (status : ℕ) : Type 0 where
+  pub cells : List Cell
+  pub found : FindsCells old.to.drive cells
+  pub read : HasRead file old.to.drive new.to.drive
+  pub ends : EndsAnew (state_of width cells).world (state_of width cells).leaves name old.other_drive new.other_drive status old.to.output new.to.output
+
+-- the bytes of a log that is read, of few enough cells
+abbrev pub RecoversFew : Drive → List Cell → Type 0
+RecoversFew drive cells = (bytes : List ℕ) × (drive.bytes ≡ Some bytes) × Recovers width cells bytes × (length cells ≤ most_inspected)
+
+-- What the bytes of both files decide, unless memory ran out or a count rose: a fault that the first one's show is told; where they recover to
+-- cells, status 10 comes exactly where the second file has more than 17 bytes, and else status 0.
+pub record IsDecidedAnew {D : Type 0} (old new : BothTargets D) (status : ℕ) : Type 0 where
+  pub exact : (bytes : List ℕ) (fault : OpenFault) → old.to.drive.bytes ≡ Some bytes → IsInBytes fault → IsFault oldest_read width most_inspected bytes fault → (Rose old.to.drive.faults new.to.drive.faults → ⊥)
+      → Refuses (log_refusal fault) status old.to.output new.to.output ⊎ (status ≡ 9)
+  pub recovers : status ≡ 10 → (bytes : List ℕ) → old.to.drive.bytes ≡ Some bytes → (cells : List Cell) × RecoversFew old.to.drive cells
+  pub long : status ≡ 10 → (bytes : List ℕ) → old.other_drive.bytes ≡ Some bytes → 17 < length bytes
+  pub in_use : (cells : List Cell) (bytes : List ℕ) → RecoversFew old.to.drive cells → old.other_drive.bytes ≡ Some bytes → 17 < length bytes → (Rose old.to.drive.faults new.to.drive.faults → ⊥)
+      → (Rose old.other_drive.faults new.other_drive.faults → ⊥) → (status ≡ 10) ⊎ (status ≡ 9)
+  pub whole : (cells : List Cell) (bytes : List ℕ) → RecoversFew old.to.drive cells → old.other_drive.bytes ≡ Some bytes → length bytes ≤ 17 → (Rose old.to.drive.faults new.to.drive.faults → ⊥)
+      → (Rose old.other_drive.faults new.other_drive.faults → ⊥) → (Rose old.to.output.faults new.to.output.faults → ⊥) → (status ≡ 0) ⊎ (status ≡ 9)
+
+-- The first file is read, and what was found written to the second: the order is attach, inspect, attach, write, line. Bytes and images of the
+-- first drive stay, whatever the status is.
+pub record EndsCompacting {D : Type 0} (file name : List ℕ) (old new : BothTargets D) (status : ℕ) : Type 0 where
+  pub ends : RefusesFile old new status ⊎ WritesAnew file name old new status
+  pub decided : IsDecidedAnew old new status
+  pub stays : Stays old.to.drive new.to.drive
+  -- the first drive's count is as it was, but where a drive is what is told to have failed
+  pub calm : status ≢ 7 → new.to.drive.faults ≡ old.to.drive.faults
+  -- the first file is attached, and none is made
+  pub attached : AttachesOnce file false old.to.drive new.to.drive status
+
+-- what `compact` promises
+pub record Compacts {S D : Type 0} (file name : List ℕ) (old new : Ends S D) (status : ℕ) (h : List Entry) : Type 0 where
+  pub ends : EndsCompacting file name (both_of old) (both_of new) status
+  pub unread : new.source ≡ old.source
+  pub none : h ≡ []
