@@ -9,7 +9,7 @@ use command_words::{Command, command_in};
 use csv_rows::Refusal;
 use disk_trait::LogDisk;
 use io_edge::{Gate, Sink, Source};
-use log_run::{check_log, make_log, show_log};
+use log_run::{check_log, compact_log, make_log, show_log};
 use play_run::{play, trial};
 use run_ends::{Ended, refuse_on};
 use std::alloc::Global;
@@ -20,8 +20,9 @@ use std::thread::Threads;
 ///
 /// The order of work, and of refusals, is for rows: words, source, length of the input, rows, then where there is a log its opening, then
 /// answers, each kept in the log before the next, and lines. The first line is written once all is there. For `init`, `check` and
-/// `show` it is: words, attach, making or inspecting, lines; for `trial`: words, making the rows, then as for rows. None of them reads the
-/// source. `check` and `show` read a log of version 1 or 2; rows are played over one of version 2 alone.
+/// `show` it is: words, attach, making or inspecting, lines; for `trial`: words, making the rows, then as for rows; for `compact`: words,
+/// attach, inspecting, attach of the new file on the other drive, writing it, line. None of them reads the source. `check`, `show` and
+/// `compact` read a log of version 1 or 2; rows are played over one of version 2 alone.
 pub fn run<R: Threads + Wait + Sync, S: Source, K: Sink, D: LogDisk + Send, G: Gate + Sync>(
     rt: &R,
     alloc: Global,
@@ -60,6 +61,16 @@ pub fn run<R: Threads + Wait + Sync, S: Source, K: Sink, D: LogDisk + Send, G: G
         Some(Command::Trial(log, made)) => {
             let end = trial(rt, alloc, log, made, sink, disk, gate);
             outcome_of(end, other)
+        }
+        Some(Command::Compact(file, name)) => {
+            let mut disk = disk;
+            let end = compact_log(alloc, file, name, sink, &mut disk, other);
+            Outcome {
+                status: end.status,
+                disk,
+                other: end.disk,
+                events: end.events,
+            }
         }
         None => {
             let end = refuse_on(alloc, &Refusal::Usage, sink, disk);

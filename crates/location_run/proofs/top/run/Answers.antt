@@ -3,7 +3,7 @@ use Rattle.std.specs.String.{string_bytes}
 use Rattle.run_ends.specs.Ends.{ends}
 use Rattle.command_words.specs.Words.{AsksFor}
 use Rattle.command_words.specs.Asked.{command_of}
-use Rattle.command_words.specs.declared.parsing.Command.TheVariants.{Init, Check, Play, Show, Trial}
+use Rattle.command_words.specs.declared.parsing.Command.TheVariants.{Init, Check, Play, Show, Trial, Compact}
 use Rattle.location_run.specs.Run.{Keeps}
 use Rattle.location_run.proofs.WordsFacts.{keeps-asked, keeps-play, keeps-trial, few-made}
 use Rattle.location_run.proofs.StatusFacts.{usage-accepted}
@@ -90,6 +90,20 @@ trial-end-requires-clause-few g c κs within =
     let command = Trial c.in-Some-Trial.log c.in-Some-Trial.made in
     let asks : AsksFor words (command_of command) = rw c.in-Some-Trial.field-0-is at c.in-Some-Trial.ensures in
     few-made words command c.in-Some-Trial.made asks refl
+
+pub returns-in-Some-Compact : goal.returns-in-Some-Compact
+returns-in-Some-Compact g c =
+    let words = map string_bytes c.args.words.now in
+    let command = Compact c.in-Some-Compact.file c.in-Some-Compact.name in
+    let asks : AsksFor words (command_of command) = rw c.in-Some-Compact.field-0-is at c.in-Some-Compact.ensures in
+    let end = c.compact_log-end.result in
+    let told = c.compact_log-end.ensures in
+    let at = ends g.S.Source.input g.K.Sink.output g.D.LogDisk.drive in
+    let old = at c.args.source.now c.args.sink.now c.args.disk c.args.other in
+    let new = at c.args.source.now c.compact_log-end.new.sink c.compact_log-end.new.disk end.disk in
+    let kept : Keeps (command_of command) old new end.status end.events =
+    record { ends = told.ends; unread = refl; none = told.none } in
+    record { usage = usage-accepted words (command_of command) old new end.status end.events asks kept; keeps = keeps-asked words (command_of command) old new end.status end.events asks kept }
 
 pub returns-in-None : goal.returns-in-None
 returns-in-None g c =
