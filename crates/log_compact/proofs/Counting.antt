@@ -1,6 +1,6 @@
 -- Fresh cells are no more than the cells whose state they are made of.
-use Rattle.std.proofs.Common.{◌≡◌, ◌⊎◌, inl, inr, ℕ, zero, suc, ◌+◌, ◌*◌, ◌<◌, ◌≤◌, Bool, true, false, not, ◌&&◌, ◌==◌, List, [], ◌∷◌, ◌++◌, length, cond, Option, Some, None, is_some, refl, sym, ◌∙◌, ap, subst, arith, length-append}
-use Rattle.std.specs.List.{filter, fold}
+use Rattle.std.proofs.Common.{◌≡◌, inl, inr, ℕ, suc, ◌+◌, ◌*◌, ◌≤◌, Bool, true, false, not, ◌==◌, List, [], ◌∷◌, ◌++◌, length, cond, Option, Some, None, is_some, refl, sym, ◌∙◌, ap, subst, arith, length-append}
+use Rattle.std.specs.List.{filter}
 use Rattle.std.specs.Cmp.{first_so, second_so}
 use Rattle.std.proofs.lemmas.List.Sums.{fold-append}
 use mathlib.Core.Bool.{true≢false}
@@ -12,12 +12,12 @@ use Rattle.plain_list.specs.declared.world.Member.{Member}
 use Rattle.plain_list.specs.declared.ops.Op.{Op}
 use Rattle.plain_list.specs.declared.ops.Op.TheVariants as op
 use Rattle.plain_list.specs.World.{World}
-use Rattle.plain_list.specs.Answer.{changed, after_of, is_change, answer_of, without, with_member}
+use Rattle.plain_list.specs.Answer.{changed, after_of, is_change, answer_of}
 use Rattle.plain_list.specs.State.{State, OpenSplit, empty_state, step, split_leaf, split_name, installed, without_name, without_number}
 use Rattle.plain_list.proofs.Worlds.{length-with_member, length-with_moved}
 use Rattle.log_state.specs.Recovers.{entry_of, is_legal_cells, is_possible_cell, cells_after, state_of, IsLegalCells}
 use Rattle.log_compact.specs.Fresh.{split_cells, put_cells, fresh_cells, inner_names, ComesBySplits}
-use Rattle.log_compact.proofs.Forest.{IsWidth, Forest, forest_of, length-one, length-two}
+use Rattle.log_compact.proofs.Forest.{IsWidth, forest_of, length-one, length-two}
 use Rattle.log_compact.proofs.Inner.{inner_names-forest}
 
 -- the leaves of any cells come by splits

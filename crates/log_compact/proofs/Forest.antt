@@ -1,5 +1,5 @@
 -- The names behind some leaves: which splits they come by.
-use Rattle.std.proofs.Common.{◌≡◌, ◌⊎◌, inl, inr, ℕ, zero, suc, ◌+◌, ◌*◌, ◌-◌, ◌<◌, ◌≤◌, Bool, true, false, List, [], ◌∷◌, ◌++◌, length, cond, refl, sym, ◌∙◌, ap, subst, arith, append_assoc, length-append}
+use Rattle.std.proofs.Common.{◌≡◌, ◌⊎◌, inl, inr, ℕ, ◌+◌, ◌*◌, ◌-◌, ◌<◌, ◌≤◌, Bool, true, false, List, [], ◌∷◌, ◌++◌, length, cond, refl, sym, ◌∙◌, ap, subst, arith, append_assoc, length-append}
 use Rattle.std.proofs.lemmas.List.{append-nil}
 use Rattle.std.proofs.lemmas.Nat.{pow_pos}
 use Rattle.std.specs.List.{AllByRecursion, fold}
@@ -10,7 +10,7 @@ use Rattle.zorder.proofs.Tiles.{first_left, first_right}
 use Rattle.plain_list.specs.State.{split_leaf}
 use Rattle.log_compact.specs.Fresh.{ComesBySplits}
 use Rattle.log_compact.specs.Walk.{AreShort}
-use Rattle.log_compact.proofs.Order.{is_left, left-under, all-append, all-weaken}
+use Rattle.log_compact.proofs.Order.{is_left, left-under}
 
 -- splits are of one bit or of two
 abbrev pub IsWidth : ℕ → Type 0

@@ -1,28 +1,27 @@
 -- The state of fresh cells is the state that they were made of.
-use Rattle.std.proofs.Common.{◌≡◌, ◌⊎◌, ℕ, zero, suc, ◌+◌, ◌<◌, ◌≤◌, Bool, true, false, not, ◌&&◌, ◌==◌, List, [], ◌∷◌, ◌++◌, length, take, drop, get_or, cond, Option, Some, None, is_some, refl, sym, ◌∙◌, ap, subst, arith, append_assoc, min, length-take}
+use Rattle.std.proofs.Common.{◌≡◌, ℕ, zero, suc, ◌+◌, ◌<◌, ◌≤◌, Bool, true, false, not, ◌==◌, List, [], ◌∷◌, ◌++◌, length, take, drop, get_or, cond, Some, None, is_some, refl, sym, ◌∙◌, ap, subst, arith, append_assoc, length-take}
 use Rattle.std.specs.Prelude.{nat_le, ◌||◌}
 use Rattle.std.specs.List.{AllByRecursion}
 use Rattle.std.specs.Option.{option_map_or}
 use Rattle.std.specs.Cmp.Derive.{both_true}
-use Rattle.std.proofs.lemmas.Bool.{eq-eqb, le-leb, lt-ltb}
+use Rattle.std.proofs.lemmas.Bool.{eq-eqb, le-leb}
 use Rattle.std.proofs.lemmas.Bool.Decides.{nat_tests}
 use Rattle.std.proofs.lemmas.List.{append-nil, take_all, drop_all, drop_more}
-use Rattle.zorder.specs.SameName.{same_name, same_name-decides}
+use Rattle.zorder.specs.SameName.{same_name-decides}
 use Rattle.zorder.specs.Tile.{children}
 use Rattle.cell_format.specs.declared.cell.Cell.{Cell}
 use Rattle.plain_list.specs.declared.world.Member.{Member}
-use Rattle.plain_list.specs.declared.world.Stamped.{Stamped}
 use Rattle.plain_list.specs.declared.ops.Op.TheVariants.{Put}
 use Rattle.plain_list.specs.declared.ops.Answer.TheVariants.{Present, Full, Done}
 use Rattle.plain_list.specs.World.{World, IsWorld, most_members, is_full, position_of}
-use Rattle.plain_list.specs.Answer.{is_change, after_of, with_member}
-use Rattle.plain_list.specs.State.{State, OpenSplit, is_leaf, split_leaf, installed}
+use Rattle.plain_list.specs.Answer.{is_change, after_of}
+use Rattle.plain_list.specs.State.{State, is_leaf, split_leaf, installed}
 use Rattle.plain_list.proofs.PlacesOf.{length-places_of}
 use Rattle.plain_list.proofs.RisingMembers.{position_of-next, with_member-next}
 use Rattle.plain_list.proofs.IdSearches.{after_put-new}
 use Rattle.log_state.specs.Recovers.{is_legal_cells, cells_after, state_of, IsLegalCells}
 use Rattle.log_state.proofs.LegalCells.{legal-append, cells_after-append}
-use Rattle.log_compact.specs.Fresh.{split_cells, put_cells, fresh_cells, inner_names, ComesBySplits}
+use Rattle.log_compact.specs.Fresh.{split_cells, put_cells, fresh_cells, ComesBySplits}
 use Rattle.log_compact.specs.Walk.{AreShort}
 use Rattle.log_compact.specs.State.{IsStateOf}
 use Rattle.log_compact.proofs.Order.{is_left, left-before, left-more, before-differ, all-append, all-weaken}

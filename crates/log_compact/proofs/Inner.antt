@@ -1,14 +1,14 @@
 -- The inner names of leaves: those that were split on the way to them, in order, each at the first leaf under it.
-use Rattle.std.proofs.Common.{◌≡◌, ◌⊎◌, inl, inr, ℕ, zero, suc, ◌+◌, ◌%◌, ◌<◌, ◌≤◌, Bool, true, false, List, [], ◌∷◌, ◌++◌, length, refl, sym, ◌∙◌, ap, subst, arith, append_assoc, length-append}
+use Rattle.std.proofs.Common.{◌≡◌, inl, inr, ℕ, ◌<◌, Bool, true, List, [], ◌∷◌, ◌++◌, length, refl, sym, ◌∙◌, ap, subst, arith, append_assoc}
 use Rattle.std.proofs.lemmas.List.{append-nil}
 use Rattle.std.proofs.lemmas.List.Sums.{fold-append}
-use Rattle.std.specs.List.{AllByRecursion, flat_map, fold}
+use Rattle.std.specs.List.{AllByRecursion, flat_map}
 use Rattle.zorder.specs.Name.{first_key}
 use Rattle.zorder.specs.Tile.{children}
 use Rattle.log_compact.specs.Fresh.{comes_before, with_name, prefixes_by, inner_names, ComesBySplits}
 use Rattle.log_compact.specs.Walk.{new_names, all_new_names, AreShort}
 use Rattle.log_compact.proofs.Order.{is_left, left-before, left-more, before-more, before-under, all-append, all-weaken, AreBefore, AreRising, rising-push, IsAmong, among-push, among-last, with_name-last, with_names, with_names-among}
-use Rattle.log_compact.proofs.Forest.{IsWidth, Forest, none, leaf, split, forest_of, IsChild, ArePartedFrom, AreParted, AreChildren, children_are, Leads, leads-split, split-room}
+use Rattle.log_compact.proofs.Forest.{IsWidth, Forest, none, leaf, split, forest_of, IsChild, ArePartedFrom, AreParted, children_are, Leads, leads-split, split-room}
 use Rattle.log_compact.proofs.Prefixes.{is_aligned, aligned-child, prefixes_by-append, prefixes_by-child, later_prefixes, new_names-first, new_names-other}
 
 -- roots that may be split

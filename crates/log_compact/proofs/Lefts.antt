@@ -1,7 +1,6 @@
 -- The names that are left while the leaves are walked.
-use Rattle.std.proofs.Common.{◌≡◌, ℕ, zero, suc, ◌+◌, ◌-◌, ◌%◌, ◌^◌, ◌<◌, ◌≤◌, Bool, true, false, ◌&&◌, ◌==◌, List, [], ◌∷◌, ◌++◌, length, map, take, drop, get_or, cond, min, refl, sym, ◌∙◌, ap, subst, arith, length-take}
-use Rattle.std.specs.List.{filter, flat_map}
-use Rattle.std.specs.Cmp.Derive.{both_true}
+use Rattle.std.proofs.Common.{◌≡◌, ℕ, zero, suc, ◌+◌, ◌-◌, ◌%◌, ◌^◌, ◌<◌, ◌≤◌, Bool, true, false, ◌&&◌, ◌==◌, List, [], ◌∷◌, length, map, take, drop, get_or, cond, refl, sym, ◌∙◌, ap, arith, length-take}
+use Rattle.std.specs.List.{filter}
 use Rattle.std.proofs.lemmas.Bool.{eq-eqb, ne_eqb}
 use Rattle.std.proofs.lemmas.Nat.{pow_pos}
 use Rattle.std.proofs.lemmas.List.{drop_all, drop_more, take-take, length-map}
@@ -10,7 +9,7 @@ use Rattle.zorder.specs.Key.{key_bits}
 use Rattle.zorder.specs.Name.{first_key}
 use Rattle.zorder.proofs.Ranges.{high_number-end, range-front}
 use Rattle.log_compact.specs.Fresh.{proper_prefixes}
-use Rattle.log_compact.specs.Walk.{is_first, left_at, names_left, new_names, all_new_names}
+use Rattle.log_compact.specs.Walk.{is_first, left_at, names_left, all_new_names}
 
 length-proper_prefixes : (name : List Bool) → length (proper_prefixes name) ≡ length name
 length-proper_prefixes [] = refl

@@ -1,9 +1,9 @@
 -- What a crash leaves on the way from a small file to a log of all cells.
-use Rattle.std.proofs.Common.{◌≡◌, ◌⊎◌, inl, inr, ⊎_elim, ℕ, ◌+◌, ◌*◌, ◌≤◌, ◌<◌, List, [], ◌∷◌, ◌++◌, length, Option, Some, is_some, refl, sym, ◌∙◌, ap, arith, length-append}
+use Rattle.std.proofs.Common.{◌≡◌, inl, inr, ⊎_elim, ℕ, ◌≤◌, List, [], ◌∷◌, length, Option, Some, refl, sym, ◌∙◌, ap, arith, length-append}
 use Rattle.cell_format.specs.declared.cell.Cell.{Cell}
 use Rattle.cell_format.specs.Spelling.{newest}
-use Rattle.disk_trait.specs.Drive.{Drive, SameFile, Stays}
-use Rattle.disk_trait.specs.Moments.{LeavesNow, LeavesOnly}
+use Rattle.disk_trait.specs.Drive.{Drive, SameFile}
+use Rattle.disk_trait.specs.Moments.{LeavesOnly}
 use Rattle.disk_trait.proofs.Told.{told_before}
 use Rattle.split_log.specs.LogText.{HoldsCells, IsLog, front_of}
 use Rattle.split_log.proofs.Cells.{length-front_of}

@@ -1,5 +1,5 @@
 -- The prefixes of a name, and of one that goes on from it.
-use Rattle.std.proofs.Common.{◌≡◌, ◌⊎◌, inl, inr, ℕ, zero, suc, ◌+◌, ◌%◌, ◌<◌, ◌≤◌, Bool, true, false, ◌&&◌, ◌==◌, List, [], ◌∷◌, ◌++◌, length, map, cond, refl, sym, ◌∙◌, ap, subst, arith, length-append}
+use Rattle.std.proofs.Common.{◌≡◌, inl, inr, ℕ, zero, suc, ◌+◌, ◌%◌, ◌<◌, ◌≤◌, Bool, true, false, ◌&&◌, ◌==◌, List, [], ◌∷◌, ◌++◌, length, map, cond, refl, sym, ◌∙◌, ap, subst, arith, length-append}
 use Rattle.std.proofs.lemmas.List.{append-nil, map-append, map-id}
 use Rattle.std.proofs.lemmas.List.Elements.{filter-append}
 use Rattle.std.proofs.lemmas.Bool.{ne_eqb, eq-eqb, eqb-true}
@@ -7,7 +7,7 @@ use Rattle.std.specs.List.{AllByRecursion, filter}
 use Rattle.zorder.specs.Bits.{high_number}
 use Rattle.zorder.specs.Name.{first_key}
 use Rattle.log_compact.specs.Fresh.{proper_prefixes, prefixes_by}
-use Rattle.log_compact.specs.Walk.{is_first, new_names}
+use Rattle.log_compact.specs.Walk.{new_names}
 use Rattle.log_compact.proofs.Order.{all-append}
 use Rattle.log_compact.proofs.Forest.{IsWidth, IsChild}
 

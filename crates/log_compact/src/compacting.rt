@@ -40,8 +40,8 @@ impl From<InitFault> for CompactFault {
     }
 }
 
-/// Writes the state that was found in a log, of splits that make `2 ^ width` children, on a target that has at most 17 bytes. A crash within it
-/// leaves at most 17 bytes, no cell, or all of them, so that it may be called again where it didn't end. It takes no memory.
+/// Writes the state that was found in a log, of splits that make `2 ^ width` children, on a target that has at most 17 bytes. It takes no memory,
+/// and writes pieces of at most 64 KiB. A crash within it may leave a log of no cells with more than 17 bytes, which the next call finds in use.
 pub fn compact<D: LogDisk>(seen: &Seen, width: u8, target: D) -> Result<D, CompactRefused<D>>
     requires width { (width ≡ 1) ⊎ (width ≡ 2) }
     requires splits { ComesBySplits width seen.now.leaves }

@@ -1,7 +1,8 @@
 //! Writes the state of a log anew, as the shortest log that has it.
 //!
 //! Contracts see the new log as `fresh_cells` of a world and its leaves: a begin and an install for each name that was split, and a put for each
-//! object. `compact` makes it on a drive of its own: at each moment a crash leaves at most 17 bytes, or no cell, or all of them.
+//! object, whose state is that world and those leaves. `compact` makes it on a drive of its own: at each moment a crash leaves at most 17 bytes,
+//! or no cell, or all of them. `fresh_cells_are_few` is what lets it be called with what was found in a log.
 //!
 //! Not here: how the old log is read (`recovery`), appends to a log (`split_log`).
 #![tactic(auto)]
@@ -16,3 +17,4 @@ mod staging;
 
 pub use cell_count::count_fresh;
 pub use compacting::{CompactFault, CompactRefused, compact};
+pub use laws::fresh_cells_are_few;

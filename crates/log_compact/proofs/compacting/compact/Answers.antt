@@ -1,11 +1,6 @@
 -- A log of no cells is made, and then all cells are written over it.
-use Rattle.std.proofs.Common.{◌≡◌, ◌≤◌, List, length, ap, subst, sym}
+use Rattle.std.proofs.Common.{List, subst}
 use Rattle.cell_format.specs.declared.cell.Cell.{Cell}
-use Rattle.split_log.specs.LogText.{IsLog}
-use Rattle.disk_trait.specs.Moments.{LeavesOnly}
-use Rattle.log_compact.specs.Fresh.{fresh_cells}
-use Rattle.log_compact.specs.State.{IsStateOf}
-use Rattle.log_compact.specs.Staging.{HoldsAllOrNone}
 use Rattle.log_compact.specs.Compacting.{IsCompacted, KeepsOnWay}
 use Rattle.log_compact.proofs.OnWay.{kept-on_way, compacted, made-empty}
 use Rattle.log_compact.proofs.compacting.compact.Goals as goal

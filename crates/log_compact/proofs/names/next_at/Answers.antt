@@ -1,5 +1,5 @@
 -- Each prefix is one of the names or isn't, and behind the last one no name is left.
-use Rattle.std.proofs.Common.{◌≡◌, ◌<◌, ◌≤◌, length, sym, ◌∙◌, ap, arith, take}
+use Rattle.std.proofs.Common.{◌<◌, ◌≤◌, length, sym, ◌∙◌, ap, arith, take}
 use Rattle.zorder.specs.Key.{key_bits}
 use Rattle.log_compact.proofs.Lefts.{is-next, not-aligned, not-first, left_at-none}
 use Rattle.log_compact.proofs.names.next_at.Goals as goal

@@ -1,5 +1,5 @@
 -- Each cell goes into the piece with the commit byte of the next one.
-use Rattle.std.proofs.Common.{◌≡◌, ◌+◌, ◌-◌, ◌*◌, ◌≤◌, ◌∷◌, ◌++◌, length, take, ◌∙◌, ap, subst, sym, arith}
+use Rattle.std.proofs.Common.{◌≡◌, ◌+◌, ◌-◌, ◌*◌, ◌∷◌, ◌++◌, length, take, ◌∙◌, ap, subst, sym, arith}
 use borrow.Rule.Slice.PartMut.{same_len_mid}
 use Rattle.log_compact.specs.Staging.{behind_first, AreCells}
 use Rattle.log_compact.proofs.PieceTexts.{piece-more, piece-last}

@@ -1,9 +1,9 @@
 -- Each piece goes behind the last one, and behind the first commit byte.
-use Rattle.std.proofs.Common.{◌≡◌, ◌+◌, ◌*◌, ◌^◌, ◌≤◌, ◌<◌, ◌∷◌, ◌++◌, [], ℕ, List, length, take, ◌∙◌, ap, subst, sym, arith, length-append, length-take}
+use Rattle.std.proofs.Common.{◌≡◌, ◌+◌, ◌*◌, ◌^◌, ◌≤◌, ◌<◌, ◌∷◌, ℕ, List, length, take, ap, subst, arith, length-append, length-take}
 use Rattle.cell_format.specs.declared.cell.Cell.{Cell}
 use Rattle.disk_trait.specs.Drive.{Drive}
-use Rattle.log_compact.specs.Staging.{behind_first, AreCells, and_taken, IsStaging}
-use Rattle.log_compact.proofs.Stages.{staging-none, staging-more, staged-all, still-alone, length-behind_first}
+use Rattle.log_compact.specs.Staging.{behind_first, and_taken, IsStaging}
+use Rattle.log_compact.proofs.Stages.{staging-none, staging-more, still-alone, length-behind_first}
 use Rattle.log_compact.proofs.staging.stage.Goals as goal
 
 -- so far goes what was sent, at most all

@@ -1,7 +1,6 @@
 -- Until the first commit byte is set a crash leaves no cell, and from then on none or all.
-use Rattle.std.proofs.Common.{◌∷◌, ◌∙◌, List, sym, subst, arith}
+use Rattle.std.proofs.Common.{List, sym, subst}
 use Rattle.cell_format.specs.declared.cell.Cell.{Cell}
-use Rattle.disk_trait.specs.Drive.{Drive}
 use Rattle.disk_trait.specs.Moments.{LeavesOnly}
 use Rattle.split_log.specs.LogText.{IsLog}
 use Rattle.log_compact.specs.Staging.{HoldsAllOrNone}
