@@ -19,7 +19,8 @@ pub(crate) fn write_cells<D: LogDisk>(disk: &mut D, mut cells: FreshCells) -> Re
     requires empty { IsEmpty (D.drive disk.old) }
     requires few { length cells ≤ 2 ^ 24 }
 
-    ensures any_moment { (w : ℕ) → IsLog w [] (D.drive disk.old) → LeavesOnly (D.drive disk.old) (D.drive disk.new) (HoldsAllOrNone w cells.entry) }
+    ensures any_moment { (w : ℕ) → IsLog w [] (D.drive disk.old)
+        → LeavesOnly (D.drive disk.old) (D.drive disk.new) (HoldsAllOrNone w cells.entry) }
     ensures written { OnOk result ((w : ℕ) → IsLog w [] (D.drive disk.old) → IsLog w cells.entry (D.drive disk.new)) }
     ensures cause { CountsFaults (D.drive disk.old) (D.drive disk.new) result }
 {
@@ -40,7 +41,8 @@ fn stage<D: LogDisk>(disk: &mut D, first: Cell, mut cells: FreshCells) -> Result
     requires empty { IsEmpty (D.drive disk.old) }
     requires few { length cells < 2 ^ 24 }
 
-    ensures alone { (w : ℕ) → IsLog w [] (D.drive disk.old) → LeavesOnly (D.drive disk.old) (D.drive disk.new) (HoldsCells newest w []) }
+    ensures alone { (w : ℕ) → IsLog w [] (D.drive disk.old)
+        → LeavesOnly (D.drive disk.old) (D.drive disk.new) (HoldsCells newest w []) }
     ensures staged { OnOk result (IsStaged (first ∷ cells.entry) (D.drive disk.old) (D.drive disk.new)) }
     ensures cause { CountsFaults (D.drive disk.old) (D.drive disk.new) result }
 {
