@@ -44,7 +44,7 @@ impl<'a> Case<'a> {
     }
 
     /// What goes into the run.
-    fn plan(&self) -> Plan<'a> {
+    pub fn plan(&self) -> Plan<'a> {
         Plan {
             words: self.words,
             input: self.input,

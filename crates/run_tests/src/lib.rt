@@ -26,6 +26,8 @@ macro_rules! lines {
 #[cfg(test)]
 mod checks;
 #[cfg(test)]
+mod compacts;
+#[cfg(test)]
 mod faults;
 #[cfg(test)]
 mod full;

@@ -13,4 +13,4 @@ pub use inputs::repeated;
 pub use left::Left;
 pub use logs::{EMPTY_LOG, PUT_LOG, TWO_LEAVES_LOG};
 pub use plan::Plan;
-pub use runs::{run_gated, run_over, run_plan};
+pub use runs::{run_both, run_gated, run_over, run_plan};

@@ -190,6 +190,12 @@ const OTHER_WORDS: &[&[&str]] = &[
     &["trial", "log", "1", "18446744073709551616"],
     &["trial", "log", "1"],
     &["trial", "log", "1", "1", "--bucket", "4"],
+    &["compact", "log"],
+    &["compact", "log", "log"],
+    &["compact", "-", "log"],
+    &["compact", "log", "-"],
+    &["compact", "", "log"],
+    &["compact", "log", "new", "new"],
 ];
 
 #[test]

@@ -54,7 +54,11 @@ fn add_image<R: Abort>(
 
 /// What a crash may leave of a run's file: for each moment the images of the least and the greatest length with the fills 0, 1 and 9.
 pub fn images_of<R: Abort>(rt: &R, alloc: Global, left: &Left) -> Vec<Image> {
-    let disk = &left.disk;
+    images_on(rt, alloc, &left.disk)
+}
+
+/// The same of the file on a drive.
+pub fn images_on<R: Abort>(rt: &R, alloc: Global, disk: &MemDisk) -> Vec<Image> {
     let mut images = Vec::new(alloc);
     for moment in 0..=disk.moments() {
         for len in [0, 1 << 40] {

@@ -2,12 +2,13 @@
 use disk_mem::MemDisk;
 use plain_list::{Entries, Entry};
 
-/// What a run left: its status, its history, what the sink took, the first drive, and the attaches of both, a line each.
+/// What a run left: its status, its history, what the sink took, both drives, and the attaches of each, a line each.
 #[derive(Drop)]
 pub struct Left {
     pub status: u8,
     pub taken: Vec<u8>,
     pub disk: MemDisk,
+    pub other: MemDisk,
     pub(crate) events: Entries,
     pub attaches: String,
     pub others: String,

@@ -3,7 +3,7 @@ use crate::memory::inputs::words;
 use crate::memory::left::Left;
 use crate::memory::noting::NotingDisk;
 use crate::memory::plan::Plan;
-use disk_mem::MemDisk;
+use disk_mem::{Fail, MemDisk};
 use disk_trait::LogDisk;
 use io_edge::{Gate, MemSink, MemSource, OpenGate, Sink, Source};
 use location_run::{Outcome, run};
@@ -38,10 +38,15 @@ pub fn run_gated<R: Abort + Threads + Wait + Sync, G: Gate + Sync>(
 }
 
 fn disk_of(alloc: Global, plan: &Plan<'_>) -> Result<MemDisk, Memory> {
-    let Some(file) = plan.file else {
-        return failing_disk(alloc);
-    };
-    let calls = plan.calls.to_vec(alloc)?;
+    match plan.file {
+        Some(file) => held_disk(alloc, file, plan.calls),
+        None => failing_disk(alloc),
+    }
+}
+
+// A drive that holds these bytes, of which these calls fail.
+fn held_disk(alloc: Global, file: &[u8], failing: &[Fail]) -> Result<MemDisk, Memory> {
+    let calls = failing.to_vec(alloc)?;
     MemDisk::new(alloc, file.to_vec(alloc)?, ROOM, CALLS, calls)
 }
 
@@ -58,11 +63,36 @@ pub fn run_over<R: Abort + Threads + Wait + Sync, G: Gate + Sync>(
     disk: MemDisk,
     gate: &G,
 ) -> Left {
+    let other = failing_disk(alloc).expect(rt, "it failed");
+    run_drives(rt, alloc, plan, disk, other, gate)
+}
+
+/// A run as planned, with a second drive that holds these bytes, of which these calls fail.
+pub fn run_both<R: Abort + Threads + Wait + Sync>(
+    rt: &R,
+    alloc: Global,
+    plan: &Plan<'_>,
+    file: &[u8],
+    failing: &[Fail],
+) -> Left {
+    let disk = disk_of(alloc, plan).expect(rt, "it failed");
+    let other = held_disk(alloc, file, failing).expect(rt, "it failed");
+    run_drives(rt, alloc, plan, disk, other, &OpenGate)
+}
+
+fn run_drives<R: Abort + Threads + Wait + Sync, G: Gate + Sync>(
+    rt: &R,
+    alloc: Global,
+    plan: &Plan<'_>,
+    disk: MemDisk,
+    other: MemDisk,
+    gate: &G,
+) -> Left {
     let words = words(alloc, plan.words).expect(rt, "it failed");
     let source = source_of(alloc, plan).expect(rt, "it failed");
     let sink = sink_of(alloc, plan).expect(rt, "it failed");
-    let other = NotingDisk::new(alloc, failing_disk(alloc).expect(rt, "it failed"));
     let disk = NotingDisk::new(alloc, disk);
+    let other = NotingDisk::new(alloc, other);
     run_all(rt, alloc, words.as_slice(), source, sink, disk, other, gate)
 }
 
@@ -118,12 +148,17 @@ fn left_of(outcome: Outcome<NotingDisk>, taken: Vec<u8>) -> Left {
         events,
     } = outcome;
     let NotingDisk { disk, attaches } = disk;
+    let NotingDisk {
+        disk: other,
+        attaches: others,
+    } = other;
     Left {
         status,
         taken,
         disk,
+        other,
         events,
         attaches,
-        others: other.attaches,
+        others,
     }
 }
