@@ -16,6 +16,7 @@ fn said(command: Option<Command<'_>>) -> Said<'_> {
         Some(Command::Play(file, size)) => ("play", file, [u64::from(size), 0, 0, 0]),
         Some(Command::Show(file, region)) => ("show", Some(file), corners(region)),
         Some(Command::Trial(file, made)) => ("trial", file, numbers(made)),
+        Some(Command::Compact(file, _)) => ("compact", Some(file), [0; 4]),
         None => USAGE,
     }
 }
@@ -69,6 +70,7 @@ const COMMANDS: &[(&str, Said<'static>)] = &[
         "show moves.log 0 0 4294967295 4294967295",
         ("show", FILE, [0, 0, 4294967295, 4294967295]),
     ),
+    ("compact moves.log new.log", ("compact", FILE, [0; 4])),
     ("trial - 1 0", ("trial", None, [1, 0, 0, 0])),
     (
         "trial moves.log 65536 18446744073709551615",
@@ -116,6 +118,12 @@ const OTHER_WORDS: &[&str] = &[
     "trial - 1 18446744073709551616",
     "trial - 1 2 more",
     "trial - 1 2 --bucket 64",
+    "compact moves.log",
+    "compact moves.log moves.log",
+    "compact - new.log",
+    "compact moves.log -",
+    "compact moves.log  new.log",
+    "compact moves.log new.log more",
 ];
 
 #[test]
@@ -123,4 +131,17 @@ fn other_words_are_usage(rt: HostRuntime) {
     for line in OTHER_WORDS {
         expect_asked(&rt, rt.alloc(), line, USAGE);
     }
+}
+
+fn compacts_into<'a>(words: &'a [String]) -> Option<&'a str> {
+    match command_in(words) {
+        Some(Command::Compact(_, new)) => Some(new),
+        _ => None,
+    }
+}
+
+#[test]
+fn compact_names_the_new_file_last(rt: HostRuntime) {
+    let words = words_of(&rt, rt.alloc(), "compact moves.log new.log");
+    assert_same!(rt; compacts_into(words.as_slice()), Some("new.log"));
 }
