@@ -1,6 +1,5 @@
 -- The subtrees that are still ahead of a search.
-use Rattle.std.specs.Prelude.{◌≡◌, ◌≤◌, ◌+◌, ◌-◌, ◌^◌, ◌++◌, ◌∷◌, ◌<◌, [], ℕ, ⊤, Bool, nat_le, nat_lt, List, length, remove, slice_index_or}
-use denote.Ref.{Bor}
+use Rattle.std.specs.Prelude.{◌≡◌, ◌≤◌, ◌+◌, ◌-◌, ◌^◌, ◌++◌, ◌∷◌, ℕ, Bool, nat_le, nat_lt, List, length, slice_index_or}
 use Rattle.std.specs.List.{All, flat_map, count_by}
 use Rattle.zorder.specs.declared.points.Point.{Point}
 use Rattle.zorder.specs.declared.points.Placed.{Placed}

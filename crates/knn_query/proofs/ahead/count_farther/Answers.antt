@@ -1,4 +1,4 @@
-use Rattle.std.proofs.Common.{◌≡◌, ◌≤◌, ◌-◌, suc, List, get_or, ap, subst, take, arith}
+use Rattle.std.proofs.Common.{◌≡◌, ◌≤◌, ◌-◌, suc, get_or, ap, subst, take, arith}
 use Rattle.std.specs.List.{All}
 use Rattle.knn_query.proofs.FarFirst.{front-far}
 use Rattle.knn_query.proofs.ahead.count_farther.Goals as goal

@@ -1,4 +1,4 @@
-use Rattle.std.proofs.Common.{◌≤◌, List, sym, subst, take, drop}
+use Rattle.std.proofs.Common.{◌≤◌, sym, subst, take, drop}
 use Rattle.std.specs.List.{All}
 use Rattle.knn_query.specs.Waiting.{IsFarFirst}
 use Rattle.knn_query.proofs.FarFirst.{far-inserted}

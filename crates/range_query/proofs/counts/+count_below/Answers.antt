@@ -1,4 +1,4 @@
-use Rattle.std.proofs.Common.{◌≡◌, ◌<◌, ◌^◌, ◌∙◌, List, length, length-append, true, false, not, sym, ap, subst, arith, ◌+◌, ◌++◌, ◌∷◌, [], rules}
+use Rattle.std.proofs.Common.{◌≡◌, ◌<◌, ◌^◌, ◌∙◌, List, length, length-append, true, false, not, sym, ap, subst, arith, ◌+◌, ◌∷◌, [], rules}
 use Rattle.std.specs.Prelude.{◌&&◌}
 use Rattle.std.specs.Arc.{arc_value}
 use Rattle.prefix_names.specs.Regions.{lies_in, region_of}
