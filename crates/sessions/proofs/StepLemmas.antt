@@ -1,5 +1,5 @@
 -- One step under the lock: what it leaves of a pass.
-use Rattle.std.proofs.Common.{◌≡◌, ◌⊎◌, inl, inr, ℕ, ◌+◌, ◌≤◌, Bool, true, false, List, [], ◌∷◌, ◌++◌, length, Option, Some, None, Result, Ok, Err, refl, sym, ap, subst, ◌∙◌, append_assoc, arith}
+use Rattle.std.proofs.Common.{◌≡◌, inl, inr, ℕ, Bool, true, false, List, [], ◌∷◌, ◌++◌, length, Option, Some, None, Result, Ok, Err, refl, sym, ap, subst, ◌∙◌, append_assoc}
 use mathlib.Core.List.{IsPrefix}
 use Rattle.std.specs.Prelude.{IfErr}
 use Rattle.plain_list.specs.declared.ops.Op.{Op}
@@ -21,7 +21,7 @@ use Rattle.book_lock.specs.Pass.{Known}
 use Rattle.book_lock.specs.Ends.{MayNote}
 use Rattle.book_lock.specs.declared.origin.LogStart.{LogStart}
 use Rattle.sessions.specs.Shared.{origin_of, start_in}
-use Rattle.sessions.specs.Steps.{all_parts, cells_at, WasTaken, IsStep, Leaves, Says, MayGive, has_entry, has_given, has_added, has_seen}
+use Rattle.sessions.specs.Steps.{cells_at, WasTaken, IsStep, Leaves, Says, MayGive, has_entry, has_given, has_added, has_seen}
 use Rattle.sessions.specs.Splits.{SamePass}
 
 pub prefix-later : (xs ys zs : List Entry) → IsPrefix xs ys → IsPrefix ys zs → IsPrefix xs zs

@@ -1,7 +1,6 @@
 -- What a call leaves of its pass, and why it is refused.
 use Rattle.std.specs.Prelude.{◌≡◌, ℕ, Bool, true, ◌==◌, ◌&&◌, List, if◌then◌else◌, Option, Some, None, Result, Ok, Err, ⊤}
 use mathlib.Core.List.{IsPrefix}
-use Rattle.zorder.specs.declared.points.Placed.{Placed}
 use Rattle.plain_list.specs.declared.ops.Op.{Op}
 use Rattle.plain_list.specs.declared.ops.Op.TheVariants.{Put, Move, Remove, Find, Within, Near}
 use Rattle.plain_list.specs.declared.ops.Answer.{Answer}
