@@ -1,11 +1,12 @@
 -- What an append finds, and what it leaves.
-use Rattle.std.specs.Prelude.{◌≡◌, ℕ, ◌+◌, ◌≤◌, List, [], ◌∷◌, ◌++◌, Option, Some, None, is_some}
+use Rattle.std.specs.Prelude.{◌≡◌, ℕ, ◌+◌, List, [], ◌∷◌, ◌++◌, Option, Some, None, is_some}
 use Rattle.causes.specs.Causes.{Rose}
 use Rattle.cell_format.specs.declared.cell.Cell.{Cell}
 use Rattle.cell_format.specs.Spelling.{newest, IsCell, body_of}
 use Rattle.disk_trait.specs.Drive.{Drive, MadeWell, StopsAfter, SameFile}
-use Rattle.disk_trait.specs.Moments.{LeavesOnly, LeavesNow}
-use Rattle.split_log.specs.LogText.{IsLog, HoldsCells, HoldsEither, IsStaged}
+use Rattle.disk_trait.specs.Moments.{LeavesNow}
+use Rattle.split_log.specs.LogText.{IsLog, HoldsEither}
+use Rattle.split_log.specs.Commit.{StandsAfter}
 
 -- the drive has these cells, and the piece is the next one behind its commit byte, with a clear commit byte at its end
 pub record IsReady (width : ℕ) (cells : List Cell) (cell : Cell) (piece : List ℕ) (drive : Drive) : Type 0 where
@@ -13,23 +14,17 @@ pub record IsReady (width : ℕ) (cells : List Cell) (cell : Cell) (piece : List
   pub fits : IsCell newest cell
   pub piece_is : piece ≡ body_of cell ++ 0 ∷ []
 
--- What stands after so many of the four calls went well and the next one failed: where the first write or the first sync failed, no crash
--- leaves the new cell, and else it was written and synced behind its commit byte before.
-pub record StandsAfter (width : ℕ) (cells : List Cell) (cell : Cell) (went_well : ℕ) (old new : Drive) : Type 0 where
-  pub unstaged : went_well ≤ 1 → LeavesOnly old new (HoldsCells newest width cells)
-  pub staged : 2 ≤ went_well → LeavesNow new (IsStaged width cells cell)
-
 -- an append of a piece stopped at a fault
 pub record Breaks (piece : List ℕ) (old new : Drive) : Type 0 where
   pub went_well : ℕ
   pub stops : StopsAfter 3 went_well old new
-  pub leaves : (w : ℕ) (cells : List Cell) (cell : Cell) → IsReady w cells cell piece old → StandsAfter w cells cell went_well old new
+  pub leaves : (w : ℕ) (cells : List Cell) (cell : Cell) → IsReady w cells cell piece old → StandsAfter w cells (cell ∷ []) went_well old new
 
 -- an append of a cell stopped at a fault
 pub record BreaksOff (cell : Cell) (old new : Drive) : Type 0 where
   pub went_well : ℕ
   pub stops : StopsAfter 3 went_well old new
-  pub leaves : (w : ℕ) (cells : List Cell) → IsLog w cells old → StandsAfter w cells cell went_well old new
+  pub leaves : (w : ℕ) (cells : List Cell) → IsLog w cells old → StandsAfter w cells (cell ∷ []) went_well old new
 
 -- the cell was added: there is one more, and a crash leaves it behind the others
 pub record Adds (cell : Cell) (before after : ℕ) (failed : Option ℕ) (old new : Drive) : Type 0 where

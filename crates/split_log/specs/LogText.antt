@@ -34,14 +34,23 @@ pub record HoldsCells (version width : ℕ) (cells : List Cell) (bytes : List �
   pub parts : bytes ≡ front ++ rest
   pub text : IsLogText version width cells front
 
+-- what stands behind the commit byte of the first of these cells, with a clear one behind the last
+abbrev pub behind_first : List Cell → List ℕ
+behind_first [] = []
+behind_first (cell ∷ cells) = body_of cell ++ (flat_map spelling cells ++ 0 ∷ [])
+
+-- the cells alone, or with all of these behind them
+abbrev pub HoldsAllOrNone : ℕ → List Cell → List Cell → List ℕ → Type 0
+HoldsAllOrNone width cells more bytes = HoldsCells newest width cells bytes ⊎ HoldsCells newest width (cells ++ more) bytes
+
 -- the cells, with one more or without it
 abbrev pub HoldsEither : ℕ → List Cell → Cell → List ℕ → Type 0
-HoldsEither width cells cell bytes = HoldsCells newest width cells bytes ⊎ HoldsCells newest width (cells ++ cell ∷ []) bytes
+HoldsEither width cells cell bytes = HoldsAllOrNone width cells (cell ∷ []) bytes
 
--- the cells, one more that is written whole behind any commit byte, and a clear commit byte
-pub record IsStaged (width : ℕ) (cells : List Cell) (cell : Cell) (bytes : List ℕ) : Type 0 where
+-- the cells, those behind them written whole behind any commit byte, and a clear commit byte
+pub record IsStaged (width : ℕ) (cells more : List Cell) (bytes : List ℕ) : Type 0 where
   pub commit_byte : ℕ
-  pub text : bytes ≡ front_of newest width cells ++ commit_byte ∷ (body_of cell ++ 0 ∷ [])
+  pub text : bytes ≡ front_of newest width cells ++ commit_byte ∷ behind_first more
 
 -- the file is the text of these cells in the newest version, and a crash leaves it
 pub record IsLog (width : ℕ) (cells : List Cell) (drive : Drive) : Type 0 where

@@ -7,6 +7,7 @@ ghost use Rattle.cell_format.specs.Spelling.{newest, IsCell, body_of};
 ghost use Rattle.split_log.specs.LogText.{IsLog, HoldsEither};
 ghost use Rattle.split_log.specs.Append.{IsReady, Breaks};
 
+use crate::committing::commit;
 use cell_format::{Cell, encode};
 use disk_trait::{DiskFault, LogDisk};
 
@@ -25,12 +26,7 @@ pub(crate) fn place<D: LogDisk>(disk: &mut D, at: u64, piece: &[u8]) -> Result<(
     ensures cause { CountsFaults (D.drive disk.old) (D.drive disk.new) result }
 {
     disk.write(at + 1, piece)?;
-    // Synced first: behind a commit byte that a crash may set, whatever stood there would count.
-    disk.sync()?;
-    disk.write(at, &[1])?;
-    // Synced before the answer: until then a crash may leave the byte clear.
-    disk.sync()?;
-    Ok(())
+    commit(disk, at)
 }
 
 /// A cell without its commit byte, and a clear one for the cell after it.

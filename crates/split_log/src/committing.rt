@@ -1,0 +1,32 @@
+//! The three device calls that make cells count.
+ghost use Rattle.std.specs.Prelude.{◌≡◌, ◌+◌, ◌≤◌, ◌^◌, ◌++◌, ℕ, List, OnOk, OnErr, is_some};
+ghost use Rattle.disk_trait.specs.Drive.{IsWithin, CountsFaults, MadeWell};
+ghost use Rattle.disk_trait.specs.Moments.{LeavesOnly};
+ghost use Rattle.cell_format.specs.declared.cell.Cell.{Cell};
+ghost use Rattle.split_log.specs.LogText.{IsLog, HoldsAllOrNone};
+ghost use Rattle.split_log.specs.Commit.{IsUncommitted, StopsCommit};
+
+use disk_trait::{DiskFault, LogDisk};
+
+/// Makes cells count that were written behind the clear commit byte at this place, by three device calls: a sync, that byte, a sync. None is made
+/// after one that failed.
+pub fn commit<D: LogDisk>(disk: &mut D, at: u64) -> Result<(), DiskFault>
+    requires within { IsWithin (D.drive disk.old) at }
+    requires small { at + 1 ≤ 2 ^ 40 }
+
+    ensures any_moment { (w : ℕ) (cells more : List Cell) → IsUncommitted w at cells more (D.drive disk.old)
+        → LeavesOnly (D.drive disk.old) (D.drive disk.new) (HoldsAllOrNone w cells more) }
+    ensures committed { OnOk result ((w : ℕ) (cells more : List Cell) → IsUncommitted w at cells more (D.drive disk.old)
+        → IsLog w (cells ++ more) (D.drive disk.new)) }
+    ensures calls { OnOk result (MadeWell 3 (D.drive disk.old) (D.drive disk.new)) }
+    ensures stopped { OnErr result (StopsCommit at (D.drive disk.old) (D.drive disk.new)) }
+    ensures told { is_some (D.drive disk.new).bytes ≡ is_some (D.drive disk.old).bytes }
+    ensures cause { CountsFaults (D.drive disk.old) (D.drive disk.new) result }
+{
+    // Synced first: behind a commit byte that a crash may set, whatever stood there would count.
+    disk.sync()?;
+    disk.write(at, &[1])?;
+    // Synced before the answer: until then a crash may leave the byte clear.
+    disk.sync()?;
+    Ok(())
+}
