@@ -1,40 +1,36 @@
 -- What a crash leaves on the way from a small file to a log of all cells.
-use Rattle.std.proofs.Common.{◌≡◌, inl, inr, ⊎_elim, ℕ, ◌≤◌, List, [], ◌∷◌, length, Option, Some, refl, sym, ◌∙◌, ap, arith, length-append}
+use Rattle.std.proofs.Common.{◌≡◌, inl, inr, ℕ, ◌≤◌, List, [], ◌∷◌, length, Option, Some, refl, sym, ◌∙◌, ap, arith, length-append}
 use Rattle.cell_format.specs.declared.cell.Cell.{Cell}
 use Rattle.cell_format.specs.Spelling.{newest}
 use Rattle.disk_trait.specs.Drive.{Drive, SameFile}
 use Rattle.disk_trait.specs.Moments.{LeavesOnly}
 use Rattle.disk_trait.proofs.Told.{told_before}
-use Rattle.split_log.specs.LogText.{HoldsCells, IsLog, front_of}
+use Rattle.split_log.specs.LogText.{HoldsCells, HoldsAllOrNone, IsLog, front_of}
 use Rattle.split_log.proofs.Cells.{length-front_of}
+use Rattle.split_log.proofs.Commits.{joined, widened}
 use Rattle.log_state.specs.Recovers.{Recovers, IsLegalCells}
 use Rattle.recovery.specs.Making.{IsSmall, Makes, KeepsSmall}
-use Rattle.log_compact.specs.Staging.{HoldsAllOrNone, IsEmpty}
+use Rattle.log_compact.specs.Staging.{IsEmpty}
 use Rattle.log_compact.specs.Compacting.{IsCompacted, IsOnWay, KeepsOnWay}
 
 recovers : (w : ℕ) (cells : List Cell) (c : List ℕ) → HoldsCells newest w cells c → IsLegalCells w cells → Recovers w cells c
 recovers w cells c holds legal = record { version = 2; known = inr refl; holds = holds; legal = legal }
 
-by_holding : (w : ℕ) (cells : List Cell) → IsLegalCells w cells → (c : List ℕ) → HoldsAllOrNone w cells c → IsOnWay w cells c
+by_holding : (w : ℕ) (cells : List Cell) → IsLegalCells w cells → (c : List ℕ) → HoldsAllOrNone w [] cells c → IsOnWay w cells c
 by_holding w cells legal c (inl none) = inr (inl (recovers w [] c none refl))
 by_holding w cells legal c (inr all) = inr (inr (recovers w cells c all legal))
 
 -- small at first, and then a log of none of the cells, or of all
 module _ (w : ℕ) (cells : List Cell) (legal : IsLegalCells w cells) (old mid new : Drive) where
-  joined : LeavesOnly old mid IsSmall → LeavesOnly mid new (HoldsAllOrNone w cells) → LeavesOnly old new (IsOnWay w cells)
-  joined first second = record {
-    later = omega (arith, first.later, second.later);
-    each = λ c left. ⊎_elim (λ earlier. inl (first.each c earlier)) (by_holding w cells legal c) (second.before old.clock c first.later left);
-    before = λ t c le left.
-        ⊎_elim (λ earlier. ⊎_elim (λ before. inl before) (λ small. inr (inl small)) (first.before t c le earlier)) (λ held. inr (by_holding w cells legal c held))
-        (second.before t c (omega (arith, le, first.later)) left);
-  }
+  small-then : LeavesOnly old mid IsSmall → LeavesOnly mid new (HoldsAllOrNone w [] cells) → LeavesOnly old new (IsOnWay w cells)
+  small-then first second =
+      joined old mid new IsSmall (HoldsAllOrNone w [] cells) (IsOnWay w cells) (λ c small. inl small) (by_holding w cells legal) first second
 
-  module _ (made : Makes w old mid) (kept : KeepsSmall old mid) (leaves : IsLog w [] mid → LeavesOnly mid new (HoldsAllOrNone w cells)) where
+  module _ (made : Makes w old mid) (kept : KeepsSmall old mid) (leaves : IsLog w [] mid → LeavesOnly mid new (HoldsAllOrNone w [] cells)) where
     -- while the cells are written, and after that
     pub kept-on_way : mid.faults ≤ new.faults → SameFile mid new → KeepsOnWay w cells old new
     kept-on_way later file = record {
-      on_way = λ bytes told small. joined (kept.small small) (leaves (made.log bytes told).1);
+      on_way = λ bytes told small. small-then (kept.small small) (leaves (made.log bytes told).1);
       in_use = λ bytes told long. absurd (omega (arith, long, (made.log bytes told).0));
       later = omega (arith, kept.later, later);
       file = λ all told. kept.file all (file all told);
@@ -49,11 +45,7 @@ module _ (w : ℕ) (cells : List Cell) (legal : IsLegalCells w cells) (old mid n
 -- where no log was made
 pub small-on_way : (w : ℕ) (cells : List Cell) (old new : Drive) → KeepsSmall old new → KeepsOnWay w cells old new
 small-on_way w cells old new kept = record {
-  on_way = λ bytes told small. (let leaves = kept.small small in record {
-    later = leaves.later;
-    each = λ c left. inl (leaves.each c left);
-    before = λ t c le left. ⊎_elim (λ earlier. inl earlier) (λ s. inr (inl s)) (leaves.before t c le left);
-  });
+  on_way = λ bytes told small. widened old new IsSmall (IsOnWay w cells) (λ c is_small. inl is_small) (kept.small small);
   in_use = kept.in_use;
   later = kept.later;
   file = kept.file;

@@ -7,17 +7,13 @@ use Rattle.std.specs.List.{flat_map}
 use Rattle.cell_format.specs.declared.cell.Cell.{Cell}
 use Rattle.cell_format.specs.Spelling.{body_of, spelling}
 use Rattle.cell_format.proofs.Decoded.{length-spelling}
-use Rattle.log_compact.specs.Staging.{behind_first}
+use Rattle.split_log.specs.LogText.{behind_first}
 
 -- behind the bytes of the first cell stands the set commit byte of the next one
 pub behind_first-next : (cell next : Cell) (cells : List Cell) → behind_first (cell ∷ next ∷ cells) ≡ (body_of cell ++ 1 ∷ []) ++ behind_first (next ∷ cells)
 behind_first-next cell next cells =
     ap (λ (l : List ℕ). body_of cell ++ l) (append_assoc (spelling next) (flat_map spelling cells) (0 ∷ []))
     ∙ sym (append_assoc (body_of cell) (1 ∷ []) (behind_first (next ∷ cells)))
-
--- with a set commit byte before it, it is the text of the cells and a clear commit byte
-pub behind_first-text : (cell : Cell) (cells : List Cell) → 1 ∷ behind_first (cell ∷ cells) ≡ flat_map spelling (cell ∷ cells) ++ 0 ∷ []
-behind_first-text cell cells = sym (append_assoc (spelling cell) (flat_map spelling cells) (0 ∷ []))
 
 length-part : (cell : Cell) (byte : ℕ) → length (body_of cell ++ byte ∷ []) ≡ 32
 length-part cell byte = omega (arith, length-append (body_of cell) (byte ∷ []), length-spelling cell)

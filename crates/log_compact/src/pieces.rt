@@ -1,7 +1,8 @@
 //! Cells in pieces, as they are written: without the first commit byte.
 ghost use Rattle.std.specs.Prelude.{◌≡◌, ◌≤◌, ◌∷◌, [], ◌++◌, length, take};
 ghost use Rattle.cell_format.specs.Spelling.{newest, IsCell, body_of};
-ghost use Rattle.log_compact.specs.Staging.{behind_first, and_taken, AreCells};
+ghost use Rattle.split_log.specs.LogText.{behind_first};
+ghost use Rattle.log_compact.specs.Staging.{and_taken, AreCells};
 
 use crate::cells::FreshCells;
 use cell_format::{Cell, encode};

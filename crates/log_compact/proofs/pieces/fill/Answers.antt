@@ -1,7 +1,8 @@
 -- Each cell goes into the piece with the commit byte of the next one.
 use Rattle.std.proofs.Common.{◌≡◌, ◌+◌, ◌-◌, ◌*◌, ◌∷◌, ◌++◌, length, take, ◌∙◌, ap, subst, sym, arith}
 use borrow.Rule.Slice.PartMut.{same_len_mid}
-use Rattle.log_compact.specs.Staging.{behind_first, AreCells}
+use Rattle.split_log.specs.LogText.{behind_first}
+use Rattle.log_compact.specs.Staging.{AreCells}
 use Rattle.log_compact.proofs.PieceTexts.{piece-more, piece-last}
 use Rattle.log_compact.proofs.pieces.fill.Goals as goal
 

@@ -1,5 +1,6 @@
 use Rattle.std.proofs.Common.{◌≡◌, ◌+◌, ◌*◌, ◌≤◌, ◌∷◌, ◌++◌, take, length}
-use Rattle.log_compact.specs.Staging.{behind_first, AreCells}
+use Rattle.split_log.specs.LogText.{behind_first}
+use Rattle.log_compact.specs.Staging.{AreCells}
 use Rattle.log_compact.proofs.pieces.fill.Given as goal
 
 -- the piece so far, and what stands behind the commit byte of the cell that is next

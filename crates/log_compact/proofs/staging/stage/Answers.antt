@@ -2,8 +2,9 @@
 use Rattle.std.proofs.Common.{◌≡◌, ◌+◌, ◌*◌, ◌^◌, ◌≤◌, ◌<◌, ◌∷◌, ℕ, List, length, take, ap, subst, arith, length-append, length-take}
 use Rattle.cell_format.specs.declared.cell.Cell.{Cell}
 use Rattle.disk_trait.specs.Drive.{Drive}
-use Rattle.log_compact.specs.Staging.{behind_first, and_taken, IsStaging}
-use Rattle.log_compact.proofs.Stages.{staging-none, staging-more, still-alone, length-behind_first}
+use Rattle.split_log.specs.LogText.{behind_first}
+use Rattle.log_compact.specs.Staging.{and_taken, IsStaging}
+use Rattle.log_compact.proofs.Stages.{staging-none, staging-more, staged-all, still-alone, length-behind_first}
 use Rattle.log_compact.proofs.staging.stage.Goals as goal
 
 -- so far goes what was sent, at most all
@@ -50,3 +51,11 @@ pieces-preserved g c =
     subst (λ n. IsStaging all left (c.pieces.at + n) here next) long
     (staging-more here now next (g.met.D.LogDisk.keeps_laws c.pieces.disk) c.pieces.at sent c.write.result (omega (arith, so_far.at_is)) c.write.ensures.writes
     c.in_ok-write.ensures.writes.done so_far.whole all rest left so_far c.fill-filled.ensures.text c.fill-filled.ensures.fits c.in_ok-write.ensures.cause.same c.in_ok-write.ensures.cause.file)
+
+pub returns-clause-staged : goal.returns-clause-staged
+returns-clause-staged g c w log =
+    let all : List Cell = c.args.first ∷ c.args.cells in
+    let here = g.D.LogDisk.drive c.args.disk.now in
+    let now = g.D.LogDisk.drive c.pieces.disk in
+    staged-all c.args.first c.args.cells c.pieces.at here now (g.met.D.LogDisk.keeps_laws c.pieces.disk)
+    (subst (λ held. IsStaging all (and_taken held c.pieces.cells) c.pieces.at here now) c.in_default.is c.pieces.invariant) w log
