@@ -1,0 +1,160 @@
+//! Nodes: a leaf's bucket, or what is under each pair of next bits.
+ghost use Rattle.std.specs.Prelude.{◌≡◌, ◌≤◌, ◌<◌, ◌+◌, ◌-◌, ◌==◌, Some, length, IfOk};
+ghost use Rattle.std.specs.Arc.{arc_value};
+ghost use Rattle.std.specs.Int.{bit_at};
+ghost use Rattle.zorder.specs.Bits.{low_bits};
+ghost use Rattle.bit_trie.specs.Tries.{name_at, bucket_at, graft};
+ghost use Rattle.bit_trie.specs.Ways.{Fits};
+ghost use Rattle.quad_trie.specs.Nodes.{seen, four, fours, quarter_of, with_quarter};
+
+use bucket_versions::Bucket;
+use std::alloc::{AllocError, Global};
+use std::sync::Arc;
+
+/// A leaf's bucket, or what is under the next two bits.
+#[derive(Drop)]
+#[cycle(trie)]
+pub enum Node {
+    Leaf(Arc<Bucket>),
+    Inner(Arc<Quad>),
+}
+
+/// What is under the next bits 00, 01, 10 and 11.
+#[derive(Drop)]
+#[cycle(trie)]
+pub struct Quad {
+    pub(crate) zero_zero: Node,
+    pub(crate) zero_one: Node,
+    pub(crate) one_zero: Node,
+    pub(crate) one_one: Node,
+}
+
+impl Node {
+    /// An equal node, which shares all below.
+    pub(crate) fn share(&self) -> Result<Node, AllocError>
+        ensures { IfOk result (λ n. seen n ≡ seen self.now) }
+    {
+        match self {
+            Node::Leaf(bucket) => Ok(Node::Leaf(Arc::try_clone(bucket)?)),
+            Node::Inner(quad) => Ok(Node::Inner(Arc::try_clone(quad)?)),
+        }
+    }
+}
+
+impl Quad {
+    // The quarter that two bits lead to.
+    fn quarter(&self, high: bool, low: bool) -> &Node
+        ensures { seen result.now ≡ quarter_of self.now high low }
+    {
+        match (high, low) {
+            (false, false) => &self.zero_zero,
+            (false, true) => &self.zero_one,
+            (true, false) => &self.one_zero,
+            (true, true) => &self.one_one,
+        }
+    }
+
+    // These quarters with another node in one of them; the others are shared.
+    fn with(&self, high: bool, low: bool, node: Node) -> Result<Quad, AllocError>
+        ensures { IfOk result (λ q. four q ≡ with_quarter self.now high low (seen node)) }
+    {
+        let zero_zero = self.zero_zero.share()?;
+        let zero_one = self.zero_one.share()?;
+        let one_zero = self.one_zero.share()?;
+        let one_one = self.one_one.share()?;
+        Ok(match (high, low) {
+            (false, false) => Quad {
+                zero_zero: node,
+                zero_one,
+                one_zero,
+                one_one,
+            },
+            (false, true) => Quad {
+                zero_zero,
+                zero_one: node,
+                one_zero,
+                one_one,
+            },
+            (true, false) => Quad {
+                zero_zero,
+                zero_one,
+                one_zero: node,
+                one_one,
+            },
+            (true, true) => Quad {
+                zero_zero,
+                zero_one,
+                one_zero,
+                one_one: node,
+            },
+        })
+    }
+}
+
+// Whether the first of the last `left` bits of a key is 1.
+fn next_bit(key: u64, left: u8) -> bool
+    requires some { 0 < left }
+    requires most { left ≤ 64 }
+    ensures { result ≡ (bit_at key (left - 1) == 1) }
+{
+    (key >> (left - 1)) % 2 == 1
+}
+
+/// A node with another one in the place of the leaf that the last `left` bits of a key lead to: the path to it is copied, all else is
+/// shared.
+pub(crate) fn grafted(
+    alloc: Global,
+    node: &Node,
+    key: u64,
+    left: u8,
+    part: Node,
+) -> Result<Node, AllocError>
+    requires fits { Fits left (seen node.now) }
+    ensures { IfOk result (λ n. seen n ≡ graft (low_bits left key) (seen part) (seen node.now)) }
+{
+    match node {
+        Node::Leaf(_) => Ok(part),
+        Node::Inner(quad) => {
+            let high = next_bit(key, left);
+            let low = next_bit(key, left - 1);
+            let below = grafted(alloc, quad.quarter(high, low), key, left - 2, part)?;
+            let quad = quad.with(high, low, below)?;
+            Ok(Node::Inner(Arc::new(alloc, quad)?))
+        }
+    }
+}
+
+/// Four leaves of these buckets.
+pub(crate) fn fours(
+    alloc: Global,
+    first: Arc<Bucket>,
+    second: Arc<Bucket>,
+    third: Arc<Bucket>,
+    fourth: Arc<Bucket>,
+) -> Result<Node, AllocError>
+    ensures { IfOk result (λ node. seen node ≡ fours (arc_value first) (arc_value second) (arc_value third) (arc_value fourth)) }
+{
+    let quad = Quad {
+        zero_zero: Node::Leaf(first),
+        zero_one: Node::Leaf(second),
+        one_zero: Node::Leaf(third),
+        one_one: Node::Leaf(fourth),
+    };
+    Ok(Node::Inner(Arc::new(alloc, quad)?))
+}
+
+/// The bucket that the last `left` bits of a key lead to, and how many bits are left there.
+pub(crate) fn leaf_of(node: &Node, key: u64, left: u8) -> (u8, &Arc<Bucket>)
+    requires fits { Fits left (seen node.now) }
+    ensures bucket { bucket_at (low_bits left key) (seen node.now) ≡ Some (arc_value result.1.now) }
+    ensures left { result.0 + length (name_at (low_bits left key) (seen node.now)) ≡ left }
+{
+    match node {
+        Node::Leaf(bucket) => (left, bucket),
+        Node::Inner(quad) => {
+            let high = next_bit(key, left);
+            let low = next_bit(key, left - 1);
+            leaf_of(quad.quarter(high, low), key, left - 2)
+        }
+    }
+}

@@ -1,0 +1,150 @@
+//! The trie: nodes, with leaves that tile the key space.
+ghost use Rattle.std.specs.Prelude.{◌≡◌, ◌<◌, ◌≤◌, ◌^◌, ◌⊎◌, ◌++◌, ◌∷◌, [], List, Bool, Some, IsTrue};
+ghost use Rattle.std.specs.Arc.{arc_value};
+ghost use Rattle.bucket_versions.specs.Rows.{IsRows};
+ghost use Rattle.index_layer.specs.Leaves.{AreLeaves, has_name};
+ghost use Rattle.index_layer.specs.LeavesProp.{AreLeaves-prop};
+ghost use Rattle.bit_trie.specs.Tries.{height, leaves_under};
+ghost use Rattle.quad_trie.specs.Nodes.{seen};
+ghost use Rattle.quad_trie.specs.Places.{IsAt};
+
+use crate::node::{Node, fours, grafted, leaf_of};
+use bucket_versions::Bucket;
+use index_layer::{Below, Index, IndexFault};
+use std::alloc::Global;
+use std::sync::Arc;
+use zorder::{Memory, Name, child, first_bits};
+
+/// Leaves whose names tile the key space, under nodes that tries share.
+#[derive(Drop)]
+pub struct QuadTrie {
+    alloc: Global,
+    root: Node,
+    ghost short: { height (seen root) ≤ 64 },
+    ghost are_leaves: { AreLeaves (leaves_under [] (seen root)) } by { AreLeaves-prop (leaves_under [] (seen root)) },
+}
+
+impl QuadTrie {
+    // Whether a leaf has this name.
+    fn has_leaf(&self, name: &Name) -> bool
+        ensures { result ≡ has_name name.now (leaves_under [] (seen self.now.root)) }
+    {
+        let (found, _) = self.leaf_of(name.bits());
+        found == *name
+    }
+}
+
+impl Index for QuadTrie {
+    type Place = Node;
+
+    ghost leaves = { λ s. leaves_under [] (seen s.root) };
+
+    ghost is_at = { λ s place name. IsAt (seen s.root) (seen place) name };
+
+    ghost WIDTH = { 2 };
+
+    const WIDTH: u8 = 2;
+
+    ghost use Rattle.std.proofs.Common.{inr, refl};
+
+    ghost are_leaves = { λ s. s.are_leaves };
+
+    ghost width = { inr refl };
+
+    fn whole(alloc: Global, bucket: Arc<Bucket>) -> Result<Self, Memory> {
+        in_order(&bucket);
+        Ok(QuadTrie {
+            alloc,
+            root: Node::Leaf(bucket),
+        })
+    }
+
+    fn share(&self) -> Result<Self, Memory> {
+        let root = self.root.share()?;
+        Ok(QuadTrie {
+            alloc: self.alloc,
+            root,
+        })
+    }
+
+    fn leaf_of(&self, key: u64) -> (Name, &Arc<Bucket>) {
+        let (left, bucket) = leaf_of(&self.root, key, 64);
+        (first_bits(key, 64 - left), bucket)
+    }
+
+    fn top(&self) -> &Node {
+        &self.root
+    }
+
+    fn below<'a>(&'a self, name: &Name, place: &'a Node) -> Below<'a, Node> {
+        let quad = match place {
+            Node::Leaf(bucket) => return Below::Leaf(bucket),
+            Node::Inner(quad) => quad,
+        };
+        if name.len() % 2 == 0 {
+            // Between two levels the last bit of the name tells which half is meant: the node stands in for both.
+            Below::Halves {
+                zero: place,
+                one: place,
+            }
+        } else if ends_with_one(name) {
+            Below::Halves {
+                zero: &quad.one_zero,
+                one: &quad.one_one,
+            }
+        } else {
+            Below::Halves {
+                zero: &quad.zero_zero,
+                one: &quad.zero_one,
+            }
+        }
+    }
+
+    fn replaced(&self, name: &Name, bucket: Arc<Bucket>) -> Result<Self, IndexFault> {
+        if !self.has_leaf(name) {
+            return Err(IndexFault::NoLeaf { name: *name });
+        }
+        in_order(&bucket);
+        let root = grafted(self.alloc, &self.root, name.bits(), 64, Node::Leaf(bucket))?;
+        Ok(QuadTrie {
+            alloc: self.alloc,
+            root,
+        })
+    }
+
+    fn split(&self, name: &Name, children: &[Arc<Bucket>]) -> Result<Self, IndexFault> {
+        if !self.has_leaf(name) {
+            return Err(IndexFault::NoLeaf { name: *name });
+        }
+        let first = Arc::try_clone(&children[0])?;
+        let second = Arc::try_clone(&children[1])?;
+        let third = Arc::try_clone(&children[2])?;
+        let fourth = Arc::try_clone(&children[3])?;
+        in_order(&first);
+        in_order(&second);
+        in_order(&third);
+        in_order(&fourth);
+        let part = fours(self.alloc, first, second, third, fourth)?;
+        let root = grafted(self.alloc, &self.root, name.bits(), 64, part)?;
+        Ok(QuadTrie {
+            alloc: self.alloc,
+            root,
+        })
+    }
+}
+
+// Whether the last bit of a name is 1.
+fn ends_with_one(name: &Name) -> bool
+    requires { (front : List Bool) × (bit : Bool) × (name.now ≡ front ++ bit ∷ []) }
+    ensures { (front : List Bool) (bit : Bool) → name.now ≡ front ++ bit ∷ [] → result ≡ bit }
+{
+    let front = first_bits(name.bits(), name.len() - 1);
+    child(&front, true) == *name
+}
+
+// Tells that the rows of a bucket are in order.
+fn in_order(bucket: &Arc<Bucket>)
+    ensures { IsRows (arc_value bucket.now).rows }
+{
+    let _rows = bucket.count();
+}
