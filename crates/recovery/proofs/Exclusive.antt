@@ -1,5 +1,5 @@
 -- Bytes tell one thing at most: the cells that they recover to, or one fault.
-use Rattle.std.proofs.Common.{◌≡◌, ℕ, ◌+◌, ◌<◌, ◌≤◌, true, false, ◌⊎◌, inl, inr, ⊎_elim, List, [], ◌∷◌, ◌++◌, length, take, drop, replicate, refl, sym, ◌∙◌, ap, subst, arith, append_assoc, length-append}
+use Rattle.std.proofs.Common.{◌≡◌, ℕ, ◌+◌, ◌<◌, ◌≤◌, true, false, ◌⊎◌, inl, inr, ⊎_elim, List, [], ◌∷◌, ◌++◌, length, take, drop, refl, sym, ◌∙◌, ap, subst, arith, append_assoc, length-append}
 use Rattle.std.specs.Prelude.{slice_index, Result, Ok, Err}
 use Rattle.std.specs.Result.{IsErrAnd}
 use Rattle.causes.specs.Causes.{Rose}
@@ -14,7 +14,7 @@ use Rattle.cell_format.specs.declared.cell.Cause.TheVariants as cause
 use Rattle.cell_format.specs.declared.cell.CellFault.{CellFault}
 use Rattle.cell_format.specs.declared.cell.CellFault.TheVariants as cell_fault
 use Rattle.cell_format.specs.Decoding.{decoded}
-use Rattle.cell_format.specs.Spelling.{newest, IsCell, spelling, header_text}
+use Rattle.cell_format.specs.Spelling.{IsCell, spelling, header_text}
 use Rattle.cell_format.proofs.Decoded.{same_cell, fits-newest, length-spelling, decoded-spelling}
 use Rattle.cell_format.proofs.Reading.{decoded-HasNoKind, decoded-HasReserved, decoded-HasBadName, decoded-spelled}
 use Rattle.plain_list.specs.State.{State, empty_state, step}
@@ -23,10 +23,10 @@ use Rattle.split_log.proofs.Cells.{length-header}
 use Rattle.recovery.specs.declared.seen.OpenFault.{OpenFault}
 use Rattle.recovery.specs.declared.seen.OpenFault.TheVariants as fault
 use Rattle.log_state.specs.Recovers.{Recovers, is_legal_cells, is_possible_cell, entry_of, cells_after, state_of}
-use Rattle.recovery.specs.Faults.{BeginsWith, IsWrong, IsDamaged, IsTooLong, IsNotLog, IsOldLog, IsFault, IsInBytes}
+use Rattle.recovery.specs.Faults.{BeginsWith, IsWrong, IsDamaged, IsTooLong, IsOldLog, IsFault, IsInBytes}
 use Rattle.recovery.specs.Found.{IsWanted, IsFree}
 use Rattle.recovery.specs.Headers.{HasHeader}
-use Rattle.recovery.proofs.Heads.{header_bytes, index_version}
+use Rattle.recovery.proofs.HeadLemmas.{header_bytes, header_is_log, index_version}
 use Rattle.recovery.proofs.ReadingLemmas.{behind_cells, set_some}
 
 -- one list of cells goes on with this cell where the other ends
@@ -198,19 +198,6 @@ has_header v w most cells tail bytes end = record {
   parts = behind_header v w cells tail bytes end.begins;
   long = omega (arith, (behind_cells v w cells tail bytes end.begins).1, end.some);
 }
-
-header_word : (v w : ℕ) (rest : List ℕ) → take 8 (header_text v w ++ rest) ≡ take 8 (header_text newest 1)
-unfolding header_text
-header_word v w rest = refl
-
-header_zeros : (v w : ℕ) (rest : List ℕ) → take 6 (drop 10 (header_text v w ++ rest)) ≡ replicate 6 0
-unfolding header_text
-header_zeros v w rest = refl
-
-header_is_log : (v w : ℕ) (bytes : List ℕ) → HasHeader v w bytes → IsNotLog bytes → ⊥
-header_is_log v w bytes has not_log = ⊎_elim (λ short. omega (arith, short, has.long)) (λ other. ⊎_elim
-    (λ word. word (ap (take 8) has.parts ∙ header_word v w has.rest))
-    (λ zeros. zeros (ap (λ (l : List ℕ). take 6 (drop 10 l)) has.parts ∙ header_zeros v w has.rest)) other) not_log
 
 header_is_new : (oldest v w : ℕ) (bytes : List ℕ) (version width : ℕ) → IsWanted oldest v → HasHeader v w bytes → IsOldLog oldest w bytes version width → ⊥
 header_is_new oldest v w bytes version width wanted has old = ⊎_elim

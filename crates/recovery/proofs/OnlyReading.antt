@@ -14,7 +14,7 @@ use Rattle.recovery.specs.declared.seen.Seen.{Seen}
 use Rattle.log_state.specs.Recovers.{state_of}
 use Rattle.recovery.specs.Found.{Shows, IsWanted, IsFound}
 use Rattle.recovery.specs.Reading.{Reaches, Ends, FailsIn, GoesOn, OnlyReads, IsReading, IsFoundIn}
-use Rattle.recovery.proofs.Heads.{index_version}
+use Rattle.recovery.proofs.HeadLemmas.{index_version}
 
 pub stays-trans : (a b c : Drive) → Stays a b → Stays b c → Stays a c
 stays-trans a b c first second = record {

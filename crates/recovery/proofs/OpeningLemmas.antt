@@ -21,7 +21,7 @@ use Rattle.recovery.specs.declared.seen.OpenFault.TheVariants.{Disk}
 use Rattle.recovery.specs.Found.{IsWanted, IsFound}
 use Rattle.recovery.specs.Opening.{KeepsCells, CallsToCut, CallsToOpen, CallsRefused, LeavesUnopened, IsReady, IsUntouched}
 use Rattle.recovery.specs.Reading.{IsFoundIn}
-use Rattle.recovery.proofs.Heads.{index_version}
+use Rattle.recovery.proofs.HeadLemmas.{index_version}
 
 -- one stretch after another
 pub leaves-trans : (a b c : Drive) (P : List ℕ → Type 0) → LeavesOnly a b P → LeavesOnly b c P → LeavesOnly a c P

@@ -23,7 +23,7 @@ use Rattle.recovery.specs.Walk.{WalkView}
 use Rattle.recovery.specs.Pieces.{Passes, FailsAt, Walks, Breaks}
 use Rattle.recovery.specs.Reading.{Reaches, Ends, FailsIn, ReadsPiece}
 use Rattle.recovery.specs.Headers.{HasHeader}
-use Rattle.recovery.proofs.Heads.{begins_first}
+use Rattle.recovery.proofs.HeadLemmas.{begins_first}
 use Rattle.recovery.proofs.PieceLemmas.{all_append}
 use Rattle.log_state.proofs.LegalCells.{cells_after-append, legal-append}
 

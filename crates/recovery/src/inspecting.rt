@@ -1,24 +1,20 @@
 //! Says what a log was found to say, and reads alone.
-ghost use Rattle.std.specs.Prelude.{◌≡◌, ◌⊎◌, ◌≤◌, ◌<◌, ◌^◌, ℕ, true, false, List, Some, length, slice_index, take, drop, replicate, IfOk, IfErr};
+ghost use Rattle.std.specs.Prelude.{◌≡◌, ◌⊎◌, ◌≤◌, ◌<◌, ◌^◌, ℕ, List, Some, length, slice_index, IfOk, IfErr};
 ghost use Rattle.std.specs.Result.{IsErrAnd};
 ghost use Rattle.cell_format.specs.declared.cell.Cell.{Cell};
 ghost use Rattle.log_state.specs.Recovers.{Recovers};
 ghost use Rattle.recovery.specs.declared.seen.OpenFault.{OpenFault};
-ghost use Rattle.cell_format.specs.Spelling.{newest, header_text};
-ghost use Rattle.recovery.specs.Headers.{HasHeader, FailsHead};
-ghost use Rattle.recovery.specs.Faults.{IsFault, IsInBytes, HasOtherHead};
+ghost use Rattle.recovery.specs.Headers.{HasHeader};
+ghost use Rattle.recovery.specs.Faults.{IsFault, IsInBytes};
 ghost use Rattle.recovery.specs.Reading.{Reaches, FailsIn, OnlyReads, IsFoundIn};
 ghost use Rattle.recovery.specs.Found.{IsWanted, IsFound, IsFree};
 
+use crate::heads::{FIRST, read_head};
 use crate::reading::walk_cells;
-use crate::seen::{NEWEST, OpenFault, Seen};
+use crate::seen::{OpenFault, Seen};
 use crate::walk::Walk;
-use cell_format::header;
 use disk_trait::LogDisk;
 use std::alloc::Global;
-
-/// The first version of a log.
-const FIRST: u8 = 1;
 
 /// What was found in a log, and how long its file is.
 #[derive(Drop)]
@@ -90,7 +86,7 @@ fn read_cells<D: LogDisk>(
     Ok(Found { seen, len })
 }
 
-/// Tests the head of a file of this length, and says which version it names.
+/// Reads the head of a file of this length, and says which version it names.
 fn test_header<D: LogDisk>(disk: &mut D, len: u64, oldest: u8, width: u8) -> Result<u8, OpenFault>
     requires len { (xs : List ℕ) → (D.drive disk.old).bytes ≡ Some xs → length xs ≡ len }
 
@@ -99,40 +95,6 @@ fn test_header<D: LogDisk>(disk: &mut D, len: u64, oldest: u8, width: u8) -> Res
     ensures err { IfErr result (λ e. (xs : List ℕ) → (D.drive disk.old).bytes ≡ Some xs → (most : ℕ) → IsFault oldest width most xs e) }
     ensures reads { OnlyReads (D.drive disk.old) (D.drive disk.new) result }
 {
-    if len < 17 {
-        return Err(OpenFault::NotLog);
-    }
-    let mut head = [0; 16];
-    let got = disk.read(0, &mut head)?;
-    if got < 16 {
-        return Err(OpenFault::NotLog);
-    }
-    test_head(&head, oldest, width)
-}
-
-/// Tests the first 16 bytes.
-fn test_head(head: &[u8; 16], oldest: u8, width: u8) -> Result<u8, OpenFault>
-    ensures ok { IfOk result (λ version. IsWanted oldest version × (head.now ≡ header_text version width)) }
-    ensures err { IfErr result (FailsHead oldest width head.now) }
-{
-    if !has_marks(head, width) {
-        return Err(OpenFault::NotLog);
-    }
-    let version = head[8];
-    if version < oldest || NEWEST < version || head[9] != width {
-        return Err(OpenFault::OldLog {
-            version,
-            width: head[9],
-        });
-    }
-    Ok(version)
-}
-
-/// Tells whether the letters and the zeros of a header stand there.
-fn has_marks(head: &[u8; 16], width: u8) -> bool
-    ensures yes { result ≡ true → (take 8 head.now ≡ take 8 (header_text newest width)) × (take 6 (drop 10 head.now) ≡ take 6 (drop 10 (header_text newest width))) }
-    ensures no { result ≡ false → HasOtherHead head.now }
-{
-    let whole = header(NEWEST, width);
-    head[..8] == whole[..8] && head[10..] == whole[10..]
+    let head = read_head(disk, len)?;
+    head.wanted_version(oldest, width)
 }

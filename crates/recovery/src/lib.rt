@@ -3,11 +3,12 @@
 //! Contracts see what is found (`Seen`) as the state of a list of legal cells: objects, leaves, open splits, begins. `open` and
 //! `inspect` answer `Ok` where the bytes recover to at most so many cells, and else the first place at fault; at each moment of
 //! `open` a crash leaves what recovers to the same cells. `init` makes a log of no cells. `inspect` reads versions 1 and 2 of the
-//! log, `open` version 2 alone, in which `init` and appends write.
+//! log, `open` version 2 alone, in which `init` and appends write; both are told the width, which `width_of` reads from the head.
 //!
 //! Not here: appends (`split_log`), the bytes of a cell (`cell_format`), the history that a book writes (`commit_book`).
 #![tactic(auto)]
 
+mod heads;
 mod inspecting;
 mod leaf_map;
 mod making;
@@ -18,6 +19,7 @@ mod seen;
 mod split_map;
 mod walk;
 
+pub use heads::width_of;
 pub use inspecting::inspect;
 pub use making::init;
 pub use opening::open;

@@ -1,0 +1,107 @@
+//! Reads the head of a file: which version and which width its log has.
+ghost use Rattle.std.specs.Prelude.{◌≡◌, ◌≢◌, ◌⊎◌, ◌≤◌, ℕ, true, false, List, Some, length, take, drop, replicate, IfOk, IfErr};
+ghost use Rattle.std.specs.Result.{IsErrAnd};
+ghost use Rattle.causes.specs.Causes.{Rose};
+ghost use Rattle.cell_format.specs.Spelling.{newest, header_text};
+ghost use Rattle.recovery.specs.declared.seen.OpenFault.{OpenFault};
+ghost use Rattle.recovery.specs.declared.seen.OpenFault.TheVariants.{OldLog};
+ghost use Rattle.recovery.specs.Faults.{HasOtherHead, IsInBytes};
+ghost use Rattle.recovery.specs.Found.{IsWanted};
+ghost use Rattle.recovery.specs.Headers.{HasHeader, FailsHead};
+ghost use Rattle.recovery.specs.Reading.{OnlyReads};
+ghost use Rattle.recovery.specs.Widths.{HasWidth, IsHeadFault};
+
+use crate::seen::{NEWEST, OpenFault};
+use cell_format::header;
+use disk_trait::LogDisk;
+
+/// The first version of a log.
+pub(crate) const FIRST: u8 = 1;
+
+/// What the head of a log names.
+#[derive(Clone, Copy)]
+pub(crate) struct Head {
+    pub(crate) version: u8,
+    pub(crate) width: u8,
+}
+
+/// The width that the head of a log of version 1 or 2 names: `inspect` and `open` ask for it.
+pub fn width_of<D: LogDisk>(disk: &mut D) -> Result<u8, OpenFault>
+    ensures known { IfOk result (λ w. (w ≡ 1) ⊎ (w ≡ 2)) }
+    ensures told { IfOk result (λ w. (bytes : List ℕ) → (D.drive disk.old).bytes ≡ Some bytes → HasWidth w bytes) }
+    ensures fault { IfErr result (λ e. (bytes : List ℕ) → (D.drive disk.old).bytes ≡ Some bytes → IsHeadFault bytes e) }
+    ensures exact { (bytes : List ℕ) (fault : OpenFault) → (D.drive disk.old).bytes ≡ Some bytes → IsInBytes fault
+        → IsHeadFault bytes fault → IsErrAnd result (λ e. (e ≡ fault) ⊎ Rose (D.drive disk.old).faults (D.drive disk.new).faults) }
+    ensures whole { (bytes : List ℕ) (w : ℕ) → (D.drive disk.old).bytes ≡ Some bytes → HasWidth w bytes
+        → IfErr result (λ _. Rose (D.drive disk.old).faults (D.drive disk.new).faults) }
+    ensures reads { OnlyReads (D.drive disk.old) (D.drive disk.new) result }
+{
+    let len = disk.len()?;
+    let head = read_head(disk, len)?;
+    head.known_width()
+}
+
+/// Reads the head of a file of this length.
+pub(crate) fn read_head<D: LogDisk>(disk: &mut D, len: u64) -> Result<Head, OpenFault>
+    requires len { (xs : List ℕ) → (D.drive disk.old).bytes ≡ Some xs → length xs ≡ len }
+
+    ensures ok { IfOk result (λ h. (17 ≤ len) × ((xs : List ℕ) → (D.drive disk.old).bytes ≡ Some xs → HasHeader h.version h.width xs)) }
+    ensures err { IfErr result (FailsHead (D.drive disk.old)) }
+    ensures reads { OnlyReads (D.drive disk.old) (D.drive disk.new) result }
+{
+    if len < 17 {
+        return Err(OpenFault::NotLog);
+    }
+    let mut bytes = [0; 16];
+    let got = disk.read(0, &mut bytes)?;
+    if got < 16 {
+        return Err(OpenFault::NotLog);
+    }
+    if !has_marks(&bytes) {
+        return Err(OpenFault::NotLog);
+    }
+    Ok(Head {
+        version: bytes[8],
+        width: bytes[9],
+    })
+}
+
+impl Head {
+    /// The version, where it is at least the oldest one that is wanted and none that is yet to come, and the width is this one.
+    pub(crate) fn wanted_version(self, oldest: u8, width: u8) -> Result<u8, OpenFault>
+        ensures ok { IfOk result (λ v. IsWanted oldest v × (v ≡ self.version) × (width ≡ self.width)) }
+        ensures err { IfErr result (λ e. (e ≡ OldLog self.version self.width) × ((IsWanted oldest self.version → ⊥) ⊎ (self.width ≢ width))) }
+    {
+        if self.version < oldest || NEWEST < self.version || self.width != width {
+            return Err(OpenFault::OldLog {
+                version: self.version,
+                width: self.width,
+            });
+        }
+        Ok(self.version)
+    }
+
+    // The width, where the version is one that is read and the width one that is played.
+    fn known_width(self) -> Result<u8, OpenFault>
+        ensures ok { IfOk result (λ w. IsWanted 1 self.version × (w ≡ self.width) × ((w ≡ 1) ⊎ (w ≡ 2))) }
+        ensures err { IfErr result (λ e. (e ≡ OldLog self.version self.width) × ((IsWanted 1 self.version → ⊥) ⊎ ((self.width ≢ 1) × (self.width ≢ 2)))) }
+    {
+        if self.width != 1 && self.width != 2 {
+            return Err(OpenFault::OldLog {
+                version: self.version,
+                width: self.width,
+            });
+        }
+        let _version = self.wanted_version(FIRST, self.width)?;
+        Ok(self.width)
+    }
+}
+
+/// Tells whether the letters and the zeros of a header stand there.
+fn has_marks(head: &[u8; 16]) -> bool
+    ensures yes { result ≡ true → (take 8 head.now ≡ take 8 (header_text newest 1)) × (take 6 (drop 10 head.now) ≡ replicate 6 0) }
+    ensures no { result ≡ false → HasOtherHead head.now }
+{
+    let whole = header(NEWEST, 1);
+    head[..8] == whole[..8] && head[10..] == whole[10..]
+}
