@@ -33,13 +33,16 @@ unfolding header_text
 header_bytes v w rest = (refl, refl)
 
 -- and so does a log
-pub index_version : (v w : ℕ) (cells : List Cell) (bytes : List ℕ) → HoldsCells v w cells bytes → slice_index bytes 8 ≡ v
-index_version v w cells bytes holds =
-    let behind : List ℕ = flat_map spelling cells ++ holds.text.commit_byte ∷ holds.rest in
-    let parts : bytes ≡ header_text v w ++ behind =
+log_parts : (v w : ℕ) (cells : List Cell) (bytes : List ℕ) (holds : HoldsCells v w cells bytes) → bytes ≡ header_text v w ++ (flat_map spelling cells ++ holds.text.commit_byte ∷ holds.rest)
+log_parts v w cells bytes holds =
     holds.parts ∙ ap (λ (l : List ℕ). l ++ holds.rest) holds.text.text ∙ append_assoc (front_of v w cells) (holds.text.commit_byte ∷ []) holds.rest
-    ∙ append_assoc (header_text v w) (flat_map spelling cells) (holds.text.commit_byte ∷ holds.rest) in
-    ap (λ (l : List ℕ). slice_index l 8) parts ∙ (header_bytes v w behind).0
+    ∙ append_assoc (header_text v w) (flat_map spelling cells) (holds.text.commit_byte ∷ holds.rest)
+
+pub index_version : (v w : ℕ) (cells : List Cell) (bytes : List ℕ) → HoldsCells v w cells bytes → slice_index bytes 8 ≡ v
+index_version v w cells bytes holds = ap (λ (l : List ℕ). slice_index l 8) (log_parts v w cells bytes holds) ∙ (header_bytes v w (flat_map spelling cells ++ holds.text.commit_byte ∷ holds.rest)).0
+
+pub index_width : (v w : ℕ) (cells : List Cell) (bytes : List ℕ) → HoldsCells v w cells bytes → slice_index bytes 9 ≡ w
+index_width v w cells bytes holds = ap (λ (l : List ℕ). slice_index l 9) (log_parts v w cells bytes holds) ∙ (header_bytes v w (flat_map spelling cells ++ holds.text.commit_byte ∷ holds.rest)).1
 
 -- 16 bytes with the letters and the zeros of a header name a version and a width
 pub is_header : (head : List ℕ) → length head ≡ 16 → take 8 head ≡ take 8 (header_text newest 1) → take 6 (drop 10 head) ≡ replicate 6 0 → head ≡ header_text (get_or head 8 0) (get_or head 9 0)

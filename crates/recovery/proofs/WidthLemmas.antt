@@ -1,16 +1,19 @@
 -- What the head of a file tells: its width, or one fault.
-use Rattle.std.proofs.Common.{◌≡◌, ◌≢◌, ℕ, ◌⊎◌, inl, inr, ⊎_elim, List, Some, refl, sym, ◌∙◌, ap, subst}
+use Rattle.std.proofs.Common.{◌≡◌, ◌≢◌, ℕ, ◌≤◌, ◌⊎◌, inl, inr, ⊎_elim, List, Some, length, refl, sym, ◌∙◌, ap, subst, arith}
 use Rattle.std.specs.Prelude.{slice_index, Result, Ok, Err, IfOk, IfErr}
 use Rattle.std.specs.Result.{IsErrAnd}
 use Rattle.causes.specs.Causes.{Rose}
 use Rattle.disk_trait.specs.Drive.{Drive}
 use Rattle.recovery.specs.declared.seen.OpenFault.{OpenFault}
 use Rattle.recovery.specs.declared.seen.OpenFault.TheVariants as fault
-use Rattle.recovery.specs.Faults.{IsOldLog, IsFault, IsInBytes}
+use Rattle.cell_format.specs.declared.cell.Cell.{Cell}
+use Rattle.log_state.specs.Recovers.{Recovers}
+use Rattle.recovery.specs.Faults.{IsDamaged, IsTooLong, IsOldLog, IsFault, IsInBytes}
 use Rattle.recovery.specs.Found.{IsWanted}
 use Rattle.recovery.specs.Headers.{HasHeader, FailsHead}
-use Rattle.recovery.specs.Widths.{HasWidth, IsStrangeLog, IsHeadFault}
-use Rattle.recovery.proofs.HeadLemmas.{header_bytes, header_is_log}
+use Rattle.recovery.specs.Widths.{IsWidth, HasWidth, IsStrangeLog, IsHeadFault, IsLogFault}
+use Rattle.recovery.proofs.HeadLemmas.{header_bytes, header_is_log, index_width}
+use Rattle.recovery.proofs.Exclusive.{recovers_wanted, recovers_no_fault}
 
 module _ (v w : ℕ) (bytes : List ℕ) (has : HasHeader v w bytes) where
   version_there : v ≡ slice_index bytes 8
@@ -19,10 +22,10 @@ module _ (v w : ℕ) (bytes : List ℕ) (has : HasHeader v w bytes) where
   width_there : w ≡ slice_index bytes 9
   width_there = sym (ap (λ (l : List ℕ). slice_index l 9) has.parts ∙ (header_bytes v w has.rest).1)
 
-  pub has_width : IsWanted 1 v → (w ≡ 1) ⊎ (w ≡ 2) → HasWidth w bytes
+  pub has_width : IsWanted 1 v → IsWidth w → HasWidth w bytes
   has_width wanted known = record { is_log = header_is_log v w bytes has; version = subst (IsWanted 1) version_there wanted; named = width_there; known = known }
 
-  pub is_strange : (IsWanted 1 v → ⊥) ⊎ ((w ≢ 1) × (w ≢ 2)) → IsStrangeLog bytes v w
+  pub is_strange : (IsWanted 1 v → ⊥) ⊎ ((w ≢ 1) × (w ≢ 2)) → IsStrangeLog 1 bytes v w
   is_strange other = record { is_log = header_is_log v w bytes has; version_is = version_there; width_is = width_there; other = other }
 
   pub is_old : (oldest width : ℕ) → (IsWanted oldest v → ⊥) ⊎ (w ≢ width) → IsOldLog oldest width bytes v w
@@ -47,15 +50,15 @@ fails_head bytes drive fault.Memory told fails = absurd fails
 
 module _ (bytes : List ℕ) where
   -- a head with a width is not at fault
-  no_fault : (w : ℕ) (e : OpenFault) → HasWidth w bytes → IsInBytes e → IsHeadFault bytes e → ⊥
-  no_fault w fault.NotLog has shown is = has.is_log is
-  no_fault w (fault.OldLog version width) has shown is = ⊎_elim
+  pub no_head_fault : (w : ℕ) (e : OpenFault) → HasWidth w bytes → IsInBytes e → IsHeadFault bytes e → ⊥
+  no_head_fault w fault.NotLog has shown is = has.is_log is
+  no_head_fault w (fault.OldLog version width) has shown is = ⊎_elim
       (λ other. other (subst (IsWanted 1) (sym is.version_is) has.version))
       (λ other. ⊎_elim (λ two. other.0 (is.width_is ∙ sym has.named ∙ two)) (λ four. other.1 (is.width_is ∙ sym has.named ∙ four)) has.known) is.other
-  no_fault w (fault.Damaged n why) has shown is = is
-  no_fault w (fault.TooLong limit) has shown is = is
-  no_fault w fault.Disk has shown is = shown
-  no_fault w fault.Memory has shown is = is
+  no_head_fault w (fault.Damaged n why) has shown is = is
+  no_head_fault w (fault.TooLong limit) has shown is = is
+  no_head_fault w fault.Disk has shown is = shown
+  no_head_fault w fault.Memory has shown is = is
 
   -- and two faults of a head are one
   one_fault : (e f : OpenFault) → IsInBytes e → IsInBytes f → IsHeadFault bytes e → IsHeadFault bytes f → e ≡ f
@@ -77,28 +80,104 @@ module _ (bytes : List ℕ) where
   one_fault fault.Memory f se sf a b = absurd se
 
   module _ (before after : ℕ) where
-    told_fault : (e f : OpenFault) → IsHeadFault bytes e → (e ≡ fault.Disk → Rose before after) → IsInBytes f → IsHeadFault bytes f → (e ≡ f) ⊎ Rose before after
-    told_fault fault.Disk f holds rose shown is = inr (rose refl)
-    told_fault fault.Memory f holds rose shown is = absurd holds
-    told_fault fault.NotLog f holds rose shown is = inl (one_fault fault.NotLog f tt shown holds is)
-    told_fault (fault.OldLog version width) f holds rose shown is = inl (one_fault (fault.OldLog version width) f tt shown holds is)
-    told_fault (fault.Damaged n why) f holds rose shown is = absurd holds
-    told_fault (fault.TooLong limit) f holds rose shown is = absurd holds
+    told_head : (e f : OpenFault) → IsHeadFault bytes e → (e ≡ fault.Disk → Rose before after) → IsInBytes f → IsHeadFault bytes f → (e ≡ f) ⊎ Rose before after
+    told_head fault.Disk f holds rose shown is = inr (rose refl)
+    told_head fault.Memory f holds rose shown is = absurd holds
+    told_head fault.NotLog f holds rose shown is = inl (one_fault fault.NotLog f tt shown holds is)
+    told_head (fault.OldLog version width) f holds rose shown is = inl (one_fault (fault.OldLog version width) f tt shown holds is)
+    told_head (fault.Damaged n why) f holds rose shown is = absurd holds
+    told_head (fault.TooLong limit) f holds rose shown is = absurd holds
 
-    told_free : (e : OpenFault) (w : ℕ) → IsHeadFault bytes e → (e ≡ fault.Disk → Rose before after) → HasWidth w bytes → Rose before after
-    told_free fault.Disk w holds rose has = rose refl
-    told_free fault.Memory w holds rose has = absurd holds
-    told_free fault.NotLog w holds rose has = absurd (no_fault w fault.NotLog has tt holds)
-    told_free (fault.OldLog version width) w holds rose has = absurd (no_fault w (fault.OldLog version width) has tt holds)
-    told_free (fault.Damaged n why) w holds rose has = absurd holds
-    told_free (fault.TooLong limit) w holds rose has = absurd holds
+    pub told_head_free : (e : OpenFault) (w : ℕ) → IsHeadFault bytes e → (e ≡ fault.Disk → Rose before after) → HasWidth w bytes → Rose before after
+    told_head_free fault.Disk w holds rose has = rose refl
+    told_head_free fault.Memory w holds rose has = absurd holds
+    told_head_free fault.NotLog w holds rose has = absurd (no_head_fault w fault.NotLog has tt holds)
+    told_head_free (fault.OldLog version width) w holds rose has = absurd (no_head_fault w (fault.OldLog version width) has tt holds)
+    told_head_free (fault.Damaged n why) w holds rose has = absurd holds
+    told_head_free (fault.TooLong limit) w holds rose has = absurd holds
 
     -- an answer is the width, or the one fault, or the drive failed
     pub exactly : (result : Result ℕ OpenFault) (f : OpenFault) → IfOk result (λ w. HasWidth w bytes) → IfErr result (λ e. IsHeadFault bytes e × (e ≡ fault.Disk → Rose before after)) → IsInBytes f → IsHeadFault bytes f
         → IsErrAnd result (λ e. (e ≡ f) ⊎ Rose before after)
-    exactly (Ok w) f ok err shown is = absurd (no_fault w f ok shown is)
-    exactly (Err e) f ok err shown is = told_fault e f err.0 err.1 shown is
+    exactly (Ok w) f ok err shown is = absurd (no_head_fault w f ok shown is)
+    exactly (Err e) f ok err shown is = told_head e f err.0 err.1 shown is
 
     pub freely : (result : Result ℕ OpenFault) (w : ℕ) → IfErr result (λ e. IsHeadFault bytes e × (e ≡ fault.Disk → Rose before after)) → HasWidth w bytes → IfErr result (λ _. Rose before after)
     freely (Ok v) w err has = tt
-    freely (Err e) w err has = told_free e w err.0 err.1 has
+    freely (Err e) w err has = told_head_free e w err.0 err.1 has
+
+-- bytes that recover to cells of a width that logs have
+pub recovers_width : (w : ℕ) (cells : List Cell) (bytes : List ℕ) → IsWidth w → Recovers w cells bytes → HasWidth w bytes
+recovers_width w cells bytes known recovers =
+    let wanted : IsWanted 1 (slice_index bytes 8) = recovers_wanted w cells bytes recovers in
+    record {
+      is_log = λ other. recovers_no_fault 1 w (length cells) (omega arith) bytes cells fault.NotLog recovers wanted (omega arith) tt other;
+      version = wanted;
+      named = sym (index_width recovers.version w cells bytes recovers.holds);
+      known = known;
+    }
+
+-- a log has one width
+pub same_width : (v w : ℕ) (bytes : List ℕ) → HasWidth v bytes → HasWidth w bytes → v ≡ w
+same_width v w bytes has also = has.named ∙ sym also.named
+
+module _ (oldest most : ℕ) (bytes : List ℕ) where
+  -- what is at fault for whoever knows the width
+  pub fault_seen : (w : ℕ) → HasWidth w bytes → (e : OpenFault) → IsFault oldest w most bytes e → IsLogFault oldest most bytes e
+  fault_seen w has fault.NotLog is = is
+  fault_seen w has (fault.OldLog version width) is = record {
+    is_log = is.is_log;
+    version_is = is.version_is;
+    width_is = is.width_is;
+    other = ⊎_elim inl (λ differ. absurd (differ (is.width_is ∙ sym has.named))) is.other;
+  }
+  fault_seen w has (fault.Damaged n why) is = (w, has, is)
+  fault_seen w has (fault.TooLong limit) is = (w, has, is.0, is.1)
+  fault_seen w has fault.Disk is = tt
+  fault_seen w has fault.Memory is = tt
+
+  pub fault_at : (w : ℕ) → HasWidth w bytes → (e : OpenFault) → IsLogFault oldest most bytes e → IsFault oldest w most bytes e
+  fault_at w has fault.NotLog is = is
+  fault_at w has (fault.OldLog version width) is = record {
+    is_log = is.is_log;
+    version_is = is.version_is;
+    width_is = is.width_is;
+    other = ⊎_elim inl (λ strange. absurd (⊎_elim (λ two. strange.0 (is.width_is ∙ sym has.named ∙ two)) (λ four. strange.1 (is.width_is ∙ sym has.named ∙ four)) has.known)) is.other;
+  }
+  fault_at w has (fault.Damaged n why) (v, also, is) = subst (λ u. IsDamaged oldest u most bytes n why) (same_width v w bytes also has) is
+  fault_at w has (fault.TooLong limit) (v, also, same, is) = (same, subst (λ u. IsTooLong oldest u most bytes) (same_width v w bytes also has) is)
+  fault_at w has fault.Disk is = tt
+  fault_at w has fault.Memory is = tt
+
+  -- what is at fault in the head is at fault in the log
+  pub head_seen : 1 ≤ oldest → (e : OpenFault) → IsHeadFault bytes e → IsLogFault oldest most bytes e
+  head_seen least fault.NotLog is = is
+  head_seen least (fault.OldLog version width) is = record {
+    is_log = is.is_log;
+    version_is = is.version_is;
+    width_is = is.width_is;
+    other = ⊎_elim (λ other. inl (λ wanted. other (record { least = omega (arith, least, wanted.least); most = wanted.most }))) inr is.other;
+  }
+  head_seen least (fault.Damaged n why) is = absurd is
+  head_seen least (fault.TooLong limit) is = absurd is
+  head_seen least fault.Disk is = tt
+  head_seen least fault.Memory is = tt
+
+  -- and it is the one fault of it
+  pub head_told : (before after : ℕ) (e f : OpenFault) → IsHeadFault bytes e → (e ≡ fault.Disk → Rose before after) → IsInBytes f → IsLogFault oldest most bytes f → (e ≡ f) ⊎ Rose before after
+  head_told before after fault.Disk f holds rose shown is = inr (rose refl)
+  head_told before after fault.Memory f holds rose shown is = absurd holds
+  head_told before after (fault.Damaged n why) f holds rose shown is = absurd holds
+  head_told before after (fault.TooLong limit) f holds rose shown is = absurd holds
+  head_told before after fault.NotLog fault.NotLog holds rose shown is = inl refl
+  head_told before after fault.NotLog (fault.OldLog version width) holds rose shown is = absurd (is.is_log holds)
+  head_told before after fault.NotLog (fault.Damaged n why) holds rose shown (w, has, is) = absurd (has.is_log holds)
+  head_told before after fault.NotLog (fault.TooLong limit) holds rose shown (w, has, same, is) = absurd (has.is_log holds)
+  head_told before after fault.NotLog fault.Disk holds rose shown is = absurd shown
+  head_told before after fault.NotLog fault.Memory holds rose shown is = absurd shown
+  head_told before after (fault.OldLog v u) fault.NotLog holds rose shown is = absurd (holds.is_log is)
+  head_told before after (fault.OldLog v u) (fault.OldLog version width) holds rose shown is = inl (λ i. fault.OldLog ((holds.version_is ∙ sym is.version_is) i) ((holds.width_is ∙ sym is.width_is) i))
+  head_told before after (fault.OldLog v u) (fault.Damaged n why) holds rose shown (w, has, is) = absurd (no_head_fault bytes w (fault.OldLog v u) has tt holds)
+  head_told before after (fault.OldLog v u) (fault.TooLong limit) holds rose shown (w, has, same, is) = absurd (no_head_fault bytes w (fault.OldLog v u) has tt holds)
+  head_told before after (fault.OldLog v u) fault.Disk holds rose shown is = absurd shown
+  head_told before after (fault.OldLog v u) fault.Memory holds rose shown is = absurd shown

@@ -9,7 +9,7 @@ ghost use Rattle.recovery.specs.Faults.{HasOtherHead, IsInBytes};
 ghost use Rattle.recovery.specs.Found.{IsWanted};
 ghost use Rattle.recovery.specs.Headers.{HasHeader, FailsHead};
 ghost use Rattle.recovery.specs.Reading.{OnlyReads};
-ghost use Rattle.recovery.specs.Widths.{HasWidth, IsHeadFault};
+ghost use Rattle.recovery.specs.Widths.{IsWidth, HasWidth, IsHeadFault};
 
 use crate::seen::{NEWEST, OpenFault};
 use cell_format::header;
@@ -27,7 +27,7 @@ pub(crate) struct Head {
 
 /// The width that the head of a log of version 1 or 2 names: `inspect` and `open` ask for it.
 pub fn width_of<D: LogDisk>(disk: &mut D) -> Result<u8, OpenFault>
-    ensures known { IfOk result (λ w. (w ≡ 1) ⊎ (w ≡ 2)) }
+    ensures known { IfOk result IsWidth }
     ensures told { IfOk result (λ w. (bytes : List ℕ) → (D.drive disk.old).bytes ≡ Some bytes → HasWidth w bytes) }
     ensures fault { IfErr result (λ e. (bytes : List ℕ) → (D.drive disk.old).bytes ≡ Some bytes → IsHeadFault bytes e) }
     ensures exact { (bytes : List ℕ) (fault : OpenFault) → (D.drive disk.old).bytes ≡ Some bytes → IsInBytes fault
@@ -83,7 +83,7 @@ impl Head {
 
     // The width, where the version is one that is read and the width one that is played.
     fn known_width(self) -> Result<u8, OpenFault>
-        ensures ok { IfOk result (λ w. IsWanted 1 self.version × (w ≡ self.width) × ((w ≡ 1) ⊎ (w ≡ 2))) }
+        ensures ok { IfOk result (λ w. IsWanted 1 self.version × (w ≡ self.width) × IsWidth w) }
         ensures err { IfErr result (λ e. (e ≡ OldLog self.version self.width) × ((IsWanted 1 self.version → ⊥) ⊎ ((self.width ≢ 1) × (self.width ≢ 2)))) }
     {
         if self.width != 1 && self.width != 2 {

@@ -1,8 +1,8 @@
-use Rattle.std.proofs.Common.{◌≡◌, ◌⊎◌, Err, sym, ◌∙◌, ap, subst}
+use Rattle.std.proofs.Common.{Err, sym, ◌∙◌, ap, subst}
 use Rattle.std.proofs.lemmas.Result.{IfOk-weaker, IfErr-weaker}
 use Rattle.disk_trait.specs.Drive.{Drive}
 use Rattle.recovery.specs.Headers.{HasHeader}
-use Rattle.recovery.specs.Widths.{HasWidth, IsHeadFault}
+use Rattle.recovery.specs.Widths.{IsWidth, HasWidth, IsHeadFault}
 use Rattle.recovery.proofs.OnlyReading.{rose-earlier}
 use Rattle.recovery.proofs.OpeningLemmas.{not_ok}
 use Rattle.recovery.proofs.PieceLemmas.{passed_on}
@@ -39,7 +39,7 @@ returns-in_err-head-clause-whole g c bytes w told has =
 pub returns-clause-told : goal.returns-clause-told
 returns-clause-told g c =
     IfOk-weaker c.known_width.result _ _ (λ w is bytes told. subst (λ n. HasWidth n bytes) (sym is.1)
-    (has_width c.in_ok-head.head.version c.in_ok-head.head.width bytes (c.in_ok-head.ensures.ok.1 bytes (c.len.ensures.stays.bytes ∙ told)) is.0 (subst (λ n. (n ≡ 1) ⊎ (n ≡ 2)) is.1 is.2))) c.known_width.ensures.ok
+    (has_width c.in_ok-head.head.version c.in_ok-head.head.width bytes (c.in_ok-head.ensures.ok.1 bytes (c.len.ensures.stays.bytes ∙ told)) is.0 (subst IsWidth is.1 is.2))) c.known_width.ensures.ok
 
 pub returns-clause-fault : goal.returns-clause-fault
 returns-clause-fault g c =
@@ -52,7 +52,7 @@ returns-clause-exact g c bytes fault told shown is =
     let after : Drive = g.D.LogDisk.drive c.read_head.new.disk in
     let has : HasHeader c.in_ok-head.head.version c.in_ok-head.head.width bytes = c.in_ok-head.ensures.ok.1 bytes (c.len.ensures.stays.bytes ∙ told) in
     exactly bytes before.faults after.faults c.known_width.result fault
-    (IfOk-weaker c.known_width.result _ _ (λ w made. subst (λ n. HasWidth n bytes) (sym made.1) (has_width c.in_ok-head.head.version c.in_ok-head.head.width bytes has made.0 (subst (λ n. (n ≡ 1) ⊎ (n ≡ 2)) made.1 made.2))) c.known_width.ensures.ok)
+    (IfOk-weaker c.known_width.result _ _ (λ w made. subst (λ n. HasWidth n bytes) (sym made.1) (has_width c.in_ok-head.head.version c.in_ok-head.head.width bytes has made.0 (subst IsWidth made.1 made.2))) c.known_width.ensures.ok)
     (IfErr-weaker c.known_width.result _ _ (λ e made. (subst (IsHeadFault bytes) (sym made.0) (is_strange c.in_ok-head.head.version c.in_ok-head.head.width bytes has made.1), λ disk. cc (made.0, disk))) c.known_width.ensures.err) shown is
 
 pub returns-clause-whole : goal.returns-clause-whole
