@@ -8,7 +8,6 @@ use Rattle.csv_rows.specs.declared.rows.Refusal.TheVariants as refusal
 use Rattle.run_ends.specs.Status.{status_of, WritesLines}
 use Rattle.run_ends.specs.Taking.{TakesLine}
 use Rattle.run_ends.specs.Ending.{EndsWriting, EndsRefused}
-use Rattle.run_ends.specs.Limits.{width}
 use Rattle.io_edge.specs.Streams.{Output}
 
 pub takes-from_puts : {T E : Type 0} (old new : Output) (text : List ℕ) (result : Result T E) → Puts old.taken new.taken text result → Counts old.faults new.faults result → TakesLine text old new

@@ -11,3 +11,4 @@ pub use Rattle.causes.specs.Causes
 pub use Rattle.disk_trait.specs.Drive
 pub use Rattle.io_edge.specs.Streams
 pub use Rattle.recovery.specs.Faults
+pub use Rattle.recovery.specs.Widths

@@ -1,10 +1,6 @@
--- The limits of a run, and the width of its splits.
+-- The limits of a run.
 use Rattle.std.specs.Prelude.{ℕ}
 use Rattle.cell_format.specs.Spelling.{newest}
-
--- how many bits a leaf's children have more in their names
-abbrev pub width : ℕ
-width = 1
 
 -- how many bytes an input may have
 abbrev pub most_bytes : ℕ

@@ -4,12 +4,11 @@ use Rattle.causes.specs.Causes.{Rose}
 use Rattle.disk_trait.specs.Drive.{Drive}
 use Rattle.disk_trait.specs.declared.disk.AttachFault.{AttachFault}
 use Rattle.disk_trait.specs.declared.disk.AttachFault.TheVariants as attach_fault
-use Rattle.recovery.specs.Faults.{IsNotLog, IsOldLog, IsDamaged, IsTooLong}
+use Rattle.recovery.specs.Widths.{IsLogFault}
 use Rattle.recovery.specs.declared.seen.OpenFault.{OpenFault}
 use Rattle.recovery.specs.declared.seen.OpenFault.TheVariants as open_fault
 use Rattle.csv_rows.specs.declared.rows.Refusal.{Refusal}
 use Rattle.csv_rows.specs.declared.rows.Refusal.TheVariants as refusal
-use Rattle.run_ends.specs.Limits.{width}
 
 -- the refusal where a file wasn't attached
 abbrev pub attach_refusal : AttachFault → Refusal
@@ -25,13 +24,16 @@ log_refusal open_fault.Disk = refusal.Disk None
 log_refusal open_fault.Memory = refusal.Memory
 log_refusal (open_fault.TooLong most) = refusal.LongLog
 
--- why a log of at most so many cells isn't read, of this version or a later one: what is first at fault in its bytes, the drive's count rose, or memory
--- ran out
+-- where the drive's content is known, this is at fault in its bytes, for whoever reads a log of this version or a later one, of at most so many cells
+abbrev pub ShowsFault : ℕ → ℕ → Drive → OpenFault → Type 0
+ShowsFault oldest most drive fault = (bytes : List ℕ) → drive.bytes ≡ Some bytes → IsLogFault oldest most bytes fault
+
+-- why such a log isn't read: what is first at fault in its bytes, the drive's count rose, or memory ran out
 abbrev pub IsReadingCause : ℕ → ℕ → Drive → Drive → Refusal → Type 0
-IsReadingCause oldest most old new refusal.NotLog = (bytes : List ℕ) → old.bytes ≡ Some bytes → IsNotLog bytes
-IsReadingCause oldest most old new (refusal.OldLog version w) = (bytes : List ℕ) → old.bytes ≡ Some bytes → IsOldLog oldest width bytes version w
-IsReadingCause oldest most old new (refusal.Damaged cell cause) = (bytes : List ℕ) → old.bytes ≡ Some bytes → IsDamaged oldest width most bytes cell cause
+IsReadingCause oldest most old new refusal.NotLog = ShowsFault oldest most old open_fault.NotLog
+IsReadingCause oldest most old new (refusal.OldLog version width) = ShowsFault oldest most old (open_fault.OldLog version width)
+IsReadingCause oldest most old new (refusal.Damaged cell cause) = ShowsFault oldest most old (open_fault.Damaged cell cause)
 IsReadingCause oldest most old new (refusal.Disk None) = Rose old.faults new.faults
-IsReadingCause oldest most old new refusal.LongLog = (bytes : List ℕ) → old.bytes ≡ Some bytes → IsTooLong oldest width most bytes
+IsReadingCause oldest most old new refusal.LongLog = ShowsFault oldest most old (open_fault.TooLong most)
 IsReadingCause oldest most old new refusal.Memory = ⊤
 IsReadingCause oldest most old new _ = ⊥

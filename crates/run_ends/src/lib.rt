@@ -16,7 +16,7 @@ mod writing;
 
 pub use ended::{Ended, refuse_on, without_rows};
 pub use input::read_judged;
-pub use limits::{MOST_INSPECTED, MOST_PLAYED, TRIAL_BUCKET, WIDTH};
+pub use limits::{MOST_INSPECTED, MOST_PLAYED, TRIAL_BUCKET};
 pub use log_faults::{Unmade, attach_refusal, log_refusal};
 pub use refusals::put_refusal;
 pub use writing::written;

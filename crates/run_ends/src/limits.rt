@@ -1,7 +1,4 @@
-//! The limits of a run, and the width of its splits.
-
-/// How many bits a leaf's children have more in their names.
-pub const WIDTH: u8 = 1;
+//! The limits of a run.
 
 /// How many bytes an input may have.
 pub(crate) const MOST_BYTES: usize = 16_777_216;
