@@ -1,14 +1,45 @@
 -- Words ask for one command.
-use Rattle.std.proofs.Common.{◌≡◌, ◌∙◌, ◌<◌, ◌≤◌, inl, inr, ℕ, List, [], ◌∷◌, length, get_or, Option, Some, None, sym, ap, subst, arith}
-use Rattle.std.specs.Prelude.{codes, sum, IsTrue}
+use Rattle.std.proofs.Common.{◌≡◌, ◌⊎◌, ◌∙◌, ◌<◌, ◌≤◌, inl, inr, ℕ, List, [], ◌∷◌, length, get_or, Option, Some, None, sym, ap, subst, arith}
+use Rattle.std.specs.Prelude.{codes, sum, IsTrue, MatchOption}
 use Rattle.std.proofs.lemmas.Bool.{true≢false}
 use Rattle.zorder.specs.declared.points.Region.{Region}
 use Rattle.csv_rows.specs.Numbers.{number_in}
-use Rattle.command_words.specs.Words.{Command, AsksFor, NamesFile, SpellsBox, SpellsNoSize, SpellsPlay, SpellsShow, IsInit, IsCheck, IsPlay, IsShow, IsUnlogged, IsLogged, IsCompact, is_file_name, Init, Check, Play, Show, Trial, Compact}
+use Rattle.command_words.specs.Words.{Command, AsksFor, NamesFile, SpellsBox, SpellsNoSize, SpellsInit, SpellsPlay, SpellsShow, IsAccepted, IsInit, IsCheck, IsPlay, IsShow, IsTrial, IsUnlogged, IsLogged, IsCompact, NamesNoFile, is_file_name, Init, Check, Play, Show, Trial, Compact}
 use Rattle.command_words.proofs.TrialFacts.{trial-word, one-trial, word-at}
 
 init-word : (words : List (List ℕ)) → IsInit words → get_or words 0 [] ≡ codes "init"
-init-word words asks = ap (λ (ws : List (List ℕ)). get_or ws 0 []) asks.1.0
+init-word words (file, width, (named, inl two)) = ap (λ (ws : List (List ℕ)). get_or ws 0 []) two.0
+init-word words (file, width, (named, inr three)) = ap (λ (ws : List (List ℕ)). get_or ws 0 []) three.0
+
+-- words that make a log have some word in the place of a file
+pub not-made : (words : List (List ℕ)) → ((log : List ℕ) (width : ℕ) → SpellsInit words log width → ⊥) → IsInit words → ⊥
+not-made words none (file, width, (named, spells)) = none file width spells
+
+made-file : (words : List (List ℕ)) (log : List ℕ) (width : ℕ) → SpellsInit words log width → get_or words 1 [] ≡ log
+made-file words log width (inl two) = ap (λ (ws : List (List ℕ)). get_or ws 1 []) two.0
+made-file words log width (inr three) = ap (λ (ws : List (List ℕ)). get_or ws 1 []) three.0
+
+-- that word names none
+pub unmade : (words : List (List ℕ)) (log : List ℕ) (width : ℕ) → SpellsInit words log width → (IsTrue (is_file_name log) → ⊥) → IsInit words → ⊥
+unmade words log width spells bad (file, other, (named, as_file)) =
+    bad (subst (λ (l : List ℕ). IsTrue (is_file_name l)) (sym (made-file words file other as_file) ∙ made-file words log width spells) named)
+
+same-width : (words : List (List ℕ)) (f g : List ℕ) (v w : ℕ) → SpellsInit words f v → SpellsInit words g w → v ≡ w
+same-width words f g v w (inl (two, is)) (inl (also, same)) = is ∙ sym same
+same-width words f g v w (inl (two, is)) (inr (three, same)) = absurd (omega (arith, ap length (sym two ∙ three)))
+same-width words f g v w (inr (three, is)) (inl (two, same)) = absurd (omega (arith, ap length (sym two ∙ three)))
+same-width words f g v w (inr (three, is)) (inr (also, same)) = is ∙ sym same
+
+-- a log is made of a width that logs have
+pub init-width : (words : List (List ℕ)) (file : List ℕ) (width : ℕ) → AsksFor words (Init file width) → (width ≡ 1) ⊎ (width ≡ 2)
+init-width words file width (named, inl two) = inl two.1
+init-width words file width (named, inr three) = inr three.1
+
+one-init : (words : List (List ℕ)) (f g : List ℕ) (v w : ℕ) → AsksFor words (Init f v) → AsksFor words (Init g w) → Init f v ≡ Init g w
+one-init words f g v w (named, first) (also, second) =
+    let file : f ≡ g = sym (made-file words f v first) ∙ made-file words g w second in
+    let width : v ≡ w = same-width words f g v w first second in
+    λ i. Init (file i) (width i)
 
 check-word : (words : List (List ℕ)) → IsCheck words → get_or words 0 [] ≡ codes "check"
 check-word words asks = ap (λ (ws : List (List ℕ)). get_or ws 0 []) asks.1.0
@@ -67,7 +98,7 @@ compact-word words (file, new, asks) = ap (λ (ws : List (List ℕ)). get_or ws 
 
 -- the word of a command
 abbrev command_word : Command → List ℕ
-command_word (Init file) = codes "init"
+command_word (Init file width) = codes "init"
 command_word (Check file) = codes "check"
 command_word (Play log size) = codes "play"
 command_word (Show file region) = codes "show"
@@ -76,7 +107,7 @@ command_word (Compact file new) = codes "compact"
 
 -- words that ask for a command begin with its word
 begins : (words : List (List ℕ)) (a : Command) → AsksFor words a → get_or words 0 [] ≡ command_word a
-begins words (Init file) asks = init-word words (file, asks)
+begins words (Init file width) asks = init-word words (file, width, asks)
 begins words (Check file) asks = check-word words (file, asks)
 begins words (Play log size) asks = play-word words (size, (log, asks))
 begins words (Show file region) asks = shown-word words (file, region, asks)
@@ -155,10 +186,23 @@ one-compact words f g k l first second = let file : f ≡ g = word-at 1 words _ 
 
 -- words ask for one command
 pub one-command : (words : List (List ℕ)) (a b : Command) → AsksFor words a → AsksFor words b → a ≡ b
-one-command words (Init f) (Init g) first second = ap Init (same-file (codes "init") words f g first second)
+one-command words (Init f v) (Init g w) first second = one-init words f g v w first second
 one-command words (Check f) (Check g) first second = ap Check (same-file (codes "check") words f g first second)
 one-command words (Play k m) (Play l n) first second = one-play words k l m n first second
 one-command words (Show f q) (Show g r) first second = one-show words f g q r first second
 one-command words (Trial k a) (Trial l b) first second = one-trial words k l a b first second
 one-command words (Compact f k) (Compact g l) first second = one-compact words f g k l first second
 one-command words a b first second = let e = letters words a b first second in absurd (omega (arith, e))
+
+-- words that ask for none of the commands aren't accepted
+pub none-asked : (words : List (List ℕ)) → (IsInit words → ⊥) → NamesNoFile (codes "check") words → (IsShow words → ⊥) → (IsTrial words → ⊥) → (IsCompact words → ⊥) → (IsPlay words → ⊥) → IsAccepted words → ⊥
+none-asked words init check show trial compact play (Init file width, asks) = init (file, width, asks)
+none-asked words init check show trial compact play (Check file, asks) = check file asks
+none-asked words init check show trial compact play (Play log size, asks) = play (size, (log, asks))
+none-asked words init check show trial compact play (Show file region, asks) = show (file, region, asks)
+none-asked words init check show trial compact play (Trial log made, asks) = trial (log, made, asks)
+none-asked words init check show trial compact play (Compact file new, asks) = compact (file, new, asks)
+
+pub none-weaker : {A P Q : Type 0} (R : A → Type 0) (o : Option A) → (P → Q) → MatchOption o P R → MatchOption o Q R
+none-weaker R None weaker holds = weaker holds
+none-weaker R (Some a) weaker holds = holds

@@ -5,7 +5,7 @@ use Rattle.command_words.specs.declared.parsing.Command.{Command}
 use Rattle.command_words.specs.declared.parsing.Command.TheVariants.{Init, Check, Play, Show, Trial, Compact}
 
 abbrev pub command_of : Command → words.Command
-command_of (Init file) = words.Init file.now
+command_of (Init file width) = words.Init file.now width
 command_of (Check file) = words.Check file.now
 command_of (Play (Some log) size) = words.Play (Some log.now) size
 command_of (Play None size) = words.Play None size

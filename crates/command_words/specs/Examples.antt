@@ -2,7 +2,7 @@
 use Rattle.std.specs.Prelude.{◌≡◌, [], ◌∷◌, None, codes}
 use Rattle.std.proofs.Common.{refl, inl, inr}
 use Rattle.csv_rows.specs.Numbers.{number_in, is_between, is_number}
-use Rattle.command_words.specs.Words.{AsksToPlay, IsLogged, SpellsBox}
+use Rattle.command_words.specs.Words.{AsksToPlay, IsLogged, SpellsBox, SpellsInit}
 
 asks_for_64 : AsksToPlay (codes "play" ∷ codes "-" ∷ []) 64
 asks_for_64 = (None, inl (refl, refl))
@@ -21,6 +21,12 @@ more_is_none = refl
 
 over_a_log : IsLogged (codes "play" ∷ codes "moves.log" ∷ [])
 over_a_log = (codes "moves.log", 64, (refl, inl (refl, refl)))
+
+makes_pairs : SpellsInit (codes "init" ∷ codes "moves.log" ∷ []) (codes "moves.log") 1
+makes_pairs = inl (refl, refl)
+
+makes_fours : SpellsInit (codes "init" ∷ codes "moves.log" ∷ codes "--quad" ∷ []) (codes "moves.log") 2
+makes_fours = inr (refl, refl)
 
 -- a box of one column
 column : SpellsBox (codes "5") (codes "0") (codes "5") (codes "9") (record { lo = record { x = 5; y = 0 }; hi = record { x = 5; y = 9 } })

@@ -4,11 +4,11 @@ use Rattle.zorder.specs.declared.points.Region.{Region}
 use Rattle.csv_rows.specs.Numbers.{number_in}
 use Rattle.command_words.specs.declared.trials.Made.{Made}
 
--- what a run is asked for: to make a log in a file, to inspect the log in a file, to play rows, over the log in a file or over none, with
+-- what a run is asked for: to make a log of a width in a file, to inspect the log in a file, to play rows, over the log in a file or over none, with
 -- buckets of a size, to list the objects in a box, of the log in a file, to play made rows, over the log in a file or over none, or to write
 -- the log in a file anew into another file
 pub data Command : Type 0 where
-  Init : List ℕ → Command
+  Init : List ℕ → ℕ → Command
   Check : List ℕ → Command
   Play : Option (List ℕ) → ℕ → Command
   Show : List ℕ → Region → Command
@@ -27,6 +27,14 @@ NamesFile command words file = (words ≡ command ∷ file ∷ []) × IsTrue (is
 -- the words aren't that
 abbrev pub NamesNoFile : List ℕ → List (List ℕ) → Type 0
 NamesNoFile command words = (file : List ℕ) → NamesFile command words file → ⊥
+
+-- the words that ask for a log to be made, with this word in the place of a file; its width is 1, or 2 behind `--quad`
+abbrev pub SpellsInit : List (List ℕ) → List ℕ → ℕ → Type 0
+SpellsInit words word width = ((words ≡ codes "init" ∷ word ∷ []) × (width ≡ 1)) ⊎ ((words ≡ codes "init" ∷ word ∷ codes "--quad" ∷ []) × (width ≡ 2))
+
+-- the words don't ask for that
+abbrev pub SpellsNoInit : List (List ℕ) → Type 0
+SpellsNoInit words = (word : List ℕ) (width : ℕ) → SpellsInit words word width → ⊥
 
 -- the words that ask for rows to be played, with this word in the place of a file; the size is 64, or the number from 4 to 4,096 behind
 -- `--bucket`
@@ -96,7 +104,7 @@ pub record AsksToCompact (words : List (List ℕ)) (file new : List ℕ) : Type 
 
 -- the words that ask for a command; a dash stands for no log
 abbrev pub AsksFor : List (List ℕ) → Command → Type 0
-AsksFor words (Init file) = NamesFile (codes "init") words file
+AsksFor words (Init file width) = IsTrue (is_file_name file) × SpellsInit words file width
 AsksFor words (Check file) = NamesFile (codes "check") words file
 AsksFor words (Play None size) = SpellsPlay words (codes "-") size
 AsksFor words (Play (Some file) size) = IsTrue (is_file_name file) × SpellsPlay words file size
@@ -111,7 +119,7 @@ AsksToPlay words size = (file : Option (List ℕ)) × AsksFor words (Play file s
 
 -- the words of each command
 abbrev pub IsInit : List (List ℕ) → Type 0
-IsInit words = (file : List ℕ) × AsksFor words (Init file)
+IsInit words = (file : List ℕ) × (width : ℕ) × AsksFor words (Init file width)
 
 abbrev pub IsCheck : List (List ℕ) → Type 0
 IsCheck words = (file : List ℕ) × AsksFor words (Check file)

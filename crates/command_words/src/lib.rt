@@ -10,6 +10,7 @@
 mod boxes;
 mod compactions;
 mod files;
+mod inits;
 mod parsing;
 mod plays;
 mod trials;

@@ -1,12 +1,13 @@
 //! What words ask for.
 ghost use Rattle.std.specs.Prelude.{map, MatchOption};
 ghost use Rattle.std.specs.String.{string_bytes};
-ghost use Rattle.command_words.specs.Words.{AsksFor, IsAccepted, IsCompact, IsPlay, IsShow, IsTrial};
+ghost use Rattle.command_words.specs.Words.{AsksFor, IsAccepted, IsCompact, IsInit, IsPlay, IsShow, IsTrial};
 ghost use Rattle.command_words.specs.Asked.{command_of};
 
 use crate::boxes::show_words;
 use crate::compactions::compact_words;
 use crate::files::{file_after, is_file_name};
+use crate::inits::init_words;
 use crate::plays::play_words;
 use crate::trials::{Made, trial_words};
 use zorder::Region;
@@ -14,8 +15,8 @@ use zorder::Region;
 /// What the words ask for.
 #[derive(Clone, Copy, Drop)]
 pub enum Command<'a> {
-    /// To make a log in this file.
-    Init(&'a str),
+    /// To make a log in this file, whose splits make `2 ^ width` children: the width is 1, or 2 where it is asked for.
+    Init(&'a str, u8),
     /// To inspect the log in this file.
     Check(&'a str),
     /// To play rows, over the log in this file or over none, with buckets of this size.
@@ -32,8 +33,8 @@ pub enum Command<'a> {
 pub fn command_in(words: &[String]) -> Option<Command<'_>>
     ensures { MatchOption result (IsAccepted (map string_bytes words.now) → ⊥) (λ c. AsksFor (map string_bytes words.now) (command_of c)) }
 {
-    if let Some(file) = file_after("init", words) {
-        return Some(Command::Init(file));
+    if let Some(init) = init_in(words) {
+        return Some(init);
     }
     if let Some(file) = file_after("check", words) {
         return Some(Command::Check(file));
@@ -48,6 +49,19 @@ pub fn command_in(words: &[String]) -> Option<Command<'_>>
         return Some(compact);
     }
     play_in(words)
+}
+
+// What the words ask for, where it is to make a log.
+fn init_in(words: &[String]) -> Option<Command<'_>>
+    ensures { MatchOption result (IsInit (map string_bytes words.now) → ⊥) (λ c. AsksFor (map string_bytes words.now) (command_of c)) }
+{
+    let Some(init) = init_words(words) else {
+        return None;
+    };
+    if is_file_name(init.log) {
+        return Some(Command::Init(init.log, init.width));
+    }
+    None
 }
 
 // What the words ask for, where it is to list objects.
