@@ -8,6 +8,8 @@ use Rattle.disk_trait.specs.Drive.{Drive, AttachedOne, KeepsLaws, Stays}
 use Rattle.cell_format.specs.declared.cell.Cell.{Cell}
 use Rattle.plain_list.specs.World.{World}
 use Rattle.log_state.specs.Recovers.{state_of}
+use Rattle.recovery.specs.Widths.{IsWidth}
+use Rattle.log_run.specs.declared.reading.Found.{Found}
 use Rattle.recovery.specs.Found.{IsFound}
 use Rattle.recovery.specs.declared.seen.Seen.{Seen}
 use Rattle.recovery.proofs.OnlyReading.{rose-earlier, stays-trans}
@@ -20,7 +22,7 @@ use Rattle.log_compact.proofs.Counting.{comes_by_splits, fresh_few}
 use Rattle.csv_rows.specs.declared.rows.Refusal.{Refusal}
 use Rattle.csv_rows.specs.declared.rows.Refusal.TheVariants as refusal
 use Rattle.csv_rows.specs.LogLines.{compacted_line}
-use Rattle.run_ends.specs.Limits.{width, oldest_read, most_inspected}
+use Rattle.run_ends.specs.Limits.{oldest_read, most_inspected}
 use Rattle.run_ends.specs.Status.{status_of, written_status}
 use Rattle.run_ends.specs.Taking.{Refuses}
 use Rattle.run_ends.specs.Attaching.{AttachesOnce}
@@ -32,40 +34,40 @@ use Rattle.log_run.proofs.MakingEnds.{bears, ends-writing, whole-writing, not-te
 use Rattle.log_run.proofs.CheckingFacts.{decided-refused}
 
 -- what was found may be written anew
-module _ (drive : Drive) (seen : Seen) (found : IsFound oldest_read width most_inspected drive seen) where
-  pub splits-found : ComesBySplits width seen.leaves
-  splits-found = subst (ComesBySplits width) (sym found.finds.leaves) (comes_by_splits width found.cells)
+module _ (w : ℕ) (known : IsWidth w) (drive : Drive) (seen : Seen) (found : IsFound oldest_read w most_inspected drive seen) where
+  pub splits-found : ComesBySplits w seen.leaves
+  splits-found = subst (ComesBySplits w) (sym found.finds.leaves) (comes_by_splits w found.cells)
 
-  pub few-found : length (anew seen.world seen.leaves) ≤ most_inspected
+  pub few-found : length (anew w seen.world seen.leaves) ≤ most_inspected
   few-found =
-      let few = fresh_few width (inl refl) found.cells found.legal in
-      let same : anew seen.world seen.leaves ≡ anew (state_of width found.cells).world (state_of width found.cells).leaves = λ i. anew (found.finds.world i) (found.finds.leaves i) in
+      let few = fresh_few w known found.cells found.legal in
+      let same : anew w seen.world seen.leaves ≡ anew w (state_of w found.cells).world (state_of w found.cells).leaves = λ i. anew w (found.finds.world i) (found.finds.leaves i) in
       omega (arith, ap length same, few, found.few)
 
-  ends-found : (name : List ℕ) (old new : Drive) (status : ℕ) (before after : Output) → EndsAnew seen.world seen.leaves name old new status before after
-      → EndsAnew (state_of width found.cells).world (state_of width found.cells).leaves name old new status before after
+  ends-found : (name : List ℕ) (old new : Drive) (status : ℕ) (before after : Output) → EndsAnew w seen.world seen.leaves name old new status before after
+      → EndsAnew w (state_of w found.cells).world (state_of w found.cells).leaves name old new status before after
   ends-found name old new status before after ends =
-      subst (λ (w : World). EndsAnew w (state_of width found.cells).leaves name old new status before after) found.finds.world
-      (subst (λ (l : List (List Bool)). EndsAnew seen.world l name old new status before after) found.finds.leaves ends)
+      subst (λ (o : World). EndsAnew w o (state_of w found.cells).leaves name old new status before after) found.finds.world
+      (subst (λ (l : List (List Bool)). EndsAnew w seen.world l name old new status before after) found.finds.leaves ends)
 
-  cells-found : FindsCells drive found.cells
-  cells-found = record { legal = found.legal; few = found.few; recovers = found.recovers }
+  cells-found : FindsCells w drive found.cells
+  cells-found = record { known = known; legal = found.legal; few = found.few; recovers = found.recovers }
 
 -- a file that was attached, and what was written to it
-module _ (fresh : List Cell) (a b c : Drive) (laws : KeepsLaws a) (stays : Stays a b) where
-  pub compacted-after : b.faults ≡ a.faults → IsCompacted width fresh b c → IsCompacted width fresh a c
+module _ (w : ℕ) (fresh : List Cell) (a b c : Drive) (laws : KeepsLaws a) (stays : Stays a b) where
+  pub compacted-after : b.faults ≡ a.faults → IsCompacted w fresh b c → IsCompacted w fresh a c
   compacted-after calm is = record { log = λ bytes told. is.log bytes (stays.bytes ∙ told); same = is.same ∙ calm }
 
-  pub leaves-attached : a.faults ≤ b.faults → LeavesNew fresh a b
+  pub leaves-attached : a.faults ≤ b.faults → LeavesNew w fresh a b
   leaves-attached later = record {
-    on_way = λ bytes told now. leaves-stays a b (IsOnWay width fresh) laws (λ bytes is. inl (now bytes is)) stays;
+    on_way = λ bytes told now. leaves-stays a b (IsOnWay w fresh) laws (λ bytes is. inl (now bytes is)) stays;
     in_use = λ bytes told long. stays;
     later = later;
   }
 
-  pub leaves-written : a.faults ≤ b.faults → KeepsOnWay width fresh b c → LeavesNew fresh a c
+  pub leaves-written : a.faults ≤ b.faults → KeepsOnWay w fresh b c → LeavesNew w fresh a c
   leaves-written later keeps = record {
-    on_way = λ xs told now. leaves-trans a b c (IsOnWay width fresh) (leaves-stays a b (IsOnWay width fresh) laws (λ bytes is. inl (now bytes is)) stays) (keeps.on_way xs (stays.bytes ∙ told) (λ bytes is. now bytes (stays.images bytes is)));
+    on_way = λ xs told now. leaves-trans a b c (IsOnWay w fresh) (leaves-stays a b (IsOnWay w fresh) laws (λ bytes is. inl (now bytes is)) stays) (keeps.on_way xs (stays.bytes ∙ told) (λ bytes is. now bytes (stays.images bytes is)));
     in_use = λ bytes told long. stays-trans a b c stays (keeps.in_use bytes (stays.bytes ∙ told) long);
     later = omega (arith, later, keeps.later);
   }
@@ -80,11 +82,11 @@ calm-refused a b c (compact_fault.InUse len) same refuses other = refuses.3 ∙ 
 calm-refused a b c compact_fault.Disk same rose other = absurd (other refl)
 
 -- the cells were written
-pub ends-anew : {T E : Type 0} (world : World) (leaves : List (List Bool)) (name : List ℕ) (old new : Drive) (before after : Output) (wrote : Result T E)
-    → Puts before.taken after.taken (compacted_line (length (anew world leaves))) wrote → Counts before.faults after.faults wrote → MakesAnew world leaves old new → AttachedOne name true old new
-    → LeavesNew (anew world leaves) old new → EndsAnew world leaves name old new (written_status wrote) before after
-ends-anew world leaves name old new before after wrote puts counts made attached left = record {
-  ends = inl (made, ends-writing (compacted_line (length (anew world leaves))) before after wrote puts counts);
+pub ends-anew : {T E : Type 0} (w : ℕ) (world : World) (leaves : List (List Bool)) (name : List ℕ) (old new : Drive) (before after : Output) (wrote : Result T E)
+    → Puts before.taken after.taken (compacted_line (length (anew w world leaves))) wrote → Counts before.faults after.faults wrote → MakesAnew w world leaves old new → AttachedOne name true old new
+    → LeavesNew w (anew w world leaves) old new → EndsAnew w world leaves name old new (written_status wrote) before after
+ends-anew w world leaves name old new before after wrote puts counts made attached left = record {
+  ends = inl (made, ends-writing (compacted_line (length (anew w world leaves))) before after wrote puts counts);
   in_use = λ ten. absurd (not-ten wrote ten);
   exact = λ bytes told long calm. let small = (made.made.log bytes told).0 in absurd (omega (arith, small, long));
   whole = λ bytes told small calm quiet. inl (whole-writing before.faults after.faults wrote counts quiet);
@@ -94,10 +96,10 @@ ends-anew world leaves name old new before after wrote puts counts made attached
 }
 
 -- they weren't
-pub ends-refused : (world : World) (leaves : List (List Bool)) (name : List ℕ) (old new : Drive) (before after : Output) (why : Refusal) (status : ℕ) → Refuses why status before after → IsMakingCause old new why
-    → AttachesOnce name true old new (status_of why) → (status_of why ≢ 7 → new.faults ≡ old.faults) → LeavesNew (anew world leaves) old new
-    → EndsAnew world leaves name old new status before after
-ends-refused world leaves name old new before after why status refuses cause attached calm left =
+pub ends-refused : (w : ℕ) (world : World) (leaves : List (List Bool)) (name : List ℕ) (old new : Drive) (before after : Output) (why : Refusal) (status : ℕ) → Refuses why status before after → IsMakingCause old new why
+    → AttachesOnce name true old new (status_of why) → (status_of why ≢ 7 → new.faults ≡ old.faults) → LeavesNew w (anew w world leaves) old new
+    → EndsAnew w world leaves name old new status before after
+ends-refused w world leaves name old new before after why status refuses cause attached calm left =
     let is = refuses.status_is in
     let it = bears old new why cause in
     record {
@@ -111,19 +113,20 @@ ends-refused world leaves name old new before after why status refuses cause att
     }
 
 -- a log that was read
-pub compacts-found : {D : Type 0} (file name : List ℕ) (old new : BothTargets D) (seen : Seen) (status : ℕ) (found : IsFound oldest_read width most_inspected old.to.drive seen)
-    → IsDecidedBy most_inspected old.to.drive new.to.drive (Ok seen) → HasRead file old.to.drive new.to.drive → Stays old.to.drive new.to.drive
-    → EndsAnew seen.world seen.leaves name old.other_drive new.other_drive status old.to.output new.to.output → EndsCompacting file name old new status
-compacts-found file name old new seen status found decided read stays ends = record {
+pub compacts-found : {D : Type 0} (file name : List ℕ) (old new : BothTargets D) (log : Found) (status : ℕ) (known : IsWidth log.width) (found : IsFound oldest_read log.width most_inspected old.to.drive log.seen)
+    → IsDecidedBy most_inspected old.to.drive new.to.drive (Ok log) → HasRead file old.to.drive new.to.drive → Stays old.to.drive new.to.drive
+    → EndsAnew log.width log.seen.world log.seen.leaves name old.other_drive new.other_drive status old.to.output new.to.output → EndsCompacting file name old new status
+compacts-found file name old new log status known found decided read stays ends = record {
   ends = inr (record {
+    width = log.width;
     cells = found.cells;
-    found = cells-found old.to.drive seen found;
+    found = cells-found log.width known old.to.drive log.seen found;
     read = read;
-    ends = ends-found old.to.drive seen found name old.other_drive new.other_drive status old.to.output new.to.output ends;
+    ends = ends-found log.width known old.to.drive log.seen found name old.other_drive new.other_drive status old.to.output new.to.output ends;
   });
   decided = record {
     exact = λ bytes fault told shown wrong calm. absurd (decided.exact bytes fault told shown wrong calm);
-    recovers = λ ten bytes told. (found.cells, (bytes, told, found.recovers bytes told, found.few));
+    recovers = λ ten bytes told. (found.cells, record { width = log.width; known = known; bytes = bytes; told = told; recovers = found.recovers bytes told; few = found.few });
     long = ends.in_use;
     in_use = λ cells bytes few told long calm steady. ends.exact bytes told long steady;
     whole = λ cells bytes few told small calm steady quiet. ends.whole bytes told small steady quiet;
@@ -152,13 +155,13 @@ not-used old new (refusal.InUse len) cause ten = absurd cause
 
 -- a log that wasn't
 pub compacts-refused : {D : Type 0} (file name : List ℕ) (old new : BothTargets D) (why : Refusal) (status : ℕ) → IsCheckingCause old.to.drive new.to.drive why
-    → IsDecidedBy {T = Seen} most_inspected old.to.drive new.to.drive (Err why) → HasReadUnless file old.to.drive new.to.drive why → Stays old.to.drive new.to.drive → Refuses why status old.to.output new.to.output
+    → IsDecidedBy {T = Found} most_inspected old.to.drive new.to.drive (Err why) → HasReadUnless file old.to.drive new.to.drive why → Stays old.to.drive new.to.drive → Refuses why status old.to.output new.to.output
     → new.other ≡ old.other → EndsCompacting file name old new status
 compacts-refused file name old new why status cause decided read stays refused other =
     let is = refused.status_is in
     let never : status ≡ 10 → ⊥ = λ ten. not-used old.to.drive new.to.drive why cause (sym is ∙ ten) in
     let memory : (cells : List Cell) → RecoversFew old.to.drive cells → (Rose old.to.drive.faults new.to.drive.faults → ⊥) → status ≡ 9 =
-    λ cells few calm. is ∙ ap status_of (decided.whole few.0 cells few.1 few.2 few.3 calm) in
+    λ cells few calm. is ∙ ap status_of (decided.whole few.bytes few.width cells few.told few.known few.recovers few.few calm) in
     record {
       ends = inl (record { refused = (why, cause, refused); other = other });
       decided = record {

@@ -2,7 +2,7 @@
 use Rattle.std.proofs.Common.{◌≡◌, ◌⊎◌, inl, inr, ◌∙◌, ℕ, false, List, Err, ap, subst}
 use Rattle.disk_trait.specs.Drive.{Drive, Stays}
 use Rattle.cell_format.specs.declared.cell.Cell.{Cell}
-use Rattle.recovery.specs.declared.seen.Seen.{Seen}
+use Rattle.log_run.specs.declared.reading.Found.{Found}
 use Rattle.recovery.specs.declared.seen.OpenFault.{OpenFault}
 use Rattle.csv_rows.specs.declared.rows.Refusal.{Refusal}
 use Rattle.csv_rows.specs.declared.rows.Refusal.TheVariants as refusal
@@ -16,10 +16,10 @@ use Rattle.run_ends.specs.LogFaults.{log_refusal}
 use Rattle.log_run.specs.Checking.{IsDecided, IsDecidedBy, IsCheckingCause, HasReadUnless, EndsTelling}
 
 -- the line of a refusal is put
-pub decided-refused : (old new : Drive) (why : Refusal) (status : ℕ) (before after : Output) → IsDecidedBy {T = Seen} most_inspected old new (Err why) → Refuses why status before after → IsDecided old new status before after
+pub decided-refused : (old new : Drive) (why : Refusal) (status : ℕ) (before after : Output) → IsDecidedBy {T = Found} most_inspected old new (Err why) → Refuses why status before after → IsDecided old new status before after
 decided-refused old new why status before after by refuses = record {
   exact = λ bytes fault told shown wrong calm. named fault (by.exact bytes fault told shown wrong calm);
-  whole = λ bytes cells told text few calm quiet. inr (refuses.status_is ∙ ap status_of (by.whole bytes cells told text few calm));
+  whole = λ bytes w cells told known text few calm quiet. inr (refuses.status_is ∙ ap status_of (by.whole bytes w cells told known text few calm));
 }
   where
     named : (fault : OpenFault) → (why ≡ log_refusal fault) ⊎ (why ≡ refusal.Memory) → Refuses (log_refusal fault) status before after ⊎ (status ≡ 9)
@@ -27,7 +27,7 @@ decided-refused old new why status before after by refuses = record {
     named fault (inr e) = inr (refuses.status_is ∙ ap status_of e)
 
 -- a log that isn't told
-pub told-refused : {D : Type 0} (text : List Cell → List ℕ) (file : List ℕ) (old new : Targets D) (why : Refusal) (status : ℕ) → IsCheckingCause old.drive new.drive why → IsDecidedBy {T = Seen} most_inspected old.drive new.drive (Err why)
+pub told-refused : {D : Type 0} (text : ℕ → List Cell → List ℕ) (file : List ℕ) (old new : Targets D) (why : Refusal) (status : ℕ) → IsCheckingCause old.drive new.drive why → IsDecidedBy {T = Found} most_inspected old.drive new.drive (Err why)
     → HasReadUnless file old.drive new.drive why → Stays old.drive new.drive → Refuses why status old.output new.output → EndsTelling text file old new status
 told-refused text file old new why status cause decided read stays refused = record {
   ends = inr (why, cause, refused);

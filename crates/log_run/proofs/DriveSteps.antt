@@ -1,5 +1,5 @@
 -- What an attach and what follows it come to.
-use Rattle.std.proofs.Common.{◌≡◌, ◌⊎◌, inr, ◌∙◌, ℕ, ◌≤◌, Bool, true, List, [], ◌∷◌, length, Some, is_some, Result, Err, refl, ap, subst, arith}
+use Rattle.std.proofs.Common.{◌≡◌, ◌⊎◌, inl, inr, ◌∙◌, ℕ, ◌≤◌, Bool, true, List, [], ◌∷◌, length, Some, is_some, Result, Err, refl, ap, subst, arith}
 use Rattle.std.specs.Prelude.{IfErr, ◌≢◌}
 use Rattle.std.specs.Result.{IsErrAnd}
 use Rattle.disk_trait.specs.declared.disk.AttachFault.{AttachFault}
@@ -8,7 +8,9 @@ use Rattle.disk_trait.specs.Drive.{Drive, Stays, CountsAttach, KeepsLaws}
 use Rattle.cell_format.specs.declared.cell.Cell.{Cell}
 use Rattle.recovery.specs.Making.{Makes, IsSmall, KeepsSmall, RefusesInit}
 use Rattle.log_state.specs.Recovers.{Recovers}
-use Rattle.recovery.specs.Faults.{IsFault, IsInBytes}
+use Rattle.recovery.specs.Faults.{IsInBytes}
+use Rattle.recovery.specs.Widths.{IsWidth, IsLogFault}
+use Rattle.log_run.specs.declared.reading.Found.{Found}
 use Rattle.recovery.specs.Found.{IsFree, IsFound}
 use Rattle.recovery.specs.Reading.{OnlyReads}
 use Rattle.recovery.specs.declared.seen.Seen.{Seen}
@@ -26,22 +28,27 @@ use Rattle.log_run.specs.Making.{IsMakingCause, LeavesFile, making_refusal}
 use Rattle.run_ends.specs.Status.{status_of}
 use Rattle.run_ends.proofs.LogFaults.{reading-after, calm-free, calm-named}
 
-pub makes-after : (a b c : Drive) → Stays a b → b.faults ≡ a.faults → Makes 1 b c → Makes 1 a c
-makes-after a b c stays calm makes =
+pub makes-after : (w : ℕ) (a b c : Drive) → Stays a b → b.faults ≡ a.faults → Makes w b c → Makes w a c
+makes-after w a b c stays calm makes =
     record { log = λ bytes told. makes.log bytes (stays.bytes ∙ told); same = makes.same ∙ calm; told = makes.told ∙ ap is_some stays.bytes; calls = still-made (true ∷ true ∷ []) a b c stays.calls makes.calls }
 
+-- what the bytes don't decide stays so behind an earlier call
+pub free-later : (a b c : Drive) (fault : OpenFault) → a.faults ≤ b.faults → IsFree b c fault → IsFree a c fault
+free-later a b c fault later (inl memory) = inl memory
+free-later a b c fault later (inr rose) = inr (rose-earlier a.faults b.faults c.faults later rose)
+
 -- a log in which something is at fault
-pub checking-after : (a b c : Drive) (result : Result Seen OpenFault) (fault : OpenFault) → result ≡ Err fault → Stays a b → a.faults ≤ b.faults
-    → ((bytes : List ℕ) → b.bytes ≡ Some bytes → IsFault 1 1 most_inspected bytes fault) → OnlyReads b c result → IsCheckingCause a c (log_refusal fault)
+pub checking-after : (a b c : Drive) (result : Result Found OpenFault) (fault : OpenFault) → result ≡ Err fault → Stays a b → a.faults ≤ b.faults
+    → ((bytes : List ℕ) → b.bytes ≡ Some bytes → IsLogFault 1 most_inspected bytes fault) → OnlyReads b c result → IsCheckingCause a c (log_refusal fault)
 checking-after a b c result fault is stays later wrong reads = reading-after 1 most_inspected a b c fault stays later wrong (λ disk. reads.failed (is ∙ ap (λ (e : OpenFault). Err e) disk))
 
-pub decided-err : (a b c : Drive) (why : OpenFault) (result : Result Seen OpenFault) → result ≡ Err why → Stays a b → a.faults ≤ b.faults
-    → ((bytes : List ℕ) (fault : OpenFault) → b.bytes ≡ Some bytes → IsInBytes fault → IsFault 1 1 most_inspected bytes fault → IsErrAnd result (λ e. (e ≡ fault) ⊎ IsFree b c e))
-    → ((bytes : List ℕ) (cells : List Cell) → b.bytes ≡ Some bytes → Recovers 1 cells bytes → length cells ≤ most_inspected → IfErr result (IsFree b c)) → IsDecidedBy {T = Seen} most_inspected a c (Err (log_refusal why))
+pub decided-err : (a b c : Drive) (why : OpenFault) (result : Result Found OpenFault) → result ≡ Err why → Stays a b → a.faults ≤ b.faults
+    → ((bytes : List ℕ) (fault : OpenFault) → b.bytes ≡ Some bytes → IsInBytes fault → IsLogFault 1 most_inspected bytes fault → IsErrAnd result (λ e. (e ≡ fault) ⊎ IsFree b c e))
+    → ((bytes : List ℕ) (w : ℕ) (cells : List Cell) → b.bytes ≡ Some bytes → IsWidth w → Recovers w cells bytes → length cells ≤ most_inspected → IfErr result (IsFree b c)) → IsDecidedBy {T = Found} most_inspected a c (Err (log_refusal why))
 decided-err a b c why result is stays later exact whole = record {
   exact = λ bytes fault told shown wrong calm.
-      calm-named a b c why fault later calm (subst (λ (r : Result Seen OpenFault). IsErrAnd r (λ e. (e ≡ fault) ⊎ IsFree b c e)) is (exact bytes fault (stays.bytes ∙ told) shown wrong));
-  whole = λ bytes cells told text few calm. calm-free a b c why later calm (subst (λ (r : Result Seen OpenFault). IfErr r (IsFree b c)) is (whole bytes cells (stays.bytes ∙ told) text few));
+      calm-named a b c why fault later calm (subst (λ (r : Result Found OpenFault). IsErrAnd r (λ e. (e ≡ fault) ⊎ IsFree b c e)) is (exact bytes fault (stays.bytes ∙ told) shown wrong));
+  whole = λ bytes w cells told known text few calm. calm-free a b c why later calm (subst (λ (r : Result Found OpenFault). IfErr r (IsFree b c)) is (whole bytes w cells (stays.bytes ∙ told) known text few));
 }
 
 -- what an attach leaves of a file, and what the making behind it does
@@ -78,14 +85,14 @@ module _ {T : Type 0} (name : List ℕ) (make : Bool) (a b : Drive) where
   checking-attached attach_fault.Disk counts = counts.failed refl
   checking-attached attach_fault.Memory counts = tt
 
-  pub decided-attached : (fault : AttachFault) → CountsAttach {T = T} name make a b (Err fault) → IsDecidedBy {T = Seen} most_inspected a b (Err (attach_refusal fault))
+  pub decided-attached : (fault : AttachFault) → CountsAttach {T = T} name make a b (Err fault) → IsDecidedBy {T = Found} most_inspected a b (Err (attach_refusal fault))
   decided-attached attach_fault.Disk counts =
-      record { exact = λ bytes what told shown wrong calm. absurd (calm (counts.failed refl)); whole = λ bytes cells told text few calm. absurd (calm (counts.failed refl)) }
-  decided-attached attach_fault.Memory counts = record { exact = λ bytes what told shown wrong calm. inr refl; whole = λ bytes cells told text few calm. refl }
+      record { exact = λ bytes what told shown wrong calm. absurd (calm (counts.failed refl)); whole = λ bytes w cells told known text few calm. absurd (calm (counts.failed refl)) }
+  decided-attached attach_fault.Memory counts = record { exact = λ bytes what told shown wrong calm. inr refl; whole = λ bytes w cells told known text few calm. refl }
 
 -- what was found behind an attach
-pub found-after : (most : ℕ) (a b : Drive) (seen : Seen) → Stays a b → IsFound 1 1 most b seen → IsFound 1 1 most a seen
-found-after most a b seen stays found =
+pub found-after : (w most : ℕ) (a b : Drive) (seen : Seen) → Stays a b → IsFound 1 w most b seen → IsFound 1 w most a seen
+found-after w most a b seen stays found =
     record { cells = found.cells; legal = found.legal; few = found.few; finds = found.finds; wanted = found.wanted; recovers = λ bytes told. found.recovers bytes (stays.bytes ∙ told); named = λ bytes told. found.named bytes (stays.bytes ∙ told) }
 
 -- the count stays where the drive isn't told to have failed

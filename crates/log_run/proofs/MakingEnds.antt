@@ -9,7 +9,6 @@ use Rattle.recovery.specs.Making.{Makes}
 use Rattle.csv_rows.specs.declared.rows.Refusal.{Refusal}
 use Rattle.csv_rows.specs.declared.rows.Refusal.TheVariants as refusal
 use Rattle.csv_rows.specs.LogLines.{made_line}
-use Rattle.run_ends.specs.Limits.{width}
 use Rattle.run_ends.specs.Ends.{Targets}
 use Rattle.run_ends.specs.Ending.{EndsWriting}
 use Rattle.run_ends.specs.Attaching.{AttachesOnce}
@@ -32,9 +31,9 @@ not-ten (Ok x) ten = omega (arith, ten)
 not-ten (Err e) ten = omega (arith, ten)
 
 -- a log was made
-pub ends-made : {D T E : Type 0} (file : List ℕ) (old new : Targets D) (wrote : Result T E) → Puts old.output.taken new.output.taken made_line wrote → Counts old.output.faults new.output.faults wrote
-    → Makes width old.drive new.drive → AttachedOne file true old.drive new.drive → LeavesFile old.drive new.drive → EndsMaking file old new (written_status wrote)
-ends-made file old new wrote puts counts made attached leaves = record {
+pub ends-made : {D T E : Type 0} (file : List ℕ) (w : ℕ) (old new : Targets D) (wrote : Result T E) → Puts old.output.taken new.output.taken made_line wrote → Counts old.output.faults new.output.faults wrote
+    → Makes w old.drive new.drive → AttachedOne file true old.drive new.drive → LeavesFile old.drive new.drive → EndsMaking file w old new (written_status wrote)
+ends-made file w old new wrote puts counts made attached leaves = record {
   ends = inl (made, ends-writing made_line old.output new.output wrote puts counts);
   in_use = λ ten. absurd (not-ten wrote ten);
   exact = λ bytes told long calm. let small = (made.log bytes told).0 in absurd (omega (arith, small, long));
@@ -72,9 +71,9 @@ bears old new (refusal.InUse len) cause = record {
 }
 
 -- none was made
-pub ends-unmade : {D : Type 0} (file : List ℕ) (old new : Targets D) (why : Refusal) (status : ℕ) → Refuses why status old.output new.output → IsMakingCause old.drive new.drive why
-    → AttachesOnce file true old.drive new.drive (status_of why) → (status_of why ≢ 7 → new.drive.faults ≡ old.drive.faults) → LeavesFile old.drive new.drive → EndsMaking file old new status
-ends-unmade file old new why status refuses cause attached calm leaves =
+pub ends-unmade : {D : Type 0} (file : List ℕ) (w : ℕ) (old new : Targets D) (why : Refusal) (status : ℕ) → Refuses why status old.output new.output → IsMakingCause old.drive new.drive why
+    → AttachesOnce file true old.drive new.drive (status_of why) → (status_of why ≢ 7 → new.drive.faults ≡ old.drive.faults) → LeavesFile old.drive new.drive → EndsMaking file w old new status
+ends-unmade file w old new why status refuses cause attached calm leaves =
     let is = refuses.status_is in
     let it = bears old.drive new.drive why cause in
     record {

@@ -6,7 +6,8 @@ use Rattle.disk_trait.specs.Drive.{Drive, AttachedOne, Stays}
 use Rattle.plain_list.specs.declared.entries.Entry.{Entry}
 use Rattle.cell_format.specs.declared.cell.Cell.{Cell}
 use Rattle.log_state.specs.Recovers.{IsLegalCells, Recovers, state_of}
-use Rattle.recovery.specs.Faults.{IsFault, IsInBytes}
+use Rattle.recovery.specs.Faults.{IsInBytes}
+use Rattle.recovery.specs.Widths.{IsWidth, IsLogFault}
 use Rattle.recovery.specs.declared.seen.Seen.{Seen}
 use Rattle.recovery.specs.declared.seen.OpenFault.{OpenFault}
 use Rattle.csv_rows.specs.declared.rows.LogCounts.{LogCounts}
@@ -14,7 +15,7 @@ use Rattle.csv_rows.specs.declared.rows.Refusal.{Refusal}
 use Rattle.csv_rows.specs.declared.rows.Refusal.TheVariants as refusal
 use Rattle.csv_rows.specs.LogLines.{counts_text}
 use Rattle.run_ends.specs.LogFaults.{IsReadingCause, log_refusal}
-use Rattle.run_ends.specs.Limits.{width, oldest_read, most_inspected}
+use Rattle.run_ends.specs.Limits.{oldest_read, most_inspected}
 use Rattle.run_ends.specs.Status.{status_of}
 use Rattle.io_edge.specs.Streams.{Output}
 use Rattle.run_ends.specs.Ends.{Ends, Targets, IsQuiet}
@@ -26,24 +27,25 @@ use Rattle.run_ends.specs.Attaching.{AttachesOnce}
 abbrev pub IsCheckingCause : Drive → Drive → Refusal → Type 0
 IsCheckingCause old new why = IsReadingCause oldest_read most_inspected old new why
 
--- legal cells, few enough; where the drive's content is known, its bytes recover to them
-pub record FindsCells (old : Drive) (cells : List Cell) : Type 0 where
-  pub legal : IsLegalCells width cells
+-- legal cells of this width, few enough; where the drive's content is known, its bytes recover to them
+pub record FindsCells (w : ℕ) (old : Drive) (cells : List Cell) : Type 0 where
+  pub known : IsWidth w
+  pub legal : IsLegalCells w cells
   pub few : length cells ≤ most_inspected
-  pub recovers : (bytes : List ℕ) → old.bytes ≡ Some bytes → Recovers width cells bytes
+  pub recovers : (bytes : List ℕ) → old.bytes ≡ Some bytes → Recovers w cells bytes
 
 -- how many cells there are, and objects, leaves and open splits in the state after them
-abbrev pub counts_after : List Cell → LogCounts
-counts_after cells =
-    record { cells = length cells; points = length (state_of width cells).world; leaves = length (state_of width cells).leaves; unfinished = length (state_of width cells).splits }
+abbrev pub counts_after : ℕ → List Cell → LogCounts
+counts_after w cells =
+    record { cells = length cells; points = length (state_of w cells).world; leaves = length (state_of w cells).leaves; unfinished = length (state_of w cells).splits }
 
 -- how many of each were found
 abbrev pub counts_of : Seen → LogCounts
 counts_of seen = record { cells = seen.cells; points = length seen.world; leaves = length seen.leaves; unfinished = seen.unfinished }
 
 -- the four lines of cells
-abbrev pub checked_text : List Cell → List ℕ
-checked_text cells = counts_text (counts_after cells)
+abbrev pub checked_text : ℕ → List Cell → List ℕ
+checked_text w cells = counts_text (counts_after w cells)
 
 -- a log was read: this file was attached, and no call of its drive has failed
 pub record HasRead (file : List ℕ) (old new : Drive) : Type 0 where
@@ -55,25 +57,25 @@ pub record HasReadUnless (file : List ℕ) (old new : Drive) (why : Refusal) : T
   pub attached : AttachesOnce file false old new (status_of why)
   pub calm : status_of why ≢ 7 → new.faults ≡ old.faults
 
--- the text of the cells that were found
-abbrev pub TellsCells : (List Cell → List ℕ) → Drive → ℕ → Output → Output → Type 0
-TellsCells text old status before after = (cells : List Cell) × FindsCells old cells × EndsWriting (text cells) status before after
+-- the text of the cells that were found, by the width of the log
+abbrev pub TellsCells : (ℕ → List Cell → List ℕ) → Drive → ℕ → Output → Output → Type 0
+TellsCells text old status before after = (w : ℕ) × (cells : List Cell) × FindsCells w old cells × EndsWriting (text w cells) status before after
 
 -- a fault that the bytes show is told, and bytes that recover to cells have their text, unless the count rose or memory ran out
 pub record IsDecided (old new : Drive) (status : ℕ) (before after : Output) : Type 0 where
-  pub exact : (bytes : List ℕ) (fault : OpenFault) → old.bytes ≡ Some bytes → IsInBytes fault → IsFault oldest_read width most_inspected bytes fault → (Rose old.faults new.faults → ⊥)
+  pub exact : (bytes : List ℕ) (fault : OpenFault) → old.bytes ≡ Some bytes → IsInBytes fault → IsLogFault oldest_read most_inspected bytes fault → (Rose old.faults new.faults → ⊥)
       → Refuses (log_refusal fault) status before after ⊎ (status ≡ 9)
-  pub whole : (bytes : List ℕ) (cells : List Cell) → old.bytes ≡ Some bytes → Recovers width cells bytes → length cells ≤ most_inspected → (Rose old.faults new.faults → ⊥) → (Rose before.faults after.faults → ⊥)
+  pub whole : (bytes : List ℕ) (w : ℕ) (cells : List Cell) → old.bytes ≡ Some bytes → IsWidth w → Recovers w cells bytes → length cells ≤ most_inspected → (Rose old.faults new.faults → ⊥) → (Rose before.faults after.faults → ⊥)
       → (status ≡ 0) ⊎ (status ≡ 9)
 
 -- the same of the answer, where at most so many cells are read
 pub record IsDecidedBy {T : Type 0} (most : ℕ) (old new : Drive) (result : Result T Refusal) : Type 0 where
-  pub exact : (bytes : List ℕ) (fault : OpenFault) → old.bytes ≡ Some bytes → IsInBytes fault → IsFault oldest_read width most bytes fault → (Rose old.faults new.faults → ⊥)
+  pub exact : (bytes : List ℕ) (fault : OpenFault) → old.bytes ≡ Some bytes → IsInBytes fault → IsLogFault oldest_read most bytes fault → (Rose old.faults new.faults → ⊥)
       → IsErrAnd result (λ why. (why ≡ log_refusal fault) ⊎ (why ≡ refusal.Memory))
-  pub whole : (bytes : List ℕ) (cells : List Cell) → old.bytes ≡ Some bytes → Recovers width cells bytes → length cells ≤ most → (Rose old.faults new.faults → ⊥) → IfErr result (λ why. why ≡ refusal.Memory)
+  pub whole : (bytes : List ℕ) (w : ℕ) (cells : List Cell) → old.bytes ≡ Some bytes → IsWidth w → Recovers w cells bytes → length cells ≤ most → (Rose old.faults new.faults → ⊥) → IfErr result (λ why. why ≡ refusal.Memory)
 
 -- the text of the cells or the line of a refusal; the drive's bytes and images stay
-pub record EndsTelling {D : Type 0} (text : List Cell → List ℕ) (file : List ℕ) (old new : Targets D) (status : ℕ) : Type 0 where
+pub record EndsTelling {D : Type 0} (text : ℕ → List Cell → List ℕ) (file : List ℕ) (old new : Targets D) (status : ℕ) : Type 0 where
   pub ends : TellsCells text old.drive status old.output new.output ⊎ EndsRefused (IsCheckingCause old.drive new.drive) status old.output new.output
   pub decided : IsDecided old.drive new.drive status old.output new.output
   pub stays : Stays old.drive new.drive

@@ -7,7 +7,8 @@ use Rattle.plain_list.specs.declared.entries.Entry.{Entry}
 use Rattle.plain_list.specs.World.{World}
 use Rattle.cell_format.specs.declared.cell.Cell.{Cell}
 use Rattle.log_state.specs.Recovers.{Recovers, state_of}
-use Rattle.recovery.specs.Faults.{IsFault, IsInBytes}
+use Rattle.recovery.specs.Faults.{IsInBytes}
+use Rattle.recovery.specs.Widths.{IsWidth, IsLogFault}
 use Rattle.recovery.specs.Making.{IsSmall}
 use Rattle.recovery.specs.declared.seen.OpenFault.{OpenFault}
 use Rattle.log_compact.specs.Fresh.{fresh_cells}
@@ -20,7 +21,7 @@ use Rattle.csv_rows.specs.declared.rows.Refusal.TheVariants as refusal
 use Rattle.csv_rows.specs.LogLines.{compacted_line}
 use Rattle.io_edge.specs.Streams.{Output}
 use Rattle.run_ends.specs.LogFaults.{log_refusal}
-use Rattle.run_ends.specs.Limits.{width, oldest_read, most_inspected}
+use Rattle.run_ends.specs.Limits.{oldest_read, most_inspected}
 use Rattle.run_ends.specs.Ends.{Ends, Targets, targets}
 use Rattle.run_ends.specs.Taking.{Refuses}
 use Rattle.run_ends.specs.Ending.{EndsWriting, EndsRefused}
@@ -46,35 +47,35 @@ abbrev pub compact_refusal : CompactFault → Refusal
 compact_refusal (compact_fault.InUse len) = refusal.InUse len
 compact_refusal compact_fault.Disk = refusal.Disk None
 
--- this world and these leaves, written anew
-abbrev pub anew : World → List (List Bool) → List Cell
-anew world leaves = fresh_cells width world leaves
+-- this world and these leaves, written anew by this width
+abbrev pub anew : ℕ → World → List (List Bool) → List Cell
+anew w world leaves = fresh_cells w world leaves
 
 -- a log was made that has this world and these leaves, and no open split
-pub record MakesAnew (world : World) (leaves : List (List Bool)) (old new : Drive) : Type 0 where
-  pub made : IsCompacted width (anew world leaves) old new
-  pub state : IsStateOf width (anew world leaves) world leaves
+pub record MakesAnew (w : ℕ) (world : World) (leaves : List (List Bool)) (old new : Drive) : Type 0 where
+  pub made : IsCompacted w (anew w world leaves) old new
+  pub state : IsStateOf w (anew w world leaves) world leaves
 
 -- it was made and the number of its cells put, or the line of why none was: the causes are those of `init`
-abbrev pub WritesOrRefuses : World → List (List Bool) → Drive → Drive → ℕ → Output → Output → Type 0
-WritesOrRefuses world leaves old new status before after =
-    (MakesAnew world leaves old new × EndsWriting (compacted_line (length (anew world leaves))) status before after) ⊎ EndsRefused (IsMakingCause old new) status before after
+abbrev pub WritesOrRefuses : ℕ → World → List (List Bool) → Drive → Drive → ℕ → Output → Output → Type 0
+WritesOrRefuses w world leaves old new status before after =
+    (MakesAnew w world leaves old new × EndsWriting (compacted_line (length (anew w world leaves))) status before after) ⊎ EndsRefused (IsMakingCause old new) status before after
 
 -- Where the file's content was known and a crash left a small one, it leaves a small file at each moment, a log of no cells, or one of all of these.
 -- A file that isn't small is left as it was.
-pub record LeavesNew (fresh : List Cell) (old new : Drive) : Type 0 where
-  pub on_way : (bytes : List ℕ) → old.bytes ≡ Some bytes → LeavesNow old IsSmall → LeavesOnly old new (IsOnWay width fresh)
+pub record LeavesNew (w : ℕ) (fresh : List Cell) (old new : Drive) : Type 0 where
+  pub on_way : (bytes : List ℕ) → old.bytes ≡ Some bytes → LeavesNow old IsSmall → LeavesOnly old new (IsOnWay w fresh)
   pub in_use : (bytes : List ℕ) → old.bytes ≡ Some bytes → 17 < length bytes → Stays old new
   pub later : old.faults ≤ new.faults
 
 -- A world and leaves were written to the file of this name and the number of cells put, or the line of a refusal. Status 10 comes exactly where
 -- the file has more than 17 bytes, and a smaller one is made such a log, unless a count rose or memory ran out.
-pub record EndsAnew (world : World) (leaves : List (List Bool)) (name : List ℕ) (old new : Drive) (status : ℕ) (before after : Output) : Type 0 where
-  pub ends : WritesOrRefuses world leaves old new status before after
+pub record EndsAnew (w : ℕ) (world : World) (leaves : List (List Bool)) (name : List ℕ) (old new : Drive) (status : ℕ) (before after : Output) : Type 0 where
+  pub ends : WritesOrRefuses w world leaves old new status before after
   pub in_use : status ≡ 10 → (bytes : List ℕ) → old.bytes ≡ Some bytes → 17 < length bytes
   pub exact : (bytes : List ℕ) → old.bytes ≡ Some bytes → 17 < length bytes → (Rose old.faults new.faults → ⊥) → (status ≡ 10) ⊎ (status ≡ 9)
   pub whole : (bytes : List ℕ) → old.bytes ≡ Some bytes → length bytes ≤ 17 → (Rose old.faults new.faults → ⊥) → (Rose before.faults after.faults → ⊥) → (status ≡ 0) ⊎ (status ≡ 9)
-  pub keeps : LeavesNew (anew world leaves) old new
+  pub keeps : LeavesNew w (anew w world leaves) old new
   -- the drive's count is as it was, but where a drive is what is told to have failed
   pub calm : status ≢ 7 → new.faults ≡ old.faults
   -- this file is attached, and made where it isn't there
@@ -85,21 +86,27 @@ pub record RefusesFile {D : Type 0} (old new : BothTargets D) (status : ℕ) : T
   pub refused : EndsRefused (IsCheckingCause old.to.drive new.to.drive) status old.to.output new.to.output
   pub other : new.other ≡ old.other
 
--- it was read, and what was found goes to the file of this name on the second drive
+-- it was read, and what was found goes to the file of this name on the second drive, by the same width
 pub record WritesAnew {D : Type 0} (file name : List ℕ) (old new : BothTargets D) (status : ℕ) : Type 0 where
+  pub width : ℕ
   pub cells : List Cell
-  pub found : FindsCells old.to.drive cells
+  pub found : FindsCells width old.to.drive cells
   pub read : HasRead file old.to.drive new.to.drive
-  pub ends : EndsAnew (state_of width cells).world (state_of width cells).leaves name old.other_drive new.other_drive status old.to.output new.to.output
+  pub ends : EndsAnew width (state_of width cells).world (state_of width cells).leaves name old.other_drive new.other_drive status old.to.output new.to.output
 
--- the bytes of a log that is read, of few enough cells
-abbrev pub RecoversFew : Drive → List Cell → Type 0
-RecoversFew drive cells = (bytes : List ℕ) × (drive.bytes ≡ Some bytes) × Recovers width cells bytes × (length cells ≤ most_inspected)
+-- the bytes of a log that is read, of either width, of few enough cells
+pub record RecoversFew (drive : Drive) (cells : List Cell) : Type 0 where
+  pub width : ℕ
+  pub known : IsWidth width
+  pub bytes : List ℕ
+  pub told : drive.bytes ≡ Some bytes
+  pub recovers : Recovers width cells bytes
+  pub few : length cells ≤ most_inspected
 
 -- What the bytes of both files decide, unless memory ran out or a count rose: a fault that the first one's show is told; where they recover to
 -- cells, status 10 comes exactly where the second file has more than 17 bytes, and else status 0.
 pub record IsDecidedAnew {D : Type 0} (old new : BothTargets D) (status : ℕ) : Type 0 where
-  pub exact : (bytes : List ℕ) (fault : OpenFault) → old.to.drive.bytes ≡ Some bytes → IsInBytes fault → IsFault oldest_read width most_inspected bytes fault → (Rose old.to.drive.faults new.to.drive.faults → ⊥)
+  pub exact : (bytes : List ℕ) (fault : OpenFault) → old.to.drive.bytes ≡ Some bytes → IsInBytes fault → IsLogFault oldest_read most_inspected bytes fault → (Rose old.to.drive.faults new.to.drive.faults → ⊥)
       → Refuses (log_refusal fault) status old.to.output new.to.output ⊎ (status ≡ 9)
   pub recovers : status ≡ 10 → (bytes : List ℕ) → old.to.drive.bytes ≡ Some bytes → (cells : List Cell) × RecoversFew old.to.drive cells
   pub long : status ≡ 10 → (bytes : List ℕ) → old.other_drive.bytes ≡ Some bytes → 17 < length bytes

@@ -10,7 +10,6 @@ use Rattle.recovery.specs.declared.seen.InitFault.TheVariants as init_fault
 use Rattle.csv_rows.specs.declared.rows.Refusal.{Refusal}
 use Rattle.csv_rows.specs.declared.rows.Refusal.TheVariants as refusal
 use Rattle.csv_rows.specs.LogLines.{made_line}
-use Rattle.run_ends.specs.Limits.{width}
 use Rattle.io_edge.specs.Streams.{Output}
 use Rattle.run_ends.specs.Ends.{Ends, Targets, IsQuiet}
 use Rattle.run_ends.specs.Ending.{EndsWriting, EndsRefused}
@@ -29,8 +28,8 @@ IsMakingCause old new (refusal.InUse len) = (17 < len) × ((bytes : List ℕ) �
 IsMakingCause old new _ = ⊥
 
 -- how `init` ends
-abbrev pub MakesOrRefuses : Drive → Drive → ℕ → Output → Output → Type 0
-MakesOrRefuses old new status before after = (Makes width old new × EndsWriting made_line status before after) ⊎ EndsRefused (IsMakingCause old new) status before after
+abbrev pub MakesOrRefuses : ℕ → Drive → Drive → ℕ → Output → Output → Type 0
+MakesOrRefuses w old new status before after = (Makes w old new × EndsWriting made_line status before after) ⊎ EndsRefused (IsMakingCause old new) status before after
 
 -- At each moment a crash leaves a small file, if it did before, and a file that isn't small is left as it was.
 pub record LeavesFile (old new : Drive) : Type 0 where
@@ -38,10 +37,10 @@ pub record LeavesFile (old new : Drive) : Type 0 where
   pub in_use : (bytes : List ℕ) → old.bytes ≡ Some bytes → 17 < length bytes → Stays old new
   pub later : old.faults ≤ new.faults
 
--- A log of no cells was made and the line put, or the line of a refusal. Status 10 comes exactly where the file has more than 17 bytes, and a
+-- A log of no cells and of this width was made and the line put, or the line of a refusal. Status 10 comes exactly where the file has more than 17 bytes, and a
 -- smaller one is made a log, unless a count rose or memory ran out. A file in use is left as it was, whatever the answer is.
-pub record EndsMaking {D : Type 0} (file : List ℕ) (old new : Targets D) (status : ℕ) : Type 0 where
-  pub ends : MakesOrRefuses old.drive new.drive status old.output new.output
+pub record EndsMaking {D : Type 0} (file : List ℕ) (w : ℕ) (old new : Targets D) (status : ℕ) : Type 0 where
+  pub ends : MakesOrRefuses w old.drive new.drive status old.output new.output
   pub in_use : status ≡ 10 → (bytes : List ℕ) → old.drive.bytes ≡ Some bytes → 17 < length bytes
   pub exact : (bytes : List ℕ) → old.drive.bytes ≡ Some bytes → 17 < length bytes → (Rose old.drive.faults new.drive.faults → ⊥) → (status ≡ 10) ⊎ (status ≡ 9)
   pub whole : (bytes : List ℕ) → old.drive.bytes ≡ Some bytes → length bytes ≤ 17 → (Rose old.drive.faults new.drive.faults → ⊥) → (Rose old.output.faults new.output.faults → ⊥)
@@ -53,5 +52,5 @@ pub record EndsMaking {D : Type 0} (file : List ℕ) (old new : Targets D) (stat
   pub attached : AttachesOnce file true old.drive new.drive status
 
 -- what `init` promises
-abbrev pub Inits : {S D : Type 0} → List ℕ → Ends S D → Ends S D → ℕ → List Entry → Type 0
-Inits file old new status h = IsQuiet (EndsMaking file) old new status h
+abbrev pub Inits : {S D : Type 0} → List ℕ → ℕ → Ends S D → Ends S D → ℕ → List Entry → Type 0
+Inits file w old new status h = IsQuiet (EndsMaking file w) old new status h

@@ -2,17 +2,17 @@
 ghost use Rattle.std.specs.Prelude.{◌≡◌, ◌≤◌, [], IfOk, IfErr, MatchResult, length};
 ghost use Rattle.disk_trait.specs.Drive.{Stays};
 ghost use Rattle.recovery.specs.Found.{IsFound};
-ghost use Rattle.run_ends.specs.Limits.{width, oldest_read, most_inspected};
+ghost use Rattle.recovery.specs.Widths.{IsWidth};
+ghost use Rattle.run_ends.specs.Limits.{oldest_read, most_inspected};
 ghost use Rattle.run_ends.specs.Ends.{targets};
 ghost use Rattle.log_run.specs.Checking.{HasRead, HasReadUnless, IsCheckingCause, IsDecidedBy, EndsChecking, counts_of};
 
+use crate::reading::{Found, read_log};
 use csv_rows::{LogCounts, Refusal, write_counts};
 use disk_trait::LogDisk;
 use io_edge::Sink;
-use recovery::{Seen, inspect};
-use run_ends::{
-    Ended, MOST_INSPECTED, WIDTH, attach_refusal, log_refusal, put_refusal, without_rows, written,
-};
+use recovery::Seen;
+use run_ends::{Ended, attach_refusal, log_refusal, put_refusal, without_rows, written};
 use std::alloc::Global;
 
 /// Tells what the log in a file of this name says, of version 1 or 2.
@@ -31,14 +31,14 @@ fn tell_counts<K: Sink, D: LogDisk>(alloc: Global, file: &str, sink: &mut K, dis
     ensures ends { EndsChecking file.now (targets K.output D.drive sink.old disk.old) (targets K.output D.drive sink.new disk.new) result }
 {
     match find(alloc, file, disk) {
-        Ok(seen) => written(write_counts(sink, &counts_of(&seen))),
+        Ok(found) => written(write_counts(sink, &counts_of(&found.seen))),
         Err(why) => put_refusal(&why, sink),
     }
 }
 
-/// What the log in a file of this name says.
-pub(crate) fn find<D: LogDisk>(alloc: Global, file: &str, disk: &mut D) -> Result<Seen, Refusal>
-    ensures found { IfOk result (IsFound oldest_read width most_inspected (D.drive disk.old)) }
+/// What the log in a file of this name says, and its width.
+pub(crate) fn find<D: LogDisk>(alloc: Global, file: &str, disk: &mut D) -> Result<Found, Refusal>
+    ensures found { IfOk result (λ f. IsWidth f.width × IsFound oldest_read f.width most_inspected (D.drive disk.old) f.seen) }
     ensures cause { IfErr result (IsCheckingCause (D.drive disk.old) (D.drive disk.new)) }
     ensures decided { IsDecidedBy most_inspected (D.drive disk.old) (D.drive disk.new) result }
     ensures read { MatchResult result (λ _. HasRead file.now (D.drive disk.old) (D.drive disk.new))
@@ -49,8 +49,8 @@ pub(crate) fn find<D: LogDisk>(alloc: Global, file: &str, disk: &mut D) -> Resul
     if let Err(fault) = disk.attach(alloc, file, false) {
         return Err(attach_refusal(fault));
     }
-    match inspect(alloc, disk, WIDTH, MOST_INSPECTED) {
-        Ok(seen) => Ok(seen),
+    match read_log(alloc, disk) {
+        Ok(found) => Ok(found),
         Err(fault) => Err(log_refusal(fault)),
     }
 }

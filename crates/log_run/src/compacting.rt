@@ -2,21 +2,20 @@
 ghost use Rattle.std.specs.Prelude.{◌≡◌, ◌≢◌, ◌≤◌, [], true, IfOk, IfErr, MatchResult, length};
 ghost use Rattle.disk_trait.specs.Drive.{AttachedOne};
 ghost use Rattle.log_compact.specs.Fresh.{ComesBySplits};
-ghost use Rattle.run_ends.specs.Limits.{width, most_inspected};
+ghost use Rattle.recovery.specs.Widths.{IsWidth};
+ghost use Rattle.run_ends.specs.Limits.{most_inspected};
 ghost use Rattle.run_ends.specs.Status.{status_of};
 ghost use Rattle.run_ends.specs.Attaching.{AttachesOnce};
 ghost use Rattle.log_run.specs.Making.{IsMakingCause};
 ghost use Rattle.log_run.specs.Compacting.{EndsCompacting, EndsAnew, MakesAnew, LeavesNew, both_targets, compact_refusal, anew};
 
 use crate::checking::find;
+use crate::reading::Found;
 use csv_rows::{Refusal, write_compacted};
 use disk_trait::LogDisk;
 use io_edge::Sink;
 use log_compact::{CompactFault, CompactRefused, compact, count_fresh};
-use recovery::Seen;
-use run_ends::{
-    Ended, Unmade, WIDTH, attach_refusal, put_refusal, refuse_on, without_rows, written,
-};
+use run_ends::{Ended, Unmade, attach_refusal, put_refusal, refuse_on, without_rows, written};
 use std::alloc::Global;
 
 /// Writes what the log in a file says anew into a file of this name on the other drive, which is the one that comes back. Of the first drive it
@@ -34,7 +33,7 @@ pub fn compact_log<K: Sink, D: LogDisk>(
     ensures none { result.events ≡ [] }
 {
     match find(alloc, file, disk) {
-        Ok(seen) => write_anew(alloc, &seen, name, sink, other),
+        Ok(found) => write_anew(alloc, &found, name, sink, other),
         Err(why) => refuse_on(alloc, &why, sink, other),
     }
 }
@@ -42,19 +41,20 @@ pub fn compact_log<K: Sink, D: LogDisk>(
 // Writes what was found in a log, and how many cells that took.
 fn write_anew<K: Sink, D: LogDisk>(
     alloc: Global,
-    seen: &Seen,
+    found: &Found,
     name: &str,
     sink: &mut K,
     other: D,
 ) -> Ended<D>
-    requires splits { ComesBySplits width seen.now.leaves }
-    requires few { length (anew seen.now.world seen.now.leaves) ≤ most_inspected }
-    ensures ends { EndsAnew seen.now.world seen.now.leaves name.now (D.drive other) (D.drive result.disk) result.status (K.output sink.old) (K.output sink.new) }
+    requires width { IsWidth found.now.width }
+    requires splits { ComesBySplits found.now.width found.now.seen.leaves }
+    requires few { length (anew found.now.width found.now.seen.world found.now.seen.leaves) ≤ most_inspected }
+    ensures ends { EndsAnew found.now.width found.now.seen.world found.now.seen.leaves name.now (D.drive other) (D.drive result.disk) result.status (K.output sink.old) (K.output sink.new) }
     ensures none { result.events ≡ [] }
 {
-    match anew_in(alloc, seen, name, other) {
+    match anew_in(alloc, found, name, other) {
         Ok(other) => {
-            let count = count_fresh(seen, WIDTH);
+            let count = count_fresh(&found.seen, found.width);
             let status = written(write_compacted(sink, count));
             without_rows(alloc, status, other)
         }
@@ -62,22 +62,28 @@ fn write_anew<K: Sink, D: LogDisk>(
     }
 }
 
-fn anew_in<D: LogDisk>(alloc: Global, seen: &Seen, name: &str, mut other: D) -> Result<D, Unmade<D>>
-    requires splits { ComesBySplits width seen.now.leaves }
-    requires few { length (anew seen.now.world seen.now.leaves) ≤ most_inspected }
-    ensures made { IfOk result (λ new. MakesAnew seen.now.world seen.now.leaves (D.drive other) (D.drive new)) }
+fn anew_in<D: LogDisk>(
+    alloc: Global,
+    found: &Found,
+    name: &str,
+    mut other: D,
+) -> Result<D, Unmade<D>>
+    requires width { IsWidth found.now.width }
+    requires splits { ComesBySplits found.now.width found.now.seen.leaves }
+    requires few { length (anew found.now.width found.now.seen.world found.now.seen.leaves) ≤ most_inspected }
+    ensures made { IfOk result (λ new. MakesAnew found.now.width found.now.seen.world found.now.seen.leaves (D.drive other) (D.drive new)) }
     ensures cause { IfErr result (λ e. IsMakingCause (D.drive other) (D.drive e.disk) e.why) }
     ensures attached { MatchResult result (λ new. AttachedOne name.now true (D.drive other) (D.drive new))
         (λ e. AttachesOnce name.now true (D.drive other) (D.drive e.disk) (status_of e.why)) }
     ensures calm { IfErr result (λ e. status_of e.why ≢ 7 → (D.drive e.disk).faults ≡ (D.drive other).faults) }
-    ensures leaves { MatchResult result (λ new. LeavesNew (anew seen.now.world seen.now.leaves) (D.drive other) (D.drive new))
-        (λ e. LeavesNew (anew seen.now.world seen.now.leaves) (D.drive other) (D.drive e.disk)) }
+    ensures leaves { MatchResult result (λ new. LeavesNew found.now.width (anew found.now.width found.now.seen.world found.now.seen.leaves) (D.drive other) (D.drive new))
+        (λ e. LeavesNew found.now.width (anew found.now.width found.now.seen.world found.now.seen.leaves) (D.drive other) (D.drive e.disk)) }
 {
     if let Err(fault) = other.attach(alloc, name, true) {
         let why = attach_refusal(fault);
         return Err(Unmade { disk: other, why });
     }
-    match compact(seen, WIDTH, other) {
+    match compact(&found.seen, found.width, other) {
         Ok(other) => Ok(other),
         Err(CompactRefused { disk, cause }) => {
             let why = compact_refusal(cause);

@@ -11,6 +11,7 @@
 mod checking;
 mod compacting;
 mod making;
+mod reading;
 mod showing;
 
 pub use checking::check_log;

@@ -2,7 +2,7 @@
 ghost use Rattle.std.specs.Prelude.{◌≡◌, ◌≢◌, [], true, IfOk, IfErr, MatchResult};
 ghost use Rattle.disk_trait.specs.Drive.{AttachedOne};
 ghost use Rattle.recovery.specs.Making.{Makes};
-ghost use Rattle.run_ends.specs.Limits.{width};
+ghost use Rattle.recovery.specs.Widths.{IsWidth};
 ghost use Rattle.run_ends.specs.Ends.{targets};
 ghost use Rattle.run_ends.specs.Status.{status_of};
 ghost use Rattle.run_ends.specs.Attaching.{AttachesOnce};
@@ -12,16 +12,23 @@ use csv_rows::{Refusal, write_made};
 use disk_trait::LogDisk;
 use io_edge::Sink;
 use recovery::{InitFault, InitRefused, init};
-use run_ends::{Ended, Unmade, WIDTH, attach_refusal, refuse_on, without_rows, written};
+use run_ends::{Ended, Unmade, attach_refusal, refuse_on, without_rows, written};
 use std::alloc::Global;
 
-/// Makes a log in a file of this name, and says so.
-pub fn make_log<K: Sink, D: LogDisk>(alloc: Global, file: &str, sink: &mut K, disk: D) -> Ended<D>
-    ensures ends { EndsMaking file.now (targets K.output D.drive sink.old disk)
+/// Makes a log of this width in a file of this name, and says so.
+pub fn make_log<K: Sink, D: LogDisk>(
+    alloc: Global,
+    file: &str,
+    width: u8,
+    sink: &mut K,
+    disk: D,
+) -> Ended<D>
+    requires { IsWidth width }
+    ensures ends { EndsMaking file.now width (targets K.output D.drive sink.old disk)
         (targets K.output D.drive sink.new result.disk) result.status }
     ensures none { result.events ≡ [] }
 {
-    match make_in(alloc, file, disk) {
+    match make_in(alloc, file, width, disk) {
         Ok(disk) => {
             let status = written(write_made(sink));
             without_rows(alloc, status, disk)
@@ -30,7 +37,8 @@ pub fn make_log<K: Sink, D: LogDisk>(alloc: Global, file: &str, sink: &mut K, di
     }
 }
 
-fn make_in<D: LogDisk>(alloc: Global, file: &str, mut disk: D) -> Result<D, Unmade<D>>
+fn make_in<D: LogDisk>(alloc: Global, file: &str, width: u8, mut disk: D) -> Result<D, Unmade<D>>
+    requires { IsWidth width }
     ensures made { IfOk result (λ new. Makes width (D.drive disk) (D.drive new)) }
     ensures cause { IfErr result (λ e. IsMakingCause (D.drive disk) (D.drive e.disk) e.why) }
     ensures attached { MatchResult result (λ new. AttachedOne file.now true (D.drive disk) (D.drive new))
@@ -42,7 +50,7 @@ fn make_in<D: LogDisk>(alloc: Global, file: &str, mut disk: D) -> Result<D, Unma
         let why = attach_refusal(fault);
         return Err(Unmade { disk, why });
     }
-    match init(disk, WIDTH) {
+    match init(disk, width) {
         Ok(disk) => Ok(disk),
         Err(InitRefused { disk, cause }) => {
             let why = making_refusal(cause);

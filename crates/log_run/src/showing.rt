@@ -40,7 +40,7 @@ fn tell_objects<K: Sink, D: LogDisk>(
         (targets K.output D.drive sink.new disk.new) result }
 {
     match find(alloc, file, disk) {
-        Ok(seen) => written(write_objects(sink, seen.world.as_slice(), region)),
+        Ok(found) => written(write_objects(sink, found.seen.world.as_slice(), region)),
         Err(why) => put_refusal(&why, sink),
     }
 }

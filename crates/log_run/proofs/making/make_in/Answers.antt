@@ -5,7 +5,7 @@ use Rattle.log_run.proofs.DriveSteps.{makes-after, leaves-attached, leaves-made,
 use Rattle.log_run.proofs.making.make_in.Goals as goal
 
 pub returns-in-Ok-clause-made : goal.returns-in-Ok-clause-made
-returns-in-Ok-clause-made g c = makes-after (g.D.LogDisk.drive c.args.disk) (g.D.LogDisk.drive c.attach.new.self) (g.D.LogDisk.drive c.in-Ok.disk) c.in_default.ensures.stays c.in_default.ensures.cause.same c.in-Ok.ensures.made
+returns-in-Ok-clause-made g c = makes-after c.args.width (g.D.LogDisk.drive c.args.disk) (g.D.LogDisk.drive c.attach.new.self) (g.D.LogDisk.drive c.in-Ok.disk) c.in_default.ensures.stays c.in_default.ensures.cause.same c.in-Ok.ensures.made
 
 pub returns-in-Ok-clause-attached : goal.returns-in-Ok-clause-attached
 returns-in-Ok-clause-attached g c = attached-still c.args.file.now true (g.D.LogDisk.drive c.args.disk) (g.D.LogDisk.drive c.attach.new.self) (g.D.LogDisk.drive c.in-Ok.disk) c.in_default.ensures.cause.named c.in-Ok.ensures.small.file

@@ -7,7 +7,7 @@ returns-in-Ok-clause-ends g c =
     let at = targets g.K.Sink.output g.D.LogDisk.drive in
     rw c.without_rows.ensures
     (rw c.written-status.ensures
-    (ends-made c.args.file.now (at c.args.sink.now c.args.disk) (at c.write_made.new.sink c.in-Ok.disk) c.write_made.result c.write_made.ensures.bytes c.write_made.ensures.cause c.in-Ok.ensures.made c.in-Ok.ensures.attached
+    (ends-made c.args.file.now c.args.width (at c.args.sink.now c.args.disk) (at c.write_made.new.sink c.in-Ok.disk) c.write_made.result c.write_made.ensures.bytes c.write_made.ensures.cause c.in-Ok.ensures.made c.in-Ok.ensures.attached
     c.in-Ok.ensures.leaves))
 
 pub returns-in-Err-clause-ends : goal.returns-in-Err-clause-ends
@@ -16,5 +16,5 @@ returns-in-Err-clause-ends g c =
     let unmade = c.in-Err.field-0 in
     let told = c.refuse_on.ensures in
     rw told.disk
-    (ends-unmade c.args.file.now (at c.args.sink.now c.args.disk) (at c.refuse_on.new.sink unmade.disk) unmade.why c.refuse_on.result.status told.refused c.in-Err.ensures.cause c.in-Err.ensures.attached c.in-Err.ensures.calm
+    (ends-unmade c.args.file.now c.args.width (at c.args.sink.now c.args.disk) (at c.refuse_on.new.sink unmade.disk) unmade.why c.refuse_on.result.status told.refused c.in-Err.ensures.cause c.in-Err.ensures.attached c.in-Err.ensures.calm
     c.in-Err.ensures.leaves)
