@@ -16,28 +16,27 @@ use Rattle.kept_log.specs.KeptView.{KeptView}
 use Rattle.kept_log.specs.Journal.{KeepsLog}
 use Rattle.kept_log.proofs.Starting.{starts-settled}
 use Rattle.kept_log.proofs.InJournal.{failed_cells-none}
-use Rattle.run_ends.specs.Limits.{width}
 use Rattle.play_run.specs.Origin.{Origin, IsFoundOrigin}
 use Rattle.play_run.specs.Crash.{RecoversToPrefix, KeepsAll, KeepsPlayed}
 
 -- an image of legal cells has leaves that tile
-to-prefix : (first : List Cell) (world : World) (h : List Entry) (image : List ℕ) → IsPrefixRecovered width first world h image → RecoversToPrefix width first world h image
-to-prefix first world h image (m, recovers) = (m, record { recovers = recovers; tile = leaves_tile width (first ++ take m (cells_of world h ++ failed_cells h)) recovers.legal })
+to-prefix : (w : ℕ) (first : List Cell) (world : World) (h : List Entry) (image : List ℕ) → IsPrefixRecovered w first world h image → RecoversToPrefix w first world h image
+to-prefix w first world h image (m, recovers) = (m, record { recovers = recovers; tile = leaves_tile w (first ++ take m (cells_of world h ++ failed_cells h)) recovers.legal })
 
 -- without a failed append all cells are those of the history
-all-placed : (first : List Cell) (world : World) (h : List Entry) (image : List ℕ) → failed_cell h ≡ None
-    → Recovers width (first ++ cells_of world h) image ⊎ Recovers width (first ++ (cells_of world h ++ failed_cells h)) image → Recovers width (first ++ cells_of world h) image
-all-placed first world h image none (inl all) = all
-all-placed first world h image none (inr more) =
-    subst (λ (l : List Cell). Recovers width (first ++ l) image) (ap (λ (l : List Cell). cells_of world h ++ l) (failed_cells-none h none) ∙ append-nil (cells_of world h)) more
+all-placed : (w : ℕ) (first : List Cell) (world : World) (h : List Entry) (image : List ℕ) → failed_cell h ≡ None
+    → Recovers w (first ++ cells_of world h) image ⊎ Recovers w (first ++ (cells_of world h ++ failed_cells h)) image → Recovers w (first ++ cells_of world h) image
+all-placed w first world h image none (inl all) = all
+all-placed w first world h image none (inr more) =
+    subst (λ (l : List Cell). Recovers w (first ++ l) image) (ap (λ (l : List Cell). cells_of world h ++ l) (failed_cells-none h none) ∙ append-nil (cells_of world h)) more
 
 -- what a log keeps of a history, at the drive on which it was opened
-kept-all : (first : List Cell) (world : World) (h : List Entry) (old start now : Drive) (failed : Option ℕ) (status : ℕ) → start.clock ≡ old.clock → KeepsHistory width first world h start.clock now failed
-    → (status ≢ 7 → failed_cell h ≡ None) → KeepsAll width first world h old now status
-kept-all first world h old start now failed status clock kept going = record {
-  any_moment = λ c left. to-prefix first world h c (kept.any_moment c (subst (λ (t : ℕ). now.since t c) (sym clock) left));
+kept-all : (w : ℕ) (first : List Cell) (world : World) (h : List Entry) (old start now : Drive) (failed : Option ℕ) (status : ℕ) → start.clock ≡ old.clock → KeepsHistory w first world h start.clock now failed
+    → (status ≢ 7 → failed_cell h ≡ None) → KeepsAll w first world h old now status
+kept-all w first world h old start now failed status clock kept going = record {
+  any_moment = λ c left. to-prefix w first world h c (kept.any_moment c (subst (λ (t : ℕ). now.since t c) (sym clock) left));
   at_end = kept.at_end;
-  all = λ whole c left. all-placed first world h c (going whole) (kept.at_end c left);
+  all = λ whole c left. all-placed w first world h c (going whole) (kept.at_end c left);
 }
 
 -- a drive on which nothing is pending goes on so
@@ -45,20 +44,20 @@ settled-stays : (a b : Drive) → Stays a b → IsSynced a → IsSynced b
 settled-stays a b stays settled xs told c left = settled xs (sym stays.bytes ∙ told) c (stays.images c left)
 
 -- the cells of an origin over a log are those that its drive's bytes recover to
-first-recovers : (old : Drive) (from : Origin) (bytes : List ℕ) (first : List Cell) → IsFoundOrigin old from → old.bytes ≡ Some bytes → from.first ≡ Some first → Recovers width first bytes
+first-recovers : (old : Drive) (from : Origin) (bytes : List ℕ) (first : List Cell) → IsFoundOrigin old from → old.bytes ≡ Some bytes → from.first ≡ Some first → Recovers from.width first bytes
 first-recovers old from bytes first found told is =
     let same : Some first ≡ Some found.first = sym is ∙ ap (λ (o : Origin). o.first) found.origin_is in
-    subst (λ (l : List Cell). Recovers width l bytes) (sym (same_Some first found.first same)) (found.recovers bytes told)
+    subst (λ (w : ℕ). Recovers w first bytes) (ap (λ (o : Origin). o.width) (sym found.origin_is))
+    (subst (λ (l : List Cell). Recovers found.width l bytes) (sym (same_Some first found.first same)) (found.recovers bytes told))
 
 module _ {D : Type 0} (drive : D → Drive) (old : Drive) (log : KeptView D) (from : Origin) (s : State) (h : List Entry) (status : ℕ) (here : Stays old (drive log.start))
-    (kept : KeepsLog drive width s h log) (going : status ≢ 7 → failed_cell h ≡ None) (found : IsFoundOrigin old from) (state : s ≡ from.state) where
+    (kept : KeepsLog drive from.width s h log) (going : status ≢ 7 → failed_cell h ≡ None) (found : IsFoundOrigin old from) (state : s ≡ from.state) where
   -- the log of a book that was opened
   pub keeps-opened : KeepsPlayed from old (drive log.disk) status h
   keeps-opened bytes first told is settled =
-      let recovers : Recovers width first bytes = first-recovers old from bytes first found told is in
-      let start = starts-settled width first (drive log.start) bytes (settled-stays old (drive log.start) here settled) (here.bytes ∙ told) recovers in
+      let w : ℕ = from.width in
+      let recovers : Recovers w first bytes = first-recovers old from bytes first found told is in
+      let start = starts-settled w first (drive log.start) bytes (settled-stays old (drive log.start) here settled) (here.bytes ∙ told) recovers in
       let behind = kept.keeps.since first start in
-      let all : KeepsAll width first s.world h old (drive log.disk) status = kept-all first s.world h old (drive log.start) (drive log.disk) log.failed status here.clock behind.history going in
-      let at : width ≡ from.width = ap (λ (o : Origin). o.width) (sym found.origin_is) in
-      subst (λ (w : ℕ). KeepsAll w first from.state.world h old (drive log.disk) status) at
-      (subst (λ (o : State). KeepsAll width first o.world h old (drive log.disk) status) state all)
+      let all : KeepsAll w first s.world h old (drive log.disk) status = kept-all w first s.world h old (drive log.start) (drive log.disk) log.failed status here.clock behind.history going in
+      subst (λ (o : State). KeepsAll w first o.world h old (drive log.disk) status) state all

@@ -14,10 +14,9 @@ use Rattle.commit_book.specs.BookView.{BookView}
 use Rattle.kept_log.specs.Counts.{first_in, count_after}
 use Rattle.csv_rows.specs.declared.rows.InRow.{InRow}
 use Rattle.csv_rows.specs.declared.rows.Refusal.{Refusal}
-use Rattle.run_ends.specs.Limits.{width}
 use Rattle.io_edge.specs.Streams.{Output}
 use Rattle.run_ends.specs.Status.{status_of, WritesLines}
-use Rattle.play_run.specs.Origin.{Origin, IsFoundOrigin, new_origin}
+use Rattle.play_run.specs.Origin.{Origin, new_origin}
 use Rattle.log_state.specs.Changes.{cells_of}
 use Rattle.lane_splits.specs.Settled.{SplitsAreDone, IsWithinLimits}
 use Rattle.play_run.specs.Crash.{KeepsPlayed}
@@ -33,18 +32,18 @@ use Rattle.play_run.specs.inside.Ended.{EndsBook}
 use Rattle.play_run.proofs.CrashFacts.{keeps-opened}
 
 -- the log of a book, as it is left
-pub record KeptSince {D : Type 0} (drive : D → Drive) (s : State) (h : List Entry) (opened : KeptView D) (disk : D) : Type 0 where
+pub record KeptSince {D : Type 0} (drive : D → Drive) (w : ℕ) (s : State) (h : List Entry) (opened : KeptView D) (disk : D) : Type 0 where
   pub now : KeptView D
   pub like : IsLike (drive opened.start) (drive now.start)
   pub first : now.first ≡ opened.first
-  pub keeps : KeepsLog drive width s h now
+  pub keeps : KeepsLog drive w s h now
   pub disk_is : now.disk ≡ disk
 
-since-in : {D : Type 0} (drive : D → Drive) (s : State) (h : List Entry) (opened : KeptView D) (disk : D) (old new : Option (KeptView D)) → old ≡ Some opened → BeginsAs drive old new → first_in new ≡ first_in old → KeepsIn drive width s h new
-    → Some disk ≡ disk_in new → KeptSince drive s h opened disk
-since-in drive s h opened disk None new is begins first keeps told = absurd (cc is)
-since-in drive s h opened disk (Some old) None is begins first keeps told = absurd begins
-since-in {D} drive s h opened disk (Some old) (Some new) is begins first keeps told = record {
+since-in : {D : Type 0} (drive : D → Drive) (w : ℕ) (s : State) (h : List Entry) (opened : KeptView D) (disk : D) (old new : Option (KeptView D)) → old ≡ Some opened → BeginsAs drive old new → first_in new ≡ first_in old → KeepsIn drive w s h new
+    → Some disk ≡ disk_in new → KeptSince drive w s h opened disk
+since-in drive w s h opened disk None new is begins first keeps told = absurd (cc is)
+since-in drive w s h opened disk (Some old) None is begins first keeps told = absurd begins
+since-in {D} drive w s h opened disk (Some old) (Some new) is begins first keeps told = record {
   now = new;
   like = subst (λ (v : KeptView D). IsLike (drive v.start) (drive new.start)) (same_Some old opened is) begins;
   first = same_Some new.first old.first first ∙ ap (λ (v : KeptView D). v.first) (same_Some old opened is);
@@ -52,28 +51,28 @@ since-in {D} drive s h opened disk (Some old) (Some new) is begins first keeps t
   disk_is = sym (same_Some disk new.disk told);
 }
 
-pub kept-since : {D : Type 0} (drive : D → Drive) (s : State) (h : List Entry) (opened : KeptView D) (disk : D) (log : Option (KeptView D)) → log ≡ Some opened → LeavesLog drive s h log (Some disk) → KeptSince drive s h opened disk
-kept-since drive s h opened disk log is leaves = since-in drive s h opened disk log leaves.log is leaves.begins leaves.first leaves.keeps leaves.disk_is
+pub kept-since : {D : Type 0} (drive : D → Drive) (w : ℕ) (s : State) (h : List Entry) (opened : KeptView D) (disk : D) (log : Option (KeptView D)) → log ≡ Some opened → LeavesLog drive w s h log (Some disk) → KeptSince drive w s h opened disk
+kept-since drive w s h opened disk log is leaves = since-in drive w s h opened disk log leaves.log is leaves.begins leaves.first leaves.keeps leaves.disk_is
 
 -- what a history that ends with a failed append names
 loses-cell : (Step : List Entry → Lost → Type 0) (h : List Entry) (cell : ℕ) → LosesStep Step h cell → failed_cell h ≡ Some cell
 loses-cell Step h cell loses = ap failed_cell loses.entries ∙ failed_cell-last loses.before cell loses.lost (has_failed-none loses.before loses.going)
 
 -- a failed append raised the count
-pub log-stop : {D : Type 0} (drive : D → Drive) (file : List ℕ) (rows : List InRow) (old : Drive) (size : ℕ) (b : BookView D) (h : List Entry) (disk : D) (opens : OpensBook drive file old size b) → LeavesLog drive b.opening h b.log (Some disk)
-    → (why : Refusal) → StopsBook (IsNextStep width b.opening rows) h why → IsStop (Some file) opens.from rows old (drive disk) h why
-log-stop drive file rows old size b h disk opens leaves why (inl (memory, none)) = subst (IsStop (Some file) opens.from rows old (drive disk) h) (sym memory) none
-log-stop {D = D} drive file rows old size b h disk opens leaves why (inr (cell, is, loses)) =
-    let kept = kept-since drive b.opening h opens.log disk b.log opens.log_is leaves in
-    let rose = kept.keeps.rose (ap is_some (loses-cell (IsNextStep width b.opening rows) h cell loses)) in
+pub log-stop : {D : Type 0} (drive : D → Drive) (file : List ℕ) (rows : List InRow) (old : Drive) (w size : ℕ) (b : BookView D) (h : List Entry) (disk : D) (opens : OpensBook drive file old w size b) → LeavesLog drive w b.opening h b.log (Some disk)
+    → (why : Refusal) → StopsBook (IsNextStep w b.opening rows) h why → IsStop (Some file) opens.from rows old (drive disk) h why
+log-stop drive file rows old w size b h disk opens leaves why (inl (memory, none)) = subst (IsStop (Some file) opens.from rows old (drive disk) h) (sym memory) none
+log-stop {D = D} drive file rows old w size b h disk opens leaves why (inr (cell, is, loses)) =
+    let kept = kept-since drive w b.opening h opens.log disk b.log opens.log_is leaves in
+    let rose = kept.keeps.rose (ap is_some (loses-cell (IsNextStep w b.opening rows) h cell loses)) in
     let calm : (drive kept.now.start).faults ≡ old.faults = kept.like.calm ∙ opens.calm in
     let before : old.faults ≤ (drive kept.now.start).faults = omega (arith, calm) in
     let risen : Rose old.faults (drive disk).faults =
     subst (λ (d : D). Rose old.faults (drive d).faults) kept.disk_is (rose-earlier old.faults (drive kept.now.start).faults (drive kept.now.disk).faults before rose) in
     let from : LosesStep (IsNextStep opens.from.width opens.from.state rows) h cell =
-    subst (λ (w : ℕ). LosesStep (IsNextStep w opens.from.state rows) h cell) (ap (λ (o : Origin). o.width) (sym opens.found.origin_is))
-    (subst (λ (o : State). LosesStep (IsNextStep width o rows) h cell) opens.state loses) in
-    let named : cell ≡ kept.now.cells = kept.keeps.named cell (loses-cell (IsNextStep width b.opening rows) h cell loses) in
+    subst (λ (v : ℕ). LosesStep (IsNextStep v opens.from.state rows) h cell) (sym opens.width)
+    (subst (λ (o : State). LosesStep (IsNextStep w o rows) h cell) opens.state loses) in
+    let named : cell ≡ kept.now.cells = kept.keeps.named cell (loses-cell (IsNextStep w b.opening rows) h cell loses) in
     let count : kept.now.cells ≡ opens.log.first + length (cells_of b.opening.world h) = omega (arith, kept.keeps.keeps.count, kept.first) in
     let cells : Some opens.log.first ≡ option_map length opens.from.first = sym (ap (λ (l : Option (KeptView D)). first_in l) opens.log_is) ∙ opens.count in
     let at : opens.log.first + length (cells_of b.opening.world h) ≡ count_after (option_map length opens.from.first) opens.from.state.world h =
@@ -84,16 +83,16 @@ none-some : (n : ℕ) → None ≡ Some n → ⊥
 none-some n e = cc e
 
 -- without a log no append fails
-none-failed : {D : Type 0} (drive : D → Drive) (s : State) (h : List Entry) (old new : Option (KeptView D)) → old ≡ None → BeginsAs drive old new → KeepsIn drive width s h new → failed_cell h ≡ None
-none-failed drive s h None None is begins keeps = keeps
-none-failed drive s h None (Some new) is begins keeps = absurd begins
-none-failed drive s h (Some old) new is begins keeps = absurd (cc is)
+none-failed : {D : Type 0} (drive : D → Drive) (w : ℕ) (s : State) (h : List Entry) (old new : Option (KeptView D)) → old ≡ None → BeginsAs drive old new → KeepsIn drive w s h new → failed_cell h ≡ None
+none-failed drive w s h None None is begins keeps = keeps
+none-failed drive w s h None (Some new) is begins keeps = absurd begins
+none-failed drive w s h (Some old) new is begins keeps = absurd (cc is)
 
-pub new-stop : {D : Type 0} (drive : D → Drive) (Step : List Entry → Lost → Type 0) (from : Origin) (rows : List InRow) (was now : Drive) (s : State) (h : List Entry) (log : Option (KeptView D)) (disk : Option D) → log ≡ None
-    → LeavesLog drive s h log disk → (why : Refusal) → StopsBook Step h why → IsStop None from rows was now h why
-new-stop drive Step from rows was now s h log disk is leaves why (inl (memory, none)) = subst (IsStop None from rows was now h) (sym memory) none
-new-stop drive Step from rows was now s h log disk is leaves why (inr (cell, named, loses)) =
-    absurd (none-some cell (sym (none-failed drive s h log leaves.log is leaves.begins leaves.keeps) ∙ loses-cell Step h cell loses))
+pub new-stop : {D : Type 0} (drive : D → Drive) (w : ℕ) (Step : List Entry → Lost → Type 0) (from : Origin) (rows : List InRow) (was now : Drive) (s : State) (h : List Entry) (log : Option (KeptView D)) (disk : Option D) → log ≡ None
+    → LeavesLog drive w s h log disk → (why : Refusal) → StopsBook Step h why → IsStop None from rows was now h why
+new-stop drive w Step from rows was now s h log disk is leaves why (inl (memory, none)) = subst (IsStop None from rows was now h) (sym memory) none
+new-stop drive w Step from rows was now s h log disk is leaves why (inr (cell, named, loses)) =
+    absurd (none-some cell (sym (none-failed drive w s h log leaves.log is leaves.begins leaves.keeps) ∙ loses-cell Step h cell loses))
 
 -- what a weaker cause gives
 pub ends-weaker : (P Q : Refusal → Type 0) (status : ℕ) (before after : Output) → ((why : Refusal) → P why → Q why) → EndsRows P status before after → EndsRows Q status before after
@@ -109,34 +108,34 @@ unfailed Step h status before after (inr (inr (why, inl (memory, none), refuses)
 unfailed Step h status before after (inr (inr (why, inr (cell, named, failed), refuses))) going other = absurd (other (refuses.status_is ∙ ap status_of named))
 
 -- what a crash leaves of the log of a book
-pub keeps-book : {D : Type 0} (drive : D → Drive) (file : List ℕ) (Step : List Entry → Lost → Type 0) (old : Drive) (size : ℕ) (b : BookView D) (h : List Entry) (disk : D) (status : ℕ) (before after : Output) (opens : OpensBook drive file old size b)
-    → LeavesLog drive b.opening h b.log (Some disk) → EndsRows (StopsBook Step h) status before after → (WritesLines status → failed_cell h ≡ None) → KeepsPlayed opens.from old (drive disk) status h
-keeps-book {D = D} drive file Step old size b h disk status before after opens leaves ends going =
-    let kept = kept-since drive b.opening h opens.log disk b.log opens.log_is leaves in
+pub keeps-book : {D : Type 0} (drive : D → Drive) (file : List ℕ) (Step : List Entry → Lost → Type 0) (old : Drive) (w size : ℕ) (b : BookView D) (h : List Entry) (disk : D) (status : ℕ) (before after : Output) (opens : OpensBook drive file old w size b)
+    → LeavesLog drive w b.opening h b.log (Some disk) → EndsRows (StopsBook Step h) status before after → (WritesLines status → failed_cell h ≡ None) → KeepsPlayed opens.from old (drive disk) status h
+keeps-book {D = D} drive file Step old w size b h disk status before after opens leaves ends going =
+    let kept = kept-since drive w b.opening h opens.log disk b.log opens.log_is leaves in
     subst (λ (d : D). KeepsPlayed opens.from old (drive d) status h) kept.disk_is
-    (keeps-opened drive old kept.now opens.from b.opening h status (stays-trans old (drive opens.log.start) (drive kept.now.start) opens.stays kept.like.stays) kept.keeps (unfailed Step h status before after ends going) opens.found opens.state)
+    (keeps-opened drive old kept.now opens.from b.opening h status (stays-trans old (drive opens.log.start) (drive kept.now.start) opens.stays kept.like.stays) (subst (λ (v : ℕ). KeepsLog drive v b.opening h kept.now) (sym opens.width) kept.keeps) (unfailed Step h status before after ends going) opens.found opens.state)
 
 -- where no append failed no device call did
-calm-book : {D : Type 0} (drive : D → Drive) (file : List ℕ) (old : Drive) (size : ℕ) (b : BookView D) (h : List Entry) (disk : D) → OpensBook drive file old size b → LeavesLog drive b.opening h b.log (Some disk)
+calm-book : {D : Type 0} (drive : D → Drive) (file : List ℕ) (old : Drive) (w size : ℕ) (b : BookView D) (h : List Entry) (disk : D) → OpensBook drive file old w size b → LeavesLog drive w b.opening h b.log (Some disk)
     → failed_cell h ≡ None → (drive disk).faults ≡ old.faults
-calm-book {D = D} drive file old size b h disk opens leaves none =
-    let kept = kept-since drive b.opening h opens.log disk b.log opens.log_is leaves in
+calm-book {D = D} drive file old w size b h disk opens leaves none =
+    let kept = kept-since drive w b.opening h opens.log disk b.log opens.log_is leaves in
     subst (λ (d : D). (drive d).faults ≡ old.faults) kept.disk_is (kept.keeps.calm none ∙ kept.like.calm ∙ opens.calm)
 
 -- the file stays attached
-attached-book : {D : Type 0} (drive : D → Drive) (file : List ℕ) (old : Drive) (size : ℕ) (b : BookView D) (h : List Entry) (disk : D) → OpensBook drive file old size b → LeavesLog drive b.opening h b.log (Some disk)
+attached-book : {D : Type 0} (drive : D → Drive) (file : List ℕ) (old : Drive) (w size : ℕ) (b : BookView D) (h : List Entry) (disk : D) → OpensBook drive file old w size b → LeavesLog drive w b.opening h b.log (Some disk)
     → AttachedOne file false old (drive disk)
-attached-book {D = D} drive file old size b h disk opens leaves =
-    let kept = kept-since drive b.opening h opens.log disk b.log opens.log_is leaves in
+attached-book {D = D} drive file old w size b h disk opens leaves =
+    let kept = kept-since drive w b.opening h opens.log disk b.log opens.log_is leaves in
     subst (λ (d : D). AttachedOne file false old (drive d)) kept.disk_is
     (attached-still file false old (drive opens.log.start) (drive kept.now.disk) opens.attached (λ all told. kept.like.file all (kept.keeps.file all told)))
 
 -- answers and splits from an origin
-list-from : (report : Report) (old : Drive) (from : Origin) (s : State) (rows : List InRow) (h : List Entry) (status : ℕ) (before after : Output) → IsFoundOrigin old from → s ≡ from.state → AnswersAsOneList report width s rows h status before after
+list-from : (report : Report) (w : ℕ) (from : Origin) (s : State) (rows : List InRow) (h : List Entry) (status : ℕ) (before after : Output) → from.width ≡ w → s ≡ from.state → AnswersAsOneList report w s rows h status before after
     → AnswersAsOneList report from.width from.state rows h status before after
-list-from report old from s rows h status before after found state list =
-    subst (λ (w : ℕ). AnswersAsOneList report w from.state rows h status before after) (ap (λ (o : Origin). o.width) (sym found.origin_is))
-    (subst (λ (o : State). AnswersAsOneList report width o rows h status before after) state list)
+list-from report w from s rows h status before after width state list =
+    subst (λ (v : ℕ). AnswersAsOneList report v from.state rows h status before after) (sym width)
+    (subst (λ (o : State). AnswersAsOneList report w o rows h status before after) state list)
 
 -- what is said of splits from where a book begins is said from the origin
 moved : (P : ℕ → ℕ → State → Option ℕ → Type 0) (w v bucket size : ℕ) (s t : State) (first cells : Option ℕ) → w ≡ v → bucket ≡ size → s ≡ t → first ≡ cells → P w bucket s first → P v size t cells
@@ -145,39 +144,39 @@ moved P w v bucket size s t first cells width sized state count holds =
     (subst (λ (o : State). P w size o cells) state (subst (λ (n : ℕ). P w n s cells) sized (subst (λ (c : Option ℕ). P w bucket s c) count holds)))
 
 -- rows that were answered over a log
-pub answered-over : {D : Type 0} (drive : D → Drive) (report : Report) (file : List ℕ) (size : ℕ) (rows : List InRow) (b : BookView D) (was disk : D) (before after : Output) (status : ℕ) (h : List Entry) → OpensBook drive file (drive was) size b
-    → EndsBook drive report rows b h status (Some disk) before after
+pub answered-over : {D : Type 0} (drive : D → Drive) (report : Report) (file : List ℕ) (w size : ℕ) (rows : List InRow) (b : BookView D) (was disk : D) (before after : Output) (status : ℕ) (h : List Entry) → OpensBook drive file (drive was) w size b
+    → EndsBook drive w report rows b h status (Some disk) before after
     → IsAnswered {D = D} report (Some file) size rows (record { output = before; disk = was; drive = drive was }) (record { output = after; disk = disk; drive = drive disk }) status h
-answered-over drive report file size rows b was disk before after status h opens ended = record {
+answered-over drive report file w size rows b was disk before after status h opens ended = record {
   from = opens.from;
   begins = opens.found;
   book = opens.shows;
-  one_list = list-from report (drive was) opens.from b.opening rows h status before after opens.found opens.state ended.one_list;
-  ends = ends-weaker (StopsBook (IsNextStep width b.opening rows) h) (IsStop (Some file) opens.from rows (drive was) (drive disk) h) status before after (log-stop drive file rows (drive was) size b h disk opens ended.log) ended.ends;
+  one_list = list-from report w opens.from b.opening rows h status before after opens.width opens.state ended.one_list;
+  ends = ends-weaker (StopsBook (IsNextStep w b.opening rows) h) (IsStop (Some file) opens.from rows (drive was) (drive disk) h) status before after (log-stop drive file rows (drive was) w size b h disk opens ended.log) ended.ends;
   splits = λ writes.
-      moved (λ w n s first. SplitsAreDone w n s first h) width opens.from.width b.bucket size b.opening opens.from.state (first_in b.log) (option_map length opens.from.first) (ap (λ (o : Origin). o.width) (sym opens.found.origin_is))
+      moved (λ v n s first. SplitsAreDone v n s first h) w opens.from.width b.bucket size b.opening opens.from.state (first_in b.log) (option_map length opens.from.first) (sym opens.width)
       opens.bucket opens.state opens.count (ended.splits writes);
   limits =
-      moved (λ w n s first. IsWithinLimits w n s first rows h) width opens.from.width b.bucket size b.opening opens.from.state (first_in b.log) (option_map length opens.from.first) (ap (λ (o : Origin). o.width) (sym opens.found.origin_is))
+      moved (λ v n s first. IsWithinLimits v n s first rows h) w opens.from.width b.bucket size b.opening opens.from.state (first_in b.log) (option_map length opens.from.first) (sym opens.width)
       opens.bucket opens.state opens.count ended.limits;
-  crash = keeps-book drive file (IsNextStep width b.opening rows) (drive was) size b h disk status before after opens ended.log ended.ends (λ writes. (ended.splits writes).going);
-  calm = λ other. calm-book drive file (drive was) size b h disk opens ended.log (unfailed (IsNextStep width b.opening rows) h status before after ended.ends (λ writes. (ended.splits writes).going) other);
-  attached = attached-book drive file (drive was) size b h disk opens ended.log;
+  crash = keeps-book drive file (IsNextStep w b.opening rows) (drive was) w size b h disk status before after opens ended.log ended.ends (λ writes. (ended.splits writes).going);
+  calm = λ other. calm-book drive file (drive was) w size b h disk opens ended.log (unfailed (IsNextStep w b.opening rows) h status before after ended.ends (λ writes. (ended.splits writes).going) other);
+  attached = attached-book drive file (drive was) w size b h disk opens ended.log;
 }
 
 -- rows that were answered over no log
 pub answered-new : {D : Type 0} (drive : D → Drive) (report : Report) (size : ℕ) (rows : List InRow) (b : BookView D) (was : D) (left : Option D) (before after : Output) (status : ℕ) (h : List Entry) → b.opening ≡ empty_state → b.bucket ≡ size → b.log ≡ None
-    → EndsBook drive report rows b h status left before after
+    → EndsBook drive 1 report rows b h status left before after
     → IsAnswered {D = D} report None size rows (record { output = before; disk = was; drive = drive was }) (record { output = after; disk = was; drive = drive was }) status h
 answered-new {D = D} drive report size rows b was left before after status h opening bucket none ended = record {
   from = new_origin;
   begins = refl;
   book = refl;
-  one_list = subst (λ (o : State). AnswersAsOneList report width o rows h status before after) opening ended.one_list;
-  ends = ends-weaker (StopsBook (IsNextStep width b.opening rows) h) (IsStop None new_origin rows (drive was) (drive was) h) status before after (new-stop drive (IsNextStep width b.opening rows) new_origin rows (drive was) (drive was) b.opening h b.log left none ended.log) ended.ends;
+  one_list = subst (λ (o : State). AnswersAsOneList report 1 o rows h status before after) opening ended.one_list;
+  ends = ends-weaker (StopsBook (IsNextStep 1 b.opening rows) h) (IsStop None new_origin rows (drive was) (drive was) h) status before after (new-stop drive 1 (IsNextStep 1 b.opening rows) new_origin rows (drive was) (drive was) b.opening h b.log left none ended.log) ended.ends;
   splits = λ writes.
-      moved (λ w n s first. SplitsAreDone w n s first h) width width b.bucket size b.opening empty_state (first_in b.log) None refl bucket opening (ap (λ (l : Option (KeptView D)). first_in l) none) (ended.splits writes);
-  limits = moved (λ w n s first. IsWithinLimits w n s first rows h) width width b.bucket size b.opening empty_state (first_in b.log) None refl bucket opening (ap (λ (l : Option (KeptView D)). first_in l) none) ended.limits;
+      moved (λ v n s first. SplitsAreDone v n s first h) 1 1 b.bucket size b.opening empty_state (first_in b.log) None refl bucket opening (ap (λ (l : Option (KeptView D)). first_in l) none) (ended.splits writes);
+  limits = moved (λ v n s first. IsWithinLimits v n s first rows h) 1 1 b.bucket size b.opening empty_state (first_in b.log) None refl bucket opening (ap (λ (l : Option (KeptView D)). first_in l) none) ended.limits;
   crash = λ bytes first told is settled. absurd (cc is);
   calm = λ other. refl;
   attached = tt;

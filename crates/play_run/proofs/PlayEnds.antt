@@ -22,7 +22,6 @@ use Rattle.io_edge.specs.Puts.{Puts}
 use Rattle.lane_history.specs.LostSteps.{IsNextStep}
 use Rattle.kept_log.specs.Counts.{first_in}
 use Rattle.lane_splits.specs.Settled.{SplitsAreDone}
-use Rattle.run_ends.specs.Limits.{width}
 use Rattle.play_run.specs.declared.reports.Report.{Report}
 use Rattle.play_run.specs.Lines.{text_of}
 use Rattle.run_ends.specs.Status.{WritesLines, written_status}
@@ -52,28 +51,28 @@ pub answered-numbers : {A D : Type 0} (f : A → List LaneEnd) (w : ℕ) (rows :
 answered-numbers f w rows old new None holds = tt
 answered-numbers f w rows old new (Some a) holds = λ s. (holds.answers s).numbers
 
-module _ {D : Type 0} (drive : D → Drive) (report : Report) (rows : List InRow) (old new : BookView D) (ends : Option (List LaneEnd)) (status : ℕ) (before after : Output) (are : AreInRows rows) (begins : IsNewBook old)
-    (played : IsPlayedBook width rows old new) (answered : IfSome ends (λ e. IsAnsweredBook width rows old new e)) (book : IsBook drive width new) (end : EndsPlay report rows (failed_cell new.entries) new.leaves ends status before after) where
+module _ {D : Type 0} (drive : D → Drive) (w : ℕ) (report : Report) (rows : List InRow) (old new : BookView D) (ends : Option (List LaneEnd)) (status : ℕ) (before after : Output) (are : AreInRows rows) (begins : IsNewBook old)
+    (played : IsPlayedBook w rows old new) (answered : IfSome ends (λ e. IsAnsweredBook w rows old new e)) (book : IsBook drive w new) (end : EndsPlay report rows (failed_cell new.entries) new.leaves ends status before after) where
   abbrev h : List Entry
   h = new.entries
 
   abbrev text : List ℕ
   text = text_of report rows old.opening.world h
 
-  legal : IsLegal width old.opening h
-  legal = subst (λ (s : State). IsLegal width s h) played.opening book.legal
+  legal : IsLegal w old.opening h
+  legal = subst (λ (s : State). IsLegal w s h) played.opening book.legal
 
   -- the index stands for the objects at the end
   objects : HasObjects new.leaves (world_after old.opening.world h)
   objects = record {
     is_world = played-world rows old.opening.world h are played.played begins.world;
-    names = (state_after width new.opening h).leaves;
-    stands = subst (λ (s : State). Stands new.leaves (places_of (world_after s.world h)) (state_after width new.opening h).leaves) played.opening book.stands;
+    names = (state_after w new.opening h).leaves;
+    stands = subst (λ (s : State). Stands new.leaves (places_of (world_after s.world h)) (state_after w new.opening h).leaves) played.opening book.stands;
   }
 
   -- what the answers say, where the text is written
-  some-answered : (e : List LaneEnd) → ends ≡ Some e → IsAnsweredBook width rows old new e
-  some-answered e is = subst (λ (o : Option (List LaneEnd)). IfSome o (λ x. IsAnsweredBook width rows old new x)) is answered
+  some-answered : (e : List LaneEnd) → ends ≡ Some e → IsAnsweredBook w rows old new e
+  some-answered e is = subst (λ (o : Option (List LaneEnd)). IfSome o (λ x. IsAnsweredBook w rows old new x)) is answered
 
   no-text : (why : Refusal) → Refuses why status before after → WritesLines status → ⊥
   no-text why refuses = no-lines why status refuses.status_is
@@ -89,10 +88,10 @@ module _ {D : Type 0} (drive : D → Drive) (report : Report) (rows : List InRow
   some-lines (inl (zero, all, same)) e = absurd (omega (arith, zero, e))
   some-lines (inr (six, rose, part)) e = part
 
-  end-answers : AnswersAsOneList report width old.opening rows h status before after
+  end-answers : AnswersAsOneList report w old.opening rows h status before after
   end-answers = by_end end
     where
-      refused : (why : Refusal) → Refuses why status before after → AnswersAsOneList report width old.opening rows h status before after
+      refused : (why : Refusal) → Refuses why status before after → AnswersAsOneList report w old.opening rows h status before after
       refused why refuses = record {
         legal = legal;
         played = played.played;
@@ -101,7 +100,7 @@ module _ {D : Type 0} (drive : D → Drive) (report : Report) (rows : List InRow
         part = λ e. absurd (no-text why refuses (inr e));
       }
 
-      by_end : EndsPlay report rows (failed_cell h) new.leaves ends status before after → AnswersAsOneList report width old.opening rows h status before after
+      by_end : EndsPlay report rows (failed_cell h) new.leaves ends status before after → AnswersAsOneList report w old.opening rows h status before after
       by_end (inl (cell, failed, refuses)) = refused (refusal.Disk (Some cell)) refuses
       by_end (inr (inl (none, refuses))) = refused refusal.Memory refuses
       by_end (inr (inr (none, wrote))) = record {
@@ -112,34 +111,34 @@ module _ {D : Type 0} (drive : D → Drive) (report : Report) (rows : List InRow
         part = some-lines (writes wrote);
       }
 
-  end-rows : EndsRows (StopsBook (IsNextStep width old.opening rows) h) status before after
+  end-rows : EndsRows (StopsBook (IsNextStep w old.opening rows) h) status before after
   end-rows = by_end end
     where
-      by_writing : EndsWriting text status before after → EndsRows (StopsBook (IsNextStep width old.opening rows) h) status before after
+      by_writing : EndsWriting text status before after → EndsRows (StopsBook (IsNextStep w old.opening rows) h) status before after
       by_writing (inl (zero, all, same)) = inl (zero, same)
       by_writing (inr (six, rose, part)) = inr (inl (six, rose))
 
-      by_end : EndsPlay report rows (failed_cell h) new.leaves ends status before after → EndsRows (StopsBook (IsNextStep width old.opening rows) h) status before after
+      by_end : EndsPlay report rows (failed_cell h) new.leaves ends status before after → EndsRows (StopsBook (IsNextStep w old.opening rows) h) status before after
       by_end (inl (cell, failed, refuses)) = inr (inr (refusal.Disk (Some cell), inr (cell, refl, played.loses cell failed), refuses))
       by_end (inr (inl (none, refuses))) = inr (inr (refusal.Memory, inl (refl, none), refuses))
       by_end (inr (inr (none, wrote))) = by_writing (writes wrote)
 
-  end-splits : WritesLines status → SplitsAreDone width old.bucket old.opening (first_in old.log) h
+  end-splits : WritesLines status → SplitsAreDone w old.bucket old.opening (first_in old.log) h
   end-splits written = by_end end
     where
-      by_end : EndsPlay report rows (failed_cell h) new.leaves ends status before after → SplitsAreDone width old.bucket old.opening (first_in old.log) h
+      by_end : EndsPlay report rows (failed_cell h) new.leaves ends status before after → SplitsAreDone w old.bucket old.opening (first_in old.log) h
       by_end (inl (cell, failed, refuses)) = absurd (no-text (refusal.Disk (Some cell)) refuses written)
       by_end (inr (inl (none, refuses))) = absurd (no-text refusal.Memory refuses written)
       by_end (inr (inr (none, wrote))) = (some-answered wrote.some wrote.ends_are).settled none
 
-  end-log : BeginsAs drive old.log new.log → LeavesLog drive old.opening h old.log (disk_in new.log)
+  end-log : BeginsAs drive old.log new.log → LeavesLog drive w old.opening h old.log (disk_in new.log)
   end-log starts = record {
     log = new.log;
     begins = starts;
     first = played.first;
-    keeps = subst (λ (s : State). KeepsIn drive width s h new.log) played.opening book.on_log;
+    keeps = subst (λ (s : State). KeepsIn drive w s h new.log) played.opening book.on_log;
     disk_is = refl;
   }
 
-  pub ends-book : BeginsAs drive old.log new.log → EndsBook drive report rows old h status (disk_in new.log) before after
+  pub ends-book : BeginsAs drive old.log new.log → EndsBook drive w report rows old h status (disk_in new.log) before after
   ends-book starts = record { one_list = end-answers; ends = end-rows; splits = end-splits; limits = played.limits; log = end-log starts }

@@ -4,7 +4,8 @@ use Rattle.cell_format.specs.declared.cell.Cell.{Cell}
 use Rattle.plain_list.specs.State.{State, empty_state, at_rest}
 use Rattle.disk_trait.specs.Drive.{Drive}
 use Rattle.log_state.specs.Recovers.{IsLegalCells, Recovers, state_of}
-use Rattle.run_ends.specs.Limits.{width, most_played}
+use Rattle.recovery.specs.Widths.{IsWidth}
+use Rattle.run_ends.specs.Limits.{most_played}
 
 -- the width of splits, the state at the beginning, and the cells of the log then, where there is one
 pub record Origin : Type 0 where
@@ -12,16 +13,18 @@ pub record Origin : Type 0 where
   pub state : State
   pub first : Option (List Cell)
 
--- without a log there is nothing at first
+-- without a log there is nothing at first, and splits make two children
 abbrev pub new_origin : Origin
-new_origin = record { width = width; state = empty_state; first = None }
+new_origin = record { width = 1; state = empty_state; first = None }
 
 -- what cells leave, with no split open
 abbrev pub origin_of : ℕ → List Cell → Origin
 origin_of w first = record { width = w; state = at_rest (state_of w first); first = Some first }
 
--- the origin is what legal cells leave, few enough; where the drive's content is known, its bytes recover to them
+-- the origin is what legal cells leave, few enough, by the width of the log; where the drive's content is known, its bytes recover to them
 pub record IsFoundOrigin (drive : Drive) (o : Origin) : Type 0 where
+  pub width : ℕ
+  pub known : IsWidth width
   pub first : List Cell
   pub legal : IsLegalCells width first
   pub few : length first ≤ most_played

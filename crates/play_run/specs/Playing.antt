@@ -9,12 +9,13 @@ use Rattle.cell_format.specs.declared.cell.Cell.{Cell}
 use Rattle.cell_format.specs.Spelling.{newest}
 use Rattle.recovery.specs.declared.seen.OpenFault.{OpenFault}
 use Rattle.log_state.specs.Recovers.{Recovers}
-use Rattle.recovery.specs.Faults.{IsFault, IsInBytes}
+use Rattle.recovery.specs.Faults.{IsInBytes}
+use Rattle.recovery.specs.Widths.{IsWidth, HasWidth, IsLogFault}
 use Rattle.recovery.specs.Opening.{KeepsCells, HasNoLog, IsUntouched}
 use Rattle.csv_rows.specs.declared.rows.InRow.{InRow}
 use Rattle.csv_rows.specs.declared.rows.Refusal.{Refusal}
 use Rattle.csv_rows.specs.declared.rows.Refusal.TheVariants as refusal
-use Rattle.run_ends.specs.Limits.{most_bytes, width, oldest_played, most_played}
+use Rattle.run_ends.specs.Limits.{most_bytes, oldest_played, most_played}
 use Rattle.io_edge.specs.Streams.{Input, Output}
 use Rattle.io_edge.specs.Reads.{ConsumesUpTo}
 use Rattle.run_ends.specs.Ends.{Ends, Targets}
@@ -33,10 +34,12 @@ use Rattle.kept_log.specs.Counts.{count_after}
 use Rattle.lane_splits.specs.Settled.{SplitsAreDone, IsWithinLimits}
 use Rattle.play_run.specs.Crash.{KeepsPlayed}
 
--- the drive's bytes recover to cells, few enough, by the newest version, and its count didn't rise
+-- the drive's bytes recover to cells, few enough, by either width and the newest version, and its count didn't rise
 pub record IsGoodLog (old new : Drive) : Type 0 where
   pub bytes : List ℕ
   pub told : old.bytes ≡ Some bytes
+  pub width : ℕ
+  pub known : IsWidth width
   pub first : List Cell
   pub recovers : Recovers width first bytes
   pub version : slice_index bytes 8 ≡ newest
@@ -47,11 +50,11 @@ pub record IsGoodLog (old new : Drive) : Type 0 where
 -- log, as one of an older version, is left as it was, at every moment. The count is as it was, unless the drive is what is told to have failed.
 pub record IsNotOpened (file : List ℕ) (old new : Drive) (why : Refusal) : Type 0 where
   pub cause : IsReadingCause oldest_played most_played old new why
-  pub exact : (bytes : List ℕ) (fault : OpenFault) → old.bytes ≡ Some bytes → IsInBytes fault → IsFault oldest_played width most_played bytes fault → (Rose old.faults new.faults → ⊥)
+  pub exact : (bytes : List ℕ) (fault : OpenFault) → old.bytes ≡ Some bytes → IsInBytes fault → IsLogFault oldest_played most_played bytes fault → (Rose old.faults new.faults → ⊥)
       → (why ≡ log_refusal fault) ⊎ (why ≡ refusal.Memory)
   pub whole : IsGoodLog old new → why ≡ refusal.Memory
-  pub keeps : KeepsCells width old new
-  pub untouched : (bytes : List ℕ) → old.bytes ≡ Some bytes → HasNoLog width most_played bytes → IsUntouched old new
+  pub keeps : (w : ℕ) (bytes : List ℕ) → old.bytes ≡ Some bytes → HasWidth w bytes → KeepsCells w old new
+  pub untouched : (bytes : List ℕ) → old.bytes ≡ Some bytes → ((w : ℕ) → IsWidth w → HasNoLog w most_played bytes) → IsUntouched old new
   pub calm : why ≢ refusal.Disk None → new.faults ≡ old.faults
   -- this file is attached, and none is made
   pub attached : AttachesOnce file false old new (status_of why)
@@ -91,7 +94,7 @@ EndsRows Cause status old new = ((status ≡ 0) × (new.faults ≡ old.faults)) 
 -- the drive of a play over no log is left as it was; over a log its bytes showed no fault
 abbrev pub HasBook : {D : Type 0} → Option (List ℕ) → Targets D → Targets D → Type 0
 HasBook None old new = new.disk ≡ old.disk
-HasBook (Some file) old new = (bytes : List ℕ) (fault : OpenFault) → old.drive.bytes ≡ Some bytes → IsInBytes fault → IsFault oldest_played width most_played bytes fault → ⊥
+HasBook (Some file) old new = (bytes : List ℕ) (fault : OpenFault) → old.drive.bytes ≡ Some bytes → IsInBytes fault → IsLogFault oldest_played most_played bytes fault → ⊥
 
 -- over a log its file is attached, once, and none is made
 abbrev pub IsAttached : Option (List ℕ) → Drive → Drive → Type 0
@@ -137,7 +140,7 @@ Goes log size before after old new status h = IsUnread before after old new stat
 -- over a log a fault that its bytes show gives its refusal's status, unless the drive's count rose or memory ran out
 abbrev pub FollowsLog : Option (List ℕ) → Drive → Drive → ℕ → Type 0
 FollowsLog None old new status = ⊤
-FollowsLog (Some file) old new status = (bytes : List ℕ) (fault : OpenFault) → old.bytes ≡ Some bytes → IsInBytes fault → IsFault oldest_played width most_played bytes fault → (Rose old.faults new.faults → ⊥)
+FollowsLog (Some file) old new status = (bytes : List ℕ) (fault : OpenFault) → old.bytes ≡ Some bytes → IsInBytes fault → IsLogFault oldest_played most_played bytes fault → (Rose old.faults new.faults → ⊥)
     → (status ≡ status_of (log_refusal fault)) ⊎ (status ≡ 9)
 
 -- there is no log, or a good one

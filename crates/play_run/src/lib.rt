@@ -9,7 +9,6 @@
 //! Not here: the store and its lanes (`sessions`, `lane_history`, `lane_splits`), rows and lines (`csv_rows`), the log (`recovery`).
 #![tactic(auto)]
 
-mod index;
 mod lanes;
 mod log_book;
 mod output;

@@ -1,37 +1,50 @@
-//! A book over the log in a file.
+//! The log in a file, opened, and a book over it.
 ghost use Rattle.std.specs.Prelude.{◌≡◌, ◌≤◌, Some, None, IfOk, IfErr};
 ghost use Rattle.kept_log.specs.Kept.{IsOpened, found_state};
 ghost use Rattle.recovery.specs.Found.{IsFound};
-ghost use Rattle.run_ends.specs.Limits.{width, oldest_played, most_played};
-ghost use Rattle.play_run.specs.inside.Books.{IsNewBook, OpensBook};
+ghost use Rattle.run_ends.specs.Limits.{oldest_played, most_played};
+ghost use Rattle.play_run.specs.inside.Books.{IsNewBook, OpensLog};
 ghost use Rattle.play_run.specs.Playing.{IsNotOpened};
 
-use crate::index::StoreIndex;
 use commit_book::Book;
 use csv_rows::Refusal;
 use disk_trait::LogDisk;
+use index_layer::Index;
 use plain_list::World;
-use recovery::{OpenRefused, Opened, open};
-use run_ends::{MOST_PLAYED, Unmade, WIDTH, attach_refusal, log_refusal};
+use recovery::{OpenRefused, Opened, open, width_of};
+use run_ends::{MOST_PLAYED, Unmade, attach_refusal, log_refusal};
 use std::alloc::Global;
 
-/// A book over the log of the newest version in a file of this name, with buckets of this size.
-pub(crate) fn open_book<D: LogDisk>(
+/// A log that was opened, and its width.
+#[derive(Drop)]
+pub(crate) struct Wide<D: LogDisk> {
+    pub(crate) opened: Opened<D>,
+    pub(crate) width: u8,
+}
+
+/// The log of the newest version in a file of this name, opened by the width that it has.
+pub(crate) fn open_log<D: LogDisk>(
     alloc: Global,
     file: &str,
-    size: u32,
     mut disk: D,
-) -> Result<Book<StoreIndex, D>, Unmade<D>>
-    ensures opened { IfOk result (OpensBook D.drive file.now (D.drive disk) size) }
-    ensures new { IfOk result (λ b. IsNewBook b) }
+) -> Result<Wide<D>, Unmade<D>>
+    ensures opened { IfOk result (λ l. OpensLog file.now (D.drive disk) (D.drive l.opened.start.value) (D.drive l.opened.log.disk) l.width l.opened.seen) }
+    ensures log { IfOk result (λ l. (l.opened.log.cells ≡ l.opened.seen.cells) × (l.opened.log.failed ≡ None)) }
     ensures refused { IfErr result (λ e. IsNotOpened file.now (D.drive disk) (D.drive e.disk) e.why) }
 {
     if let Err(fault) = disk.attach(alloc, file, false) {
         let why = attach_refusal(fault);
         return Err(Unmade { disk, why });
     }
-    match open(alloc, disk, WIDTH, MOST_PLAYED) {
-        Ok(opened) => book_of(alloc, opened, size),
+    let width = match width_of(&mut disk) {
+        Ok(width) => width,
+        Err(cause) => {
+            let why = log_refusal(cause);
+            return Err(Unmade { disk, why });
+        }
+    };
+    match open(alloc, disk, width, MOST_PLAYED) {
+        Ok(opened) => Ok(Wide { opened, width }),
         Err(OpenRefused { disk, cause }) => {
             let why = log_refusal(cause);
             Err(Unmade { disk, why })
@@ -39,15 +52,15 @@ pub(crate) fn open_book<D: LogDisk>(
     }
 }
 
-// A book that goes on with a log as it was opened.
-fn book_of<D: LogDisk>(
+/// A book that goes on with a log as it was opened, with buckets of this size.
+pub(crate) fn book_of<I: Index, D: LogDisk>(
     alloc: Global,
     opened: Opened<D>,
     size: u32,
-) -> Result<Book<StoreIndex, D>, Unmade<D>>
+) -> Result<Book<I, D>, Unmade<D>>
     requires log { (opened.log.cells ≡ opened.seen.cells) × (opened.log.failed ≡ None) }
-    requires found { IsFound oldest_played width most_played (D.drive opened.start.value) opened.seen }
-    requires ready { IsOpened width (found_state opened.seen) (D.drive opened.start.value) (D.drive opened.log.disk) }
+    requires found { IsFound oldest_played I.WIDTH most_played (D.drive opened.start.value) opened.seen }
+    requires ready { IsOpened I.WIDTH (found_state opened.seen) (D.drive opened.start.value) (D.drive opened.log.disk) }
     ensures opening { IfOk result (λ b. (b.opening ≡ found_state opened.seen) × (b.bucket ≡ size)) }
     ensures log { IfOk result (λ b. b.log ≡ Some (record {
       disk = opened.log.disk;

@@ -7,7 +7,6 @@ ghost use Rattle.play_run.specs.inside.Books.{IsNewBook};
 ghost use Rattle.play_run.specs.inside.Answered.{HasNumbers, EndsPlay};
 ghost use Rattle.play_run.specs.inside.Ended.{EndsBook};
 
-use crate::index::StoreIndex;
 use crate::lanes::LaneEnd;
 use crate::output::tell_report;
 use crate::reports::Report;
@@ -27,22 +26,28 @@ use std::thread::Threads;
 const ROWS_A_STEP: usize = 16;
 
 /// Plays rows over a book with no entries so far, and tells what a report tells of them.
-pub(crate) fn play_and_tell<R: Threads + Wait + Sync, K: Sink, D: LogDisk + Send, G: Gate + Sync>(
+pub(crate) fn play_and_tell<
+    R: Threads + Wait + Sync,
+    I: Index + Send,
+    K: Sink,
+    D: LogDisk + Send,
+    G: Gate + Sync,
+>(
     rt: &R,
     alloc: Global,
     rows: &[InRow],
     report: Report,
-    book: Book<StoreIndex, D>,
+    book: Book<I, D>,
     sink: &mut K,
     gate: &G,
 ) -> Ended<Option<D>>
     requires rows { AreInRows rows.now }
     requires new { IsNewBook book }
-    ensures { EndsBook D.drive report rows.now book result.events result.status result.disk (K.output sink.old) (K.output sink.new) }
+    ensures { EndsBook D.drive I.WIDTH report rows.now book result.events result.status result.disk (K.output sink.old) (K.output sink.new) }
 {
     let mut book = book;
     book.make_room(rows.len() + rows.len() / ROWS_A_STEP);
-    let played = play_sessions::<R, StoreIndex, D, Brand, G>(rt, alloc, rows, book, gate);
+    let played = play_sessions::<R, I, D, Brand, G>(rt, alloc, rows, book, gate);
     tell_book(report, rows, played, sink)
 }
 

@@ -1,19 +1,26 @@
 //! The command `play`: answers the rows of a source, and over a log keeps what they change.
-ghost use Rattle.std.specs.Prelude.{◌≡◌, true, [], Some, None, is_some};
+ghost use Rattle.std.specs.Prelude.{◌≡◌, ℕ, List, true, [], Some, None, is_some};
 ghost use Rattle.csv_rows.specs.InRows.{AreInRows};
+ghost use Rattle.kept_log.specs.Kept.{IsOpened, found_state};
+ghost use Rattle.recovery.specs.Found.{IsFound};
 ghost use Rattle.run_ends.specs.Ends.{targets};
+ghost use Rattle.run_ends.specs.Limits.{oldest_played, most_played};
 ghost use Rattle.command_words.specs.Asked.{file_of};
 ghost use Rattle.play_run.specs.Playing.{Goes, PlaysRows};
+ghost use Rattle.play_run.specs.inside.Books.{OpensLog};
 
-use crate::index::StoreIndex;
-use crate::log_book::open_book;
+use crate::log_book::{Wide, book_of, open_log};
 use crate::play_book::play_and_tell;
 use crate::reports::Report;
 use command_words::Command;
 use commit_book::Book;
 use csv_rows::{InRow, Refusal};
 use disk_trait::LogDisk;
+use index_layer::Index;
 use io_edge::{Gate, Sink, Source};
+use kd_trie::KdTrie;
+use quad_trie::QuadTrie;
+use recovery::Opened;
 use run_ends::{Ended, Unmade, read_judged, refuse_on};
 use std::alloc::Global;
 use std::sync::Wait;
@@ -79,7 +86,7 @@ fn over_none<R: Threads + Wait + Sync, K: Sink, D: LogDisk + Send, G: Gate + Syn
     ensures plays { PlaysRows report None size rows.now (targets K.output D.drive sink.old disk)
         (targets K.output D.drive sink.new result.disk) result.status result.events }
 {
-    match Book::<StoreIndex, D>::fresh(alloc, size) {
+    match Book::<KdTrie, D>::fresh(alloc, size) {
         Ok(book) => {
             let end = play_and_tell(rt, alloc, rows, report, book, sink, gate);
             Ended {
@@ -92,7 +99,7 @@ fn over_none<R: Threads + Wait + Sync, K: Sink, D: LogDisk + Send, G: Gate + Syn
     }
 }
 
-// Plays rows over the log in a file.
+// Plays rows over the log in a file, by the width that it has.
 fn over_log<R: Threads + Wait + Sync, K: Sink, D: LogDisk + Send, G: Gate + Sync>(
     rt: &R,
     alloc: Global,
@@ -108,7 +115,45 @@ fn over_log<R: Threads + Wait + Sync, K: Sink, D: LogDisk + Send, G: Gate + Sync
     ensures plays { PlaysRows report (Some file.now) size rows.now (targets K.output D.drive sink.old disk)
         (targets K.output D.drive sink.new result.disk) result.status result.events }
 {
-    match open_book(alloc, file, size, disk) {
+    match open_log(alloc, file, disk) {
+        Ok(Wide { opened, width }) => {
+            if width == 1 {
+                over_opened::<R, KdTrie, K, D, G>(rt, alloc, rows, report, opened, size, sink, gate)
+            } else {
+                over_opened::<R, QuadTrie, K, D, G>(
+                    rt, alloc, rows, report, opened, size, sink, gate,
+                )
+            }
+        }
+        Err(Unmade { disk, why }) => refuse_on(alloc, &why, sink, disk),
+    }
+}
+
+// Plays rows over a log as it was opened, with an index whose splits are as wide.
+fn over_opened<
+    R: Threads + Wait + Sync,
+    I: Index + Send,
+    K: Sink,
+    D: LogDisk + Send,
+    G: Gate + Sync,
+>(
+    rt: &R,
+    alloc: Global,
+    rows: &[InRow],
+    report: Report,
+    opened: Opened<D>,
+    size: u32,
+    sink: &mut K,
+    gate: &G,
+) -> Ended<D>
+    requires rows { AreInRows rows.now }
+    requires log { (opened.log.cells ≡ opened.seen.cells) × (opened.log.failed ≡ None) }
+    requires found { IsFound oldest_played I.WIDTH most_played (D.drive opened.start.value) opened.seen }
+    requires ready { IsOpened I.WIDTH (found_state opened.seen) (D.drive opened.start.value) (D.drive opened.log.disk) }
+    ensures plays { (file : List ℕ) (disk : D) → OpensLog file (D.drive disk) (D.drive opened.start.value) (D.drive opened.log.disk) I.WIDTH opened.seen
+        → PlaysRows report (Some file) size rows.now (targets K.output D.drive sink.old disk) (targets K.output D.drive sink.new result.disk) result.status result.events }
+{
+    match book_of::<I, D>(alloc, opened, size) {
         Ok(book) => {
             let end = play_and_tell(rt, alloc, rows, report, book, sink, gate);
             with_drive(end)

@@ -6,7 +6,12 @@ use Rattle.plain_list.specs.declared.entries.Entry.{Entry}
 use Rattle.plain_list.specs.State.{State}
 use Rattle.plain_list.specs.World.{IsWorld}
 use Rattle.recovery.specs.declared.seen.OpenFault.{OpenFault}
-use Rattle.recovery.specs.Faults.{IsFault, IsInBytes}
+use Rattle.recovery.specs.declared.seen.Seen.{Seen}
+use Rattle.recovery.specs.Faults.{IsInBytes}
+use Rattle.recovery.specs.Found.{IsFound}
+use Rattle.recovery.specs.Opening.{KeepsCells}
+use Rattle.recovery.specs.Widths.{IsWidth, IsLogFault}
+use Rattle.kept_log.specs.Kept.{IsOpened, found_state}
 use Rattle.kept_log.specs.KeptView.{KeptView}
 use Rattle.kept_log.specs.Journal.{cells_in, disk_in, KeepsIn}
 use Rattle.commit_book.specs.BookView.{BookView}
@@ -14,7 +19,7 @@ use Rattle.kept_log.specs.Counts.{first_in}
 use Rattle.sessions.specs.Shared.{StartsAs}
 use Rattle.csv_rows.specs.declared.rows.Refusal.{Refusal}
 use Rattle.csv_rows.specs.declared.rows.Refusal.TheVariants as refusal
-use Rattle.run_ends.specs.Limits.{width, oldest_played, most_played}
+use Rattle.run_ends.specs.Limits.{oldest_played, most_played}
 use Rattle.plain_list.specs.declared.entries.Lost.{Lost}
 use Rattle.plain_list.specs.History.{failed_cell}
 use Rattle.lane_history.specs.LostSteps.{LosesStep}
@@ -50,23 +55,35 @@ abbrev pub BeginsAs : {D : Type 0} → (D → Drive) → Option (KeptView D) →
 BeginsAs drive old new = StartsAs drive (is_unlogged old) (is_opened drive old) new
 
 -- the log that a book leaves keeps the history since the book began, and this is its drive
-pub record LeavesLog {D : Type 0} (drive : D → Drive) (s : State) (h : List Entry) (old : Option (KeptView D)) (disk : Option D) : Type 0 where
+pub record LeavesLog {D : Type 0} (drive : D → Drive) (w : ℕ) (s : State) (h : List Entry) (old : Option (KeptView D)) (disk : Option D) : Type 0 where
   pub log : Option (KeptView D)
   pub begins : BeginsAs drive old log
   pub first : first_in log ≡ first_in old
-  pub keeps : KeepsIn drive width s h log
+  pub keeps : KeepsIn drive w s h log
   pub disk_is : disk ≡ disk_in log
 
--- a book over the log that stood on a drive, whose bytes show no fault
-pub record OpensBook {D : Type 0} (drive : D → Drive) (file : List ℕ) (old : Drive) (size : ℕ) (b : BookView D) : Type 0 where
+-- a log of this width that stood on a drive was opened as it was after the attach, and what was found in it; its bytes show no fault
+pub record OpensLog (file : List ℕ) (old start now : Drive) (w : ℕ) (seen : Seen) : Type 0 where
+  pub known : IsWidth w
+  pub found : IsFound oldest_played w most_played start seen
+  pub ready : IsOpened w (found_state seen) start now
+  pub stays : Stays old start
+  pub calm : start.faults ≡ old.faults
+  pub attached : AttachedOne file false old start
+  pub keeps : KeepsCells w old now
+  pub shows : (bytes : List ℕ) (fault : OpenFault) → old.bytes ≡ Some bytes → IsInBytes fault → IsLogFault oldest_played most_played bytes fault → ⊥
+
+-- a book of this width over the log that stood on a drive, whose bytes show no fault
+pub record OpensBook {D : Type 0} (drive : D → Drive) (file : List ℕ) (old : Drive) (w size : ℕ) (b : BookView D) : Type 0 where
   pub bucket : b.bucket ≡ size
   pub log : KeptView D
   pub log_is : b.log ≡ Some log
   pub from : Origin
   pub found : IsFoundOrigin old from
+  pub width : from.width ≡ w
   pub state : b.opening ≡ from.state
   pub count : first_in b.log ≡ option_map length from.first
   pub stays : Stays old (drive log.start)
   pub calm : (drive log.start).faults ≡ old.faults
   pub attached : AttachedOne file false old (drive log.start)
-  pub shows : (bytes : List ℕ) (fault : OpenFault) → old.bytes ≡ Some bytes → IsInBytes fault → IsFault oldest_played width most_played bytes fault → ⊥
+  pub shows : (bytes : List ℕ) (fault : OpenFault) → old.bytes ≡ Some bytes → IsInBytes fault → IsLogFault oldest_played most_played bytes fault → ⊥

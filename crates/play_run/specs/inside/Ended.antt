@@ -9,16 +9,15 @@ use Rattle.io_edge.specs.Streams.{Output}
 use Rattle.lane_history.specs.LostSteps.{IsNextStep}
 use Rattle.lane_splits.specs.Settled.{SplitsAreDone, IsWithinLimits}
 use Rattle.play_run.specs.declared.reports.Report.{Report}
-use Rattle.run_ends.specs.Limits.{width}
 use Rattle.run_ends.specs.Status.{WritesLines}
 use Rattle.play_run.specs.Answers.{AnswersAsOneList}
 use Rattle.play_run.specs.Playing.{EndsRows}
 use Rattle.play_run.specs.inside.Books.{StopsBook, LeavesLog}
 
--- the history that rows leave over a book, the text or the refusal that tells of it, and the drive of the log where there is one
-pub record EndsBook {D : Type 0} (drive : D → Drive) (report : Report) (rows : List InRow) (b : BookView D) (h : List Entry) (status : ℕ) (disk : Option D) (old new : Output) : Type 0 where
-  pub one_list : AnswersAsOneList report width b.opening rows h status old new
-  pub ends : EndsRows (StopsBook (IsNextStep width b.opening rows) h) status old new
-  pub splits : WritesLines status → SplitsAreDone width b.bucket b.opening (first_in b.log) h
-  pub limits : IsWithinLimits width b.bucket b.opening (first_in b.log) rows h
-  pub log : LeavesLog drive b.opening h b.log disk
+-- the history that rows leave over a book of this width, the text or the refusal that tells of it, and the drive of the log where there is one
+pub record EndsBook {D : Type 0} (drive : D → Drive) (w : ℕ) (report : Report) (rows : List InRow) (b : BookView D) (h : List Entry) (status : ℕ) (disk : Option D) (old new : Output) : Type 0 where
+  pub one_list : AnswersAsOneList report w b.opening rows h status old new
+  pub ends : EndsRows (StopsBook (IsNextStep w b.opening rows) h) status old new
+  pub splits : WritesLines status → SplitsAreDone w b.bucket b.opening (first_in b.log) h
+  pub limits : IsWithinLimits w b.bucket b.opening (first_in b.log) rows h
+  pub log : LeavesLog drive w b.opening h b.log disk

@@ -1,7 +1,6 @@
 use Rattle.std.proofs.Common.{sym, subst, List}
 use Rattle.std.specs.Option.{option_map}
 use Rattle.kept_log.specs.Journal.{disk_in}
-use Rattle.run_ends.specs.Limits.{width}
 use Rattle.play_run.specs.declared.lanes.LaneEnd.{LaneEnd}
 use Rattle.play_run.specs.inside.Books.{IsNewBook}
 use Rattle.play_run.specs.inside.Answered.{IsAnsweredBook}
@@ -12,7 +11,7 @@ use Rattle.play_run.proofs.play_book.play_and_tell.Goals as goal
 pub tell_book-requires-clause-numbers : goal.tell_book-requires-clause-numbers
 tell_book-requires-clause-numbers g c =
     let played = c.play_sessions-played in
-    answered-numbers (λ e. e.items) width c.args.rows.now c.make_room.new.self played.result.book played.result.ends played.ensures.answered
+    answered-numbers (λ e. e.items) g.I.Index.WIDTH c.args.rows.now c.make_room.new.self played.result.book played.result.ends played.ensures.answered
 
 pub returns : goal.returns
 returns g c =
@@ -28,9 +27,9 @@ returns g c =
     let before = g.K.Sink.output c.args.sink.now in
     let after = g.K.Sink.output c.tell_book.new.sink in
     let ends = option_map (λ e. e.items) c.play_sessions-played.result.ends in
-    let answered = if-mapped (λ e. e.items) (λ (e : List LaneEnd). IsAnsweredBook width rows old new e) c.play_sessions-played.result.ends by.answered in
+    let answered = if-mapped (λ e. e.items) (λ (e : List LaneEnd). IsAnsweredBook g.I.Index.WIDTH rows old new e) c.play_sessions-played.result.ends by.answered in
     let begins = subst IsNewBook (sym moved) c.requires.new in
-    let all = ends-book drive report rows old new ends end.status before after c.requires.rows begins by.played answered by.book told.ends by.starts in
-    subst (λ b. EndsBook drive report rows b end.events end.status end.disk before after) moved
-    (subst (λ d. EndsBook drive report rows old end.events end.status d before after) (sym told.disk)
-    (subst (λ h. EndsBook drive report rows old h end.status (disk_in new.log) before after) (sym told.events) all))
+    let all = ends-book drive g.I.Index.WIDTH report rows old new ends end.status before after c.requires.rows begins by.played answered by.book told.ends by.starts in
+    subst (λ b. EndsBook drive g.I.Index.WIDTH report rows b end.events end.status end.disk before after) moved
+    (subst (λ d. EndsBook drive g.I.Index.WIDTH report rows old end.events end.status d before after) (sym told.disk)
+    (subst (λ h. EndsBook drive g.I.Index.WIDTH report rows old h end.status (disk_in new.log) before after) (sym told.events) all))
