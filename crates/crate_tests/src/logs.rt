@@ -11,3 +11,4 @@ pub mod files;
 pub mod fixtures;
 mod images;
 mod recoveries;
+mod widths;

@@ -1,48 +1,43 @@
 //! Calls of an index through the trait's bound.
-ghost use Rattle.std.specs.Prelude.{◌≡◌};
-
-use crate::index::buckets::{change, empty, one_empty_leaf, split_in_two, three_rows};
+use crate::index::buckets::{
+    change, child_over, empty, filled, grandchild_over, one_empty_leaf, split_whole,
+};
 use crate::index::never::Never;
 use bucket_versions::{AtOnce, Undone};
 use flat_index::FlatIndex;
 use index_layer::{Index, IndexFault, Part};
 use kd_trie::KdTrie;
+use quad_trie::QuadTrie;
 use std::alloc::Global;
 use std::process::Abort;
-use zorder::{Name, child};
+use zorder::Name;
 
-fn halves<I: Index>(rt: &impl Abort, alloc: Global) -> I
-    requires { I.WIDTH ≡ 1 }
-{
+fn split_share<I: Index>(rt: &impl Abort, alloc: Global) -> I {
     let whole = one_empty_leaf::<I>(alloc).expect(rt, "one leaf");
     let share = whole.share().expect(rt, "a share");
-    split_in_two(alloc, &share).expect(rt, "two leaves")
+    split_whole(alloc, &share).expect(rt, "its leaves")
 }
 
 const HIGH: u64 = 9_223_372_036_854_775_808;
 
-// Keys, and whether their leaf is the second.
-const LEAVES: &[(u64, bool)] = &[(0, false), (9_223_372_036_854_775_807, false), (HIGH, true)];
+const KEYS: &[u64] = &[0, 9_223_372_036_854_775_807, HIGH];
 
-fn has_two_leaves<I: Index>(rt: &impl Abort, index: &I) {
-    for (key, is_second) in LEAVES {
-        assert_is!(rt; index.leaf_of(*key).0 == child(&Name::whole(), *is_second));
+fn has_its_leaves<I: Index>(rt: &impl Abort, index: &I) {
+    for key in KEYS {
+        assert_is!(rt; index.leaf_of(*key).0 == child_over::<I>(*key));
     }
 }
 
 fn has_their_parts<I: Index>(rt: &impl Abort, index: &I) {
-    let whole = Name::whole();
-    assert_is!(rt; matches!(index.part(&whole), Part::Inner));
-    assert_is!(rt; matches!(index.part(&child(&whole, true)), Part::Leaf(_)));
-    let quarter = child(&child(&whole, false), false);
-    assert_is!(rt; matches!(index.part(&quarter), Part::Outside));
+    assert_is!(rt; matches!(index.part(&Name::whole()), Part::Inner));
+    assert_is!(rt; matches!(index.part(&child_over::<I>(HIGH)), Part::Leaf(_)));
+    assert_is!(rt; matches!(index.part(&grandchild_over::<I>(0)), Part::Outside));
 }
 
 // No bucket is put where no leaf has the name.
-fn refuses_a_quarter<I: Index>(rt: &impl Abort, alloc: Global, index: &I) {
-    let quarter = child(&child(&Name::whole(), false), false);
+fn refuses_a_name_below<I: Index>(rt: &impl Abort, alloc: Global, index: &I) {
     let bucket = empty(alloc).expect(rt, "no rows");
-    let refused = index.replaced(&quarter, bucket).err();
+    let refused = index.replaced(&grandchild_over::<I>(0), bucket).err();
     assert_is!(rt; matches!(refused, Some(IndexFault::NoLeaf { name: _ })));
 }
 
@@ -52,25 +47,17 @@ fn sizes<I: Index>(index: &I, key: u64) -> (u64, u64) {
     (bucket.count(), bucket.delta_len())
 }
 
-// Two empty leaves, and then three rows in the first.
+// Empty leaves, and then three rows in the first.
 fn has_three_rows<I: Index>(rt: &impl Abort, index: &I, filled: &I) {
     assert_same!(rt; [sizes(filled, 27), sizes(filled, HIGH)], [(3, 1), (0, 0)]);
     assert_same!(rt; sizes(index, 27), (0, 0));
 }
 
-fn filled<I: Index>(rt: &impl Abort, alloc: Global, index: &I) -> I {
-    let zero = child(&Name::whole(), false);
-    let bucket = three_rows(alloc).expect(rt, "three rows");
-    index.replaced(&zero, bucket).expect(rt, "an index")
-}
-
-fn answers_the_worked_calls<I: Index>(rt: &impl Abort, alloc: Global)
-    requires { I.WIDTH ≡ 1 }
-{
-    let index = halves::<I>(rt, alloc);
-    has_two_leaves(rt, &index);
+fn answers_the_worked_calls<I: Index>(rt: &impl Abort, alloc: Global) {
+    let index = split_share::<I>(rt, alloc);
+    has_its_leaves(rt, &index);
     has_their_parts(rt, &index);
-    refuses_a_quarter(rt, alloc, &index);
+    refuses_a_name_below(rt, alloc, &index);
     has_three_rows(rt, &index, &filled(rt, alloc, &index));
 }
 
@@ -90,9 +77,7 @@ fn waits_for_its_step<I: Index>(rt: &impl Abort, alloc: Global) {
     assert_same!(rt; (put, sizes(&index, 27).0), (Err(Undone::Lost), 0));
 }
 
-fn is_called_and_changed_in_place<I: Index>(rt: &impl Abort, alloc: Global)
-    requires { I.WIDTH ≡ 1 }
-{
+fn is_called_and_changed_in_place<I: Index>(rt: &impl Abort, alloc: Global) {
     answers_the_worked_calls::<I>(rt, alloc);
     keeps_what_is_shared::<I>(rt, alloc);
     waits_for_its_step::<I>(rt, alloc);
@@ -106,4 +91,9 @@ fn a_flat_index_answers_the_worked_calls_and_is_changed_in_place(rt: HostRuntime
 #[test]
 fn a_trie_answers_the_worked_calls_and_is_changed_in_place(rt: HostRuntime) {
     is_called_and_changed_in_place::<KdTrie>(&rt, rt.alloc());
+}
+
+#[test]
+fn a_quad_trie_answers_the_worked_calls_and_is_changed(rt: HostRuntime) {
+    is_called_and_changed_in_place::<QuadTrie>(&rt, rt.alloc());
 }

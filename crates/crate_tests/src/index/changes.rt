@@ -2,11 +2,12 @@
 ghost use Rattle.std.specs.Prelude.{◌≡◌, true, false, IsTrue, IsFalse};
 ghost use Rattle.index_layer.specs.RowChanges.{Holds};
 
-use crate::index::buckets::{change, halves, one_empty_leaf};
+use crate::index::buckets::{change, empty_leaves, one_empty_leaf};
 use bucket_versions::{AtOnce, Row, RowChange, Undone};
 use flat_index::FlatIndex;
 use index_layer::Index;
 use kd_trie::KdTrie;
+use quad_trie::QuadTrie;
 use std::alloc::Global;
 use std::process::Abort;
 
@@ -178,16 +179,22 @@ fn unmoved<I: Index>(index: &I) -> u64 {
     there
 }
 
+// The first keys of four parts of the key space: each leaf begins with one of them.
+const QUARTERS: &[u64] = &[0, 1 << 62, 1 << 63, 3 << 62];
+
 fn how_many<I: Index>(index: &I) -> u64 {
-    let (_, low) = index.leaf_of(0);
-    let (_, high) = index.leaf_of(1 << 63);
-    low.count().saturating_add(high.count())
+    let mut rows = 0u64;
+    for first in QUARTERS {
+        let (name, bucket) = index.leaf_of(*first);
+        if name.bits() == *first {
+            rows = rows.saturating_add(bucket.count());
+        }
+    }
+    rows
 }
 
-fn keeps_its_rows_through_many_changes<I: Index>(rt: &impl Abort, alloc: Global)
-    requires { I.WIDTH ≡ 1 }
-{
-    let mut index = halves::<I>(alloc).expect(rt, "it failed");
+fn keeps_its_rows_through_many_changes<I: Index>(rt: &impl Abort, alloc: Global) {
+    let mut index = empty_leaves::<I>(alloc).expect(rt, "it failed");
     put_all(&mut index).expect(rt, "it failed");
     let before = index.share().expect(rt, "it failed");
     let moved = move_many(&mut index).expect(rt, "it failed");
@@ -201,9 +208,7 @@ fn expect_rows<I: Index>(rt: &impl Abort, before: &I, index: &I) {
     assert_same!(rt; (how_many(index), unmoved(index)), (OBJECTS, 0));
 }
 
-fn keeps_what_it_is_to_keep<I: Index>(rt: &impl Abort, alloc: Global)
-    requires { I.WIDTH ≡ 1 }
-{
+fn keeps_what_it_is_to_keep<I: Index>(rt: &impl Abort, alloc: Global) {
     keeps_a_base_where_it_is_asked_to::<I>(rt, alloc);
     keeps_its_rows_through_many_changes::<I>(rt, alloc);
 }
@@ -218,4 +223,11 @@ fn a_flat_index_keeps_its_base_where_it_is_asked_to_and_its_share_through_many_c
 #[test]
 fn a_trie_keeps_its_base_where_it_is_asked_to_and_its_share_through_many_changes(rt: HostRuntime) {
     keeps_what_it_is_to_keep::<KdTrie>(&rt, rt.alloc());
+}
+
+#[test]
+fn a_quad_trie_keeps_its_base_where_it_is_asked_to_and_its_share_through_many_changes(
+    rt: HostRuntime,
+) {
+    keeps_what_it_is_to_keep::<QuadTrie>(&rt, rt.alloc());
 }

@@ -3,29 +3,20 @@ ghost use Rattle.std.specs.Prelude.{◌≡◌};
 
 use crate::checks::same_rows;
 use crate::index::asks::{expect_box, expect_near};
-use crate::index::buckets::{halves, three_rows};
+use crate::index::buckets::{empty_leaves, filled};
 use crate::index::spread::{finds_each_corner, ranks_by_id_where_all_are_as_far};
 use bucket_versions::Row;
 use flat_index::FlatIndex;
 use index_layer::Index;
 use kd_trie::KdTrie;
+use quad_trie::QuadTrie;
 use std::alloc::Global;
 use std::marker::Brand;
 use std::process::Abort;
 use std::sync::ledger::{Blank, Ledger};
 use step_count::Steps;
 use table_share::{for_rows, scan};
-use zorder::{Name, Placed, Point, Region, child};
-
-// Two leaves, of which the first one has three rows.
-fn filled<I: Index>(rt: &impl Abort, alloc: Global) -> I
-    requires { I.WIDTH ≡ 1 }
-{
-    let zero = child(&Name::whole(), false);
-    let bucket = three_rows(alloc).expect(rt, "three rows");
-    let index = halves::<I>(alloc).expect(rt, "two leaves");
-    index.replaced(&zero, bucket).expect(rt, "an index")
-}
+use zorder::{Placed, Point, Region};
 
 const ORIGIN: Point = Point { x: 0, y: 0 };
 
@@ -59,17 +50,15 @@ fn answers_over_three_rows<I: Index, L: Ledger>(
     rt: &impl Abort,
     alloc: Global,
     steps: &mut Steps<L>,
-)
-    requires { I.WIDTH ≡ 1 }
-{
-    let index = filled::<I>(rt, alloc);
+) {
+    let empty = empty_leaves::<I>(alloc).expect(rt, "its leaves");
+    let index = filled(rt, alloc, &empty);
     answers_rows(rt, alloc, &index, steps);
     expect_box(rt, alloc, &index, &BOX, AT_RIGHT, steps);
     expect_near(rt, alloc, &index, ORIGIN, 1, AT_RIGHT, steps);
 }
 
 fn answers_the_worked_queries<I: Index, L: Ledger>(rt: &impl Abort, alloc: Global, blank: Blank)
-    requires width { I.WIDTH ≡ 1 }
     requires name { blank.name ≡ L.name }
     requires parts { blank.parts ≡ L.parts }
     requires one_part { blank.parts ≡ 1 }
@@ -88,4 +77,9 @@ fn a_flat_index_answers_the_worked_queries_at_corners_and_among_equals_too(rt: H
 #[test]
 fn a_trie_answers_the_worked_queries_at_corners_and_among_equals_too(rt: HostRuntime) {
     answers_the_worked_queries::<KdTrie, Brand>(&rt, rt.alloc(), Blank::new(1));
+}
+
+#[test]
+fn a_quad_trie_answers_the_worked_queries_at_corners_and_among_equals_too(rt: HostRuntime) {
+    answers_the_worked_queries::<QuadTrie, Brand>(&rt, rt.alloc(), Blank::new(1));
 }

@@ -1,8 +1,6 @@
 //! Objects at the corners of the plane, and objects that are all as far.
-ghost use Rattle.std.specs.Prelude.{◌≡◌, ◌≤◌};
-
 use crate::index::asks::{expect_box, expect_near};
-use crate::index::buckets::two_leaves;
+use crate::index::buckets::leaves_over;
 use index_layer::Index;
 use std::alloc::Global;
 use std::process::Abort;
@@ -54,10 +52,8 @@ pub(crate) fn finds_each_corner<I: Index, L: Ledger>(
     rt: &impl Abort,
     alloc: Global,
     steps: &mut Steps<L>,
-)
-    requires { I.WIDTH ≡ 1 }
-{
-    let index = two_leaves::<I>(alloc, CORNERS).expect(rt, "an index");
+) {
+    let index = leaves_over::<I>(alloc, CORNERS).expect(rt, "an index");
     for object in CORNERS {
         let region = Region {
             lo: object.at,
@@ -77,10 +73,8 @@ pub(crate) fn ranks_by_id_where_all_are_as_far<I: Index, L: Ledger>(
     rt: &impl Abort,
     alloc: Global,
     steps: &mut Steps<L>,
-)
-    requires { I.WIDTH ≡ 1 }
-{
-    let index = two_leaves::<I>(alloc, AROUND_THE_MIDDLE).expect(rt, "an index");
+) {
+    let index = leaves_over::<I>(alloc, AROUND_THE_MIDDLE).expect(rt, "an index");
     expect_near(rt, alloc, &index, CENTRE, 3, FIRST_THREE, steps);
     expect_near(rt, alloc, &index, CENTRE, 2_048, AROUND_THE_MIDDLE, steps);
 }

@@ -6,6 +6,7 @@ use flat_index::FlatIndex;
 use index_build::build;
 use index_layer::{Below, Index};
 use kd_trie::KdTrie;
+use quad_trie::QuadTrie;
 use std::alloc::Global;
 use std::process::Abort;
 use zorder::{Memory, Name, Placed, Point, child};
@@ -59,7 +60,7 @@ fn second_eighth() -> Name
 }
 
 // Leaves 000 and 001 with an object each, and 01 and 1 with none.
-fn sparse<I: Index>(alloc: Global) -> Result<I, Memory>
+fn sparse_by_one_bit<I: Index>(alloc: Global) -> Result<I, Memory>
     requires { I.WIDTH ≡ 1 }
 {
     let (first, second) = (first_eighth(), second_eighth());
@@ -67,6 +68,28 @@ fn sparse<I: Index>(alloc: Global) -> Result<I, Memory>
     let behind = child(&Name::whole(), true);
     let names = [first, second, beside, behind];
     build::<I>(alloc, &world_of(alloc, OBJECTS)?, &names)
+}
+
+// Leaves 0000 and 0010 with an object each, and 0001, 0011, 01, 10 and 11 with none.
+fn sparse_by_two_bits<I: Index>(alloc: Global) -> Result<I, Memory>
+    requires { I.WIDTH ≡ 2 }
+{
+    let (first, second) = (first_eighth(), second_eighth());
+    let (low, high) = (child(&first, false), child(&first, true));
+    let (next_low, next_high) = (child(&second, false), child(&second, true));
+    let beside = child(&half(), true);
+    let behind = child(&Name::whole(), true);
+    let (third, last) = (child(&behind, false), child(&behind, true));
+    let names = [low, high, next_low, next_high, beside, third, last];
+    build::<I>(alloc, &world_of(alloc, OBJECTS)?, &names)
+}
+
+fn sparse<I: Index>(alloc: Global) -> Result<I, Memory> {
+    if I::WIDTH == 1 {
+        sparse_by_one_bit(alloc)
+    } else {
+        sparse_by_two_bits(alloc)
+    }
 }
 
 fn has_halves<P>(below: Below<'_, P>) -> bool {
@@ -77,9 +100,7 @@ fn has_halves<P>(below: Below<'_, P>) -> bool {
 }
 
 // Where walks between the two objects, at the first one and over all objects begin.
-fn begins_at<I: Index>(rt: &impl Abort, alloc: Global, both: Name, first: Name, all: Name)
-    requires { I.WIDTH ≡ 1 }
-{
+fn begins_at<I: Index>(rt: &impl Abort, alloc: Global, both: Name, first: Name, all: Name) {
     let index = sparse::<I>(alloc).expect(rt, "it failed");
     begins_between(rt, &index, both);
     begins_over_all(rt, &index, all);
@@ -100,9 +121,10 @@ fn begins_over_all<I: Index>(rt: &impl Abort, index: &I, all: Name) {
 }
 
 #[test]
-fn walks_over_a_flat_index_begin_at_the_top(rt: HostRuntime) {
+fn walks_over_a_flat_index_and_a_quad_trie_begin_at_the_top(rt: HostRuntime) {
     let top = Name::whole();
     begins_at::<FlatIndex>(&rt, rt.alloc(), top, top, top);
+    begins_at::<QuadTrie>(&rt, rt.alloc(), top, top, top);
 }
 
 #[test]

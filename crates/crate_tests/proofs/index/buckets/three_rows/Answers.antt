@@ -17,10 +17,15 @@ three-under : AreUnder (false ∷ []) (put_row more (as_base two)).rows
 unfolding key_bits
 three-under = (refl, (refl, (refl, tt)))
 
+-- and one below 2 ^ 62 with 00
+three-below : AreUnder (false ∷ false ∷ []) (put_row more (as_base two)).rows
+unfolding key_bits
+three-below = (refl, (refl, (refl, tt)))
+
 abbrev AreLow : Rows → Type 0
-AreLow b = AreUnder (false ∷ []) b.rows
+AreLow b = AreUnder (false ∷ []) b.rows × AreUnder (false ∷ false ∷ []) b.rows
 
 pub returns : goal.returns
 returns c =
     let is : arc_value c.in_ok-into_shared.field-0 ≡ put_row more (as_base two) = c.in_ok-into_shared.ensures ∙ c.in_ok-bucket-2.ensures.ok ∙ ap (put_row more) c.in_ok-bucket.ensures in
-    subst AreLow (sym is) three-under
+    subst AreLow (sym is) (three-under, three-below)

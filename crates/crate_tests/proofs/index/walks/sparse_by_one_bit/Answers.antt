@@ -1,7 +1,7 @@
 use Rattle.std.proofs.Common.{◌≡◌, ◌∙◌, ap, sym, subst, refl, ℕ, Bool, true, false, List, [], ◌∷◌, ◌++◌}
 use Rattle.zorder.specs.Name.{first_key}
 use Rattle.index_build.specs.Grown.{IsGrown}
-use Rattle.crate_tests.proofs.index.walks.sparse.Goals as goal
+use Rattle.crate_tests.proofs.index.walks.sparse_by_one_bit.Goals as goal
 
 four : IsGrown 1 ((false ∷ false ∷ false ∷ []) ∷ (false ∷ false ∷ true ∷ []) ∷ (false ∷ true ∷ []) ∷ (true ∷ []) ∷ [])
 unfolding first_key
