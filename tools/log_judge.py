@@ -93,6 +93,25 @@ def read_log(data, oldest=VERSION):
     return state
 
 
+def anew(state):
+    """The bytes of a log of these objects and leaves in as few records as that takes: a begin and an install for each name that was split, then
+    a put for each object."""
+    inner = sorted({(bits >> 64 - n << 64 - n, n) for bits, length in state.leaves for n in range(length)})
+    cells = [struct.pack(">BBQQB13x", 1, BEGIN, n, *name) + struct.pack(">BBQ22x", 1, INSTALL, n) for n, name in enumerate(inner, 1)]
+    cells += [struct.pack(">BBQIIQ6x", 1, PUT, ident, *kept) for ident, kept in sorted(state.points.items())]
+    return HEADER + b"".join(cells) + b"\0", f"compacted {2 * len(inner) + len(state.points)}\n"
+
+
+def judge_anew(state, data, is_told):
+    """Says what is wrong with a file that the log of this state is written anew into: on the way it has at most 17 bytes, or no records, and all
+    of them once that is told. It says nothing where nothing is wrong."""
+    if data == anew(state)[0]:
+        return ""
+    if is_told:
+        return "the new log isn't whole"
+    return "" if len(data) <= 17 or not read_log(data).cells else "the new log has some records"
+
+
 def load(path):
     with open(path, "rb") as file:
         return file.read()
