@@ -10,7 +10,7 @@ use Rattle.location_run.specs.Run.{Keeps, AnswersUsage}
 
 -- no command gives status 2
 accepted : {S D : Type 0} (c : Command) (old new : Ends S D) (status : ℕ) (h : List Entry) → Keeps c old new status h → status ≡ 2 → ⊥
-accepted (Init file) old new status h keeps = not-made file old.to new.to status keeps.ends
+accepted (Init file width) old new status h keeps = not-made file width old.to new.to status keeps.ends
 accepted (Check file) old new status h keeps = not-told _ file old.to new.to status keeps.ends
 accepted (Show file region) old new status h keeps = not-told _ file old.to new.to status keeps.ends
 accepted (Play log size) old new status h keeps = not-played log size old.input new.input old.to new.to status h keeps.goes

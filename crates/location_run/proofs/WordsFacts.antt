@@ -25,7 +25,7 @@ PlaysIf (declared_command.Play log size) old new status h = (new.other ≡ old.o
 PlaysIf _ old new status h = ⊥
 
 pub keeps-play : {S D : Type 0} (a : declared.Command) (old new : Ends S D) (status : ℕ) (h : List Entry) → PlaysIf a old new status h → Keeps (command_of a) old new status h
-keeps-play (declared_command.Init file) old new status h plays = absurd plays
+keeps-play (declared_command.Init file width) old new status h plays = absurd plays
 keeps-play (declared_command.Check file) old new status h plays = absurd plays
 keeps-play (declared_command.Show file region) old new status h plays = absurd plays
 keeps-play (declared_command.Trial log made) old new status h plays = absurd plays
@@ -39,7 +39,7 @@ TriesIf (declared_command.Trial log made) old new status h = (new.source ≡ old
 TriesIf _ old new status h = ⊥
 
 pub keeps-trial : {S D : Type 0} (a : declared.Command) (old new : Ends S D) (status : ℕ) (h : List Entry) → TriesIf a old new status h → Keeps (command_of a) old new status h
-keeps-trial (declared_command.Init file) old new status h tries = absurd tries
+keeps-trial (declared_command.Init file width) old new status h tries = absurd tries
 keeps-trial (declared_command.Check file) old new status h tries = absurd tries
 keeps-trial (declared_command.Show file region) old new status h tries = absurd tries
 keeps-trial (declared_command.Play log size) old new status h tries = absurd tries
@@ -53,7 +53,7 @@ IsTrialOf made _ = ⊥
 
 -- no more rows are made than an input may have
 pub few-made : (words : List (List ℕ)) (a : declared.Command) (made : Made) → AsksFor words (command_of a) → IsTrialOf made a → made.rows ≤ 65536
-few-made words (declared_command.Init file) made asks is = absurd is
+few-made words (declared_command.Init file width) made asks is = absurd is
 few-made words (declared_command.Check file) made asks is = absurd is
 few-made words (declared_command.Show file region) made asks is = absurd is
 few-made words (declared_command.Play log size) made asks is = absurd is

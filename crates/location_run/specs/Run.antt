@@ -14,7 +14,7 @@ use Rattle.play_run.specs.Trying.{Tries}
 
 -- what each command promises, of what its ends were and are, its status and its history
 abbrev pub Keeps : {S D : Type 0} → Command → Ends S D → Ends S D → ℕ → List Entry → Type 0
-Keeps (Init file) old new status h = Inits file old new status h
+Keeps (Init file width) old new status h = Inits file width old new status h
 Keeps (Check file) old new status h = Checks file old new status h
 Keeps (Play log size) old new status h = Plays log size old new status h
 Keeps (Show file region) old new status h = Shows file region old new status h

@@ -22,7 +22,7 @@ use std::thread::Threads;
 /// answers, each kept in the log before the next, and lines. The first line is written once all is there. For `init`, `check` and
 /// `show` it is: words, attach, making or inspecting, lines; for `trial`: words, making the rows, then as for rows; for `compact`: words,
 /// attach, inspecting, attach of the new file on the other drive, writing it, line. None of them reads the source. `check`, `show` and
-/// `compact` read a log of version 1 or 2; rows are played over one of version 2 alone.
+/// `compact` read a log of version 1 or 2; rows are played over one of version 2 alone. Each goes by the width that the log has.
 pub fn run<R: Threads + Wait + Sync, S: Source, K: Sink, D: LogDisk + Send, G: Gate + Sync>(
     rt: &R,
     alloc: Global,
@@ -42,8 +42,8 @@ pub fn run<R: Threads + Wait + Sync, S: Source, K: Sink, D: LogDisk + Send, G: G
         (ends S.input K.output D.drive source.new sink.new result.disk result.other) result.status result.events }
 {
     match command_in(words) {
-        Some(Command::Init(file)) => {
-            let end = make_log(alloc, file, sink, disk);
+        Some(Command::Init(file, width)) => {
+            let end = make_log(alloc, file, width, sink, disk);
             outcome_of(end, other)
         }
         Some(Command::Check(file)) => {

@@ -5,14 +5,22 @@ use Rattle.command_words.specs.Words.{AsksFor}
 use Rattle.command_words.specs.Asked.{command_of}
 use Rattle.command_words.specs.declared.parsing.Command.TheVariants.{Init, Check, Play, Show, Trial, Compact}
 use Rattle.location_run.specs.Run.{Keeps}
+use Rattle.command_words.proofs.WordsFacts.{init-width}
 use Rattle.location_run.proofs.WordsFacts.{keeps-asked, keeps-play, keeps-trial, few-made}
 use Rattle.location_run.proofs.StatusFacts.{usage-accepted}
 use Rattle.location_run.proofs.top.run.Goals as goal
 
+pub make_log-end-requires : goal.make_log-end-requires
+make_log-end-requires g c =
+    let words = map string_bytes c.args.words.now in
+    let command = Init c.in-Some-Init.file c.in-Some-Init.width in
+    let asks : AsksFor words (command_of command) = rw c.in-Some-Init.field-0-is at c.in-Some-Init.ensures in
+    init-width words c.in-Some-Init.file.now c.in-Some-Init.width asks
+
 pub returns-in-Some-Init : goal.returns-in-Some-Init
 returns-in-Some-Init g c =
     let words = map string_bytes c.args.words.now in
-    let command = Init c.in-Some-Init.file in
+    let command = Init c.in-Some-Init.file c.in-Some-Init.width in
     let asks : AsksFor words (command_of command) = rw c.in-Some-Init.field-0-is at c.in-Some-Init.ensures in
     let end = c.make_log-end.result in
     let told = c.make_log-end.ensures in
