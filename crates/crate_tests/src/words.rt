@@ -11,7 +11,7 @@ const USAGE: Said<'static> = ("usage", None, [0; 4]);
 
 fn said(command: Option<Command<'_>>) -> Said<'_> {
     match command {
-        Some(Command::Init(file)) => ("init", Some(file), [0; 4]),
+        Some(Command::Init(file, width)) => ("init", Some(file), [u64::from(width), 0, 0, 0]),
         Some(Command::Check(file)) => ("check", Some(file), [0; 4]),
         Some(Command::Play(file, size)) => ("play", file, [u64::from(size), 0, 0, 0]),
         Some(Command::Show(file, region)) => ("show", Some(file), corners(region)),
@@ -55,7 +55,8 @@ fn expect_asked(rt: &impl Abort, alloc: Global, line: &str, wanted: Said<'_>) {
 const FILE: Option<&str> = Some("moves.log");
 
 const COMMANDS: &[(&str, Said<'static>)] = &[
-    ("init moves.log", ("init", FILE, [0; 4])),
+    ("init moves.log", ("init", FILE, [1, 0, 0, 0])),
+    ("init moves.log --quad", ("init", FILE, [2, 0, 0, 0])),
     ("check moves.log", ("check", FILE, [0; 4])),
     ("play -", ("play", None, [64, 0, 0, 0])),
     ("play moves.log", ("play", FILE, [64, 0, 0, 0])),
@@ -92,6 +93,12 @@ const OTHER_WORDS: &[&str] = &[
     "init",
     "init -",
     "init moves.log more",
+    "init --quad",
+    "init - --quad",
+    "init --quad moves.log",
+    "init moves.log --quad --quad",
+    "check moves.log --quad",
+    "play moves.log --quad",
     "check -x",
     "play",
     "play -x",
