@@ -7,15 +7,15 @@ use std::process::Abort;
 use std::sync::Wait;
 use std::thread::Threads;
 
-// A run of `compact`, the bytes of the second file before and after it, and the attaches of the second drive.
+/// A run of `compact`, the bytes of the second file before and after it, and the attaches of the second drive.
 #[derive(Clone, Copy)]
-struct Pair<'a> {
-    run: Case<'a>,
-    new: &'a [u8],
-    // The calls of the second drive that fail.
-    failing: &'a [Fail],
-    written: &'a [u8],
-    makes: &'a str,
+pub struct Pair<'a> {
+    pub run: Case<'a>,
+    pub new: &'a [u8],
+    /// The calls of the second drive that fail.
+    pub failing: &'a [Fail],
+    pub written: &'a [u8],
+    pub makes: &'a str,
 }
 
 impl Pair<'_> {
@@ -32,7 +32,8 @@ impl Pair<'_> {
     }
 }
 
-fn pair_is_left<R: Abort + Threads + Wait + Sync>(rt: &R, alloc: Global, pair: &Pair<'_>) {
+/// Fails unless the run leaves what it should in both files.
+pub fn pair_is_left<R: Abort + Threads + Wait + Sync>(rt: &R, alloc: Global, pair: &Pair<'_>) {
     let left = run_both(rt, alloc, &pair.run.plan(), pair.new, pair.failing);
     holds(rt, pair.is_left(&left), pair.run.name);
 }
@@ -52,7 +53,8 @@ const RUN: Case<'static> = Case {
     ..EMPTY
 };
 
-const PAIR: Pair<'static> = Pair {
+/// `compact` of a log of no cells into no file.
+pub const PAIR: Pair<'static> = Pair {
     run: RUN,
     new: &[],
     failing: &[],

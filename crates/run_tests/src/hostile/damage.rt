@@ -133,21 +133,21 @@ const OF_VERSION_3: Want = Want {
     ..NOT_LOG
 };
 
-const OF_WIDTH_2: Want = Want {
+const OF_WIDTH_3: Want = Want {
     found: Err(OpenFault::OldLog {
         version: 2,
-        width: 2,
+        width: 3,
     }),
-    texts: ["refused log version 2 width 2\n"; 3],
+    texts: ["refused log version 2 width 3\n"; 3],
     ..NOT_LOG
 };
 
-const OF_1_AND_WIDTH_2: Want = Want {
+const OF_1_AND_WIDTH_3: Want = Want {
     found: Err(OpenFault::OldLog {
         version: 1,
-        width: 2,
+        width: 3,
     }),
-    texts: ["refused log version 1 width 2\n"; 3],
+    texts: ["refused log version 1 width 3\n"; 3],
     ..NOT_LOG
 };
 
@@ -390,7 +390,7 @@ const FILES: &[(Want, &[Damage])] = &[
 
 // The files in which each is to be found in one version alone: the moments of version 2 are reserved bytes in version 1.
 const FILES_OF_1: &[(Want, &[Damage])] = &[
-    (OF_1_AND_WIDTH_2, &[Damage(&[], Some((9, 2)), 0)]),
+    (OF_1_AND_WIDTH_3, &[Damage(&[], Some((9, 3)), 0)]),
     (
         RESERVED,
         &[
@@ -402,7 +402,7 @@ const FILES_OF_1: &[(Want, &[Damage])] = &[
 ];
 
 const FILES_OF_2: &[(Want, &[Damage])] = &[
-    (OF_WIDTH_2, &[Damage(&[], Some((9, 2)), 0)]),
+    (OF_WIDTH_3, &[Damage(&[], Some((9, 3)), 0)]),
     (ONE_PUT_OF_1, &[Damage(&[PUT_OF_1], None, 0)]),
     (ONE_PUT_OF_BYTE_18, &[Damage(&[PUT_OF_BYTE_18], None, 0)]),
     (

@@ -1,0 +1,200 @@
+//! The commands over a log whose splits make four children: one that is made, five points that are split, and a point under many splits.
+use crate::checks::{CHECK, Case, EMPTY, INIT, PLAY_BY_4, is_left};
+use crate::compacts::{PAIR, Pair, pair_is_left};
+use crate::hostile::records::{BEGIN, INSTALL, PUT, Record, log_of};
+use crate::memory::{EMPTY_LOG, TWO_LEAVES_LOG};
+use std::alloc::{AllocError, Global};
+use std::process::Abort;
+use std::sync::Wait;
+use std::thread::Threads;
+
+// The same log, where its splits make four children.
+fn as_quad(alloc: Global, log: &[u8]) -> Result<Vec<u8>, AllocError> {
+    let mut quad = log.to_vec(alloc)?;
+    if let Some(width) = quad.get_mut(9) {
+        *width = 2;
+    }
+    Ok(quad)
+}
+
+const MADE: Case<'static> = Case {
+    name: "init of a quad log",
+    words: &["init", "log", "--quad"],
+    file: Some(&[]),
+    ..INIT
+};
+
+const PUTS_BY_4: Case<'static> = Case {
+    name: "five puts over a quad log with buckets of 4",
+    words: PLAY_BY_4,
+    input: rows!(
+        "1,put,1,0,0,,,0\n1,put,2,2147483648,0,,,0\n1,put,3,0,2147483648,,,0\n1,put,4,2147483648,2147483648,,,0\n1,put,5,1,1,,,0\n"
+    ),
+    text: lines!("1,1,done,\n2,2,done,\n3,3,done,\n4,4,done,\n5,5,done,\n"),
+    entries: 7,
+    ..EMPTY
+};
+
+// What is found of the five points.
+const FOUND: &[Case<'static>] = &[
+    Case {
+        name: "check of four leaves",
+        text: "cells 7\npoints 5\nleaves 4\nunfinished 0\n",
+        ..CHECK
+    },
+    Case {
+        name: "show of two of five points",
+        words: &["show", "log", "0", "0", "1", "1"],
+        text: "id,x,y,moment\n1,0,0,0\n5,1,1,0\n",
+        ..CHECK
+    },
+    Case {
+        name: "a box and the nearest over four leaves",
+        words: PLAY_BY_4,
+        input: rows!("1,box,,0,0,3,5,\n1,near,,0,0,3,,\n1,where,4,,,,,\n"),
+        text: lines!("1,1,found,1:0:0;5:1:1\n2,2,found,1:0:0;5:1:1;2:2147483648:0\n3,3,at,2147483648:2147483648:0\n"),
+        entries: 3,
+        ..EMPTY
+    },
+];
+
+fn makes_and_splits<R: Abort + Threads + Wait + Sync>(rt: &R, alloc: Global) {
+    let empty = as_quad(alloc, EMPTY_LOG).expect(rt, "it failed");
+    let split = as_quad(alloc, TWO_LEAVES_LOG).expect(rt, "it failed");
+    is_left(
+        rt,
+        alloc,
+        &Case {
+            held: &empty,
+            ..MADE
+        },
+    );
+    is_left(
+        rt,
+        alloc,
+        &Case {
+            file: Some(&empty),
+            held: &split,
+            ..PUTS_BY_4
+        },
+    );
+    for case in FOUND {
+        is_left(rt, alloc, &case.over(&split));
+    }
+}
+
+#[test]
+fn a_quad_log_is_made_split_and_found_again(rt: HostRuntime) {
+    makes_and_splits(&rt, rt.alloc());
+}
+
+// Begin 1 of the empty name, install 1, and puts 1 to 5.
+const FRESH_TWO_LEAVES_LOG: &[u8] = b"MDLOCLOG\x02\x01\0\0\0\0\0\0\
+    \x01\x04\0\0\0\0\0\0\0\x01\0\0\0\0\0\0\0\0\0\0\0\0\0\0\0\0\0\0\0\0\0\0\
+    \x01\x05\0\0\0\0\0\0\0\x01\0\0\0\0\0\0\0\0\0\0\0\0\0\0\0\0\0\0\0\0\0\0\
+    \x01\x01\0\0\0\0\0\0\0\x01\0\0\0\0\0\0\0\0\0\0\0\0\0\0\0\0\0\0\0\0\0\0\
+    \x01\x01\0\0\0\0\0\0\0\x02\x80\0\0\0\0\0\0\0\0\0\0\0\0\0\0\0\0\0\0\0\0\0\
+    \x01\x01\0\0\0\0\0\0\0\x03\0\0\0\0\x80\0\0\0\0\0\0\0\0\0\0\0\0\0\0\0\0\0\
+    \x01\x01\0\0\0\0\0\0\0\x04\x80\0\0\0\x80\0\0\0\0\0\0\0\0\0\0\0\0\0\0\0\0\0\
+    \x01\x01\0\0\0\0\0\0\0\x05\0\0\0\x01\0\0\0\x01\0\0\0\0\0\0\0\0\0\0\0\0\0\0\
+    \0";
+
+fn keeps_its_width<R: Abort + Threads + Wait + Sync>(rt: &R, alloc: Global) {
+    let split = as_quad(alloc, TWO_LEAVES_LOG).expect(rt, "it failed");
+    let fresh = as_quad(alloc, FRESH_TWO_LEAVES_LOG).expect(rt, "it failed");
+    let run = Case {
+        name: "compact of a quad log",
+        text: "compacted 7\n",
+        ..PAIR.run
+    };
+    pair_is_left(
+        rt,
+        alloc,
+        &Pair {
+            run: run.over(&split),
+            written: &fresh,
+            ..PAIR
+        },
+    );
+}
+
+#[test]
+fn a_quad_log_that_is_written_anew_stays_one(rt: HostRuntime) {
+    keeps_its_width(&rt, rt.alloc());
+}
+
+// The key of (3,5), whose first bits are the names of the leaves that have it.
+const KEY: u64 = 0b11011;
+
+// A log of puts 1 to 5 at (3,5), and 32 splits, each of the leaf that has them.
+fn many_leaves_log(alloc: Global) -> Result<Vec<u8>, AllocError> {
+    let mut records = Vec::new(alloc);
+    for number in 1..=5 {
+        records.push(Record {
+            kind: PUT,
+            number,
+            place: 0x3_0000_0005,
+            moment: 0,
+            len: 0,
+        })?;
+    }
+    for number in 1..=32u8 {
+        add_split(&mut records, number)?;
+    }
+    as_quad(alloc, log_of(alloc, records.as_slice(), &[0])?.as_slice())
+}
+
+// Adds the begin and the install of this split, of a leaf whose name has two bits for each split before it.
+fn add_split(records: &mut Vec<Record>, number: u8) -> Result<(), AllocError> {
+    let len = number.saturating_sub(1).saturating_mul(2);
+    let begin = Record {
+        kind: BEGIN,
+        number: number as u64,
+        place: KEY & !u64::MAX.checked_shr(len as u32).unwrap_or(0),
+        moment: 0,
+        len,
+    };
+    records.push(begin)?;
+    records.push(Record {
+        kind: INSTALL,
+        place: 0,
+        len: 0,
+        ..begin
+    })?;
+    Ok(())
+}
+
+const AT_ONE_POINT: Case<'static> = Case {
+    name: "five puts at one point over a quad log",
+    input: rows!(
+        "1,put,1,3,5,,,0\n1,put,2,3,5,,,0\n1,put,3,3,5,,,0\n1,put,4,3,5,,,0\n1,put,5,3,5,,,0\n"
+    ),
+    entries: 69,
+    ..PUTS_BY_4
+};
+
+const CHECK_AT_ONE_POINT: Case<'static> = Case {
+    name: "check of 97 leaves",
+    text: "cells 69\npoints 5\nleaves 97\nunfinished 0\n",
+    ..CHECK
+};
+
+fn splits_of_one_point<R: Abort + Threads + Wait + Sync>(rt: &R, alloc: Global) {
+    let empty = as_quad(alloc, EMPTY_LOG).expect(rt, "it failed");
+    let log = many_leaves_log(alloc).expect(rt, "it failed");
+    is_left(
+        rt,
+        alloc,
+        &Case {
+            file: Some(&empty),
+            held: &log,
+            ..AT_ONE_POINT
+        },
+    );
+    is_left(rt, alloc, &CHECK_AT_ONE_POINT.over(&log));
+}
+
+#[test]
+fn points_at_one_place_make_half_as_many_splits_of_four(rt: HostRuntime) {
+    splits_of_one_point(&rt, rt.alloc());
+}
