@@ -1,0 +1,4 @@
+use Rattle.depot.proofs.drivers.work.Given as goal
+
+abbrev pub ghosts-make_calls : goal.ghosts-make_calls
+ghosts-make_calls g a = record { name = a.blank.name; parts = a.blank.parts }
