@@ -52,7 +52,9 @@ const FOUND: &[Case<'static>] = &[
         name: "a box and the nearest over four leaves",
         words: PLAY_BY_4,
         input: rows!("1,box,,0,0,3,5,\n1,near,,0,0,3,,\n1,where,4,,,,,\n"),
-        text: lines!("1,1,found,1:0:0;5:1:1\n2,2,found,1:0:0;5:1:1;2:2147483648:0\n3,3,at,2147483648:2147483648:0\n"),
+        text: lines!(
+            "1,1,found,1:0:0;5:1:1\n2,2,found,1:0:0;5:1:1;2:2147483648:0\n3,3,at,2147483648:2147483648:0\n"
+        ),
         entries: 3,
         ..EMPTY
     },

@@ -321,12 +321,12 @@ fn judge_whole<R: Abort + Threads + Wait + Sync>(rt: &R, alloc: Global, calls: &
     judge_last(rt, alloc, &left);
 }
 
-// How many calls a play makes. An append has two writes and two syncs, and there are eight; opening has one sync, and cuts nothing where
-// the log ends with its commit byte.
+// How many calls a play makes. The width is found by a length and a read of the head. An append has two writes and two syncs, and there
+// are eight; opening has one sync, and cuts nothing where the log ends with its commit byte.
 const PLAY_CALLS: &[(DiskCall, u64)] = &[
     (DiskCall::Attach, 1),
-    (DiskCall::Len, 1),
-    (DiskCall::Read, 2),
+    (DiskCall::Len, 2),
+    (DiskCall::Read, 3),
     (DiskCall::Write, 16),
     (DiskCall::Cut, 0),
     (DiskCall::Sync, 17),
