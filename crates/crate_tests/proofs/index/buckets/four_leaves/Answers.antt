@@ -1,10 +1,15 @@
-use Rattle.std.proofs.Common.{◌≡◌, ◌∙◌, ap, sym, ℕ, Bool, true, false, List, [], ◌∷◌, ◌++◌}
+use Rattle.std.proofs.Common.{◌≡◌, ◌∙◌, ap, sym, subst, ℕ, Bool, true, false, List, [], ◌∷◌, ◌++◌}
 use Rattle.index_build.specs.Grown.{IsGrown}
 use Rattle.index_build.specs.Examples.{four_quarters}
 use Rattle.crate_tests.proofs.index.buckets.four_leaves.Goals as goal
 
 alike : (w : ℕ) (a b c d : List Bool) → w ≡ 2 → a ≡ false ∷ false ∷ [] → b ≡ false ∷ true ∷ [] → c ≡ true ∷ false ∷ [] → d ≡ true ∷ true ∷ [] → IsGrown w (a ∷ b ∷ c ∷ d ∷ [])
-alike w a b c d v e f g h = transport (λ i. IsGrown (sym v i) (sym e i ∷ sym f i ∷ sym g i ∷ sym h i ∷ [])) four_quarters
+alike w a b c d v e f g h =
+    subst (λ (w : ℕ). IsGrown w (a ∷ b ∷ c ∷ d ∷ [])) (sym v)
+    (subst (λ (n : List Bool). IsGrown 2 (n ∷ b ∷ c ∷ d ∷ [])) (sym e)
+    (subst (λ (n : List Bool). IsGrown 2 ((false ∷ false ∷ []) ∷ n ∷ c ∷ d ∷ [])) (sym f)
+    (subst (λ (n : List Bool). IsGrown 2 ((false ∷ false ∷ []) ∷ (false ∷ true ∷ []) ∷ n ∷ d ∷ [])) (sym g)
+    (subst (λ (n : List Bool). IsGrown 2 ((false ∷ false ∷ []) ∷ (false ∷ true ∷ []) ∷ (true ∷ false ∷ []) ∷ n ∷ [])) (sym h) four_quarters))))
 
 pub build-requires : goal.build-requires
 build-requires g c =
