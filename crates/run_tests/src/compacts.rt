@@ -44,7 +44,8 @@ fn each_pair_is_left<R: Abort + Threads + Wait + Sync>(rt: &R, alloc: Global, pa
     }
 }
 
-const RUN: Case<'static> = Case {
+/// `compact` of a log of no cells.
+pub const RUN: Case<'static> = Case {
     name: "compact of no cells",
     words: &["compact", "log", "new"],
     input: "",

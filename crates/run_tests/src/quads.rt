@@ -1,32 +1,39 @@
 //! The commands over a log whose splits make four children: one that is made, five points that are split, and a point under many splits.
-use crate::checks::{CHECK, Case, EMPTY, INIT, PLAY_BY_4, is_left};
-use crate::compacts::{PAIR, Pair, pair_is_left};
+use crate::checks::{CHECK, Case, EMPTY, INIT, PLAY_BY_4, each_is_left, is_left};
+use crate::compacts::{PAIR, Pair, RUN, pair_is_left};
 use crate::hostile::records::{BEGIN, INSTALL, PUT, Record, log_of};
-use crate::memory::{EMPTY_LOG, TWO_LEAVES_LOG};
 use std::alloc::{AllocError, Global};
 use std::process::Abort;
 use std::sync::Wait;
 use std::thread::Threads;
 
-// The same log, where its splits make four children.
-fn as_quad(alloc: Global, log: &[u8]) -> Result<Vec<u8>, AllocError> {
-    let mut quad = log.to_vec(alloc)?;
-    if let Some(width) = quad.get_mut(9) {
-        *width = 2;
-    }
-    Ok(quad)
-}
+// A log of no cells whose splits make four children.
+const EMPTY_QUAD_LOG: &[u8] = b"MDLOCLOG\x02\x02\0\0\0\0\0\0\0";
+
+// Of such a log: puts 1 to 5 at (0,0), (2147483648,0), (0,2147483648), (2147483648,2147483648) and (1,1), begin 1 of the empty name, and install 1.
+const FOUR_LEAVES_LOG: &[u8] = b"MDLOCLOG\x02\x02\0\0\0\0\0\0\
+    \x01\x01\0\0\0\0\0\0\0\x01\0\0\0\0\0\0\0\0\0\0\0\0\0\0\0\0\0\0\0\0\0\0\
+    \x01\x01\0\0\0\0\0\0\0\x02\x80\0\0\0\0\0\0\0\0\0\0\0\0\0\0\0\0\0\0\0\0\0\
+    \x01\x01\0\0\0\0\0\0\0\x03\0\0\0\0\x80\0\0\0\0\0\0\0\0\0\0\0\0\0\0\0\0\0\
+    \x01\x01\0\0\0\0\0\0\0\x04\x80\0\0\0\x80\0\0\0\0\0\0\0\0\0\0\0\0\0\0\0\0\0\
+    \x01\x01\0\0\0\0\0\0\0\x05\0\0\0\x01\0\0\0\x01\0\0\0\0\0\0\0\0\0\0\0\0\0\0\
+    \x01\x04\0\0\0\0\0\0\0\x01\0\0\0\0\0\0\0\0\0\0\0\0\0\0\0\0\0\0\0\0\0\0\
+    \x01\x05\0\0\0\0\0\0\0\x01\0\0\0\0\0\0\0\0\0\0\0\0\0\0\0\0\0\0\0\0\0\0\
+    \0";
 
 const MADE: Case<'static> = Case {
     name: "init of a quad log",
     words: &["init", "log", "--quad"],
     file: Some(&[]),
+    held: EMPTY_QUAD_LOG,
     ..INIT
 };
 
 const PUTS_BY_4: Case<'static> = Case {
     name: "five puts over a quad log with buckets of 4",
     words: PLAY_BY_4,
+    file: Some(EMPTY_QUAD_LOG),
+    held: FOUR_LEAVES_LOG,
     input: rows!(
         "1,put,1,0,0,,,0\n1,put,2,2147483648,0,,,0\n1,put,3,0,2147483648,,,0\n1,put,4,2147483648,2147483648,,,0\n1,put,5,1,1,,,0\n"
     ),
@@ -39,17 +46,23 @@ const PUTS_BY_4: Case<'static> = Case {
 const FOUND: &[Case<'static>] = &[
     Case {
         name: "check of four leaves",
+        file: Some(FOUR_LEAVES_LOG),
+        held: FOUR_LEAVES_LOG,
         text: "cells 7\npoints 5\nleaves 4\nunfinished 0\n",
         ..CHECK
     },
     Case {
         name: "show of two of five points",
+        file: Some(FOUR_LEAVES_LOG),
+        held: FOUR_LEAVES_LOG,
         words: &["show", "log", "0", "0", "1", "1"],
         text: "id,x,y,moment\n1,0,0,0\n5,1,1,0\n",
         ..CHECK
     },
     Case {
         name: "a box and the nearest over four leaves",
+        file: Some(FOUR_LEAVES_LOG),
+        held: FOUR_LEAVES_LOG,
         words: PLAY_BY_4,
         input: rows!("1,box,,0,0,3,5,\n1,near,,0,0,3,,\n1,where,4,,,,,\n"),
         text: lines!(
@@ -60,38 +73,15 @@ const FOUND: &[Case<'static>] = &[
     },
 ];
 
-fn makes_and_splits<R: Abort + Threads + Wait + Sync>(rt: &R, alloc: Global) {
-    let empty = as_quad(alloc, EMPTY_LOG).expect(rt, "it failed");
-    let split = as_quad(alloc, TWO_LEAVES_LOG).expect(rt, "it failed");
-    is_left(
-        rt,
-        alloc,
-        &Case {
-            held: &empty,
-            ..MADE
-        },
-    );
-    is_left(
-        rt,
-        alloc,
-        &Case {
-            file: Some(&empty),
-            held: &split,
-            ..PUTS_BY_4
-        },
-    );
-    for case in FOUND {
-        is_left(rt, alloc, &case.over(&split));
-    }
-}
-
 #[test]
 fn a_quad_log_is_made_split_and_found_again(rt: HostRuntime) {
-    makes_and_splits(&rt, rt.alloc());
+    is_left(&rt, rt.alloc(), &MADE);
+    is_left(&rt, rt.alloc(), &PUTS_BY_4);
+    each_is_left(&rt, rt.alloc(), FOUND);
 }
 
 // Begin 1 of the empty name, install 1, and puts 1 to 5.
-const FRESH_TWO_LEAVES_LOG: &[u8] = b"MDLOCLOG\x02\x01\0\0\0\0\0\0\
+const FRESH_FOUR_LEAVES_LOG: &[u8] = b"MDLOCLOG\x02\x02\0\0\0\0\0\0\
     \x01\x04\0\0\0\0\0\0\0\x01\0\0\0\0\0\0\0\0\0\0\0\0\0\0\0\0\0\0\0\0\0\0\
     \x01\x05\0\0\0\0\0\0\0\x01\0\0\0\0\0\0\0\0\0\0\0\0\0\0\0\0\0\0\0\0\0\0\
     \x01\x01\0\0\0\0\0\0\0\x01\0\0\0\0\0\0\0\0\0\0\0\0\0\0\0\0\0\0\0\0\0\0\
@@ -101,28 +91,21 @@ const FRESH_TWO_LEAVES_LOG: &[u8] = b"MDLOCLOG\x02\x01\0\0\0\0\0\0\
     \x01\x01\0\0\0\0\0\0\0\x05\0\0\0\x01\0\0\0\x01\0\0\0\0\0\0\0\0\0\0\0\0\0\0\
     \0";
 
-fn keeps_its_width<R: Abort + Threads + Wait + Sync>(rt: &R, alloc: Global) {
-    let split = as_quad(alloc, TWO_LEAVES_LOG).expect(rt, "it failed");
-    let fresh = as_quad(alloc, FRESH_TWO_LEAVES_LOG).expect(rt, "it failed");
-    let run = Case {
+const COMPACTED: Pair<'static> = Pair {
+    run: Case {
         name: "compact of a quad log",
+        file: Some(FOUR_LEAVES_LOG),
         text: "compacted 7\n",
-        ..PAIR.run
-    };
-    pair_is_left(
-        rt,
-        alloc,
-        &Pair {
-            run: run.over(&split),
-            written: &fresh,
-            ..PAIR
-        },
-    );
-}
+        held: FOUR_LEAVES_LOG,
+        ..RUN
+    },
+    written: FRESH_FOUR_LEAVES_LOG,
+    ..PAIR
+};
 
 #[test]
 fn a_quad_log_that_is_written_anew_stays_one(rt: HostRuntime) {
-    keeps_its_width(&rt, rt.alloc());
+    pair_is_left(&rt, rt.alloc(), &COMPACTED);
 }
 
 // The key of (3,5), whose first bits are the names of the leaves that have it.
@@ -143,7 +126,11 @@ fn many_leaves_log(alloc: Global) -> Result<Vec<u8>, AllocError> {
     for number in 1..=32u8 {
         add_split(&mut records, number)?;
     }
-    as_quad(alloc, log_of(alloc, records.as_slice(), &[0])?.as_slice())
+    let mut log = log_of(alloc, records.as_slice(), &[0])?;
+    if let Some(width) = log.get_mut(9) {
+        *width = 2;
+    }
+    Ok(log)
 }
 
 // Adds the begin and the install of this split, of a leaf whose name has two bits for each split before it.
@@ -166,7 +153,7 @@ fn add_split(records: &mut Vec<Record>, number: u8) -> Result<(), AllocError> {
     Ok(())
 }
 
-const AT_ONE_POINT: Case<'static> = Case {
+const AT_ONE_POINT: &Case<'static> = &Case {
     name: "five puts at one point over a quad log",
     input: rows!(
         "1,put,1,3,5,,,0\n1,put,2,3,5,,,0\n1,put,3,3,5,,,0\n1,put,4,3,5,,,0\n1,put,5,3,5,,,0\n"
@@ -175,25 +162,24 @@ const AT_ONE_POINT: Case<'static> = Case {
     ..PUTS_BY_4
 };
 
-const CHECK_AT_ONE_POINT: Case<'static> = Case {
+const CHECK_AT_ONE_POINT: &Case<'static> = &Case {
     name: "check of 97 leaves",
     text: "cells 69\npoints 5\nleaves 97\nunfinished 0\n",
     ..CHECK
 };
 
+fn leaving(held: &[u8]) -> Case<'_> {
+    Case {
+        held,
+        ..*AT_ONE_POINT
+    }
+}
+
 fn splits_of_one_point<R: Abort + Threads + Wait + Sync>(rt: &R, alloc: Global) {
-    let empty = as_quad(alloc, EMPTY_LOG).expect(rt, "it failed");
     let log = many_leaves_log(alloc).expect(rt, "it failed");
-    is_left(
-        rt,
-        alloc,
-        &Case {
-            file: Some(&empty),
-            held: &log,
-            ..AT_ONE_POINT
-        },
-    );
-    is_left(rt, alloc, &CHECK_AT_ONE_POINT.over(&log));
+    let log = log.as_slice();
+    is_left(rt, alloc, &leaving(log));
+    is_left(rt, alloc, &CHECK_AT_ONE_POINT.over(log));
 }
 
 #[test]
