@@ -5,8 +5,15 @@ import struct
 import sys
 
 FIRST = "row,place,answer,detail\n"
-VERSION, OLDEST, WIDTH = 2, 1, 1
-HEADER = b"MDLOCLOG" + bytes((VERSION, WIDTH)) + bytes(6)
+VERSION, OLDEST, WIDTHS = 2, 1, (1, 2)
+
+
+def header(width):
+    """The first 16 bytes of a log whose splits make two children, or four."""
+    return b"MDLOCLOG" + bytes((VERSION, width)) + bytes(6)
+
+
+HEADER = header(1)
 PUT, MOVE, DROP, BEGIN, INSTALL, ABANDON = range(1, 7)
 
 
@@ -34,9 +41,10 @@ def point(place):
 
 
 class State:
-    """What the records of a log stand for. Objects are by id: x, y and moment."""
+    """What the records of a log stand for whose splits make two children, or four. Objects are by id: x, y and moment."""
 
-    def __init__(self):
+    def __init__(self, width=1):
+        self.width = width
         self.points, self.leaves, self.splits, self.begun, self.cells = {}, {(0, 0)}, {}, 0, []
 
     def add(self, cell):
@@ -47,7 +55,7 @@ class State:
             PUT: number not in self.points and len(self.points) < 1 << 20,
             MOVE: number in self.points and self.points[number][2] <= more,
             DROP: number in self.points,
-            BEGIN: number == self.begun + 1 and name in self.leaves and more < 64,
+            BEGIN: number == self.begun + 1 and name in self.leaves and more + self.width <= 64,
             INSTALL: number in self.splits,
             ABANDON: number in self.splits,
         }
@@ -66,7 +74,8 @@ class State:
             bits, length = self.splits.pop(number)
             if kind == INSTALL:
                 self.leaves.remove((bits, length))
-                self.leaves |= {(bits, length + 1), (bits | 1 << 63 - length, length + 1)}
+                low = 64 - length - self.width
+                self.leaves |= {(bits | child << low, length + self.width) for child in range(1 << self.width)}
 
     def counts(self):
         return f"cells {len(self.cells)}\npoints {len(self.points)}\nleaves {len(self.leaves)}\nunfinished {len(self.splits)}\n"
@@ -79,9 +88,9 @@ def read_log(data, oldest=VERSION):
     """The state of a file's records. A file that is no log, or one of a version before the oldest that is read, is refused by its line."""
     if len(data) < 17 or data[:8] != HEADER[:8] or data[10:16] != HEADER[10:]:
         raise Damaged("refused not a log\n")
-    if not oldest <= data[8] <= VERSION or data[9] != WIDTH:
+    if not oldest <= data[8] <= VERSION or data[9] not in WIDTHS:
         raise Damaged(f"refused log version {data[8]} width {data[9]}\n")
-    state, at = State(), 16
+    state, at = State(data[9]), 16
     while data[at] == 1:
         try:
             if len(data) < at + 33:
@@ -96,10 +105,10 @@ def read_log(data, oldest=VERSION):
 def anew(state):
     """The bytes of a log of these objects and leaves in as few records as that takes: a begin and an install for each name that was split, then
     a put for each object."""
-    inner = sorted({(bits >> 64 - n << 64 - n, n) for bits, length in state.leaves for n in range(length)})
+    inner = sorted({(bits >> 64 - n << 64 - n, n) for bits, length in state.leaves for n in range(0, length, state.width)})
     cells = [struct.pack(">BBQQB13x", 1, BEGIN, n, *name) + struct.pack(">BBQ22x", 1, INSTALL, n) for n, name in enumerate(inner, 1)]
     cells += [struct.pack(">BBQIIQ6x", 1, PUT, ident, *kept) for ident, kept in sorted(state.points.items())]
-    return HEADER + b"".join(cells) + b"\0", f"compacted {2 * len(inner) + len(state.points)}\n"
+    return header(state.width) + b"".join(cells) + b"\0", f"compacted {2 * len(inner) + len(state.points)}\n"
 
 
 def judge_anew(state, data, is_told):
