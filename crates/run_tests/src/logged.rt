@@ -158,8 +158,8 @@ const SPLITS: &[Case<'static>] = &[
 // The key of (3,5), whose first bits are the names of the leaves that have it.
 const KEY: u64 = 0b11011;
 
-// A log of puts 1 to 5 at (3,5), and 64 splits, each of the leaf that has them.
-fn many_leaves_log(alloc: Global) -> Result<Vec<u8>, AllocError> {
+/// A log of puts 1 to 5 at (3,5), and so many splits of this width, each of the leaf that has them.
+pub fn many_leaves_log(alloc: Global, width: u8, splits: u8) -> Result<Vec<u8>, AllocError> {
     let mut records = Vec::new(alloc);
     for number in 1..=5 {
         records.push(Record {
@@ -170,17 +170,21 @@ fn many_leaves_log(alloc: Global) -> Result<Vec<u8>, AllocError> {
             len: 0,
         })?;
     }
-    for len in 0..64u8 {
-        add_split(&mut records, len)?;
+    for before in 0..splits {
+        add_split(&mut records, before, before.saturating_mul(width))?;
     }
-    log_of(alloc, records.as_slice(), &[0])
+    let mut log = log_of(alloc, records.as_slice(), &[0])?;
+    if let Some(byte) = log.get_mut(9) {
+        *byte = width;
+    }
+    Ok(log)
 }
 
-// Adds the begin and the install of the split of the leaf whose name has so many bits.
-fn add_split(records: &mut Vec<Record>, len: u8) -> Result<(), AllocError> {
+// Adds the begin and the install of the split behind so many others, of the leaf whose name has so many bits.
+fn add_split(records: &mut Vec<Record>, before: u8, len: u8) -> Result<(), AllocError> {
     let begin = Record {
         kind: BEGIN,
-        number: (len as u64).saturating_add(1),
+        number: (before as u64).saturating_add(1),
         place: KEY & !u64::MAX.checked_shr(len as u32).unwrap_or(0),
         moment: 0,
         len,
@@ -228,7 +232,7 @@ fn leaving(held: &[u8]) -> Case<'_> {
 
 // Five puts at one point make as many splits as a name may have bits, and are found again.
 fn splits_of_one_point<R: Abort + Threads + Wait + Sync>(rt: &R, alloc: Global) {
-    let log = many_leaves_log(alloc).expect(rt, "it failed");
+    let log = many_leaves_log(alloc, 1, 64).expect(rt, "it failed");
     let log = log.as_slice();
     is_left(rt, alloc, &leaving(log));
     for case in FOUND_AT_ONE_POINT {

@@ -1,8 +1,8 @@
 //! The commands over a log whose splits make four children: one that is made, five points that are split, and a point under many splits.
 use crate::checks::{CHECK, Case, EMPTY, INIT, PLAY_BY_4, each_is_left, is_left};
 use crate::compacts::{PAIR, Pair, RUN, pair_is_left};
-use crate::hostile::records::{BEGIN, INSTALL, PUT, Record, log_of};
-use std::alloc::{AllocError, Global};
+use crate::logged::many_leaves_log;
+use std::alloc::Global;
 use std::process::Abort;
 use std::sync::Wait;
 use std::thread::Threads;
@@ -108,51 +108,7 @@ fn a_quad_log_that_is_written_anew_stays_one(rt: HostRuntime) {
     pair_is_left(&rt, rt.alloc(), &COMPACTED);
 }
 
-// The key of (3,5), whose first bits are the names of the leaves that have it.
-const KEY: u64 = 0b11011;
-
-// A log of puts 1 to 5 at (3,5), and 32 splits, each of the leaf that has them.
-fn many_leaves_log(alloc: Global) -> Result<Vec<u8>, AllocError> {
-    let mut records = Vec::new(alloc);
-    for number in 1..=5 {
-        records.push(Record {
-            kind: PUT,
-            number,
-            place: 0x3_0000_0005,
-            moment: 0,
-            len: 0,
-        })?;
-    }
-    for number in 1..=32u8 {
-        add_split(&mut records, number)?;
-    }
-    let mut log = log_of(alloc, records.as_slice(), &[0])?;
-    if let Some(width) = log.get_mut(9) {
-        *width = 2;
-    }
-    Ok(log)
-}
-
-// Adds the begin and the install of this split, of a leaf whose name has two bits for each split before it.
-fn add_split(records: &mut Vec<Record>, number: u8) -> Result<(), AllocError> {
-    let len = number.saturating_sub(1).saturating_mul(2);
-    let begin = Record {
-        kind: BEGIN,
-        number: number as u64,
-        place: KEY & !u64::MAX.checked_shr(len as u32).unwrap_or(0),
-        moment: 0,
-        len,
-    };
-    records.push(begin)?;
-    records.push(Record {
-        kind: INSTALL,
-        place: 0,
-        len: 0,
-        ..begin
-    })?;
-    Ok(())
-}
-
+// Five puts at one point, over a log of no cells.
 const AT_ONE_POINT: &Case<'static> = &Case {
     name: "five puts at one point over a quad log",
     input: rows!(
@@ -176,7 +132,7 @@ fn leaving(held: &[u8]) -> Case<'_> {
 }
 
 fn splits_of_one_point<R: Abort + Threads + Wait + Sync>(rt: &R, alloc: Global) {
-    let log = many_leaves_log(alloc).expect(rt, "it failed");
+    let log = many_leaves_log(alloc, 2, 32).expect(rt, "it failed");
     let log = log.as_slice();
     is_left(rt, alloc, &leaving(log));
     is_left(rt, alloc, &CHECK_AT_ONE_POINT.over(log));
