@@ -1,5 +1,5 @@
 //! A world as a map, for whoever changes it often.
-ghost use Rattle.std.specs.Prelude.{◌≡◌, ◌≤◌, ◌<◌, ◌+◌, [], length, None, OnErr, IfOk, Option};
+ghost use Rattle.std.specs.Prelude.{◌≡◌, ◌≤◌, ◌<◌, ◌+◌, ◌++◌, ◌∷◌, [], length, None, OnErr, IfOk, Option, vec_len, vec_capacity};
 ghost use Rattle.plain_list.specs.World.{most_members, IsWorld, position_of};
 ghost use Rattle.plain_list.specs.Answer.{with_moved, without};
 ghost use Rattle.plain_list.specs.MemberMap.{IsPut};
@@ -87,14 +87,33 @@ impl MemberMap {
     pub fn to_world(&self, alloc: Global) -> Result<World, AllocError>
         ensures { IfOk result (λ world. world ≡ self.now) }
     {
-        let mut members = Vec::with_capacity(alloc, self.positions.len())?;
+        let room = Vec::with_capacity(alloc, self.positions.len())?;
+        Ok(self.world_in(room))
+    }
+
+    /// The same objects as one list, in memory that was taken before.
+    pub fn world_in(&self, mut room: Vec<Member>) -> World
+        requires empty { vec_len room ≡ 0 }
+        requires enough { length self.now ≤ vec_capacity room }
+        ensures { result ≡ self.now }
+    {
         for (id, kept) in &self.positions {
-            members.push(Member {
+            let member = Member {
                 id: *id,
                 at: kept.at,
                 moment: kept.moment,
-            })?;
+            };
+            push_within(&mut room, member);
         }
-        Ok(World::from_vec(members))
+        World::from_vec(room)
     }
+}
+
+// Pushes into memory that was taken before.
+fn push_within(members: &mut Vec<Member>, member: Member)
+    requires { vec_len members.old < vec_capacity members.old }
+    ensures items { members.new.items ≡ members.old.items ++ member ∷ [] }
+    ensures capacity { vec_capacity members.old ≤ vec_capacity members.new }
+{
+    let _ = members.push(member);
 }
