@@ -1,5 +1,5 @@
 //! A world as a map, for whoever changes it often.
-ghost use Rattle.std.specs.Prelude.{◌≡◌, ◌≤◌, ◌<◌, ◌+◌, ◌++◌, ◌∷◌, [], length, None, OnErr, IfOk, Option, vec_len, vec_capacity};
+ghost use Rattle.std.specs.Prelude.{◌≡◌, ◌≤◌, ◌<◌, ◌+◌, [], length, None, OnErr, IfOk, Option, vec_len, vec_capacity};
 ghost use Rattle.plain_list.specs.World.{most_members, IsWorld, position_of};
 ghost use Rattle.plain_list.specs.Answer.{with_moved, without};
 ghost use Rattle.plain_list.specs.MemberMap.{IsPut};
@@ -98,22 +98,12 @@ impl MemberMap {
         ensures { result ≡ self.now }
     {
         for (id, kept) in &self.positions {
-            let member = Member {
+            room.push_reserved(Member {
                 id: *id,
                 at: kept.at,
                 moment: kept.moment,
-            };
-            push_within(&mut room, member);
+            });
         }
         World::from_vec(room)
     }
-}
-
-// Pushes into memory that was taken before.
-fn push_within(members: &mut Vec<Member>, member: Member)
-    requires { vec_len members.old < vec_capacity members.old }
-    ensures items { members.new.items ≡ members.old.items ++ member ∷ [] }
-    ensures capacity { vec_capacity members.old ≤ vec_capacity members.new }
-{
-    let _ = members.push(member);
 }

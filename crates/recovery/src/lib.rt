@@ -18,9 +18,11 @@ mod reading;
 mod seen;
 mod split_map;
 mod walk;
+mod walked;
 
 pub use heads::width_of;
 pub use inspecting::inspect;
 pub use making::init;
 pub use opening::open;
 pub use seen::{InitFault, InitRefused, Leaves, OpenFault, OpenRefused, Opened, Seen};
+pub use walked::Walked;
