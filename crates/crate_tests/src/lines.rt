@@ -410,8 +410,10 @@ const REFUSALS: &[(Refusal, &[u8])] = &[
     (Refusal::LongInput, b"refused limit bytes\n"),
     (Refusal::ManyRows, b"refused limit rows\n"),
     (Refusal::LongLog, b"refused limit cells\n"),
+    (Refusal::LongEvents, b"refused limit events\n"),
     (Refusal::Memory, b"refused memory\n"),
     (Refusal::InUse { len: 49 }, b"refused in use 49\n"),
+    (Refusal::Strange { cell: 3 }, b"refused cell 3 strange\n"),
 ];
 
 fn expect_refusal(rt: &impl Abort, alloc: Global, refusal: &Refusal, text: &[u8]) {
@@ -456,12 +458,15 @@ fn rows_are_written_as_they_are_read(rt: HostRuntime) {
 
 const TOLD: &[(RowsFault, &str)] = &[
     (RowsFault::Header, "the first record isn't the header"),
-    (RowsFault::Csv { row: 3 }, "row 3 hasn't eight fields"),
+    (
+        RowsFault::Csv { row: 3 },
+        "row 3 has another number of fields",
+    ),
     (
         RowsFault::Field { row: 3, column: 6 },
         "row 3: column 6 breaks its rule",
     ),
-    (RowsFault::TooMany, "more than 65,536 rows"),
+    (RowsFault::TooMany, "too many rows"),
     (RowsFault::Memory, "out of memory"),
 ];
 

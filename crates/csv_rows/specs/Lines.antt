@@ -89,8 +89,10 @@ reason_text (refusal.Disk None) = codes "disk"
 reason_text refusal.LongInput = codes "limit bytes"
 reason_text refusal.ManyRows = codes "limit rows"
 reason_text refusal.LongLog = codes "limit cells"
+reason_text refusal.LongEvents = codes "limit events"
 reason_text refusal.Memory = codes "memory"
 reason_text (refusal.InUse len) = codes "in use " ++ decimal len
+reason_text (refusal.Strange cell) = codes "cell " ++ decimal cell ++ codes " strange"
 
 -- the line of a refusal
 unfoldable pub refusal_text : Refusal → List ℕ

@@ -175,8 +175,10 @@ fn add_reason(piece: &mut Piece, refusal: &Refusal)
         Refusal::LongInput => push_str(piece, "limit bytes"),
         Refusal::ManyRows => push_str(piece, "limit rows"),
         Refusal::LongLog => push_str(piece, "limit cells"),
+        Refusal::LongEvents => push_str(piece, "limit events"),
         Refusal::Memory => push_str(piece, "memory"),
         Refusal::InUse { len } => add_counted(piece, "in use ", *len),
+        Refusal::Strange { cell } => add_strange(piece, *cell),
     }
 }
 
@@ -187,6 +189,15 @@ fn add_csv(piece: &mut Piece, row: u32)
 {
     add_counted(piece, "row ", u64::from(row));
     push_str(piece, " length");
+}
+
+fn add_strange(piece: &mut Piece, cell: u64)
+    requires { array_vec_len piece.old ≤ 64 }
+    ensures bytes { piece.new.items ≡ piece.old.items ++ (codes "cell " ++ decimal cell ++ codes " strange") }
+    ensures len { array_vec_len piece.new ≤ 1024 }
+{
+    add_counted(piece, "cell ", cell);
+    push_str(piece, " strange");
 }
 
 // Adds two words, each with a number.

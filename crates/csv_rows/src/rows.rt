@@ -57,14 +57,14 @@ pub enum RowsFault {
     /// The bytes begin with two byte order marks, or the first record isn't the header, or there is none.
     #[error("the first record isn't the header")]
     Header,
-    /// The record of this row hasn't eight fields.
-    #[error("row {row} hasn't eight fields")]
+    /// The record of this row has too few fields, or too many.
+    #[error("row {row} has another number of fields")]
     Csv { row: u32 },
     /// This column, counted from 1, is the leftmost of its row that breaks its rule.
     #[error("row {row}: column {column} breaks its rule")]
     Field { row: u32, column: u8 },
-    /// A record follows the 65,536th row.
-    #[error("more than 65,536 rows")]
+    /// A record follows the last row that there may be.
+    #[error("too many rows")]
     TooMany,
     #[error("out of memory")]
     Memory,
@@ -106,8 +106,11 @@ pub enum Refusal {
     LongInput,
     ManyRows,
     LongLog,
+    LongEvents,
     Memory,
     InUse { len: u64 },
+    /// With the first cell of a log that isn't the one that another log has there.
+    Strange { cell: u64 },
 }
 
 impl From<Memory> for Refusal {
@@ -137,7 +140,7 @@ pub struct Summary {
     pub sum: u64,
 }
 
-/// What is wrong with a record: it hasn't eight fields, or a column breaks its rule.
+/// What is wrong with a record: it has another number of fields, or a column breaks its rule.
 #[derive(Clone, Copy)]
 pub enum Wrong {
     Length,

@@ -150,8 +150,10 @@ not-used old new (refusal.Disk cell) cause ten = omega (arith, ten)
 not-used old new refusal.LongInput cause ten = absurd cause
 not-used old new refusal.ManyRows cause ten = absurd cause
 not-used old new refusal.LongLog cause ten = omega (arith, ten)
+not-used old new refusal.LongEvents cause ten = absurd cause
 not-used old new refusal.Memory cause ten = omega (arith, ten)
 not-used old new (refusal.InUse len) cause ten = absurd cause
+not-used old new (refusal.Strange cell) cause ten = absurd cause
 
 -- a log that wasn't
 pub compacts-refused : {D : Type 0} (file name : List ℕ) (old new : BothTargets D) (why : Refusal) (status : ℕ) → IsCheckingCause old.to.drive new.to.drive why

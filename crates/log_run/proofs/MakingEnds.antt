@@ -63,12 +63,14 @@ bears old new (refusal.Disk None) rose = record { in_use = λ ten. absurd (omega
 bears old new refusal.LongInput cause = absurd cause
 bears old new refusal.ManyRows cause = absurd cause
 bears old new refusal.LongLog cause = absurd cause
+bears old new refusal.LongEvents cause = absurd cause
 bears old new refusal.Memory cause = record { in_use = λ ten. absurd (omega (arith, ten)); exact = λ bytes told long calm. inr refl; whole = λ bytes told small calm. inr refl }
 bears old new (refusal.InUse len) cause = record {
   in_use = λ ten bytes told. subst (λ n. 17 < n) (cause.1 bytes told) cause.0;
   exact = λ bytes told long calm. inl refl;
   whole = λ bytes told small calm. let long : 17 < length bytes = subst (λ n. 17 < n) (cause.1 bytes told) cause.0 in absurd (omega (arith, long, small));
 }
+bears old new (refusal.Strange cell) cause = absurd cause
 
 -- none was made
 pub ends-unmade : {D : Type 0} (file : List ℕ) (w : ℕ) (old new : Targets D) (why : Refusal) (status : ℕ) → Refuses why status old.output new.output → IsMakingCause old.drive new.drive why

@@ -40,7 +40,9 @@ input-status old new (refusal.OldLog version w) bytes told c = absurd c
 input-status old new (refusal.Damaged cell cause) bytes told c = absurd c
 input-status old new (refusal.Disk cell) bytes told c = absurd c
 input-status old new refusal.LongLog bytes told c = absurd c
+input-status old new refusal.LongEvents bytes told c = absurd c
 input-status old new (refusal.InUse len) bytes told c = absurd c
+input-status old new (refusal.Strange cell) bytes told c = absurd c
 
 plays-input : {S D : Type 0} (log : Option (List ℕ)) (size : ℕ) (old new : Ends S D) (status : ℕ) (h : List Entry) → Goes log size old.input new.input old.to new.to status h → (bytes : List ℕ) (why : Refusal) → old.input.left ≡ Some bytes → judged bytes ≡ Err why
     → (status ≡ status_of why) ⊎ ((status ≡ 5) ⊎ (status ≡ 9))
@@ -91,7 +93,9 @@ module _ {D : Type 0} (report : Report) (size : ℕ) (rows : List InRow) (old ne
   stop-status log from good refusal.LongInput stop = absurd stop
   stop-status log from good refusal.ManyRows stop = absurd stop
   stop-status log from good refusal.LongLog stop = absurd stop
+  stop-status log from good refusal.LongEvents stop = absurd stop
   stop-status log from good (refusal.InUse len) stop = absurd stop
+  stop-status log from good (refusal.Strange cell) stop = absurd stop
 
   pub rows-done : (log : Option (List ℕ)) → PlaysRows report log size rows old new status h → (Rose old.output.faults new.output.faults → ⊥) → IsGood log old.drive new.drive → (status ≡ 0) ⊎ (status ≡ 9)
   rows-done log (inl unopened) quiet good = by_why unopened.refused

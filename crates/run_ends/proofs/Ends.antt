@@ -54,8 +54,12 @@ no-lines why status is writes = by_case why (by_line writes)
     by_case (refusal.Disk cell) (inr e) = omega (arith, e)
     by_case refusal.LongLog (inl e) = omega (arith, e)
     by_case refusal.LongLog (inr e) = omega (arith, e)
+    by_case refusal.LongEvents (inl e) = omega (arith, e)
+    by_case refusal.LongEvents (inr e) = omega (arith, e)
     by_case (refusal.InUse len) (inl e) = omega (arith, e)
     by_case (refusal.InUse len) (inr e) = omega (arith, e)
+    by_case (refusal.Strange cell) (inl e) = omega (arith, e)
+    by_case (refusal.Strange cell) (inr e) = omega (arith, e)
 
 -- a refusal whose cause isn't the words has another status than 2
 pub not-usage : (Cause : Refusal → Type 0) (status : ℕ) (before after : Output) → (Cause refusal.Usage → ⊥) → EndsRefused Cause status before after → status ≡ 2 → ⊥
@@ -74,8 +78,10 @@ not-usage Cause status before after never (why, cause, refuses) two = by_case wh
     by_case refusal.LongInput c e = omega (arith, e)
     by_case refusal.ManyRows c e = omega (arith, e)
     by_case refusal.LongLog c e = omega (arith, e)
+    by_case refusal.LongEvents c e = omega (arith, e)
     by_case refusal.Memory c e = omega (arith, e)
     by_case (refusal.InUse len) c e = omega (arith, e)
+    by_case (refusal.Strange cell) c e = omega (arith, e)
 
 pub not-written : (text : List ℕ) (status : ℕ) (before after : Output) → EndsWriting text status before after → status ≡ 2 → ⊥
 not-written text status before after (inl (e, all, same)) two = omega (arith, e, two)

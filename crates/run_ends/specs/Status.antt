@@ -16,8 +16,10 @@ status_of (refusal.Disk cell) = 7
 status_of refusal.LongInput = 8
 status_of refusal.ManyRows = 8
 status_of refusal.LongLog = 8
+status_of refusal.LongEvents = 8
 status_of refusal.Memory = 9
 status_of (refusal.InUse len) = 10
+status_of (refusal.Strange cell) = 4
 
 -- whether a status is one of a run that wrote its lines, all of them or a front
 abbrev pub WritesLines : ℕ → Type 0

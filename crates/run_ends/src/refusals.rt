@@ -32,7 +32,9 @@ fn status_of(refusal: &Refusal) -> u8
         Refusal::LongInput => 8,
         Refusal::ManyRows => 8,
         Refusal::LongLog => 8,
+        Refusal::LongEvents => 8,
         Refusal::Memory => 9,
         Refusal::InUse { .. } => 10,
+        Refusal::Strange { cell: _ } => 4,
     }
 }

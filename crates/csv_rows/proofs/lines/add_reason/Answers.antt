@@ -37,3 +37,9 @@ returns-in-LongLog-clause-bytes c = c.push_str-in-LongLog.ensures.bytes ∙ ap (
 
 pub returns-in-Memory-clause-bytes : goal.returns-in-Memory-clause-bytes
 returns-in-Memory-clause-bytes c = c.push_str-in-Memory.ensures.bytes ∙ ap (λ r. c.args.piece.now.items ++ reason_text r) (sym c.in-Memory.is)
+
+pub returns-in-LongEvents-clause-bytes : goal.returns-in-LongEvents-clause-bytes
+returns-in-LongEvents-clause-bytes c = c.push_str-in-LongEvents.ensures.bytes ∙ ap (λ r. c.args.piece.now.items ++ reason_text r) (sym c.in-LongEvents.is)
+
+pub returns-in-Strange-clause-bytes : goal.returns-in-Strange-clause-bytes
+returns-in-Strange-clause-bytes c = c.add_strange.ensures.bytes ∙ ap (λ r. c.args.piece.now.items ++ reason_text r) (sym c.in-Strange.is)
