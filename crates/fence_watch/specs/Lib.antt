@@ -1,0 +1,6 @@
+pub mod Fences
+pub mod Walks
+pub mod Crossings
+pub mod Watches
+pub mod Examples
+pub use Rattle.log_state.specs.Recovers

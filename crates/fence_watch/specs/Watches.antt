@@ -1,0 +1,84 @@
+-- What a watch keeps along the cells of a log.
+use Rattle.std.specs.Prelude.{◌≡◌, ◌+◌, ◌<◌, nat_lt, ◌==◌, ℕ, Bool, not, List, [], ◌∷◌, ◌++◌, length, map, if◌then◌else◌, Option, Some, None, ⊤}
+use Rattle.std.specs.List.{filter, AllByRecursion, list_any}
+use Rattle.zorder.specs.declared.points.Point.{Point}
+use Rattle.cell_format.specs.declared.cell.Cell.{Cell}
+use Rattle.plain_list.specs.World.{World}
+use Rattle.fence_watch.specs.declared.fences.Fence.{Fence}
+use Rattle.fence_watch.specs.declared.fences.Event.{Event}
+use Rattle.fence_watch.specs.declared.walked.Walked.{Walked}
+use Rattle.fence_watch.specs.Walks.{object_of}
+use Rattle.fence_watch.specs.Fences.{lies_in, inside_of}
+use Rattle.fence_watch.specs.Crossings.{world_after_cells, crossings_by, crossings}
+
+-- how many events there may be
+abbrev pub most_events : ℕ
+most_events = 4194304
+
+-- a fence, and the ids inside it, rising
+pub record Guard : Type 0 where
+  pub fence : Fence
+  pub inside : List ℕ
+
+-- the fences, with who is inside, and the events so far
+pub record WatchView : Type 0 where
+  pub guards : List Guard
+  pub events : List Event
+
+abbrev pub fences_of : List Guard → List Fence
+fences_of guards = map (λ (g : Guard). g.fence) guards
+
+-- an id more in its place
+abbrev pub with_id : ℕ → List ℕ → List ℕ
+with_id id [] = id ∷ []
+with_id id (x ∷ xs) = if nat_lt id x then id ∷ x ∷ xs else x ∷ with_id id xs
+
+-- an id less
+abbrev pub without_id : ℕ → List ℕ → List ℕ
+without_id id xs = filter (λ x. not (x == id)) xs
+
+-- the ids inside a fence behind a step of an object
+abbrev pub inside_behind : ℕ → Option Point → Option Point → Fence → List ℕ → List ℕ
+inside_behind id before after f ids =
+    if lies_in f before then (if lies_in f after then ids else without_id id ids) else (if lies_in f after then with_id id ids else ids)
+
+-- a fence behind a step of an object, if there is one
+abbrev pub guard_behind : Option ℕ → Option Point → Option Point → Guard → Guard
+guard_behind None before after g = g
+guard_behind (Some id) before after g = record g { inside = inside_behind id before after g.fence g.inside }
+
+-- whether an id is inside
+abbrev pub has_id : ℕ → List ℕ → Bool
+has_id id ids = list_any (λ x. x == id) ids
+
+-- each fence holds the object exactly where the place before the cell lies in it
+abbrev pub HoldsBefore : Option ℕ → Option Point → List Guard → Type 0
+HoldsBefore None before guards = ⊤
+HoldsBefore (Some id) before guards = AllByRecursion (λ (g : Guard). has_id id g.inside ≡ lies_in g.fence before) guards
+
+-- the events that a cell gives
+abbrev pub events_by : Walked → List Guard → List Event
+events_by walked guards = crossings_by walked.at (object_of walked.cell) walked.before walked.after (fences_of guards)
+
+-- a step along a cell
+pub record Steps (walked : Walked) (old new : WatchView) : Type 0 where
+  pub events : new.events ≡ old.events ++ events_by walked old.guards
+  pub guards : new.guards ≡ map (guard_behind (object_of walked.cell) walked.before walked.after) old.guards
+
+-- the events would be too many
+abbrev pub IsOver : Walked → WatchView → Type 0
+IsOver walked old = most_events < length old.events + length (events_by walked old.guards)
+
+-- a fence with the ids of a world's objects in it
+abbrev pub guard_in : World → Fence → Guard
+guard_in world f = record { fence = f; inside = inside_of world f }
+
+-- the watch after steps along these cells: their crossings, and who is inside in the world that they leave
+pub record FollowsCells (cells : List Cell) (fences : List Fence) (v : WatchView) : Type 0 where
+  pub events : v.events ≡ crossings cells fences
+  pub guards : v.guards ≡ map (guard_in (world_after_cells [] cells)) fences
+
+-- the ids inside the fence of this number, where there is one
+abbrev pub inside_at : ℕ → List Guard → Option (List ℕ)
+inside_at id [] = None
+inside_at id (g ∷ guards) = if g.fence.id == id then Some g.inside else inside_at id guards

@@ -1,0 +1,88 @@
+//! Fences, and the events that they give.
+ghost use Rattle.std.specs.Prelude.{◌≡◌, IfOk};
+ghost use Rattle.fence_watch.specs.Fences.{AreFences, lies_in};
+
+use std::alloc::Global;
+use std::marker::Model;
+use zorder::{Memory, Point, Region};
+
+/// A box with a number.
+#[derive(Clone, Copy, Debug, PartialEq, Eq)]
+pub struct Fence {
+    pub id: u64,
+    pub region: Region,
+}
+
+impl Fence {
+    /// Whether an object that is at this place, if it is anywhere, is inside.
+    pub fn has(&self, place: Option<Point>) -> bool
+        ensures { result ≡ lies_in self.now place }
+    {
+        match place {
+            Some(at) => self.region.has(at),
+            None => false,
+        }
+    }
+}
+
+/// The most fences that are watched at once.
+pub const MOST_FENCES: usize = 256;
+
+/// At most 256 fences, each id once, in the order in which they were given.
+#[derive(Drop)]
+pub struct Fences {
+    items: Vec<Fence>,
+}
+
+impl Model for Fences {
+    ghost use Rattle.std.specs.Prelude.{List};
+    ghost use Rattle.fence_watch.specs.declared.fences.Fence.{Fence};
+    ghost use Rattle.fence_watch.specs.Fences.{AreFences};
+
+    ghost Value = { List Fence };
+
+    ghost view = { λ f. f.items.items };
+
+    ghost invariant = { λ f. AreFences f.items.items };
+}
+
+impl Fences {
+    pub(crate) fn from_vec(items: Vec<Fence>) -> Fences
+        requires { AreFences items.items }
+        ensures { result ≡ items.items }
+    {
+        Fences { items }
+    }
+
+    pub fn as_slice(&self) -> &[Fence]
+        ensures fences { result.now ≡ self.now }
+        ensures rules { AreFences self.now }
+    {
+        self.items.as_slice()
+    }
+
+    /// The same fences once more: `Watch::new` takes its own.
+    pub fn copy(&self, alloc: Global) -> Result<Fences, Memory>
+        ensures { IfOk result (λ f. f ≡ self.now) }
+    {
+        Ok(Fences {
+            items: Vec::from_slice(alloc, self.as_slice())?,
+        })
+    }
+}
+
+/// Which way an object went.
+#[derive(Clone, Copy, Debug, PartialEq, Eq)]
+pub enum Crossing {
+    Enter,
+    Leave,
+}
+
+/// With the cell of this number an object crossed a fence.
+#[derive(Clone, Copy, Debug, PartialEq, Eq)]
+pub struct Event {
+    pub at: u64,
+    pub crossing: Crossing,
+    pub id: u64,
+    pub fence: u64,
+}

@@ -1,0 +1,13 @@
+//! Tells who enters and leaves fences along the cells of a log.
+//!
+//! Contracts see a `Watch` as its fences, each with the ids inside it, and the events so far. After steps along the cells of a log its
+//! events are the `crossings` of these cells, and the ids inside each fence those of the objects that the cells leave in it.
+//!
+//! Not here: how a log is walked (`recovery`), how lines are written (`csv_rows`).
+#![tactic(auto)]
+
+mod fences;
+mod walked;
+
+pub use fences::{Crossing, Event, Fence, Fences};
+pub use walked::Walked;
