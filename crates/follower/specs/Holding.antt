@@ -1,0 +1,47 @@
+-- A log that holds the first of the leader's cells.
+use Rattle.std.specs.Prelude.{◌≡◌, ◌⊎◌, ℕ, ◌≤◌, List, length, take, Some}
+use Rattle.cell_format.specs.declared.cell.Cell.{Cell}
+use Rattle.disk_trait.specs.Drive.{Drive}
+use Rattle.disk_trait.specs.Moments.{LeavesOnly}
+use Rattle.split_log.specs.LogText.{IsLog}
+use Rattle.log_state.specs.Recovers.{Recovers, IsLegalCells}
+use Rattle.follower.specs.Follow.{Following, IsSound}
+
+-- how many cells a leader may have
+abbrev pub most_cells : ℕ
+most_cells = 1048576
+
+-- what a clause sees of a follower
+pub record FollowerView (D : Type 0) : Type 0 where
+  pub disk : D
+  pub width : ℕ
+  pub state : Following
+
+-- an image that recovers to the first of these cells, at least and at most so many
+pub record RecoversFirst (w : ℕ) (cells : List Cell) (least most : ℕ) (image : List ℕ) : Type 0 where
+  pub count : ℕ
+  pub least_is : least ≤ count
+  pub most_is : count ≤ most
+  pub recovers : Recovers w (take count cells) image
+
+-- a leader's cells: legal, and not too many
+pub record AreLeading (w : ℕ) (cells : List Cell) : Type 0 where
+  pub known : (w ≡ 1) ⊎ (w ≡ 2)
+  pub legal : IsLegalCells w cells
+  pub few : length cells ≤ most_cells
+
+-- The follower holds the first of these cells: no more are known to be held, and where its bytes are known, they are the text of these, and a
+-- crash leaves that.
+pub record HoldsFirst {D : Type 0} (drive : D → Drive) (cells : List Cell) (f : FollowerView D) : Type 0 where
+  pub leading : AreLeading f.width cells
+  pub few : f.state.held ≤ length cells
+  pub sound : IsSound f.state
+  pub log : (bytes : List ℕ) → (drive f.disk).bytes ≡ Some bytes → IsLog f.width (take f.state.held cells) (drive f.disk)
+
+-- At each moment a crash leaves the first of these cells, at least and at most so many.
+abbrev pub LeavesFirst : ℕ → List Cell → ℕ → ℕ → Drive → Drive → Type 0
+LeavesFirst w cells least most old new = (bytes : List ℕ) → old.bytes ≡ Some bytes → LeavesOnly old new (RecoversFirst w cells least most)
+
+-- the drive doesn't tell its bytes
+abbrev pub IsUntold : Drive → Type 0
+IsUntold drive = (bytes : List ℕ) → drive.bytes ≡ Some bytes → ⊥

@@ -1,0 +1,11 @@
+pub mod Follow
+pub mod Holding
+pub mod Faults
+pub mod Turning
+pub mod Opening
+pub mod Examples
+pub use Rattle.log_state.specs.Recovers
+pub use Rattle.split_log.specs.LogText
+pub use Rattle.disk_trait.specs.Drive
+pub use Rattle.disk_trait.specs.Moments
+pub use Rattle.causes.specs.Causes

@@ -1,0 +1,56 @@
+-- What a turn of a follower does, and why it is refused.
+use Rattle.std.specs.Prelude.{◌≡◌, ◌⊎◌, ℕ, ◌+◌, ◌≤◌, ◌<◌, false, List, length, Some, is_some, ⊤}
+use Rattle.causes.specs.Causes.{Rose}
+use Rattle.cell_format.specs.declared.cell.Cell.{Cell}
+use Rattle.disk_trait.specs.Drive.{Drive, SameFile}
+use Rattle.disk_trait.specs.Moments.{LeavesNow}
+use Rattle.recovery.specs.declared.seen.OpenFault.TheVariants as open_fault
+use Rattle.follower.specs.declared.faults.FollowFault.{FollowFault}
+use Rattle.follower.specs.declared.faults.FollowFault.TheVariants.{Strange, Log, Append, Disk, Memory}
+use Rattle.follower.specs.declared.turns.Turn.{Turn}
+use Rattle.follower.specs.declared.turns.Turn.TheVariants.{Send, Arrive, Ack, Restart}
+use Rattle.follower.specs.Follow.{Following, after_turn, cell_of}
+use Rattle.follower.specs.Holding.{FollowerView, HoldsFirst, RecoversFirst, IsUntold}
+use Rattle.follower.specs.Faults.{is_drives}
+
+-- a turn was made: the state after it, and the follower goes on holding the first of the cells; no device call failed
+pub record Turns {D : Type 0} (drive : D → Drive) (cells : List Cell) (turn : Turn) (old new : FollowerView D) : Type 0 where
+  pub state : new.state ≡ after_turn (length cells) old.state turn
+  pub width : new.width ≡ old.width
+  pub holds : HoldsFirst drive cells new
+  pub told : is_some (drive new.disk).bytes ≡ is_some (drive old.disk).bytes
+  pub calm : (drive new.disk).faults ≡ (drive old.disk).faults
+  pub file : SameFile (drive old.disk) (drive new.disk)
+
+-- a packet that brings the next cell of so many
+abbrev pub BringsNext : ℕ → Following → Turn → Type 0
+BringsNext count s (Arrive packet) = (cell_of packet s ≡ s.held) × (s.held < count)
+BringsNext count s _ = ⊥
+
+-- a turn that keeps what was sent
+abbrev pub TakesRoom : Turn → Type 0
+TakesRoom (Send cell) = ⊤
+TakesRoom (Arrive packet) = ⊤
+TakesRoom _ = ⊥
+
+-- Why a turn wasn't made. Where the bytes are known, a log that is opened again is refused for the drive or for memory alone. An append that
+-- failed is that of the next cell, which a crash leaves or doesn't. Where the memory for what is sent ran out, nothing was done.
+abbrev pub IsTurnCause : {D : Type 0} → (D → Drive) → List Cell → Turn → FollowerView D → D → FollowFault → Type 0
+IsTurnCause drive cells turn old disk (Strange cell) = (turn ≡ Restart) × IsUntold (drive old.disk) × (cell ≤ old.state.held)
+IsTurnCause drive cells turn old disk (Log open_fault.Disk) = (turn ≡ Restart) × Rose (drive old.disk).faults (drive disk).faults
+IsTurnCause drive cells turn old disk (Log open_fault.Memory) = turn ≡ Restart
+IsTurnCause drive cells turn old disk (Log fault) = (turn ≡ Restart) × IsUntold (drive old.disk)
+IsTurnCause drive cells turn old disk (Append cell) =
+    BringsNext (length cells) old.state turn
+    × (cell ≡ old.state.held)
+    × Rose (drive old.disk).faults (drive disk).faults
+    × ((bytes : List ℕ) → (drive old.disk).bytes ≡ Some bytes → LeavesNow (drive disk) (RecoversFirst old.width cells old.state.held (old.state.held + 1)))
+IsTurnCause drive cells turn old disk Disk = ⊥
+IsTurnCause drive cells turn old disk Memory = TakesRoom turn × (disk ≡ old.disk)
+
+-- a turn was refused: why, and the count of faults stays but where the drive failed
+pub record RefusesTurn {D : Type 0} (drive : D → Drive) (cells : List Cell) (turn : Turn) (old : FollowerView D) (disk : D) (fault : FollowFault) : Type 0 where
+  pub cause : IsTurnCause drive cells turn old disk fault
+  pub calm : is_drives fault ≡ false → (drive disk).faults ≡ (drive old.disk).faults
+  pub later : (drive old.disk).faults ≤ (drive disk).faults
+  pub file : SameFile (drive old.disk) (drive disk)
