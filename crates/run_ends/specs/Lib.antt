@@ -7,6 +7,7 @@ pub mod Ending
 pub mod Attaching
 pub mod LogFaults
 pub mod Inputs
+pub mod Tables
 pub use Rattle.causes.specs.Causes
 pub use Rattle.disk_trait.specs.Drive
 pub use Rattle.io_edge.specs.Streams

@@ -4,11 +4,27 @@ ghost use Rattle.io_edge.specs.Reads.{ConsumesUpTo};
 ghost use Rattle.run_ends.specs.Limits.{most_bytes};
 ghost use Rattle.run_ends.specs.Judged.{judged, refusal_of};
 ghost use Rattle.run_ends.specs.Inputs.{IsInputCause, Reads};
+ghost use Rattle.run_ends.specs.Tables.{HasBytes, IsBytesCause};
 
 use crate::limits::MOST_BYTES;
 use csv_rows::{Refusal, Rows, RowsFault, read_rows};
 use io_edge::{ReadFault, Source, read_all};
 use std::alloc::Global;
+
+/// All bytes that the source has, where they aren't too many. The order of refusals: source, length of the input.
+pub fn read_bytes<S: Source>(alloc: Global, source: &mut S) -> Result<Vec<u8>, Refusal>
+    ensures bytes { IfOk result (λ bytes. HasBytes (S.input source.old) (S.input source.new) bytes.items) }
+    ensures cause { IfErr result (IsBytesCause (S.input source.old) (S.input source.new)) }
+    ensures calm { IfErr result (λ why. why ≢ Refusal.Source → (S.input source.new).faults ≡ (S.input source.old).faults) }
+    ensures taken { ConsumesUpTo (most_bytes + 1) (S.input source.old).left (S.input source.new).left }
+{
+    match read_all(alloc, source, MOST_BYTES) {
+        Ok(bytes) => Ok(bytes),
+        Err(ReadFault::Source) => Err(Refusal::Source),
+        Err(ReadFault::TooLong) => Err(Refusal::LongInput),
+        Err(ReadFault::Memory) => Err(Refusal::Memory),
+    }
+}
 
 /// The rows of the source. The order of refusals: source, length of the input, rows.
 pub fn read_judged<S: Source>(alloc: Global, source: &mut S) -> Result<Rows, Refusal>
@@ -17,11 +33,9 @@ pub fn read_judged<S: Source>(alloc: Global, source: &mut S) -> Result<Rows, Ref
     ensures calm { IfErr result (λ why. why ≢ Refusal.Source → (S.input source.new).faults ≡ (S.input source.old).faults) }
     ensures taken { ConsumesUpTo (most_bytes + 1) (S.input source.old).left (S.input source.new).left }
 {
-    match read_all(alloc, source, MOST_BYTES) {
+    match read_bytes(alloc, source) {
         Ok(bytes) => judge(alloc, bytes.as_slice()),
-        Err(ReadFault::Source) => Err(Refusal::Source),
-        Err(ReadFault::TooLong) => Err(Refusal::LongInput),
-        Err(ReadFault::Memory) => Err(Refusal::Memory),
+        Err(why) => Err(why),
     }
 }
 
@@ -34,7 +48,8 @@ fn judge(alloc: Global, bytes: &[u8]) -> Result<Rows, Refusal>
     read_rows(alloc, bytes).map_err(refusal_of)
 }
 
-fn refusal_of(fault: RowsFault) -> Refusal
+/// The refusal of what is wrong with the text of a table.
+pub fn refusal_of(fault: RowsFault) -> Refusal
     ensures { result ≡ refusal_of fault }
 {
     match fault {

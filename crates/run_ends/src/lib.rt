@@ -2,7 +2,7 @@
 //!
 //! Contracts see a run's ends as one value (`Ends`: source, sink, two drives), before a command and after it. Each refusal has one status and
 //! one line, which `put_refusal` puts (`Refuses`). `read_judged` promises the rows of all bytes that a source had, or the first thing that
-//! is wrong with them.
+//! is wrong with them; `read_bytes` hands out these bytes for tables of other kinds (`judged_by`).
 //!
 //! Not here: what a command does (`log_run`, `play_run`), which command words ask for (`location_run`), the texts of lines (`csv_rows`).
 #![tactic(auto)]
@@ -15,7 +15,7 @@ mod refusals;
 mod writing;
 
 pub use ended::{Ended, refuse_on, without_rows};
-pub use input::read_judged;
+pub use input::{read_bytes, read_judged, refusal_of};
 pub use limits::{MOST_INSPECTED, MOST_PLAYED, TRIAL_BUCKET};
 pub use log_faults::{Unmade, attach_refusal, log_refusal};
 pub use refusals::put_refusal;
