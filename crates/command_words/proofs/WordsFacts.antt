@@ -4,7 +4,7 @@ use Rattle.std.specs.Prelude.{codes, sum, IsTrue, MatchOption}
 use Rattle.std.proofs.lemmas.Bool.{true≢false}
 use Rattle.zorder.specs.declared.points.Region.{Region}
 use Rattle.csv_rows.specs.Numbers.{number_in}
-use Rattle.command_words.specs.Words.{Command, AsksFor, NamesFile, SpellsBox, SpellsNoSize, SpellsInit, SpellsPlay, SpellsShow, IsAccepted, IsInit, IsCheck, IsPlay, IsShow, IsTrial, IsUnlogged, IsLogged, IsCompact, NamesNoFile, is_file_name, Init, Check, Play, Show, Trial, Compact}
+use Rattle.command_words.specs.Words.{Command, AsksFor, NamesFile, SpellsBox, SpellsNoSize, SpellsInit, SpellsPlay, SpellsShow, IsAccepted, IsInit, IsCheck, IsPlay, IsShow, IsTrial, IsUnlogged, IsLogged, IsCompact, IsWatch, NamesNoFile, NamesNoPair, is_file_name, Init, Check, Play, Show, Trial, Compact, Watch}
 use Rattle.command_words.proofs.TrialFacts.{trial-word, one-trial, word-at}
 
 init-word : (words : List (List ℕ)) → IsInit words → get_or words 0 [] ≡ codes "init"
@@ -96,6 +96,9 @@ shown-word words (file, region, (named, spells)) = show-word words file region s
 compact-word : (words : List (List ℕ)) → IsCompact words → get_or words 0 [] ≡ codes "compact"
 compact-word words (file, new, asks) = ap (λ (ws : List (List ℕ)). get_or ws 0 []) asks.spells
 
+watch-word : (words : List (List ℕ)) → IsWatch words → get_or words 0 [] ≡ codes "watch"
+watch-word words asks = ap (λ (ws : List (List ℕ)). get_or ws 0 []) asks.1.0
+
 -- the word of a command
 abbrev command_word : Command → List ℕ
 command_word (Init file width) = codes "init"
@@ -104,6 +107,7 @@ command_word (Play log size) = codes "play"
 command_word (Show file region) = codes "show"
 command_word (Trial log made) = codes "trial"
 command_word (Compact file new) = codes "compact"
+command_word (Watch file) = codes "watch"
 
 -- words that ask for a command begin with its word
 begins : (words : List (List ℕ)) (a : Command) → AsksFor words a → get_or words 0 [] ≡ command_word a
@@ -113,6 +117,7 @@ begins words (Play log size) asks = play-word words (size, (log, asks))
 begins words (Show file region) asks = shown-word words (file, region, asks)
 begins words (Trial log made) asks = trial-word words (log, made, asks)
 begins words (Compact file new) asks = compact-word words (file, new, asks)
+begins words (Watch file) asks = watch-word words (file, asks)
 
 -- the letters of a command's word, added up: no two commands have the same sum
 letters : (words : List (List ℕ)) (a b : Command) → AsksFor words a → AsksFor words b → sum (command_word a) ≡ sum (command_word b)
@@ -192,16 +197,19 @@ one-command words (Play k m) (Play l n) first second = one-play words k l m n fi
 one-command words (Show f q) (Show g r) first second = one-show words f g q r first second
 one-command words (Trial k a) (Trial l b) first second = one-trial words k l a b first second
 one-command words (Compact f k) (Compact g l) first second = one-compact words f g k l first second
+one-command words (Watch f) (Watch g) first second = ap Watch (same-file (codes "watch") words f g first second)
 one-command words a b first second = let e = letters words a b first second in absurd (omega (arith, e))
 
 -- words that ask for none of the commands aren't accepted
-pub none-asked : (words : List (List ℕ)) → (IsInit words → ⊥) → NamesNoFile (codes "check") words → (IsShow words → ⊥) → (IsTrial words → ⊥) → (IsCompact words → ⊥) → (IsPlay words → ⊥) → IsAccepted words → ⊥
-none-asked words init check show trial compact play (Init file width, asks) = init (file, width, asks)
-none-asked words init check show trial compact play (Check file, asks) = check file asks
-none-asked words init check show trial compact play (Play log size, asks) = play (size, (log, asks))
-none-asked words init check show trial compact play (Show file region, asks) = show (file, region, asks)
-none-asked words init check show trial compact play (Trial log made, asks) = trial (log, made, asks)
-none-asked words init check show trial compact play (Compact file new, asks) = compact (file, new, asks)
+module _ (words : List (List ℕ)) (init : IsInit words → ⊥) (check : NamesNoFile (codes "check") words) (show : IsShow words → ⊥) (trial : IsTrial words → ⊥) (compact : NamesNoPair (codes "compact") words) (watch : NamesNoFile (codes "watch") words) (play : IsPlay words → ⊥) where
+  pub none-asked : IsAccepted words → ⊥
+  none-asked (Init file width, asks) = init (file, width, asks)
+  none-asked (Check file, asks) = check file asks
+  none-asked (Play log size, asks) = play (size, (log, asks))
+  none-asked (Show file region, asks) = show (file, region, asks)
+  none-asked (Trial log made, asks) = trial (log, made, asks)
+  none-asked (Compact file new, asks) = compact file new asks
+  none-asked (Watch file, asks) = watch file asks
 
 pub none-weaker : {A P Q : Type 0} (R : A → Type 0) (o : Option A) → (P → Q) → MatchOption o P R → MatchOption o Q R
 none-weaker R None weaker holds = weaker holds

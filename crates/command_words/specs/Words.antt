@@ -5,8 +5,8 @@ use Rattle.csv_rows.specs.Numbers.{number_in}
 use Rattle.command_words.specs.declared.trials.Made.{Made}
 
 -- what a run is asked for: to make a log of a width in a file, to inspect the log in a file, to play rows, over the log in a file or over none, with
--- buckets of a size, to list the objects in a box, of the log in a file, to play made rows, over the log in a file or over none, or to write
--- the log in a file anew into another file
+-- buckets of a size, to list the objects in a box, of the log in a file, to play made rows, over the log in a file or over none, to write
+-- the log in a file anew into another file, or to tell who enters and leaves fences along the log in a file
 pub data Command : Type 0 where
   Init : List ℕ → ℕ → Command
   Check : List ℕ → Command
@@ -14,6 +14,7 @@ pub data Command : Type 0 where
   Show : List ℕ → Region → Command
   Trial : Option (List ℕ) → Made → Command
   Compact : List ℕ → List ℕ → Command
+  Watch : List ℕ → Command
 
 -- whether a word names a file: it isn't empty, and doesn't begin with `-`
 abbrev pub is_file_name : List ℕ → Bool
@@ -87,20 +88,24 @@ SpellsTrial words word made = (rows seed : List ℕ) × (words ≡ codes "trial"
 abbrev pub SpellsNoTrial : List (List ℕ) → Type 0
 SpellsNoTrial words = (word : List ℕ) (made : Made) → SpellsTrial words word made → ⊥
 
--- the words that ask for a log to be written anew, with these words in the places of its file and of the new one
-abbrev pub SpellsCompact : List (List ℕ) → List ℕ → List ℕ → Type 0
-SpellsCompact words file new = words ≡ codes "compact" ∷ file ∷ new ∷ []
+-- the words are this command, with these words in the places of two files
+abbrev pub SpellsPair : List ℕ → List (List ℕ) → List ℕ → List ℕ → Type 0
+SpellsPair command words file new = words ≡ command ∷ file ∷ new ∷ []
 
--- the words don't ask for that
-abbrev pub SpellsNoCompact : List (List ℕ) → Type 0
-SpellsNoCompact words = (file new : List ℕ) → SpellsCompact words file new → ⊥
+-- the words aren't that
+abbrev pub SpellsNoPair : List ℕ → List (List ℕ) → Type 0
+SpellsNoPair command words = (file new : List ℕ) → SpellsPair command words file new → ⊥
 
--- they ask for that, of two files whose names differ
-pub record AsksToCompact (words : List (List ℕ)) (file new : List ℕ) : Type 0 where
-  pub spells : SpellsCompact words file new
+-- the words are this command and two files whose names differ
+pub record NamesPair (command : List ℕ) (words : List (List ℕ)) (file new : List ℕ) : Type 0 where
+  pub spells : SpellsPair command words file new
   pub old_named : IsTrue (is_file_name file)
   pub new_named : IsTrue (is_file_name new)
   pub differ : file ≢ new
+
+-- the words aren't that
+abbrev pub NamesNoPair : List ℕ → List (List ℕ) → Type 0
+NamesNoPair command words = (file new : List ℕ) → NamesPair command words file new → ⊥
 
 -- the words that ask for a command; a dash stands for no log
 abbrev pub AsksFor : List (List ℕ) → Command → Type 0
@@ -111,7 +116,8 @@ AsksFor words (Play (Some file) size) = IsTrue (is_file_name file) × SpellsPlay
 AsksFor words (Show file region) = IsTrue (is_file_name file) × SpellsShow words file region
 AsksFor words (Trial None made) = SpellsTrial words (codes "-") made
 AsksFor words (Trial (Some file) made) = IsTrue (is_file_name file) × SpellsTrial words file made
-AsksFor words (Compact file new) = AsksToCompact words file new
+AsksFor words (Compact file new) = NamesPair (codes "compact") words file new
+AsksFor words (Watch file) = NamesFile (codes "watch") words file
 
 -- the words that ask for rows to be played with buckets of this size
 abbrev pub AsksToPlay : List (List ℕ) → ℕ → Type 0
@@ -135,6 +141,9 @@ IsTrial words = (log : Option (List ℕ)) × (made : Made) × AsksFor words (Tri
 
 abbrev pub IsCompact : List (List ℕ) → Type 0
 IsCompact words = (file new : List ℕ) × AsksFor words (Compact file new)
+
+abbrev pub IsWatch : List (List ℕ) → Type 0
+IsWatch words = (file : List ℕ) × AsksFor words (Watch file)
 
 -- the words that ask for rows to be played over no log
 abbrev pub IsUnlogged : List (List ℕ) → Type 0

@@ -8,9 +8,9 @@
 #![tactic(auto)]
 
 mod boxes;
-mod compactions;
 mod files;
 mod inits;
+mod pairs;
 mod parsing;
 mod plays;
 mod trials;

@@ -1,13 +1,13 @@
 //! What words ask for.
 ghost use Rattle.std.specs.Prelude.{map, MatchOption};
 ghost use Rattle.std.specs.String.{string_bytes};
-ghost use Rattle.command_words.specs.Words.{AsksFor, IsAccepted, IsCompact, IsInit, IsPlay, IsShow, IsTrial};
+ghost use Rattle.command_words.specs.Words.{AsksFor, IsAccepted, IsInit, IsPlay, IsShow, IsTrial};
 ghost use Rattle.command_words.specs.Asked.{command_of};
 
 use crate::boxes::show_words;
-use crate::compactions::compact_words;
 use crate::files::{file_after, is_file_name};
 use crate::inits::init_words;
+use crate::pairs::pair_after;
 use crate::plays::play_words;
 use crate::trials::{Made, trial_words};
 use zorder::Region;
@@ -27,6 +27,8 @@ pub enum Command<'a> {
     Trial(Option<&'a str>, Made),
     /// To write the log in the first file anew into the second, which has another name.
     Compact(&'a str, &'a str),
+    /// To tell who enters and leaves fences along the log in this file.
+    Watch(&'a str),
 }
 
 /// The command that the words ask for; `words` are the command line without the program's name.
@@ -45,8 +47,11 @@ pub fn command_in(words: &[String]) -> Option<Command<'_>>
     if let Some(trial) = trial_in(words) {
         return Some(trial);
     }
-    if let Some(compact) = compact_in(words) {
-        return Some(compact);
+    if let Some(pair) = pair_after("compact", words) {
+        return Some(Command::Compact(pair.file, pair.new));
+    }
+    if let Some(watched) = file_after("watch", words) {
+        return Some(Command::Watch(watched));
     }
     play_in(words)
 }
@@ -105,19 +110,6 @@ fn trial_in(words: &[String]) -> Option<Command<'_>>
     }
     if is_file_name(trial.log) {
         return Some(Command::Trial(Some(trial.log), trial.made));
-    }
-    None
-}
-
-// What the words ask for, where it is to write a log anew.
-fn compact_in(words: &[String]) -> Option<Command<'_>>
-    ensures { MatchOption result (IsCompact (map string_bytes words.now) → ⊥) (λ c. AsksFor (map string_bytes words.now) (command_of c)) }
-{
-    let Some(files) = compact_words(words) else {
-        return None;
-    };
-    if files.file != files.new && is_file_name(files.file) && is_file_name(files.new) {
-        return Some(Command::Compact(files.file, files.new));
     }
     None
 }
