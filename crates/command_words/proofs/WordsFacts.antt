@@ -4,7 +4,7 @@ use Rattle.std.specs.Prelude.{codes, sum, IsTrue, MatchOption}
 use Rattle.std.proofs.lemmas.Bool.{true≢false}
 use Rattle.zorder.specs.declared.points.Region.{Region}
 use Rattle.csv_rows.specs.Numbers.{number_in}
-use Rattle.command_words.specs.Words.{Command, AsksFor, NamesFile, SpellsBox, SpellsNoSize, SpellsInit, SpellsPlay, SpellsShow, IsAccepted, IsInit, IsCheck, IsPlay, IsShow, IsTrial, IsUnlogged, IsLogged, IsCompact, IsWatch, NamesNoFile, NamesNoPair, is_file_name, Init, Check, Play, Show, Trial, Compact, Watch}
+use Rattle.command_words.specs.Words.{Command, AsksFor, NamesFile, SpellsBox, SpellsNoSize, SpellsInit, SpellsPlay, SpellsShow, NamesPair, IsAccepted, IsInit, IsCheck, IsPlay, IsShow, IsTrial, IsUnlogged, IsLogged, IsCompact, IsWatch, IsFollow, NamesNoFile, NamesNoPair, is_file_name, Init, Check, Play, Show, Trial, Compact, Watch, Follow}
 use Rattle.command_words.proofs.TrialFacts.{trial-word, one-trial, word-at}
 
 init-word : (words : List (List ℕ)) → IsInit words → get_or words 0 [] ≡ codes "init"
@@ -99,6 +99,9 @@ compact-word words (file, new, asks) = ap (λ (ws : List (List ℕ)). get_or ws 
 watch-word : (words : List (List ℕ)) → IsWatch words → get_or words 0 [] ≡ codes "watch"
 watch-word words asks = ap (λ (ws : List (List ℕ)). get_or ws 0 []) asks.1.0
 
+follow-word : (words : List (List ℕ)) → IsFollow words → get_or words 0 [] ≡ codes "follow"
+follow-word words (file, new, asks) = ap (λ (ws : List (List ℕ)). get_or ws 0 []) asks.spells
+
 -- the word of a command
 abbrev command_word : Command → List ℕ
 command_word (Init file width) = codes "init"
@@ -108,6 +111,7 @@ command_word (Show file region) = codes "show"
 command_word (Trial log made) = codes "trial"
 command_word (Compact file new) = codes "compact"
 command_word (Watch file) = codes "watch"
+command_word (Follow file new) = codes "follow"
 
 -- words that ask for a command begin with its word
 begins : (words : List (List ℕ)) (a : Command) → AsksFor words a → get_or words 0 [] ≡ command_word a
@@ -118,6 +122,7 @@ begins words (Show file region) asks = shown-word words (file, region, asks)
 begins words (Trial log made) asks = trial-word words (log, made, asks)
 begins words (Compact file new) asks = compact-word words (file, new, asks)
 begins words (Watch file) asks = watch-word words (file, asks)
+begins words (Follow file new) asks = follow-word words (file, new, asks)
 
 -- the letters of a command's word, added up: no two commands have the same sum
 letters : (words : List (List ℕ)) (a b : Command) → AsksFor words a → AsksFor words b → sum (command_word a) ≡ sum (command_word b)
@@ -186,8 +191,19 @@ one-show words f g q r (named, first) (also, second) =
     let region : q ≡ r = same-shown words f g q r first second in
     λ i. Show (file i) (region i)
 
+-- words name one pair of files behind a command
+module _ (command : List ℕ) (words : List (List ℕ)) (f g k l : List ℕ) (first : NamesPair command words f k) (second : NamesPair command words g l) where
+  same-old : f ≡ g
+  same-old = word-at 1 words _ _ first.spells second.spells
+
+  same-new : k ≡ l
+  same-new = word-at 2 words _ _ first.spells second.spells
+
 one-compact : (words : List (List ℕ)) (f g k l : List ℕ) → AsksFor words (Compact f k) → AsksFor words (Compact g l) → Compact f k ≡ Compact g l
-one-compact words f g k l first second = let file : f ≡ g = word-at 1 words _ _ first.spells second.spells in let new : k ≡ l = word-at 2 words _ _ first.spells second.spells in λ i. Compact (file i) (new i)
+one-compact words f g k l first second = λ i. Compact (same-old (codes "compact") words f g k l first second i) (same-new (codes "compact") words f g k l first second i)
+
+one-follow : (words : List (List ℕ)) (f g k l : List ℕ) → AsksFor words (Follow f k) → AsksFor words (Follow g l) → Follow f k ≡ Follow g l
+one-follow words f g k l first second = λ i. Follow (same-old (codes "follow") words f g k l first second i) (same-new (codes "follow") words f g k l first second i)
 
 -- words ask for one command
 pub one-command : (words : List (List ℕ)) (a b : Command) → AsksFor words a → AsksFor words b → a ≡ b
@@ -198,10 +214,11 @@ one-command words (Show f q) (Show g r) first second = one-show words f g q r fi
 one-command words (Trial k a) (Trial l b) first second = one-trial words k l a b first second
 one-command words (Compact f k) (Compact g l) first second = one-compact words f g k l first second
 one-command words (Watch f) (Watch g) first second = ap Watch (same-file (codes "watch") words f g first second)
+one-command words (Follow f k) (Follow g l) first second = one-follow words f g k l first second
 one-command words a b first second = let e = letters words a b first second in absurd (omega (arith, e))
 
 -- words that ask for none of the commands aren't accepted
-module _ (words : List (List ℕ)) (init : IsInit words → ⊥) (check : NamesNoFile (codes "check") words) (show : IsShow words → ⊥) (trial : IsTrial words → ⊥) (compact : NamesNoPair (codes "compact") words) (watch : NamesNoFile (codes "watch") words) (play : IsPlay words → ⊥) where
+module _ (words : List (List ℕ)) (init : IsInit words → ⊥) (check : NamesNoFile (codes "check") words) (show : IsShow words → ⊥) (trial : IsTrial words → ⊥) (compact : NamesNoPair (codes "compact") words) (watch : NamesNoFile (codes "watch") words) (follow : NamesNoPair (codes "follow") words) (play : IsPlay words → ⊥) where
   pub none-asked : IsAccepted words → ⊥
   none-asked (Init file width, asks) = init (file, width, asks)
   none-asked (Check file, asks) = check file asks
@@ -210,6 +227,7 @@ module _ (words : List (List ℕ)) (init : IsInit words → ⊥) (check : NamesN
   none-asked (Trial log made, asks) = trial (log, made, asks)
   none-asked (Compact file new, asks) = compact file new asks
   none-asked (Watch file, asks) = watch file asks
+  none-asked (Follow file new, asks) = follow file new asks
 
 pub none-weaker : {A P Q : Type 0} (R : A → Type 0) (o : Option A) → (P → Q) → MatchOption o P R → MatchOption o Q R
 none-weaker R None weaker holds = weaker holds

@@ -2,7 +2,7 @@
 use Rattle.std.specs.Prelude.{ℕ, List, Option, Some, None}
 use Rattle.command_words.specs.Words as words
 use Rattle.command_words.specs.declared.parsing.Command.{Command}
-use Rattle.command_words.specs.declared.parsing.Command.TheVariants.{Init, Check, Play, Show, Trial, Compact, Watch}
+use Rattle.command_words.specs.declared.parsing.Command.TheVariants.{Init, Check, Play, Show, Trial, Compact, Watch, Follow}
 
 abbrev pub command_of : Command → words.Command
 command_of (Init file width) = words.Init file.now width
@@ -14,6 +14,7 @@ command_of (Trial (Some log) made) = words.Trial (Some log.now) made
 command_of (Trial None made) = words.Trial None made
 command_of (Compact file new) = words.Compact file.now new.now
 command_of (Watch file) = words.Watch file.now
+command_of (Follow file new) = words.Follow file.now new.now
 
 -- the file whose log rows are to be played over
 abbrev pub file_of : Command → Option (List ℕ)

@@ -1,8 +1,8 @@
 -- Worked words.
-use Rattle.std.specs.Prelude.{◌≡◌, [], ◌∷◌, None, codes}
-use Rattle.std.proofs.Common.{refl, inl, inr}
+use Rattle.std.specs.Prelude.{◌≡◌, ℕ, List, [], ◌∷◌, None, codes}
+use Rattle.std.proofs.Common.{refl, inl, inr, get_or, ap, sym, ◌∙◌}
 use Rattle.csv_rows.specs.Numbers.{number_in, is_between, is_number}
-use Rattle.command_words.specs.Words.{AsksToPlay, IsLogged, SpellsBox, SpellsInit}
+use Rattle.command_words.specs.Words.{AsksToPlay, IsLogged, NamesPair, SpellsBox, SpellsInit}
 
 asks_for_64 : AsksToPlay (codes "play" ∷ codes "-" ∷ []) 64
 asks_for_64 = (None, inl (refl, refl))
@@ -37,3 +37,10 @@ column = record { lo_x = refl; lo_y = refl; hi_x = refl; hi_y = refl }
 turned : number_in 5 4294967295 (codes "4") ≡ None
 unfolding is_between is_number
 turned = refl
+
+-- a file doesn't follow itself
+abbrev alone : List (List ℕ)
+alone = codes "follow" ∷ codes "moves.log" ∷ codes "moves.log" ∷ []
+
+none_alone : (file new : List ℕ) → NamesPair (codes "follow") alone file new → ⊥
+none_alone file new names = names.differ (ap (λ (ws : List (List ℕ)). get_or ws 1 []) (sym names.spells) ∙ ap (λ (ws : List (List ℕ)). get_or ws 2 []) names.spells)

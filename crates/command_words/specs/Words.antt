@@ -6,7 +6,7 @@ use Rattle.command_words.specs.declared.trials.Made.{Made}
 
 -- what a run is asked for: to make a log of a width in a file, to inspect the log in a file, to play rows, over the log in a file or over none, with
 -- buckets of a size, to list the objects in a box, of the log in a file, to play made rows, over the log in a file or over none, to write
--- the log in a file anew into another file, or to tell who enters and leaves fences along the log in a file
+-- the log in a file anew into another file, to tell who enters and leaves fences along the log in a file, or to have another file follow the log in a file
 pub data Command : Type 0 where
   Init : List ℕ → ℕ → Command
   Check : List ℕ → Command
@@ -15,6 +15,7 @@ pub data Command : Type 0 where
   Trial : Option (List ℕ) → Made → Command
   Compact : List ℕ → List ℕ → Command
   Watch : List ℕ → Command
+  Follow : List ℕ → List ℕ → Command
 
 -- whether a word names a file: it isn't empty, and doesn't begin with `-`
 abbrev pub is_file_name : List ℕ → Bool
@@ -118,6 +119,7 @@ AsksFor words (Trial None made) = SpellsTrial words (codes "-") made
 AsksFor words (Trial (Some file) made) = IsTrue (is_file_name file) × SpellsTrial words file made
 AsksFor words (Compact file new) = NamesPair (codes "compact") words file new
 AsksFor words (Watch file) = NamesFile (codes "watch") words file
+AsksFor words (Follow file new) = NamesPair (codes "follow") words file new
 
 -- the words that ask for rows to be played with buckets of this size
 abbrev pub AsksToPlay : List (List ℕ) → ℕ → Type 0
@@ -144,6 +146,9 @@ IsCompact words = (file new : List ℕ) × AsksFor words (Compact file new)
 
 abbrev pub IsWatch : List (List ℕ) → Type 0
 IsWatch words = (file : List ℕ) × AsksFor words (Watch file)
+
+abbrev pub IsFollow : List (List ℕ) → Type 0
+IsFollow words = (file new : List ℕ) × AsksFor words (Follow file new)
 
 -- the words that ask for rows to be played over no log
 abbrev pub IsUnlogged : List (List ℕ) → Type 0

@@ -29,6 +29,8 @@ pub enum Command<'a> {
     Compact(&'a str, &'a str),
     /// To tell who enters and leaves fences along the log in this file.
     Watch(&'a str),
+    /// To have the second file, which has another name, follow the log in the first.
+    Follow(&'a str, &'a str),
 }
 
 /// The command that the words ask for; `words` are the command line without the program's name.
@@ -52,6 +54,9 @@ pub fn command_in(words: &[String]) -> Option<Command<'_>>
     }
     if let Some(watched) = file_after("watch", words) {
         return Some(Command::Watch(watched));
+    }
+    if let Some(follow) = pair_after("follow", words) {
+        return Some(Command::Follow(follow.file, follow.new));
     }
     play_in(words)
 }
