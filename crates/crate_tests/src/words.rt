@@ -17,6 +17,8 @@ fn said(command: Option<Command<'_>>) -> Said<'_> {
         Some(Command::Show(file, region)) => ("show", Some(file), corners(region)),
         Some(Command::Trial(file, made)) => ("trial", file, numbers(made)),
         Some(Command::Compact(file, _)) => ("compact", Some(file), [0; 4]),
+        Some(Command::Watch(file)) => ("watch", Some(file), [0; 4]),
+        Some(Command::Follow(file, _)) => ("follow", Some(file), [0; 4]),
         None => USAGE,
     }
 }
@@ -72,6 +74,8 @@ const COMMANDS: &[(&str, Said<'static>)] = &[
         ("show", FILE, [0, 0, 4294967295, 4294967295]),
     ),
     ("compact moves.log new.log", ("compact", FILE, [0; 4])),
+    ("watch moves.log", ("watch", FILE, [0; 4])),
+    ("follow moves.log new.log", ("follow", FILE, [0; 4])),
     ("trial - 1 0", ("trial", None, [1, 0, 0, 0])),
     (
         "trial moves.log 65536 18446744073709551615",
@@ -131,6 +135,14 @@ const OTHER_WORDS: &[&str] = &[
     "compact moves.log -",
     "compact moves.log  new.log",
     "compact moves.log new.log more",
+    "watch",
+    "watch -",
+    "watch moves.log more",
+    "follow moves.log",
+    "follow moves.log moves.log",
+    "follow - new.log",
+    "follow moves.log -",
+    "follow moves.log new.log more",
 ];
 
 #[test]
