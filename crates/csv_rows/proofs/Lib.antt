@@ -1,5 +1,6 @@
 pub mod RecordsFacts
 pub mod RowsFacts
+pub mod TablesFacts
 pub mod ColumnsFacts
 pub mod FieldsFacts
 pub mod NumbersFacts

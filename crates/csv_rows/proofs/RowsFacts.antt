@@ -68,10 +68,10 @@ row_over r f rs more rows lt so_far =
     ∙ with_rows-err rows TooMany
 
 -- what a read that found a record did, and one that found none
-abbrev took : (P Q : Type 0) (found : Bool) → found ≡ true → MatchBool found P Q → P
+abbrev pub took : (P Q : Type 0) (found : Bool) → found ≡ true → MatchBool found P Q → P
 took P Q found e h = let F : Bool → Type 0 = λ b. MatchBool b P Q in subst F e h
 
-abbrev ended : (P Q : Type 0) (found : Bool) → found ≡ false → MatchBool found P Q → Q
+abbrev pub ended : (P Q : Type 0) (found : Bool) → found ≡ false → MatchBool found P Q → Q
 ended P Q found e h = let F : Bool → Type 0 = λ b. MatchBool b P Q in subst F e h
 
 pub no_record : (text : List ℕ) (old new : Reader (Bor (List ℕ))) (found : Bool) (f : List (List ℕ)) → StandsBehind text [] old → TakesRecord old new found f → found ≡ false → rows_in text ≡ Err Header
@@ -134,7 +134,7 @@ all_rules text reader rows number h few = record { each = h.good; most = omega (
 mark-none : (a b c : ℕ) (rest : List ℕ) → has_mark (a ∷ b ∷ c ∷ rest) ≡ false → is_bom a b c ≡ false
 mark-none a b c rest e = grind (arith, e)
 
-strip_bom-unmarked : (text : List ℕ) → has_mark text ≡ false → strip_bom text ≡ text
+pub strip_bom-unmarked : (text : List ℕ) → has_mark text ≡ false → strip_bom text ≡ text
 unfolding strip_bom
 strip_bom-unmarked [] e = refl
 strip_bom-unmarked (a ∷ []) e = refl

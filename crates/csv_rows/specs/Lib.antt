@@ -4,6 +4,7 @@ pub mod Fields
 pub mod Rows
 pub mod InRows
 pub mod Records
+pub mod Tables
 pub mod Pieces
 pub mod Lines
 pub mod RowLines

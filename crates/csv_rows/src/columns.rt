@@ -42,7 +42,7 @@ pub(crate) struct Columns<T> {
 
 /// What a column may hold: nothing, or a number that lies between these two.
 #[derive(Clone, Copy)]
-pub(crate) enum Rule {
+pub enum Rule {
     Empty,
     Between { low: u64, high: u64 },
 }
@@ -50,7 +50,8 @@ pub(crate) enum Rule {
 /// The rule of sessions.
 pub(crate) const SESSION: Rule = Rule::Between { low: 1, high: 16 };
 
-const ID: Rule = Rule::Between {
+/// The rule of ids.
+pub const ID: Rule = Rule::Between {
     low: 0,
     high: u64::MAX,
 };
@@ -62,16 +63,17 @@ const MOMENT: Rule = Rule::Between {
 
 const COORDINATE_MAX: u64 = 4_294_967_295;
 
-const COORDINATE: Rule = Rule::Between {
+/// The rule of coordinates.
+pub const COORDINATE: Rule = Rule::Between {
     low: 0,
     high: COORDINATE_MAX,
 };
 
 const COUNT: Rule = Rule::Between { low: 1, high: 2048 };
 
-// A coordinate that isn't below this one.
+/// A coordinate that isn't below this one.
 #[inline(always)]
-fn at_least(low: u64) -> Rule
+pub fn at_least(low: u64) -> Rule
     ensures { result ≡ Rule.Between low 4294967295 }
 {
     Rule::Between {
@@ -170,8 +172,9 @@ pub(crate) fn op_of(word: Word, columns: Columns<u64>) -> Op
     }
 }
 
+/// The point at these coordinates.
 #[inline(always)]
-fn point_of(x: u64, y: u64) -> Point
+pub fn point_of(x: u64, y: u64) -> Point
     requires x { x < 2 ^ 32 }
     requires y { y < 2 ^ 32 }
     ensures { result ≡ record { x = x; y = y } }

@@ -98,8 +98,8 @@ fn fields_in(record: &ByteRecord) -> Option<Fields<'_>>
     })
 }
 
-// The field at a place where there is one.
-fn field_in(record: &ByteRecord, place: usize) -> &[u8]
+/// The field at a place where there is one.
+pub fn field_in(record: &ByteRecord, place: usize) -> &[u8]
     requires { place < length (fields_of record.now) }
     ensures { field_at (fields_of record.now) place ≡ Some result.now }
 {
@@ -118,8 +118,8 @@ fn word_of(field: &[u8]) -> Option<Word>
         .find(|word| is_text(field, text_of(*word)))
 }
 
-// Whether a field is this text.
-fn is_text(field: &[u8], text: &str) -> bool
+/// Whether a field is this text.
+pub fn is_text(field: &[u8], text: &str) -> bool
     ensures { result ≡ is_text field.now text.now }
 {
     field == text.as_bytes()
@@ -148,7 +148,8 @@ fn numbers_of(word: Word, fields: &Columns<&[u8]>) -> Result<Columns<u64>, Wrong
     })
 }
 
-fn number_at(column: u8, rule: Rule, field: &[u8]) -> Result<u64, Wrong>
+/// The number of a field that keeps this rule, which is 0 where it says none, or its column at fault.
+pub fn number_at(column: u8, rule: Rule, field: &[u8]) -> Result<u64, Wrong>
     ensures number { result ≡ number_by column rule field.now }
     ensures fits { IfOk result (Fits rule) }
 {

@@ -5,7 +5,10 @@
 //! rows that each keep the rules of their columns. `write_line`, `refusal_line`, `write_made`, `write_counts`,
 //! `write_summary`, `write_compacted`, `write_objects` and `write_rows` put exactly the texts of `Lines`, `LogLines`,
 //! `ObjectLines` and `RowLines`, and take no memory; what `write_rows` puts reads again as the same rows. A `Gathered`
-//! has many lines go out in large pieces.
+//! has many lines go out in large pieces; other crates write theirs into a `Piece`.
+//!
+//! Rows of another type are seen as `rows_of_text` of a `Table`, which says what each record says behind the rows before it.
+//! `read_table` answers exactly that, or want of memory, for whatever implements `ReadsRow`.
 //!
 //! Not here: what an operation answers (`plain_list`), which refusal comes when (`location_run`).
 #![tactic(auto)]
@@ -22,13 +25,18 @@ mod read;
 mod records;
 mod row_lines;
 mod rows;
+mod tables;
 mod written;
 
+pub use columns::{COORDINATE, ID, Rule, at_least, point_of};
+pub use fields::{field_in, is_text, number_at};
 pub use gathering::Gathered;
 pub use lines::{refusal_line, write_line, write_title};
 pub use log_lines::{write_compacted, write_counts, write_made, write_summary};
 pub use numbers::number_in;
 pub use object_lines::write_objects;
+pub use pieces::{Piece, add_number, add_pair, make_room, push_str};
 pub use read::read_rows;
 pub use row_lines::write_rows;
-pub use rows::{InRow, LogCounts, Refusal, Rows, RowsFault, Summary};
+pub use rows::{InRow, LogCounts, Refusal, Rows, RowsFault, Summary, Wrong};
+pub use tables::{ReadsRow, read_table};

@@ -12,14 +12,14 @@ use itoa::{Buffer, write_digits};
 use plain_list::Stamped;
 use zorder::Placed;
 
-/// The piece that is built, and put when it is nearly full.
-pub(crate) type Piece = ArrayVec<u8, 65536>;
+/// The piece that is built, and put when it is nearly full. It lies in the value itself: it takes no memory.
+pub type Piece = ArrayVec<u8, 65536>;
 
 // A piece with as much as this has room for one more entry, which has at most 144 bytes.
 const ROOM_FOR_ONE: usize = 65_392;
 
-/// Puts the piece where it is nearly full, and begins the next.
-pub(crate) fn make_room<K: Sink>(sink: &mut K, piece: &mut Piece) -> Result<(), SinkFault>
+/// Puts the piece where it is nearly full, and begins the next. Where the put fails, what the piece held is lost.
+pub fn make_room<K: Sink>(sink: &mut K, piece: &mut Piece) -> Result<(), SinkFault>
     ensures bytes { HoldsBack (K.output sink.old).taken (K.output sink.new).taken piece.old.items piece.new.items result }
     ensures cause { Counts (K.output sink.old).faults (K.output sink.new).faults result }
     ensures room { OnOk result (array_vec_len piece.new ≤ 65392) }
@@ -33,7 +33,7 @@ pub(crate) fn make_room<K: Sink>(sink: &mut K, piece: &mut Piece) -> Result<(), 
 }
 
 /// Adds a text, for which there is room.
-pub(crate) fn push_str(piece: &mut Piece, text: &str)
+pub fn push_str(piece: &mut Piece, text: &str)
     requires { array_vec_len piece.old + length text.now ≤ 65536 }
     ensures bytes { piece.new.items ≡ piece.old.items ++ text.now }
     ensures len { array_vec_len piece.new ≡ array_vec_len piece.old + length text.now }
@@ -52,7 +52,7 @@ pub(crate) fn push_bytes(piece: &mut Piece, bytes: &[u8])
 }
 
 /// Adds a decimal number.
-pub(crate) fn add_number(piece: &mut Piece, number: u64)
+pub fn add_number(piece: &mut Piece, number: u64)
     requires { array_vec_len piece.old ≤ 65516 }
     ensures bytes { piece.new.items ≡ piece.old.items ++ decimal number }
     ensures len { array_vec_len piece.new ≤ array_vec_len piece.old + 20 }
@@ -62,7 +62,7 @@ pub(crate) fn add_number(piece: &mut Piece, number: u64)
 }
 
 /// Adds two numbers with a mark between them, all at once.
-pub(crate) fn add_pair(piece: &mut Piece, first: u64, mark: u8, second: u64)
+pub fn add_pair(piece: &mut Piece, first: u64, mark: u8, second: u64)
     requires { array_vec_len piece.old ≤ 65495 }
     ensures bytes { piece.new.items ≡ piece.old.items ++ decimal first ++ (mark ∷ []) ++ decimal second }
     ensures len { array_vec_len piece.new ≤ array_vec_len piece.old + 41 }

@@ -33,13 +33,15 @@ pub fn read_rows(alloc: Global, bytes: &[u8]) -> Result<Rows, RowsFault>
     }
 }
 
-fn has_mark(bytes: &[u8]) -> bool
+/// Whether a text begins with the byte order mark.
+pub(crate) fn has_mark(bytes: &[u8]) -> bool
     ensures { result ≡ has_mark bytes.now }
 {
     bytes.starts_with(b"\xEF\xBB\xBF".as_slice())
 }
 
-fn behind_mark(bytes: &[u8]) -> &[u8]
+/// A text behind its mark, if it has one.
+pub(crate) fn behind_mark(bytes: &[u8]) -> &[u8]
     ensures { result.now ≡ behind_mark bytes.now }
 {
     if has_mark(bytes) { &bytes[3..] } else { bytes }
@@ -138,7 +140,8 @@ fn read_next(
     Ok(true)
 }
 
-fn fault_at(row: u32, wrong: Wrong) -> RowsFault
+/// What is wrong with the row of this number.
+pub(crate) fn fault_at(row: u32, wrong: Wrong) -> RowsFault
     ensures { result ≡ fault_at row wrong }
 {
     match wrong {
