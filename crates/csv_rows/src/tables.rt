@@ -143,7 +143,8 @@ fn read_row<R: ReadsRow>(
     requires read { HasReadRows R.table text reader.old rows.old.items }
     ensures rows { IfOk result (λ more. MatchBool more (HasReadRows R.table text reader.new rows.new.items)
         (rows_in_table R.table text ≡ Ok rows.new.items)) }
-    ensures knows { IfOk result (λ more. MatchBool more (R.knows kind.new rows.new.items × (length rows.new.items ≡ before + 1)) (rows.new.items ≡ rows.old.items)) }
+    ensures knows { IfOk result (λ more. MatchBool more
+        (R.knows kind.new rows.new.items × (length rows.new.items ≡ before + 1)) (rows.new.items ≡ rows.old.items)) }
     ensures fault { IfErr result (λ e. e ≢ RowsFault.Memory → rows_in_table R.table text ≡ Err e) }
 {
     let more = next_record(reader, fields)?;
