@@ -1,4 +1,6 @@
 pub mod Fences
+pub mod FenceRows
+pub mod FenceExamples
 pub mod Walks
 pub mod Crossings
 pub mod Watches

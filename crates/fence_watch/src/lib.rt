@@ -7,7 +7,9 @@
 #![tactic(auto)]
 
 mod fences;
+mod rows;
 mod walked;
 
 pub use fences::{Crossing, Event, Fence, Fences};
+pub use rows::read_fences;
 pub use walked::Walked;
