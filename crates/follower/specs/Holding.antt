@@ -17,6 +17,10 @@ pub record FollowerView (D : Type 0) : Type 0 where
   pub width : ℕ
   pub state : Following
 
+-- a follower with another state, over the same drive
+abbrev pub with_state : {D : Type 0} → Following → FollowerView D → FollowerView D
+with_state {D = D} s f = record { disk = f.disk; width = f.width; state = s }
+
 -- an image that recovers to the first of these cells, at least and at most so many
 pub record RecoversFirst (w : ℕ) (cells : List Cell) (least most : ℕ) (image : List ℕ) : Type 0 where
   pub count : ℕ

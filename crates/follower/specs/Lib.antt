@@ -2,7 +2,10 @@ pub mod Follow
 pub mod Holding
 pub mod Faults
 pub mod Turning
+pub mod Adding
+pub mod Reopening
 pub mod Opening
+pub mod Comparing
 pub mod Examples
 pub use Rattle.log_state.specs.Recovers
 pub use Rattle.split_log.specs.LogText

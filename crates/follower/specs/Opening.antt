@@ -1,10 +1,12 @@
 -- The opening of a follower, and why it is refused.
-use Rattle.std.specs.Prelude.{◌≡◌, ◌≢◌, ◌⊎◌, ℕ, ◌+◌, ◌≤◌, ◌<◌, true, false, List, length, take, slice_index, Some, is_some, ⊤}
+use Rattle.std.specs.Prelude.{◌≡◌, ◌≢◌, ◌⊎◌, ℕ, ◌+◌, ◌≤◌, ◌<◌, true, false, List, length, take, slice_index, Some, None, is_some, ⊤}
 use Rattle.causes.specs.Causes.{Rose}
 use Rattle.cell_format.specs.declared.cell.Cell.{Cell}
 use Rattle.cell_format.specs.Spelling.{newest}
 use Rattle.disk_trait.specs.Drive.{Drive, SameFile}
 use Rattle.disk_trait.specs.Moments.{LeavesNow, LeavesOnly}
+use Rattle.split_log.specs.LogText.{IsLog}
+use Rattle.split_log.specs.LogView.{LogView}
 use Rattle.log_state.specs.Recovers.{Recovers}
 use Rattle.recovery.specs.declared.seen.OpenFault.{OpenFault}
 use Rattle.recovery.specs.declared.seen.OpenFault.TheVariants as open_fault
@@ -73,3 +75,12 @@ pub record KeepsTarget (w : ℕ) (cells : List Cell) (old new : Drive) : Type 0 
   pub log : (bytes : List ℕ) (own : List Cell) → old.bytes ≡ Some bytes → 17 < length bytes → LeavesNow old (Recovers w own)
       → LeavesOnly old new (Recovers w own)
   pub other : (bytes : List ℕ) → old.bytes ≡ Some bytes → ((held : ℕ) → IsTaken w cells bytes held → ⊥) → IsUntouched old new
+
+-- the log of a follower was opened, or made: its first cells are the leader's, and no device call failed
+pub record OpensLog {D : Type 0} (drive : D → Drive) (w : ℕ) (cells : List Cell) (old : Drive) (log : LogView D) : Type 0 where
+  pub sound : log.failed ≡ None
+  pub few : log.cells ≤ length cells
+  pub found : (bytes : List ℕ) → old.bytes ≡ Some bytes → IsTaken w cells bytes log.cells × IsLog w (take log.cells cells) (drive log.disk)
+  pub told : is_some (drive log.disk).bytes ≡ is_some old.bytes
+  pub calm : (drive log.disk).faults ≡ old.faults
+  pub file : SameFile old (drive log.disk)

@@ -10,8 +10,8 @@ use Rattle.follower.specs.declared.faults.FollowFault.TheVariants.{Strange, Log,
 use Rattle.follower.specs.declared.turns.Turn.{Turn}
 use Rattle.follower.specs.declared.turns.Turn.TheVariants.{Send, Arrive, Ack, Restart}
 use Rattle.follower.specs.Follow.{Following, after_turn, cell_of}
-use Rattle.follower.specs.Holding.{FollowerView, HoldsFirst, RecoversFirst, IsUntold}
-use Rattle.follower.specs.Faults.{is_drives}
+use Rattle.follower.specs.Holding.{FollowerView, HoldsFirst, RecoversFirst, LeavesFirst, IsUntold}
+use Rattle.follower.specs.Faults.{is_drives, most_left}
 
 -- a turn was made: the state after it, and the follower goes on holding the first of the cells; no device call failed
 pub record Turns {D : Type 0} (drive : D → Drive) (cells : List Cell) (turn : Turn) (old new : FollowerView D) : Type 0 where
@@ -54,3 +54,12 @@ pub record RefusesTurn {D : Type 0} (drive : D → Drive) (cells : List Cell) (t
   pub calm : is_drives fault ≡ false → (drive disk).faults ≡ (drive old.disk).faults
   pub later : (drive old.disk).faults ≤ (drive disk).faults
   pub file : SameFile (drive old.disk) (drive disk)
+
+-- the turn was made, and at each moment of it a crash left as many cells as were held before it, or as after it
+pub record MakesTurn {D : Type 0} (drive : D → Drive) (cells : List Cell) (turn : Turn) (old new : FollowerView D) : Type 0 where
+  pub turns : Turns drive cells turn old new
+  pub any_moment : LeavesFirst old.width cells old.state.held new.state.held (drive old.disk) (drive new.disk)
+
+pub record FailsTurn {D : Type 0} (drive : D → Drive) (cells : List Cell) (turn : Turn) (old : FollowerView D) (disk : D) (fault : FollowFault) : Type 0 where
+  pub refused : RefusesTurn drive cells turn old disk fault
+  pub any_moment : LeavesFirst old.width cells old.state.held (most_left fault old.state.held) (drive old.disk) (drive disk)

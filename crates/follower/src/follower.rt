@@ -1,11 +1,14 @@
 //! A follower: a log, and what was sent.
-ghost use Rattle.std.specs.Prelude.{◌≡◌, ◌+◌, ℕ, List, Some, length, IfOk, IfErr, MatchResult};
+ghost use Rattle.std.specs.Prelude.{◌≡◌, ℕ, List, Some, length, IfOk, IfErr, MatchResult};
+ghost use Rattle.follower.specs.Faults.{IsFree, most_left};
 ghost use Rattle.follower.specs.Follow.{NamesSent, report_of};
 ghost use Rattle.follower.specs.Holding.{HoldsFirst, LeavesFirst};
-ghost use Rattle.follower.specs.Faults.{IsFree, most_left};
 ghost use Rattle.follower.specs.Turning.{Turns, RefusesTurn};
 
-use crate::faults::{FollowFault, FollowRefused};
+mod opening;
+mod steps;
+
+use crate::faults::FollowRefused;
 use crate::turns::{Report, Turn};
 use cell_format::Cell;
 use disk_trait::LogDisk;
@@ -31,7 +34,11 @@ impl<D: LogDisk> Model for Follower<D> {
 
     ghost Value = { FollowerView D };
 
-    ghost view = { λ f. record { disk = f.log.disk; width = f.width; state = record { held = f.log.cells; known = f.known; packets = f.packets.items; acks = f.acks.items } } };
+    ghost view = { λ f. record {
+      disk = f.log.disk;
+      width = f.width;
+      state = record { held = f.log.cells; known = f.known; packets = f.packets.items; acks = f.acks.items };
+    } };
 
     // An append that failed leaves no follower.
     ghost invariant = { λ f. f.log.failed ≡ None };
@@ -45,11 +52,28 @@ pub struct Turned<D: LogDisk> {
 }
 
 impl<D: LogDisk> Follower<D> {
-    /// The drive, whatever stands on it.
-    pub fn give_back(self) -> D
-        ensures { result ≡ self.disk }
+    /// Makes a turn. The cells are the leader's, the same at each call. After a refusal there is no follower any more, and the drive may be opened
+    /// again.
+    pub fn turn(self, cells: &[Cell], turn: &Turn) -> Result<Turned<D>, FollowRefused<D>>
+        requires holds { HoldsFirst D.drive cells.now self }
+        requires sent { NamesSent (length self.state.packets) (length self.state.acks) turn.now }
+
+        ensures turned { IfOk result (λ t. Turns D.drive cells.now turn.now self t.follower) }
+        ensures report { IfOk result (λ t. t.report ≡ report_of t.follower.state) }
+        ensures refused { IfErr result (λ e. RefusesTurn D.drive cells.now turn.now self e.disk e.fault) }
+        ensures whole { (bytes : List ℕ) → (D.drive self.disk).bytes ≡ Some bytes
+            → IfErr result (λ e. IsFree (D.drive self.disk) (D.drive e.disk) e.fault) }
+        ensures any_moment { MatchResult result
+            (λ t. LeavesFirst self.width cells.now self.state.held t.follower.state.held (D.drive self.disk) (D.drive t.follower.disk))
+            (λ e. LeavesFirst self.width cells.now self.state.held (most_left e.fault self.state.held) (D.drive self.disk) (D.drive e.disk)) }
     {
-        self.log.give_back()
+        match self.after(cells, turn) {
+            Ok(follower) => {
+                let report = follower.report();
+                Ok(Turned { follower, report })
+            }
+            Err(refused) => Err(refused),
+        }
     }
 
     /// How many cells are held, and how many are known to be.
@@ -60,5 +84,12 @@ impl<D: LogDisk> Follower<D> {
             held: self.log.cells(),
             known: self.known,
         }
+    }
+
+    /// The drive, whatever stands on it.
+    pub fn give_back(self) -> D
+        ensures { result ≡ self.disk }
+    {
+        self.log.give_back()
     }
 }

@@ -8,8 +8,10 @@
 //! Not here: how a log is walked and opened (`recovery`), appends (`split_log`).
 #![tactic(auto)]
 
+mod comparing;
 mod faults;
 mod follower;
+mod reopening;
 mod turns;
 
 pub use faults::{FollowFault, FollowRefused};

@@ -1,0 +1,46 @@
+-- The adding of a cell.
+use Rattle.std.specs.Prelude.{◌≡◌, ℕ, ◌+◌, ◌≤◌, ◌<◌, List, [], ◌∷◌, ◌++◌, length, take, is_some}
+use Rattle.causes.specs.Causes.{Rose}
+use Rattle.cell_format.specs.declared.cell.Cell.{Cell}
+use Rattle.disk_trait.specs.Drive.{Drive, SameFile}
+use Rattle.disk_trait.specs.Moments.{LeavesOnly, LeavesNow}
+use Rattle.split_log.specs.LogText.{IsLog, HoldsEither}
+use Rattle.follower.specs.declared.faults.FollowFault.{FollowFault}
+use Rattle.follower.specs.declared.faults.FollowFault.TheVariants.{Strange, Log, Append, Disk, Memory}
+use Rattle.follower.specs.Follow.{Following, acknowledging, cell_of}
+use Rattle.follower.specs.Holding.{FollowerView}
+
+-- the packet brings the next cell, and this is it
+pub record IsNext (cells : List Cell) (packet : ℕ) (s : Following) (cell : Cell) : Type 0 where
+  pub brings : cell_of packet s ≡ s.held
+  pub below : s.held < length cells
+  pub more : take (s.held + 1) cells ≡ take s.held cells ++ cell ∷ []
+
+-- at each moment a crash leaves the cells of the log, with this one or without
+abbrev pub LeavesEither : Cell → Drive → Drive → Type 0
+LeavesEither cell old new = (w : ℕ) (cells : List Cell) → IsLog w cells old → LeavesOnly old new (HoldsEither w cells cell)
+
+-- the cell was added and acknowledged, and no device call failed
+pub record IsAdded {D : Type 0} (drive : D → Drive) (cell : Cell) (old new : FollowerView D) : Type 0 where
+  pub state : new.state ≡ acknowledging (old.state.held + 1) old.state
+  pub width : new.width ≡ old.width
+  pub log : (w : ℕ) (cells : List Cell) → IsLog w cells (drive old.disk) → IsLog w (cells ++ cell ∷ []) (drive new.disk)
+  pub told : is_some (drive new.disk).bytes ≡ is_some (drive old.disk).bytes
+  pub calm : (drive new.disk).faults ≡ (drive old.disk).faults
+  pub file : SameFile (drive old.disk) (drive new.disk)
+  pub any_moment : LeavesEither cell (drive old.disk) (drive new.disk)
+
+-- a device call failed while the cell of this number was added
+pub record FailsToAdd (cell : Cell) (number held : ℕ) (old new : Drive) : Type 0 where
+  pub named : number ≡ held
+  pub rose : Rose old.faults new.faults
+  pub later : old.faults ≤ new.faults
+  pub file : SameFile old new
+  pub now : (w : ℕ) (cells : List Cell) → IsLog w cells old → LeavesNow new (HoldsEither w cells cell)
+  pub any_moment : LeavesEither cell old new
+
+-- why a cell wasn't added: memory ran out before a device call, or one failed
+abbrev pub IsLost : {D : Type 0} → (D → Drive) → Cell → FollowerView D → D → FollowFault → Type 0
+IsLost drive cell old disk (Append number) = FailsToAdd cell number old.state.held (drive old.disk) (drive disk)
+IsLost drive cell old disk Memory = disk ≡ old.disk
+IsLost drive cell old disk _ = ⊥

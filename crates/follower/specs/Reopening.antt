@@ -1,0 +1,42 @@
+-- The opening of a log of which it's known how many cells it has.
+use Rattle.std.specs.Prelude.{◌≡◌, ◌≢◌, ℕ, ◌≤◌, true, false, List, length, Some, None, is_some}
+use Rattle.causes.specs.Causes.{Rose}
+use Rattle.cell_format.specs.declared.cell.Cell.{Cell}
+use Rattle.cell_format.specs.Spelling.{newest}
+use Rattle.disk_trait.specs.Drive.{Drive, SameFile}
+use Rattle.split_log.specs.LogText.{IsLog}
+use Rattle.split_log.specs.LogView.{LogView, most_cells}
+use Rattle.log_state.specs.Recovers.{Recovers}
+use Rattle.recovery.specs.declared.seen.OpenFault.{OpenFault}
+use Rattle.recovery.specs.declared.seen.OpenFault.TheVariants as open_fault
+use Rattle.recovery.specs.Faults.{IsFault}
+use Rattle.recovery.specs.Opening.{KeepsCells, IsUntouched}
+use Rattle.follower.specs.declared.faults.FollowFault.{FollowFault}
+use Rattle.follower.specs.declared.faults.FollowFault.TheVariants.{Strange, Log, Append, Disk, Memory}
+use Rattle.follower.specs.Faults.{is_drives}
+
+-- the log was opened, with so many cells, which the bytes recovered to, and no device call failed
+pub record Reopens {D : Type 0} (drive : D → Drive) (w count : ℕ) (old : Drive) (log : LogView D) : Type 0 where
+  pub cells : log.cells ≡ count
+  pub sound : log.failed ≡ None
+  pub text : (bytes : List ℕ) → old.bytes ≡ Some bytes → (own : List Cell) × (length own ≡ count) × Recovers w own bytes × IsLog w own (drive log.disk)
+  pub told : is_some (drive log.disk).bytes ≡ is_some old.bytes
+  pub calm : (drive log.disk).faults ≡ old.faults
+  pub file : SameFile old (drive log.disk)
+  pub any_moment : KeepsCells w old (drive log.disk)
+
+-- why it wasn't: it has another number of cells, which no bytes do that recover to so many; or it was refused as it stands
+abbrev pub IsReopenCause : ℕ → ℕ → Drive → FollowFault → Type 0
+IsReopenCause w count old (Strange number) =
+    (number ≤ count) × ((bytes : List ℕ) (own : List Cell) → old.bytes ≡ Some bytes → Recovers w own bytes → length own ≡ count → ⊥)
+IsReopenCause w count old (Log fault) = (bytes : List ℕ) → old.bytes ≡ Some bytes → IsFault newest w most_cells bytes fault
+IsReopenCause w count old _ = ⊥
+
+pub record RefusesReopen (w count : ℕ) (old new : Drive) (fault : FollowFault) : Type 0 where
+  pub cause : IsReopenCause w count old fault
+  pub rose : is_drives fault ≡ true → Rose old.faults new.faults
+  pub calm : is_drives fault ≡ false → new.faults ≡ old.faults
+  pub untouched : (why : OpenFault) → fault ≡ Log why → why ≢ open_fault.Disk → IsUntouched old new
+  pub later : old.faults ≤ new.faults
+  pub file : SameFile old new
+  pub any_moment : KeepsCells w old new
