@@ -33,7 +33,8 @@ pub trait ReadsRow: Drop {
 
     /// What a record says behind these rows, or what is wrong with it.
     fn row(&mut self, earlier: &[Self::Row], fields: &ByteRecord) -> Result<Self::Row, Wrong>
-        requires { knows self.old earlier.now }
+        requires few { length earlier.now < table.most }
+        requires knows { knows self.old earlier.now }
         ensures row { result ≡ table.row_of earlier.now (fields_of fields.now) }
         ensures knows { IfOk result (λ row. knows self.new (earlier.now ++ row ∷ [])) };
 }
