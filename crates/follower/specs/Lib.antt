@@ -1,4 +1,6 @@
 pub mod Follow
+pub mod TurnRows
+pub mod TurnExamples
 pub mod Holding
 pub mod Faults
 pub mod Turning
