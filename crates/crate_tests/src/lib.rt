@@ -61,6 +61,8 @@ mod splits;
 #[cfg(test)]
 mod streams;
 #[cfg(test)]
+mod tables;
+#[cfg(test)]
 mod words;
 #[cfg(test)]
 mod worlds;
