@@ -1,0 +1,28 @@
+-- The opening of a log with another number of cells than it had.
+use Rattle.std.proofs.Common.{◌≡◌, ◌≢◌, ℕ, ◌≤◌, false, List, length, sym, ◌∙◌, ap, subst, arith}
+use Rattle.std.proofs.lemmas.Bool.{true≢false}
+use Rattle.cell_format.specs.declared.cell.Cell.{Cell}
+use Rattle.disk_trait.specs.Drive.{Drive}
+use Rattle.split_log.proofs.Unique.{holds-same}
+use Rattle.recovery.specs.declared.seen.Seen.{Seen}
+use Rattle.recovery.specs.Opening.{KeepsCells, IsReady}
+use Rattle.follower.specs.declared.faults.FollowFault.TheVariants.{Strange}
+use Rattle.follower.specs.Reopening.{RefusesReopen}
+
+pub other_count : {D : Type 0} (drive : D → Drive) (w count number : ℕ) (seen : Seen) (a : Drive) (b c : D) → c ≡ b → IsReady w seen a (drive b) → KeepsCells w a (drive b)
+    → seen.cells ≢ count → number ≤ count → RefusesReopen w count a (drive c) (Strange number)
+other_count drive w count number seen a b c back ready kept other least = subst (λ d. RefusesReopen w count a (drive d) (Strange number)) (sym back) (record {
+  cause = (
+    least,
+    λ bytes own told recovers count_is.
+        let (found, found_count, there, log) = ready.log bytes told in
+        let one : found ≡ own = holds-same there.version recovers.version w found own bytes there.holds recovers.holds in
+        other (sym found_count ∙ ap length one ∙ count_is),
+  );
+  rose = λ failed. absurd (true≢false (sym failed));
+  calm = λ quiet. ready.same;
+  untouched = λ why is. absurd (cc is);
+  later = omega (arith, ready.same);
+  file = ready.file;
+  any_moment = kept;
+})
