@@ -1,1 +1,6 @@
 pub mod RowsFacts
+pub mod Insides
+pub mod Following
+pub mod RisingIds
+pub mod SlabLemmas
+pub mod Passing

@@ -11,7 +11,7 @@ use Rattle.fence_watch.specs.declared.fences.Fence.{Fence}
 use Rattle.fence_watch.specs.declared.fences.Event.{Event}
 use Rattle.fence_watch.specs.declared.fences.Crossing.{Crossing}
 use Rattle.fence_watch.specs.declared.fences.Crossing.TheVariants.{Enter, Leave}
-use Rattle.fence_watch.specs.Walks.{object_of, place_in}
+use Rattle.recovery.specs.Walks.{object_of, place_in}
 use Rattle.fence_watch.specs.Fences.{lies_in}
 
 -- the world after a cell

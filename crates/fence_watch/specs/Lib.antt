@@ -1,8 +1,12 @@
 pub mod Fences
 pub mod FenceRows
 pub mod FenceExamples
-pub mod Walks
 pub mod Crossings
 pub mod Watches
+pub mod Slabs
+pub mod Passages
+pub mod Guards
+pub mod Kept
 pub mod Examples
 pub use Rattle.log_state.specs.Recovers
+pub use Rattle.recovery.specs.Walks

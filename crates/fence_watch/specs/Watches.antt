@@ -6,8 +6,8 @@ use Rattle.cell_format.specs.declared.cell.Cell.{Cell}
 use Rattle.plain_list.specs.World.{World}
 use Rattle.fence_watch.specs.declared.fences.Fence.{Fence}
 use Rattle.fence_watch.specs.declared.fences.Event.{Event}
-use Rattle.fence_watch.specs.declared.walked.Walked.{Walked}
-use Rattle.fence_watch.specs.Walks.{object_of}
+use Rattle.recovery.specs.declared.walked.Walked.{Walked}
+use Rattle.recovery.specs.Walks.{object_of}
 use Rattle.fence_watch.specs.Fences.{lies_in, inside_of}
 use Rattle.fence_watch.specs.Crossings.{world_after_cells, crossings_by, crossings}
 

@@ -7,9 +7,13 @@
 #![tactic(auto)]
 
 mod fences;
+mod guards;
+mod ids;
+mod passages;
 mod rows;
-mod walked;
+mod slabs;
+mod watch;
 
 pub use fences::{Crossing, Event, Fence, Fences};
 pub use rows::read_fences;
-pub use walked::Walked;
+pub use watch::{Watch, WatchFault};

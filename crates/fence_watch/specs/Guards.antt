@@ -1,0 +1,44 @@
+-- Guards as they are kept, the room in them, and what crossings make of them.
+use Rattle.std.specs.Prelude.{ℕ, ◌+◌, ◌≤◌, ◌<◌, ◌≡◌, List, [], ◌∷◌, map, Option, Some, None, ⊤, vec_len, vec_capacity}
+use Rattle.std.specs.List.{AllByRecursion}
+use Rattle.fence_watch.specs.declared.fences.Crossing.{Crossing}
+use Rattle.fence_watch.specs.declared.fences.Crossing.TheVariants.{Enter, Leave}
+use Rattle.fence_watch.specs.declared.guards.Guarded.{Guarded}
+use Rattle.fence_watch.specs.Watches.{Guard, with_id, without_id}
+
+-- each id is above those before it
+abbrev pub AreRising : List ℕ → Type 0
+AreRising [] = ⊤
+AreRising (x ∷ xs) = AllByRecursion (λ y. x < y) xs × AreRising xs
+
+abbrev pub AllRising : List Guard → Type 0
+AllRising guards = AllByRecursion (λ (g : Guard). AreRising g.inside) guards
+
+abbrev pub guard_of : Guarded → Guard
+guard_of g = record { fence = g.fence; inside = g.inside.items }
+
+abbrev pub guards_of : List Guarded → List Guard
+guards_of guards = map guard_of guards
+
+-- a guard behind a crossing of its fence, or none
+abbrev pub behind_by : ℕ → Guard → Option Crossing → Guard
+behind_by id g None = g
+behind_by id g (Some Enter) = record g { inside = with_id id g.inside }
+behind_by id g (Some Leave) = record g { inside = without_id id g.inside }
+
+-- guards behind one crossing each
+abbrev pub guards_along : ℕ → List Guard → List (Option Crossing) → List Guard
+guards_along id [] ts = []
+guards_along id (g ∷ guards) [] = g ∷ guards
+guards_along id (g ∷ guards) (t ∷ ts) = behind_by id g t ∷ guards_along id guards ts
+
+-- there is room for an id where the fence is entered
+abbrev pub HasRoom : Guarded → Option Crossing → Type 0
+HasRoom g (Some Enter) = vec_len g.inside + 1 ≤ vec_capacity g.inside
+HasRoom g (Some Leave) = ⊤
+HasRoom g None = ⊤
+
+abbrev pub HaveRoom : List Guarded → List (Option Crossing) → Type 0
+HaveRoom [] ts = ⊤
+HaveRoom (g ∷ guards) [] = ⊤
+HaveRoom (g ∷ guards) (t ∷ ts) = HasRoom g t × HaveRoom guards ts

@@ -1,0 +1,27 @@
+-- Spans of numbers, and their edges.
+use Rattle.std.specs.Prelude.{◌≡◌, ◌+◌, ◌^◌, ◌&&◌, nat_le, nat_lt, ℕ, Bool, List, [], ◌∷◌, ◌++◌, map, Vec, if◌then◌else◌}
+use Rattle.std.specs.Global.{Global}
+use Rattle.std.specs.List.Sorted.{IsNonDecreasing, IsPermutation}
+use Rattle.fence_watch.specs.declared.slabs.Span.{Span}
+
+-- whether a span has a number
+abbrev pub spans : ℕ → Span → Bool
+spans at s = nat_le s.from at && nat_le at s.to
+
+-- which of the spans have a number
+abbrev pub row_at : ℕ → List Span → List Bool
+row_at at list = map (spans at) list
+
+-- where a span begins, and where it has ended
+abbrev pub own_edges : Span → List ℕ
+own_edges s = if nat_lt (s.to + 1) (2 ^ 32) then s.from ∷ (s.to + 1) ∷ [] else s.from ∷ []
+
+abbrev pub edges_of : List Span → List ℕ
+edges_of [] = []
+edges_of (s ∷ list) = own_edges s ++ edges_of list
+
+-- the edges are 0 and those of the spans, in order, and for each there is a row that tells which of the spans have it
+pub record TellSpans (list : List Span) (edges : List ℕ) (rows : List (Vec Bool Global)) : Type 0 where
+  pub sorted : IsNonDecreasing edges
+  pub all : IsPermutation (0 ∷ edges_of list) edges
+  pub told : map (λ (row : Vec Bool Global). row.items) rows ≡ map (λ edge. row_at edge list) edges

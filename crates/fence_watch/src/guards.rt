@@ -1,0 +1,112 @@
+//! Fences, each with the ids inside it.
+ghost use Rattle.std.specs.Prelude.{◌≤◌, length, vec_len, vec_capacity, ◌≡◌, ◌+◌, [], ◌++◌, ◌∷◌, Some, OnOk, IfOk, map};
+ghost use Rattle.std.specs.List.{AllByRecursion};
+ghost use Rattle.fence_watch.specs.declared.fences.Fence.{Fence};
+ghost use Rattle.fence_watch.specs.declared.guards.Guarded.{Guarded};
+ghost use Rattle.fence_watch.specs.Watches.{Guard, fences_of};
+ghost use Rattle.fence_watch.specs.Passages.{turns_of, event_by, events_along};
+ghost use Rattle.fence_watch.specs.Guards.{AreRising, AllRising, guard_of, guards_of, behind_by, guards_along, HaveRoom, HasRoom};
+
+use crate::fences::{Crossing, Event, Fence};
+use crate::ids::{put_id, take_id};
+use crate::passages::Passage;
+use std::alloc::{AllocError, Global};
+
+// It has no view of its own, so that contracts see how much room there is.
+#[derive(Drop)]
+pub(crate) struct Guarded {
+    pub(crate) fence: Fence,
+    pub(crate) inside: Vec<u64>,
+}
+
+/// The cell of this number changes this object.
+#[derive(Clone, Copy)]
+pub(crate) struct Step {
+    pub(crate) at: u64,
+    pub(crate) id: u64,
+}
+
+/// Fences that nobody is inside.
+pub(crate) fn guard(alloc: Global, fences: &[Fence]) -> Result<Vec<Guarded>, AllocError>
+    ensures guards { IfOk result (λ guards. guards_of guards.items ≡ map (λ f. record { fence = f; inside = [] }) fences.now) }
+    ensures rising { IfOk result (λ guards. AllRising (guards_of guards.items)) }
+{
+    let mut guards = Vec::new(alloc);
+    for fence in fences {
+        guards.push(Guarded { fence: *fence, inside: Vec::new(alloc) })?;
+    }
+    Ok(guards)
+}
+
+/// Takes room for an id in each fence that is entered.
+pub(crate) fn make_room(guards: &mut [Guarded], passage: Passage<'_>) -> Result<(), AllocError>
+    ensures same { guards_of guards.new ≡ guards_of guards.old }
+    ensures room { OnOk result (HaveRoom guards.new (turns_of passage.entry)) }
+{
+    let Some((guard, guards)) = guards.split_first_mut() else {
+        return Ok(());
+    };
+    let Some((crossing, passage)) = passage.split_first() else {
+        return Ok(());
+    };
+    if crossing == Some(Crossing::Enter) {
+        guard.inside.reserve(1)?;
+    }
+    make_room(guards, passage)
+}
+
+/// Crosses the fences: there is room for all that comes.
+pub(crate) fn cross(guards: &mut [Guarded], passage: Passage<'_>, step: Step, events: &mut Vec<Event>)
+    requires rising { AllRising (guards_of guards.old) }
+    requires room { HaveRoom guards.old (turns_of passage) }
+    requires space { vec_len events.old + length (events_along step.at step.id (fences_of (guards_of guards.old)) (turns_of passage)) ≤ vec_capacity events.old }
+    ensures guards { guards_of guards.new ≡ guards_along step.id (guards_of guards.old) (turns_of passage.entry) }
+    ensures events { events.new.items ≡ events.old.items ++ events_along step.at step.id (fences_of (guards_of guards.old)) (turns_of passage.entry) }
+{
+    let Some((guard, guards)) = guards.split_first_mut() else {
+        return;
+    };
+    let Some((crossing, passage)) = passage.split_first() else {
+        return;
+    };
+    guard.cross(crossing, step, events);
+    cross(guards, passage, step, events);
+}
+
+impl Guarded {
+    fn cross(&mut self, crossing: Option<Crossing>, step: Step, events: &mut Vec<Event>)
+        requires rising { AreRising self.old.inside.items }
+        requires room { HasRoom self.old crossing }
+        requires space { vec_len events.old + length (event_by step.at step.id self.old.fence crossing) ≤ vec_capacity events.old }
+        ensures guard { guard_of self.new ≡ behind_by step.id (guard_of self.old) crossing }
+        ensures events { events.new.items ≡ events.old.items ++ event_by step.at step.id self.old.fence crossing }
+        ensures len { vec_len events.new ≡ vec_len events.old + length (event_by step.at step.id self.old.fence crossing) }
+        ensures capacity { vec_capacity events.old ≤ vec_capacity events.new }
+    {
+        match crossing {
+            Some(Crossing::Enter) => {
+                put_id(&mut self.inside, step.id);
+                tell(events, Crossing::Enter, step, &self.fence);
+            }
+            Some(Crossing::Leave) => {
+                take_id(&mut self.inside, step.id);
+                tell(events, Crossing::Leave, step, &self.fence);
+            }
+            None => {}
+        }
+    }
+}
+
+fn tell(events: &mut Vec<Event>, crossing: Crossing, step: Step, fence: &Fence)
+    requires { vec_len events.old + 1 ≤ vec_capacity events.old }
+    ensures events { events.new.items ≡ events.old.items ++ record { at = step.at; crossing = crossing; id = step.id; fence = fence.now.id } ∷ [] }
+    ensures len { vec_len events.new ≡ vec_len events.old + 1 }
+    ensures capacity { vec_capacity events.old ≤ vec_capacity events.new }
+{
+    let _ = events.push(Event {
+        at: step.at,
+        crossing,
+        id: step.id,
+        fence: fence.id,
+    });
+}

@@ -1,0 +1,112 @@
+//! From one place to another: which fences are crossed on the way.
+ghost use Rattle.std.specs.Prelude.{◌≡◌, ◌≤◌, length, [], ◌∷◌, List, IfOk, MatchOption};
+ghost use Rattle.fence_watch.specs.declared.fences.Fence.{Fence};
+ghost use Rattle.fence_watch.specs.Fences.{most_fences};
+ghost use Rattle.fence_watch.specs.Passages.{turn, marks_of, turns_of, count_turns, IsOfLength, Charts, Shows, ShowsPassage};
+
+use crate::fences::{Crossing, Fence};
+use crate::slabs::{Slabs, Span};
+use std::alloc::{AllocError, Global};
+use zorder::Point;
+
+/// What tells of a place which fences have it: one row for each axis, looked up. They are fewer than twice the fences.
+#[derive(Drop)]
+pub(crate) struct Chart {
+    columns: Slabs,
+    lines: Slabs,
+    nowhere: Vec<bool>,
+}
+
+/// For each fence, whether it has a place's first coordinate, and its second one.
+#[derive(Clone, Copy)]
+pub(crate) struct Sides<'a> {
+    column: &'a [bool],
+    line: &'a [bool],
+}
+
+/// The places before and after a step.
+#[derive(Clone, Copy)]
+pub(crate) struct Passage<'a> {
+    before: Sides<'a>,
+    after: Sides<'a>,
+}
+
+impl Chart {
+    pub(crate) fn new(alloc: Global, fences: &[Fence]) -> Result<Chart, AllocError>
+        ensures { IfOk result (λ c. Charts fences.now c) }
+    {
+        let mut columns = Vec::new(alloc);
+        let mut lines = Vec::new(alloc);
+        let mut nowhere = Vec::new(alloc);
+        for fence in fences {
+            columns.push(Span { from: fence.region.lo.x, to: fence.region.hi.x })?;
+            lines.push(Span { from: fence.region.lo.y, to: fence.region.hi.y })?;
+            nowhere.push(false)?;
+        }
+        Ok(Chart { columns: Slabs::new(alloc, columns)?, lines: Slabs::new(alloc, lines)?, nowhere })
+    }
+
+    pub(crate) fn passage(&self, before: Option<Point>, after: Option<Point>) -> Passage<'_>
+        ensures { (fences : List Fence) → Charts fences self.now → ShowsPassage before after fences result }
+    {
+        Passage { before: self.sides(before), after: self.sides(after) }
+    }
+
+    fn sides(&self, place: Option<Point>) -> Sides<'_>
+        ensures { (fences : List Fence) → Charts fences self.now → Shows place fences result }
+    {
+        match place {
+            Some(at) => Sides { column: self.columns.row(at.x), line: self.lines.row(at.y) },
+            None => Sides { column: self.nowhere.as_slice(), line: self.nowhere.as_slice() },
+        }
+    }
+}
+
+impl<'a> Sides<'a> {
+    fn split_first(self) -> Option<(bool, Sides<'a>)>
+        ensures { MatchOption result (marks_of self.entry ≡ []) (λ r. marks_of self.entry ≡ r.0 ∷ marks_of r.1) }
+    {
+        let (column, columns) = self.column.split_first()?;
+        let (line, lines) = self.line.split_first()?;
+        Some((*column && *line, Sides { column: columns, line: lines }))
+    }
+}
+
+impl<'a> Passage<'a> {
+    /// How many fences are crossed. A loop without a branch, of which vectors are made: most steps cross none, and end here.
+    #[inline(never)]
+    pub(crate) fn crossed(&self) -> usize
+        requires sides { IsOfLength (length self.now.before.column.now) self.now }
+        requires few { length self.now.before.column.now ≤ most_fences }
+        ensures count { result ≡ count_turns (turns_of self.now) }
+        ensures few { result ≤ most_fences }
+    {
+        let Passage { before, after } = *self;
+        let mut crossed = 0u16;
+        for i in 0..before.column.len() {
+            let was = before.column[i] & before.line[i];
+            let is = after.column[i] & after.line[i];
+            crossed += (was != is) as u16;
+        }
+        usize::from(crossed)
+    }
+
+    /// How the first fence is crossed, if it is, and what is said of the others.
+    pub(crate) fn split_first(self) -> Option<(Option<Crossing>, Passage<'a>)>
+        ensures { MatchOption result (turns_of self.entry ≡ []) (λ r. turns_of self.entry ≡ r.0 ∷ turns_of r.1) }
+    {
+        let (was, before) = self.before.split_first()?;
+        let (is, after) = self.after.split_first()?;
+        Some((turn(was, is), Passage { before, after }))
+    }
+}
+
+fn turn(was: bool, is: bool) -> Option<Crossing>
+    ensures { result ≡ turn was is }
+{
+    match (was, is) {
+        (false, true) => Some(Crossing::Enter),
+        (true, false) => Some(Crossing::Leave),
+        (true, true) | (false, false) => None,
+    }
+}

@@ -1,0 +1,154 @@
+//! A watch: fences, who is inside, and who crossed.
+ghost use Rattle.std.specs.Prelude.{◌≡◌, ◌≤◌, ◌↔◌, ℕ, List, [], ◌∷◌, ◌++◌, length, Ok, Err, IfOk, OnOk, OnErr, MatchOption, Some, None};
+ghost use Rattle.cell_format.specs.declared.cell.Cell.{Cell};
+ghost use Rattle.recovery.specs.Walks.{object_of, IsNextWalked};
+ghost use Rattle.fence_watch.specs.declared.fences.Fence.{Fence};
+ghost use Rattle.fence_watch.specs.Crossings.{crossings};
+ghost use Rattle.fence_watch.specs.Watches.{Steps, IsOver, HoldsBefore, FollowsCells, inside_at, most_events};
+
+use crate::fences::{Event, Fences};
+use crate::guards::{Guarded, Step, cross, guard, make_room};
+use crate::passages::Chart;
+use cell_format::Cell;
+use recovery::Walked;
+use std::alloc::{AllocError, Global};
+use std::marker::Model;
+use zorder::Memory;
+
+/// Why a step wasn't made.
+#[derive(Clone, Copy, Debug, PartialEq, Eq)]
+pub enum WatchFault {
+    /// There would be more than 4,194,304 events.
+    TooMany,
+    Memory,
+}
+
+impl From<AllocError> for WatchFault {
+    ghost use Rattle.std.specs.Prelude.{◌≡◌};
+    ghost use Rattle.fence_watch.specs.declared.watch.WatchFault.TheVariants as fault;
+
+    ghost from_gives = { λ _ want. want ≡ fault.Memory };
+
+    fn from(_: AllocError) -> WatchFault {
+        WatchFault::Memory
+    }
+}
+
+/// Fences along a log.
+#[derive(Drop)]
+pub struct Watch {
+    guards: Vec<Guarded>,
+    chart: Chart,
+    events: Vec<Event>,
+}
+
+impl Model for Watch {
+    ghost use Rattle.fence_watch.specs.Watches.{WatchView};
+    ghost use Rattle.fence_watch.specs.Guards.{guards_of};
+
+    ghost Value = { WatchView };
+
+    ghost use Rattle.fence_watch.specs.Kept.{Keeps};
+
+    ghost view = { λ w. record { guards = guards_of w.guards.items; events = w.events.items } };
+
+    ghost invariant = { λ w. Keeps w.guards.items w.chart w.events.items };
+}
+
+impl Watch {
+    /// No cell was followed yet, and nobody is inside.
+    pub fn new(alloc: Global, fences: Fences) -> Result<Watch, Memory>
+        ensures { IfOk result (λ w. FollowsCells [] fences w) }
+    {
+        Ok(Watch {
+            guards: guard(alloc, fences.as_slice())?,
+            chart: Chart::new(alloc, fences.as_slice())?,
+            events: Vec::new(alloc),
+        })
+    }
+
+    /// The events so far.
+    pub fn events(&self) -> &[Event]
+        ensures events { result.now ≡ self.now.events }
+        ensures few { length self.now.events ≤ most_events }
+        ensures follows { (cells : List Cell) (fences : List Fence) → FollowsCells cells fences self.now → result.now ≡ crossings cells fences }
+    {
+        self.events.as_slice()
+    }
+
+    /// Who is inside the fence of this number, their ids rising.
+    pub fn inside(&self, fence: u64) -> Option<&[u64]>
+        ensures { MatchOption result (inside_at fence self.now.guards ≡ None) (λ ids. inside_at fence self.now.guards ≡ Some ids.now) }
+    {
+        for guard in &self.guards {
+            if guard.fence.id == fence {
+                return Some(guard.inside.as_slice());
+            }
+        }
+        None
+    }
+
+    /// Goes on along a cell. All memory is taken before anything is changed.
+    pub fn step(&mut self, walked: &Walked) -> Result<(), WatchFault>
+        requires holds { HoldsBefore (object_of walked.now.cell) walked.now.before self.old.guards }
+        ensures ok { OnOk result (Steps walked.now self.old self.new) }
+        ensures follows { OnOk result ((w : ℕ) (cells : List Cell) (fences : List Fence) → FollowsCells cells fences self.old → IsNextWalked w cells walked.now
+            → FollowsCells (cells ++ walked.now.cell ∷ []) fences self.new) }
+        ensures err { OnErr result (self.new ≡ self.old) }
+        ensures too_many { (result ≡ Err WatchFault.TooMany) ↔ IsOver walked.now self.old }
+    {
+        match object_of(&walked.cell) {
+            Some(id) => self.follow(walked, id),
+            None => self.stay(walked),
+        }
+    }
+
+    // A cell of a split moves nobody.
+    fn stay(&self, walked: &Walked) -> Result<(), WatchFault>
+        requires { object_of walked.now.cell ≡ None }
+        ensures ok { result ≡ Ok (record {}) }
+        ensures steps { Steps walked.now self.now self.now }
+        ensures few { IsOver walked.now self.now → ⊥ }
+    {
+        let _events = self.events();
+        let _at = walked.at;
+        Ok(())
+    }
+
+    fn follow(&mut self, walked: &Walked, id: u64) -> Result<(), WatchFault>
+        requires is { object_of walked.now.cell ≡ Some id }
+        requires holds { HoldsBefore (object_of walked.now.cell) walked.now.before self.old.guards }
+        ensures ok { OnOk result (Steps walked.now self.old self.new) }
+        ensures err { OnErr result (self.new ≡ self.old) }
+        ensures too_many { (result ≡ Err WatchFault.TooMany) ↔ IsOver walked.now self.old }
+    {
+        let passage = self.chart.passage(walked.before, walked.after);
+        let crossed = passage.crossed();
+        if crossed == 0 {
+            return Ok(());
+        }
+        if self.events.len() + crossed > MOST_EVENTS {
+            return Err(WatchFault::TooMany);
+        }
+        self.events.reserve(crossed)?;
+        make_room(&mut self.guards, passage)?;
+        cross(&mut self.guards, passage, Step { at: walked.at, id }, &mut self.events);
+        Ok(())
+    }
+}
+
+/// The most events that a watch keeps.
+const MOST_EVENTS: usize = 4_194_304;
+
+fn object_of(cell: &Cell) -> Option<u64>
+    ensures { result ≡ object_of cell.now }
+{
+    match *cell {
+        Cell::Put { id, .. } => Some(id),
+        Cell::Move { id, .. } => Some(id),
+        Cell::Remove { id } => Some(id),
+        Cell::Begin { .. } => None,
+        Cell::Install { .. } => None,
+        Cell::Abandon { .. } => None,
+    }
+}
