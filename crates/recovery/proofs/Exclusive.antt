@@ -30,18 +30,18 @@ use Rattle.recovery.proofs.HeadLemmas.{header_bytes, header_is_log, index_versio
 use Rattle.recovery.proofs.ReadingLemmas.{behind_cells, set_some}
 
 -- one list of cells goes on with this cell where the other ends
-record Longer (v w : ℕ) (s : State) (first second : List Cell) (tail rest : List ℕ) : Type 0 where
-  next : Cell
-  more : List Cell
-  second_is : second ≡ first ++ next ∷ more
-  tail_is : tail ≡ spelling next ++ (flat_map spelling more ++ rest)
-  fits : IsCell v next
-  possible : is_possible_cell w (cells_after w s first) next ≡ true
+pub record Longer (v w : ℕ) (s : State) (first second : List Cell) (tail rest : List ℕ) : Type 0 where
+  pub next : Cell
+  pub more : List Cell
+  pub second_is : second ≡ first ++ next ∷ more
+  pub tail_is : tail ≡ spelling next ++ (flat_map spelling more ++ rest)
+  pub fits : IsCell v next
+  pub possible : is_possible_cell w (cells_after w s first) next ≡ true
 
 longer : (v w : ℕ) (s : State) (c : Cell) (first second : List Cell) (tail rest : List ℕ) → Longer v w (step w s (entry_of c)) first second tail rest → Longer v w s (c ∷ first) (c ∷ second) tail rest
 longer v w s c first second tail rest l = record { next = l.next; more = l.more; second_is = ap (λ cs. c ∷ cs) l.second_is; tail_is = l.tail_is; fits = l.fits; possible = l.possible }
 
-abbrev Compared : ℕ → ℕ → State → List Cell → List Cell → List ℕ → List ℕ → Type 0
+abbrev pub Compared : ℕ → ℕ → State → List Cell → List Cell → List ℕ → List ℕ → Type 0
 Compared v w s first second tail rest = ((first ≡ second) × (tail ≡ rest)) ⊎ (Longer v w s first second tail rest ⊎ Longer v w s second first rest tail)
 
 compared_more : (v w : ℕ) (s : State) (c : Cell) (first second : List Cell) (tail rest : List ℕ) → Compared v w (step w s (entry_of c)) first second tail rest → Compared v w s (c ∷ first) (c ∷ second) tail rest
@@ -49,7 +49,7 @@ compared_more v w s c first second tail rest (inl same) = inl (ap (λ cs. c ∷ 
 compared_more v w s c first second tail rest (inr (inl l)) = inr (inl (longer v w s c first second tail rest l))
 compared_more v w s c first second tail rest (inr (inr l)) = inr (inr (longer v w s c second first rest tail l))
 
-compared : (v w : ℕ) (s : State) (first second : List Cell) (tail rest : List ℕ) → AllByRecursion (IsCell v) first → AllByRecursion (IsCell v) second → is_legal_cells w s first ≡ true → is_legal_cells w s second ≡ true
+pub compared : (v w : ℕ) (s : State) (first second : List Cell) (tail rest : List ℕ) → AllByRecursion (IsCell v) first → AllByRecursion (IsCell v) second → is_legal_cells w s first ≡ true → is_legal_cells w s second ≡ true
     → flat_map spelling first ++ tail ≡ flat_map spelling second ++ rest → Compared v w s first second tail rest
 compared v w s [] [] tail rest af bf al bl e = inl (refl, e)
 compared v w s [] (d ∷ second) tail rest af bf al bl e =
@@ -84,11 +84,11 @@ compared v w s (c ∷ first) (d ∷ second) tail rest af bf al bl e =
     (compared_more v w s c first second tail rest (compared v w (step w s (entry_of c)) first second tail rest af.1 bf.1 (second_so (is_possible_cell w s c) (is_legal_cells w (step w s (entry_of c)) first) al) legal tails))
 
 -- where a reading ends: no possible cell that would be read stands behind the cells
-record IsEnd (v w most : ℕ) (cells : List Cell) (tail bytes : List ℕ) : Type 0 where
-  begins : BeginsWith v w cells tail bytes
-  some : 1 ≤ length tail
-  few : length cells ≤ most
-  stuck : (next : Cell) (rest : List ℕ) → IsCell v next → tail ≡ spelling next ++ rest → 1 ≤ length rest → is_possible_cell w (state_of w cells) next ≡ true → length cells < most → ⊥
+pub record IsEnd (v w most : ℕ) (cells : List Cell) (tail bytes : List ℕ) : Type 0 where
+  pub begins : BeginsWith v w cells tail bytes
+  pub some : 1 ≤ length tail
+  pub few : length cells ≤ most
+  pub stuck : (next : Cell) (rest : List ℕ) → IsCell v next → tail ≡ spelling next ++ rest → 1 ≤ length rest → is_possible_cell w (state_of w cells) next ≡ true → length cells < most → ⊥
 
 no_longer : (v w most : ℕ) (first second : List Cell) (tail rest bytes : List ℕ) → IsEnd v w most first tail bytes → IsEnd v w most second rest bytes → Longer v w empty_state first second tail rest → ⊥
 no_longer v w most first second tail rest bytes a b l =
@@ -96,14 +96,14 @@ no_longer v w most first second tail rest bytes a b l =
     (omega (arith, ap length l.second_is, length-append first (l.next ∷ l.more), b.few))
 
 -- the version is the one that the header names
-behind_header : (v w : ℕ) (cells : List Cell) (tail bytes : List ℕ) → BeginsWith v w cells tail bytes → bytes ≡ header_text v w ++ (flat_map spelling cells ++ tail)
+pub behind_header : (v w : ℕ) (cells : List Cell) (tail bytes : List ℕ) → BeginsWith v w cells tail bytes → bytes ≡ header_text v w ++ (flat_map spelling cells ++ tail)
 behind_header v w cells tail bytes begins = begins.parts ∙ append_assoc (header_text v w) (flat_map spelling cells) tail
 
-named_version : (v w : ℕ) (cells : List Cell) (tail bytes : List ℕ) → BeginsWith v w cells tail bytes → slice_index bytes 8 ≡ v
+pub named_version : (v w : ℕ) (cells : List Cell) (tail bytes : List ℕ) → BeginsWith v w cells tail bytes → slice_index bytes 8 ≡ v
 named_version v w cells tail bytes begins = ap (λ (l : List ℕ). slice_index l 8) (behind_header v w cells tail bytes begins) ∙ (header_bytes v w (flat_map spelling cells ++ tail)).0
 
 -- a reading ends at one place
-one_end_of : (v w most : ℕ) (first second : List Cell) (tail rest bytes : List ℕ) → IsEnd v w most first tail bytes → IsEnd v w most second rest bytes → (first ≡ second) × (tail ≡ rest)
+pub one_end_of : (v w most : ℕ) (first second : List Cell) (tail rest bytes : List ℕ) → IsEnd v w most first tail bytes → IsEnd v w most second rest bytes → (first ≡ second) × (tail ≡ rest)
 one_end_of v w most first second tail rest bytes a b =
     let tails : flat_map spelling first ++ tail ≡ flat_map spelling second ++ rest =
     sym (drop_at (header_text v w) (flat_map spelling first ++ tail) 16 (length-header v w)) ∙ ap (drop 16) (sym (behind_header v w first tail bytes a.begins) ∙ behind_header v w second rest bytes b.begins)
@@ -117,7 +117,7 @@ one_end_of v w most first second tail rest bytes a b =
     ]
 
 -- in one version
-one_end : (v u w most : ℕ) (first second : List Cell) (tail rest bytes : List ℕ) → IsEnd v w most first tail bytes → IsEnd u w most second rest bytes → (first ≡ second) × (tail ≡ rest) × (v ≡ u)
+pub one_end : (v u w most : ℕ) (first second : List Cell) (tail rest bytes : List ℕ) → IsEnd v w most first tail bytes → IsEnd u w most second rest bytes → (first ≡ second) × (tail ≡ rest) × (v ≡ u)
 one_end v u w most first second tail rest bytes a b =
     let same : v ≡ u = sym (named_version v w first tail bytes a.begins) ∙ named_version u w second rest bytes b.begins in
     let ends = one_end_of v w most first second tail rest bytes a (subst (λ n. IsEnd n w most second rest bytes) (sym same) b) in
@@ -171,7 +171,7 @@ not_wrong v w known s next rest tail why fits is some possible wrong =
         true≢false (sym possible ∙ sym (ap (is_possible_cell w s) same) ∙ wrong.3)
 
 -- the ends: a clear commit byte, a cell at fault, a set commit byte behind the last cell that is read
-recovers_end : (w most : ℕ) (cells : List Cell) (bytes : List ℕ) (recovers : Recovers w cells bytes) → length cells ≤ most
+pub recovers_end : (w most : ℕ) (cells : List Cell) (bytes : List ℕ) (recovers : Recovers w cells bytes) → length cells ≤ most
     → IsEnd recovers.version w most cells (recovers.holds.text.commit_byte ∷ recovers.holds.rest) bytes
 recovers_end w most cells bytes recovers few = record {
   begins = record {
@@ -185,7 +185,7 @@ recovers_end w most cells bytes recovers few = record {
 }
 
 -- a version that is read
-known_version : (oldest v : ℕ) → 1 ≤ oldest → IsWanted oldest v → (v ≡ 1) ⊎ (v ≡ 2)
+pub known_version : (oldest v : ℕ) → 1 ≤ oldest → IsWanted oldest v → (v ≡ 1) ⊎ (v ≡ 2)
 known_version oldest v least wanted = elim (cases_eq v 1) [
   | inl first ↦ inl first
   | inr other ↦ inr (omega (arith, least, wanted.least, wanted.most, other))
@@ -199,7 +199,7 @@ has_header v w most cells tail bytes end = record {
   long = omega (arith, (behind_cells v w cells tail bytes end.begins).1, end.some);
 }
 
-header_is_new : (oldest v w : ℕ) (bytes : List ℕ) (version width : ℕ) → IsWanted oldest v → HasHeader v w bytes → IsOldLog oldest w bytes version width → ⊥
+pub header_is_new : (oldest v w : ℕ) (bytes : List ℕ) (version width : ℕ) → IsWanted oldest v → HasHeader v w bytes → IsOldLog oldest w bytes version width → ⊥
 header_is_new oldest v w bytes version width wanted has old = ⊎_elim
     (λ other. other (subst (IsWanted oldest) (sym (old.version_is ∙ ap (λ (l : List ℕ). slice_index l 8) has.parts ∙ (header_bytes v w has.rest).0)) wanted))
     (λ other. other (old.width_is ∙ ap (λ (l : List ℕ). slice_index l 9) has.parts ∙ (header_bytes v w has.rest).1)) old.other
@@ -237,7 +237,7 @@ one_cause v w known s tail why also a b = one_reading v w s tail why also (reads
 
 -- for whoever wants versions from this one on
 module _ (oldest w most : ℕ) (least : 1 ≤ oldest) (bytes : List ℕ) where
-  damaged_end : (number : ℕ) (why : Cause) (d : IsDamaged oldest w most bytes number why) → IsEnd d.version w most d.cells d.tail bytes
+  pub damaged_end : (number : ℕ) (why : Cause) (d : IsDamaged oldest w most bytes number why) → IsEnd d.version w most d.cells d.tail bytes
   damaged_end number why d = record {
     begins = d.begins;
     some = set_some d.tail d.commit_byte;
@@ -245,7 +245,7 @@ module _ (oldest w most : ℕ) (least : 1 ≤ oldest) (bytes : List ℕ) where
     stuck = λ next rest fits is some possible lt. not_wrong d.version w (known_version oldest d.version least d.wanted) (state_of w d.cells) next rest d.tail why fits is some possible d.wrong;
   }
 
-  long_end : (l : IsTooLong oldest w most bytes) → IsEnd l.version w most l.cells l.tail bytes
+  pub long_end : (l : IsTooLong oldest w most bytes) → IsEnd l.version w most l.cells l.tail bytes
   long_end l = record {
     begins = l.begins;
     some = set_some l.tail l.commit_byte;
@@ -344,3 +344,9 @@ recovers_wanted w cells bytes recovers =
 pub passed_and : {T : Type 0} (result : Result T OpenFault) (e : OpenFault) (P : OpenFault → Type 0) → IsErrAnd result (λ x. x ≡ e) → P e → IsErrAnd result P
 passed_and (Ok x) e P same holds = same
 passed_and (Err x) e P same holds = subst P (sym same) holds
+
+-- bytes recover to one list of cells
+pub one_recovery : (w : ℕ) (first second : List Cell) (bytes : List ℕ) → Recovers w first bytes → Recovers w second bytes → first ≡ second
+one_recovery w first second bytes a b =
+    let most = length first + length second in
+    (one_end a.version b.version w most first second _ _ bytes (recovers_end w most first bytes a (omega arith)) (recovers_end w most second bytes b (omega arith))).0

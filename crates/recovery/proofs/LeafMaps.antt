@@ -52,7 +52,7 @@ or_false true b e h = absurd (true≢false e)
 or_false false b e h = h
 
 -- a leaf that isn't the first is one of the others
-rest_leaf : (l : MarkedLeaf) (leaves : List MarkedLeaf) (name : List Bool) → same_name l.name name ≡ false → is_leaf (names_of (l ∷ leaves)) name ≡ true → is_leaf (names_of leaves) name ≡ true
+pub rest_leaf : (l : MarkedLeaf) (leaves : List MarkedLeaf) (name : List Bool) → same_name l.name name ≡ false → is_leaf (names_of (l ∷ leaves)) name ≡ true → is_leaf (names_of leaves) name ≡ true
 rest_leaf l leaves name other leaf = or_false (same_name l.name name) (is_leaf (names_of leaves) name) other leaf
 
 -- a leaf begins where the first one does, or later

@@ -1,5 +1,5 @@
 -- Calls that only read, one after the other.
-use Rattle.std.proofs.Common.{◌≡◌, ◌≢◌, ◌⊎◌, ℕ, ◌≤◌, List, length, Some, sym, ◌∙◌, ap, subst, arith}
+use Rattle.std.proofs.Common.{◌≡◌, ◌≢◌, ℕ, ◌≤◌, sym, ◌∙◌, ap, subst, arith}
 use Rattle.std.specs.Prelude.{Result, Ok, Err, IfErr, MatchResult, IsErrOf}
 use Rattle.std.specs.Result.{IsErrAnd}
 use Rattle.causes.specs.Causes.{Rose}
@@ -7,14 +7,9 @@ use Rattle.disk_trait.specs.Drive.{Drive, SameFile, Stays}
 use Rattle.cell_format.specs.declared.cell.Cause.{Cause}
 use Rattle.recovery.specs.declared.seen.OpenFault.{OpenFault}
 use Rattle.recovery.specs.declared.seen.OpenFault.TheVariants.{Damaged, Disk, Memory}
-use Rattle.recovery.specs.declared.pieces.Stop.TheVariants.{Set}
-use Rattle.recovery.specs.Faults.{IsFault}
-use Rattle.recovery.specs.Walk.{WalkView}
 use Rattle.recovery.specs.declared.seen.Seen.{Seen}
-use Rattle.log_state.specs.Recovers.{state_of}
-use Rattle.recovery.specs.Found.{Shows, IsWanted, IsFound}
-use Rattle.recovery.specs.Reading.{Reaches, Ends, FailsIn, GoesOn, OnlyReads, IsReading, IsFoundIn}
-use Rattle.recovery.proofs.HeadLemmas.{index_version}
+use Rattle.recovery.specs.Found.{IsFound}
+use Rattle.recovery.specs.Reading.{OnlyReads, IsFoundIn}
 
 pub stays-trans : (a b c : Drive) → Stays a b → Stays b c → Stays a c
 stays-trans a b c first second = record {
@@ -59,62 +54,6 @@ reads_ok a b c first x stays same file next reads = record {
   same = next ∙ same;
   failed = λ disk. cc disk;
   file = λ all told. file all (reads.file all told);
-}
-
-reaches_stays : (most len n : ℕ) (b c : Drive) (walk : WalkView) → Stays b c → Reaches most len n b walk → Reaches most len n c walk
-reaches_stays most len n b c walk stays came = record {
-  cells = came.cells;
-  legal = came.legal;
-  state = came.state;
-  count = came.count;
-  few = came.few;
-  room = came.room;
-  begins = λ xs told. came.begins xs (sym stays.bytes ∙ told);
-}
-
-module _ (most len n : ℕ) (before now : Drive) (first walk : WalkView) (buffer : List ℕ) (reading : IsReading most len n before now first walk buffer) where
-  pub reading_next : {T : Type 0} (m : ℕ) (after : Drive) (new : WalkView) (piece : List ℕ) (result : Result T OpenFault) → GoesOn most len n now new (Set m) → OnlyReads now after result → new.version ≡ walk.version → new.width ≡ walk.width → length piece ≡ 65537 → after.faults ≡ now.faults
-      → IsReading most len m before after first new piece
-  reading_next m after new piece result on reads version width long same = record {
-    came = reaches_stays most len m now after new reads.stays on.1;
-    stays = stays-trans before now after reading.stays reads.stays;
-    same = same ∙ reading.same;
-    file = λ all told. reading.file all (reads.file all told);
-    version = version ∙ reading.version;
-    width = width ∙ reading.width;
-    long = long;
-  }
-
-  pub reading_fails : (e : OpenFault) → FailsIn most now walk e → FailsIn most before first e
-  reading_fails e fails xs told oldest wanted =
-      subst (λ w. IsFault oldest w most xs e) reading.width (fails xs (reading.stays.bytes ∙ told) oldest (subst (IsWanted oldest) (sym reading.version) wanted))
-
-  pub reading_ends : (m : ℕ) (new : WalkView) → Ends most len m now new → Ends most len m before new
-  reading_ends m new ends = record {
-    cells = ends.cells;
-    legal = ends.legal;
-    state = ends.state;
-    count = ends.count;
-    few = ends.few;
-    room = ends.room;
-    text = λ xs told. ends.text xs (reading.stays.bytes ∙ told);
-  }
-
--- what is found in a log that was read to its end
-pub found_at_end : (oldest most len number : ℕ) (drive : Drive) (walk : WalkView) (seen : Seen) → Ends most len number drive walk → Shows walk.state number seen → seen.version ≡ walk.version → (walk.version ≡ 1) ⊎ (walk.version ≡ 2)
-    → ((xs : List ℕ) → drive.bytes ≡ Some xs → length xs ≡ len) → IsWanted oldest walk.version → IsFoundIn oldest walk.width most drive seen len
-found_at_end oldest most len number drive walk seen ends shows version known whole wanted = record {
-  found = record {
-    cells = ends.cells;
-    legal = ends.legal;
-    few = omega (arith, ends.count, ends.few);
-    finds = subst (λ n. Shows (state_of walk.width ends.cells) n seen) (sym ends.count) (subst (λ s. Shows s number seen) ends.state shows);
-    wanted = subst (IsWanted oldest) (sym version) wanted;
-    recovers = λ bytes told. record { version = walk.version; known = known; holds = ends.text bytes told; legal = ends.legal };
-    named = λ bytes told. version ∙ sym (index_version walk.version walk.width ends.cells bytes (ends.text bytes told));
-  };
-  room = omega (arith, ends.room, shows.count);
-  whole = whole;
 }
 
 -- what was found is said of the drive before calls that left its bytes

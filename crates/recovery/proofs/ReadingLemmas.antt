@@ -1,9 +1,11 @@
 -- What the pieces of a log say of its bytes.
-use Rattle.std.proofs.Common.{◌≡◌, ◌≢◌, ℕ, ◌+◌, ◌-◌, ◌*◌, ◌<◌, ◌≤◌, min, true, List, [], ◌∷◌, ◌++◌, length, take, drop, Some, refl, sym, ◌∙◌, ap, subst, arith, append_assoc, length-append, length-take}
+use Rattle.std.proofs.Common.{◌≡◌, ◌≢◌, ℕ, ◌+◌, ◌-◌, ◌*◌, ◌<◌, ◌≤◌, min, true, List, [], ◌∷◌, ◌++◌, length, take, drop, Option, Some, None, refl, sym, ◌∙◌, ap, subst, arith, append_assoc, length-append, length-take}
 use Rattle.std.specs.Prelude.{slice_index, Result, Ok, Err, IfOk}
+use Rattle.std.specs.Result.{IsErrAnd}
 use Rattle.disk_trait.specs.declared.disk.DiskFault.{DiskFault}
 use Rattle.std.specs.List.{flat_map}
-use Rattle.std.proofs.lemmas.List.{append-nil, take-append-drop, drop_at, take-append-le, drop_all}
+use Rattle.std.specs.Cmp.Derive.{both_true}
+use Rattle.std.proofs.lemmas.List.{append-nil, take-append-drop, drop_at, drop_all, drop-take, take_all, take-append-le}
 use Rattle.std.proofs.lemmas.Grind.{flat_map-append}
 use Rattle.cell_format.specs.declared.cell.Cell.{Cell}
 use Rattle.cell_format.specs.declared.cell.Cause.{Cause}
@@ -11,20 +13,24 @@ use Rattle.cell_format.specs.declared.cell.Cause.TheVariants as cause
 use Rattle.cell_format.specs.Faults.{HasNoKind, HasReserved, HasBadName}
 use Rattle.cell_format.specs.Spelling.{IsCell, Spells, spelling, header_text}
 use Rattle.disk_trait.specs.Drive.{Drive, Reads}
-use Rattle.plain_list.specs.State.{State, empty_state}
+use Rattle.plain_list.specs.State.{State, empty_state, step}
 use Rattle.split_log.specs.LogText.{front_of, log_text, HoldsCells}
-use Rattle.split_log.proofs.Cells.{length-front_of, length-cells}
+use Rattle.split_log.proofs.Cells.{length-front_of}
 use Rattle.recovery.specs.declared.seen.OpenFault.{OpenFault}
 use Rattle.recovery.specs.declared.seen.OpenFault.TheVariants as fault
-use Rattle.recovery.specs.declared.pieces.Stop.TheVariants.{Clear, Set}
-use Rattle.log_state.specs.Recovers.{IsLegalCells, is_legal_cells, state_of, cells_after}
-use Rattle.recovery.specs.Faults.{BeginsWith, IsWrong}
-use Rattle.recovery.specs.Walk.{WalkView}
-use Rattle.recovery.specs.Pieces.{Passes, FailsAt, Walks, Breaks}
-use Rattle.recovery.specs.Reading.{Reaches, Ends, FailsIn, ReadsPiece}
+use Rattle.recovery.specs.declared.walked.Walked.{Walked}
+use Rattle.log_state.specs.Recovers.{IsLegalCells, is_possible_cell, entry_of, state_of}
+use Rattle.recovery.specs.Faults.{BeginsWith, IsWrong, IsFault}
+use Rattle.recovery.specs.Found.{IsWanted}
+use Rattle.recovery.specs.Replay.{ReplayView}
+use Rattle.recovery.specs.Room.{HasRoomAfter}
+use Rattle.recovery.specs.Walked.{object_of, place_in, IsNextWalked}
+use Rattle.recovery.specs.Pieces.{FailsAt}
+use Rattle.recovery.specs.Reading.{ReadingView, HasRead, FailsIn, IsBehind, Stops, Starts, SameLog, NeedsNoPiece, IsReady, IsFilled, IsEmptied, PassesOn, WalksOn, Advances, ReadsPiece}
 use Rattle.recovery.specs.Headers.{HasHeader}
 use Rattle.recovery.proofs.HeadLemmas.{begins_first}
 use Rattle.recovery.proofs.PieceLemmas.{all_append}
+use Rattle.recovery.proofs.CellEffects.{placed_after}
 use Rattle.log_state.proofs.LegalCells.{cells_after-append, legal-append}
 
 -- what stands behind a front tells the first byte and the cell at its front
@@ -36,12 +42,12 @@ pub set_some : (tail : List ℕ) → slice_index tail 0 ≡ 1 → 1 ≤ length t
 set_some [] set = cc
 set_some (b ∷ tail) set = omega arith
 
-wrong_more : (v w : ℕ) (s : State) (tail more : List ℕ) (why : Cause) → 33 ≤ length tail → IsWrong v w s tail why → IsWrong v w s (tail ++ more) why
-wrong_more v w s tail more cause.ShortCell long wrong = absurd (omega (arith, long, wrong))
-wrong_more v w s tail more cause.Kind long wrong = (omega (arith, long, length-append tail more), subst HasNoKind (sym (take-append-le 32 tail more (omega (arith, long)))) wrong.1)
-wrong_more v w s tail more cause.Reserved long wrong = (omega (arith, long, length-append tail more), subst (HasReserved v) (sym (take-append-le 32 tail more (omega (arith, long)))) wrong.1)
-wrong_more v w s tail more cause.BadName long wrong = (omega (arith, long, length-append tail more), subst (HasBadName v) (sym (take-append-le 32 tail more (omega (arith, long)))) wrong.1)
-wrong_more v w s tail more cause.Impossible long wrong = (omega (arith, long, length-append tail more), wrong.1, subst (Spells v wrong.1) (sym (take-append-le 32 tail more (omega (arith, long)))) wrong.2, wrong.3)
+wrong_on : (v w : ℕ) (s : State) (tail more : List ℕ) (why : Cause) → (length tail < 33 → length (tail ++ more) < 33) → IsWrong v w s tail why → IsWrong v w s (tail ++ more) why
+wrong_on v w s tail more cause.ShortCell short wrong = short wrong
+wrong_on v w s tail more cause.Kind short wrong = (omega (arith, wrong.0, length-append tail more), subst HasNoKind (sym (take-append-le 32 tail more (omega (arith, wrong.0)))) wrong.1)
+wrong_on v w s tail more cause.Reserved short wrong = (omega (arith, wrong.0, length-append tail more), subst (HasReserved v) (sym (take-append-le 32 tail more (omega (arith, wrong.0)))) wrong.1)
+wrong_on v w s tail more cause.BadName short wrong = (omega (arith, wrong.0, length-append tail more), subst (HasBadName v) (sym (take-append-le 32 tail more (omega (arith, wrong.0)))) wrong.1)
+wrong_on v w s tail more cause.Impossible short wrong = (omega (arith, wrong.0, length-append tail more), wrong.1, subst (Spells v wrong.1) (sym (take-append-le 32 tail more (omega (arith, wrong.0)))) wrong.2, wrong.3)
 
 -- a front of cells, and a clear commit byte behind them
 pub holds_clear : (v w : ℕ) (cells : List Cell) (tail bytes : List ℕ) → BeginsWith v w cells tail bytes → 1 ≤ length tail → slice_index tail 0 ≢ 1 → HoldsCells v w cells bytes
@@ -61,165 +67,268 @@ behind_cells v w cells tail bytes begins =
       omega (arith, ap length parts, length-append (front_of v w cells) tail, length-front_of v w cells),
     )
 
--- more cells behind a front of them
-pub begins_more : (v w : ℕ) (first second : List Cell) (bytes piece rest tail more : List ℕ) → BeginsWith v w first rest bytes → rest ≡ piece ++ more → Passes v w (state_of w first) second piece tail
-    → BeginsWith v w (first ++ second) (tail ++ more) bytes
-begins_more v w first second bytes piece rest tail more begins parts passes = record {
-  cells_fit = all_append (IsCell v) first second begins.cells_fit passes.cells_fit;
-  legal = legal-append w empty_state first second begins.legal passes.legal;
-  parts = begins.parts ∙ ap (λ (l : List ℕ). front_of v w first ++ l) (parts ∙ ap (λ (l : List ℕ). l ++ more) passes.parts ∙ append_assoc (flat_map spelling second) tail more)
-      ∙ sym (append_assoc (front_of v w first) (flat_map spelling second) (tail ++ more))
-      ∙ ap (λ (l : List ℕ). l ++ (tail ++ more)) (append_assoc (header_text v w) (flat_map spelling first) (flat_map spelling second) ∙ ap (λ (l : List ℕ). header_text v w ++ l) (sym (flat_map-append spelling first second)));
+-- one cell more behind a front of them
+front_next : (v w : ℕ) (cells : List Cell) (c : Cell) → front_of v w cells ++ spelling c ≡ front_of v w (cells ++ c ∷ [])
+front_next v w cells c =
+    append_assoc (header_text v w) (flat_map spelling cells) (spelling c)
+    ∙ ap (λ (l : List ℕ). header_text v w ++ l) (ap (λ (l : List ℕ). flat_map spelling cells ++ l) (sym (append-nil (spelling c))) ∙ sym (flat_map-append spelling cells (c ∷ [])))
+
+begins_next : (v w : ℕ) (cells : List Cell) (c : Cell) (piece more bytes : List ℕ) → BeginsWith v w cells (piece ++ more) bytes → IsCell v c → take 32 piece ≡ spelling c → is_possible_cell w (state_of w cells) c ≡ true
+    → BeginsWith v w (cells ++ c ∷ []) (drop 32 piece ++ more) bytes
+begins_next v w cells c piece more bytes begins fits spelled possible = record {
+  cells_fit = all_append (IsCell v) cells (c ∷ []) begins.cells_fit (fits, tt);
+  legal = legal-append w empty_state cells (c ∷ []) begins.legal (both_true possible refl);
+  parts = begins.parts
+      ∙ ap (λ (l : List ℕ). front_of v w cells ++ l)
+      (ap (λ (l : List ℕ). l ++ more) (sym (take-append-drop 32 piece) ∙ ap (λ (l : List ℕ). l ++ drop 32 piece) spelled) ∙ append_assoc (spelling c) (drop 32 piece) more)
+      ∙ sym (append_assoc (front_of v w cells) (spelling c) (drop 32 piece ++ more))
+      ∙ ap (λ (l : List ℕ). l ++ (drop 32 piece ++ more)) (front_next v w cells c);
 }
 
-module _ (most len n got : ℕ) (drive : Drive) (old : WalkView) (buffer : List ℕ) (came : Reaches most len n drive old)
-    (read : ReadsPiece drive (16 + 32 * n) (min 65537 (len - (16 + 32 * n))) buffer got) where
-  -- the piece is the front of what stands behind the cells
-  cut : (xs : List ℕ) (told : drive.bytes ≡ Some xs) → let at = came.begins xs told in
-      (at.1 ≡ take got buffer ++ drop got at.1) × (length at.1 + (16 + 32 * n) ≡ len) × (got ≡ min 65537 (len - (16 + 32 * n)))
-  cut xs told =
-      let at = came.begins xs told in
-      let behind = behind_cells old.version old.width came.cells at.1 xs at.2 in
-      let got_is = read.1 xs told in
-      let place : 16 + 32 * length came.cells ≡ 16 + 32 * n = ap (λ m. 16 + 32 * m) came.count in
-      let rest : at.1 ≡ drop (16 + 32 * n) xs = sym behind.0 ∙ ap (λ m. drop m xs) place in (
-        sym (take-append-drop got at.1) ∙ ap (λ (l : List ℕ). l ++ drop got at.1) (ap (take got) rest ∙ sym got_is.1),
-        omega (arith, behind.1, at.0, came.count),
-        omega (arith, got_is.0, at.0),
-      )
-
-  module _ (cells : List Cell) (tail : List ℕ) (passed : Passes old.version old.width old.state cells (take got buffer) tail) where
-    abbrev all_cells : List Cell
-    all_cells = came.cells ++ cells
-
-    all_state : cells_after old.width old.state cells ≡ state_of old.width all_cells
-    all_state = ap (λ s. cells_after old.width s cells) came.state ∙ sym (cells_after-append old.width empty_state came.cells cells)
-
-    all_legal : IsLegalCells old.width all_cells
-    all_legal = legal-append old.width empty_state came.cells cells came.legal (subst (λ s. is_legal_cells old.width s cells ≡ true) came.state passed.legal)
-
-    all_count : length all_cells ≡ n + length cells
-    all_count = omega (arith, length-append came.cells cells, came.count)
-
-    all_begin : (xs : List ℕ) (told : drive.bytes ≡ Some xs) → BeginsWith old.version old.width all_cells (tail ++ drop got (came.begins xs told).1) xs
-    all_begin xs told =
-        let at = came.begins xs told in
-        begins_more old.version old.width came.cells cells xs (take got buffer) at.1 tail (drop got at.1) at.2 (cut xs told).0 (subst (λ s. Passes old.version old.width s cells (take got buffer) tail) came.state passed)
-
-    -- how many bytes the cells of the piece have
-    piece_long : 32 * length cells + length tail ≤ got
-    piece_long = omega (arith, ap length passed.parts, length-append (flat_map spelling cells) tail, length-cells cells, length-take got buffer)
-
-    room_left : 1 ≤ length tail → 17 + 32 * (n + length cells) ≤ len
-    room_left some = omega (arith, piece_long, some, read.0, came.room)
-
-    at_fault : (e : OpenFault) → FailsAt old.version old.width most (n + length cells) (cells_after old.width old.state cells) tail e → FailsIn most drive old e
-    at_fault (fault.Damaged m why) fails xs told oldest wanted =
-        let more = drop got (came.begins xs told).1 in
-        record {
-          version = old.version;
-          wanted = wanted;
-          cells = all_cells;
-          tail = tail ++ more;
-          begins = all_begin xs told;
-          place = omega (arith, all_count, fails.0);
-          few = omega (arith, fails.0, fails.1);
-          commit_byte = first_byte tail more (omega (arith, fails.3)) ∙ fails.2;
-          wrong = wrong_more old.version old.width (state_of old.width all_cells) tail more why fails.3 (subst (λ s. IsWrong old.version old.width s tail why) all_state fails.4);
-        }
-    at_fault (fault.TooLong m) fails xs told oldest wanted =
-        let more = drop got (came.begins xs told).1 in (
-          fails.0,
-          record {
-            version = old.version;
-            wanted = wanted;
-            cells = all_cells;
-            tail = tail ++ more;
-            begins = all_begin xs told;
-            place = omega (arith, all_count, fails.1);
-            commit_byte = first_byte tail more (set_some tail fails.2) ∙ fails.2;
-          },
-        )
-    at_fault fault.Memory fails xs told oldest wanted = tt
-    at_fault fault.Disk fails xs told oldest wanted = tt
-    at_fault fault.NotLog fails xs told oldest wanted = absurd fails
-    at_fault (fault.OldLog version width) fails xs told oldest wanted = absurd fails
-
-  pub broken : (e : OpenFault) → Breaks old.version old.width most n old.state (take got buffer) e → FailsIn most drive old e
-  broken e breaks = at_fault breaks.cells breaks.tail breaks.passed e breaks.fails
-
-  module _ (new : WalkView) (kept_version : new.version ≡ old.version) (kept : new.width ≡ old.width) where
-    -- the walk at its new state, in the same log
-    abbrev moved : WalkView
-    moved = record old { state = new.state }
-
-    is_moved : new ≡ moved
-    is_moved i = record { version = kept_version i; width = kept i; state = new.state }
-
-    pub ended : (m : ℕ) → Walks old.version old.width most n old.state new.state (take got buffer) (Clear m) → Ends most len m drive new
-    ended m walks = subst (Ends most len m drive) (sym is_moved) (record {
-      cells = all_cells walks.cells walks.tail walks.passed;
-      legal = all_legal walks.cells walks.tail walks.passed;
-      state = walks.state ∙ all_state walks.cells walks.tail walks.passed;
-      count = omega (arith, all_count walks.cells walks.tail walks.passed, walks.stops.0);
-      few = omega (arith, walks.stops.0, walks.stops.1);
-      room = omega (arith, walks.stops.0, room_left walks.cells walks.tail walks.passed walks.some);
-      text = λ xs told.
-          let more = drop got (came.begins xs told).1 in
-          holds_clear old.version old.width (all_cells walks.cells walks.tail walks.passed) (walks.tail ++ more) xs (all_begin walks.cells walks.tail walks.passed xs told)
-          (omega (arith, walks.some, length-append walks.tail more)) (λ e. walks.stops.2 (sym (first_byte walks.tail more walks.some) ∙ e));
+-- before the first cell
+pub starts : (oldest version w most len : ℕ) (drive : Drive) (replay : ReplayView) → replay ≡ record { version = version; width = w; state = empty_state } → IsWanted oldest version → 17 ≤ len → ((xs : List ℕ) → drive.bytes ≡ Some xs → length xs ≡ len)
+    → ((xs : List ℕ) → drive.bytes ≡ Some xs → HasHeader version w xs) → Starts oldest w most drive (record { replay = replay; number = 0; most = most; len = len; rest = [] })
+starts oldest version w most len drive replay first wanted long whole has =
+    subst (λ r. Starts oldest w most drive (record { replay = r; number = 0; most = most; len = len; rest = [] })) (sym first) (record {
+      wanted = wanted;
+      width = refl;
+      most_is = refl;
+      long = long;
+      read = record { legal = refl; state = refl; count = refl; begins = λ xs told. (whole xs told, (has xs told).rest, begins_first version w xs (has xs told)) };
     })
 
-    pub went_on : (m : ℕ) → 65537 ≤ got → length buffer ≡ 65537 → Walks old.version old.width most n old.state new.state (take got buffer) (Set m) → (n < m) × Reaches most len m drive new
-    went_on m whole long walks =
-        let passed = walks.passed in (
-          omega (arith, walks.stops.0, walks.stops.3, whole, long, ap length passed.parts, length-append (flat_map spelling walks.cells) walks.tail, length-cells walks.cells, length-take got buffer),
-          subst (Reaches most len m drive) (sym is_moved) (record {
-            cells = all_cells walks.cells walks.tail passed;
-            legal = all_legal walks.cells walks.tail passed;
-            state = walks.state ∙ all_state walks.cells walks.tail passed;
-            count = omega (arith, all_count walks.cells walks.tail passed, walks.stops.0);
-            few = omega (arith, walks.stops.0, walks.stops.1);
-            room = omega (arith, walks.stops.0, room_left walks.cells walks.tail passed walks.some);
-            begins = λ xs told. ((came.begins xs told).0, walks.tail ++ drop got (came.begins xs told).1, all_begin walks.cells walks.tail passed xs told);
-          }),
-        )
+-- what was read is said of the drive after calls that only read
+pub has_read-stays : (cells : List Cell) (b c : Drive) (r : ReadingView) → c.bytes ≡ b.bytes → HasRead cells b r → HasRead cells c r
+has_read-stays cells b c r kept read = record { legal = read.legal; state = read.state; count = read.count; begins = λ xs told. read.begins xs (sym kept ∙ told) }
 
-    -- a set commit byte with too little behind it at the end of the file
-    pub cut_short : (m : ℕ) → got < 65537 → Walks old.version old.width most n old.state new.state (take got buffer) (Set m) → FailsIn most drive old (fault.Damaged m cause.ShortCell)
-    cut_short m less walks xs told oldest wanted =
-        let rest = (came.begins xs told).1 in
-        let c = cut xs told in
-        let all : length rest ≤ got = omega (arith, c.1, c.2, less) in
-        let none : walks.tail ++ drop got rest ≡ walks.tail = ap (λ (l : List ℕ). walks.tail ++ l) (drop_all got rest all) ∙ append-nil walks.tail in
+module _ (cells : List Cell) (drive : Drive) (old : ReadingView) (read : HasRead cells drive old) where
+  -- what is left of the piece is given up, or another one takes its place
+  pub emptied : HasRead cells drive (record old { rest = [] })
+  emptied = record {
+    legal = read.legal;
+    state = read.state;
+    count = read.count;
+    begins = λ xs told. let at = read.begins xs told in (at.0, old.rest ++ at.1, at.2);
+  }
+
+  -- what stands behind the cells
+  behind : (xs : List ℕ) (told : drive.bytes ≡ Some xs) → (drop (16 + 32 * old.number) xs ≡ old.rest ++ (read.begins xs told).1) × (length xs ≡ 16 + 32 * old.number + length (old.rest ++ (read.begins xs told).1))
+  behind xs told =
+      let at = read.begins xs told in
+      let b = behind_cells old.replay.version old.replay.width cells (old.rest ++ at.1) xs at.2 in
+      (ap (λ m. drop (16 + 32 * m) xs) (sym read.count) ∙ b.0, omega (arith, b.1, read.count))
+
+  pub refilled : (rest : List ℕ) → ((xs : List ℕ) → drive.bytes ≡ Some xs → rest ≡ take (length rest) (drop (16 + 32 * old.number) xs)) → HasRead cells drive (record old { rest = rest })
+  refilled rest front = record {
+    legal = read.legal;
+    state = read.state;
+    count = read.count;
+    begins = λ xs told.
+        let at = read.begins xs told in
+        let all = drop (16 + 32 * old.number) xs in
+        let parts : old.rest ++ at.1 ≡ rest ++ drop (length rest) all = sym (behind xs told).0 ∙ sym (take-append-drop (length rest) all) ∙ ap (λ (l : List ℕ). l ++ drop (length rest) all) (sym (front xs told)) in
+        (at.0, drop (length rest) all, subst (λ (l : List ℕ). BeginsWith old.replay.version old.replay.width cells l xs) parts at.2);
+  }
+
+  -- the next cell was passed
+  module _ (new : ReadingView) (walked : Walked) (on : PassesOn old new walked) where
+    possible : is_possible_cell old.replay.width (state_of old.replay.width cells) walked.cell ≡ true
+    possible = subst (λ (s : State). is_possible_cell old.replay.width s walked.cell ≡ true) read.state on.passes.possible
+
+    state_next : state_of old.replay.width (cells ++ walked.cell ∷ []) ≡ step old.replay.width (state_of old.replay.width cells) (entry_of walked.cell)
+    state_next = cells_after-append old.replay.width empty_state cells (walked.cell ∷ [])
+
+    state_new : new.replay.state ≡ state_of old.replay.width (cells ++ walked.cell ∷ [])
+    state_new = on.passes.state ∙ ap (λ (s : State). step old.replay.width s (entry_of walked.cell)) read.state ∙ sym state_next
+
+    legal_next : IsLegalCells old.replay.width (cells ++ walked.cell ∷ [])
+    legal_next = legal-append old.replay.width empty_state cells (walked.cell ∷ []) read.legal (both_true possible refl)
+
+    pub read_next : HasRead (cells ++ walked.cell ∷ []) drive new
+    read_next = record {
+      legal = subst (λ n. IsLegalCells n (cells ++ walked.cell ∷ [])) (sym on.same.width) legal_next;
+      state = subst (λ n. new.replay.state ≡ state_of n (cells ++ walked.cell ∷ [])) (sym on.same.width) state_new;
+      count = omega (arith, length-append cells (walked.cell ∷ []), read.count, on.number);
+      begins = λ xs told.
+          let at = read.begins xs told in
+          let next = begins_next old.replay.version old.replay.width cells walked.cell old.rest at.1 xs at.2 on.passes.fits on.passes.spelled possible in (
+            at.0 ∙ sym on.same.len,
+            at.1,
+            subst (λ v. BeginsWith v new.replay.width (cells ++ walked.cell ∷ []) (new.rest ++ at.1) xs) (sym on.same.version)
+                (subst (λ n. BeginsWith old.replay.version n (cells ++ walked.cell ∷ []) (new.rest ++ at.1) xs) (sym on.same.width)
+                (subst (λ (l : List ℕ). BeginsWith old.replay.version old.replay.width (cells ++ walked.cell ∷ []) (l ++ at.1) xs) (sym on.rest) next)),
+          );
+    }
+
+    pub next_walked : IsNextWalked old.replay.width cells walked
+    next_walked = record {
+      at = on.passes.at ∙ sym read.count;
+      possible = possible;
+      before = on.passes.before ∙ ap (λ (s : State). place_in s.world (object_of walked.cell)) read.state;
+      after = on.passes.after ∙ sym (placed_after old.replay.width (state_of old.replay.width cells) walked.cell possible) ∙ ap (λ (s : State). place_in s.world (object_of walked.cell)) (sym state_next);
+    }
+
+  -- the commit byte at the front is clear
+  pub read_end : 1 ≤ length old.rest → slice_index old.rest 0 ≢ 1 → (xs : List ℕ) → drive.bytes ≡ Some xs → HoldsCells old.replay.version old.replay.width cells xs
+  read_end some clear xs told =
+      let at = read.begins xs told in
+      holds_clear old.replay.version old.replay.width cells (old.rest ++ at.1) xs at.2 (omega (arith, some, length-append old.rest at.1)) (λ set. clear (sym (first_byte old.rest at.1 some) ∙ set))
+
+  -- the cell at the front is at fault
+  pub read_fault : (e : OpenFault) → 1 ≤ length old.rest → IsReady drive old → FailsAt old.replay.version old.replay.width old.most old.number old.replay.state old.rest e → FailsIn old.most drive old.replay e
+  read_fault (fault.Damaged n why) some ready fails xs told oldest wanted =
+      let at = read.begins xs told in
+      let short : length old.rest < 33 → length (old.rest ++ at.1) < 33 = λ lt. omega (arith, lt, ready xs told at.0 lt fails.2 fails.1, (behind xs told).1, at.0) in
+      record {
+        version = old.replay.version;
+        wanted = wanted;
+        cells = cells;
+        tail = old.rest ++ at.1;
+        begins = at.2;
+        place = omega (arith, read.count, fails.0);
+        few = omega (arith, fails.0, fails.1);
+        commit_byte = first_byte old.rest at.1 some ∙ fails.2;
+        wrong = wrong_on old.replay.version old.replay.width (state_of old.replay.width cells) old.rest at.1 why short (subst (λ (s : State). IsWrong old.replay.version old.replay.width s old.rest why) read.state fails.3);
+      }
+  read_fault (fault.TooLong m) some ready fails xs told oldest wanted =
+      let at = read.begins xs told in (
+        fails.0,
         record {
-          version = old.version;
+          version = old.replay.version;
           wanted = wanted;
-          cells = all_cells walks.cells walks.tail walks.passed;
-          tail = walks.tail ++ drop got rest;
-          begins = all_begin walks.cells walks.tail walks.passed xs told;
-          place = omega (arith, all_count walks.cells walks.tail walks.passed, walks.stops.0);
-          few = omega (arith, walks.stops.0, walks.stops.1);
-          commit_byte = first_byte walks.tail (drop got rest) walks.some ∙ walks.stops.2;
-          wrong = omega (arith, ap length none, walks.stops.3);
-        }
+          cells = cells;
+          tail = old.rest ++ at.1;
+          begins = at.2;
+          place = omega (arith, read.count, fails.1);
+          commit_byte = first_byte old.rest at.1 some ∙ fails.2;
+        },
+      )
+  read_fault fault.Memory some ready fails xs told oldest wanted = tt
+  read_fault fault.Disk some ready fails xs told oldest wanted = tt
+  read_fault fault.NotLog some ready fails xs told oldest wanted = absurd fails
+  read_fault (fault.OldLog version width) some ready fails xs told oldest wanted = absurd fails
 
-  -- a file with room for a commit byte isn't read empty
-  pub read_some : (xs : List ℕ) → drive.bytes ≡ Some xs → 1 ≤ got
-  read_some xs told = omega (arith, (cut xs told).2, came.room)
+  pub fault_behind : (e : OpenFault) → FailsAt old.replay.version old.replay.width old.most old.number old.replay.state old.rest e → IsBehind old.most (length cells) e
+  fault_behind (fault.Damaged n why) fails = fails.0 ∙ sym read.count
+  fault_behind (fault.TooLong m) fails = (fails.0, read.count ∙ fails.1)
+  fault_behind fault.Memory fails = tt
+  fault_behind fault.Disk fails = tt
+  fault_behind fault.NotLog fails = fails
+  fault_behind (fault.OldLog version width) fails = fails
 
--- before the first cell
-pub reaches_first : (version w most len : ℕ) (drive : Drive) (walk : WalkView) → walk ≡ record { version = version; width = w; state = empty_state } → 17 ≤ len → ((xs : List ℕ) → drive.bytes ≡ Some xs → length xs ≡ len)
-    → ((xs : List ℕ) → drive.bytes ≡ Some xs → HasHeader version w xs) → Reaches most len 0 drive walk
-reaches_first version w most len drive walk first long whole has = subst (Reaches most len 0 drive) (sym first) (record {
-  cells = [];
-  legal = refl;
-  state = refl;
-  count = refl;
-  few = omega arith;
-  room = omega (arith, long);
-  begins = λ xs told. (whole xs told, (has xs told).rest, begins_first version w xs (has xs told));
+  pub stop_behind : (e : OpenFault) → IsBehind old.most old.number e → IsBehind old.most (length cells) e
+  stop_behind (fault.Damaged n why) at = at ∙ sym read.count
+  stop_behind (fault.TooLong m) at = (at.0, read.count ∙ at.1)
+  stop_behind fault.Memory at = tt
+  stop_behind fault.Disk at = tt
+  stop_behind fault.NotLog at = at
+  stop_behind (fault.OldLog version width) at = at
+
+pub same_log-trans : (a b c : ReadingView) → SameLog a b → SameLog b c → SameLog a c
+same_log-trans a b c first second = record { version = second.version ∙ first.version; width = second.width ∙ first.width; most = second.most ∙ first.most; len = second.len ∙ first.len }
+
+pub same_log-refl : (a b : ReadingView) → b ≡ a → SameLog a b
+same_log-refl a b is = record {
+  version = ap (λ (r : ReadingView). r.replay.version) is;
+  width = ap (λ (r : ReadingView). r.replay.width) is;
+  most = ap (λ (r : ReadingView). r.most) is;
+  len = ap (λ (r : ReadingView). r.len) is;
+}
+
+-- a call behind a piece that tells the next cell
+module _ (drive : Drive) (old mid : ReadingView) (filled : IsFilled drive old mid) where
+  same_mid : SameLog old mid
+  same_mid = record {
+    version = ap (λ (r : ReadingView). r.replay.version) filled.same;
+    width = ap (λ (r : ReadingView). r.replay.width) filled.same;
+    most = ap (λ (r : ReadingView). r.most) filled.same;
+    len = ap (λ (r : ReadingView). r.len) filled.same;
+  }
+
+  state_mid : mid.replay.state ≡ old.replay.state
+  state_mid = ap (λ (r : ReadingView). r.replay.state) filled.same
+
+  number_mid : mid.number ≡ old.number
+  number_mid = ap (λ (r : ReadingView). r.number) filled.same
+
+  same_room : (new : ReadingView) → new ≡ mid → HasRoomAfter old.replay.state new.replay.state
+  same_room new is = record {
+    members = omega (arith, ap (λ (r : ReadingView). length r.replay.state.world) is, ap (λ (s : State). length s.world) state_mid);
+    leaves = omega (arith, ap (λ (r : ReadingView). length r.replay.state.leaves) is, ap (λ (s : State). length s.leaves) state_mid);
+  }
+
+  fails_old : (e : OpenFault) → FailsIn mid.most drive mid.replay e → FailsIn old.most drive old.replay e
+  fails_old e fails xs told oldest wanted =
+      subst (λ m. IsFault oldest old.replay.width m xs e) same_mid.most
+      (subst (λ n. IsFault oldest n mid.most xs e) same_mid.width (fails xs told oldest (subst (IsWanted oldest) (sym same_mid.version) wanted)))
+
+  pub advances : (new : ReadingView) (result : Result (Option Walked) OpenFault) → WalksOn mid new result → Advances drive old new result
+  advances new (Ok (Some walked)) on = record {
+    same = same_log-trans old mid new same_mid on.same;
+    grows = record { members = omega (arith, on.passes.grows.members, ap (λ (s : State). length s.world) state_mid); leaves = omega (arith, on.passes.grows.leaves, ap (λ (s : State). length s.leaves) state_mid) };
+    fewer = (omega (arith, on.few, number_mid, same_mid.most), omega (arith, on.number, number_mid));
+    tells = λ cells read.
+        let now = filled.keeps cells read in
+        (read_next cells drive mid now new walked on, subst (λ n. IsNextWalked n cells walked) same_mid.width (next_walked cells drive mid now new walked on));
+  }
+  advances new (Ok None) on = record {
+    same = same_log-trans old mid new same_mid (same_log-refl mid new on.0);
+    grows = same_room new on.0;
+    fewer = tt;
+    tells = λ cells read.
+        let now = filled.keeps cells read in (
+          subst (HasRead cells drive) (sym on.0) now,
+          λ xs told. subst (λ v. HoldsCells v old.replay.width cells xs) same_mid.version (subst (λ n. HoldsCells mid.replay.version n cells xs) same_mid.width (read_end cells drive mid now filled.some on.1 xs told)),
+        );
+  }
+  advances new (Err e) on = record {
+    same = same_log-trans old mid new same_mid (same_log-refl mid new on.0);
+    grows = same_room new on.0;
+    fewer = tt;
+    tells = λ cells read.
+        let now = filled.keeps cells read in (
+          subst (HasRead cells drive) (sym on.0) now,
+          subst (λ m. IsBehind m (length cells) e) same_mid.most (fault_behind cells drive mid now e on.1),
+          fails_old e (read_fault cells drive mid now e filled.some filled.ready on.1),
+        );
+  }
+
+-- a call that read no piece
+pub advances_not : (drive : Drive) (old new : ReadingView) (e : OpenFault) → IsEmptied old new → Stops drive old e → Advances drive old new (Err e)
+advances_not drive old new e is stops = subst (λ r. Advances drive old r (Err e)) (sym is) (record {
+  same = record { version = refl; width = refl; most = refl; len = refl };
+  grows = record { members = omega arith; leaves = omega arith };
+  fewer = tt;
+  tells = λ cells read. (emptied cells drive old read, stop_behind cells drive old read e stops.0, stops.1 cells read);
 })
+
+-- a piece that was read is the front of what stands behind the cells
+pub filled_by : (drive : Drive) (old : ReadingView) (buffer : List ℕ) (got : ℕ) → ReadsPiece drive (16 + 32 * old.number) (min 65537 (old.len - (16 + 32 * old.number))) buffer got → length buffer ≡ 65537 → 1 ≤ got → 17 + 32 * old.number ≤ old.len
+    → IsFilled drive old (record old { rest = take got buffer })
+filled_by drive old buffer got reads long some room =
+    let size : length (take got buffer) ≡ got = omega (arith, length-take got buffer, reads.0, long) in
+    record {
+      same = refl;
+      some = omega (arith, size, some);
+      ready = λ xs told whole short set few. omega (arith, (reads.1 xs told).0, size, whole, short, room);
+      keeps = λ cells read. refilled cells drive old read (take got buffer) (λ xs told. (reads.1 xs told).1 ∙ ap (λ n. take n (drop (16 + 32 * old.number) xs)) (sym size));
+    }
+
+pub filled_before : (drive : Drive) (old new : ReadingView) → new ≡ old → NeedsNoPiece old → IsFilled drive old new
+filled_before drive old new is needs = subst (IsFilled drive old) (sym is) (record {
+  same = refl;
+  some = needs.some;
+  ready = λ xs told whole short set few. absurd (needs.told short set few);
+  keeps = λ cells read. read;
+})
+
+-- a file with room for a commit byte isn't read empty
+pub never_empty : (drive : Drive) (old : ReadingView) (buffer : List ℕ) (got : ℕ) → ReadsPiece drive (16 + 32 * old.number) (min 65537 (old.len - (16 + 32 * old.number))) buffer got → got ≡ 0 → 17 + 32 * old.number ≤ old.len
+    → Stops drive old (fault.Damaged old.number cause.ShortCell)
+never_empty drive old buffer got reads none room = (
+  refl,
+  λ cells read xs told oldest wanted. absurd (omega (arith, (reads.1 xs told).0, (read.begins xs told).0, none, room)),
+)
 
 -- a read into the front of a buffer
 pub piece_read : (drive : Drive) (at room most : ℕ) (buffer into rest : List ℕ) (result : Result ℕ DiskFault) → most ≡ room → length (take room buffer) ≡ room → length into ≡ length (take room buffer) → Reads drive at (take room buffer) into result
@@ -232,6 +341,22 @@ piece_read drive at room most buffer into rest (Ok n) is long same reads = (
 )
 piece_read drive at room most buffer into rest (Err e) is long same reads = tt
 
--- what is at fault in a piece is no fault of the drive
-pub breaks_sound : (v w most from : ℕ) (s : State) (piece : List ℕ) (why : OpenFault) → Breaks v w most from s piece why → why ≢ fault.Disk
-breaks_sound v w most from s piece why breaks disk = subst (λ f. FailsAt v w most (from + length breaks.cells) (cells_after w s breaks.cells) breaks.tail f) disk breaks.fails
+-- what is left of a piece
+pub rest_is : (at filled : ℕ) (items all : List ℕ) → at ≤ filled → all ≡ items → take (filled - at) (drop at all) ≡ drop at (take filled items)
+rest_is at filled items all le is =
+    let whole : at + (filled - at) ≡ filled = omega (arith, le) in
+    ap (λ (l : List ℕ). take (filled - at) (drop at l)) is ∙ sym (drop-take at (filled - at) items) ∙ ap (λ n. drop at (take n items)) whole
+
+-- a fault that is passed on
+pub walks_err : (old new : ReadingView) (e : OpenFault) (result : Result (Option Walked) OpenFault) → IsErrAnd result (λ x. x ≡ e) → WalksOn old new (Err e) → WalksOn old new result
+walks_err old new e (Ok x) same on = absurd same
+walks_err old new e (Err x) same on = subst (λ f. WalksOn old new (Err f)) (sym same) on
+
+pub advances_err : (drive : Drive) (old new : ReadingView) (e : OpenFault) (result : Result (Option Walked) OpenFault) → IsErrAnd result (λ x. x ≡ e) → IsEmptied old new → Stops drive old e → Advances drive old new result
+advances_err drive old new e (Ok x) same is stops = absurd same
+advances_err drive old new e (Err x) same is stops = subst (λ f. Advances drive old new (Err f)) (sym same) (advances_not drive old new e is stops)
+
+-- what was read takes the place of a whole buffer
+pub same_items : (n : ℕ) (new old : List ℕ) → length new ≡ 65537 → length old ≡ 65537 → 65537 ≤ n → take n (new ++ drop (length new) old) ≡ new
+same_items n new old long before room =
+    ap (λ (l : List ℕ). take n (new ++ l)) (drop_all (length new) old (omega (arith, long, before))) ∙ ap (take n) (append-nil new) ∙ take_all n new (omega (arith, long, room))

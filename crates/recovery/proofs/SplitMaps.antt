@@ -112,3 +112,24 @@ none_found name o none some = let e : ◌≡◌ {A = Option (List Bool)} None (S
 
 pub found_same : (a b : List Bool) (o : Option (List Bool)) → o ≡ Some a → o ≡ Some b → a ≡ b
 found_same a b o first second = let e : ◌≡◌ {A = Option (List Bool)} (Some a) (Some b) = sym first ∙ second in cc e
+
+below_found : (number earlier : ℕ) (name : List Bool) (splits : List OpenSplit) → AreBelow number splits → split_name splits earlier ≡ Some name → earlier < number
+below_found number earlier name [] below found = cc
+below_found number earlier name (s ∷ splits) below found =
+    let rest : split_name splits earlier ≡ Some name → earlier < number = below_found number earlier name splits below.1 in
+    let lt : s.number < number = below.0 in
+    grind (arith, nat_tests, common_steps)
+
+without_number-push : (earlier : ℕ) (new : OpenSplit) (splits : List OpenSplit) → earlier < new.number → without_number earlier (splits ++ new ∷ []) ≡ without_number earlier splits ++ new ∷ []
+without_number-push earlier new [] lt = grind (arith, nat_tests, common_steps)
+without_number-push earlier new (s ∷ splits) lt =
+    let rest : without_number earlier (splits ++ new ∷ []) ≡ without_number earlier splits ++ new ∷ [] = without_number-push earlier new splits lt in
+    grind (arith, nat_tests, common_steps)
+
+-- a split takes the place of an earlier one of its name
+pub begun_again : (earlier number : ℕ) (name : List Bool) (splits pushed new : List OpenSplit) → IsRisingSplits splits → AreBelow number splits → split_name splits earlier ≡ Some name
+    → pushed ≡ splits ++ record { number = number; name = name } ∷ [] → new ≡ without_number earlier pushed → new ≡ without_split earlier name splits ++ record { number = number; name = name } ∷ []
+begun_again earlier number name splits pushed new rising below found push left =
+    left ∙ ap (without_number earlier) push
+    ∙ without_number-push earlier (record { number = number; name = name }) splits (below_found number earlier name splits below found)
+    ∙ ap (λ (l : List OpenSplit). l ++ record { number = number; name = name } ∷ []) (sym (without_split-there earlier name splits rising found))

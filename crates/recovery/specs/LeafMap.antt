@@ -1,5 +1,5 @@
 -- A map from first keys to leaves, seen as the list of these leaves.
-use Rattle.std.specs.Prelude.{◌≡◌, ◌≢◌, ℕ, Bool, true, false, List, [], ◌∷◌, ◌++◌, map, if◌then◌else◌, Option, Some}
+use Rattle.std.specs.Prelude.{◌≡◌, ◌≢◌, ℕ, ◌<◌, Bool, true, false, List, [], ◌∷◌, ◌++◌, length, map, if◌then◌else◌, Option, Some}
 use Rattle.std.specs.List.{find}
 use Rattle.std.specs.Option.{option_map}
 use Rattle.zorder.specs.Name.{first_key}
@@ -47,3 +47,10 @@ halved name (l ∷ leaves) = if same_name l.name name then new_leaf (name ++ fal
 -- a mark of another leaf than this stays
 abbrev pub KeepsMarks : List Bool → List MarkedLeaf → List MarkedLeaf → Type 0
 KeepsMarks name old new = (other : List Bool) (number : ℕ) → other ≢ name → split_at old other ≡ Some number → split_at new other ≡ Some number
+
+-- a leaf of these leaves that had this mark was halved
+pub record HasHalved (name : List Bool) (split : ℕ) (leaves halves : List MarkedLeaf) : Type 0 where
+  pub tile : Tile (names_of leaves)
+  pub short : length name < 64
+  pub mark : split_at leaves name ≡ Some split
+  pub is : halves ≡ halved name leaves

@@ -1,7 +1,8 @@
--- A piece of a log, from the commit byte of a cell on.
-use Rattle.std.specs.Prelude.{◌≡◌, ◌≢◌, ℕ, ◌+◌, ◌<◌, ◌≤◌, true, List, ◌++◌, length, take, slice_index, ⊤}
-use Rattle.std.specs.List.{flat_map, AllByRecursion}
+-- The cell at the front of a piece of a log, which begins with its commit byte.
+use Rattle.std.specs.Prelude.{◌≡◌, ◌≢◌, ℕ, ◌<◌, ◌≤◌, true, List, length, take, slice_index, Option, Some, None, Result, Ok, Err, ⊤}
+use Rattle.zorder.specs.declared.points.Point.{Point}
 use Rattle.cell_format.specs.declared.cell.Cell.{Cell}
+use Rattle.cell_format.specs.declared.cell.Cell.TheVariants as cell
 use Rattle.cell_format.specs.declared.cell.Cause.{Cause}
 use Rattle.cell_format.specs.declared.cell.Cause.TheVariants as cause
 use Rattle.cell_format.specs.declared.cell.CellFault.{CellFault}
@@ -10,25 +11,21 @@ use Rattle.cell_format.specs.Spelling.{IsCell, spelling}
 use Rattle.plain_list.specs.State.{State, step}
 use Rattle.recovery.specs.declared.seen.OpenFault.{OpenFault}
 use Rattle.recovery.specs.declared.seen.OpenFault.TheVariants.{NotLog, OldLog, Damaged, Disk, Memory, TooLong}
-use Rattle.recovery.specs.declared.pieces.Stop.{Stop}
-use Rattle.recovery.specs.declared.pieces.Stop.TheVariants.{Clear, Set}
-use Rattle.log_state.specs.Recovers.{is_legal_cells, cells_after, is_possible_cell, entry_of}
+use Rattle.recovery.specs.declared.walked.Walked.{Walked}
+use Rattle.log_state.specs.Recovers.{is_possible_cell, entry_of}
 use Rattle.recovery.specs.Faults.{IsWrong}
-use Rattle.recovery.specs.Walk.{WalkView}
+use Rattle.recovery.specs.Replay.{ReplayView}
+use Rattle.recovery.specs.Room.{HasRoomAfter}
+use Rattle.recovery.specs.Walked.{object_of, place_in}
 
--- the piece begins with these cells of a version, which are legal from this state on, and this stands behind them
-pub record Passes (v w : ℕ) (s : State) (cells : List Cell) (piece tail : List ℕ) : Type 0 where
-  pub cells_fit : AllByRecursion (IsCell v) cells
-  pub legal : is_legal_cells w s cells ≡ true
-  pub parts : piece ≡ flat_map spelling cells ++ tail
-
--- the cell at the front is possible at this state, and this is the state after it
-pub record PassesOne (v w : ℕ) (old new : State) (tail : List ℕ) : Type 0 where
-  pub cell : Cell
-  pub fits : IsCell v cell
-  pub spelled : take 32 tail ≡ spelling cell
-  pub possible : is_possible_cell w old cell ≡ true
-  pub state : new ≡ step w old (entry_of cell)
+-- where the object of a cell is after it
+abbrev pub place_after : Cell → Option Point
+place_after (cell.Put id at moment) = Some at
+place_after (cell.Move id at moment) = Some at
+place_after (cell.Remove id) = None
+place_after (cell.Begin number name) = None
+place_after (cell.Install number) = None
+place_after (cell.Abandon number) = None
 
 -- why a cell without a spelling is damaged
 abbrev pub cause_of : CellFault → Cause
@@ -36,43 +33,32 @@ cause_of fault.Kind = cause.Kind
 cause_of fault.Reserved = cause.Reserved
 cause_of fault.BadName = cause.BadName
 
--- the cell of this number, which is whole in the piece, is the first at fault, for this reason
+-- the replay went over the cell at the front, which is possible there, and this is told of it
+pub record PassesCell (number : ℕ) (old new : ReplayView) (piece : List ℕ) (walked : Walked) : Type 0 where
+  pub at : walked.at ≡ number
+  pub long : 33 ≤ length piece
+  pub set : slice_index piece 0 ≡ 1
+  pub fits : IsCell old.version walked.cell
+  pub spelled : take 32 piece ≡ spelling walked.cell
+  pub possible : is_possible_cell old.width old.state walked.cell ≡ true
+  pub version : new.version ≡ old.version
+  pub width : new.width ≡ old.width
+  pub state : new.state ≡ step old.width old.state (entry_of walked.cell)
+  pub before : walked.before ≡ place_in old.state.world (object_of walked.cell)
+  pub after : walked.after ≡ place_after walked.cell
+  pub grows : HasRoomAfter old.state new.state
+
+-- the cell of this number, at the front of the piece, is at fault, for this reason
 abbrev pub FailsAt : ℕ → ℕ → ℕ → ℕ → State → List ℕ → OpenFault → Type 0
-FailsAt v w most number s tail (Damaged n why) = (n ≡ number) × (number < most) × (slice_index tail 0 ≡ 1) × (33 ≤ length tail) × IsWrong v w s tail why
-FailsAt v w most number s tail (TooLong m) = (m ≡ most) × (number ≡ most) × (slice_index tail 0 ≡ 1)
-FailsAt v w most number s tail Memory = ⊤
-FailsAt v w most number s tail NotLog = ⊥
-FailsAt v w most number s tail (OldLog version width) = ⊥
-FailsAt v w most number s tail Disk = ⊥
+FailsAt v w most number s piece (Damaged n why) = (n ≡ number) × (number < most) × (slice_index piece 0 ≡ 1) × IsWrong v w s piece why
+FailsAt v w most number s piece (TooLong m) = (m ≡ most) × (number ≡ most) × (slice_index piece 0 ≡ 1)
+FailsAt v w most number s piece Memory = ⊤
+FailsAt v w most number s piece NotLog = ⊥
+FailsAt v w most number s piece (OldLog version width) = ⊥
+FailsAt v w most number s piece Disk = ⊥
 
--- the commit byte of the cell of this number is clear, or it is set and the piece ends within the cell
-abbrev pub StopsAt : ℕ → ℕ → List ℕ → Stop → Type 0
-StopsAt most number tail (Clear n) = (n ≡ number) × (number ≤ most) × (slice_index tail 0 ≢ 1)
-StopsAt most number tail (Set n) = (n ≡ number) × (number < most) × (slice_index tail 0 ≡ 1) × (length tail < 33)
-
--- the cells of a piece up to the stop
-pub record Walks (v w most from : ℕ) (old new : State) (piece : List ℕ) (stop : Stop) : Type 0 where
-  pub cells : List Cell
-  pub tail : List ℕ
-  pub passed : Passes v w old cells piece tail
-  pub state : new ≡ cells_after w old cells
-  pub some : 1 ≤ length tail
-  pub stops : StopsAt most (from + length cells) tail stop
-
--- the cells of a piece up to the one at fault
-pub record Breaks (v w most from : ℕ) (old : State) (piece : List ℕ) (fault : OpenFault) : Type 0 where
-  pub cells : List Cell
-  pub tail : List ℕ
-  pub passed : Passes v w old cells piece tail
-  pub fails : FailsAt v w most (from + length cells) (cells_after w old cells) tail fault
-
--- how far a walk over a piece has come
-pub record Comes (most from number : ℕ) (old now : WalkView) (piece tail : List ℕ) : Type 0 where
-  pub cells : List Cell
-  pub passed : Passes old.version old.width old.state cells piece tail
-  pub state : now.state ≡ cells_after old.width old.state cells
-  pub version : now.version ≡ old.version
-  pub width : now.width ≡ old.width
-  pub count : number ≡ from + length cells
-  pub few : number ≤ most
-  pub some : 1 ≤ length tail
+-- a cell was passed, or the commit byte at the front is clear, or there is a fault: then nothing has changed
+abbrev pub WalksFront : ℕ → ℕ → ReplayView → ReplayView → List ℕ → Result (Option Walked) OpenFault → Type 0
+WalksFront most number old new piece (Ok (Some walked)) = (number < most) × PassesCell number old new piece walked
+WalksFront most number old new piece (Ok None) = (new ≡ old) × (slice_index piece 0 ≢ 1)
+WalksFront most number old new piece (Err e) = (new ≡ old) × FailsAt old.version old.width most number old.state piece e

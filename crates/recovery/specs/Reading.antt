@@ -1,53 +1,158 @@
 -- How far the reading of a log has come.
-use Rattle.std.specs.Prelude.{◌≡◌, ◌≢◌, ℕ, ◌+◌, ◌*◌, ◌-◌, ◌<◌, ◌≤◌, min, List, length, take, drop, Some, Result, MatchResult, IsErrOf}
+use Rattle.std.specs.Prelude.{◌≡◌, ◌≢◌, ◌⊎◌, ℕ, ◌+◌, ◌*◌, ◌-◌, ◌<◌, ◌≤◌, min, List, [], ◌∷◌, ◌++◌, length, take, drop, slice_index, Option, Some, None, Result, Ok, Err, MatchResult, IsErrOf, ⊤}
 use Rattle.causes.specs.Causes.{Rose}
 use Rattle.cell_format.specs.declared.cell.Cell.{Cell}
 use Rattle.disk_trait.specs.Drive.{Drive, SameFile, Stays}
 use Rattle.split_log.specs.LogText.{HoldsCells}
 use Rattle.recovery.specs.declared.seen.OpenFault.{OpenFault}
-use Rattle.recovery.specs.declared.seen.OpenFault.TheVariants.{Disk}
-use Rattle.recovery.specs.declared.pieces.Stop.{Stop}
-use Rattle.recovery.specs.declared.pieces.Stop.TheVariants.{Clear, Set}
+use Rattle.recovery.specs.declared.seen.OpenFault.TheVariants.{NotLog, OldLog, Damaged, Disk, Memory, TooLong}
+use Rattle.recovery.specs.declared.walked.Walked.{Walked}
 use Rattle.log_state.specs.Recovers.{IsLegalCells, state_of}
 use Rattle.recovery.specs.declared.seen.Seen.{Seen}
 use Rattle.recovery.specs.Faults.{BeginsWith, IsFault}
-use Rattle.recovery.specs.Found.{IsWanted, IsFound}
-use Rattle.recovery.specs.Walk.{WalkView}
+use Rattle.recovery.specs.Found.{Shows, IsWanted, IsFound}
+use Rattle.recovery.specs.Pieces.{PassesCell, FailsAt}
+use Rattle.recovery.specs.Replay.{ReplayView}
+use Rattle.recovery.specs.Room.{HasRoomAfter}
+use Rattle.recovery.specs.Walked.{IsNextWalked}
 
--- the walk goes on in the same log, and the buffer has the room for one piece
-pub record HasRoom (before walk : WalkView) (buffer : List ℕ) : Type 0 where
-  pub version_is : walk.version ≡ before.version
-  pub width_is : walk.width ≡ before.width
+-- the state after the cells so far, their number, how many there may be, the length of the file, and what is left of the piece that was read last,
+-- from the commit byte of the next cell on
+pub record ReadingView : Type 0 where
+  pub replay : ReplayView
+  pub number : ℕ
+  pub most : ℕ
+  pub len : ℕ
+  pub rest : List ℕ
+
+-- what is left of the piece lies in the buffer, and in the file, which has room for a commit byte behind the cells
+pub record IsReading (at filled number most len : ℕ) (buffer : List ℕ) : Type 0 where
   pub long : length buffer ≡ 65537
-
--- so many cells of a file of this length were walked: they are legal, and where the bytes are known, they stand at their front
-pub record Reaches (most len number : ℕ) (drive : Drive) (walk : WalkView) : Type 0 where
-  pub cells : List Cell
-  pub legal : IsLegalCells walk.width cells
-  pub state : walk.state ≡ state_of walk.width cells
-  pub count : length cells ≡ number
+  pub within : filled ≤ 65537
+  pub from : at ≤ filled
   pub few : number ≤ most
   pub room : 17 + 32 * number ≤ len
-  pub begins : (xs : List ℕ) → drive.bytes ≡ Some xs → (length xs ≡ len) × (rest : List ℕ) × BeginsWith walk.version walk.width cells rest xs
+  pub fits : 16 + 32 * number + filled ≤ len + at
 
--- and they are all cells of the log
-pub record Ends (most len number : ℕ) (drive : Drive) (walk : WalkView) : Type 0 where
-  pub cells : List Cell
-  pub legal : IsLegalCells walk.width cells
-  pub state : walk.state ≡ state_of walk.width cells
-  pub count : length cells ≡ number
-  pub few : number ≤ most
-  pub room : 17 + 32 * number ≤ len
-  pub text : (xs : List ℕ) → drive.bytes ≡ Some xs → HoldsCells walk.version walk.width cells xs
+-- these cells were read: they are legal, and where the bytes are known, they stand at their front, and what is left of the piece behind them
+pub record HasRead (cells : List Cell) (drive : Drive) (r : ReadingView) : Type 0 where
+  pub legal : IsLegalCells r.replay.width cells
+  pub state : r.replay.state ≡ state_of r.replay.width cells
+  pub count : length cells ≡ r.number
+  pub begins : (xs : List ℕ) → drive.bytes ≡ Some xs
+      → (length xs ≡ r.len) × (more : List ℕ) × BeginsWith r.replay.version r.replay.width cells (r.rest ++ more) xs
 
--- this is at fault in the bytes, where they are known, for whoever wants the version of the walk
-abbrev pub FailsIn : ℕ → Drive → WalkView → OpenFault → Type 0
-FailsIn most drive walk e = (xs : List ℕ) → drive.bytes ≡ Some xs → (oldest : ℕ) → IsWanted oldest walk.version → IsFault oldest walk.width most xs e
+-- this is at fault in the bytes, where they are known, for whoever wants the version of the log
+abbrev pub FailsIn : ℕ → Drive → ReplayView → OpenFault → Type 0
+FailsIn most drive replay e = (xs : List ℕ) → drive.bytes ≡ Some xs → (oldest : ℕ) → IsWanted oldest replay.version → IsFault oldest replay.width most xs e
 
--- after one more piece
-abbrev pub GoesOn : ℕ → ℕ → ℕ → Drive → WalkView → Stop → Type 0
-GoesOn most len before drive walk (Clear n) = Ends most len n drive walk
-GoesOn most len before drive walk (Set n) = (before < n) × Reaches most len n drive walk
+-- a fault behind so many cells: of the next one, or that there may be no more, or none of the bytes
+abbrev pub IsBehind : ℕ → ℕ → OpenFault → Type 0
+IsBehind most number NotLog = ⊥
+IsBehind most number (OldLog version width) = ⊥
+IsBehind most number (Damaged n why) = n ≡ number
+IsBehind most number (TooLong limit) = (limit ≡ most) × (number ≡ most)
+IsBehind most number Disk = ⊤
+IsBehind most number Memory = ⊤
+
+-- and it is at fault behind the cells that were read
+abbrev pub FailsBehind : Drive → ReadingView → OpenFault → Type 0
+FailsBehind drive r e = (cells : List Cell) → HasRead cells drive r → FailsIn r.most drive r.replay e
+
+-- right behind them
+abbrev pub Stops : Drive → ReadingView → OpenFault → Type 0
+Stops drive r e = IsBehind r.most r.number e × FailsBehind drive r e
+
+-- before the first cell of a log whose version is wanted
+pub record Starts (oldest w most : ℕ) (drive : Drive) (r : ReadingView) : Type 0 where
+  pub wanted : IsWanted oldest r.replay.version
+  pub width : r.replay.width ≡ w
+  pub most_is : r.most ≡ most
+  pub long : 17 ≤ r.len
+  pub read : HasRead [] drive r
+
+-- the same log is read
+pub record SameLog (old new : ReadingView) : Type 0 where
+  pub version : new.replay.version ≡ old.replay.version
+  pub width : new.replay.width ≡ old.replay.width
+  pub most : new.most ≡ old.most
+  pub len : new.len ≡ old.len
+
+-- what is left of the piece tells the next cell, or that there is none
+pub record NeedsNoPiece (r : ReadingView) : Type 0 where
+  pub some : 1 ≤ length r.rest
+  pub told : length r.rest < 33 → slice_index r.rest 0 ≡ 1 → r.number < r.most → ⊥
+
+-- where the next commit byte is set, and too little is left for a cell, it is all that the file has
+abbrev pub IsReady : Drive → ReadingView → Type 0
+IsReady drive r = (xs : List ℕ) → drive.bytes ≡ Some xs → length xs ≡ r.len → length r.rest < 33 → slice_index r.rest 0 ≡ 1 → r.number < r.most
+    → 16 + 32 * r.number + length r.rest ≡ r.len
+
+-- what is left of the piece tells the next cell, as far as the file does
+pub record IsFilled (drive : Drive) (old new : ReadingView) : Type 0 where
+  pub same : new ≡ record old { rest = new.rest }
+  pub some : 1 ≤ length new.rest
+  pub ready : IsReady drive new
+  pub keeps : (cells : List Cell) → HasRead cells drive old → HasRead cells drive new
+
+-- nothing is left of the piece
+abbrev pub IsEmptied : ReadingView → ReadingView → Type 0
+IsEmptied old new = new ≡ record old { rest = [] }
+
+-- the cell at the front was passed
+pub record PassesOn (old new : ReadingView) (walked : Walked) : Type 0 where
+  pub few : old.number < old.most
+  pub passes : PassesCell old.number old.replay new.replay old.rest walked
+  pub same : SameLog old new
+  pub number : new.number ≡ old.number + 1
+  pub rest : new.rest ≡ drop 32 old.rest
+
+-- so it was, or the commit byte there is clear, or there is a fault: then nothing has changed
+abbrev pub WalksOn : ReadingView → ReadingView → Result (Option Walked) OpenFault → Type 0
+WalksOn old new (Ok (Some walked)) = PassesOn old new walked
+WalksOn old new (Ok None) = (new ≡ old) × (slice_index old.rest 0 ≢ 1)
+WalksOn old new (Err e) = (new ≡ old) × FailsAt old.replay.version old.replay.width old.most old.number old.replay.state old.rest e
+
+-- a cell more leaves less to read
+abbrev pub IsNearer : ReadingView → ReadingView → Result (Option Walked) OpenFault → Type 0
+IsNearer old new (Ok (Some walked)) = (old.number < old.most) × (new.number ≡ old.number + 1)
+IsNearer old new (Ok None) = ⊤
+IsNearer old new (Err e) = ⊤
+
+-- a cell more was read, or those that were read are all, or there is a fault
+abbrev pub TellsNext : List Cell → Drive → ReadingView → ReadingView → Result (Option Walked) OpenFault → Type 0
+TellsNext cells drive old new (Ok (Some walked)) = HasRead (cells ++ walked.cell ∷ []) drive new × IsNextWalked old.replay.width cells walked
+TellsNext cells drive old new (Ok None) =
+    HasRead cells drive new × ((xs : List ℕ) → drive.bytes ≡ Some xs → HoldsCells old.replay.version old.replay.width cells xs)
+TellsNext cells drive old new (Err e) = HasRead cells drive new × IsBehind old.most (length cells) e × FailsIn old.most drive old.replay e
+
+pub record Advances (drive : Drive) (old new : ReadingView) (result : Result (Option Walked) OpenFault) : Type 0 where
+  pub same : SameLog old new
+  pub grows : HasRoomAfter old.replay.state new.replay.state
+  pub fewer : IsNearer old new result
+  pub tells : (cells : List Cell) → HasRead cells drive old → TellsNext cells drive old new result
+
+-- all cells of the log were read
+pub record ReadsAll (drive : Drive) (old new : ReadingView) : Type 0 where
+  pub same : SameLog old new
+  pub reads : (cells : List Cell) → HasRead cells drive old → (all : List Cell) × HasRead all drive new
+      × ((xs : List ℕ) → drive.bytes ≡ Some xs → HoldsCells old.replay.version old.replay.width all xs)
+
+-- how far the reading of all cells has come, since it began
+pub record IsOnWay (before now : Drive) (first r : ReadingView) : Type 0 where
+  pub same : SameLog first r
+  pub stays : Stays before now
+  pub calm : now.faults ≡ before.faults
+  pub file : SameFile before now
+  pub reads : (cells : List Cell) → HasRead cells before first → (all : List Cell) × HasRead all before r
+
+-- what is told of the cells that were read
+pub record IsSeenOf (r : ReadingView) (seen : Seen) : Type 0 where
+  pub shows : Shows r.replay.state r.number seen
+  pub version : seen.version ≡ r.replay.version
+  pub known : (r.replay.version ≡ 1) ⊎ (r.replay.version ≡ 2)
+  pub few : r.number ≤ r.most
+  pub room : 17 + 32 * r.number ≤ r.len
 
 -- a call that only reads: the bytes and the images stay, the count doesn't fall, any answer but the drive's fault leaves it, and that fault
 -- comes only where it rose
@@ -61,16 +166,6 @@ pub record OnlyReads {T : Type 0} (old new : Drive) (result : Result T OpenFault
 -- the bytes read from a place into the first of so much room
 abbrev pub ReadsPiece : Drive → ℕ → ℕ → List ℕ → ℕ → Type 0
 ReadsPiece drive at room after got = (got ≤ room) × ((xs : List ℕ) → drive.bytes ≡ Some xs → (got ≡ min room (length xs - at)) × (take got after ≡ take got (drop at xs)))
-
--- how far the reading of a whole log has come, since it began
-pub record IsReading (most len number : ℕ) (before now : Drive) (first walk : WalkView) (buffer : List ℕ) : Type 0 where
-  pub came : Reaches most len number now walk
-  pub stays : Stays before now
-  pub same : now.faults ≡ before.faults
-  pub file : SameFile before now
-  pub version : walk.version ≡ first.version
-  pub width : walk.width ≡ first.width
-  pub long : length buffer ≡ 65537
 
 -- what was found in a file of this length, which has room for the cells and a commit byte
 pub record IsFoundIn (oldest w most : ℕ) (drive : Drive) (seen : Seen) (len : ℕ) : Type 0 where

@@ -1,31 +1,57 @@
--- What a walk over the cells of a log tells of each.
-use Rattle.std.specs.Prelude.{◌≡◌, ℕ, true, List, [], ◌∷◌, ◌++◌, length, Option, Some, None}
-use Rattle.std.specs.Option.{option_map}
-use Rattle.zorder.specs.declared.points.Point.{Point}
+-- A walk over the cells of a log, and what it has come to.
+use Rattle.std.specs.Prelude.{◌≡◌, ◌⊎◌, ℕ, ◌≤◌, List, [], ◌∷◌, ◌++◌, length, Option, Some, None, Result, Ok, Err, ⊤}
 use Rattle.cell_format.specs.declared.cell.Cell.{Cell}
-use Rattle.cell_format.specs.declared.cell.Cell.TheVariants as cell
-use Rattle.plain_list.specs.declared.world.Stamped.{Stamped}
-use Rattle.plain_list.specs.World.{World, position_of}
-use Rattle.log_state.specs.Recovers.{state_of, is_possible_cell}
+use Rattle.disk_trait.specs.Drive.{Drive}
+use Rattle.log_state.specs.Recovers.{IsLegalCells, Recovers}
+use Rattle.recovery.specs.declared.seen.OpenFault.{OpenFault}
+use Rattle.recovery.specs.declared.seen.OpenFault.TheVariants.{NotLog, OldLog, Damaged, Disk, Memory, TooLong}
 use Rattle.recovery.specs.declared.walked.Walked.{Walked}
+use Rattle.recovery.specs.Faults.{IsFault}
+use Rattle.recovery.specs.Found.{IsWanted, IsFree}
+use Rattle.recovery.specs.Reading.{ReadingView, HasRead, IsBehind}
+pub use Rattle.recovery.specs.Walked.{object_of, place_in, IsNextWalked}
 
--- the object that a cell changes: none for a cell of a split
-abbrev pub object_of : Cell → Option ℕ
-object_of (cell.Put id at moment) = Some id
-object_of (cell.Move id at moment) = Some id
-object_of (cell.Remove id) = Some id
-object_of (cell.Begin number name) = None
-object_of (cell.Install number) = None
-object_of (cell.Abandon number) = None
+-- the drive, and how far its log was read
+pub record WalkView (D : Type 0) : Type 0 where
+  pub disk : D
+  pub reading : ReadingView
 
--- where an object is in a world: nowhere where it isn't there, or there is none to ask for
-abbrev pub place_in : World → Option ℕ → Option Point
-place_in world None = None
-place_in world (Some id) = option_map (λ (s : Stamped). s.at) (position_of world id)
+-- These cells of a log of this width were walked, at most so many: they are legal, and where the bytes of its drive are known, they begin with a header
+-- of version 1 or 2, that width and these cells.
+pub record ComesTo {D : Type 0} (w most : ℕ) (cells : List Cell) (drive : Drive) (walk : WalkView D) : Type 0 where
+  pub legal : IsLegalCells w cells
+  pub few : length cells ≤ most
+  pub wanted : IsWanted 1 walk.reading.replay.version
+  pub width : walk.reading.replay.width ≡ w
+  pub most_is : walk.reading.most ≡ most
+  pub read : HasRead cells drive walk.reading
 
--- what is told of the cell behind these, which is possible there
-pub record IsNextWalked (w : ℕ) (cells : List Cell) (walked : Walked) : Type 0 where
-  pub at : walked.at ≡ length cells
-  pub possible : is_possible_cell w (state_of w cells) walked.cell ≡ true
-  pub before : walked.before ≡ place_in (state_of w cells).world (object_of walked.cell)
-  pub after : walked.after ≡ place_in (state_of w (cells ++ walked.cell ∷ [])).world (object_of walked.cell)
+-- What a call tells behind these cells: the next one; or that they are all, and the bytes recover to them; or what is at fault there, in the bytes or
+-- beside them. The drive is as the call finds it and leaves it, the walk as the call leaves it.
+abbrev pub TellsWalked : {D : Type 0} → ℕ → ℕ → List Cell → Drive → Drive → WalkView D → Result (Option Walked) OpenFault → Type 0
+TellsWalked w most cells old new walk (Ok (Some walked)) = ComesTo w most (cells ++ walked.cell ∷ []) new walk × IsNextWalked w cells walked
+TellsWalked w most cells old new walk (Ok None) =
+    ComesTo w most cells new walk × ((bytes : List ℕ) → old.bytes ≡ Some bytes → Recovers w cells bytes)
+TellsWalked w most cells old new walk (Err e) =
+    ComesTo w most cells new walk × IsBehind most (length cells) e × ((bytes : List ℕ) → old.bytes ≡ Some bytes → IsFault 1 w most bytes e)
+
+-- where this is at fault in the bytes, a call tells a cell, or the fault, and no end
+abbrev pub TellsFault : OpenFault → Drive → Drive → Result (Option Walked) OpenFault → Type 0
+TellsFault fault old new (Ok (Some walked)) = ⊤
+TellsFault fault old new (Ok None) = ⊥
+TellsFault fault old new (Err e) = (e ≡ fault) ⊎ IsFree old new e
+
+-- where the bytes recover to all these cells, a call behind the first of them tells a cell, or behind all of them the end, and no fault of theirs
+abbrev pub TellsAll : List Cell → List Cell → Drive → Drive → Result (Option Walked) OpenFault → Type 0
+TellsAll all cells old new (Ok (Some walked)) = ⊤
+TellsAll all cells old new (Ok None) = cells ≡ all
+TellsAll all cells old new (Err e) = IsFree old new e
+
+-- a fault that is found before the first cell
+abbrev pub IsOfHead : OpenFault → Type 0
+IsOfHead NotLog = ⊤
+IsOfHead (OldLog version width) = ⊤
+IsOfHead (Damaged number why) = ⊥
+IsOfHead (TooLong limit) = ⊥
+IsOfHead Disk = ⊤
+IsOfHead Memory = ⊤

@@ -5,10 +5,11 @@ ghost use Rattle.causes.specs.Causes.{Rose};
 ghost use Rattle.cell_format.specs.Spelling.{newest, header_text};
 ghost use Rattle.recovery.specs.declared.seen.OpenFault.{OpenFault};
 ghost use Rattle.recovery.specs.declared.seen.OpenFault.TheVariants.{OldLog};
-ghost use Rattle.recovery.specs.Faults.{HasOtherHead, IsInBytes};
+ghost use Rattle.recovery.specs.Faults.{HasOtherHead, IsFault, IsInBytes};
 ghost use Rattle.recovery.specs.Found.{IsWanted};
 ghost use Rattle.recovery.specs.Headers.{HasHeader, FailsHead};
 ghost use Rattle.recovery.specs.Reading.{OnlyReads};
+ghost use Rattle.recovery.specs.Walks.{IsOfHead};
 ghost use Rattle.recovery.specs.Widths.{IsWidth, HasWidth, IsHeadFault};
 
 use crate::seen::{NEWEST, OpenFault};
@@ -64,6 +65,25 @@ pub(crate) fn read_head<D: LogDisk>(disk: &mut D, len: u64) -> Result<Head, Open
         version: bytes[8],
         width: bytes[9],
     })
+}
+
+/// Reads the head of a file of this length, and says which version it names.
+pub(crate) fn test_header<D: LogDisk>(
+    disk: &mut D,
+    len: u64,
+    oldest: u8,
+    width: u8,
+) -> Result<u8, OpenFault>
+    requires len { (xs : List ℕ) → (D.drive disk.old).bytes ≡ Some xs → length xs ≡ len }
+
+    ensures ok { IfOk result (λ version. IsWanted oldest version × (17 ≤ len)
+        × ((xs : List ℕ) → (D.drive disk.old).bytes ≡ Some xs → HasHeader version width xs)) }
+    ensures err { IfErr result (λ e. (xs : List ℕ) → (D.drive disk.old).bytes ≡ Some xs → (most : ℕ) → IsFault oldest width most xs e) }
+    ensures head { IfErr result IsOfHead }
+    ensures reads { OnlyReads (D.drive disk.old) (D.drive disk.new) result }
+{
+    let head = read_head(disk, len)?;
+    head.wanted_version(oldest, width)
 }
 
 impl Head {

@@ -1,8 +1,9 @@
 //! The leaves, each with the split last begun of it.
-ghost use Rattle.std.specs.Prelude.{◌≡◌, ◌≢◌, ◌⊎◌, ◌+◌, ◌≤◌, ◌<◌, [], ◌∷◌, Bool, ℕ, List, length, true, Some, OnOk, OnErr, IfOk};
+ghost use Rattle.std.specs.Prelude.{◌≡◌, ◌≢◌, ◌⊎◌, ◌+◌, ◌≤◌, ◌<◌, ◌^◌, [], ◌∷◌, ◌++◌, Bool, ℕ, List, length, true, false, Some, OnOk, OnErr, IfOk, vec_len, vec_capacity};
 ghost use Rattle.zorder.specs.Tile.{Tile};
 ghost use Rattle.plain_list.specs.State.{is_leaf, split_leaf};
-ghost use Rattle.recovery.specs.LeafMap.{names_of, split_at, with_begun, halved, new_leaf, KeepsMarks};
+ghost use Rattle.recovery.specs.LeafMap.{names_of, split_at, with_begun, halved, new_leaf, KeepsMarks, HasHalved};
+ghost use Rattle.recovery.specs.declared.leaf_map.MarkedLeaf.{MarkedLeaf};
 
 use crate::seen::Leaves;
 use std::alloc::{AllocError, Global};
@@ -87,6 +88,16 @@ impl LeafMap {
         Ok(())
     }
 
+    /// Undoes `halve` for a leaf that had this mark, and takes no memory.
+    fn unite(&mut self, name: &Name, split: u64)
+        requires halved { (leaves : List MarkedLeaf) × HasHalved name.now split leaves self.old }
+        ensures { (leaves : List MarkedLeaf) → HasHalved name.now split leaves self.old → self.new ≡ leaves }
+    {
+        self.leaves.remove(&child(name, true).bits());
+        let leaf = MarkedLeaf { name: *name, split };
+        let _ = self.leaves.insert(name.bits(), leaf);
+    }
+
     /// Puts the children of a leaf in its place, whose names have `width` bits more.
     pub(crate) fn split(&mut self, name: &Name, width: u8) -> Result<(), AllocError>
         requires leaf { is_leaf (names_of self.old) name.now ≡ true }
@@ -94,25 +105,67 @@ impl LeafMap {
         requires short { length name.now + width ≤ 64 }
 
         ensures names { OnOk result (names_of self.new ≡ split_leaf width name.now (names_of self.old)) }
-        ensures kept { KeepsMarks name.now self.old self.new }
+        ensures kept { OnOk result (KeepsMarks name.now self.old self.new) }
+        ensures err { OnErr result (self.new ≡ self.old) }
     {
-        self.halve(name)?;
         if width == 2 {
-            self.halve(&child(name, false))?;
-            self.halve(&child(name, true))?;
+            self.quarter(name)
+        } else {
+            self.halve(name)
+        }
+    }
+
+    /// Puts the four quarters of a leaf in its place.
+    fn quarter(&mut self, name: &Name) -> Result<(), AllocError>
+        requires leaf { is_leaf (names_of self.old) name.now ≡ true }
+        requires short { length name.now + 2 ≤ 64 }
+        ensures ok { OnOk result (self.new ≡ halved (name.now ++ true ∷ []) (halved (name.now ++ false ∷ []) (halved name.now self.old))) }
+        ensures err { OnErr result (self.new ≡ self.old) }
+        ensures tile { Tile (names_of self.old) }
+    {
+        let mark = self.split_at(name);
+        self.halve(name)?;
+        if let Err(refused) = self.halve_both(name) {
+            self.unite(name, mark.unwrap_or(0));
+            return Err(refused);
         }
         Ok(())
     }
 
-    /// The names alone.
-    pub(crate) fn to_leaves(&self, alloc: Global) -> Result<Leaves, AllocError>
-        ensures { IfOk result (λ leaves. leaves ≡ names_of self.now) }
+    /// Puts the halves of both halves of a leaf in their places.
+    fn halve_both(&mut self, name: &Name) -> Result<(), AllocError>
+        requires halved { (leaves : List MarkedLeaf) × (is_leaf (names_of leaves) name.now ≡ true) × Tile (names_of leaves)
+            × (self.old ≡ halved name.now leaves) }
+        requires short { length name.now + 2 ≤ 64 }
+        ensures ok { OnOk result (self.new ≡ halved (name.now ++ true ∷ []) (halved (name.now ++ false ∷ []) self.old)) }
+        ensures err { OnErr result (self.new ≡ self.old) }
     {
-        let mut names = Vec::with_capacity(alloc, self.leaves.len())?;
-        for leaf in self.leaves.values() {
-            names.push(leaf.name)?;
+        let first = child(name, false);
+        self.halve(&first)?;
+        if let Err(refused) = self.halve(&child(name, true)) {
+            self.unite(&first, 0);
+            return Err(refused);
         }
-        Ok(Leaves::from_vec(names))
+        Ok(())
+    }
+
+    pub(crate) fn len(&self) -> usize
+        ensures len { result ≡ length (names_of self.now) }
+        ensures small { result < 2 ^ 63 }
+    {
+        self.leaves.len()
+    }
+
+    /// The names alone, in memory that was taken before.
+    pub(crate) fn names_in(&self, mut room: Vec<Name>) -> Leaves
+        requires empty { vec_len room ≡ 0 }
+        requires enough { length (names_of self.now) ≤ vec_capacity room }
+        ensures { result ≡ names_of self.now }
+    {
+        for leaf in self.leaves.values() {
+            room.push_reserved(leaf.name);
+        }
+        Leaves::from_vec(room)
     }
 }
 

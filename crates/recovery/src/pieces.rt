@@ -1,83 +1,87 @@
-//! Walks over the cells in a piece of a log.
-ghost use Rattle.std.specs.Prelude.{◌≡◌, ◌≢◌, ◌⊎◌, ℕ, ◌≤◌, ◌<◌, slice_index, take, drop, length, IfOk, IfErr, OnOk};
-ghost use Rattle.plain_list.specs.State.{State};
-ghost use Rattle.recovery.specs.Pieces.{cause_of, PassesOne, FailsAt, StopsAt, Walks, Breaks};
+//! The cell at the front of a piece of a log.
+ghost use Rattle.std.specs.Prelude.{◌≡◌, ◌≢◌, ◌⊎◌, ℕ, ◌≤◌, ◌<◌, slice_index, take, length, IfOk, IfErr, OnErr};
+ghost use Rattle.recovery.specs.Pieces.{cause_of, place_after, PassesCell, FailsAt, WalksFront};
 
+use crate::replay::{Replay, StepFault};
 use crate::seen::OpenFault;
-use crate::walk::{StepFault, Walk};
-use cell_format::{Cause, CellFault, decode};
+use crate::walked::Walked;
+use cell_format::{Cause, Cell, CellFault, decode};
+use zorder::Point;
 
 /// The bytes of a cell.
-const CELL: usize = 32;
+pub(crate) const CELL: usize = 32;
 
-/// Where the walk over a piece stopped: the number of cells before, and whether the next commit byte is set.
-#[derive(Clone, Copy)]
-pub(crate) enum Stop {
-    Clear { cells: u64 },
-    /// The piece ends within the cell.
-    Set { cells: u64 },
-}
-
-/// Walks over the cells in a piece that begins with the commit byte of the cell of this number.
-pub(crate) fn walk_piece(
-    walk: &mut Walk,
+/// Goes over the cell of this number at the front of a piece, where its commit byte is set.
+pub(crate) fn walk_front(
+    replay: &mut Replay,
     piece: &[u8],
-    from: u64,
+    number: u64,
     most: u64,
-) -> Result<Stop, OpenFault>
-    requires few { from ≤ most }
+) -> Result<Option<Walked>, OpenFault>
+    requires few { number ≤ most }
     requires some { 1 ≤ length piece.now }
-
-    ensures ok { IfOk result (Walks walk.old.version walk.old.width most from walk.old.state walk.new.state piece.now) }
-    ensures err { IfErr result (Breaks walk.old.version walk.old.width most from walk.old.state piece.now) }
-    ensures version { walk.new.version ≡ walk.old.version }
-    ensures width { walk.new.width ≡ walk.old.width }
+    ensures { WalksFront most number replay.old replay.new piece.now result }
 {
-    let mut tail = piece;
-    let mut cells = from;
-    while tail.len() > CELL && tail[0] == 1 && cells < most {
-        walk_cell(walk, tail, cells)?;
-        tail = behind(tail);
-        cells += 1;
+    if piece[0] != 1 {
+        return Ok(None);
     }
-    stop_at(tail, cells, most)
+    if number == most {
+        return Err(OpenFault::TooLong { most });
+    }
+    if piece.len() <= CELL {
+        return Err(damaged(number, Cause::ShortCell));
+    }
+    let walked = walk_cell(replay, piece, number)?;
+    Ok(Some(walked))
 }
 
-/// Walks over the cell at the front, whose commit byte is set.
-fn walk_cell(walk: &mut Walk, tail: &[u8], number: u64) -> Result<(), OpenFault>
-    requires long { 33 ≤ length tail.now }
-    requires committed { slice_index tail.now 0 ≡ 1 }
+/// Goes over the cell at the front, whose commit byte is set.
+fn walk_cell(replay: &mut Replay, piece: &[u8], number: u64) -> Result<Walked, OpenFault>
+    requires long { 33 ≤ length piece.now }
+    requires committed { slice_index piece.now 0 ≡ 1 }
 
-    ensures ok { OnOk result (PassesOne walk.old.version walk.old.width walk.old.state walk.new.state tail.now) }
-    ensures err { IfErr result (λ e. (most : ℕ) → number < most → FailsAt walk.old.version walk.old.width most number walk.old.state tail.now e) }
-    ensures version { walk.new.version ≡ walk.old.version }
-    ensures width { walk.new.width ≡ walk.old.width }
+    ensures ok { IfOk result (PassesCell number replay.old replay.new piece.now) }
+    ensures err { IfErr result (λ e. (most : ℕ) → number < most
+        → FailsAt replay.old.version replay.old.width most number replay.old.state piece.now e) }
+    ensures kept { OnErr result (replay.new ≡ replay.old) }
 {
-    let cell = match decode(walk.version(), &front(tail)) {
+    let cell = match decode(replay.version(), &front(piece)) {
         Ok(cell) => cell,
         Err(fault) => return Err(damaged(number, cause_of(fault))),
     };
-    match walk.step(&cell) {
-        Ok(()) => Ok(()),
+    match replay.step(&cell) {
+        Ok(before) => Ok(Walked {
+            at: number,
+            cell,
+            before,
+            after: place_after(&cell),
+        }),
         Err(StepFault::Impossible) => Err(damaged(number, Cause::Impossible)),
         Err(StepFault::Memory) => Err(OpenFault::Memory),
     }
 }
 
-fn front(tail: &[u8]) -> [u8; CELL]
-    requires { 33 ≤ length tail.now }
-    ensures { result ≡ take 32 tail.now }
+fn front(piece: &[u8]) -> [u8; CELL]
+    requires { 33 ≤ length piece.now }
+    ensures { result ≡ take 32 piece.now }
 {
     let mut bytes = [0; CELL];
-    bytes.copy_from_slice(&tail[..CELL]);
+    bytes.copy_from_slice(&piece[..CELL]);
     bytes
 }
 
-fn behind(tail: &[u8]) -> &[u8]
-    requires { 33 ≤ length tail.now }
-    ensures { result.now ≡ drop 32 tail.now }
+/// Where the object of a cell is after it.
+fn place_after(cell: &Cell) -> Option<Point>
+    ensures { result ≡ place_after cell.now }
 {
-    &tail[CELL..]
+    match *cell {
+        Cell::Put { at, .. } => Some(at),
+        Cell::Move { at, .. } => Some(at),
+        Cell::Remove { .. } => None,
+        Cell::Begin { .. } => None,
+        Cell::Install { .. } => None,
+        Cell::Abandon { .. } => None,
+    }
 }
 
 /// The cell of this number is at fault.
@@ -94,23 +98,5 @@ fn cause_of(fault: CellFault) -> Cause
         CellFault::Kind => Cause::Kind,
         CellFault::Reserved => Cause::Reserved,
         CellFault::BadName => Cause::BadName,
-    }
-}
-
-/// Tells a clear commit byte from one that is set.
-fn stop_at(tail: &[u8], cells: u64, most: u64) -> Result<Stop, OpenFault>
-    requires few { cells ≤ most }
-    requires some { 1 ≤ length tail.now }
-    requires done { (length tail.now ≤ 32) ⊎ (slice_index tail.now 0 ≢ 1) ⊎ (most ≤ cells) }
-
-    ensures ok { IfOk result (StopsAt most cells tail.now) }
-    ensures err { IfErr result (λ e. (v w : ℕ) (s : State) → FailsAt v w most cells s tail.now e) }
-{
-    if tail[0] != 1 {
-        Ok(Stop::Clear { cells })
-    } else if cells == most {
-        Err(OpenFault::TooLong { most })
-    } else {
-        Ok(Stop::Set { cells })
     }
 }

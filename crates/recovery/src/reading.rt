@@ -1,88 +1,156 @@
-//! Reads the cells of a log, in pieces.
-ghost use Rattle.std.specs.Prelude.{◌≡◌, ◌≤◌, ◌+◌, ◌-◌, ◌*◌, ◌<◌, ℕ, List, Some, take, drop, min, length, IfOk, IfErr};
+//! Reads the cells of a log one by one, in pieces.
+ghost use Rattle.std.specs.Prelude.{◌≡◌, ◌≤◌, ◌+◌, ◌-◌, ◌*◌, ◌<◌, ◌⊎◌, [], ℕ, List, Some, false, take, drop, min, length, slice_index, OnOk, IfOk, IfErr};
+ghost use Rattle.cell_format.specs.declared.cell.Cell.{Cell};
 ghost use Rattle.disk_trait.specs.Drive.{Stays, CountsFaults};
-ghost use Rattle.recovery.specs.Reading.{HasRoom, Reaches, Ends, FailsIn, GoesOn, OnlyReads, ReadsPiece};
+ghost use Rattle.recovery.specs.Faults.{IsFault};
+ghost use Rattle.recovery.specs.Found.{IsWanted};
+ghost use Rattle.recovery.specs.Reading.{Starts, Advances, WalksOn, IsFilled, IsEmptied, NeedsNoPiece, Stops, IsSeenOf, OnlyReads, ReadsPiece};
+ghost use Rattle.recovery.specs.Walks.{IsOfHead};
+ghost use Rattle.recovery.specs.Room.{IsNoLess, HasRoom, HasRoomForMore};
 
-use crate::pieces::{Stop, damaged, walk_piece};
-use crate::seen::OpenFault;
-use crate::walk::Walk;
+use crate::heads::test_header;
+use crate::pieces::{CELL, damaged, walk_front};
+use crate::replay::Replay;
+use crate::room::Room;
+use crate::seen::{OpenFault, Seen};
+use crate::walked::Walked;
 use cell_format::Cause;
 use disk_trait::{DiskFault, LogDisk};
-use std::alloc::Global;
+use std::alloc::{AllocError, Global};
+use std::marker::Model;
 
 /// The bytes read at once: 2,048 cells, and the commit byte behind them.
 const PIECE: usize = 65_537;
 
-/// Walks over all cells of a file of this length that begins with a header, and says how many they are.
-pub(crate) fn walk_cells<D: LogDisk>(
-    alloc: Global,
-    disk: &mut D,
-    walk: &mut Walk,
-    len: u64,
+/// How far a log was read: the state after its cells so far, and what is left of the piece that was read last.
+#[derive(Drop)]
+pub(crate) struct Reading {
+    replay: Replay,
+    buffer: Vec<u8>,
+    /// Where the commit byte of the next cell stands in the buffer.
+    at: usize,
+    /// How much of the buffer was read.
+    filled: usize,
+    number: u64,
     most: u64,
-) -> Result<u64, OpenFault>
-    requires first { Reaches most len 0 (D.drive disk.old) walk.old }
-
-    ensures ok { IfOk result (λ cells. Ends most len cells (D.drive disk.old) walk.new) }
-    ensures err { IfErr result (FailsIn most (D.drive disk.old) walk.old) }
-    ensures reads { OnlyReads (D.drive disk.old) (D.drive disk.new) result }
-    ensures version { walk.new.version ≡ walk.old.version }
-    ensures width { walk.new.width ≡ walk.old.width }
-{
-    let mut buffer = vec![in alloc; 0; PIECE]?;
-    walk_pieces(disk, walk, &mut buffer, len, most)
+    len: u64,
 }
 
-fn walk_pieces<D: LogDisk>(
-    disk: &mut D,
-    walk: &mut Walk,
-    buffer: &mut [u8],
-    len: u64,
-    most: u64,
-) -> Result<u64, OpenFault>
-    requires first { Reaches most len 0 (D.drive disk.old) walk.old }
-    requires long { length buffer.old ≡ 65537 }
+impl Model for Reading {
+    ghost use Rattle.std.specs.Prelude.{take, drop};
+    ghost use Rattle.recovery.specs.Reading.{ReadingView, IsReading};
 
-    ensures ok { IfOk result (λ cells. Ends most len cells (D.drive disk.old) walk.new) }
-    ensures err { IfErr result (FailsIn most (D.drive disk.old) walk.old) }
-    ensures reads { OnlyReads (D.drive disk.old) (D.drive disk.new) result }
-    ensures version { walk.new.version ≡ walk.old.version }
-    ensures width { walk.new.width ≡ walk.old.width }
-{
-    let mut cells = 0;
-    loop {
-        match walk_next(disk, walk, buffer, cells, len, most)? {
-            Stop::Clear { cells: all } => return Ok(all),
-            Stop::Set { cells: next } => cells = next,
+    ghost Value = { ReadingView };
+
+    ghost view = { λ r. record { replay = r.replay; number = r.number; most = r.most; len = r.len; rest = drop r.at (take r.filled r.buffer.items) } };
+
+    ghost invariant = { λ r. IsReading r.at r.filled r.number r.most r.len r.buffer.items };
+}
+
+impl Reading {
+    /// Reads the head of a log, where its version is at least the oldest one that is wanted.
+    pub(crate) fn start<D: LogDisk>(
+        alloc: Global,
+        disk: &mut D,
+        oldest: u8,
+        width: u8,
+        most: u64,
+    ) -> Result<Reading, OpenFault>
+        requires oldest { 1 ≤ oldest }
+        requires width { (width ≡ 1) ⊎ (width ≡ 2) }
+
+        ensures ok { IfOk result (Starts oldest width most (D.drive disk.old)) }
+        ensures err { IfErr result (λ e. (xs : List ℕ) → (D.drive disk.old).bytes ≡ Some xs → IsFault oldest width most xs e) }
+        ensures head { IfErr result IsOfHead }
+        ensures reads { OnlyReads (D.drive disk.old) (D.drive disk.new) result }
+    {
+        let len = disk.len()?;
+        let version = test_header(disk, len, oldest, width)?;
+        let replay = Replay::new(alloc, version, width)?;
+        let buffer = vec![in alloc; 0; PIECE]?;
+        Ok(Reading {
+            replay,
+            buffer,
+            at: 0,
+            filled: 0,
+            number: 0,
+            most,
+            len,
+        })
+    }
+
+    /// Goes over the next cell, if there is one.
+    pub(crate) fn advance<D: LogDisk>(&mut self, disk: &mut D) -> Result<Option<Walked>, OpenFault>
+        ensures advances { Advances (D.drive disk.old) self.old self.new result }
+        ensures reads { OnlyReads (D.drive disk.old) (D.drive disk.new) result }
+    {
+        self.fill(disk)?;
+        self.walk_on()
+    }
+
+    /// Reads the next piece, from the commit byte of the next cell on, where what is left of the last one doesn't tell that cell.
+    fn fill<D: LogDisk>(&mut self, disk: &mut D) -> Result<(), OpenFault>
+        ensures ok { OnOk result (IsFilled (D.drive disk.old) self.old self.new) }
+        ensures err { IfErr result (λ e. IsEmptied self.old self.new × Stops (D.drive disk.old) self.old e) }
+        ensures reads { OnlyReads (D.drive disk.old) (D.drive disk.new) result }
+    {
+        if !self.needs_piece() {
+            return Ok(());
         }
+        self.at = 0;
+        self.filled = 0;
+        let from = 16 + 32 * self.number;
+        let got = read_piece(disk, &mut self.buffer, from, self.len)?;
+        if got == 0 {
+            return Err(damaged(self.number, Cause::ShortCell));
+        }
+        self.filled = got;
+        Ok(())
     }
-}
 
-/// Walks over the cells in the next piece.
-fn walk_next<D: LogDisk>(
-    disk: &mut D,
-    walk: &mut Walk,
-    buffer: &mut [u8],
-    cells: u64,
-    len: u64,
-    most: u64,
-) -> Result<Stop, OpenFault>
-    requires came { Reaches most len cells (D.drive disk.old) walk.old }
-    requires long { length buffer.old ≡ 65537 }
-
-    ensures ok { IfOk result (GoesOn most len cells (D.drive disk.old) walk.new) }
-    ensures err { IfErr result (FailsIn most (D.drive disk.old) walk.old) }
-    ensures reads { OnlyReads (D.drive disk.old) (D.drive disk.new) result }
-    ensures room { HasRoom walk.old walk.new buffer.new }
-{
-    let got = read_piece(disk, buffer, 16 + 32 * cells, len)?;
-    if got == 0 {
-        return Err(damaged(cells, Cause::ShortCell));
+    /// Whether what is left of the piece doesn't tell the next cell.
+    fn needs_piece(&self) -> bool
+        ensures { result ≡ false → NeedsNoPiece self.now }
+    {
+        let rest = &self.buffer[self.at..self.filled];
+        rest.len() <= CELL && (rest.is_empty() || rest[0] == 1 && self.number < self.most)
     }
-    match walk_piece(walk, &buffer[..got], cells, most)? {
-        Stop::Clear { cells: all } => Ok(Stop::Clear { cells: all }),
-        Stop::Set { cells: number } if got == PIECE => Ok(Stop::Set { cells: number }),
-        Stop::Set { cells: number } => Err(damaged(number, Cause::ShortCell)),
+
+    /// Goes over the cell at the front of what is left of the piece.
+    fn walk_on(&mut self) -> Result<Option<Walked>, OpenFault>
+        requires { 1 ≤ length self.old.rest }
+        ensures { WalksOn self.old self.new result }
+    {
+        let piece = &self.buffer[self.at..self.filled];
+        let Some(walked) = walk_front(&mut self.replay, piece, self.number, self.most)? else {
+            return Ok(None);
+        };
+        self.at += CELL;
+        self.number += 1;
+        Ok(Some(walked))
+    }
+
+    /// Takes room for what stands here, and for what the next cell may add.
+    pub(crate) fn make_room(&self, room: &mut Room) -> Result<(), AllocError>
+        ensures more { OnOk result (HasRoomForMore self.now.replay.state room.new) }
+        ensures kept { IsNoLess room.old room.new }
+    {
+        self.replay.make_room(room)
+    }
+
+    /// What was found so far, in memory that was taken before.
+    pub(crate) fn seen_in(&self, room: Room) -> Seen
+        requires { HasRoom self.now.replay.state room }
+        ensures { IsSeenOf self.now result }
+    {
+        self.replay.seen_in(room, self.number)
+    }
+
+    /// How long the file is.
+    pub(crate) fn len(&self) -> u64
+        ensures { result ≡ self.now.len }
+    {
+        self.len
     }
 }
 

@@ -1,5 +1,5 @@
 //! The splits that were begun and haven't ended.
-ghost use Rattle.std.specs.Prelude.{◌≡◌, ◌++◌, [], ◌∷◌, length, OnOk, OnErr};
+ghost use Rattle.std.specs.Prelude.{◌≡◌, ◌≢◌, ◌++◌, [], ◌∷◌, true, false, Some, length, OnOk, OnErr};
 ghost use Rattle.plain_list.specs.State.{split_name, without_number};
 ghost use Rattle.recovery.specs.SplitMap.{AreBelow, IsRisingSplits, without_split};
 
@@ -50,8 +50,39 @@ impl SplitMap {
         self.names.get(&number).copied()
     }
 
-    /// Adds a split with a number above all others.
-    pub(crate) fn push(&mut self, number: u64, name: Name) -> Result<(), AllocError>
+    /// Adds a split with a number above all others, in place of the earlier one of this number and the same name, if it is there.
+    pub(crate) fn begin_again(
+        &mut self,
+        earlier: u64,
+        number: u64,
+        name: Name,
+    ) -> Result<(), AllocError>
+        requires { AreBelow number self.old }
+        ensures ok { OnOk result (self.new ≡ without_split earlier name self.old ++ record { number = number; name = name } ∷ []) }
+        ensures err { OnErr result (self.new ≡ self.old) }
+    {
+        let again = self.is_split(earlier, &name);
+        self.push(number, name)?;
+        if again {
+            self.remove(earlier);
+        }
+        Ok(())
+    }
+
+    /// Whether the split with this number is there and of this name.
+    fn is_split(&self, number: u64, name: &Name) -> bool
+        ensures yes { result ≡ true → split_name self.now number ≡ Some name.now }
+        ensures no { result ≡ false → split_name self.now number ≢ Some name.now }
+        ensures rising { IsRisingSplits self.now }
+    {
+        let _rising = self.names.len();
+        let Some(found) = self.name(number) else {
+            return false;
+        };
+        found == *name
+    }
+
+    fn push(&mut self, number: u64, name: Name) -> Result<(), AllocError>
         requires { AreBelow number self.old }
         ensures ok { OnOk result (self.new ≡ self.old ++ record { number = number; name = name } ∷ []) }
         ensures err { OnErr result (self.new ≡ self.old) }
@@ -65,18 +96,5 @@ impl SplitMap {
         ensures { self.new ≡ without_number number self.old }
     {
         self.names.remove(&number);
-    }
-
-    /// Takes the split with this number out, if it is there and of this name.
-    pub(crate) fn remove_named(&mut self, number: u64, name: &Name)
-        ensures { self.new ≡ without_split number name.now self.old }
-    {
-        let _rising = self.names.len();
-        let Some(found) = self.name(number) else {
-            return;
-        };
-        if found == *name {
-            self.remove(number);
-        }
     }
 }

@@ -1,193 +1,132 @@
-//! Goes over cells one by one, and keeps the state after them.
-ghost use Rattle.std.specs.Prelude.{◌≡◌, ◌⊎◌, ◌≤◌, IfOk};
+//! Walks over the cells of a log.
+ghost use Rattle.std.specs.Prelude.{◌≡◌, ◌⊎◌, ◌≤◌, ℕ, List, [], length, Some, Ok, Err, slice_index, IfOk, IfErr, MatchResult};
+ghost use Rattle.std.specs.Result.{IsErrAnd};
 ghost use Rattle.cell_format.specs.declared.cell.Cell.{Cell};
-ghost use Rattle.plain_list.specs.State.{empty_state};
-ghost use Rattle.recovery.specs.Found.{Shows};
-ghost use Rattle.recovery.specs.Walk.{Steps};
+ghost use Rattle.log_state.specs.Recovers.{Recovers};
+ghost use Rattle.recovery.specs.declared.seen.OpenFault.{OpenFault};
+ghost use Rattle.recovery.specs.Faults.{IsFault, IsInBytes};
+ghost use Rattle.recovery.specs.Found.{Finds, IsWanted, IsFree};
+ghost use Rattle.recovery.specs.Reading.{Starts, OnlyReads};
+ghost use Rattle.recovery.specs.Room.{HasRoom};
+ghost use Rattle.recovery.specs.Walks.{ComesTo, TellsWalked, TellsFault, TellsAll, IsOfHead};
 
-use crate::leaf_map::LeafMap;
-use crate::seen::Seen;
-use crate::split_map::SplitMap;
-use cell_format::Cell;
-use plain_list::{MOST_MEMBERS, MemberMap, Stamped};
-use std::alloc::{AllocError, Global};
+use crate::heads::FIRST;
+use crate::reading::Reading;
+use crate::room::Room;
+use crate::seen::{OpenFault, OpenRefused, Seen};
+use crate::walked::Walked;
+use disk_trait::LogDisk;
+use std::alloc::Global;
 use std::marker::Model;
-use zorder::Name;
 
-/// Why no step was made.
-#[derive(Clone, Copy)]
-pub(crate) enum StepFault {
-    /// The cell isn't possible at this state.
-    Impossible,
-    Memory,
-}
-
-impl From<AllocError> for StepFault {
-    ghost use Rattle.recovery.specs.declared.walk.StepFault.TheVariants.{Memory};
-
-    ghost from_gives = { λ _ e. e ≡ Memory };
-
-    fn from(_: AllocError) -> StepFault {
-        StepFault::Memory
-    }
-}
-
-/// The state after the cells so far.
+/// A walk over the cells of a log, from the first one on.
 #[derive(Drop)]
-pub(crate) struct Walk {
-    version: u8,
-    width: u8,
-    members: MemberMap,
-    leaves: LeafMap,
-    splits: SplitMap,
-    begun: u64,
+pub struct Walk<D: LogDisk> {
+    disk: D,
+    reading: Reading,
+    room: Room,
 }
 
-impl Model for Walk {
-    ghost use Rattle.recovery.specs.LeafMap.{names_of};
-    ghost use Rattle.recovery.specs.Walk.{WalkView, IsWalk};
+impl<D: LogDisk> Model for Walk<D> {
+    ghost use Rattle.recovery.specs.Room.{HasRoom};
+    ghost use Rattle.recovery.specs.Walks.{WalkView};
 
-    ghost Value = { WalkView };
+    ghost Value = { WalkView D };
 
-    ghost view = { λ w. record { version = w.version; width = w.width; state = record { world = w.members; leaves = names_of w.leaves; splits = w.splits; begun = w.begun } } };
+    ghost view = { λ w. record { disk = w.disk; reading = w.reading } };
 
-    ghost invariant = { λ w. IsWalk w.version w.width w.begun w.leaves w.splits };
+    ghost invariant = { λ w. HasRoom w.reading.replay.state w.room };
 }
 
-impl Walk {
-    /// Before the first cell of a log of this version.
-    pub(crate) fn new(alloc: Global, version: u8, width: u8) -> Result<Walk, AllocError>
-        requires version { (version ≡ 1) ⊎ (version ≡ 2) }
+/// The drive back, and what the cells that were walked stand for.
+#[derive(Drop)]
+pub struct WalkEnd<D: Drop> {
+    pub disk: D,
+    pub seen: Seen,
+}
+
+impl<D: LogDisk> Walk<D> {
+    /// Begins before the first cell of a log of version 1 or 2 whose splits make `2 ^ width` children, where there may be at most
+    /// `most` cells.
+    pub fn start(
+        alloc: Global,
+        mut disk: D,
+        width: u8,
+        most: u64,
+    ) -> Result<Walk<D>, OpenRefused<D>>
         requires width { (width ≡ 1) ⊎ (width ≡ 2) }
-        ensures { IfOk result (λ w. w ≡ record { version = version; width = width; state = empty_state }) }
-    {
-        Ok(Walk {
-            version,
-            width,
-            members: MemberMap::new(alloc),
-            leaves: LeafMap::whole(alloc)?,
-            splits: SplitMap::new(alloc),
-            begun: 0,
-        })
-    }
 
-    /// The version of the log.
-    pub(crate) fn version(&self) -> u8
-        ensures value { result ≡ self.now.version }
-        ensures known { (result ≡ 1) ⊎ (result ≡ 2) }
+        ensures begins { IfOk result (λ w. ComesTo width most [] (D.drive w.disk) w) }
+        ensures fault { IfErr result (λ e. (bytes : List ℕ) → (D.drive disk).bytes ≡ Some bytes → IsFault 1 width most bytes e.cause) }
+        ensures head { IfErr result (λ e. IsOfHead e.cause) }
+        ensures exact { (bytes : List ℕ) (fault : OpenFault) → (D.drive disk).bytes ≡ Some bytes → IsInBytes fault → IsOfHead fault
+            → IsFault 1 width most bytes fault → IsErrAnd result (λ e. (e.cause ≡ fault) ⊎ IsFree (D.drive disk) (D.drive e.disk) e.cause) }
+        ensures reads { MatchResult result (λ w. OnlyReads {T = Unit {0}} (D.drive disk) (D.drive w.disk) (Ok tt))
+            (λ e. OnlyReads {T = Unit {0}} (D.drive disk) (D.drive e.disk) (Err e.cause)) }
     {
-        self.version
-    }
-
-    pub(crate) fn step(&mut self, cell: &Cell) -> Result<(), StepFault>
-        ensures steps { Steps self.old.width self.old.state self.new.state cell.now result }
-        ensures version { self.new.version ≡ self.old.version }
-        ensures width { self.new.width ≡ self.old.width }
-    {
-        match *cell {
-            Cell::Put { id, at, moment } => self.put(id, Stamped { at, moment }),
-            Cell::Move { id, at, moment } => self.relocate(id, Stamped { at, moment }),
-            Cell::Remove { id } => self.remove(id),
-            Cell::Begin { number, name } => self.begin(number, name),
-            Cell::Install { number } => self.install(number),
-            Cell::Abandon { number } => self.abandon(number),
+        match begin(alloc, &mut disk, width, most) {
+            Ok((reading, room)) => Ok(Walk {
+                disk,
+                reading,
+                room,
+            }),
+            Err(cause) => Err(OpenRefused { disk, cause }),
         }
     }
 
-    fn put(&mut self, id: u64, to: Stamped) -> Result<(), StepFault>
-        ensures steps { Steps self.old.width self.old.state self.new.state (Cell.Put id to.at to.moment) result }
-        ensures version { self.new.version ≡ self.old.version }
-        ensures width { self.new.width ≡ self.old.width }
+    /// Goes over the next cell, and says what it was; none where there are no more. A fault leaves the walk where it was, so that
+    /// `finish` still tells the cells before it.
+    pub fn next(&mut self) -> Result<Option<Walked>, OpenFault>
+        ensures tells { (w most : ℕ) (cells : List Cell) → ComesTo w most cells (D.drive self.old.disk) self.old
+            → TellsWalked w most cells (D.drive self.old.disk) (D.drive self.new.disk) self.new result }
+        ensures exact { (w most : ℕ) (cells : List Cell) (bytes : List ℕ) (fault : OpenFault)
+            → ComesTo w most cells (D.drive self.old.disk) self.old → (D.drive self.old.disk).bytes ≡ Some bytes → IsInBytes fault
+            → IsFault 1 w most bytes fault → TellsFault fault (D.drive self.old.disk) (D.drive self.new.disk) result }
+        ensures whole { (w most : ℕ) (all cells : List Cell) (bytes : List ℕ)
+            → ComesTo w most cells (D.drive self.old.disk) self.old → (D.drive self.old.disk).bytes ≡ Some bytes → Recovers w all bytes
+            → length all ≤ most → TellsAll all cells (D.drive self.old.disk) (D.drive self.new.disk) result }
+        ensures reads { OnlyReads (D.drive self.old.disk) (D.drive self.new.disk) result }
     {
-        if self.members.len() >= MOST_MEMBERS {
-            return Err(StepFault::Impossible);
-        }
-        match self.members.insert(id, to)? {
-            Some(_) => Err(StepFault::Impossible),
-            None => Ok(()),
-        }
+        self.reading.make_room(&mut self.room)?;
+        self.reading.advance(&mut self.disk)
     }
 
-    fn relocate(&mut self, id: u64, to: Stamped) -> Result<(), StepFault>
-        ensures steps { Steps self.old.width self.old.state self.new.state (Cell.Move id to.at to.moment) result }
-        ensures version { self.new.version ≡ self.old.version }
-        ensures width { self.new.width ≡ self.old.width }
+    /// What the cells walked so far stand for. It takes no memory.
+    pub fn finish(self) -> WalkEnd<D>
+        ensures found { (w most : ℕ) (cells : List Cell) → ComesTo w most cells (D.drive self.disk) self → Finds w cells result.seen }
+        ensures named { (w most : ℕ) (cells : List Cell) (bytes : List ℕ) → ComesTo w most cells (D.drive self.disk) self
+            → (D.drive self.disk).bytes ≡ Some bytes → result.seen.version ≡ slice_index bytes 8 }
+        ensures wanted { IsWanted 1 result.seen.version }
+        ensures disk { result.disk ≡ self.disk }
     {
-        match self.members.replace(id, to) {
-            // Not put back: a walk that is refused goes no further.
-            Some(old) if to.moment < old.moment => Err(StepFault::Impossible),
-            Some(_) => Ok(()),
-            None => Err(StepFault::Impossible),
+        let Walk {
+            disk,
+            reading,
+            room,
+        } = self;
+        WalkEnd {
+            disk,
+            seen: reading.seen_in(room),
         }
     }
+}
 
-    fn remove(&mut self, id: u64) -> Result<(), StepFault>
-        ensures steps { Steps self.old.width self.old.state self.new.state (Cell.Remove id) result }
-        ensures version { self.new.version ≡ self.old.version }
-        ensures width { self.new.width ≡ self.old.width }
-    {
-        match self.members.remove(id) {
-            Some(_) => Ok(()),
-            None => Err(StepFault::Impossible),
-        }
-    }
+/// Reads the head of a log, and takes the room to tell that it has no cells.
+fn begin<D: LogDisk>(
+    alloc: Global,
+    disk: &mut D,
+    width: u8,
+    most: u64,
+) -> Result<(Reading, Room), OpenFault>
+    requires width { (width ≡ 1) ⊎ (width ≡ 2) }
 
-    fn begin(&mut self, number: u64, name: Name) -> Result<(), StepFault>
-        ensures steps { Steps self.old.width self.old.state self.new.state (Cell.Begin number name) result }
-        ensures version { self.new.version ≡ self.old.version }
-        ensures width { self.new.width ≡ self.old.width }
-    {
-        if number == 0 || number - 1 != self.begun || name.len() + self.width > 64 {
-            return Err(StepFault::Impossible);
-        }
-        let Some(earlier) = self.leaves.split_at(&name) else {
-            return Err(StepFault::Impossible);
-        };
-        self.splits.remove_named(earlier, &name);
-        self.splits.push(number, name)?;
-        self.leaves.begin(name, number);
-        self.begun = number;
-        Ok(())
-    }
-
-    fn install(&mut self, number: u64) -> Result<(), StepFault>
-        ensures steps { Steps self.old.width self.old.state self.new.state (Cell.Install number) result }
-        ensures version { self.new.version ≡ self.old.version }
-        ensures width { self.new.width ≡ self.old.width }
-    {
-        let Some(name) = self.splits.name(number) else {
-            return Err(StepFault::Impossible);
-        };
-        self.splits.remove(number);
-        self.leaves.split(&name, self.width)?;
-        Ok(())
-    }
-
-    fn abandon(&mut self, number: u64) -> Result<(), StepFault>
-        ensures steps { Steps self.old.width self.old.state self.new.state (Cell.Abandon number) result }
-        ensures version { self.new.version ≡ self.old.version }
-        ensures width { self.new.width ≡ self.old.width }
-    {
-        if self.splits.name(number).is_none() {
-            return Err(StepFault::Impossible);
-        }
-        self.splits.remove(number);
-        Ok(())
-    }
-
-    /// What was found after so many cells.
-    pub(crate) fn to_seen(&self, alloc: Global, cells: u64) -> Result<Seen, AllocError>
-        ensures shows { IfOk result (Shows self.now.state cells) }
-        ensures version { IfOk result (λ seen. seen.version ≡ self.now.version) }
-        ensures known { (self.now.version ≡ 1) ⊎ (self.now.version ≡ 2) }
-    {
-        Ok(Seen {
-            world: self.members.to_world(alloc)?,
-            leaves: self.leaves.to_leaves(alloc)?,
-            unfinished: self.splits.len() as u64,
-            begun: self.begun,
-            cells,
-            version: self.version,
-        })
-    }
+    ensures starts { IfOk result (λ r. Starts 1 width most (D.drive disk.old) r.0 × HasRoom r.0.replay.state r.1) }
+    ensures fault { IfErr result (λ e. (bytes : List ℕ) → (D.drive disk.old).bytes ≡ Some bytes → IsFault 1 width most bytes e) }
+    ensures head { IfErr result IsOfHead }
+    ensures reads { OnlyReads (D.drive disk.old) (D.drive disk.new) result }
+{
+    let reading = Reading::start(alloc, disk, FIRST, width, most)?;
+    let mut room = Room::new(alloc);
+    reading.make_room(&mut room)?;
+    Ok((reading, room))
 }

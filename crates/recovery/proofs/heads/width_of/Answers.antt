@@ -1,4 +1,4 @@
-use Rattle.std.proofs.Common.{◌≡◌, ◌⊎◌, Err, sym, ◌∙◌, ap, subst}
+use Rattle.std.proofs.Common.{Err, sym, ◌∙◌, ap, subst}
 use Rattle.std.proofs.lemmas.Result.{IfOk-weaker, IfErr-weaker}
 use Rattle.disk_trait.specs.Drive.{Drive}
 use Rattle.recovery.specs.Headers.{HasHeader}

@@ -1,12 +1,10 @@
-use Rattle.std.proofs.Common.{sym, subst}
-use Rattle.recovery.specs.Found.{IsWanted}
-use Rattle.recovery.specs.Reading.{IsFoundIn}
-use Rattle.recovery.proofs.OnlyReading.{found_at_end}
+use Rattle.recovery.proofs.PieceLemmas.{passed_on}
+use Rattle.recovery.proofs.WalkLemmas.{way_fails}
 use Rattle.recovery.proofs.inspecting.read_cells.Goals as goal
 
-pub returns-clause-found : goal.returns-clause-found
-returns-clause-found g c oldest wanted =
-    let seen = c.in_ok-seen.ensures in
-    subst (λ w. IsFoundIn oldest w c.args.most (g.D.LogDisk.drive c.args.disk.now) c.in_ok-seen.seen c.args.len) c.walk_cells.ensures.width
-    (found_at_end oldest c.args.most c.args.len c.in_ok-cells.cells (g.D.LogDisk.drive c.args.disk.now) c.walk_cells.new.walk c.in_ok-seen.seen c.in_ok-cells.ensures.ok seen.shows seen.version seen.known c.requires.whole
-    (subst (IsWanted oldest) (sym c.walk_cells.ensures.version) wanted))
+pub returns-in_err-_cell-clause-err : goal.returns-in_err-_cell-clause-err
+returns-in_err-_cell-clause-err g c =
+    let drive = g.D.LogDisk.drive in
+    passed_on c.from_residual.result _ _ c.from_residual.ensures.1
+    (way_fails (drive c.args.disk.now) (drive c.loop-cell.disk) (drive c.advance.new.disk) c.args.reading.now c.loop-cell.reading c.advance.new.self c.loop-cell.invariant c.advance.ensures.reads.stays c.advance.ensures.reads.file
+    c.in_err-_cell.field-0.0 c.in_err-_cell.ensures.advances)

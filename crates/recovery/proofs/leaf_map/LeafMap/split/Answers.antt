@@ -1,45 +1,26 @@
-use Rattle.std.proofs.Common.{◌≡◌, ◌+◌, ◌≤◌, length, arith}
-use Rattle.recovery.proofs.LeafMaps.{first_half_leaf, second_half_leaf, keeps-three, keeps-quartered, keeps-halved, names_of-halved, names_of-quartered}
+use Rattle.std.proofs.Common.{◌≡◌, ◌+◌, ◌≤◌, length, sym, ap, ◌∙◌, arith}
+use Rattle.plain_list.specs.State.{split_leaf}
+use Rattle.recovery.specs.LeafMap.{names_of}
+use Rattle.recovery.proofs.LeafMaps.{keeps-quartered, keeps-halved, names_of-halved, names_of-quartered}
+use Rattle.std.proofs.lemmas.Result.{on_ok_weaker}
 use Rattle.recovery.proofs.leaf_map.LeafMap.split.Goals as goal
 
-pub halve-requires-then-width-eq2-clause-leaf : goal.halve-requires-then-width-eq2-clause-leaf
-halve-requires-then-width-eq2-clause-leaf c =
+pub returns-then-width-eq2-clause-names : goal.returns-then-width-eq2-clause-names
+returns-then-width-eq2-clause-names c =
     let room : length c.args.name.now + 2 ≤ 64 = omega (arith, c.requires.short, c.if-width-eq2.true) in
-    rw (c.in_ok-halve.ensures.ok, c.child.ensures) (first_half_leaf c.args.self.now c.args.name.now room c.halve.ensures.tile c.requires.leaf)
+    on_ok_weaker c.quarter.result (λ is. ap names_of is ∙ names_of-quartered 0 c.args.self.now c.args.name.now room c.quarter.ensures.tile c.requires.leaf ∙ ap (λ w. split_leaf w c.args.name.now (names_of c.args.self.now)) (sym c.if-width-eq2.true)) c.quarter.ensures.ok
 
-pub halve-requires-then-width-eq2-2-clause-leaf : goal.halve-requires-then-width-eq2-2-clause-leaf
-halve-requires-then-width-eq2-2-clause-leaf c =
+pub returns-then-width-eq2-clause-kept : goal.returns-then-width-eq2-clause-kept
+returns-then-width-eq2-clause-kept c =
     let room : length c.args.name.now + 2 ≤ 64 = omega (arith, c.requires.short, c.if-width-eq2.true) in
-    rw (c.in_ok-halve-2.ensures.ok, c.in_ok-halve.ensures.ok, c.child.ensures, c.child-then-width-eq2.ensures) (second_half_leaf c.args.self.now c.args.name.now room c.halve.ensures.tile c.requires.leaf)
-
-pub returns-in_ok-halve-3-clause-names : goal.returns-in_ok-halve-3-clause-names
-returns-in_ok-halve-3-clause-names c =
-    let room : length c.args.name.now + 2 ≤ 64 = omega (arith, c.requires.short, c.if-width-eq2.true) in
-    rw (c.in_ok-halve-3.ensures.ok, c.in_ok-halve-2.ensures.ok, c.in_ok-halve.ensures.ok, c.child.ensures, c.child-then-width-eq2.ensures, c.if-width-eq2.true)
-    (names_of-quartered 0 c.args.self.now c.args.name.now room c.halve.ensures.tile c.requires.leaf)
-
-pub returns-in_ok-halve-3-clause-kept : goal.returns-in_ok-halve-3-clause-kept
-returns-in_ok-halve-3-clause-kept c =
-    let room : length c.args.name.now + 2 ≤ 64 = omega (arith, c.requires.short, c.if-width-eq2.true) in
-    rw (c.in_ok-halve-3.ensures.ok, c.in_ok-halve-2.ensures.ok, c.in_ok-halve.ensures.ok, c.child.ensures, c.child-then-width-eq2.ensures)
-    (keeps-quartered c.args.self.now c.args.name.now room c.halve.ensures.tile c.requires.leaf)
+    on_ok_weaker c.quarter.result (λ is. rw is (keeps-quartered c.args.self.now c.args.name.now room c.quarter.ensures.tile c.requires.leaf)) c.quarter.ensures.ok
 
 pub returns-else-width-eq2-clause-names : goal.returns-else-width-eq2-clause-names
 returns-else-width-eq2-clause-names c =
     let one : c.args.width ≡ 1 = omega (arith, c.requires.width, c.if-width-eq2.false) in
-    rw (c.in_ok-halve.ensures.ok, one) (names_of-halved c.args.self.now c.args.name.now)
+    on_ok_weaker c.halve.result (λ is. ap names_of is ∙ names_of-halved c.args.self.now c.args.name.now ∙ ap (λ w. split_leaf w c.args.name.now (names_of c.args.self.now)) (sym one)) c.halve.ensures.ok
 
 pub returns-else-width-eq2-clause-kept : goal.returns-else-width-eq2-clause-kept
 returns-else-width-eq2-clause-kept c =
     let one : length c.args.name.now + 1 ≤ 64 = omega (arith, c.requires.short, c.requires.width) in
-    rw c.in_ok-halve.ensures.ok (keeps-halved c.args.self.now c.args.name.now one c.halve.ensures.tile c.requires.leaf)
-
-pub returns-in_err-halve-2-clause-kept : goal.returns-in_err-halve-2-clause-kept
-returns-in_err-halve-2-clause-kept c =
-    let one : length c.args.name.now + 1 ≤ 64 = omega (arith, c.requires.short, c.requires.width) in
-    rw (c.in_err-halve-2.ensures.err, c.in_ok-halve.ensures.ok) (keeps-halved c.args.self.now c.args.name.now one c.halve.ensures.tile c.requires.leaf)
-
-pub returns-in_err-halve-3-clause-kept : goal.returns-in_err-halve-3-clause-kept
-returns-in_err-halve-3-clause-kept c =
-    let room : length c.args.name.now + 2 ≤ 64 = omega (arith, c.requires.short, c.if-width-eq2.true) in
-    rw (c.in_err-halve-3.ensures.err, c.in_ok-halve-2.ensures.ok, c.in_ok-halve.ensures.ok, c.child.ensures) (keeps-three c.args.self.now c.args.name.now room c.halve.ensures.tile c.requires.leaf)
+    on_ok_weaker c.halve.result (λ is. rw is (keeps-halved c.args.self.now c.args.name.now one c.halve.ensures.tile c.requires.leaf)) c.halve.ensures.ok

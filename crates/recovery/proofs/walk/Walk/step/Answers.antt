@@ -1,4 +1,0 @@
-use Rattle.recovery.proofs.walk.Walk.step.Goals as goal
-
-pub returns-in-Begin-clause-steps : goal.returns-in-Begin-clause-steps
-returns-in-Begin-clause-steps c = rw c.in-Begin.is c.begin.ensures.steps

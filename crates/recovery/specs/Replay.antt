@@ -1,0 +1,38 @@
+-- The state of the cells so far, as it is kept.
+use Rattle.std.specs.Prelude.{◌≡◌, ◌⊎◌, ℕ, ◌+◌, ◌≤◌, true, false, List, length, Option, Some, Result, IfOk, OnErr, Err}
+use Rattle.std.specs.List.{AllByRecursion}
+use Rattle.cell_format.specs.declared.cell.Cell.{Cell}
+use Rattle.zorder.specs.declared.points.Point.{Point}
+use Rattle.plain_list.specs.State.{State, OpenSplit, step}
+use Rattle.recovery.specs.declared.leaf_map.MarkedLeaf.{MarkedLeaf}
+use Rattle.recovery.specs.declared.replay.StepFault.{StepFault}
+use Rattle.recovery.specs.declared.replay.StepFault.TheVariants.{Impossible}
+use Rattle.log_state.specs.Recovers.{entry_of, is_possible_cell}
+use Rattle.recovery.specs.SplitMap.{IsRisingSplits}
+use Rattle.recovery.specs.LeafMap.{split_at}
+use Rattle.recovery.specs.Walked.{object_of, place_in}
+
+-- the version of the log and the width of its splits, and the state
+pub record ReplayView : Type 0 where
+  pub version : ℕ
+  pub width : ℕ
+  pub state : State
+
+-- an open split is the one last begun of its leaf, which may be split
+pub record IsOpen (width begun : ℕ) (leaves : List MarkedLeaf) (s : OpenSplit) : Type 0 where
+  pub mark : split_at leaves s.name ≡ Some s.number
+  pub short : length s.name + width ≤ 64
+  pub number : s.number ≤ begun
+
+pub record IsReplay (version width begun : ℕ) (leaves : List MarkedLeaf) (splits : List OpenSplit) : Type 0 where
+  pub version_is : (version ≡ 1) ⊎ (version ≡ 2)
+  pub width_is : (width ≡ 1) ⊎ (width ≡ 2)
+  pub rising : IsRisingSplits splits
+  pub each : AllByRecursion (IsOpen width begun leaves) splits
+
+-- a step by a cell: it is possible, the state is the one after it, and this is where its object was; or nothing has changed, and it isn't, or memory
+-- ran out
+pub record Steps (width : ℕ) (old new : State) (cell : Cell) (result : Result (Option Point) StepFault) : Type 0 where
+  pub done : IfOk result (λ before. (is_possible_cell width old cell ≡ true) × (new ≡ step width old (entry_of cell)) × (before ≡ place_in old.world (object_of cell)))
+  pub refused : result ≡ Err Impossible → is_possible_cell width old cell ≡ false
+  pub kept : OnErr result (new ≡ old)

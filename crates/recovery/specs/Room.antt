@@ -1,0 +1,28 @@
+-- Room for the objects and the leaves of a state.
+use Rattle.std.specs.Prelude.{ℕ, ◌+◌, ◌≤◌, length}
+use Rattle.plain_list.specs.State.{State}
+
+-- how many objects and how many leaves it can take
+pub record RoomView : Type 0 where
+  pub members : ℕ
+  pub leaves : ℕ
+
+-- those of a state
+pub record HasRoom (s : State) (room : RoomView) : Type 0 where
+  pub members : length s.world ≤ room.members
+  pub leaves : length s.leaves ≤ room.leaves
+
+-- and of each state after one cell more
+pub record HasRoomForMore (s : State) (room : RoomView) : Type 0 where
+  pub members : length s.world + 1 ≤ room.members
+  pub leaves : length s.leaves + 3 ≤ room.leaves
+
+-- no less room than before
+pub record IsNoLess (old new : RoomView) : Type 0 where
+  pub members : old.members ≤ new.members
+  pub leaves : old.leaves ≤ new.leaves
+
+-- a state has at most an object and three leaves more than another
+pub record HasRoomAfter (old new : State) : Type 0 where
+  pub members : length new.world ≤ length old.world + 1
+  pub leaves : length new.leaves ≤ length old.leaves + 3
