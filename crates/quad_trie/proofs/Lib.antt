@@ -1,3 +1,5 @@
 pub mod Quarters
+pub mod Steps
+pub mod Across
 pub mod Fours
 pub mod Between

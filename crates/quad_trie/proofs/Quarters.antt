@@ -2,10 +2,10 @@
 use Rattle.std.proofs.Common.{◌≡◌, ◌-◌, ◌==◌, ◌≤◌, ◌∙◌, ℕ, suc, Bool, true, false, List, ◌∷◌, length, refl, sym, ap, arith}
 use Rattle.std.specs.Int.{bit_at}
 use Rattle.zorder.specs.Bits.{low_bits}
-use Rattle.bit_trie.specs.Tries.{Trie, height, name_at, bucket_at, graft}
+use Rattle.bit_trie.specs.Tries.{Trie, height, name_at, bucket_at}
 use Rattle.bit_trie.specs.Ways.{Fits}
 use Rattle.quad_trie.specs.declared.node.Quad.{Quad}
-use Rattle.quad_trie.specs.Nodes.{four, quarter_of, with_quarter}
+use Rattle.quad_trie.specs.Nodes.{four, quarter_of}
 
 -- the next two of so many last bits
 pub two_bits : (left key : ℕ) (high low : Bool) → 2 ≤ left → high ≡ (bit_at key (left - 1) == 1) → low ≡ (bit_at key (left - 1 - 1) == 1) → low_bits left key ≡ high ∷ low ∷ low_bits (left - 2) key
@@ -28,12 +28,6 @@ module _ (q : Quad) (path : List Bool) where
   name-two true false = refl
   name-two false true = refl
   name-two false false = refl
-
-  pub graft-two : (s : Trie) (high low : Bool) → graft (high ∷ low ∷ path) s (four q) ≡ with_quarter q high low (graft path s (quarter_of q high low))
-  graft-two s true true = refl
-  graft-two s true false = refl
-  graft-two s false true = refl
-  graft-two s false false = refl
 
 -- a quarter is two bits lower
 pub height-two : (q : Quad) (high low : Bool) → suc (suc (height (quarter_of q high low))) ≤ height (four q)
@@ -70,8 +64,3 @@ bucket-step {left} {key} {t} {q} {high} {low} s =
 pub name-step : {left key : ℕ} {t : Trie} {q : Quad} {high low : Bool} {u : Trie} → Step left key t q high low u → length (name_at (low_bits left key) t) ≡ suc (suc (length (name_at (low_bits (left - 2) key) u)))
 name-step {left} {key} {t} {q} {high} {low} s =
     (λ i. length (name_at (s.bits i) (s.is i))) ∙ name-two q (low_bits (left - 2) key) high low ∙ ap (λ (v : Trie). suc (suc (length (name_at (low_bits (left - 2) key) v)))) (sym s.quarter)
-
-pub graft-step : {left key : ℕ} {t : Trie} {q : Quad} {high low : Bool} {u : Trie} → Step left key t q high low u → (part : Trie)
-    → with_quarter q high low (graft (low_bits (left - 2) key) part u) ≡ graft (low_bits left key) part t
-graft-step {left} {key} {t} {q} {high} {low} s part =
-    ap (λ (v : Trie). with_quarter q high low (graft (low_bits (left - 2) key) part v)) s.quarter ∙ sym (graft-two q (low_bits (left - 2) key) part high low) ∙ (λ i. graft (sym s.bits i) part (sym s.is i))

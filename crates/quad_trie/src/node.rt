@@ -1,13 +1,16 @@
 //! Nodes: a leaf's bucket, or what is under each pair of next bits.
-ghost use Rattle.std.specs.Prelude.{◌≡◌, ◌≤◌, ◌<◌, ◌+◌, ◌-◌, ◌==◌, Some, length, IfOk};
+ghost use Rattle.std.specs.Prelude.{◌≡◌, ◌≤◌, ◌<◌, ◌+◌, ◌-◌, ◌==◌, Some, length, IfOk, OnOk, OnErr};
 ghost use Rattle.std.specs.Arc.{arc_value};
+ghost use Rattle.std.specs.Borrow.{sem};
 ghost use Rattle.std.specs.Int.{bit_at};
 ghost use Rattle.zorder.specs.Bits.{low_bits};
+ghost use Rattle.bucket_versions.specs.Told.{Told};
 ghost use Rattle.bit_trie.specs.Tries.{name_at, bucket_at, graft};
 ghost use Rattle.bit_trie.specs.Ways.{Fits};
-ghost use Rattle.quad_trie.specs.Nodes.{seen, four, fours, quarter_of, with_quarter};
+ghost use Rattle.quad_trie.specs.Nodes.{seen, four, fours, quarter_of};
+ghost use Rattle.quad_trie.specs.Quarters.{LendsQuarter};
 
-use bucket_versions::Bucket;
+use bucket_versions::{Bucket, Commit, Undone, own};
 use std::alloc::{AllocError, Global};
 use std::sync::Arc;
 
@@ -42,8 +45,8 @@ impl Node {
 }
 
 impl Quad {
-    // The quarter that two bits lead to.
-    fn quarter(&self, high: bool, low: bool) -> &Node
+    /// The quarter that two bits lead to.
+    pub(crate) fn quarter(&self, high: bool, low: bool) -> &Node
         ensures { seen result.now ≡ quarter_of self.now high low }
     {
         match (high, low) {
@@ -53,46 +56,28 @@ impl Quad {
             (true, true) => &self.one_one,
         }
     }
+}
 
-    // These quarters with another node in one of them; the others are shared.
-    fn with(&self, high: bool, low: bool, node: Node) -> Result<Quad, AllocError>
-        ensures { IfOk result (λ q. four q ≡ with_quarter self.now high low (seen node)) }
-    {
+impl Clone for Quad {
+    ghost is_clone = { λ quad copy. four copy ≡ four quad };
+
+    // Equal quarters, for who changes them.
+    fn clone(&self) -> Result<Quad, AllocError> {
         let zero_zero = self.zero_zero.share()?;
         let zero_one = self.zero_one.share()?;
         let one_zero = self.one_zero.share()?;
         let one_one = self.one_one.share()?;
-        Ok(match (high, low) {
-            (false, false) => Quad {
-                zero_zero: node,
-                zero_one,
-                one_zero,
-                one_one,
-            },
-            (false, true) => Quad {
-                zero_zero,
-                zero_one: node,
-                one_zero,
-                one_one,
-            },
-            (true, false) => Quad {
-                zero_zero,
-                zero_one,
-                one_zero: node,
-                one_one,
-            },
-            (true, true) => Quad {
-                zero_zero,
-                zero_one,
-                one_zero,
-                one_one: node,
-            },
+        Ok(Quad {
+            zero_zero,
+            zero_one,
+            one_zero,
+            one_one,
         })
     }
 }
 
 // Whether the first of the last `left` bits of a key is 1.
-fn next_bit(key: u64, left: u8) -> bool
+pub(crate) fn next_bit(key: u64, left: u8) -> bool
     requires some { 0 < left }
     requires most { left ≤ 64 }
     ensures { result ≡ (bit_at key (left - 1) == 1) }
@@ -100,26 +85,54 @@ fn next_bit(key: u64, left: u8) -> bool
     (key >> (left - 1)) % 2 == 1
 }
 
-/// A node with another one in the place of the leaf that the last `left` bits of a key lead to: the path to it is copied, all else is
-/// shared.
-pub(crate) fn grafted(
-    alloc: Global,
-    node: &Node,
+// The quarter that two bits lead to, to write to.
+#[inline(always)]
+pub(crate) fn quarter_mut(quad: &mut Quad, high: bool, low: bool) -> &mut Node
+    ensures* lends { sem 𝓛 (LendsQuarter quad.entry high low result) }
+    ensures quarter { seen result.now ≡ quarter_of quad.old high low }
+{
+    if high {
+        if low {
+            &mut quad.one_one
+        } else {
+            &mut quad.one_zero
+        }
+    } else {
+        if low {
+            &mut quad.zero_one
+        } else {
+            &mut quad.zero_zero
+        }
+    }
+}
+
+/// Puts a node in the place of the leaf that the last `left` bits of a key lead to, once the step has succeeded.
+pub(crate) fn graft<C: Commit>(
+    node: &mut Node,
     key: u64,
     left: u8,
     part: Node,
-) -> Result<Node, AllocError>
-    requires fits { Fits left (seen node.now) }
-    ensures { IfOk result (λ n. seen n ≡ graft (low_bits left key) (seen part) (seen node.now)) }
+    commit: &mut C,
+) -> Result<(), Undone>
+    requires can { C.can commit.old }
+    requires fits { Fits left (seen node.old) }
+    ensures ok { OnOk result (seen node.new ≡ graft (low_bits left key) (seen part) (seen node.old)) }
+    ensures err { OnErr result (seen node.new ≡ seen node.old) }
+    ensures told { Told C.done C.lost commit.old commit.new result }
 {
     match node {
-        Node::Leaf(_) => Ok(part),
+        Node::Leaf(_) => {
+            if !commit.commit() {
+                return Err(Undone::Lost);
+            }
+            *node = part;
+            Ok(())
+        }
         Node::Inner(quad) => {
+            let quad = own(quad)?;
             let high = next_bit(key, left);
             let low = next_bit(key, left - 1);
-            let below = grafted(alloc, quad.quarter(high, low), key, left - 2, part)?;
-            let quad = quad.with(high, low, below)?;
-            Ok(Node::Inner(Arc::new(alloc, quad)?))
+            graft(quarter_mut(quad, high, low), key, left - 2, part, commit)
         }
     }
 }

@@ -1,5 +1,5 @@
 //! The trie: nodes, with leaves that tile the key space.
-ghost use Rattle.std.specs.Prelude.{◌≡◌, ◌<◌, ◌≤◌, ◌^◌, ◌⊎◌, ◌++◌, ◌∷◌, [], List, Bool, Some, IsTrue};
+ghost use Rattle.std.specs.Prelude.{◌≡◌, ◌<◌, ◌≤◌, ◌^◌, ◌⊎◌, ◌++◌, ◌∷◌, [], List, Bool, Some, IsTrue, OnOk, IsOk};
 ghost use Rattle.std.specs.Arc.{arc_value};
 ghost use Rattle.bucket_versions.specs.Rows.{IsRows};
 ghost use Rattle.index_layer.specs.Leaves.{AreLeaves, has_name};
@@ -8,8 +8,9 @@ ghost use Rattle.bit_trie.specs.Tries.{height, leaves_under};
 ghost use Rattle.quad_trie.specs.Nodes.{seen};
 ghost use Rattle.quad_trie.specs.Places.{IsAt};
 
-use crate::node::{Node, fours, grafted, leaf_of};
-use bucket_versions::Bucket;
+use crate::node::{Node, fours, graft, leaf_of};
+use crate::rows::{self, Coming, Going};
+use bucket_versions::{AtOnce, Bucket, Commit, RowChange, Undone};
 use index_layer::{Below, Index, IndexFault};
 use std::alloc::Global;
 use std::sync::Arc;
@@ -104,18 +105,36 @@ impl Index for QuadTrie {
         if !self.has_leaf(name) {
             return Err(IndexFault::NoLeaf { name: *name });
         }
-        in_order(&bucket);
-        let root = grafted(self.alloc, &self.root, name.bits(), 64, Node::Leaf(bucket))?;
-        Ok(QuadTrie {
-            alloc: self.alloc,
-            root,
-        })
+        let mut index = self.share()?;
+        at_once(index.replace(name, bucket, &mut AtOnce))?;
+        Ok(index)
     }
 
     fn split(&self, name: &Name, children: &[Arc<Bucket>]) -> Result<Self, IndexFault> {
         if !self.has_leaf(name) {
             return Err(IndexFault::NoLeaf { name: *name });
         }
+        let mut index = self.share()?;
+        at_once(index.divide(name, children, &mut AtOnce))?;
+        Ok(index)
+    }
+
+    fn replace<C: Commit>(
+        &mut self,
+        name: &Name,
+        bucket: Arc<Bucket>,
+        commit: &mut C,
+    ) -> Result<(), Undone> {
+        in_order(&bucket);
+        graft(&mut self.root, name.bits(), 64, Node::Leaf(bucket), commit)
+    }
+
+    fn divide<C: Commit>(
+        &mut self,
+        name: &Name,
+        children: &[Arc<Bucket>],
+        commit: &mut C,
+    ) -> Result<(), Undone> {
         let first = Arc::try_clone(&children[0])?;
         let second = Arc::try_clone(&children[1])?;
         let third = Arc::try_clone(&children[2])?;
@@ -125,11 +144,43 @@ impl Index for QuadTrie {
         in_order(&third);
         in_order(&fourth);
         let part = fours(self.alloc, first, second, third, fourth)?;
-        let root = grafted(self.alloc, &self.root, name.bits(), 64, part)?;
-        Ok(QuadTrie {
-            alloc: self.alloc,
-            root,
-        })
+        graft(&mut self.root, name.bits(), 64, part, commit)
+    }
+
+    fn put_row<C: Commit>(&mut self, put: RowChange, commit: &mut C) -> Result<u64, Undone> {
+        in_range(put.row.key);
+        let mut to = Coming {
+            change: put,
+            ended: Err(Undone::Memory),
+        };
+        rows::put_row(&mut self.root, &mut to, 64, commit);
+        to.ended
+    }
+
+    fn take_row<C: Commit>(&mut self, gone: RowChange, commit: &mut C) -> Result<(), Undone> {
+        in_range(gone.row.key);
+        let mut from = Going {
+            change: gone,
+            ended: Err(Undone::Memory),
+        };
+        rows::take_row(&mut self.root, &mut from, 64, commit);
+        from.ended
+    }
+
+    fn move_row<C: Commit>(
+        &mut self,
+        from: RowChange,
+        to: RowChange,
+        commit: &mut C,
+    ) -> Result<u64, Undone> {
+        in_range(from.row.key);
+        in_range(to.row.key);
+        let mut to = Coming {
+            change: to,
+            ended: Err(Undone::Memory),
+        };
+        rows::shift_row(&mut self.root, &from, &mut to, 64, commit);
+        to.ended
     }
 }
 
@@ -147,4 +198,18 @@ fn in_order(bucket: &Arc<Bucket>)
     ensures { IsRows (arc_value bucket.now).rows }
 {
     let _rows = bucket.count();
+}
+
+// What a change comes to that waits for nothing: it fails for want of memory alone.
+fn at_once(done: Result<(), Undone>) -> Result<(), Memory>
+    ensures { OnOk result (IsOk done) }
+{
+    done.map_err(|_| Memory)
+}
+
+// Tells that a key has 64 bits.
+fn in_range(key: u64)
+    ensures { key < 2 ^ 64 }
+{
+    let _ = key;
 }

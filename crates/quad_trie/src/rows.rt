@@ -1,0 +1,288 @@
+//! Rows that are put, taken and moved in a trie that is changed in place.
+ghost use Rattle.std.specs.Prelude.{◌≡◌, ◌<◌, ◌≤◌, true, false, length, IfOk, OnOk, OnErr};
+ghost use Rattle.std.specs.Arc.{arc_value};
+ghost use Rattle.bucket_versions.specs.Rows.{has_row, without_row, after_put, after_gone};
+ghost use Rattle.bucket_versions.specs.Told.{Told};
+ghost use Rattle.bit_trie.specs.Ways.{Fits, has_under, put_under, gone_under, count_under, MayMove};
+ghost use Rattle.quad_trie.specs.Nodes.{seen, four, quarter_of};
+ghost use Rattle.quad_trie.specs.Quarters.{go_together, with_node};
+
+use crate::node::{Node, Quad, next_bit, quarter_mut};
+use bucket_versions::{Bucket, Commit, RowChange, Undone, own, pass, put, shift, take};
+use std::mem::replace;
+use std::sync::Arc;
+
+/// A row that is to go, and how that ended.
+///
+/// The ways down to a leaf answer here: they would be no loops if they gave it back.
+#[derive(Drop)]
+pub(crate) struct Going {
+    pub(crate) change: RowChange,
+    pub(crate) ended: Result<(), Undone>,
+}
+
+/// A row that is to come, and how that ended: with how many rows are there then.
+#[derive(Drop)]
+pub(crate) struct Coming {
+    pub(crate) change: RowChange,
+    pub(crate) ended: Result<u64, Undone>,
+}
+
+/// Adds a row to the leaf that the last `left` bits of its key lead to, once the step has succeeded.
+pub(crate) fn put_row<C: Commit>(node: &mut Node, to: &mut Coming, left: u8, commit: &mut C)
+    requires can { C.can commit.old }
+    requires fits { Fits left (seen node.old) }
+    requires absent { has_under left to.old.change.row (seen node.old) ≡ false }
+    ensures ok { OnOk to.new.ended (seen node.new ≡ put_under left to.old.change (seen node.old)) }
+    ensures count { IfOk to.new.ended (λ n. n ≡ count_under left to.old.change.row (seen node.new)) }
+    ensures err { OnErr to.new.ended (seen node.new ≡ seen node.old) }
+    ensures told { Told C.done C.lost commit.old commit.new to.new.ended }
+{
+    match node {
+        Node::Leaf(leaf) => put_there(leaf, to, commit),
+        Node::Inner(quad) => {
+            let Ok(quad) = own(quad) else {
+                to.ended = Err(Undone::Memory);
+                return;
+            };
+            let high = next_bit(to.change.row.key, left);
+            let low = next_bit(to.change.row.key, left - 1);
+            put_row(quarter_mut(quad, high, low), to, left - 2, commit);
+        }
+    }
+}
+
+/// Takes a row out of the leaf that the last `left` bits of its key lead to, once the step has succeeded.
+pub(crate) fn take_row<C: Commit>(node: &mut Node, from: &mut Going, left: u8, commit: &mut C)
+    requires can { C.can commit.old }
+    requires fits { Fits left (seen node.old) }
+    requires present { has_under left from.old.change.row (seen node.old) ≡ true }
+    ensures ok { OnOk from.new.ended (seen node.new ≡ gone_under left from.old.change (seen node.old)) }
+    ensures err { OnErr from.new.ended (seen node.new ≡ seen node.old) }
+    ensures told { Told C.done C.lost commit.old commit.new from.new.ended }
+{
+    match node {
+        Node::Leaf(leaf) => take_there(leaf, from, commit),
+        Node::Inner(quad) => {
+            let Ok(quad) = own(quad) else {
+                from.ended = Err(Undone::Memory);
+                return;
+            };
+            let high = next_bit(from.change.row.key, left);
+            let low = next_bit(from.change.row.key, left - 1);
+            take_row(quarter_mut(quad, high, low), from, left - 2, commit);
+        }
+    }
+}
+
+/// Takes a row out and adds another one, once the step has succeeded.
+pub(crate) fn shift_row<C: Commit>(
+    node: &mut Node,
+    from: &RowChange,
+    to: &mut Coming,
+    left: u8,
+    commit: &mut C,
+)
+    requires can { C.can commit.old }
+    requires fits { Fits left (seen node.old) }
+    requires rows { MayMove left from.now left to.old.change (seen node.old) (gone_under left from.now (seen node.old)) }
+    ensures ok { OnOk to.new.ended (seen node.new ≡ put_under left to.old.change (gone_under left from.now (seen node.old))) }
+    ensures count { IfOk to.new.ended (λ n. n ≡ count_under left to.old.change.row (seen node.new)) }
+    ensures err { OnErr to.new.ended (seen node.new ≡ seen node.old) }
+    ensures told { Told C.done C.lost commit.old commit.new to.new.ended }
+{
+    match node {
+        Node::Leaf(leaf) => shift_there(leaf, from, to, commit),
+        Node::Inner(quad) => {
+            let Ok(quad) = own(quad) else {
+                to.ended = Err(Undone::Memory);
+                return;
+            };
+            if go_together(from.row.key, to.change.row.key, left) {
+                let high = next_bit(from.row.key, left);
+                let low = next_bit(from.row.key, left - 1);
+                shift_row(quarter_mut(quad, high, low), from, to, left - 2, commit);
+            } else {
+                pass_across(quad, from, to, left, commit);
+            }
+        }
+    }
+}
+
+// Whether two keys go on with the same two bits.
+fn go_together(from: u64, to: u64, left: u8) -> bool
+    requires some { 1 < left }
+    requires most { left ≤ 64 }
+    ensures { result ≡ go_together left from to }
+{
+    let high = next_bit(from, left) == next_bit(to, left);
+    let low = next_bit(from, left - 1) == next_bit(to, left - 1);
+    high && low
+}
+
+// Takes a row out of one quarter and adds one to another. The first stands aside meanwhile, and a share of a third one in its
+// place, so that both can be written.
+#[inline(never)]
+fn pass_across<C: Commit>(
+    quad: &mut Quad,
+    from: &RowChange,
+    to: &mut Coming,
+    left: u8,
+    commit: &mut C,
+)
+    requires can { C.can commit.old }
+    requires fits { Fits left (four quad.old) }
+    requires apart { go_together left from.now.row.key to.old.change.row.key ≡ false }
+    requires rows { MayMove left from.now left to.old.change (four quad.old) (gone_under left from.now (four quad.old)) }
+    ensures ok { OnOk to.new.ended (four quad.new ≡ put_under left to.old.change (gone_under left from.now (four quad.old))) }
+    ensures count { IfOk to.new.ended (λ n. n ≡ count_under left to.old.change.row (four quad.new)) }
+    ensures err { OnErr to.new.ended (four quad.new ≡ four quad.old) }
+    ensures told { Told C.done C.lost commit.old commit.new to.new.ended }
+{
+    let high = next_bit(from.row.key, left);
+    let low = next_bit(from.row.key, left - 1);
+    let to_high = next_bit(to.change.row.key, left);
+    let to_low = next_bit(to.change.row.key, left - 1);
+    let (third_high, third_low) = if high == to_high {
+        (!high, low)
+    } else {
+        (high, !low)
+    };
+    let Ok(third) = quad.quarter(third_high, third_low).share() else {
+        to.ended = Err(Undone::Memory);
+        return;
+    };
+    let mut aside = replace_quarter(quad, high, low, third);
+    let other = quarter_mut(quad, to_high, to_low);
+    pass_row(&mut aside, from, left - 2, other, to, left - 2, commit);
+    replace_quarter(quad, high, low, aside);
+}
+
+// Puts a node in the place of a quarter, and hands that out.
+fn replace_quarter(quad: &mut Quad, high: bool, low: bool, node: Node) -> Node
+    ensures old { seen result ≡ quarter_of quad.old high low }
+    ensures new { quad.new ≡ with_node quad.old high low node }
+{
+    replace(quarter_mut(quad, high, low), node)
+}
+
+// Takes a row out of one node and adds one to another.
+fn pass_row<C: Commit>(
+    node: &mut Node,
+    from: &RowChange,
+    left: u8,
+    other: &mut Node,
+    to: &mut Coming,
+    other_left: u8,
+    commit: &mut C,
+)
+    requires can { C.can commit.old }
+    requires fits { Fits left (seen node.old) × Fits other_left (seen other.old) }
+    requires rows { MayMove left from.now other_left to.old.change (seen node.old) (seen other.old) }
+    ensures ok { OnOk to.new.ended ((seen node.new ≡ gone_under left from.now (seen node.old)) × (seen other.new ≡ put_under other_left to.old.change (seen other.old))) }
+    ensures count { IfOk to.new.ended (λ n. n ≡ count_under other_left to.old.change.row (seen other.new)) }
+    ensures err { OnErr to.new.ended ((seen node.new ≡ seen node.old) × (seen other.new ≡ seen other.old)) }
+    ensures told { Told C.done C.lost commit.old commit.new to.new.ended }
+{
+    match node {
+        Node::Leaf(leaf) => pass_on(leaf, from, other, to, other_left, commit),
+        Node::Inner(quad) => {
+            let Ok(quad) = own(quad) else {
+                to.ended = Err(Undone::Memory);
+                return;
+            };
+            let high = next_bit(from.row.key, left);
+            let low = next_bit(from.row.key, left - 1);
+            let quarter = quarter_mut(quad, high, low);
+            pass_row(quarter, from, left - 2, other, to, other_left, commit);
+        }
+    }
+}
+
+// Takes a row out of a leaf and adds one to a node.
+fn pass_on<C: Commit>(
+    leaf: &mut Arc<Bucket>,
+    from: &RowChange,
+    node: &mut Node,
+    to: &mut Coming,
+    left: u8,
+    commit: &mut C,
+)
+    requires can { C.can commit.old }
+    requires fits { Fits left (seen node.old) }
+    requires rows { (has_row from.now.row (arc_value leaf.old).rows ≡ true) × (has_under left to.old.change.row (seen node.old) ≡ false) }
+    ensures ok { OnOk to.new.ended ((arc_value leaf.new ≡ after_gone from.now (arc_value leaf.old)) × (seen node.new ≡ put_under left to.old.change (seen node.old))) }
+    ensures count { IfOk to.new.ended (λ n. n ≡ count_under left to.old.change.row (seen node.new)) }
+    ensures err { OnErr to.new.ended ((arc_value leaf.new ≡ arc_value leaf.old) × (seen node.new ≡ seen node.old)) }
+    ensures told { Told C.done C.lost commit.old commit.new to.new.ended }
+{
+    match node {
+        Node::Leaf(other) => pass_there(leaf, from, other, to, commit),
+        Node::Inner(quad) => {
+            let Ok(quad) = own(quad) else {
+                to.ended = Err(Undone::Memory);
+                return;
+            };
+            let high = next_bit(to.change.row.key, left);
+            let low = next_bit(to.change.row.key, left - 1);
+            let quarter = quarter_mut(quad, high, low);
+            pass_on(leaf, from, quarter, to, left - 2, commit);
+        }
+    }
+}
+
+// The changes of a leaf's bucket. They stay out of the ways down to it, which are loops without them.
+
+#[inline(never)]
+fn put_there<C: Commit>(leaf: &mut Arc<Bucket>, to: &mut Coming, commit: &mut C)
+    requires can { C.can commit.old }
+    requires absent { has_row to.old.change.row (arc_value leaf.old).rows ≡ false }
+    ensures ok { OnOk to.new.ended (arc_value leaf.new ≡ after_put to.old.change (arc_value leaf.old)) }
+    ensures count { IfOk to.new.ended (λ n. n ≡ length (arc_value leaf.new).rows) }
+    ensures err { OnErr to.new.ended (arc_value leaf.new ≡ arc_value leaf.old) }
+    ensures told { Told C.done C.lost commit.old commit.new to.new.ended }
+{
+    to.ended = put(leaf, to.change, commit);
+}
+
+#[inline(never)]
+fn take_there<C: Commit>(leaf: &mut Arc<Bucket>, from: &mut Going, commit: &mut C)
+    requires can { C.can commit.old }
+    requires present { has_row from.old.change.row (arc_value leaf.old).rows ≡ true }
+    ensures ok { OnOk from.new.ended (arc_value leaf.new ≡ after_gone from.old.change (arc_value leaf.old)) }
+    ensures err { OnErr from.new.ended (arc_value leaf.new ≡ arc_value leaf.old) }
+    ensures told { Told C.done C.lost commit.old commit.new from.new.ended }
+{
+    from.ended = take(leaf, from.change, commit);
+}
+
+#[inline(never)]
+fn shift_there<C: Commit>(leaf: &mut Arc<Bucket>, from: &RowChange, to: &mut Coming, commit: &mut C)
+    requires can { C.can commit.old }
+    requires present { has_row from.now.row (arc_value leaf.old).rows ≡ true }
+    requires absent { has_row to.old.change.row (without_row from.now.row (arc_value leaf.old).rows) ≡ false }
+    ensures ok { OnOk to.new.ended (arc_value leaf.new ≡ after_put to.old.change (after_gone from.now (arc_value leaf.old))) }
+    ensures count { IfOk to.new.ended (λ n. n ≡ length (arc_value leaf.new).rows) }
+    ensures err { OnErr to.new.ended (arc_value leaf.new ≡ arc_value leaf.old) }
+    ensures told { Told C.done C.lost commit.old commit.new to.new.ended }
+{
+    to.ended = shift(leaf, *from, to.change, commit);
+}
+
+#[inline(never)]
+fn pass_there<C: Commit>(
+    leaf: &mut Arc<Bucket>,
+    from: &RowChange,
+    other: &mut Arc<Bucket>,
+    to: &mut Coming,
+    commit: &mut C,
+)
+    requires can { C.can commit.old }
+    requires rows { (has_row from.now.row (arc_value leaf.old).rows ≡ true) × (has_row to.old.change.row (arc_value other.old).rows ≡ false) }
+    ensures ok { OnOk to.new.ended ((arc_value leaf.new ≡ after_gone from.now (arc_value leaf.old)) × (arc_value other.new ≡ after_put to.old.change (arc_value other.old))) }
+    ensures count { IfOk to.new.ended (λ n. n ≡ length (arc_value other.new).rows) }
+    ensures err { OnErr to.new.ended ((arc_value leaf.new ≡ arc_value leaf.old) × (arc_value other.new ≡ arc_value other.old)) }
+    ensures told { Told C.done C.lost commit.old commit.new to.new.ended }
+{
+    to.ended = pass(leaf, *from, other, to.change, commit);
+}
