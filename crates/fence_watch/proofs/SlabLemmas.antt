@@ -20,6 +20,9 @@ edges-suc (s ∷ list) (suc i) d lt =
 pub edges-more : (list : List Span) (i : ℕ) (d : Span) → i < length list → edges_of (take (i + 1) list) ≡ edges_of (take i list) ++ own_edges (get_or list i d)
 edges-more list i d lt = ap (λ n. edges_of (take n list)) (add-one i) ∙ edges-suc list i d lt
 
+pub pushed-more : (list : List Span) (i : ℕ) (d : Span) (old new : List ℕ) → i < length list → old ≡ 0 ∷ edges_of (take i list) → new ≡ old ++ own_edges (get_or list i d) → new ≡ 0 ∷ edges_of (take (i + 1) list)
+pushed-more list i d old new lt before pushed = pushed ∙ ap (λ (l : List ℕ). l ++ own_edges (get_or list i d)) before ∙ ap (λ (l : List ℕ). 0 ∷ l) (sym (edges-more list i d lt))
+
 -- an edge that is at most a number, with no edge of this span between them
 pub record IsSlab (s : Span) (edge at : ℕ) : Type 0 where
   pub below : edge ≤ at

@@ -1,5 +1,5 @@
 //! Fences, each with the ids inside it.
-ghost use Rattle.std.specs.Prelude.{◌≤◌, length, vec_len, vec_capacity, ◌≡◌, ◌+◌, [], ◌++◌, ◌∷◌, Some, OnOk, IfOk, map};
+ghost use Rattle.std.specs.Prelude.{◌≤◌, length, vec_len, vec_capacity, ◌≡◌, ◌+◌, [], ◌++◌, ◌∷◌, Some, OnOk, OnErr, IfOk, map};
 ghost use Rattle.std.specs.List.{AllByRecursion};
 ghost use Rattle.fence_watch.specs.declared.fences.Fence.{Fence};
 ghost use Rattle.fence_watch.specs.declared.guards.Guarded.{Guarded};
@@ -38,8 +38,23 @@ pub(crate) fn guard(alloc: Global, fences: &[Fence]) -> Result<Vec<Guarded>, All
     Ok(guards)
 }
 
-/// Takes room for an id in each fence that is entered.
-pub(crate) fn make_room(guards: &mut [Guarded], passage: Passage<'_>) -> Result<(), AllocError>
+/// Crosses as many fences as were counted. All memory is taken before anything is changed.
+pub(crate) fn pass(guards: &mut [Guarded], passage: Passage<'_>, step: Step, crossed: usize, events: &mut Vec<Event>) -> Result<(), AllocError>
+    requires rising { AllRising (guards_of guards.old) }
+    requires count { crossed ≡ length (events_along step.at step.id (fences_of (guards_of guards.old)) (turns_of passage)) }
+    ensures guards { OnOk result (guards_of guards.new ≡ guards_along step.id (guards_of guards.old) (turns_of passage.entry)) }
+    ensures events { OnOk result (events.new.items ≡ events.old.items ++ events_along step.at step.id (fences_of (guards_of guards.old)) (turns_of passage.entry)) }
+    ensures same_guards { OnErr result (guards_of guards.new ≡ guards_of guards.old) }
+    ensures same_events { OnErr result (events.new.items ≡ events.old.items) }
+{
+    events.reserve(crossed)?;
+    make_room(guards, passage)?;
+    cross(guards, passage, step, events);
+    Ok(())
+}
+
+// Takes room for an id in each fence that is entered.
+fn make_room(guards: &mut [Guarded], passage: Passage<'_>) -> Result<(), AllocError>
     ensures same { guards_of guards.new ≡ guards_of guards.old }
     ensures room { OnOk result (HaveRoom guards.new (turns_of passage.entry)) }
 {
@@ -55,8 +70,8 @@ pub(crate) fn make_room(guards: &mut [Guarded], passage: Passage<'_>) -> Result<
     make_room(guards, passage)
 }
 
-/// Crosses the fences: there is room for all that comes.
-pub(crate) fn cross(guards: &mut [Guarded], passage: Passage<'_>, step: Step, events: &mut Vec<Event>)
+// There is room for all that comes.
+fn cross(guards: &mut [Guarded], passage: Passage<'_>, step: Step, events: &mut Vec<Event>)
     requires rising { AllRising (guards_of guards.old) }
     requires room { HaveRoom guards.old (turns_of passage) }
     requires space { vec_len events.old + length (events_along step.at step.id (fences_of (guards_of guards.old)) (turns_of passage)) ≤ vec_capacity events.old }

@@ -7,11 +7,11 @@ ghost use Rattle.fence_watch.specs.Crossings.{crossings};
 ghost use Rattle.fence_watch.specs.Watches.{Steps, IsOver, HoldsBefore, FollowsCells, inside_at, most_events};
 
 use crate::fences::{Event, Fences};
-use crate::guards::{Guarded, Step, cross, guard, make_room};
+use crate::guards::{Guarded, Step, guard, pass};
 use crate::passages::Chart;
 use cell_format::Cell;
 use recovery::Walked;
-use std::alloc::{AllocError, Global};
+use std::alloc::Global;
 use std::marker::Model;
 use zorder::Memory;
 
@@ -21,17 +21,6 @@ pub enum WatchFault {
     /// There would be more than 4,194,304 events.
     TooMany,
     Memory,
-}
-
-impl From<AllocError> for WatchFault {
-    ghost use Rattle.std.specs.Prelude.{◌≡◌};
-    ghost use Rattle.fence_watch.specs.declared.watch.WatchFault.TheVariants as fault;
-
-    ghost from_gives = { λ _ want. want ≡ fault.Memory };
-
-    fn from(_: AllocError) -> WatchFault {
-        WatchFault::Memory
-    }
 }
 
 /// Fences along a log.
@@ -88,7 +77,7 @@ impl Watch {
         None
     }
 
-    /// Goes on along a cell. All memory is taken before anything is changed.
+    /// Goes on along a cell.
     pub fn step(&mut self, walked: &Walked) -> Result<(), WatchFault>
         requires holds { HoldsBefore (object_of walked.now.cell) walked.now.before self.old.guards }
         ensures ok { OnOk result (Steps walked.now self.old self.new) }
@@ -130,9 +119,10 @@ impl Watch {
         if self.events.len() + crossed > MOST_EVENTS {
             return Err(WatchFault::TooMany);
         }
-        self.events.reserve(crossed)?;
-        make_room(&mut self.guards, passage)?;
-        cross(&mut self.guards, passage, Step { at: walked.at, id }, &mut self.events);
+        let step = Step { at: walked.at, id };
+        let Ok(()) = pass(&mut self.guards, passage, step, crossed, &mut self.events) else {
+            return Err(WatchFault::Memory);
+        };
         Ok(())
     }
 }
