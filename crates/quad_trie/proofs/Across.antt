@@ -1,5 +1,5 @@
 -- Two quarters that are changed, of which one stands aside meanwhile.
-use Rattle.std.proofs.Common.{◌≡◌, ◌-◌, ◌==◌, ◌&&◌, ◌∙◌, ℕ, true, false, Bool, List, ◌∷◌, Result, Ok, Err, IfOk, length, refl, sym, ap, subst, if◌then◌else◌}
+use Rattle.std.proofs.Common.{◌≡◌, ◌-◌, ◌==◌, ◌&&◌, ◌∙◌, ℕ, true, false, Bool, List, ◌∷◌, Result, Ok, Err, IfOk, length, refl, sym, ap, if◌then◌else◌}
 use mathlib.Core.Bool.{beq}
 use Rattle.std.specs.Int.{bit_at}
 use Rattle.zorder.specs.Bits.{low_bits}

@@ -1,5 +1,5 @@
 -- A step down a node of four that a trie owns, into the quarter under a key's next two bits.
-use Rattle.std.proofs.Common.{◌≡◌, ◌⊎◌, inl, inr, ◌-◌, ◌==◌, ◌&&◌, ◌≤◌, ◌∙◌, ℕ, true, false, Bool, List, ◌∷◌, Result, Ok, Err, OnOk, OnErr, IfOk, IsOk, length, refl, sym, ap}
+use Rattle.std.proofs.Common.{◌≡◌, ◌⊎◌, inl, inr, ◌-◌, ◌==◌, ◌∙◌, ℕ, true, false, Bool, List, ◌∷◌, Result, Ok, Err, OnOk, OnErr, IfOk, IsOk, length, refl, sym, ap}
 use mathlib.Core.Bool.{beq}
 use Rattle.std.specs.Int.{bit_at}
 use Rattle.std.specs.Cmp.{first_so, second_so}

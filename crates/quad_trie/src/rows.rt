@@ -179,7 +179,8 @@ fn pass_row<C: Commit>(
     requires can { C.can commit.old }
     requires fits { Fits left (seen node.old) × Fits other_left (seen other.old) }
     requires rows { MayMove left from.now other_left to.old.change (seen node.old) (seen other.old) }
-    ensures ok { OnOk to.new.ended ((seen node.new ≡ gone_under left from.now (seen node.old)) × (seen other.new ≡ put_under other_left to.old.change (seen other.old))) }
+    ensures ok { OnOk to.new.ended ((seen node.new ≡ gone_under left from.now (seen node.old))
+        × (seen other.new ≡ put_under other_left to.old.change (seen other.old))) }
     ensures count { IfOk to.new.ended (λ n. n ≡ count_under other_left to.old.change.row (seen other.new)) }
     ensures err { OnErr to.new.ended ((seen node.new ≡ seen node.old) × (seen other.new ≡ seen other.old)) }
     ensures told { Told C.done C.lost commit.old commit.new to.new.ended }
@@ -211,7 +212,8 @@ fn pass_on<C: Commit>(
     requires can { C.can commit.old }
     requires fits { Fits left (seen node.old) }
     requires rows { (has_row from.now.row (arc_value leaf.old).rows ≡ true) × (has_under left to.old.change.row (seen node.old) ≡ false) }
-    ensures ok { OnOk to.new.ended ((arc_value leaf.new ≡ after_gone from.now (arc_value leaf.old)) × (seen node.new ≡ put_under left to.old.change (seen node.old))) }
+    ensures ok { OnOk to.new.ended ((arc_value leaf.new ≡ after_gone from.now (arc_value leaf.old))
+        × (seen node.new ≡ put_under left to.old.change (seen node.old))) }
     ensures count { IfOk to.new.ended (λ n. n ≡ count_under left to.old.change.row (seen node.new)) }
     ensures err { OnErr to.new.ended ((arc_value leaf.new ≡ arc_value leaf.old) × (seen node.new ≡ seen node.old)) }
     ensures told { Told C.done C.lost commit.old commit.new to.new.ended }
@@ -278,8 +280,10 @@ fn pass_there<C: Commit>(
     commit: &mut C,
 )
     requires can { C.can commit.old }
-    requires rows { (has_row from.now.row (arc_value leaf.old).rows ≡ true) × (has_row to.old.change.row (arc_value other.old).rows ≡ false) }
-    ensures ok { OnOk to.new.ended ((arc_value leaf.new ≡ after_gone from.now (arc_value leaf.old)) × (arc_value other.new ≡ after_put to.old.change (arc_value other.old))) }
+    requires rows { (has_row from.now.row (arc_value leaf.old).rows ≡ true)
+        × (has_row to.old.change.row (arc_value other.old).rows ≡ false) }
+    ensures ok { OnOk to.new.ended ((arc_value leaf.new ≡ after_gone from.now (arc_value leaf.old))
+        × (arc_value other.new ≡ after_put to.old.change (arc_value other.old))) }
     ensures count { IfOk to.new.ended (λ n. n ≡ length (arc_value other.new).rows) }
     ensures err { OnErr to.new.ended ((arc_value leaf.new ≡ arc_value leaf.old) × (arc_value other.new ≡ arc_value other.old)) }
     ensures told { Told C.done C.lost commit.old commit.new to.new.ended }
