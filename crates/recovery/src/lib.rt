@@ -4,6 +4,7 @@
 //! `inspect` answer `Ok` where the bytes recover to at most so many cells, and else the first place at fault; at each moment of
 //! `open` a crash leaves what recovers to the same cells. `init` makes a log of no cells. `inspect` reads versions 1 and 2 of the
 //! log, `open` version 2 alone, in which `init` and appends write; both are told the width, which `width_of` reads from the head.
+//! A `Walk` tells the cells of a log one at a call, with the places of their objects, and in the end what `inspect` would.
 //!
 //! Not here: appends (`split_log`), the bytes of a cell (`cell_format`), the history that a book writes (`commit_book`).
 #![tactic(auto)]

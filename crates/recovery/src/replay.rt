@@ -106,8 +106,8 @@ impl Replay {
         if self.members.len() >= MOST_MEMBERS {
             return Err(StepFault::Impossible);
         }
-        if let Some(old) = self.members.insert(id, to)? {
-            let _ = self.members.replace(id, old);
+        if let Some(there) = self.members.insert(id, to)? {
+            let _ = self.members.replace(id, there);
             return Err(StepFault::Impossible);
         }
         Ok(None)
