@@ -1,4 +1,4 @@
-use Rattle.std.proofs.Common.{◌∙◌, ◌+◌, sym, ap, arith, Err, length-append}
+use Rattle.std.proofs.Common.{◌∙◌, ◌+◌, sym, ap, arith, Err}
 use Rattle.csv_rows.specs.Rows.{fault_at}
 use Rattle.csv_rows.proofs.TablesFacts.{table-all, table-more, table-wrong}
 use Rattle.csv_rows.proofs.tables.read_row.Goals as goal

@@ -1,7 +1,6 @@
 use Rattle.std.proofs.Common.{◌∙◌, sym, ap, List, ℕ, [], subst}
 use Rattle.csv_rows.specs.Records.{StandsBehind}
 use Rattle.csv_rows.specs.Rows.{has_mark}
-use Rattle.csv_rows.specs.Tables.{rows_in_table}
 use Rattle.csv_rows.proofs.TablesFacts.{table-marked, table-unmarked}
 use Rattle.csv_rows.proofs.tables.read_table.Goals as goal
 
