@@ -1,18 +1,17 @@
 -- Fences that were read one behind the other.
-use Rattle.std.proofs.Common.{◌≡◌, ◌≢◌, ◌≤◌, ◌<◌, ◌==◌, ◌||◌, ◌+◌, ℕ, Bool, true, false, cond, List, [], ◌∷◌, ◌++◌, length, Option, Some, None, Result, Ok, Err, refl, sym, ◌∙◌, ap, subst, arith, length-append}
+use Rattle.std.proofs.Common.{◌≡◌, ◌≢◌, ◌<◌, ◌==◌, ◌||◌, ◌+◌, ℕ, Bool, true, false, cond, List, [], ◌∷◌, ◌++◌, length, Option, Some, None, Ok, Err, refl, sym, subst, arith, length-append}
 use Rattle.std.proofs.lemmas.Bool.{eqb-false}
 use Rattle.std.specs.List.{AllByRecursion}
 use Rattle.csv.specs.Records.{field_at}
 use Rattle.csv_rows.specs.declared.columns.Rule.{Rule}
 use Rattle.csv_rows.specs.declared.columns.Rule.TheVariants.{Between}
-use Rattle.csv_rows.specs.declared.rows.Wrong.{Wrong}
-use Rattle.csv_rows.specs.declared.rows.Wrong.TheVariants.{Length, Column}
+use Rattle.csv_rows.specs.declared.rows.Wrong.TheVariants.{Column}
 use Rattle.csv_rows.specs.Columns.{keeps, number, coordinate_rule, id_rule}
 use Rattle.csv_rows.specs.Fields.{first_fault, unless}
 use Rattle.csv_rows.proofs.NumbersFacts.{is_between-bounds}
 use Rattle.csv_rows.proofs.TablesFacts.{table-keeps}
 use Rattle.fence_watch.specs.declared.fences.Fence.{Fence}
-use Rattle.fence_watch.specs.Fences.{AreDistinct, AreFences, AreOthers, IsFence}
+use Rattle.fence_watch.specs.Fences.{AreDistinct, AreFences, IsFence}
 use Rattle.fence_watch.specs.FenceRows.{corner_rules, fence_at, fence_of, fence_table, fences_of_text, has_fence}
 
 -- the fields that stand at five places are all of five

@@ -1,12 +1,11 @@
 -- Turns that were read one behind the other.
-use Rattle.std.proofs.Common.{◌≡◌, ◌≤◌, ◌<◌, ◌+◌, ℕ, Bool, true, false, cond, List, [], ◌∷◌, ◌++◌, length, Some, Result, Ok, Err, refl, sym, ap, subst, arith, length-append}
+use Rattle.std.proofs.Common.{◌≡◌, ◌≤◌, ◌<◌, ◌+◌, ℕ, Bool, true, false, cond, List, [], ◌∷◌, ◌++◌, length, Some, Ok, Err, refl, sym, subst, arith, length-append}
 use Rattle.std.specs.List.{fold}
 use Rattle.std.specs.Prelude.{codes}
 use Rattle.csv.specs.Records.{field_at}
 use Rattle.csv_rows.specs.declared.columns.Rule.{Rule}
 use Rattle.csv_rows.specs.declared.columns.Rule.TheVariants.{Empty, Between}
-use Rattle.csv_rows.specs.declared.rows.Wrong.{Wrong}
-use Rattle.csv_rows.specs.declared.rows.Wrong.TheVariants.{Length, Column}
+use Rattle.csv_rows.specs.declared.rows.Wrong.TheVariants.{Column}
 use Rattle.csv_rows.specs.Columns.{keeps, number, id_rule}
 use Rattle.csv_rows.specs.Fields.{is_text}
 use Rattle.csv_rows.proofs.NumbersFacts.{is_between-bounds}
