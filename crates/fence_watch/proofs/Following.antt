@@ -120,7 +120,7 @@ put-behind m world f rising (Some p) e full = same-world m.id world f
 put-behind m world f rising None e true = same-world m.id world f
 put-behind m world f rising None e false =
     let there : position_of (with_member m world) m.id ≡ Some (stamped_of m) =
-        position_of-with_member m world m.id e ∙ ap (λ b. cond b (Some (stamped_of m)) (position_of world m.id)) (eq-eqb m.id m.id refl) in
+    position_of-with_member m world m.id e ∙ ap (λ b. cond b (Some (stamped_of m)) (position_of world m.id)) (eq-eqb m.id m.id refl) in
     inside-put f m world e rising
     ∙ (λ i. inside_behind m.id (at_of (sym e i)) (at_of (sym there i)) f (inside_of world f))
 

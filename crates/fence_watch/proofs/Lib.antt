@@ -4,3 +4,4 @@ pub mod Following
 pub mod RisingIds
 pub mod SlabLemmas
 pub mod Passing
+pub mod Answering

@@ -101,7 +101,7 @@ row-same (s ∷ list) edges at behind d fits sorted cut some all =
       first = λ le. last-before edges at behind s.from d sorted cut (all s.from (Contains-append_left (own_edges s) (edges_of list) s.from (own-from s))) le;
       last = λ lt.
           let le : s.to + 1 ≤ edge = last-before edges at behind (s.to + 1) d sorted cut
-              (all (s.to + 1) (Contains-append_left (own_edges s) (edges_of list) (s.to + 1) (own-behind s (omega (arith, lt, fits))))) (omega (arith, lt)) in
+          (all (s.to + 1) (Contains-append_left (own_edges s) (edges_of list) (s.to + 1) (own-behind s (omega (arith, lt, fits))))) (omega (arith, lt)) in
           omega (arith, le);
     } in
     λ i. slab-same s edge at here i ∷ row-same list edges at behind d fits sorted cut some (λ v there. all v (Contains-append_right (own_edges s) (edges_of list) v there)) i

@@ -1,6 +1,6 @@
 -- What a watch keeps along the cells of a log.
 use Rattle.std.specs.Prelude.{◌≡◌, ◌+◌, ◌<◌, nat_lt, ◌==◌, ℕ, Bool, not, List, [], ◌∷◌, ◌++◌, length, map, if◌then◌else◌, Option, Some, None, ⊤}
-use Rattle.std.specs.List.{filter, AllByRecursion, list_any}
+use Rattle.std.specs.List.{filter, AllByRecursion, Contains, list_any}
 use Rattle.zorder.specs.declared.points.Point.{Point}
 use Rattle.cell_format.specs.declared.cell.Cell.{Cell}
 use Rattle.plain_list.specs.World.{World}
@@ -82,3 +82,10 @@ pub record FollowsCells (cells : List Cell) (fences : List Fence) (v : WatchView
 abbrev pub inside_at : ℕ → List Guard → Option (List ℕ)
 inside_at id [] = None
 inside_at id (g ∷ guards) = if g.fence.id == id then Some g.inside else inside_at id guards
+
+-- these are the ids inside the fence of this number, which is one of these fences
+pub record IsInside (id : ℕ) (world : World) (fences : List Fence) (list : List ℕ) : Type 0 where
+  pub fence : Fence
+  pub there : Contains fences fence
+  pub named : fence.id ≡ id
+  pub ids : list ≡ inside_of world fence

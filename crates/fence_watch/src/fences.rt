@@ -1,10 +1,10 @@
 //! Fences, and the events that they give.
 ghost use Rattle.std.specs.Prelude.{◌≡◌, IfOk};
-ghost use Rattle.fence_watch.specs.Fences.{AreFences, lies_in};
+ghost use Rattle.fence_watch.specs.Fences.{AreFences};
 
 use std::alloc::Global;
 use std::marker::Model;
-use zorder::{Memory, Point, Region};
+use zorder::{Memory, Region};
 
 /// A box with a number.
 #[derive(Clone, Copy, Debug, PartialEq, Eq)]
@@ -13,20 +13,8 @@ pub struct Fence {
     pub region: Region,
 }
 
-impl Fence {
-    /// Whether an object that is at this place, if it is anywhere, is inside.
-    pub fn has(&self, place: Option<Point>) -> bool
-        ensures { result ≡ lies_in self.now place }
-    {
-        match place {
-            Some(at) => self.region.has(at),
-            None => false,
-        }
-    }
-}
-
 /// The most fences that are watched at once.
-pub const MOST_FENCES: usize = 256;
+pub(crate) const MOST_FENCES: usize = 256;
 
 /// At most 256 fences, each id once, in the order in which they were given.
 #[derive(Drop)]

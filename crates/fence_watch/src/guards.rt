@@ -1,5 +1,5 @@
 //! Fences, each with the ids inside it.
-ghost use Rattle.std.specs.Prelude.{◌≤◌, length, vec_len, vec_capacity, ◌≡◌, ◌+◌, [], ◌++◌, ◌∷◌, Some, OnOk, OnErr, IfOk, map};
+ghost use Rattle.std.specs.Prelude.{◌≡◌, ◌≤◌, ◌+◌, [], ◌++◌, ◌∷◌, length, map, vec_len, vec_capacity, OnOk, OnErr, IfOk};
 ghost use Rattle.std.specs.List.{AllByRecursion};
 ghost use Rattle.fence_watch.specs.declared.fences.Fence.{Fence};
 ghost use Rattle.fence_watch.specs.declared.guards.Guarded.{Guarded};
@@ -33,13 +33,22 @@ pub(crate) fn guard(alloc: Global, fences: &[Fence]) -> Result<Vec<Guarded>, All
 {
     let mut guards = Vec::new(alloc);
     for fence in fences {
-        guards.push(Guarded { fence: *fence, inside: Vec::new(alloc) })?;
+        guards.push(Guarded {
+            fence: *fence,
+            inside: Vec::new(alloc),
+        })?;
     }
     Ok(guards)
 }
 
 /// Crosses as many fences as were counted. All memory is taken before anything is changed.
-pub(crate) fn pass(guards: &mut [Guarded], passage: Passage<'_>, step: Step, crossed: usize, events: &mut Vec<Event>) -> Result<(), AllocError>
+pub(crate) fn pass(
+    guards: &mut [Guarded],
+    passage: Passage<'_>,
+    step: Step,
+    crossed: usize,
+    events: &mut Vec<Event>,
+) -> Result<(), AllocError>
     requires rising { AllRising (guards_of guards.old) }
     requires count { crossed ≡ length (events_along step.at step.id (fences_of (guards_of guards.old)) (turns_of passage)) }
     ensures guards { OnOk result (guards_of guards.new ≡ guards_along step.id (guards_of guards.old) (turns_of passage.entry)) }

@@ -39,25 +39,44 @@ impl Chart {
         let mut lines = Vec::new(alloc);
         let mut nowhere = Vec::new(alloc);
         for fence in fences {
-            columns.push(Span { from: fence.region.lo.x, to: fence.region.hi.x })?;
-            lines.push(Span { from: fence.region.lo.y, to: fence.region.hi.y })?;
+            columns.push(Span {
+                from: fence.region.lo.x,
+                to: fence.region.hi.x,
+            })?;
+            lines.push(Span {
+                from: fence.region.lo.y,
+                to: fence.region.hi.y,
+            })?;
             nowhere.push(false)?;
         }
-        Ok(Chart { columns: Slabs::new(alloc, columns)?, lines: Slabs::new(alloc, lines)?, nowhere })
+        Ok(Chart {
+            columns: Slabs::new(alloc, columns)?,
+            lines: Slabs::new(alloc, lines)?,
+            nowhere,
+        })
     }
 
     pub(crate) fn passage(&self, before: Option<Point>, after: Option<Point>) -> Passage<'_>
         ensures { (fences : List Fence) → Charts fences self.now → ShowsPassage before after fences result }
     {
-        Passage { before: self.sides(before), after: self.sides(after) }
+        Passage {
+            before: self.sides(before),
+            after: self.sides(after),
+        }
     }
 
     fn sides(&self, place: Option<Point>) -> Sides<'_>
         ensures { (fences : List Fence) → Charts fences self.now → Shows place fences result }
     {
         match place {
-            Some(at) => Sides { column: self.columns.row(at.x), line: self.lines.row(at.y) },
-            None => Sides { column: self.nowhere.as_slice(), line: self.nowhere.as_slice() },
+            Some(at) => Sides {
+                column: self.columns.row(at.x),
+                line: self.lines.row(at.y),
+            },
+            None => Sides {
+                column: self.nowhere.as_slice(),
+                line: self.nowhere.as_slice(),
+            },
         }
     }
 }
@@ -68,7 +87,13 @@ impl<'a> Sides<'a> {
     {
         let (column, columns) = self.column.split_first()?;
         let (line, lines) = self.line.split_first()?;
-        Some((*column && *line, Sides { column: columns, line: lines }))
+        Some((
+            *column && *line,
+            Sides {
+                column: columns,
+                line: lines,
+            },
+        ))
     }
 }
 

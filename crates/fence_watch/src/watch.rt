@@ -1,10 +1,13 @@
 //! A watch: fences, who is inside, and who crossed.
-ghost use Rattle.std.specs.Prelude.{◌≡◌, ◌≤◌, ◌↔◌, ℕ, List, [], ◌∷◌, ◌++◌, length, Ok, Err, IfOk, OnOk, OnErr, MatchOption, Some, None};
+ghost use Rattle.std.specs.Prelude.{◌≡◌, ◌≤◌, ◌↔◌, ℕ, List, [], ◌∷◌, ◌++◌, length};
+ghost use Rattle.std.specs.Prelude.{Ok, Err, Some, None, IfOk, OnOk, OnErr, MatchOption};
 ghost use Rattle.cell_format.specs.declared.cell.Cell.{Cell};
 ghost use Rattle.recovery.specs.Walks.{object_of, IsNextWalked};
 ghost use Rattle.fence_watch.specs.declared.fences.Fence.{Fence};
+ghost use Rattle.log_state.specs.Recovers.{state_of};
+ghost use Rattle.fence_watch.specs.Fences.{AreOthers};
 ghost use Rattle.fence_watch.specs.Crossings.{crossings};
-ghost use Rattle.fence_watch.specs.Watches.{Steps, IsOver, HoldsBefore, FollowsCells, inside_at, most_events};
+ghost use Rattle.fence_watch.specs.Watches.{Steps, IsOver, HoldsBefore, FollowsCells, IsInside, inside_at, most_events};
 
 use crate::fences::{Event, Fences};
 use crate::guards::{Guarded, Step, guard, pass};
@@ -60,14 +63,17 @@ impl Watch {
     pub fn events(&self) -> &[Event]
         ensures events { result.now ≡ self.now.events }
         ensures few { length self.now.events ≤ most_events }
-        ensures follows { (cells : List Cell) (fences : List Fence) → FollowsCells cells fences self.now → result.now ≡ crossings cells fences }
+        ensures follows { (cells : List Cell) (fences : List Fence) → FollowsCells cells fences self.now
+            → result.now ≡ crossings cells fences }
     {
         self.events.as_slice()
     }
 
     /// Who is inside the fence of this number, their ids rising.
     pub fn inside(&self, fence: u64) -> Option<&[u64]>
-        ensures { MatchOption result (inside_at fence self.now.guards ≡ None) (λ ids. inside_at fence self.now.guards ≡ Some ids.now) }
+        ensures answer { MatchOption result (inside_at fence self.now.guards ≡ None) (λ ids. inside_at fence self.now.guards ≡ Some ids.now) }
+        ensures follows { (w : ℕ) (cells : List Cell) (fences : List Fence) → FollowsCells cells fences self.now
+            → MatchOption result (AreOthers fence fences) (λ ids. IsInside fence (state_of w cells).world fences ids.now) }
     {
         for guard in &self.guards {
             if guard.fence.id == fence {
@@ -81,8 +87,8 @@ impl Watch {
     pub fn step(&mut self, walked: &Walked) -> Result<(), WatchFault>
         requires holds { HoldsBefore (object_of walked.now.cell) walked.now.before self.old.guards }
         ensures ok { OnOk result (Steps walked.now self.old self.new) }
-        ensures follows { OnOk result ((w : ℕ) (cells : List Cell) (fences : List Fence) → FollowsCells cells fences self.old → IsNextWalked w cells walked.now
-            → FollowsCells (cells ++ walked.now.cell ∷ []) fences self.new) }
+        ensures follows { OnOk result ((w : ℕ) (cells : List Cell) (fences : List Fence) → FollowsCells cells fences self.old
+            → IsNextWalked w cells walked.now → FollowsCells (cells ++ walked.now.cell ∷ []) fences self.new) }
         ensures err { OnErr result (self.new ≡ self.old) }
         ensures too_many { (result ≡ Err WatchFault.TooMany) ↔ IsOver walked.now self.old }
     {

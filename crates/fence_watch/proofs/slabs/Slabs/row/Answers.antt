@@ -15,7 +15,7 @@ overflow_sub-behind c =
     let parted = IsPartitionedBy-leb (λ (x : ℕ). x) ys c.args.at (subst IsNonDecreasing (sym same) c.self.invariant.sorted) in
     let point = IsPartitionPoint-from_clause (λ (x : ℕ). leb x c.args.at) ys i c.partition_point-behind.ensures.partitioned parted (λ a r q k. search rules) in
     let f : Finds c.self.inside.spans.items c.self.inside.rows.items c.args.at i =
-        finds c.self.inside.spans.items edges c.self.inside.rows.items c.args.at i c.self.invariant c.ranges.at.fits (cut-found ys edges c.args.at i same c.partition_point-behind.ensures.bound point) in
+    finds c.self.inside.spans.items edges c.self.inside.rows.items c.args.at i c.self.invariant c.ranges.at.fits (cut-found ys edges c.args.at i same c.partition_point-behind.ensures.bound point) in
     omega (arith, f.some)
 
 pub index-requires : goal.index-requires
@@ -27,7 +27,7 @@ index-requires c =
     let parted = IsPartitionedBy-leb (λ (x : ℕ). x) ys c.args.at (subst IsNonDecreasing (sym same) c.self.invariant.sorted) in
     let point = IsPartitionPoint-from_clause (λ (x : ℕ). leb x c.args.at) ys i c.partition_point-behind.ensures.partitioned parted (λ a r q k. search rules) in
     let f : Finds c.self.inside.spans.items c.self.inside.rows.items c.args.at i =
-        finds c.self.inside.spans.items edges c.self.inside.rows.items c.args.at i c.self.invariant c.ranges.at.fits (cut-found ys edges c.args.at i same c.partition_point-behind.ensures.bound point) in
+    finds c.self.inside.spans.items edges c.self.inside.rows.items c.args.at i c.self.invariant c.ranges.at.fits (cut-found ys edges c.args.at i same c.partition_point-behind.ensures.bound point) in
     omega (arith, f.some, f.within, c.self.inside.rows.ok.0)
 
 pub returns : goal.returns
@@ -39,7 +39,7 @@ returns c =
     let parted = IsPartitionedBy-leb (λ (x : ℕ). x) ys c.args.at (subst IsNonDecreasing (sym same) c.self.invariant.sorted) in
     let point = IsPartitionPoint-from_clause (λ (x : ℕ). leb x c.args.at) ys i c.partition_point-behind.ensures.partitioned parted (λ a r q k. search rules) in
     let f : Finds c.self.inside.spans.items c.self.inside.rows.items c.args.at i =
-        finds c.self.inside.spans.items edges c.self.inside.rows.items c.args.at i c.self.invariant c.ranges.at.fits (cut-found ys edges c.args.at i same c.partition_point-behind.ensures.bound point) in
+    finds c.self.inside.spans.items edges c.self.inside.rows.items c.args.at i c.self.invariant c.ranges.at.fits (cut-found ys edges c.args.at i same c.partition_point-behind.ensures.bound point) in
     c.as_slice.ensures.value
     ∙ ap (λ (row : Vec Bool Global). row.items) c.index.ensures
     ∙ f.is c.index.result.now

@@ -69,9 +69,9 @@ invariant_of-self-2 c =
     let k : Counted w c.args.id guards p = counted w c.args.id guards p c.requires.is (c.passage-passage.ensures (fences_of guards) c.self.invariant.charts) in
     let kept = refilled c.self.inside.guards.len c.pass.new.guards c.self.inside.guards.items (c.pass.auto.guards ∙ c.deref_mut.ensures.len) in
     let passed : Passed w guards c.self.inside.events.items c.pass.new.guards c.pass.new.events.items =
-        passed_by w c.args.id c.self.inside.guards.items c.deref_mut.result.now c.self.inside.events.items c.pass.new.guards c.pass.new.events.items p c.deref_mut.ensures.value k c.in-Ok.ensures.guards c.in-Ok.ensures.events in
+    passed_by w c.args.id c.self.inside.guards.items c.deref_mut.result.now c.self.inside.events.items c.pass.new.guards c.pass.new.events.items p c.deref_mut.ensures.value k c.in-Ok.ensures.guards c.in-Ok.ensures.events in
     let fits : length c.pass.new.events.items ≤ most_events =
-        omega (arith, ap length passed.events, length-append {A = Event}, k.count, c.crossed-crossed.ensures.count, c.len.ensures, c.if-len-crossed-gt-MOST_EVENTS.false, c.self.inside.events.ok.0) in
+    omega (arith, ap length passed.events, length-append {A = Event}, k.count, c.crossed-crossed.ensures.count, c.len.ensures, c.if-len-crossed-gt-MOST_EVENTS.false, c.self.inside.events.ok.0) in
     subst (λ (l : List Guarded). Keeps l c.self.inside.chart c.pass.new.events.items) (sym kept)
     (keeps-behind w guards c.self.inside.chart c.self.inside.events.items c.pass.new.guards c.pass.new.events.items passed c.self.invariant.charts c.self.invariant.rising c.self.invariant.few
     (subst (λ (x : WatchView). HoldsBefore (object_of w.cell) w.before x.guards) (sym c.self.view_is) c.requires.holds) fits)
@@ -84,7 +84,7 @@ returns-clause-ok c =
     let k : Counted w c.args.id guards p = counted w c.args.id guards p c.requires.is (c.passage-passage.ensures (fences_of guards) c.self.invariant.charts) in
     let kept = refilled c.self.inside.guards.len c.pass.new.guards c.self.inside.guards.items (c.pass.auto.guards ∙ c.deref_mut.ensures.len) in
     let passed : Passed w guards c.self.inside.events.items c.pass.new.guards c.pass.new.events.items =
-        passed_by w c.args.id c.self.inside.guards.items c.deref_mut.result.now c.self.inside.events.items c.pass.new.guards c.pass.new.events.items p c.deref_mut.ensures.value k c.in-Ok.ensures.guards c.in-Ok.ensures.events in
+    passed_by w c.args.id c.self.inside.guards.items c.deref_mut.result.now c.self.inside.events.items c.pass.new.guards c.pass.new.events.items p c.deref_mut.ensures.value k c.in-Ok.ensures.guards c.in-Ok.ensures.events in
     subst (λ (x : WatchView). Steps w x (record { guards = guards_of (take c.self.inside.guards.len (c.pass.new.guards ++ drop (length c.pass.new.guards) c.self.inside.guards.items)); events = c.pass.new.events.items })) c.self.view_is
     (record { events = passed.events; guards = ap guards_of kept ∙ passed.guards })
 

@@ -12,7 +12,7 @@ unguarded (f ∷ fences) = ap (λ (l : List Fence). f ∷ l) (unguarded fences)
 pub invariant_of-result : goal.invariant_of-result
 invariant_of-result c =
     let same : fences_of (guards_of c.in_ok-guard.field-0.items) ≡ c.as_slice-2.result.now =
-        ap fences_of c.in_ok-guard.ensures.guards ∙ unguarded c.as_slice.result.now ∙ c.as_slice.ensures.fences ∙ sym c.as_slice-2.ensures.fences in
+    ap fences_of c.in_ok-guard.ensures.guards ∙ unguarded c.as_slice.result.now ∙ c.as_slice.ensures.fences ∙ sym c.as_slice-2.ensures.fences in
     record {
       charts = subst (λ (l : List Fence). Charts l c.in_ok-new.field-0) (sym same) c.in_ok-new.ensures;
       rising = c.in_ok-guard.ensures.rising;
