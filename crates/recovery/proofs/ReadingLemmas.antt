@@ -94,12 +94,12 @@ starts oldest version w most len drive replay first wanted long whole has =
       width = refl;
       most_is = refl;
       long = long;
-      read = record { legal = refl; state = refl; count = refl; begins = λ xs told. (whole xs told, (has xs told).rest, begins_first version w xs (has xs told)) };
+      read = record { legal = refl; state = refl; count = refl; room = omega (arith, long); begins = λ xs told. (whole xs told, (has xs told).rest, begins_first version w xs (has xs told)) };
     })
 
 -- what was read is said of the drive after calls that only read
 pub has_read-stays : (cells : List Cell) (b c : Drive) (r : ReadingView) → c.bytes ≡ b.bytes → HasRead cells b r → HasRead cells c r
-has_read-stays cells b c r kept read = record { legal = read.legal; state = read.state; count = read.count; begins = λ xs told. read.begins xs (sym kept ∙ told) }
+has_read-stays cells b c r kept read = record { legal = read.legal; state = read.state; count = read.count; room = read.room; begins = λ xs told. read.begins xs (sym kept ∙ told) }
 
 module _ (cells : List Cell) (drive : Drive) (old : ReadingView) (read : HasRead cells drive old) where
   -- what is left of the piece is given up, or another one takes its place
@@ -108,6 +108,7 @@ module _ (cells : List Cell) (drive : Drive) (old : ReadingView) (read : HasRead
     legal = read.legal;
     state = read.state;
     count = read.count;
+    room = read.room;
     begins = λ xs told. let at = read.begins xs told in (at.0, old.rest ++ at.1, at.2);
   }
 
@@ -123,6 +124,7 @@ module _ (cells : List Cell) (drive : Drive) (old : ReadingView) (read : HasRead
     legal = read.legal;
     state = read.state;
     count = read.count;
+    room = read.room;
     begins = λ xs told.
         let at = read.begins xs told in
         let all = drop (16 + 32 * old.number) xs in
@@ -149,6 +151,7 @@ module _ (cells : List Cell) (drive : Drive) (old : ReadingView) (read : HasRead
       legal = subst (λ n. IsLegalCells n (cells ++ walked.cell ∷ [])) (sym on.same.width) legal_next;
       state = subst (λ n. new.replay.state ≡ state_of n (cells ++ walked.cell ∷ [])) (sym on.same.width) state_new;
       count = omega (arith, length-append cells (walked.cell ∷ []), read.count, on.number);
+      room = omega (arith, length-append cells (walked.cell ∷ []), read.count, on.number, on.room);
       begins = λ xs told.
           let at = read.begins xs told in
           let next = begins_next old.replay.version old.replay.width cells walked.cell old.rest at.1 xs at.2 on.passes.fits on.passes.spelled possible in (

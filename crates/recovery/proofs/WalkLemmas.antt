@@ -92,6 +92,7 @@ module _ {D : Type 0} (w most : ℕ) (cells : List Cell) (old new : Drive) (walk
     wanted = subst (IsWanted 1) (sym same.version) come.wanted;
     width = same.width ∙ come.width;
     most_is = same.most ∙ come.most_is;
+    room = read.room;
     read = has_read-stays all old new next.reading kept read;
   }
 

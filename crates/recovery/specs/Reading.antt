@@ -34,11 +34,13 @@ pub record IsReading (at filled number most len : ℕ) (buffer : List ℕ) : Typ
   pub room : 17 + 32 * number ≤ len
   pub fits : 16 + 32 * number + filled ≤ len + at
 
--- these cells were read: they are legal, and where the bytes are known, they stand at their front, and what is left of the piece behind them
+-- these cells were read: they are legal, the file has room for a commit byte behind them, and where the bytes are known, the cells stand at their front,
+-- and what is left of the piece behind them
 pub record HasRead (cells : List Cell) (drive : Drive) (r : ReadingView) : Type 0 where
   pub legal : IsLegalCells r.replay.width cells
   pub state : r.replay.state ≡ state_of r.replay.width cells
   pub count : length cells ≡ r.number
+  pub room : 17 + 32 * length cells ≤ r.len
   pub begins : (xs : List ℕ) → drive.bytes ≡ Some xs
       → (length xs ≡ r.len) × (more : List ℕ) × BeginsWith r.replay.version r.replay.width cells (r.rest ++ more) xs
 
@@ -105,6 +107,7 @@ pub record PassesOn (old new : ReadingView) (walked : Walked) : Type 0 where
   pub passes : PassesCell old.number old.replay new.replay old.rest walked
   pub same : SameLog old new
   pub number : new.number ≡ old.number + 1
+  pub room : 17 + 32 * new.number ≤ new.len
   pub rest : new.rest ≡ drop 32 old.rest
 
 -- so it was, or the commit byte there is clear, or there is a fault: then nothing has changed

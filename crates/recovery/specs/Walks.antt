@@ -1,5 +1,5 @@
 -- A walk over the cells of a log, and what it has come to.
-use Rattle.std.specs.Prelude.{◌≡◌, ◌⊎◌, ℕ, ◌≤◌, List, [], ◌∷◌, ◌++◌, length, Option, Some, None, Result, Ok, Err, ⊤}
+use Rattle.std.specs.Prelude.{◌≡◌, ◌⊎◌, ℕ, ◌+◌, ◌*◌, ◌≤◌, List, [], ◌∷◌, ◌++◌, length, Option, Some, None, Result, Ok, Err, ⊤}
 use Rattle.cell_format.specs.declared.cell.Cell.{Cell}
 use Rattle.disk_trait.specs.Drive.{Drive}
 use Rattle.log_state.specs.Recovers.{IsLegalCells, Recovers}
@@ -16,14 +16,15 @@ pub record WalkView (D : Type 0) : Type 0 where
   pub disk : D
   pub reading : ReadingView
 
--- These cells of a log of this width were walked, at most so many: they are legal, and where the bytes of its drive are known, they begin with a header
--- of version 1 or 2, that width and these cells.
+-- These cells of a log of this width were walked, at most so many: they are legal, the file has room for a commit byte behind them, and where the bytes
+-- of its drive are known, they begin with a header of version 1 or 2, that width and these cells.
 pub record ComesTo {D : Type 0} (w most : ℕ) (cells : List Cell) (drive : Drive) (walk : WalkView D) : Type 0 where
   pub legal : IsLegalCells w cells
   pub few : length cells ≤ most
   pub wanted : IsWanted 1 walk.reading.replay.version
   pub width : walk.reading.replay.width ≡ w
   pub most_is : walk.reading.most ≡ most
+  pub room : 17 + 32 * length cells ≤ walk.reading.len
   pub read : HasRead cells drive walk.reading
 
 -- What a call tells behind these cells: the next one; or that they are all, and the bytes recover to them; or what is at fault there, in the bytes or

@@ -1,4 +1,4 @@
-use Rattle.std.proofs.Common.{List, ℕ, drop, take, refl, ap, subst, sym}
+use Rattle.std.proofs.Common.{◌-◌, arith, length-take, List, ℕ, drop, take, refl, ap, subst, sym}
 use Rattle.std.proofs.lemmas.List.{drop-drop}
 use Rattle.recovery.specs.Pieces.{FailsAt, PassesCell}
 use Rattle.recovery.specs.Reading.{ReadingView}
@@ -27,5 +27,6 @@ returns c =
       passes = subst (λ (l : List ℕ). PassesCell w.number w.replay c.walk_front.new.replay l c.in-Some.walked) rest on.1;
       same = record { version = on.1.version; width = on.1.width; most = refl; len = refl };
       number = refl;
+      room = omega (arith, on.1.long, length-take (w.filled - w.at) (drop w.at c.deref.result.now), c.self.invariant.fits, c.self.invariant.from);
       rest = sym (drop-drop 32 w.at (take w.filled w.buffer.items));
     })
