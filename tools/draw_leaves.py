@@ -7,8 +7,8 @@ A log is read as docs/FORMATS.md says, of either version and either width. The p
 The picture of docs/ARCHITECTURE.md is of two logs of the same 1,500 points of one city:
 
     tools/draw_leaves.py --rows 1500 > city.csv     # rows for `play`: put 1 to 1500
-    ./mdloc init two && ./mdloc play two < city.csv
-    ./mdloc init four --quad && ./mdloc play four < city.csv
+    ./mdloc init two && ./mdloc play two --bucket 32 < city.csv
+    ./mdloc init four --quad && ./mdloc play four --bucket 32 < city.csv
     tools/draw_leaves.py two four > docs/leaves.svg
 """
 import collections
@@ -66,7 +66,7 @@ class Window:
 
 
 def places(state):
-    return [(x, y) for x, y, _ in state.points.values()]
+    return [(x, y) for _, (x, y, _) in sorted(state.points.items())]
 
 
 def number(value):
