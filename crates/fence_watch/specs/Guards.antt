@@ -3,8 +3,12 @@ use Rattle.std.specs.Prelude.{ℕ, ◌+◌, ◌≤◌, ◌<◌, ◌≡◌, List,
 use Rattle.std.specs.List.{AllByRecursion}
 use Rattle.fence_watch.specs.declared.fences.Crossing.{Crossing}
 use Rattle.fence_watch.specs.declared.fences.Crossing.TheVariants.{Enter, Leave}
+use Rattle.fence_watch.specs.declared.fences.Event.{Event}
 use Rattle.fence_watch.specs.declared.guards.Guarded.{Guarded}
-use Rattle.fence_watch.specs.Watches.{Guard, with_id, without_id}
+use Rattle.fence_watch.specs.declared.guards.Step.{Step}
+use Rattle.fence_watch.specs.declared.passages.Passage.{Passage}
+use Rattle.fence_watch.specs.Passages.{turns_of, events_along}
+use Rattle.fence_watch.specs.Watches.{Guard, fences_of, with_id, without_id}
 
 -- each id is above those before it
 abbrev pub AreRising : List ℕ → Type 0
@@ -42,3 +46,10 @@ abbrev pub HaveRoom : List Guarded → List (Option Crossing) → Type 0
 HaveRoom [] ts = ⊤
 HaveRoom (g ∷ guards) [] = ⊤
 HaveRoom (g ∷ guards) (t ∷ ts) = HasRoom g t × HaveRoom guards ts
+
+-- what a step along a passage makes of guards, and what it tells
+abbrev pub crossed_by : Step → List Guarded → Passage → List Guard
+crossed_by step guards passage = guards_along step.id (guards_of guards) (turns_of passage)
+
+abbrev pub told_by : Step → List Guarded → Passage → List Event
+told_by step guards passage = events_along step.at step.id (fences_of (guards_of guards)) (turns_of passage)

@@ -1,11 +1,8 @@
 //! Fences, each with the ids inside it.
-ghost use Rattle.std.specs.Prelude.{◌≡◌, ◌≤◌, ◌+◌, [], ◌++◌, ◌∷◌, length, map, vec_len, vec_capacity, OnOk, OnErr, IfOk};
-ghost use Rattle.std.specs.List.{AllByRecursion};
-ghost use Rattle.fence_watch.specs.declared.fences.Fence.{Fence};
-ghost use Rattle.fence_watch.specs.declared.guards.Guarded.{Guarded};
-ghost use Rattle.fence_watch.specs.Watches.{Guard, fences_of};
-ghost use Rattle.fence_watch.specs.Passages.{turns_of, event_by, events_along};
-ghost use Rattle.fence_watch.specs.Guards.{AreRising, AllRising, guard_of, guards_of, behind_by, guards_along, HaveRoom, HasRoom};
+ghost use Rattle.std.specs.Prelude.{◌≡◌, ◌≤◌, ◌+◌, [], ◌++◌, length, map, Some};
+ghost use Rattle.std.specs.Prelude.{vec_len, vec_capacity, OnOk, OnErr, IfOk};
+ghost use Rattle.fence_watch.specs.Passages.{turns_of, event_by};
+ghost use Rattle.fence_watch.specs.Guards.{AreRising, AllRising, guard_of, guards_of, behind_by, crossed_by, told_by, HaveRoom, HasRoom};
 
 use crate::fences::{Crossing, Event, Fence};
 use crate::ids::{put_id, take_id};
@@ -50,9 +47,9 @@ pub(crate) fn pass(
     events: &mut Vec<Event>,
 ) -> Result<(), AllocError>
     requires rising { AllRising (guards_of guards.old) }
-    requires count { crossed ≡ length (events_along step.at step.id (fences_of (guards_of guards.old)) (turns_of passage)) }
-    ensures guards { OnOk result (guards_of guards.new ≡ guards_along step.id (guards_of guards.old) (turns_of passage.entry)) }
-    ensures events { OnOk result (events.new.items ≡ events.old.items ++ events_along step.at step.id (fences_of (guards_of guards.old)) (turns_of passage.entry)) }
+    requires count { crossed ≡ length (told_by step guards.old passage) }
+    ensures guards { OnOk result (guards_of guards.new ≡ crossed_by step guards.old passage.entry) }
+    ensures events { OnOk result (events.new.items ≡ events.old.items ++ told_by step guards.old passage.entry) }
     ensures same_guards { OnErr result (guards_of guards.new ≡ guards_of guards.old) }
     ensures same_events { OnErr result (events.new.items ≡ events.old.items) }
 {
@@ -83,9 +80,9 @@ fn make_room(guards: &mut [Guarded], passage: Passage<'_>) -> Result<(), AllocEr
 fn cross(guards: &mut [Guarded], passage: Passage<'_>, step: Step, events: &mut Vec<Event>)
     requires rising { AllRising (guards_of guards.old) }
     requires room { HaveRoom guards.old (turns_of passage) }
-    requires space { vec_len events.old + length (events_along step.at step.id (fences_of (guards_of guards.old)) (turns_of passage)) ≤ vec_capacity events.old }
-    ensures guards { guards_of guards.new ≡ guards_along step.id (guards_of guards.old) (turns_of passage.entry) }
-    ensures events { events.new.items ≡ events.old.items ++ events_along step.at step.id (fences_of (guards_of guards.old)) (turns_of passage.entry) }
+    requires space { vec_len events.old + length (told_by step guards.old passage) ≤ vec_capacity events.old }
+    ensures guards { guards_of guards.new ≡ crossed_by step guards.old passage.entry }
+    ensures events { events.new.items ≡ events.old.items ++ told_by step guards.old passage.entry }
 {
     let Some((guard, guards)) = guards.split_first_mut() else {
         return;
@@ -123,7 +120,7 @@ impl Guarded {
 
 fn tell(events: &mut Vec<Event>, crossing: Crossing, step: Step, fence: &Fence)
     requires { vec_len events.old + 1 ≤ vec_capacity events.old }
-    ensures events { events.new.items ≡ events.old.items ++ record { at = step.at; crossing = crossing; id = step.id; fence = fence.now.id } ∷ [] }
+    ensures events { events.new.items ≡ events.old.items ++ event_by step.at step.id fence.now (Some crossing) }
     ensures len { vec_len events.new ≡ vec_len events.old + 1 }
     ensures capacity { vec_capacity events.old ≤ vec_capacity events.new }
 {

@@ -9,7 +9,7 @@ use crate::slabs::{Slabs, Span};
 use std::alloc::{AllocError, Global};
 use zorder::Point;
 
-/// What tells of a place which fences have it: one row for each axis, looked up. They are fewer than twice the fences.
+/// What tells of a place which fences have it: a row for each axis, looked up.
 #[derive(Drop)]
 pub(crate) struct Chart {
     columns: Slabs,

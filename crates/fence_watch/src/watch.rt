@@ -71,7 +71,8 @@ impl Watch {
 
     /// Who is inside the fence of this number, their ids rising.
     pub fn inside(&self, fence: u64) -> Option<&[u64]>
-        ensures answer { MatchOption result (inside_at fence self.now.guards ≡ None) (λ ids. inside_at fence self.now.guards ≡ Some ids.now) }
+        ensures answer { MatchOption result (inside_at fence self.now.guards ≡ None)
+            (λ ids. inside_at fence self.now.guards ≡ Some ids.now) }
         ensures follows { (w : ℕ) (cells : List Cell) (fences : List Fence) → FollowsCells cells fences self.now
             → MatchOption result (AreOthers fence fences) (λ ids. IsInside fence (state_of w cells).world fences ids.now) }
     {
