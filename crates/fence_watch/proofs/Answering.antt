@@ -1,6 +1,5 @@
 -- Who is inside the fence of a number, as a watch that follows cells answers it.
 use Rattle.std.proofs.Common.{◌≡◌, ℕ, zero, suc, ◌<◌, Bool, true, false, List, [], ◌∷◌, length, map, get_or, Option, Some, None, refl, sym, ◌∙◌, ap, subst, arith, cond, ◌==◌}
-use Rattle.std.specs.List.{Contains, AllByRecursion}
 use Rattle.std.specs.Option.{MatchOption}
 use Rattle.std.proofs.lemmas.Bool.{eq-eqb, eqb-true}
 use Rattle.cell_format.specs.declared.cell.Cell.{Cell}

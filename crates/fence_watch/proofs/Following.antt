@@ -1,7 +1,7 @@
 -- A watch that follows the cells of a log goes on following them.
-use Rattle.std.proofs.Common.{◌≡◌, ℕ, suc, ◌+◌, ◌<◌, ◌≤◌, length, Bool, true, false, not, List, [], ◌∷◌, ◌++◌, map, Option, Some, None, refl, sym, ◌∙◌, ap, subst, arith, cond, ◌==◌, append_assoc, append-nil}
+use Rattle.std.proofs.Common.{◌≡◌, ℕ, suc, ◌+◌, length, Bool, true, false, List, [], ◌∷◌, ◌++◌, map, Option, Some, None, refl, sym, ◌∙◌, ap, subst, arith, cond, ◌==◌, append_assoc, append-nil}
 use Rattle.std.specs.Prelude.{nat_lt}
-use Rattle.std.specs.List.{flat_map, find, AllByRecursion}
+use Rattle.std.specs.List.{find}
 use Rattle.std.specs.Option.{option_map, option_map_or}
 use Rattle.std.proofs.lemmas.Bool.{eq-eqb}
 use Rattle.zorder.specs.declared.points.Point.{Point}
@@ -10,12 +10,10 @@ use Rattle.cell_format.specs.declared.cell.Cell.{Cell}
 use Rattle.cell_format.specs.declared.cell.Cell.TheVariants as cell
 use Rattle.plain_list.specs.declared.world.Member.{Member}
 use Rattle.plain_list.specs.declared.world.Stamped.{Stamped}
-use Rattle.plain_list.specs.declared.ops.Op.{Op}
-use Rattle.plain_list.specs.declared.ops.Op.TheVariants as op
 use Rattle.plain_list.specs.declared.ops.Answer.TheVariants.{Done, Present, Full, Moved, Stale, Gone, Absent}
 use Rattle.plain_list.specs.Places.{IsRising}
 use Rattle.plain_list.specs.World.{World, places_of, position_of, stamped_of, member_of, is_full}
-use Rattle.plain_list.specs.Answer.{with_member, with_moved, without, after_of, answer_of, is_change, moved_or_stale}
+use Rattle.plain_list.specs.Answer.{with_member, with_moved, without, is_change, moved_or_stale}
 use Rattle.plain_list.specs.State.{State, empty_state, step}
 use Rattle.plain_list.proofs.Members.{position_of-with_member, position_of-without}
 use Rattle.plain_list.proofs.Worlds.{IsRising-with_member, IsRising-with_moved, IsRising-without}
@@ -25,8 +23,8 @@ use Rattle.recovery.specs.Walks.{object_of, place_in, IsNextWalked}
 use Rattle.fence_watch.specs.declared.fences.Fence.{Fence}
 use Rattle.fence_watch.specs.declared.fences.Event.{Event}
 use Rattle.fence_watch.specs.Fences.{lies_in, inside_of}
-use Rattle.fence_watch.specs.Crossings.{world_behind, world_after_cells, crossings_by, crossings_of, cell_crossings, crossings_from, crossings}
-use Rattle.fence_watch.specs.Watches.{Guard, WatchView, fences_of, guard_behind, guard_in, with_id, without_id, has_id, inside_behind, HoldsBefore, events_by, Steps, FollowsCells}
+use Rattle.fence_watch.specs.Crossings.{world_behind, world_after_cells, crossings_by, cell_crossings, crossings_from}
+use Rattle.fence_watch.specs.Watches.{Guard, WatchView, fences_of, guard_behind, guard_in, with_id, without_id, inside_behind, HoldsBefore, Steps, FollowsCells}
 use Rattle.fence_watch.proofs.Insides.{inside-put, inside-moved, inside-gone, has-inside}
 
 -- one cell more

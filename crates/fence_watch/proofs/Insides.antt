@@ -1,22 +1,21 @@
 -- Who is inside a fence behind a change of a world.
-use Rattle.std.proofs.Common.{◌≡◌, ℕ, suc, ◌<◌, ◌≤◌, length, Bool, true, false, not, List, [], ◌∷◌, map, Option, Some, None, refl, sym, ◌∙◌, ap, subst, arith, cond, ◌==◌, ◌||◌}
-use Rattle.std.specs.Prelude.{nat_lt, nat_le}
-use Rattle.std.specs.List.{filter, find, list_any}
+use Rattle.std.proofs.Common.{◌≡◌, ℕ, ◌<◌, ◌≤◌, Bool, true, false, not, List, [], ◌∷◌, map, Some, None, refl, sym, ◌∙◌, ap, subst, arith, cond, ◌==◌, ◌||◌}
+use Rattle.std.specs.Prelude.{nat_lt}
+use Rattle.std.specs.List.{filter, find}
 use Rattle.std.specs.Option.{option_map}
 use Rattle.std.proofs.lemmas.Bool.{lt-ltb, eq-eqb, eqb-true}
 use Rattle.std.proofs.lemmas.Bool.Decides.{nat_tests}
-use Rattle.zorder.specs.declared.points.Point.{Point}
 use Rattle.zorder.specs.declared.points.Placed.{Placed}
 use Rattle.zorder.specs.Region.{has_point}
 use Rattle.plain_list.specs.declared.world.Member.{Member}
 use Rattle.plain_list.specs.declared.world.Stamped.{Stamped}
 use Rattle.plain_list.specs.Places.{IsRising, IsAbove}
 use Rattle.plain_list.specs.World.{World, places_of, position_of, stamped_of, member_of, placed_of}
-use Rattle.plain_list.specs.Answer.{with_member, with_moved, moved_to, without}
+use Rattle.plain_list.specs.Answer.{with_member, with_moved, without}
 use Rattle.plain_list.proofs.MemberMaps.{position_of-above, with_moved-none, IsAbove-lower}
 use Rattle.fence_watch.specs.declared.fences.Fence.{Fence}
 use Rattle.fence_watch.specs.Fences.{lies_in, inside_of}
-use Rattle.fence_watch.specs.Watches.{with_id, without_id, inside_behind, has_id}
+use Rattle.fence_watch.specs.Watches.{with_id, without_id, has_id}
 
 nat_lt-false : (a b : ℕ) → b ≤ a → nat_lt a b ≡ false
 nat_lt-false a b le = grind (arith, nat_tests)

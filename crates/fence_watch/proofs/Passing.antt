@@ -2,7 +2,6 @@
 use Rattle.std.proofs.Common.{◌≡◌, ℕ, suc, ◌≤◌, ◌<◌, ◌+◌, Bool, true, false, List, [], ◌∷◌, ◌++◌, length, map, Option, Some, None, refl, sym, ◌∙◌, ap, subst, arith, cond, ◌&&◌, append-nil, take, drop}
 use Rattle.std.proofs.lemmas.List.{take-append-le, take_all}
 use Rattle.std.specs.Prelude.{nat_le}
-use Rattle.std.specs.List.{AllByRecursion}
 use Rattle.zorder.specs.declared.points.Point.{Point}
 use Rattle.fence_watch.specs.declared.fences.Fence.{Fence}
 use Rattle.fence_watch.specs.declared.fences.Event.{Event}
@@ -14,12 +13,12 @@ use Rattle.fence_watch.specs.declared.passages.Chart.{Chart}
 use Rattle.fence_watch.specs.declared.passages.Sides.{Sides}
 use Rattle.fence_watch.specs.declared.passages.Passage.{Passage}
 use Rattle.fence_watch.specs.Fences.{lies_in, most_fences}
-use Rattle.fence_watch.specs.Slabs.{spans, row_at}
-use Rattle.fence_watch.specs.Crossings.{crossing_of, crossings_of, crossings_by}
+use Rattle.fence_watch.specs.Slabs.{row_at}
+use Rattle.fence_watch.specs.Crossings.{crossings_of, crossings_by}
 use Rattle.recovery.specs.declared.walked.Walked.{Walked}
 use Rattle.recovery.specs.Walks.{object_of}
-use Rattle.fence_watch.specs.Watches.{Guard, WatchView, fences_of, guard_behind, inside_behind, with_id, without_id, has_id, HoldsBefore, events_by, Steps, IsOver, most_events}
-use Rattle.fence_watch.specs.Passages.{turn, both, marks_of, turns, turns_of, count_turns, event_by, events_along, turn_at, column_of, line_of, Charts, Shows, ShowsPassage}
+use Rattle.fence_watch.specs.Watches.{Guard, WatchView, fences_of, guard_behind, with_id, without_id, has_id, HoldsBefore, events_by, Steps, IsOver, most_events}
+use Rattle.fence_watch.specs.Passages.{turn, both, turns, turns_of, count_turns, event_by, events_along, turn_at, column_of, line_of, Charts, Shows, ShowsPassage}
 use Rattle.fence_watch.specs.Guards.{AreRising, AllRising, behind_by, guards_of, guards_along}
 use Rattle.fence_watch.specs.Kept.{Keeps}
 use Rattle.fence_watch.proofs.RisingIds.{rising-with_id, rising-without_id}

@@ -1,5 +1,5 @@
 -- Guards as they are kept, the room in them, and what crossings make of them.
-use Rattle.std.specs.Prelude.{ℕ, ◌+◌, ◌≤◌, ◌<◌, ◌≡◌, List, [], ◌∷◌, map, Option, Some, None, ⊤, vec_len, vec_capacity}
+use Rattle.std.specs.Prelude.{ℕ, ◌+◌, ◌≤◌, ◌<◌, List, [], ◌∷◌, map, Option, Some, None, ⊤, vec_len, vec_capacity}
 use Rattle.std.specs.List.{AllByRecursion}
 use Rattle.fence_watch.specs.declared.fences.Crossing.{Crossing}
 use Rattle.fence_watch.specs.declared.fences.Crossing.TheVariants.{Enter, Leave}

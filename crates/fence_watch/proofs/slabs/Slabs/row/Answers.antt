@@ -1,7 +1,6 @@
-use Rattle.std.proofs.Common.{◌≡◌, ◌∙◌, ◌-◌, ℕ, List, Bool, Vec, Global, leb, ap, sym, subst, arith, rules}
+use Rattle.std.proofs.Common.{◌≡◌, ◌∙◌, ℕ, Bool, Vec, Global, leb, ap, sym, subst, arith, rules}
 use Rattle.std.specs.List.Sorted.{IsNonDecreasing}
 use Rattle.std.proofs.lemmas.List.Sorted.{IsPartitionPoint-from_clause, IsPartitionedBy-leb}
-use Rattle.fence_watch.specs.declared.slabs.Span.{Span}
 use Rattle.fence_watch.specs.Slabs.{row_at}
 use Rattle.fence_watch.proofs.SlabLemmas.{Finds, finds, cut-found}
 use Rattle.fence_watch.proofs.slabs.Slabs.row.Goals as goal

@@ -1,9 +1,9 @@
-use Rattle.std.proofs.Common.{◌≡◌, ◌∙◌, ◌+◌, ◌<◌, ◌≤◌, ◌==◌, ℕ, Bool, true, false, List, [], ◌∷◌, length, drop, get_or, cond, Option, Some, None, ap, sym}
+use Rattle.std.proofs.Common.{◌≡◌, ◌∙◌, ◌+◌, ◌<◌, ◌==◌, ℕ, Bool, true, false, List, ◌∷◌, length, drop, get_or, cond, Option, Some, ap, sym}
 use Rattle.std.proofs.lemmas.Bool.{eq-eqb, eqb-true}
 use Rattle.std.proofs.lemmas.List.{drop_more, drop_all}
 use Rattle.fence_watch.specs.declared.guards.Guarded.{Guarded}
 use Rattle.fence_watch.specs.Guards.{guards_of}
-use Rattle.fence_watch.specs.Watches.{Guard, WatchView, inside_at}
+use Rattle.fence_watch.specs.Watches.{WatchView, inside_at}
 use Rattle.fence_watch.proofs.Answering.{some-follows, none-follows}
 use Rattle.fence_watch.proofs.watch.Watch.inside.Goals as goal
 

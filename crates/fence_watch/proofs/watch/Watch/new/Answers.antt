@@ -2,7 +2,7 @@ use Rattle.std.proofs.Common.{◌≡◌, ◌∙◌, List, [], ◌∷◌, length,
 use Rattle.fence_watch.specs.declared.fences.Fence.{Fence}
 use Rattle.fence_watch.specs.Guards.{guards_of}
 use Rattle.fence_watch.specs.Passages.{Charts}
-use Rattle.fence_watch.specs.Watches.{Guard, fences_of}
+use Rattle.fence_watch.specs.Watches.{fences_of}
 use Rattle.fence_watch.proofs.watch.Watch.new.Goals as goal
 
 unguarded : (fences : List Fence) → fences_of (map (λ (f : Fence). record { fence = f; inside = [] }) fences) ≡ fences
