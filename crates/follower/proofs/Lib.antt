@@ -4,4 +4,6 @@ pub mod Prefixes
 pub mod AddLemmas
 pub mod ReopenLemmas
 pub mod TurnLemmas
+pub mod CellTests
+pub mod CountLemmas
 pub mod OpenLemmas

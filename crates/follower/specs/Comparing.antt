@@ -1,13 +1,57 @@
 -- What a walk over a log tells of its cells, beside those of the leader.
-use Rattle.std.specs.Prelude.{◌≡◌, ◌≢◌, ℕ, ◌+◌, ◌≤◌, ◌<◌, List, length, take, Some}
+use Rattle.std.specs.Prelude.{◌≡◌, ◌≢◌, ◌⊎◌, ℕ, ◌+◌, ◌≤◌, ◌<◌, List, length, take, Some, Result, Ok, Err}
 use Rattle.causes.specs.Causes.{Rose}
 use Rattle.cell_format.specs.declared.cell.Cell.{Cell}
 use Rattle.cell_format.specs.Spelling.{newest}
 use Rattle.disk_trait.specs.Drive.{Drive, Stays, SameFile}
+use Rattle.log_state.specs.Recovers.{Recovers}
 use Rattle.recovery.specs.declared.seen.OpenFault.{OpenFault}
 use Rattle.recovery.specs.declared.seen.OpenFault.TheVariants as open_fault
 use Rattle.recovery.specs.Faults.{IsFault}
+use Rattle.recovery.specs.Walks.{WalkView, ComesTo}
+use Rattle.follower.specs.declared.comparing.Tally.{Tally}
 use Rattle.follower.specs.Opening.{IsOpenable, most_held}
+
+-- the drive was only read, and no call failed
+pub record IsOnlyRead (old new : Drive) : Type 0 where
+  pub stays : Stays old new
+  pub calm : new.faults ≡ old.faults
+  pub file : SameFile old new
+
+-- so many cells, of which so many first ones are the leader's, and no more
+pub record IsTally (cells own : List Cell) (tally : Tally) : Type 0 where
+  pub count_is : length own ≡ tally.count
+  pub few : tally.same ≤ tally.count
+  pub within : tally.same ≤ length cells
+  pub same_is : take tally.same own ≡ take tally.same cells
+  pub other : tally.same < tally.count → take (tally.same + 1) own ≢ take (tally.same + 1) cells
+
+-- a walk came behind these cells of a log, which was only read
+pub record IsCounting {D : Type 0} (w : ℕ) (cells : List Cell) (old new : Drive) (walk : WalkView D) (tally : Tally) : Type 0 where
+  pub own : List Cell
+  pub came : ComesTo w most_held own new walk
+  pub tally_is : IsTally cells own tally
+  pub reads : IsOnlyRead old new
+
+-- and they are all
+pub record Counts {D : Type 0} (w : ℕ) (cells : List Cell) (old new : Drive) (walk : WalkView D) (tally : Tally) : Type 0 where
+  pub own : List Cell
+  pub came : ComesTo w most_held own new walk
+  pub tally_is : IsTally cells own tally
+  pub whole : (bytes : List ℕ) → old.bytes ≡ Some bytes → Recovers w own bytes
+
+-- or this is at fault behind them, for whoever reads versions 1 and 2
+pub record StopsCounting {D : Type 0} (w : ℕ) (old new : Drive) (walk : WalkView D) (fault : OpenFault) : Type 0 where
+  pub own : List Cell
+  pub came : ComesTo w most_held own new walk
+  pub cause : (bytes : List ℕ) → old.bytes ≡ Some bytes → IsFault 1 w most_held bytes fault
+
+-- what is told of a log of this version, which is opened in the newest one alone: a drive that failed comes first
+abbrev pub IsJudged : ℕ → ℕ → Result Tally OpenFault → Result Tally OpenFault → Type 0
+IsJudged version w counted (Ok tally) = (version ≡ newest) × (counted ≡ Ok tally)
+IsJudged version w counted (Err fault) =
+    ((counted ≡ Err fault) × ((version ≡ newest) ⊎ (fault ≡ open_fault.Disk)))
+    ⊎ ((fault ≡ open_fault.OldLog version w) × (version < newest) × (counted ≢ Err open_fault.Disk))
 
 -- a log that may be opened, with so many cells, of which so many first ones are the leader's, and no more
 pub record IsCompared (w : ℕ) (cells : List Cell) (bytes : List ℕ) (count same : ℕ) : Type 0 where
@@ -16,12 +60,6 @@ pub record IsCompared (w : ℕ) (cells : List Cell) (bytes : List ℕ) (count sa
   pub count_is : length own ≡ count
   pub same_is : take same own ≡ take same cells
   pub other : same < count → take (same + 1) own ≢ take (same + 1) cells
-
--- the drive was only read, and no call failed
-pub record IsOnlyRead (old new : Drive) : Type 0 where
-  pub stays : Stays old new
-  pub calm : new.faults ≡ old.faults
-  pub file : SameFile old new
 
 -- a log was walked to its end
 pub record Compares (w : ℕ) (cells : List Cell) (old new : Drive) (count same : ℕ) : Type 0 where
