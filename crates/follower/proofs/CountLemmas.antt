@@ -1,16 +1,16 @@
 -- A walk over a log whose cells are compared with the leader's.
-use Rattle.std.proofs.Common.{◌≡◌, ◌≢◌, ◌⊎◌, inl, inr, ⊎_elim, ℕ, ◌+◌, ◌-◌, ◌<◌, ◌≤◌, List, [], ◌∷◌, ◌++◌, length, Option, Some, None, refl, sym, ◌∙◌, ap, subst, lit≤, arith, length-append, append_assoc}
+use Rattle.std.proofs.Common.{◌≡◌, ◌≢◌, inl, inr, ⊎_elim, ℕ, ◌-◌, ◌<◌, List, [], ◌∷◌, ◌++◌, length, Option, Some, None, refl, sym, ◌∙◌, ap, subst, lit≤, arith, length-append, append_assoc}
 use Rattle.std.specs.Prelude.{Result, Ok, Err, IfOk, IfErr, slice_index, MatchResult}
 use Rattle.std.specs.List.{flat_map}
 use Rattle.std.proofs.lemmas.Result.{IfOk-at_ok}
 use Rattle.causes.specs.Causes.{Rose}
 use Rattle.cell_format.specs.declared.cell.Cell.{Cell}
 use Rattle.cell_format.specs.Spelling.{newest, header_text, spelling}
-use Rattle.disk_trait.specs.Drive.{Drive, Stays}
+use Rattle.disk_trait.specs.Drive.{Drive}
 use Rattle.recovery.specs.declared.seen.OpenFault.{OpenFault}
 use Rattle.recovery.specs.declared.seen.OpenFault.TheVariants as open_fault
 use Rattle.recovery.specs.declared.walked.Walked.{Walked}
-use Rattle.recovery.specs.Faults.{BeginsWith, IsFault, IsNotLog, IsOldLog}
+use Rattle.recovery.specs.Faults.{IsFault, IsOldLog}
 use Rattle.recovery.specs.Found.{IsWanted}
 use Rattle.recovery.specs.Headers.{HasHeader}
 use Rattle.recovery.specs.Reading.{OnlyReads}
@@ -19,7 +19,7 @@ use Rattle.recovery.proofs.Exclusive.{named_version}
 use Rattle.recovery.proofs.HeadLemmas.{header_bytes, header_is_log}
 use Rattle.recovery.proofs.OnlyReading.{stays-trans}
 use Rattle.follower.specs.declared.comparing.Tally.{Tally}
-use Rattle.follower.specs.Comparing.{IsTally, IsOnlyRead, IsCounting, Counts, StopsCounting, IsJudged, IsCompared, Compares, RefusesCompare}
+use Rattle.follower.specs.Comparing.{IsTally, IsOnlyRead, IsCounting, Counts, StopsCounting, IsJudged, Compares, RefusesCompare}
 use Rattle.follower.specs.Opening.{most_held}
 
 only_read-trans : (a b c : Drive) → IsOnlyRead a b → IsOnlyRead b c → IsOnlyRead a c

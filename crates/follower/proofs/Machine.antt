@@ -1,6 +1,6 @@
 -- The plain machine of a follower.
 use Rattle.std.proofs.Common.{◌≡◌, ℕ, ◌+◌, ◌-◌, ◌<◌, ◌≤◌, Bool, true, false, zero, suc, List, [], ◌∷◌, ◌++◌, length, refl, ap, arith, length-append}
-use Rattle.std.specs.Prelude.{slice_index, max, if◌then◌else◌, ◌==◌, ◌&&◌, nat_lt}
+use Rattle.std.specs.Prelude.{slice_index, if◌then◌else◌, ◌==◌, ◌&&◌, nat_lt}
 use Rattle.std.specs.List.{AllByRecursion}
 use Rattle.std.specs.Cmp.Derive.{both_true}
 use Rattle.std.proofs.lemmas.Bool.{eq-eqb, lt-ltb}

@@ -1,5 +1,5 @@
 -- What the opening of a follower comes to.
-use Rattle.std.proofs.Common.{◌≡◌, ◌≢◌, ℕ, ◌+◌, ◌*◌, ◌<◌, ◌≤◌, ◌⊎◌, inl, inr, ⊎_elim, Bool, true, false, ltb, List, [], ◌∷◌, ◌++◌, length, take, Some, None, is_some, refl, sym, ◌∙◌, ap, subst, lit≤, arith, length-append}
+use Rattle.std.proofs.Common.{◌≡◌, ◌≢◌, ℕ, ◌+◌, ◌*◌, ◌<◌, ◌≤◌, ◌⊎◌, inl, inr, ⊎_elim, Bool, true, false, ltb, List, [], ◌∷◌, length, take, Some, None, is_some, refl, sym, ◌∙◌, ap, subst, lit≤, arith, length-append}
 use Rattle.std.specs.Prelude.{slice_index}
 use Rattle.std.proofs.Math.Seq.{take-length}
 use Rattle.std.proofs.lemmas.Bool.{true≢false, ltb-true, ltb-false}
@@ -26,7 +26,7 @@ use Rattle.recovery.proofs.Exclusive.{recovers_no_fault, told_fault, told_free}
 use Rattle.recovery.proofs.OpeningLemmas.{leaves-trans, leaves-stays}
 use Rattle.follower.specs.declared.faults.FollowFault.{FollowFault}
 use Rattle.follower.specs.declared.faults.FollowFault.TheVariants.{Strange, Log, Append, Disk, Memory}
-use Rattle.follower.specs.Comparing.{IsCompared, IsOnlyRead, Compares, RefusesCompare}
+use Rattle.follower.specs.Comparing.{IsOnlyRead, Compares, RefusesCompare}
 use Rattle.follower.specs.Faults.{is_drives, IsFree}
 use Rattle.follower.specs.Holding.{FollowerView, AreLeading}
 use Rattle.follower.specs.Opening.{most_held, IsOpenable, IsStrange, IsTaken, Opens, OpensLog, IsOpenCause, RefusesOpen, KeepsTarget}

@@ -1,5 +1,5 @@
 -- The first cells of a leader, in a log.
-use Rattle.std.proofs.Common.{◌≡◌, ℕ, inr, true, List, [], ◌++◌, length, take, drop, Some, refl, sym, ◌∙◌, subst}
+use Rattle.std.proofs.Common.{◌≡◌, ℕ, inr, true, List, [], take, drop, Some, refl, sym, ◌∙◌, subst}
 use Rattle.std.specs.Prelude.{slice_index}
 use Rattle.std.proofs.lemmas.List.{append-nil, take-append-drop}
 use Rattle.cell_format.specs.declared.cell.Cell.{Cell}

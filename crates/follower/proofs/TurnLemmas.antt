@@ -1,11 +1,10 @@
 -- What a turn comes to.
-use Rattle.std.proofs.Common.{◌≡◌, ℕ, ◌+◌, ◌≤◌, ◌⊎◌, inl, inr, ⊎_elim, true, false, List, [], ◌∷◌, ◌++◌, length, take, Option, Some, None, is_some, refl, sym, ◌∙◌, ap, subst, lit≤, arith}
+use Rattle.std.proofs.Common.{◌≡◌, ℕ, ◌+◌, ◌≤◌, inl, inr, List, length, take, Option, Some, None, is_some, refl, sym, ◌∙◌, ap, subst, lit≤, arith}
 use Rattle.std.proofs.lemmas.Bool.{true≢false}
 use Rattle.std.proofs.lemmas.List.{length-take-le}
 use Rattle.cell_format.specs.declared.cell.Cell.{Cell}
 use Rattle.cell_format.specs.Spelling.{newest}
 use Rattle.disk_trait.specs.Drive.{Drive, KeepsLaws}
-use Rattle.disk_trait.specs.Moments.{LeavesOnly}
 use Rattle.disk_trait.proofs.Stretches.{started}
 use Rattle.split_log.specs.LogText.{IsLog, HoldsCells, HoldsEither}
 use Rattle.split_log.specs.LogView.{LogView, most_cells}
@@ -22,12 +21,12 @@ use Rattle.follower.specs.declared.faults.FollowFault.{FollowFault}
 use Rattle.follower.specs.declared.faults.FollowFault.TheVariants.{Strange, Log, Append, Disk, Memory}
 use Rattle.follower.specs.declared.turns.Turn.{Turn}
 use Rattle.follower.specs.declared.turns.Turn.TheVariants.{Arrive, Restart}
-use Rattle.follower.specs.Adding.{IsNext, IsAdded, IsLost, FailsToAdd}
+use Rattle.follower.specs.Adding.{IsNext, IsAdded, IsLost}
 use Rattle.follower.specs.Faults.{IsFree, most_left}
 use Rattle.follower.specs.Follow.{Following, IsSound, after_turn, acknowledging, cell_of}
 use Rattle.follower.specs.Holding.{FollowerView, HoldsFirst, LeavesFirst, RecoversFirst, AreLeading, with_state}
 use Rattle.follower.specs.Reopening.{Reopens, RefusesReopen}
-use Rattle.follower.specs.Turning.{Turns, RefusesTurn, TakesRoom, IsTurnCause, MakesTurn, FailsTurn}
+use Rattle.follower.specs.Turning.{TakesRoom, IsTurnCause, MakesTurn, FailsTurn}
 use Rattle.follower.proofs.Machine.{held-next, sound-after}
 use Rattle.follower.proofs.Prefixes.{log-recovers, bytes-recover, log-version, recovers-held}
 

@@ -6,7 +6,7 @@ use Rattle.disk_trait.specs.Drive.{Drive, SameFile}
 use Rattle.disk_trait.specs.Moments.{LeavesOnly, LeavesNow}
 use Rattle.split_log.specs.LogText.{IsLog, HoldsEither}
 use Rattle.follower.specs.declared.faults.FollowFault.{FollowFault}
-use Rattle.follower.specs.declared.faults.FollowFault.TheVariants.{Strange, Log, Append, Disk, Memory}
+use Rattle.follower.specs.declared.faults.FollowFault.TheVariants.{Append, Memory}
 use Rattle.follower.specs.Follow.{Following, acknowledging, cell_of}
 use Rattle.follower.specs.Holding.{FollowerView}
 

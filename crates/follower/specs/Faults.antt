@@ -2,10 +2,9 @@
 use Rattle.std.specs.Prelude.{◌≡◌, ◌⊎◌, ℕ, ◌+◌, Bool, true, false}
 use Rattle.causes.specs.Causes.{Rose}
 use Rattle.disk_trait.specs.Drive.{Drive}
-use Rattle.recovery.specs.declared.seen.OpenFault.{OpenFault}
 use Rattle.recovery.specs.declared.seen.OpenFault.TheVariants as open_fault
 use Rattle.follower.specs.declared.faults.FollowFault.{FollowFault}
-use Rattle.follower.specs.declared.faults.FollowFault.TheVariants.{Strange, Log, Append, Disk, Memory}
+use Rattle.follower.specs.declared.faults.FollowFault.TheVariants.{Log, Append, Disk, Memory}
 
 -- whether it says that the drive failed
 abbrev pub is_drives : FollowFault → Bool

@@ -8,8 +8,6 @@ use Rattle.disk_trait.specs.Moments.{LeavesNow, LeavesOnly}
 use Rattle.split_log.specs.LogText.{IsLog}
 use Rattle.split_log.specs.LogView.{LogView}
 use Rattle.log_state.specs.Recovers.{Recovers}
-use Rattle.recovery.specs.declared.seen.OpenFault.{OpenFault}
-use Rattle.recovery.specs.declared.seen.OpenFault.TheVariants as open_fault
 use Rattle.recovery.specs.Faults.{IsFault}
 use Rattle.recovery.specs.Making.{IsSmall}
 use Rattle.recovery.specs.Opening.{IsUntouched}

@@ -12,7 +12,7 @@ use Rattle.recovery.specs.declared.seen.OpenFault.TheVariants as open_fault
 use Rattle.recovery.specs.Faults.{IsFault}
 use Rattle.recovery.specs.Opening.{KeepsCells, IsUntouched}
 use Rattle.follower.specs.declared.faults.FollowFault.{FollowFault}
-use Rattle.follower.specs.declared.faults.FollowFault.TheVariants.{Strange, Log, Append, Disk, Memory}
+use Rattle.follower.specs.declared.faults.FollowFault.TheVariants.{Strange, Log}
 use Rattle.follower.specs.Faults.{is_drives}
 
 -- the log was opened, with so many cells, which the bytes recovered to, and no device call failed

@@ -1,5 +1,5 @@
 -- What a turn of a follower does, and why it is refused.
-use Rattle.std.specs.Prelude.{◌≡◌, ◌⊎◌, ℕ, ◌+◌, ◌≤◌, ◌<◌, false, List, length, Some, is_some, ⊤}
+use Rattle.std.specs.Prelude.{◌≡◌, ℕ, ◌+◌, ◌≤◌, ◌<◌, false, List, length, Some, is_some, ⊤}
 use Rattle.causes.specs.Causes.{Rose}
 use Rattle.cell_format.specs.declared.cell.Cell.{Cell}
 use Rattle.disk_trait.specs.Drive.{Drive, SameFile}
@@ -8,7 +8,7 @@ use Rattle.recovery.specs.declared.seen.OpenFault.TheVariants as open_fault
 use Rattle.follower.specs.declared.faults.FollowFault.{FollowFault}
 use Rattle.follower.specs.declared.faults.FollowFault.TheVariants.{Strange, Log, Append, Disk, Memory}
 use Rattle.follower.specs.declared.turns.Turn.{Turn}
-use Rattle.follower.specs.declared.turns.Turn.TheVariants.{Send, Arrive, Ack, Restart}
+use Rattle.follower.specs.declared.turns.Turn.TheVariants.{Send, Arrive, Restart}
 use Rattle.follower.specs.Follow.{Following, after_turn, cell_of}
 use Rattle.follower.specs.Holding.{FollowerView, HoldsFirst, RecoversFirst, LeavesFirst, IsUntold}
 use Rattle.follower.specs.Faults.{is_drives, most_left}

@@ -1,5 +1,5 @@
 use Rattle.std.proofs.lemmas.Result.{IfOk-weaker, IfErr-weaker, MatchResult-from_both}
-use Rattle.follower.proofs.OpenLemmas.{not_compared, strange_found, opened_again, refused_again, target_again, target_read}
+use Rattle.follower.proofs.OpenLemmas.{strange_found, opened_again, refused_again, target_again}
 use Rattle.follower.proofs.follower.opening.open_found.Goals as goal
 
 pub returns-then-found-clause-refused : goal.returns-then-found-clause-refused
