@@ -28,6 +28,7 @@ module _ {D : Type 0} (drive : D → Drive) (cell : Cell) (log now : LogView D) 
         log = adds.log;
         told = adds.told;
         calm = adds.same;
+        calls = adds.calls;
         file = adds.file;
         any_moment = any_moment;
       })

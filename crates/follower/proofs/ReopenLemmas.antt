@@ -1,12 +1,13 @@
 -- The opening of a log with another number of cells than it had.
-use Rattle.std.proofs.Common.{◌≡◌, ◌≢◌, ℕ, ◌≤◌, length, sym, ◌∙◌, ap, subst, arith}
+use Rattle.std.proofs.Common.{◌≡◌, ◌≢◌, ℕ, ◌≤◌, None, length, sym, ◌∙◌, ap, subst, arith}
 use Rattle.std.proofs.lemmas.Bool.{true≢false}
 use Rattle.disk_trait.specs.Drive.{Drive}
+use Rattle.split_log.specs.LogView.{LogView}
 use Rattle.split_log.proofs.Unique.{holds-same}
 use Rattle.recovery.specs.declared.seen.Seen.{Seen}
-use Rattle.recovery.specs.Opening.{KeepsCells, IsReady}
+use Rattle.recovery.specs.Opening.{CallsToOpen, KeepsCells, IsReady}
 use Rattle.follower.specs.declared.faults.FollowFault.TheVariants.{Strange}
-use Rattle.follower.specs.Reopening.{RefusesReopen}
+use Rattle.follower.specs.Reopening.{Reopens, RefusesReopen}
 
 pub other_count : {D : Type 0} (drive : D → Drive) (w count number : ℕ) (seen : Seen) (a : Drive) (b c : D) → c ≡ b → IsReady w seen a (drive b) → KeepsCells w a (drive b)
     → seen.cells ≢ count → number ≤ count → RefusesReopen w count a (drive c) (Strange number)
@@ -25,3 +26,16 @@ other_count drive w count number seen a b c back ready kept other least = subst 
   file = ready.file;
   any_moment = kept;
 })
+
+pub same_count : {D : Type 0} (drive : D → Drive) (w count : ℕ) (seen : Seen) (a : Drive) (log : LogView D) → IsReady w seen a (drive log.disk) → KeepsCells w a (drive log.disk)
+    → (log.cells ≡ seen.cells) × (log.failed ≡ None) → seen.cells ≡ count → Reopens drive w count a log
+same_count drive w count seen a log ready kept is same = record {
+  cells = is.0 ∙ same;
+  sound = is.1;
+  text = λ bytes told. let (own, own_count, recovers, text) = ready.log bytes told in (own, own_count ∙ same, recovers, text);
+  told = ready.told;
+  calm = ready.same;
+  calls = subst (λ (n : ℕ). CallsToOpen n a (drive log.disk)) same ready.calls;
+  file = ready.file;
+  any_moment = kept;
+}

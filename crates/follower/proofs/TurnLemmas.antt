@@ -1,5 +1,5 @@
 -- What a turn comes to.
-use Rattle.std.proofs.Common.{◌≡◌, ℕ, ◌+◌, ◌≤◌, inl, inr, List, length, take, Option, Some, None, is_some, refl, sym, ◌∙◌, ap, subst, lit≤, arith}
+use Rattle.std.proofs.Common.{◌≡◌, ℕ, ◌+◌, ◌≤◌, inl, inr, ⊎_elim, List, length, take, Option, Some, None, is_some, refl, sym, ◌∙◌, ap, subst, lit≤, arith}
 use Rattle.std.proofs.lemmas.Bool.{true≢false}
 use Rattle.std.proofs.lemmas.List.{length-take-le}
 use Rattle.cell_format.specs.declared.cell.Cell.{Cell}
@@ -23,10 +23,10 @@ use Rattle.follower.specs.declared.turns.Turn.{Turn}
 use Rattle.follower.specs.declared.turns.Turn.TheVariants.{Arrive, Restart}
 use Rattle.follower.specs.Adding.{IsNext, IsAdded, IsLost}
 use Rattle.follower.specs.Faults.{IsFree, most_left}
-use Rattle.follower.specs.Follow.{Following, IsSound, after_turn, acknowledging, cell_of}
+use Rattle.follower.specs.Follow.{Following, IsSound, after_turn, acknowledging, cell_of, held_after}
 use Rattle.follower.specs.Holding.{FollowerView, HoldsFirst, LeavesFirst, RecoversFirst, AreLeading, with_state}
 use Rattle.follower.specs.Reopening.{Reopens, RefusesReopen}
-use Rattle.follower.specs.Turning.{TakesRoom, IsTurnCause, MakesTurn, FailsTurn}
+use Rattle.follower.specs.Turning.{MakesCalls, TakesRoom, IsTurnCause, MakesTurn, FailsTurn}
 use Rattle.follower.proofs.Machine.{held-next, sound-after}
 use Rattle.follower.proofs.Prefixes.{log-recovers, bytes-recover, log-version, recovers-held}
 
@@ -59,8 +59,8 @@ module _ {D : Type 0} (drive : D → Drive) (cells : List Cell) (old : FollowerV
 
   -- a turn that leaves the drive, and as many cells
   pub quiet : (turn : Turn) (new : FollowerView D) → new ≡ with_state (after_turn (length cells) old.state turn) old → (after_turn (length cells) old.state turn).held ≡ old.state.held
-      → MakesTurn drive cells turn old new
-  quiet turn new is same = subst (MakesTurn drive cells turn old) (sym is) (record {
+      → MakesCalls (length cells) old.state turn (drive old.disk) (drive old.disk) → MakesTurn drive cells turn old new
+  quiet turn new is same calls = subst (MakesTurn drive cells turn old) (sym is) (record {
     turns = record {
       state = refl;
       width = refl;
@@ -72,6 +72,7 @@ module _ {D : Type 0} (drive : D → Drive) (cells : List Cell) (old : FollowerV
       };
       told = refl;
       calm = refl;
+      calls = calls;
       file = λ all told. told;
     };
     any_moment = subst (λ (n : ℕ). LeavesFirst old.width cells old.state.held n (drive old.disk) (drive old.disk)) (sym same) stands;
@@ -85,6 +86,14 @@ module _ {D : Type 0} (drive : D → Drive) (cells : List Cell) (old : FollowerV
         refused = record { cause = (room, refl); calm = λ quiet. refl; later = omega arith; file = λ all told. told };
         any_moment = stands;
       }))
+
+  -- a packet that isn't the next one makes no call
+  pub no_calls : (packet : ℕ) → held_after (length cells) (cell_of packet old.state) old.state.held ≡ old.state.held
+      → MakesCalls (length cells) old.state (Arrive packet) (drive old.disk) (drive old.disk)
+  no_calls packet same = (
+    λ brings. absurd (omega (arith, same, held-next (length cells) (cell_of packet old.state) old.state.held brings.0 brings.1)),
+    λ none all told. told,
+  )
 
   module _ (packet : ℕ) (cell : Cell) (next : IsNext cells packet old.state cell) where
     -- with the next cell, or without
@@ -119,6 +128,7 @@ module _ {D : Type 0} (drive : D → Drive) (cells : List Cell) (old : FollowerV
             };
             told = is.told;
             calm = is.calm;
+            calls = (λ brings. is.calls, λ none. absurd (none (next.brings, next.below)));
             file = is.file;
           };
           any_moment = subst (λ (n : ℕ). LeavesFirst old.width cells old.state.held n (drive old.disk) (drive new.disk)) (sym held)
@@ -176,6 +186,7 @@ module _ {D : Type 0} (drive : D → Drive) (cells : List Cell) (old : FollowerV
       };
       told = is.told;
       calm = is.calm;
+      calls = ⊎_elim (λ whole. inl whole.1) (λ longer. inr longer.1) is.calls;
       file = is.file;
     };
     any_moment = kept (drive log.disk) is.any_moment log.cells (omega (arith, is.cells));

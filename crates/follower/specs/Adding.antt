@@ -2,7 +2,7 @@
 use Rattle.std.specs.Prelude.{◌≡◌, ℕ, ◌+◌, ◌≤◌, ◌<◌, List, [], ◌∷◌, ◌++◌, length, take, is_some}
 use Rattle.causes.specs.Causes.{Rose}
 use Rattle.cell_format.specs.declared.cell.Cell.{Cell}
-use Rattle.disk_trait.specs.Drive.{Drive, SameFile}
+use Rattle.disk_trait.specs.Drive.{Drive, MadeWell, SameFile}
 use Rattle.disk_trait.specs.Moments.{LeavesOnly, LeavesNow}
 use Rattle.split_log.specs.LogText.{IsLog, HoldsEither}
 use Rattle.follower.specs.declared.faults.FollowFault.{FollowFault}
@@ -27,6 +27,7 @@ pub record IsAdded {D : Type 0} (drive : D → Drive) (cell : Cell) (old new : F
   pub log : (w : ℕ) (cells : List Cell) → IsLog w cells (drive old.disk) → IsLog w (cells ++ cell ∷ []) (drive new.disk)
   pub told : is_some (drive new.disk).bytes ≡ is_some (drive old.disk).bytes
   pub calm : (drive new.disk).faults ≡ (drive old.disk).faults
+  pub calls : MadeWell 4 (drive old.disk) (drive new.disk)
   pub file : SameFile (drive old.disk) (drive new.disk)
   pub any_moment : LeavesEither cell (drive old.disk) (drive new.disk)
 

@@ -10,7 +10,7 @@ use Rattle.log_state.specs.Recovers.{Recovers}
 use Rattle.recovery.specs.declared.seen.OpenFault.{OpenFault}
 use Rattle.recovery.specs.declared.seen.OpenFault.TheVariants as open_fault
 use Rattle.recovery.specs.Faults.{IsFault}
-use Rattle.recovery.specs.Opening.{KeepsCells, IsUntouched}
+use Rattle.recovery.specs.Opening.{CallsToOpen, KeepsCells, IsUntouched}
 use Rattle.follower.specs.declared.faults.FollowFault.{FollowFault}
 use Rattle.follower.specs.declared.faults.FollowFault.TheVariants.{Strange, Log}
 use Rattle.follower.specs.Faults.{is_drives}
@@ -22,6 +22,7 @@ pub record Reopens {D : Type 0} (drive : D → Drive) (w count : ℕ) (old : Dri
   pub text : (bytes : List ℕ) → old.bytes ≡ Some bytes → (own : List Cell) × (length own ≡ count) × Recovers w own bytes × IsLog w own (drive log.disk)
   pub told : is_some (drive log.disk).bytes ≡ is_some old.bytes
   pub calm : (drive log.disk).faults ≡ old.faults
+  pub calls : CallsToOpen count old (drive log.disk)
   pub file : SameFile old (drive log.disk)
   pub any_moment : KeepsCells w old (drive log.disk)
 

@@ -1,8 +1,8 @@
 -- What a turn of a follower does, and why it is refused.
-use Rattle.std.specs.Prelude.{◌≡◌, ℕ, ◌+◌, ◌≤◌, ◌<◌, false, List, length, Some, is_some, ⊤}
+use Rattle.std.specs.Prelude.{◌≡◌, ◌⊎◌, ℕ, ◌+◌, ◌≤◌, ◌<◌, false, List, length, Some, is_some, ⊤}
 use Rattle.causes.specs.Causes.{Rose}
 use Rattle.cell_format.specs.declared.cell.Cell.{Cell}
-use Rattle.disk_trait.specs.Drive.{Drive, SameFile}
+use Rattle.disk_trait.specs.Drive.{Drive, HasNoMore, MadeWell, SameFile}
 use Rattle.disk_trait.specs.Moments.{LeavesNow}
 use Rattle.recovery.specs.declared.seen.OpenFault.TheVariants as open_fault
 use Rattle.follower.specs.declared.faults.FollowFault.{FollowFault}
@@ -13,6 +13,16 @@ use Rattle.follower.specs.Follow.{Following, after_turn, cell_of}
 use Rattle.follower.specs.Holding.{FollowerView, HoldsFirst, RecoversFirst, LeavesFirst, IsUntold}
 use Rattle.follower.specs.Faults.{is_drives, most_left}
 
+-- a packet that brings the next cell of so many
+abbrev pub BringsNext : ℕ → Following → Turn → Type 0
+BringsNext count s (Arrive packet) = (cell_of packet s ≡ s.held) × (s.held < count)
+BringsNext count s _ = ⊥
+
+-- the writes, cuts and syncs of a turn: four that add the next cell; a sync that opens the log again, or that, a cut and a sync; and else none
+abbrev pub MakesCalls : ℕ → Following → Turn → Drive → Drive → Type 0
+MakesCalls count s Restart old new = MadeWell 1 old new ⊎ MadeWell 3 old new
+MakesCalls count s turn old new = (BringsNext count s turn → MadeWell 4 old new) × ((BringsNext count s turn → ⊥) → HasNoMore old.calls new.calls)
+
 -- a turn was made: the state after it, and the follower goes on holding the first of the cells; no device call failed
 pub record Turns {D : Type 0} (drive : D → Drive) (cells : List Cell) (turn : Turn) (old new : FollowerView D) : Type 0 where
   pub state : new.state ≡ after_turn (length cells) old.state turn
@@ -20,12 +30,8 @@ pub record Turns {D : Type 0} (drive : D → Drive) (cells : List Cell) (turn : 
   pub holds : HoldsFirst drive cells new
   pub told : is_some (drive new.disk).bytes ≡ is_some (drive old.disk).bytes
   pub calm : (drive new.disk).faults ≡ (drive old.disk).faults
+  pub calls : MakesCalls (length cells) old.state turn (drive old.disk) (drive new.disk)
   pub file : SameFile (drive old.disk) (drive new.disk)
-
--- a packet that brings the next cell of so many
-abbrev pub BringsNext : ℕ → Following → Turn → Type 0
-BringsNext count s (Arrive packet) = (cell_of packet s ≡ s.held) × (s.held < count)
-BringsNext count s _ = ⊥
 
 -- a turn that keeps what was sent
 abbrev pub TakesRoom : Turn → Type 0

@@ -8,7 +8,7 @@ pub returns-in-Send-clause-made : goal.returns-in-Send-clause-made
 returns-in-Send-clause-made g c =
     rw c.in-Send.is
     (IfOk-weaker c.send.result _ _
-    (λ f is. quiet g.D.LogDisk.drive c.args.cells.now c.args.self (g.met.D.LogDisk.keeps_laws c.args.self.disk) c.requires.holds (Send c.in-Send.cell) f is refl) c.send.ensures.sent)
+    (λ f is. quiet g.D.LogDisk.drive c.args.cells.now c.args.self (g.met.D.LogDisk.keeps_laws c.args.self.disk) c.requires.holds (Send c.in-Send.cell) f is refl (λ brings. absurd brings, λ none all told. told)) c.send.ensures.sent)
 
 pub returns-in-Send-clause-failed : goal.returns-in-Send-clause-failed
 returns-in-Send-clause-failed g c =
@@ -19,4 +19,4 @@ returns-in-Send-clause-failed g c =
 pub returns-in-Ack-clause-made : goal.returns-in-Ack-clause-made
 returns-in-Ack-clause-made g c =
     rw c.in-Ack.is
-    (quiet g.D.LogDisk.drive c.args.cells.now c.args.self (g.met.D.LogDisk.keeps_laws c.args.self.disk) c.requires.holds (Ack c.in-Ack.number) c.learn.result c.learn.ensures refl)
+    (quiet g.D.LogDisk.drive c.args.cells.now c.args.self (g.met.D.LogDisk.keeps_laws c.args.self.disk) c.requires.holds (Ack c.in-Ack.number) c.learn.result c.learn.ensures refl (λ brings. absurd brings, λ none all told. told))

@@ -3,7 +3,7 @@ use Rattle.std.proofs.lemmas.Result.{IfOk-weaker, IfErr-weaker}
 use Rattle.follower.specs.declared.turns.Turn.TheVariants.{Arrive}
 use Rattle.follower.specs.Follow.{acknowledging}
 use Rattle.follower.specs.Holding.{with_state}
-use Rattle.follower.proofs.TurnLemmas.{quiet, no_room, added, lost}
+use Rattle.follower.proofs.TurnLemmas.{quiet, no_room, no_calls, added, lost}
 use Rattle.follower.proofs.follower.Follower.arrive.Goals as goal
 
 pub returns-in-Some-clause-made : goal.returns-in-Some-clause-made
@@ -18,7 +18,8 @@ pub returns-in-None-clause-made : goal.returns-in-None-clause-made
 returns-in-None-clause-made g c =
     IfOk-weaker c.acknowledge.result _ _
     (λ f is. quiet g.D.LogDisk.drive c.args.cells.now c.args.self (g.met.D.LogDisk.keeps_laws c.args.self.disk) c.requires.holds (Arrive c.args.packet) f
-    (is ∙ ap (λ n. with_state (acknowledging n c.args.self.state) c.args.self) (sym c.in-None.ensures)) c.in-None.ensures) c.acknowledge.ensures.sent
+    (is ∙ ap (λ n. with_state (acknowledging n c.args.self.state) c.args.self) (sym c.in-None.ensures)) c.in-None.ensures
+    (no_calls g.D.LogDisk.drive c.args.cells.now c.args.self (g.met.D.LogDisk.keeps_laws c.args.self.disk) c.requires.holds c.args.packet c.in-None.ensures)) c.acknowledge.ensures.sent
 
 pub returns-in-None-clause-failed : goal.returns-in-None-clause-failed
 returns-in-None-clause-failed g c =
