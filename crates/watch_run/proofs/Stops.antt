@@ -1,0 +1,154 @@
+-- Why a watch stops before the end of a log.
+use Rattle.std.proofs.Common.{◌≡◌, ◌≢◌, ◌⊎◌, inl, inr, ⊎_elim, ℕ, ◌<◌, ◌≤◌, List, length, Some, None, Result, Err, refl, sym, ◌∙◌, ap, subst, arith}
+use Rattle.causes.specs.Causes.{Rose}
+use Rattle.disk_trait.specs.Drive.{Drive, SameFile, Stays}
+use Rattle.cell_format.specs.declared.cell.Cell.{Cell}
+use Rattle.log_state.specs.Recovers.{Recovers}
+use Rattle.recovery.specs.declared.seen.OpenFault.{OpenFault}
+use Rattle.recovery.specs.declared.seen.OpenFault.TheVariants as fault
+use Rattle.recovery.specs.Faults.{IsFault, IsInBytes}
+use Rattle.recovery.specs.Found.{IsFree, IsWanted}
+use Rattle.recovery.specs.Reading.{OnlyReads}
+use Rattle.recovery.specs.Walks.{IsOfHead}
+use Rattle.recovery.specs.Widths.{IsWidth, HasWidth, IsHeadFault, IsLogFault}
+use Rattle.recovery.proofs.OnlyReading.{rose-earlier, stays-trans}
+use Rattle.recovery.proofs.WidthLemmas.{recovers_width, fault_seen, fault_at, head_seen, head_told}
+use Rattle.csv_rows.specs.declared.rows.Refusal.{Refusal}
+use Rattle.csv_rows.specs.declared.rows.Refusal.TheVariants as refusal
+use Rattle.run_ends.specs.Limits.{most_inspected, oldest_read}
+use Rattle.run_ends.specs.LogFaults.{log_refusal}
+use Rattle.run_ends.proofs.LogFaults.{reading-after, calm-free, calm-named}
+use Rattle.log_run.specs.Checking.{IsCheckingCause}
+use Rattle.log_run.proofs.DriveSteps.{calm-read}
+use Rattle.fence_watch.specs.declared.fences.Fence.{Fence}
+use Rattle.watch_run.specs.Watching.{IsCrowded, IsWatchingCause, ShowsCrowd}
+use Rattle.watch_run.specs.inside.Along.{IsCalm, RefusesAlong}
+use Rattle.watch_run.proofs.Crowds.{crowd-recovers, crowd-width}
+
+pub stays-still : (a : Drive) → Stays a a
+stays-still a = record { bytes = refl; images = λ c left. left; clock = refl; since = λ t c left. left; keeps = λ t c left. left; calls = λ all told. told }
+
+pub calm-still : (a : Drive) → IsCalm a a
+calm-still a = record { stays = stays-still a; same = refl; file = λ all told. told }
+
+pub calm-trans : (a b c : Drive) → IsCalm a b → IsCalm b c → IsCalm a c
+calm-trans a b c first second = record { stays = stays-trans a b c first.stays second.stays; same = second.same ∙ first.same; file = λ all told. first.file all (second.file all told) }
+
+-- a fault that a call tells which only reads, and what the bytes say of it
+pub record FailsAlong (fences : List Fence) (old new : Drive) (e : OpenFault) : Type 0 where
+  pub wrong : (bytes : List ℕ) → old.bytes ≡ Some bytes → IsLogFault oldest_read most_inspected bytes e
+  pub crowd : (bytes : List ℕ) → old.bytes ≡ Some bytes → IsCrowded fences bytes → IsFree old new e
+  pub exact : (bytes : List ℕ) (f : OpenFault) → old.bytes ≡ Some bytes → IsInBytes f → IsLogFault oldest_read most_inspected bytes f → (e ≡ f) ⊎ IsFree old new e
+  pub whole : (bytes : List ℕ) (w : ℕ) (cells : List Cell) → old.bytes ≡ Some bytes → IsWidth w → Recovers w cells bytes → length cells ≤ most_inspected → IsFree old new e
+  pub reads : OnlyReads {T = Unit {0}} old new (Err e)
+
+-- the refusal of a fault
+pub refuses-fault : (fences : List Fence) (old new : Drive) (e : OpenFault) → FailsAlong fences old new e → RefusesAlong fences old new (log_refusal e)
+refuses-fault fences old new e fails =
+    let rose : e ≡ fault.Disk → Rose old.faults new.faults = λ disk. fails.reads.failed (ap (λ (f : OpenFault). Err f) disk) in
+    record {
+      cause = inl (reading-after oldest_read most_inspected old old new e (stays-still old) (omega arith) fails.wrong rose);
+      over = λ bytes told crowd calm. inr (calm-free old old new e (omega arith) calm (fails.crowd bytes told crowd));
+      exact = λ bytes f told shown is none calm. calm-named old old new e f (omega arith) calm (fails.exact bytes f told shown is);
+      whole = λ bytes w cells told known recovers few under calm. calm-free old old new e (omega arith) calm (fails.whole bytes w cells told known recovers few);
+      stays = fails.reads.stays;
+      calm = calm-read old.faults old.faults new.faults e refl fails.reads.same;
+    }
+
+-- want of memory
+pub refuses-memory : (fences : List Fence) (old new : Drive) → Stays old new → new.faults ≡ old.faults → RefusesAlong fences old new refusal.Memory
+refuses-memory fences old new stays same = record {
+  cause = inl tt;
+  over = λ bytes told crowd calm. inr refl;
+  exact = λ bytes f told shown is none calm. inr refl;
+  whole = λ bytes w cells told known recovers few under calm. refl;
+  stays = stays;
+  calm = λ other. same;
+}
+
+-- too many crossings
+pub refuses-crowd : (fences : List Fence) (old new : Drive) → IsCalm old new → ShowsCrowd fences old → RefusesAlong fences old new refusal.LongEvents
+refuses-crowd fences old new calm crowd = record {
+  cause = inr (refl, crowd);
+  over = λ bytes told is steady. inl refl;
+  exact = λ bytes f told shown is none steady. absurd (none (crowd bytes told));
+  whole = λ bytes w cells told known recovers few under steady. absurd (omega (arith, under, crowd-recovers fences bytes (crowd bytes told) w cells recovers few));
+  stays = calm.stays;
+  calm = λ other. calm.same;
+}
+
+-- what is said of a drive that was only read before
+module _ (a b c : Drive) (stays : Stays a b) (same : b.faults ≡ a.faults) where
+  rose-first : Rose b.faults c.faults → Rose a.faults c.faults
+  rose-first rose = subst (λ n. Rose n c.faults) same rose
+
+  rose-then : Rose a.faults c.faults → Rose b.faults c.faults
+  rose-then rose = subst (λ n. Rose n c.faults) (sym same) rose
+
+  cause-later : (why : Refusal) → IsCheckingCause b c why → IsCheckingCause a c why
+  cause-later refusal.NotLog cause = λ bytes told. cause bytes (stays.bytes ∙ told)
+  cause-later (refusal.OldLog version width) cause = λ bytes told. cause bytes (stays.bytes ∙ told)
+  cause-later (refusal.Damaged cell what) cause = λ bytes told. cause bytes (stays.bytes ∙ told)
+  cause-later (refusal.Disk None) cause = rose-first cause
+  cause-later refusal.LongLog cause = λ bytes told. cause bytes (stays.bytes ∙ told)
+  cause-later refusal.Memory cause = tt
+  cause-later (refusal.Disk (Some cell)) cause = absurd cause
+  cause-later refusal.Usage cause = absurd cause
+  cause-later refusal.Header cause = absurd cause
+  cause-later (refusal.Csv row) cause = absurd cause
+  cause-later (refusal.Field row column) cause = absurd cause
+  cause-later refusal.Source cause = absurd cause
+  cause-later refusal.LongInput cause = absurd cause
+  cause-later refusal.ManyRows cause = absurd cause
+  cause-later refusal.LongEvents cause = absurd cause
+  cause-later (refusal.Strange cell) cause = absurd cause
+  cause-later (refusal.InUse len) cause = absurd cause
+
+  pub refuses-later : (fences : List Fence) (why : Refusal) → RefusesAlong fences b c why → RefusesAlong fences a c why
+  refuses-later fences why refuses = record {
+    cause = ⊎_elim (λ cause. inl (cause-later why cause)) (λ crowd. inr (crowd.0, λ bytes told. crowd.1 bytes (stays.bytes ∙ told))) refuses.cause;
+    over = λ bytes told crowd calm. refuses.over bytes (stays.bytes ∙ told) crowd (λ rose. calm (rose-first rose));
+    exact = λ bytes f told shown is none calm. refuses.exact bytes f (stays.bytes ∙ told) shown is none (λ rose. calm (rose-first rose));
+    whole = λ bytes w cells told known recovers few under calm. refuses.whole bytes w cells (stays.bytes ∙ told) known recovers few under (λ rose. calm (rose-first rose));
+    stays = stays-trans a b c stays refuses.stays;
+    calm = λ other. refuses.calm other ∙ same;
+  }
+
+-- a head that isn't read
+module _ (fences : List Fence) (old new : Drive) (e : OpenFault) (reads : OnlyReads {T = Unit {0}} old new (Err e)) where
+  rose-told : e ≡ fault.Disk → Rose old.faults new.faults
+  rose-told disk = reads.failed (ap (λ (f : OpenFault). Err f) disk)
+
+  -- of a log whose width is asked for
+  pub fails-width : ((bytes : List ℕ) → old.bytes ≡ Some bytes → IsHeadFault bytes e) → ((bytes : List ℕ) (w : ℕ) → old.bytes ≡ Some bytes → HasWidth w bytes → Rose old.faults new.faults) → FailsAlong fences old new e
+  fails-width wrong whole = record {
+    wrong = λ bytes told. head_seen oldest_read most_inspected bytes (omega arith) e (wrong bytes told);
+    crowd = λ bytes told crowd. inr (whole bytes crowd.width told (crowd-width fences bytes crowd));
+    exact = λ bytes f told shown is. ⊎_elim inl (λ rose. inr (inr rose)) (head_told oldest_read most_inspected bytes old.faults new.faults e f (wrong bytes told) rose-told shown is);
+    whole = λ bytes w cells told known recovers few. inr (whole bytes w told (recovers_width w cells bytes known recovers));
+    reads = reads;
+  }
+
+  -- of a log whose width is known already
+  module _ (w : ℕ) (has : (bytes : List ℕ) → old.bytes ≡ Some bytes → HasWidth w bytes) (wrong : (bytes : List ℕ) → old.bytes ≡ Some bytes → IsFault oldest_read w most_inspected bytes e) where
+    -- where it is told before the first cell, the bytes don't show it
+    head-free : (f : OpenFault) → (f ≡ fault.Disk → Rose old.faults new.faults) → IsOfHead f → (bytes : List ℕ) → HasWidth w bytes → IsFault oldest_read w most_inspected bytes f → IsFree old new f
+    head-free fault.NotLog rose head bytes has is = absurd (has.is_log is)
+    head-free (fault.OldLog version width) rose head bytes has is = ⊎_elim
+        (λ other. absurd (other (subst (IsWanted oldest_read) (sym is.version_is) has.version)))
+        (λ other. absurd (other (is.width_is ∙ sym has.named))) is.other
+    head-free (fault.Damaged n why) rose head bytes has is = absurd head
+    head-free (fault.TooLong limit) rose head bytes has is = absurd head
+    head-free fault.Disk rose head bytes has is = inr (rose refl)
+    head-free fault.Memory rose head bytes has is = inl refl
+
+    pub fails-start : IsOfHead e → FailsAlong fences old new e
+    fails-start head =
+        let free : (bytes : List ℕ) → old.bytes ≡ Some bytes → IsFree old new e = λ bytes told. head-free e rose-told head bytes (has bytes told) (wrong bytes told) in
+        record {
+          wrong = λ bytes told. fault_seen oldest_read most_inspected bytes w (has bytes told) e (wrong bytes told);
+          crowd = λ bytes told crowd. free bytes told;
+          exact = λ bytes f told shown is. inr (free bytes told);
+          whole = λ bytes u cells told known recovers few. free bytes told;
+          reads = reads;
+        }

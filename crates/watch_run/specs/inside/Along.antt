@@ -1,0 +1,93 @@
+-- How a watch goes along the cells of a log.
+use Rattle.std.specs.Prelude.{◌≡◌, ◌≢◌, ◌⊎◌, ◌≤◌, ℕ, List, [], length, Some, false}
+use Rattle.causes.specs.Causes.{Rose}
+use Rattle.disk_trait.specs.Drive.{Drive, SameFile, Stays}
+use Rattle.cell_format.specs.declared.cell.Cell.{Cell}
+use Rattle.log_state.specs.Recovers.{Recovers}
+use Rattle.recovery.specs.Faults.{IsInBytes}
+use Rattle.recovery.specs.Walks.{ComesTo, WalkView}
+use Rattle.recovery.specs.Widths.{IsWidth, HasWidth, IsLogFault}
+use Rattle.recovery.specs.declared.seen.OpenFault.{OpenFault}
+use Rattle.csv_rows.specs.declared.rows.Refusal.{Refusal}
+use Rattle.csv_rows.specs.declared.rows.Refusal.TheVariants as refusal
+use Rattle.run_ends.specs.Limits.{most_inspected, oldest_read}
+use Rattle.run_ends.specs.LogFaults.{log_refusal}
+use Rattle.run_ends.specs.Status.{status_of}
+use Rattle.run_ends.specs.Attaching.{AttachesOnce}
+use Rattle.log_run.specs.Checking.{FindsCells, HasRead}
+use Rattle.fence_watch.specs.declared.fences.Fence.{Fence}
+use Rattle.fence_watch.specs.Crossings.{crossings}
+use Rattle.fence_watch.specs.Watches.{FollowsCells, WatchView, most_events}
+use Rattle.fence_watch.specs.declared.watch.WatchFault.{WatchFault}
+use Rattle.fence_watch.specs.declared.watch.WatchFault.TheVariants as fault
+use Rattle.watch_run.specs.Watching.{IsCrowded, IsWatchingCause}
+
+-- the drive was only read, and no call failed
+pub record IsCalm (old new : Drive) : Type 0 where
+  pub stays : Stays old new
+  pub same : new.faults ≡ old.faults
+  pub file : SameFile old new
+
+-- a watch along all cells of a log
+pub record FindsAlong (fences : List Fence) (old : Drive) (v : WatchView) : Type 0 where
+  pub width : ℕ
+  pub cells : List Cell
+  pub found : FindsCells width old cells
+  pub follows : FollowsCells cells fences v
+  pub under : length v.events ≤ most_events
+
+-- of one that was attached already
+pub record RunsAlong (fences : List Fence) (old new : Drive) (v : WatchView) : Type 0 where
+  pub finds : FindsAlong fences old v
+  pub calm : IsCalm old new
+
+-- of the one in a file of this name
+pub record RunsFile (fences : List Fence) (file : List ℕ) (old new : Drive) (v : WatchView) : Type 0 where
+  pub finds : FindsAlong fences old v
+  pub read : HasRead file old new
+  pub stays : Stays old new
+
+-- why a watch doesn't come to the log's end, and what the bytes say of that
+pub record RefusesAlong (fences : List Fence) (old new : Drive) (why : Refusal) : Type 0 where
+  pub cause : IsWatchingCause fences old new why
+  pub over : (bytes : List ℕ) → old.bytes ≡ Some bytes → IsCrowded fences bytes → (Rose old.faults new.faults → ⊥) → (why ≡ refusal.LongEvents) ⊎ (why ≡ refusal.Memory)
+  pub exact : (bytes : List ℕ) (fault : OpenFault) → old.bytes ≡ Some bytes → IsInBytes fault → IsLogFault oldest_read most_inspected bytes fault → (IsCrowded fences bytes → ⊥)
+      → (Rose old.faults new.faults → ⊥) → (why ≡ log_refusal fault) ⊎ (why ≡ refusal.Memory)
+  pub whole : (bytes : List ℕ) (w : ℕ) (cells : List Cell) → old.bytes ≡ Some bytes → IsWidth w → Recovers w cells bytes → length cells ≤ most_inspected → length (crossings cells fences) ≤ most_events
+      → (Rose old.faults new.faults → ⊥) → why ≡ refusal.Memory
+  pub stays : Stays old new
+  pub calm : status_of why ≢ 7 → new.faults ≡ old.faults
+
+-- the same of the log in a file of this name
+pub record RefusesFile (fences : List Fence) (file : List ℕ) (old new : Drive) (why : Refusal) : Type 0 where
+  pub refuses : RefusesAlong fences old new why
+  pub attached : AttachesOnce file false old new (status_of why)
+
+-- of one that was attached already
+pub record RefusesAttached (fences : List Fence) (old new : Drive) (why : Refusal) : Type 0 where
+  pub refuses : RefusesAlong fences old new why
+  pub file : SameFile old new
+
+-- a walk before the first cell of a log of this width
+pub record IsStarted {D : Type 0} (w : ℕ) (drive : Drive) (walk : WalkView D) : Type 0 where
+  pub known : IsWidth w
+  pub told : (bytes : List ℕ) → drive.bytes ≡ Some bytes → HasWidth w bytes
+  pub came : ComesTo w most_inspected [] drive walk
+
+-- with a watch of these fences
+pub record IsBegun {D : Type 0} (w : ℕ) (fences : List Fence) (drive : Drive) (walk : WalkView D) (v : WatchView) : Type 0 where
+  pub started : IsStarted w drive walk
+  pub none : FollowsCells [] fences v
+
+-- both behind the same cells
+pub record HaveFollowed {D : Type 0} (w : ℕ) (fences : List Fence) (first now : Drive) (walk : WalkView D) (v : WatchView) : Type 0 where
+  pub cells : List Cell
+  pub came : ComesTo w most_inspected cells now walk
+  pub follows : FollowsCells cells fences v
+  pub under : length v.events ≤ most_events
+  pub calm : IsCalm first now
+
+-- the refusal of a fault of a watch
+abbrev pub watch_refusal : WatchFault → Refusal
+watch_refusal fault.TooMany = refusal.LongEvents
+watch_refusal fault.Memory = refusal.Memory

@@ -1,0 +1,56 @@
+//! The command `watch`.
+ghost use Rattle.std.specs.Prelude.{◌≡◌, []};
+ghost use Rattle.run_ends.specs.Ends.{targets};
+ghost use Rattle.watch_run.specs.Watching.{EndsWatching, GoesAlong};
+
+use crate::lines::write_watch;
+use crate::reading::read_watched;
+use crate::walking::{Along, follow};
+use disk_trait::LogDisk;
+use fence_watch::Fences;
+use io_edge::{Sink, Source};
+use run_ends::{Ended, Unmade, refuse_on, without_rows, written};
+use std::alloc::Global;
+
+/// Tells who enters and leaves the fences of a source along the log in a file of this name, of version 1 or 2, and how many are inside each
+/// behind its last cell.
+///
+/// The order of work, and of refusals: source, length of the input, fences, attach, width of the log, its cells, lines. The first line is
+/// written once all cells were walked.
+pub fn watch_log<S: Source, K: Sink, D: LogDisk>(
+    alloc: Global,
+    file: &str,
+    source: &mut S,
+    sink: &mut K,
+    disk: D,
+) -> Ended<D>
+    ensures goes { GoesAlong file.now (S.input source.old) (S.input source.new) (targets K.output D.drive sink.old disk)
+        (targets K.output D.drive sink.new result.disk) result.status }
+    ensures none { result.events ≡ [] }
+{
+    match read_watched(alloc, source) {
+        Ok(fences) => tell_watch(alloc, file, &fences, sink, disk),
+        Err(why) => refuse_on(alloc, &why, sink, disk),
+    }
+}
+
+// Tells of these fences along the log in a file.
+fn tell_watch<K: Sink, D: LogDisk>(
+    alloc: Global,
+    file: &str,
+    fences: &Fences,
+    sink: &mut K,
+    disk: D,
+) -> Ended<D>
+    ensures ends { EndsWatching fences.now file.now (targets K.output D.drive sink.old disk)
+        (targets K.output D.drive sink.new result.disk) result.status }
+    ensures none { result.events ≡ [] }
+{
+    match follow(alloc, file, fences, disk) {
+        Ok(Along { watch, disk }) => {
+            let status = written(write_watch(sink, &watch, fences.as_slice()));
+            without_rows(alloc, status, disk)
+        }
+        Err(Unmade { disk, why }) => refuse_on(alloc, &why, sink, disk),
+    }
+}
