@@ -1,0 +1,155 @@
+-- What `follow` does to the second file: it is opened over the leader's cells, and the turns are played.
+use Rattle.std.specs.Prelude.{◌≡◌, ◌≢◌, ◌⊎◌, ◌+◌, ◌<◌, ◌≤◌, ℕ, List, ◌∷◌, length, take, drop, Some, None, true, ⊤}
+use Rattle.causes.specs.Causes.{Rose}
+use Rattle.disk_trait.specs.Drive.{Drive}
+use Rattle.disk_trait.specs.Moments.{LeavesNow, LeavesOnly, LeavesSince}
+use Rattle.cell_format.specs.declared.cell.Cell.{Cell}
+use Rattle.cell_format.specs.Spelling.{newest}
+use Rattle.log_state.specs.Recovers.{Recovers}
+use Rattle.recovery.specs.Faults.{IsFault, IsInBytes}
+use Rattle.recovery.specs.Making.{IsSmall}
+use Rattle.recovery.specs.Opening.{IsUntouched}
+use Rattle.recovery.specs.declared.seen.OpenFault.{OpenFault}
+use Rattle.recovery.specs.declared.seen.OpenFault.TheVariants as open_fault
+use Rattle.csv_rows.specs.declared.rows.Refusal.{Refusal}
+use Rattle.csv_rows.specs.declared.rows.Refusal.TheVariants as refusal
+use Rattle.follower.specs.declared.faults.FollowFault.{FollowFault}
+use Rattle.follower.specs.declared.faults.FollowFault.TheVariants as follow_fault
+use Rattle.follower.specs.declared.turns.Turn.{Turn}
+use Rattle.follower.specs.declared.turns.Turn.TheVariants.{Restart}
+use Rattle.follower.specs.Follow.{Following, opened_with, after_turns, reports, IsSound}
+use Rattle.follower.specs.Holding.{RecoversFirst, IsUntold}
+use Rattle.follower.specs.Opening.{IsStrange, IsTaken, KeepsTarget, most_held}
+use Rattle.follower.specs.Turning.{BringsNext}
+use Rattle.io_edge.specs.Streams.{Output}
+use Rattle.run_ends.specs.LogFaults.{log_refusal}
+use Rattle.run_ends.specs.Taking.{Refuses}
+use Rattle.run_ends.specs.Ending.{EndsWriting, EndsRefused}
+use Rattle.run_ends.specs.Attaching.{AttachesOnce}
+use Rattle.follow_run.specs.Lines.{reports_text}
+
+-- the refusal of a fault of a follower
+abbrev pub follow_refusal : FollowFault → Refusal
+follow_refusal (follow_fault.Strange cell) = refusal.Strange cell
+follow_refusal (follow_fault.Log fault) = log_refusal fault
+follow_refusal (follow_fault.Append cell) = refusal.Disk (Some cell)
+follow_refusal follow_fault.Disk = refusal.Disk None
+follow_refusal follow_fault.Memory = refusal.Memory
+
+-- where the bytes are known, they are more than 17, and this is at fault in them for whoever opens a log
+abbrev pub ShowsLogFault : ℕ → Drive → OpenFault → Type 0
+ShowsLogFault w old fault = (bytes : List ℕ) → old.bytes ≡ Some bytes → (17 < length bytes) × IsFault newest w most_held bytes fault
+
+-- why the second file isn't opened: the first of its cells that isn't the leader's, what is first at fault in its bytes, the drive's count rose, or
+-- memory ran out
+abbrev pub IsReplicaCause : ℕ → List Cell → Drive → Drive → Refusal → Type 0
+IsReplicaCause w cells old new (refusal.Strange cell) = (bytes : List ℕ) → old.bytes ≡ Some bytes → IsStrange w cells bytes cell
+IsReplicaCause w cells old new refusal.NotLog = ShowsLogFault w old open_fault.NotLog
+IsReplicaCause w cells old new (refusal.OldLog version width) = ShowsLogFault w old (open_fault.OldLog version width)
+IsReplicaCause w cells old new (refusal.Damaged cell cause) = ShowsLogFault w old (open_fault.Damaged cell cause)
+IsReplicaCause w cells old new refusal.LongLog = ShowsLogFault w old (open_fault.TooLong most_held)
+IsReplicaCause w cells old new (refusal.Disk None) = Rose old.faults new.faults
+IsReplicaCause w cells old new refusal.Memory = ⊤
+IsReplicaCause w cells old new _ = ⊥
+
+-- The second file isn't opened. But where the drive failed, it is left as it was where its bytes are known, and so is its count of faults.
+pub record IsUnopened (w : ℕ) (cells : List Cell) (old new : Drive) (status : ℕ) (before after : Output) : Type 0 where
+  pub refused : EndsRefused (IsReplicaCause w cells old new) status before after
+  pub untouched : status ≢ 7 → (bytes : List ℕ) → old.bytes ≡ Some bytes → IsUntouched old new
+  -- what a crash left there it leaves at each moment of the opening, which goes on only where a follower takes the file
+  pub keeps : KeepsTarget w cells old new
+
+-- the plain machine after the first of these turns, so many, where so many cells were held at first and the leader has so many
+abbrev pub machine_at : ℕ → ℕ → List Turn → ℕ → Following
+machine_at count first turns made = after_turns count (opened_with first) (take made turns)
+
+-- the next turn opens the log again, and the drive doesn't tell its bytes
+abbrev pub OpensUntold : List Turn → Drive → Type 0
+OpensUntold rest old = ((later : List Turn) × (rest ≡ Restart ∷ later)) × IsUntold old
+
+-- Why the turns stop before these, at a state of the machine: the append of the next cell failed, or the drive did where the log was opened
+-- again, or memory ran out. Only over a drive that doesn't tell its bytes a log that is opened again may be found to be another.
+abbrev pub IsStop : ℕ → Following → List Turn → Drive → Drive → Refusal → Type 0
+IsStop count s rest old new (refusal.Disk (Some cell)) =
+    ((turn : Turn) × (later : List Turn) × (rest ≡ turn ∷ later) × BringsNext count s turn) × (cell ≡ s.held) × Rose old.faults new.faults
+IsStop count s rest old new (refusal.Disk None) = ((later : List Turn) × (rest ≡ Restart ∷ later)) × Rose old.faults new.faults
+IsStop count s rest old new refusal.Memory = ⊤
+IsStop count s rest old new (refusal.Strange cell) = OpensUntold rest old × (cell ≤ s.held)
+IsStop count s rest old new refusal.NotLog = OpensUntold rest old
+IsStop count s rest old new (refusal.OldLog version width) = OpensUntold rest old
+IsStop count s rest old new (refusal.Damaged cell cause) = OpensUntold rest old
+IsStop count s rest old new refusal.LongLog = OpensUntold rest old
+IsStop count s rest old new _ = ⊥
+
+-- how many cells a crash leaves at most, where so many are held: one more behind an append that failed
+abbrev pub most_behind : Refusal → ℕ → ℕ
+most_behind (refusal.Disk (Some cell)) held = held + 1
+most_behind _ held = held
+
+-- All turns were made, and their reports told. A crash leaves the cells that are held, exactly.
+pub record TellsReports (w : ℕ) (cells : List Cell) (first : ℕ) (turns : List Turn) (made : ℕ) (old new : Drive) (status : ℕ) (before after : Output) : Type 0 where
+  pub all : made ≡ length turns
+  pub wrote : EndsWriting (reports_text (reports (length cells) (opened_with first) turns)) status before after
+  pub exactly : (bytes : List ℕ) → old.bytes ≡ Some bytes → LeavesNow new (Recovers w (take (machine_at (length cells) first turns made).held cells))
+
+-- The turns stopped behind those that were made, for this reason. A crash leaves the cells that are held, exactly, or one more behind a failed
+-- append.
+pub record StopsTurns (w : ℕ) (cells : List Cell) (first : ℕ) (turns : List Turn) (made : ℕ) (old new : Drive) (why : Refusal) : Type 0 where
+  pub cause : IsStop (length cells) (machine_at (length cells) first turns made) (drop made turns) old new why
+  pub leaves :
+      (bytes : List ℕ) → old.bytes ≡ Some bytes
+      → let held = (machine_at (length cells) first turns made).held in LeavesNow new (RecoversFirst w cells held (most_behind why held))
+
+-- the reports of all turns were written, or the turns stopped and the refusal was
+abbrev pub EndsTurns : ℕ → List Cell → ℕ → List Turn → ℕ → Drive → Drive → ℕ → Output → Output → Type 0
+EndsTurns w cells first turns made old new status before after =
+    TellsReports w cells first turns made old new status before after ⊎ EndsRefused (StopsTurns w cells first turns made old new) status before after
+
+-- a moment since which a crash leaves the first of the cells, at least so many
+pub record LeavesFrom (w : ℕ) (cells : List Cell) (least : ℕ) (new : Drive) : Type 0 where
+  pub moment : ℕ
+  pub ended : moment ≤ new.clock
+  pub since : LeavesSince new moment (RecoversFirst w cells least (length cells))
+
+-- What a crash leaves of the second file, where its bytes are known. At each moment that is what a crash left before it was opened, small bytes or
+-- the cells that it had, or the first of the leader's cells. From when it was opened and some turns were made, these are at least as many as
+-- were held then, of which no more were known to be.
+pub record KeepsFirst (w : ℕ) (cells : List Cell) (first : ℕ) (turns : List Turn) (made : ℕ) (old new : Drive) : Type 0 where
+  pub small : (bytes : List ℕ) → old.bytes ≡ Some bytes → LeavesNow old IsSmall → LeavesOnly old new (λ image. IsSmall image ⊎ RecoversFirst w cells first (length cells) image)
+  pub log :
+      (bytes : List ℕ) → old.bytes ≡ Some bytes → 17 < length bytes → LeavesNow old (Recovers w (take first cells))
+      → LeavesOnly old new (RecoversFirst w cells first (length cells))
+  pub from : (bytes : List ℕ) (n : ℕ) → old.bytes ≡ Some bytes → n ≤ made → LeavesFrom w cells (machine_at (length cells) first turns n).held new
+  pub sound : (n : ℕ) → n ≤ made → IsSound (machine_at (length cells) first turns n)
+
+-- The second file was opened, and had so many of the leader's cells then; so many turns were made.
+pub record PlaysTurns (w : ℕ) (cells : List Cell) (turns : List Turn) (old new : Drive) (status : ℕ) (before after : Output) : Type 0 where
+  pub first : ℕ
+  pub few : first ≤ length cells
+  pub found : (bytes : List ℕ) → old.bytes ≡ Some bytes → IsTaken w cells bytes first
+  pub made : ℕ
+  pub part : made ≤ length turns
+  pub ends : EndsTurns w cells first turns made old new status before after
+  pub keeps : KeepsFirst w cells first turns made old new
+
+-- What the bytes of the second file decide, unless its drive's count rose or memory ran out: a fault that they show is told, and the first cell that
+-- isn't the leader's, and over bytes that a follower takes all turns are told.
+pub record IsDecidedThere (w : ℕ) (cells : List Cell) (old new : Drive) (status : ℕ) (before after : Output) : Type 0 where
+  pub exact :
+      (bytes : List ℕ) (fault : OpenFault) → old.bytes ≡ Some bytes → 17 < length bytes → IsInBytes fault → IsFault newest w most_held bytes fault → (Rose old.faults new.faults → ⊥)
+      → Refuses (log_refusal fault) status before after ⊎ (status ≡ 9)
+  pub strange :
+      (bytes : List ℕ) (cell : ℕ) → old.bytes ≡ Some bytes → IsStrange w cells bytes cell → (Rose old.faults new.faults → ⊥)
+      → Refuses (refusal.Strange cell) status before after ⊎ (status ≡ 9)
+  pub whole :
+      (bytes : List ℕ) (first : ℕ) → old.bytes ≡ Some bytes → IsTaken w cells bytes first → (Rose old.faults new.faults → ⊥) → (Rose before.faults after.faults → ⊥)
+      → (status ≡ 0) ⊎ (status ≡ 9)
+
+-- The leader's cells were followed in the file of this name along turns.
+pub record EndsReplica (w : ℕ) (cells : List Cell) (turns : List Turn) (name : List ℕ) (old new : Drive) (status : ℕ) (before after : Output) : Type 0 where
+  pub ends : IsUnopened w cells old new status before after ⊎ PlaysTurns w cells turns old new status before after
+  pub decided : IsDecidedThere w cells old new status before after
+  -- the drive's count is as it was, but where a drive is what is told to have failed
+  pub calm : status ≢ 7 → new.faults ≡ old.faults
+  -- this file is attached, and made where it isn't there
+  pub attached : AttachesOnce name true old new status

@@ -1,0 +1,122 @@
+//! The leader's cells: those of the log in the first file.
+ghost use Rattle.std.specs.Prelude.{◌≡◌, ◌⊎◌, ◌∷◌, ◌++◌, ℕ, List, [], Some, Ok, Err, IfOk, IfErr, OnOk, IsOkUnless, MatchResult};
+ghost use Rattle.std.specs.Result.{IsErrAnd};
+ghost use Rattle.cell_format.specs.declared.cell.Cell.{Cell};
+ghost use Rattle.recovery.specs.declared.seen.OpenFault.{OpenFault};
+ghost use Rattle.recovery.specs.Faults.{IsFault, IsInBytes};
+ghost use Rattle.recovery.specs.Found.{IsFree};
+ghost use Rattle.recovery.specs.Reading.{OnlyReads};
+ghost use Rattle.recovery.specs.Walks.{ComesTo};
+ghost use Rattle.recovery.specs.Widths.{IsWidth, IsLogFault};
+ghost use Rattle.follower.specs.Holding.{most_cells};
+ghost use Rattle.run_ends.specs.Limits.{oldest_read};
+ghost use Rattle.follow_run.specs.Leading.{FindsLeader, RecoversLeader, ReadsLeader, LosesLeader};
+
+use cell_format::Cell;
+use disk_trait::LogDisk;
+use recovery::{OpenFault, OpenRefused, Walk, width_of};
+use run_ends::{Unmade, attach_refusal, log_refusal};
+use std::alloc::Global;
+
+/// How many cells a leader may have.
+const MOST_CELLS: u64 = 1 << 20;
+
+/// The cells of a log and its width, with the drive from which they were read.
+#[derive(Drop)]
+pub(crate) struct Leader<D: LogDisk> {
+    pub(crate) disk: D,
+    pub(crate) cells: Vec<Cell>,
+    pub(crate) width: u8,
+}
+
+/// Reads the log in the file of this name, of version 1 or 2 and of either width.
+pub(crate) fn find_leader<D: LogDisk>(
+    alloc: Global,
+    file: &str,
+    mut disk: D,
+) -> Result<Leader<D>, Unmade<D>>
+    ensures read { IfOk result (λ l. ReadsLeader file.now l.width (D.drive disk) (D.drive l.disk) l.cells.items) }
+    ensures lost { IfErr result (λ e. LosesLeader file.now (D.drive disk) (D.drive e.disk) e.why) }
+{
+    if let Err(fault) = disk.attach(alloc, file, false) {
+        let why = attach_refusal(fault);
+        return Err(Unmade { disk, why });
+    }
+    match read_leader(alloc, disk) {
+        Ok(leader) => Ok(leader),
+        Err(OpenRefused { disk, cause }) => {
+            let why = log_refusal(cause);
+            Err(Unmade { disk, why })
+        }
+    }
+}
+
+// Reads the log on a drive by the width that it has.
+fn read_leader<D: LogDisk>(alloc: Global, mut disk: D) -> Result<Leader<D>, OpenRefused<D>>
+    ensures found { IfOk result (λ l. FindsLeader l.width (D.drive disk) l.cells.items) }
+    ensures fault { IfErr result (λ e. (bytes : List ℕ) → (D.drive disk).bytes ≡ Some bytes
+        → IsLogFault oldest_read most_cells bytes e.cause) }
+    ensures exact { (bytes : List ℕ) (fault : OpenFault) → (D.drive disk).bytes ≡ Some bytes → IsInBytes fault
+        → IsLogFault oldest_read most_cells bytes fault
+        → IsErrAnd result (λ e. (e.cause ≡ fault) ⊎ IsFree (D.drive disk) (D.drive e.disk) e.cause) }
+    ensures whole { (w : ℕ) (cells : List Cell) → RecoversLeader w cells (D.drive disk)
+        → IfErr result (λ e. IsFree (D.drive disk) (D.drive e.disk) e.cause) }
+    ensures reads { MatchResult result (λ l. OnlyReads {T = Unit {0}} (D.drive disk) (D.drive l.disk) (Ok tt))
+        (λ e. OnlyReads {T = Unit {0}} (D.drive disk) (D.drive e.disk) (Err e.cause)) }
+{
+    match width_of(&mut disk) {
+        Ok(width) => walk_leader(alloc, disk, width),
+        Err(cause) => Err(OpenRefused { disk, cause }),
+    }
+}
+
+// The same by this width.
+fn walk_leader<D: LogDisk>(alloc: Global, disk: D, width: u8) -> Result<Leader<D>, OpenRefused<D>>
+    requires width { IsWidth width }
+    ensures found { IfOk result (λ l. (l.width ≡ width) × FindsLeader width (D.drive disk) l.cells.items) }
+    ensures fault { IfErr result (λ e. (bytes : List ℕ) → (D.drive disk).bytes ≡ Some bytes
+        → IsFault oldest_read width most_cells bytes e.cause) }
+    ensures reads { MatchResult result (λ l. OnlyReads {T = Unit {0}} (D.drive disk) (D.drive l.disk) (Ok tt))
+        (λ e. OnlyReads {T = Unit {0}} (D.drive disk) (D.drive e.disk) (Err e.cause)) }
+{
+    let mut walk = match Walk::start(alloc, disk, width, MOST_CELLS) {
+        Ok(walk) => walk,
+        Err(refused) => return Err(refused),
+    };
+    match collect(alloc, &mut walk) {
+        Ok(cells) => {
+            let disk = walk.finish().disk;
+            Ok(Leader { disk, cells, width })
+        }
+        Err(cause) => {
+            let disk = walk.finish().disk;
+            Err(OpenRefused { disk, cause })
+        }
+    }
+}
+
+// All cells of a walk that has just begun.
+fn collect<D: LogDisk>(alloc: Global, walk: &mut Walk<D>) -> Result<Vec<Cell>, OpenFault>
+    requires width { IsWidth walk.old.reading.replay.width }
+    requires begun { ComesTo walk.old.reading.replay.width most_cells [] (D.drive walk.old.disk) walk.old }
+    ensures found { IfOk result (λ cells. FindsLeader walk.old.reading.replay.width (D.drive walk.old.disk) cells.items) }
+    ensures fault { IfErr result (λ e. (bytes : List ℕ) → (D.drive walk.old.disk).bytes ≡ Some bytes
+        → IsFault oldest_read walk.old.reading.replay.width most_cells bytes e) }
+    ensures reads { OnlyReads (D.drive walk.old.disk) (D.drive walk.new.disk) result }
+{
+    let mut cells = Vec::new(alloc);
+    while let Some(walked) = walk.next()? {
+        keep(&mut cells, walked.cell)?;
+    }
+    Ok(cells)
+}
+
+fn keep(cells: &mut Vec<Cell>, cell: Cell) -> Result<(), OpenFault>
+    ensures kept { OnOk result (cells.new.items ≡ cells.old.items ++ cell ∷ []) }
+    ensures memory { IsOkUnless result OpenFault.Memory }
+{
+    match cells.push(cell) {
+        Ok(()) => Ok(()),
+        Err(_) => Err(OpenFault::Memory),
+    }
+}
