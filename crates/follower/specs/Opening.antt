@@ -6,7 +6,7 @@ use Rattle.cell_format.specs.Spelling.{newest}
 use Rattle.disk_trait.specs.Drive.{Drive, SameFile}
 use Rattle.disk_trait.specs.Moments.{LeavesNow, LeavesOnly}
 use Rattle.split_log.specs.LogText.{IsLog}
-use Rattle.split_log.specs.LogView.{LogView}
+use Rattle.split_log.specs.LogView.{LogView, most_cells}
 use Rattle.log_state.specs.Recovers.{Recovers}
 use Rattle.recovery.specs.Faults.{IsFault}
 use Rattle.recovery.specs.Making.{IsSmall}
@@ -17,9 +17,9 @@ use Rattle.follower.specs.Follow.{opened_with}
 use Rattle.follower.specs.Holding.{FollowerView, HoldsFirst}
 use Rattle.follower.specs.Faults.{is_drives}
 
--- how many cells a log may have that a follower opens
+-- how many cells a log may have that a follower opens: as many as any log
 abbrev pub most_held : ℕ
-most_held = 16777216
+most_held = most_cells
 
 -- a log that may be opened: the bytes recover to these cells, which are few enough, in the newest version
 pub record IsOpenable (w : ℕ) (own : List Cell) (bytes : List ℕ) : Type 0 where

@@ -57,7 +57,8 @@ pub(crate) fn compare<D: LogDisk>(
 fn count_same<D: LogDisk>(walk: &mut Walk<D>, cells: &[Cell]) -> Result<Tally, OpenFault>
     requires { ComesTo walk.old.reading.replay.width most_held [] (D.drive walk.old.disk) walk.old }
 
-    ensures counted { IfOk result (λ t. Counts walk.old.reading.replay.width cells.now (D.drive walk.old.disk) (D.drive walk.new.disk) walk.new t) }
+    ensures counted { IfOk result (λ t. Counts walk.old.reading.replay.width cells.now (D.drive walk.old.disk) (D.drive walk.new.disk)
+        walk.new t) }
     ensures stopped { IfErr result (StopsCounting walk.old.reading.replay.width (D.drive walk.old.disk) (D.drive walk.new.disk) walk.new) }
     ensures reads { OnlyReads (D.drive walk.old.disk) (D.drive walk.new.disk) result }
 {

@@ -52,8 +52,8 @@ pub struct Turned<D: LogDisk> {
 }
 
 impl<D: LogDisk> Follower<D> {
-    /// Makes a turn. The cells are the leader's, the same at each call. After a refusal there is no follower any more, and the drive may be opened
-    /// again.
+    /// Makes a turn. The cells are the leader's, the same at each call. After a refusal there is no follower any more, and the drive may be
+    /// opened again.
     pub fn turn(self, cells: &[Cell], turn: &Turn) -> Result<Turned<D>, FollowRefused<D>>
         requires holds { HoldsFirst D.drive cells.now self }
         requires sent { NamesSent (length self.state.packets) (length self.state.acks) turn.now }
@@ -65,7 +65,8 @@ impl<D: LogDisk> Follower<D> {
             → IfErr result (λ e. IsFree (D.drive self.disk) (D.drive e.disk) e.fault) }
         ensures any_moment { MatchResult result
             (λ t. LeavesFirst self.width cells.now self.state.held t.follower.state.held (D.drive self.disk) (D.drive t.follower.disk))
-            (λ e. LeavesFirst self.width cells.now self.state.held (most_left e.fault self.state.held) (D.drive self.disk) (D.drive e.disk)) }
+            (λ e. LeavesFirst self.width cells.now self.state.held (most_left e.fault self.state.held) (D.drive self.disk)
+            (D.drive e.disk)) }
     {
         match self.after(cells, turn) {
             Ok(follower) => {

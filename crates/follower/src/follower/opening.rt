@@ -20,8 +20,8 @@ use split_log::SplitLog;
 use std::alloc::Global;
 
 impl<D: LogDisk> Follower<D> {
-    /// Follows the leader of these cells, whose splits make `2 ^ width` children, on a drive with at most 17 bytes, of which a log is made, or with
-    /// a log of version 2. A log that isn't taken is left as it was.
+    /// Follows the leader of these cells, whose splits make `2 ^ width` children, on a drive with at most 17 bytes, of which a log is made,
+    /// or with a log of version 2. What isn't taken is left as it was.
     pub fn open(
         alloc: Global,
         disk: D,
