@@ -3,3 +3,4 @@ pub mod Steps
 pub mod Across
 pub mod Fours
 pub mod Between
+pub mod Downwards

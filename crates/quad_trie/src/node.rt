@@ -1,5 +1,5 @@
 //! Nodes: a leaf's bucket, or what is under each pair of next bits.
-ghost use Rattle.std.specs.Prelude.{◌≡◌, ◌≤◌, ◌<◌, ◌+◌, ◌-◌, ◌==◌, Some, length, IfOk, OnOk, OnErr};
+ghost use Rattle.std.specs.Prelude.{◌≡◌, ◌≤◌, ◌<◌, ◌+◌, ◌-◌, ◌%◌, ◌==◌, Some, length, IfOk, OnOk, OnErr};
 ghost use Rattle.std.specs.Arc.{arc_value};
 ghost use Rattle.std.specs.Borrow.{sem};
 ghost use Rattle.std.specs.Int.{bit_at};
@@ -7,8 +7,9 @@ ghost use Rattle.zorder.specs.Bits.{low_bits};
 ghost use Rattle.bucket_versions.specs.Told.{Told};
 ghost use Rattle.bit_trie.specs.Tries.{name_at, bucket_at, graft};
 ghost use Rattle.bit_trie.specs.Ways.{Fits};
+ghost use Rattle.bit_trie.specs.Walks.{Agrees};
 ghost use Rattle.quad_trie.specs.Nodes.{seen, four, fours, quarter_of};
-ghost use Rattle.quad_trie.specs.Quarters.{LendsQuarter};
+ghost use Rattle.quad_trie.specs.Quarters.{LendsQuarter, go_together};
 
 use bucket_versions::{Bucket, Commit, Undone, own};
 use std::alloc::{AllocError, Global};
@@ -83,6 +84,17 @@ pub(crate) fn next_bit(key: u64, left: u8) -> bool
     ensures { result ≡ (bit_at key (left - 1) == 1) }
 {
     (key >> (left - 1)) % 2 == 1
+}
+
+/// Whether two keys go on with the same two bits.
+pub(crate) fn go_together(from: u64, to: u64, left: u8) -> bool
+    requires some { 1 < left }
+    requires most { left ≤ 64 }
+    ensures { result ≡ go_together left from to }
+{
+    let high = next_bit(from, left) == next_bit(to, left);
+    let low = next_bit(from, left - 1) == next_bit(to, left - 1);
+    high && low
 }
 
 // The quarter that two bits lead to, to write to.
@@ -169,5 +181,24 @@ pub(crate) fn leaf_of(node: &Node, key: u64, left: u8) -> (u8, &Arc<Bucket>)
             let low = next_bit(key, left - 1);
             leaf_of(quad.quarter(high, low), key, left - 2)
         }
+    }
+}
+
+/// Goes down while two keys go on with the same two bits: how many of their bits are left there, and the node.
+pub(crate) fn agreed(node: &Node, from: u64, to: u64, left: u8) -> (u8, &Node)
+    requires fits { Fits left (seen node.now) }
+    ensures agrees { Agrees from to left result.0 (seen node.now) (seen result.1.now) }
+    ensures rest { result.0 ≤ left }
+    ensures even { result.0 % 2 ≡ left % 2 }
+{
+    let Node::Inner(quad) = node else {
+        return (left, node);
+    };
+    if go_together(from, to, left) {
+        let high = next_bit(from, left);
+        let low = next_bit(from, left - 1);
+        agreed(quad.quarter(high, low), from, to, left - 2)
+    } else {
+        (left, node)
     }
 }

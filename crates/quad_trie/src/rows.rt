@@ -7,7 +7,7 @@ ghost use Rattle.bit_trie.specs.Ways.{Fits, has_under, put_under, gone_under, co
 ghost use Rattle.quad_trie.specs.Nodes.{seen, four, quarter_of};
 ghost use Rattle.quad_trie.specs.Quarters.{go_together, with_node};
 
-use crate::node::{Node, Quad, next_bit, quarter_mut};
+use crate::node::{Node, Quad, go_together, next_bit, quarter_mut};
 use bucket_versions::{Bucket, Commit, RowChange, Undone, own, pass, put, shift, take};
 use std::mem::replace;
 use std::sync::Arc;
@@ -107,17 +107,6 @@ pub(crate) fn shift_row<C: Commit>(
             }
         }
     }
-}
-
-// Whether two keys go on with the same two bits.
-fn go_together(from: u64, to: u64, left: u8) -> bool
-    requires some { 1 < left }
-    requires most { left ≤ 64 }
-    ensures { result ≡ go_together left from to }
-{
-    let high = next_bit(from, left) == next_bit(to, left);
-    let low = next_bit(from, left - 1) == next_bit(to, left - 1);
-    high && low
 }
 
 // Takes a row out of one quarter and adds one to another. The first stands aside meanwhile, and a share of a third one in its

@@ -8,7 +8,8 @@ ghost use Rattle.bit_trie.specs.Tries.{height, leaves_under};
 ghost use Rattle.quad_trie.specs.Nodes.{seen};
 ghost use Rattle.quad_trie.specs.Places.{IsAt};
 
-use crate::node::{Node, fours, graft, leaf_of};
+use crate::narrow::narrowed;
+use crate::node::{Node, agreed, fours, graft, leaf_of};
 use crate::rows::{self, Coming, Going};
 use bucket_versions::{AtOnce, Bucket, Commit, RowChange, Undone};
 use index_layer::{Below, Index, IndexFault};
@@ -99,6 +100,18 @@ impl Index for QuadTrie {
                 one: &quad.zero_one,
             }
         }
+    }
+
+    fn reach<'a>(&'a self, from: u64, to: u64) -> (Name, &'a Node) {
+        let (left, node) = agreed(&self.root, from, to, 64);
+        (first_bits(from, 64 - left), node)
+    }
+
+    fn narrow<'a>(&'a self, name: Name, place: &'a Node) -> (Name, &'a Node) {
+        if name.len() % 2 == 1 {
+            return (name, place);
+        }
+        narrowed(name, place)
     }
 
     fn replaced(&self, name: &Name, bucket: Arc<Bucket>) -> Result<Self, IndexFault> {
