@@ -1,5 +1,5 @@
 -- A watch along the cells of a log.
-use Rattle.std.proofs.Common.{◌≡◌, ◌≢◌, ◌⊎◌, inl, inr, false, ℕ, ◌+◌, ◌*◌, ◌<◌, ◌≤◌, List, [], ◌∷◌, ◌++◌, length, map, Some, None, Option, Result, Ok, Err, refl, sym, ◌∙◌, ap, subst, arith, length-append}
+use Rattle.std.proofs.Common.{◌≡◌, inl, inr, false, ℕ, ◌+◌, ◌<◌, ◌≤◌, List, [], ◌∷◌, ◌++◌, length, map, Some, None, Result, Ok, Err, refl, sym, ◌∙◌, ap, subst, arith, length-append}
 use Rattle.std.proofs.lemmas.Bool.{cases_lt}
 use Rattle.causes.specs.Causes.{Rose}
 use Rattle.std.specs.Prelude.{MatchResult}
@@ -11,7 +11,7 @@ use Rattle.log_state.specs.Recovers.{Recovers}
 use Rattle.recovery.specs.declared.seen.OpenFault.{OpenFault}
 use Rattle.recovery.specs.declared.seen.OpenFault.TheVariants as fault
 use Rattle.recovery.specs.declared.walked.Walked.{Walked}
-use Rattle.recovery.specs.Faults.{BeginsWith, IsFault, IsInBytes}
+use Rattle.recovery.specs.Faults.{BeginsWith, IsFault}
 use Rattle.recovery.specs.Found.{IsFree}
 use Rattle.recovery.specs.Reading.{IsBehind, OnlyReads}
 use Rattle.recovery.specs.Walks.{ComesTo, TellsWalked, WalkView}
@@ -25,9 +25,7 @@ use Rattle.csv_rows.specs.declared.rows.Refusal.{Refusal}
 use Rattle.run_ends.specs.Limits.{most_inspected, oldest_read}
 use Rattle.run_ends.specs.Status.{status_of}
 use Rattle.run_ends.proofs.Attaching.{attaches-one}
-use Rattle.log_run.specs.Checking.{FindsCells}
 use Rattle.fence_watch.specs.declared.fences.Fence.{Fence}
-use Rattle.fence_watch.specs.declared.fences.Event.{Event}
 use Rattle.fence_watch.specs.Crossings.{crossings}
 use Rattle.fence_watch.specs.Watches.{FollowsCells, IsOver, Steps, WatchView, events_by, guard_behind, most_events}
 use Rattle.fence_watch.proofs.Following.{follows-step}

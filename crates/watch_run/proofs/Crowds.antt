@@ -1,5 +1,5 @@
 -- Logs along which there are too many crossings.
-use Rattle.std.proofs.Common.{◌≡◌, ◌⊎◌, inl, inr, ⊎_elim, ℕ, ◌+◌, ◌*◌, ◌<◌, ◌≤◌, List, [], ◌∷◌, ◌++◌, length, drop, Some, refl, sym, ◌∙◌, ap, subst, arith, append_assoc, append-nil, length-append}
+use Rattle.std.proofs.Common.{◌≡◌, inl, inr, ℕ, ◌+◌, ◌<◌, ◌≤◌, List, [], ◌∷◌, ◌++◌, length, drop, sym, ◌∙◌, ap, subst, arith, append_assoc, append-nil, length-append}
 use Rattle.std.specs.Prelude.{slice_index}
 use Rattle.std.specs.List.{flat_map}
 use Rattle.std.proofs.lemmas.List.{drop_at}
@@ -10,10 +10,7 @@ use Rattle.cell_format.specs.declared.cell.Cause.{Cause}
 use Rattle.cell_format.specs.Spelling.{spelling, header_text}
 use Rattle.split_log.proofs.Cells.{length-header}
 use Rattle.log_state.specs.Recovers.{Recovers}
-use Rattle.recovery.specs.declared.seen.OpenFault.{OpenFault}
-use Rattle.recovery.specs.declared.seen.OpenFault.TheVariants as fault
-use Rattle.recovery.specs.Faults.{BeginsWith, IsFault, IsInBytes, IsDamaged, IsTooLong}
-use Rattle.recovery.specs.Found.{IsWanted}
+use Rattle.recovery.specs.Faults.{BeginsWith, IsDamaged, IsTooLong}
 use Rattle.recovery.specs.Headers.{HasHeader}
 use Rattle.recovery.specs.Widths.{HasWidth}
 use Rattle.recovery.proofs.HeadLemmas.{header_bytes}

@@ -1,7 +1,7 @@
 -- Why a watch stops before the end of a log.
-use Rattle.std.proofs.Common.{◌≡◌, ◌≢◌, ◌⊎◌, inl, inr, ⊎_elim, ℕ, ◌<◌, ◌≤◌, List, length, Some, None, Result, Err, refl, sym, ◌∙◌, ap, subst, arith}
+use Rattle.std.proofs.Common.{◌≡◌, ◌⊎◌, inl, inr, ⊎_elim, ℕ, ◌≤◌, List, length, Some, None, Err, refl, sym, ◌∙◌, ap, subst, arith}
 use Rattle.causes.specs.Causes.{Rose}
-use Rattle.disk_trait.specs.Drive.{Drive, SameFile, Stays}
+use Rattle.disk_trait.specs.Drive.{Drive, Stays}
 use Rattle.cell_format.specs.declared.cell.Cell.{Cell}
 use Rattle.log_state.specs.Recovers.{Recovers}
 use Rattle.recovery.specs.declared.seen.OpenFault.{OpenFault}
@@ -11,8 +11,8 @@ use Rattle.recovery.specs.Found.{IsFree, IsWanted}
 use Rattle.recovery.specs.Reading.{OnlyReads}
 use Rattle.recovery.specs.Walks.{IsOfHead}
 use Rattle.recovery.specs.Widths.{IsWidth, HasWidth, IsHeadFault, IsLogFault}
-use Rattle.recovery.proofs.OnlyReading.{rose-earlier, stays-trans}
-use Rattle.recovery.proofs.WidthLemmas.{recovers_width, fault_seen, fault_at, head_seen, head_told}
+use Rattle.recovery.proofs.OnlyReading.{stays-trans}
+use Rattle.recovery.proofs.WidthLemmas.{recovers_width, fault_seen, head_seen, head_told}
 use Rattle.csv_rows.specs.declared.rows.Refusal.{Refusal}
 use Rattle.csv_rows.specs.declared.rows.Refusal.TheVariants as refusal
 use Rattle.run_ends.specs.Limits.{most_inspected, oldest_read}
@@ -21,7 +21,7 @@ use Rattle.run_ends.proofs.LogFaults.{reading-after, calm-free, calm-named}
 use Rattle.log_run.specs.Checking.{IsCheckingCause}
 use Rattle.log_run.proofs.DriveSteps.{calm-read}
 use Rattle.fence_watch.specs.declared.fences.Fence.{Fence}
-use Rattle.watch_run.specs.Watching.{IsCrowded, IsWatchingCause, ShowsCrowd}
+use Rattle.watch_run.specs.Watching.{IsCrowded, ShowsCrowd}
 use Rattle.watch_run.specs.inside.Along.{IsCalm, RefusesAlong}
 use Rattle.watch_run.proofs.Crowds.{crowd-recovers, crowd-width}
 

@@ -1,14 +1,13 @@
 -- What a watch keeps, as text.
-use Rattle.std.proofs.Common.{◌≡◌, ℕ, Bool, false, true, cond, ◌==◌, List, [], ◌∷◌, ◌++◌, length, map, Some, refl, sym, ◌∙◌, ap, arith}
+use Rattle.std.proofs.Common.{◌≡◌, ℕ, false, cond, ◌==◌, List, [], ◌∷◌, ◌++◌, map, Some, refl, sym, ◌∙◌, ap}
 use Rattle.std.specs.List.{flat_map, AllByRecursion}
 use Rattle.std.proofs.lemmas.Bool.{eq-eqb, ne_eqb}
 use Rattle.cell_format.specs.declared.cell.Cell.{Cell}
 use Rattle.plain_list.specs.World.{World}
 use Rattle.log_state.specs.Recovers.{state_of}
 use Rattle.fence_watch.specs.declared.fences.Fence.{Fence}
-use Rattle.fence_watch.specs.declared.fences.Event.{Event}
 use Rattle.fence_watch.specs.Fences.{AreDistinct, AreOthers, inside_of}
-use Rattle.fence_watch.specs.Crossings.{crossings, world_after_cells}
+use Rattle.fence_watch.specs.Crossings.{world_after_cells}
 use Rattle.fence_watch.specs.Watches.{FollowsCells, Guard, WatchView, guard_in, inside_at}
 use Rattle.fence_watch.proofs.Following.{world-of_state}
 use Rattle.watch_run.specs.WatchLines.{end_line, event_line, inside_line, watch_title, watched_text}

@@ -1,11 +1,9 @@
 -- How a watch ends.
-use Rattle.std.proofs.Common.{◌≡◌, ◌⊎◌, inl, inr, ⊎_elim, ◌∙◌, ℕ, ◌<◌, ◌≤◌, Bool, false, List, [], length, Option, Some, None, Result, Ok, Err, refl, sym, ap, subst, arith}
+use Rattle.std.proofs.Common.{◌≡◌, ◌⊎◌, inl, inr, ⊎_elim, ◌∙◌, ℕ, false, List, [], length, Some, Result, Ok, Err, refl, sym, ap, subst, arith}
 use Rattle.causes.specs.Causes.{Rose, Counts}
 use Rattle.io_edge.specs.Puts.{Puts}
 use Rattle.io_edge.specs.Streams.{Input, Output}
-use Rattle.disk_trait.specs.Drive.{Drive}
 use Rattle.plain_list.specs.declared.entries.Entry.{Entry}
-use Rattle.recovery.specs.declared.seen.OpenFault.{OpenFault}
 use Rattle.recovery.proofs.Exclusive.{recovers_no_fault, recovers_wanted}
 use Rattle.recovery.proofs.WidthLemmas.{fault_at, recovers_width}
 use Rattle.csv_rows.specs.declared.rows.Refusal.{Refusal}
@@ -16,7 +14,7 @@ use Rattle.run_ends.specs.Ends.{Ends, Targets}
 use Rattle.run_ends.specs.LogFaults.{log_refusal}
 use Rattle.run_ends.specs.Status.{status_of, written_status}
 use Rattle.run_ends.specs.Taking.{Refuses}
-use Rattle.run_ends.specs.Tables.{IsTableCause, ReadsTable, judged_by}
+use Rattle.run_ends.specs.Tables.{IsTableCause, judged_by}
 use Rattle.run_ends.proofs.Attaching.{attaches-one, attaches-as}
 use Rattle.log_run.proofs.MakingEnds.{ends-writing, whole-writing}
 use Rattle.fence_watch.specs.declared.fences.Fence.{Fence}
@@ -24,7 +22,7 @@ use Rattle.fence_watch.specs.FenceRows.{fences_of_text}
 use Rattle.fence_watch.specs.Fences.{AreFences}
 use Rattle.fence_watch.specs.Watches.{WatchView}
 use Rattle.watch_run.specs.WatchLines.{watched_text}
-use Rattle.watch_run.specs.Watching.{EndsWatching, GoesAlong, IsDecidedAlong, IsFenced, IsUnfenced, Watches}
+use Rattle.watch_run.specs.Watching.{EndsWatching, GoesAlong, IsDecidedAlong, Watches}
 use Rattle.watch_run.specs.inside.Along.{RefusesFile, RunsFile}
 use Rattle.watch_run.specs.inside.Lines.{view_text}
 use Rattle.watch_run.proofs.Crowds.{crowd-recovers}

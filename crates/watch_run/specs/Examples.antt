@@ -1,5 +1,5 @@
 -- A worked text: an object is put into one fence, moves to another one, and is dropped.
-use Rattle.std.specs.Prelude.{◌≡◌, [], ◌∷◌, ◌++◌, codes}
+use Rattle.std.specs.Prelude.{◌≡◌, [], ◌∷◌, codes}
 use Rattle.std.proofs.Common.{refl}
 use Rattle.std.specs.Fmt.{digits}
 use Rattle.zorder.specs.Examples.{pt}

@@ -1,4 +1,4 @@
-use Rattle.std.proofs.Common.{◌≡◌, ◌++◌, ◌∙◌, ℕ, List, [], ap, sym, append-nil}
+use Rattle.std.proofs.Common.{◌≡◌, ◌++◌, ◌∙◌, ℕ, List, [], ap, append-nil}
 use Rattle.std.specs.List.{flat_map}
 use Rattle.fence_watch.specs.declared.fences.Event.{Event}
 use Rattle.fence_watch.specs.declared.fences.Fence.{Fence}
