@@ -1,6 +1,6 @@
 //! A watch: fences, who is inside, and who crossed.
 ghost use Rattle.std.specs.Prelude.{◌≡◌, ◌≤◌, ◌↔◌, ℕ, List, [], ◌∷◌, ◌++◌, length};
-ghost use Rattle.std.specs.Prelude.{Ok, Err, Some, None, IfOk, OnOk, OnErr, MatchOption};
+ghost use Rattle.std.specs.Prelude.{Err, Some, None, IfOk, OnOk, OnErr, MatchOption};
 ghost use Rattle.cell_format.specs.declared.cell.Cell.{Cell};
 ghost use Rattle.recovery.specs.Walks.{object_of, IsNextWalked};
 ghost use Rattle.fence_watch.specs.declared.fences.Fence.{Fence};
@@ -93,24 +93,15 @@ impl Watch {
         ensures err { OnErr result (self.new ≡ self.old) }
         ensures too_many { (result ≡ Err WatchFault.TooMany) ↔ IsOver walked.now self.old }
     {
-        match object_of(&walked.cell) {
-            Some(id) => self.follow(walked, id),
-            None => self.stay(walked),
-        }
-    }
-
-    // A cell of a split moves nobody.
-    fn stay(&self, walked: &Walked) -> Result<(), WatchFault>
-        requires { object_of walked.now.cell ≡ None }
-        ensures ok { result ≡ Ok (record {}) }
-        ensures steps { Steps walked.now self.now self.now }
-        ensures few { IsOver walked.now self.now → ⊥ }
-    {
+        // Of a cell that moves nobody only this is to be known: how many events there are at most.
         let _events = self.events();
-        let _at = walked.at;
-        Ok(())
+        let Some(id) = object_of(&walked.cell) else {
+            return Ok(());
+        };
+        self.follow(walked, id)
     }
 
+    // What `step` does of a cell that changes this object.
     fn follow(&mut self, walked: &Walked, id: u64) -> Result<(), WatchFault>
         requires is { object_of walked.now.cell ≡ Some id }
         requires holds { HoldsBefore (object_of walked.now.cell) walked.now.before self.old.guards }
