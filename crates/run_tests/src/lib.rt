@@ -44,6 +44,8 @@ mod long_input;
 #[cfg(test)]
 mod memory;
 #[cfg(test)]
+mod pairs;
+#[cfg(test)]
 mod quads;
 #[cfg(test)]
 mod shows;
