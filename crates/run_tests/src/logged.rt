@@ -173,11 +173,7 @@ pub fn many_leaves_log(alloc: Global, width: u8, splits: u8) -> Result<Vec<u8>, 
     for before in 0..splits {
         add_split(&mut records, before, before.saturating_mul(width))?;
     }
-    let mut log = log_of(alloc, records.as_slice(), &[0])?;
-    if let Some(byte) = log.get_mut(9) {
-        *byte = width;
-    }
-    Ok(log)
+    log_of(alloc, width, records.as_slice(), &[0])
 }
 
 // Adds the begin and the install of the split behind so many others, of the leaf whose name has so many bits.

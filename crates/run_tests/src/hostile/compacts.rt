@@ -40,8 +40,8 @@ const ONE: u64 = 0x8000_0000_0000_0000;
 
 const ZERO_ONE: u64 = 0x4000_0000_0000_0000;
 
-// Leaves by four splits, the second half split before the first one; one split was abandoned, one is open, and an object was dropped.
-const GROWN: &[Record] = &[
+/// Leaves by four splits, the second half split before the first one; one split was abandoned, one is open, and an object was dropped.
+pub const GROWN: &[Record] = &[
     at!(PUT, 1, 0, 1),
     split!(BEGIN, 1, 0, 0),
     split!(INSTALL, 1, 0, 0),
@@ -117,7 +117,7 @@ fn records_of(image: &Image, failing: Failing) -> Option<usize> {
 
 // Whether a file is found to have no records, or all of them.
 fn is_found<R: Abort>(rt: &R, alloc: Global, file: &[u8], count: usize) -> bool {
-    let found = found_in(rt, alloc, file).expect(rt, "a log is refused");
+    let found = found_in(rt, alloc, 1, file).expect(rt, "a log is refused");
     let objects = found.objects.as_slice();
     if count == 0 {
         found.counts == [0, 0, 1, 0, 0] && objects.is_empty()
@@ -130,7 +130,7 @@ fn is_image<R: Abort>(rt: &R, alloc: Global, image: &Image, failing: Failing) ->
     let bytes = image.bytes.as_slice();
     match records_of(image, failing) {
         None => bytes.len() <= 17,
-        Some(count) => front(bytes, FRESH) == Some(count) && is_found(rt, alloc, bytes, count),
+        Some(count) => front(1, bytes, FRESH) == Some(count) && is_found(rt, alloc, bytes, count),
     }
 }
 
@@ -164,7 +164,7 @@ fn fail_each<R: Abort + Threads + Wait + Sync>(
         let failing = Failing { call, number };
         let left = run_both(rt, alloc, &compacting(file), &[], &[failing]);
         let is_told = if number > count {
-            left.tells(0, "compacted 10\n") && is_log_of(rt, alloc, left.other.bytes(), FRESH)
+            left.tells(0, "compacted 10\n") && is_log_of(rt, alloc, 1, left.other.bytes(), FRESH)
         } else {
             left.tells(7, "refused disk\n")
         };
@@ -176,7 +176,7 @@ fn fail_each<R: Abort + Threads + Wait + Sync>(
 }
 
 fn every_call<R: Abort + Threads + Wait + Sync>(rt: &R, alloc: Global) {
-    let file = log_of(alloc, GROWN, &[0]).expect(rt, "it failed");
+    let file = log_of(alloc, 1, GROWN, &[0]).expect(rt, "it failed");
     for (call, count) in CALLS {
         fail_each(rt, alloc, file.as_slice(), *call, *count);
     }

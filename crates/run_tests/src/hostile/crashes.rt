@@ -1,7 +1,7 @@
 //! Each device call of a run failing in turn, and what a crash leaves at each moment of such runs.
 use crate::checks::{Case, INIT, is_left, run_case};
-use crate::hostile::moments::{Trial, judge_images};
-use crate::hostile::records::{BEGIN, INSTALL, MOVE, PUT, Record, front};
+use crate::hostile::clock::{Trial, judge_images};
+use crate::hostile::records::{BEGIN, INSTALL, MOVE, PUT, Record, children, front, log_of};
 use crate::hostile::runs::{found_in, images_of, is_log_of, is_refused, must, playing};
 use crate::memory::{EMPTY_LOG, Left, run_plan};
 use disk_mem::{DiskCall, Fail as Failing};
@@ -115,10 +115,12 @@ const PUT_5: Record = Record {
     ..PUT_1
 };
 
-// The records that these rows leave: the split of the one leaf stands before the move, and the late one has none.
-const WHOLE: &[Record] = &[
+/// The records that these rows leave: the split of the one leaf stands before the move, and the late one has none.
+pub const WHOLE: &[Record] = &[
     PUT_1, PUT_2, PUT_3, PUT_4, PUT_5, BEGIN_1, INSTALL_1, MOVE_1,
 ];
+
+const FOUR_PUTS: &[Record] = &[PUT_1, PUT_2, PUT_3, PUT_4];
 
 // The same over a log whose split was begun: it is begun anew.
 const BEGUN_ANEW: &[Record] = &[
@@ -194,7 +196,8 @@ fn are_objects(objects: &[Member], count: usize) -> bool {
     objects == wanted
 }
 
-// How many cells, points, leaves, unfinished splits, and splits that were begun, behind each number of records.
+// How many cells, points, leaves, unfinished splits, and splits that were begun, behind each number of records, where a split makes two
+// leaves.
 const COUNTS: &[[u64; 5]] = &[
     [0, 0, 1, 0, 0],
     [1, 1, 1, 0, 0],
@@ -207,24 +210,39 @@ const COUNTS: &[[u64; 5]] = &[
     [8, 5, 2, 0, 1],
 ];
 
+// The same by the width of the log.
+fn counts_of(width: u8, count: usize) -> Option<[u64; 5]> {
+    let [cells, points, leaves, unfinished, begun] = *COUNTS.get(count)?;
+    let leaves = if leaves == 2 { children(width) } else { leaves };
+    Some([cells, points, leaves, unfinished, begun])
+}
+
 // Whether a file is found to be a log of the first so many records.
-fn is_found<R: Abort>(rt: &R, alloc: Global, file: &[u8], count: usize) -> bool {
-    let found = found_in(rt, alloc, file).expect(rt, "a log is refused");
-    COUNTS.get(count) == Some(&found.counts) && are_objects(found.objects.as_slice(), count)
+fn is_found<R: Abort>(rt: &R, alloc: Global, width: u8, file: &[u8], count: usize) -> bool {
+    let found = found_in(rt, alloc, width, file).expect(rt, "a log is refused");
+    counts_of(width, count) == Some(found.counts) && are_objects(found.objects.as_slice(), count)
 }
 
 // Fails unless `inspect` finds in each image of a run over a log of no records what the records in it say.
-fn inspect_images<R: Abort>(rt: &R, alloc: Global, left: &Left) {
+fn inspect_images<R: Abort>(rt: &R, alloc: Global, width: u8, left: &Left) {
     let mut last: &[u8] = &[];
     for image in images_of(rt, alloc, left).iter() {
         let bytes = image.bytes.as_slice();
         if bytes != last {
-            let count = front(bytes, WHOLE).unwrap_or(9);
-            let is_found = is_found(rt, alloc, bytes, count);
+            let count = front(width, bytes, WHOLE).unwrap_or(9);
+            let is_found = is_found(rt, alloc, width, bytes, count);
             must(rt, is_found, "found at moment", image.moment);
         }
         last = bytes;
     }
+}
+
+// What a run begins over: a log of this width that has the first so many records, maybe with bytes behind them.
+#[derive(Clone, Copy)]
+struct Start<'a> {
+    width: u8,
+    file: &'a [u8],
+    first: usize,
 }
 
 // Plays the rows over a file with these calls failing.
@@ -237,19 +255,21 @@ fn play<R: Abort + Threads + Wait + Sync>(
     run_plan(rt, alloc, &playing(INPUT, file, calls))
 }
 
-// Plays the rows over a file that has the first so many records, where no call fails.
-fn play_over<R: Abort + Threads + Wait + Sync>(rt: &R, alloc: Global, file: &[u8], first: usize) {
+// Plays the rows over a file where no call fails.
+fn play_over<R: Abort + Threads + Wait + Sync>(rt: &R, alloc: Global, start: &Start<'_>) {
+    let Start { width, file, first } = *start;
     let left = play(rt, alloc, file, &[]);
     let is_told = left.status == 0 && is_output(left.taken.as_slice(), first);
     must(rt, is_told, "lines over", first as u64);
     let records = records_over(first);
     must(
         rt,
-        is_log_of(rt, alloc, left.file(), records),
+        is_log_of(rt, alloc, width, left.file(), records),
         "file over",
         first as u64,
     );
     let trial = Trial {
+        width,
         file,
         first,
         records,
@@ -259,31 +279,44 @@ fn play_over<R: Abort + Threads + Wait + Sync>(rt: &R, alloc: Global, file: &[u8
 }
 
 // Plays the rows again over each image that a crash may leave at the end of a run.
-fn play_again<R: Abort + Threads + Wait + Sync>(rt: &R, alloc: Global, left: &Left) {
+fn play_again<R: Abort + Threads + Wait + Sync>(rt: &R, alloc: Global, width: u8, left: &Left) {
     let mut last: &[u8] = &[];
     for image in images_of(rt, alloc, left).iter() {
         let bytes = image.bytes.as_slice();
         if image.moment == left.disk.moments() && bytes != last {
-            let first = front(bytes, WHOLE).unwrap_or(9);
-            play_over(rt, alloc, bytes, first);
+            let first = front(width, bytes, WHOLE).unwrap_or(9);
+            let start = Start {
+                width,
+                file: bytes,
+                first,
+            };
+            play_over(rt, alloc, &start);
             last = bytes;
         }
     }
 }
 
-// The cell of the append that a failing call belongs to: an append has two writes and two syncs, and opening one sync.
-fn cell_of(failing: Failing) -> Option<u64> {
-    match failing.call {
-        DiskCall::Write => Some(failing.number.saturating_sub(1) / 2),
-        DiskCall::Sync if failing.number > 1 => Some(failing.number.saturating_sub(2) / 2),
-        _ => None,
-    }
+// The cell of the append that a failing call belongs to, behind the first so many: an append has two writes and two syncs, and opening one
+// sync.
+fn cell_of(first: usize, failing: Failing) -> Option<u64> {
+    let before = match failing.call {
+        DiskCall::Write => failing.number.saturating_sub(1) / 2,
+        DiskCall::Sync if failing.number > 1 => failing.number.saturating_sub(2) / 2,
+        _ => return None,
+    };
+    Some(before.saturating_add(first as u64))
 }
 
 // Judges a run whose call failed by the cell of its append, if it has one.
-fn judge_failed<R: Abort + Threads + Wait + Sync>(rt: &R, alloc: Global, failing: Failing) {
-    let left = play(rt, alloc, EMPTY_LOG, &[failing]);
-    let cell = cell_of(failing);
+fn judge_failed<R: Abort + Threads + Wait + Sync>(
+    rt: &R,
+    alloc: Global,
+    start: &Start<'_>,
+    failing: Failing,
+) {
+    let Start { width, file, first } = *start;
+    let left = play(rt, alloc, file, &[failing]);
+    let cell = cell_of(first, failing);
     must(
         rt,
         is_refused(rt, alloc, &left, cell),
@@ -293,65 +326,101 @@ fn judge_failed<R: Abort + Threads + Wait + Sync>(rt: &R, alloc: Global, failing
     let is_opened = cell.is_some() || left.history().is_empty();
     must(rt, is_opened, "history of call", failing.number);
     let trial = Trial {
-        file: EMPTY_LOG,
-        first: 0,
+        width,
+        file,
+        first,
         records: WHOLE,
         is_closed: cell.is_some(),
     };
     judge_images(rt, alloc, &trial, &left);
-    judge_last(rt, alloc, &left);
+    judge_last(rt, alloc, width, &left);
 }
 
 // What a crash leaves of a run is found to be what it is, and can be played over.
-fn judge_last<R: Abort + Threads + Wait + Sync>(rt: &R, alloc: Global, left: &Left) {
-    inspect_images(rt, alloc, left);
-    play_again(rt, alloc, left);
+fn judge_last<R: Abort + Threads + Wait + Sync>(rt: &R, alloc: Global, width: u8, left: &Left) {
+    inspect_images(rt, alloc, width, left);
+    play_again(rt, alloc, width, left);
 }
 
-// A play where no call fails, or where one would that it doesn't make. The lines, the file and each image are as they are over a log of no
-// records.
-fn judge_whole<R: Abort + Threads + Wait + Sync>(rt: &R, alloc: Global, calls: &[Failing]) {
-    let left = play(rt, alloc, EMPTY_LOG, calls);
+// A play where no call fails, or where one would that it doesn't make.
+fn judge_whole<R: Abort + Threads + Wait + Sync>(
+    rt: &R,
+    alloc: Global,
+    start: &Start<'_>,
+    calls: &[Failing],
+) {
+    let left = play(rt, alloc, start.file, calls);
     must(
         rt,
         left.status == 0,
         "status where nothing fails",
         left.status as u64,
     );
-    judge_last(rt, alloc, &left);
+    judge_last(rt, alloc, start.width, &left);
 }
 
-// How many calls a play makes. The width is found by a length and a read of the head. An append has two writes and two syncs, and there
-// are eight; opening has one sync, and cuts nothing where the log ends with its commit byte.
-const PLAY_CALLS: &[(DiskCall, u64)] = &[
-    (DiskCall::Attach, 1),
-    (DiskCall::Len, 2),
-    (DiskCall::Read, 3),
-    (DiskCall::Write, 16),
-    (DiskCall::Cut, 0),
-    (DiskCall::Sync, 17),
-];
+// How many calls a play makes over the first so many records. The width is found by a length and a read of the head. An append has two
+// writes and two syncs, and there are eight of all records; opening has one sync, and cuts nothing where the log ends with its commit byte.
+fn play_calls(first: usize) -> [(DiskCall, u64); 6] {
+    let writes = 16_u64.saturating_sub(2_u64.saturating_mul(first as u64));
+    [
+        (DiskCall::Attach, 1),
+        (DiskCall::Len, 2),
+        (DiskCall::Read, 3),
+        (DiskCall::Write, writes),
+        (DiskCall::Cut, 0),
+        (DiskCall::Sync, writes.saturating_add(1)),
+    ]
+}
 
 // Lets each call of a kind fail in turn, and then one more than there are.
-fn fail_each<R: Abort + Threads + Wait + Sync>(rt: &R, alloc: Global, call: DiskCall, count: u64) {
+fn fail_each<R: Abort + Threads + Wait + Sync>(
+    rt: &R,
+    alloc: Global,
+    start: &Start<'_>,
+    call: DiskCall,
+    count: u64,
+) {
     for number in 1..=count {
-        judge_failed(rt, alloc, Failing { call, number });
+        judge_failed(rt, alloc, start, Failing { call, number });
     }
     let number = count.saturating_add(1);
-    judge_whole(rt, alloc, &[Failing { call, number }]);
+    judge_whole(rt, alloc, start, &[Failing { call, number }]);
 }
 
-fn every_call<R: Abort + Threads + Wait + Sync>(rt: &R, alloc: Global) {
-    play_over(rt, alloc, EMPTY_LOG, 0);
-    judge_whole(rt, alloc, &[]);
-    for (call, count) in PLAY_CALLS {
-        fail_each(rt, alloc, *call, *count);
+fn every_call<R: Abort + Threads + Wait + Sync>(rt: &R, alloc: Global, start: &Start<'_>) {
+    play_over(rt, alloc, start);
+    judge_whole(rt, alloc, start, &[]);
+    for (call, count) in play_calls(start.first) {
+        fail_each(rt, alloc, start, call, count);
     }
 }
+
+const FROM_NOTHING: &Start<'static> = &Start {
+    width: 1,
+    file: EMPTY_LOG,
+    first: 0,
+};
 
 #[test]
 fn each_call_of_a_play_fails_in_turn_and_nothing_is_lost(rt: HostRuntime) {
-    every_call(&rt, rt.alloc());
+    every_call(&rt, rt.alloc(), FROM_NOTHING);
+}
+
+// The same over a quad log that has four of the puts.
+fn every_call_behind_four<R: Abort + Threads + Wait + Sync>(rt: &R, alloc: Global) {
+    let file = log_of(alloc, 2, FOUR_PUTS, &[0]).expect(rt, "it failed");
+    let start = Start {
+        width: 2,
+        file: file.as_slice(),
+        first: 4,
+    };
+    every_call(rt, alloc, &start);
+}
+
+#[test]
+fn each_call_of_a_play_over_a_quad_log_fails_in_turn_and_nothing_is_lost(rt: HostRuntime) {
+    every_call_behind_four(&rt, rt.alloc());
 }
 
 // Makes a log anew over each image of an init: it has at most 17 bytes, so that takes it.

@@ -1,4 +1,4 @@
-//! Damaged logs of both versions: what is found in them, and what each command makes of them.
+//! Damaged logs of both versions and widths: what is found in them, and what each command makes of them.
 use crate::checks::{Case, EMPTY, is_untouched, run_case};
 use crate::hostile::records::{ABANDON, BEGIN, DROP, INSTALL, MOVE, PUT, Record, log_of};
 use crate::hostile::runs::{found_in, images_of, must};
@@ -18,6 +18,13 @@ struct Want {
     status: u8,
     // What `check`, `show` and `play` write.
     texts: [&'static str; 3],
+}
+
+// Which log a file is: its version and its width.
+#[derive(Clone, Copy)]
+struct Head {
+    version: u8,
+    width: u8,
 }
 
 // A file: a log of these records, with this byte put in at its place, and then so many taken off its end.
@@ -81,6 +88,18 @@ const BEGIN_2: Record = Record {
     ..BEGIN_1
 };
 
+// Begin 2 of `1`, and of `10`.
+const BEGIN_2_OF_1: Record = Record {
+    place: 0x8000_0000_0000_0000,
+    len: 1,
+    ..BEGIN_2
+};
+
+const BEGIN_2_OF_10: Record = Record {
+    len: 2,
+    ..BEGIN_2_OF_1
+};
+
 const BEGIN_OF_0: Record = Record { len: 1, ..BEGIN_1 };
 
 const BEGIN_OF_64_BITS: Record = Record { len: 64, ..BEGIN_1 };
@@ -130,6 +149,15 @@ const OF_VERSION_3: Want = Want {
         width: 1,
     }),
     texts: ["refused log version 3 width 1\n"; 3],
+    ..NOT_LOG
+};
+
+const QUAD_OF_VERSION_3: Want = Want {
+    found: Err(OpenFault::OldLog {
+        version: 3,
+        width: 2,
+    }),
+    texts: ["refused log version 3 width 2\n"; 3],
     ..NOT_LOG
 };
 
@@ -281,6 +309,16 @@ const SECOND_BEGIN_INSTALLED: Want = Want {
     ],
 };
 
+const FOUR_LEAVES: Want = Want {
+    found: Ok([3, 0, 4, 0, 2]),
+    texts: [
+        "cells 3\npoints 0\nleaves 4\nunfinished 0\n",
+        "id,x,y,moment\n",
+        lines!("1,1,absent,\n"),
+    ],
+    ..SECOND_BEGIN_INSTALLED
+};
+
 const SECOND_BEGIN_OPEN: Want = Want {
     found: Ok([3, 0, 1, 1, 2]),
     status: 0,
@@ -291,8 +329,28 @@ const SECOND_BEGIN_OPEN: Want = Want {
     ],
 };
 
-// The files in which each is to be found in both versions. Bytes 0 to 15 are the header, whose byte 8 is the version, and record n stands at
-// byte 16 + 32 n.
+const SECOND_SPLIT_OPEN: Want = Want {
+    found: Ok([3, 0, 2, 1, 2]),
+    texts: [
+        "cells 3\npoints 0\nleaves 2\nunfinished 1\n",
+        "id,x,y,moment\n",
+        lines!("1,1,absent,\n"),
+    ],
+    ..SECOND_BEGIN_OPEN
+};
+
+const SECOND_SPLIT_OF_FOUR_OPEN: Want = Want {
+    found: Ok([3, 0, 4, 1, 2]),
+    texts: [
+        "cells 3\npoints 0\nleaves 4\nunfinished 1\n",
+        "id,x,y,moment\n",
+        lines!("1,1,absent,\n"),
+    ],
+    ..SECOND_BEGIN_OPEN
+};
+
+// The files in which each is to be found in both versions and widths. Bytes 0 to 15 are the header, whose byte 8 is the version, and record
+// n stands at byte 16 + 32 n.
 const FILES: &[(Want, &[Damage])] = &[
     (
         NOT_LOG,
@@ -304,8 +362,6 @@ const FILES: &[(Want, &[Damage])] = &[
             Damage(&[], Some((15, 1)), 0),
         ],
     ),
-    (OF_VERSION_0, &[Damage(&[], Some((8, 0)), 0)]),
-    (OF_VERSION_3, &[Damage(&[], Some((8, 3)), 0)]),
     // Commit bytes.
     (
         NOTHING,
@@ -379,12 +435,43 @@ const FILES: &[(Want, &[Damage])] = &[
         ],
     ),
     (
+        SECOND_BEGIN_OPEN,
+        &[Damage(&[BEGIN_1, ABANDON_1, BEGIN_2], None, 0)],
+    ),
+];
+
+// The same where splits make two leaves.
+const FILES_BY_TWO: &[(Want, &[Damage])] = &[
+    (OF_VERSION_0, &[Damage(&[], Some((8, 0)), 0)]),
+    (OF_VERSION_3, &[Damage(&[], Some((8, 3)), 0)]),
+    (
         SECOND_BEGIN_INSTALLED,
         &[Damage(&[BEGIN_1, BEGIN_2, INSTALL_2], None, 0)],
     ),
     (
-        SECOND_BEGIN_OPEN,
-        &[Damage(&[BEGIN_1, ABANDON_1, BEGIN_2], None, 0)],
+        SECOND_SPLIT_OPEN,
+        &[Damage(&[BEGIN_1, INSTALL_1, BEGIN_2_OF_1], None, 0)],
+    ),
+    (
+        IMPOSSIBLE_2,
+        &[Damage(&[BEGIN_1, INSTALL_1, BEGIN_2_OF_10], None, 0)],
+    ),
+];
+
+// The same where they make four: of a leaf that a split by two would make there is none.
+const FILES_BY_FOUR: &[(Want, &[Damage])] = &[
+    (QUAD_OF_VERSION_3, &[Damage(&[], Some((8, 3)), 0)]),
+    (
+        FOUR_LEAVES,
+        &[Damage(&[BEGIN_1, BEGIN_2, INSTALL_2], None, 0)],
+    ),
+    (
+        SECOND_SPLIT_OF_FOUR_OPEN,
+        &[Damage(&[BEGIN_1, INSTALL_1, BEGIN_2_OF_10], None, 0)],
+    ),
+    (
+        IMPOSSIBLE_2,
+        &[Damage(&[BEGIN_1, INSTALL_1, BEGIN_2_OF_1], None, 0)],
     ),
 ];
 
@@ -415,10 +502,10 @@ const FILES_OF_2: &[(Want, &[Damage])] = &[
     (IMPOSSIBLE_1, &[Damage(&[PUT_OF_1, MOVE_7], None, 0)]),
 ];
 
-fn file_of(alloc: Global, version: u8, damage: &Damage) -> Result<Vec<u8>, AllocError> {
+fn file_of(alloc: Global, head: Head, damage: &Damage) -> Result<Vec<u8>, AllocError> {
     let Damage(records, edit, cut) = *damage;
-    let mut file = log_of(alloc, records, &[0])?;
-    set(&mut file, 8, version);
+    let mut file = log_of(alloc, head.width, records, &[0])?;
+    set(&mut file, 8, head.version);
     if let Some((at, byte)) = edit {
         set(&mut file, at, byte);
     }
@@ -432,9 +519,9 @@ fn set(file: &mut Vec<u8>, at: usize, byte: u8) {
     }
 }
 
-fn is_found<R: Abort>(rt: &R, alloc: Global, file: &[u8], version: u8, want: &Want) -> bool {
-    match found_in(rt, alloc, file) {
-        Ok(found) => want.found == Ok(found.counts) && found.version == version,
+fn is_found<R: Abort>(rt: &R, alloc: Global, file: &[u8], head: Head, want: &Want) -> bool {
+    match found_in(rt, alloc, head.width, file) {
+        Ok(found) => want.found == Ok(found.counts) && found.version == head.version,
         Err(fault) => want.found == Err(fault),
     }
 }
@@ -484,14 +571,21 @@ fn judge_kept<R: Abort>(rt: &R, alloc: Global, left: &Left, file: &[u8]) {
     must(rt, is_kept, "play of a file of length", file.len() as u64);
 }
 
+fn refused_of_1(width: u8) -> &'static str {
+    match width {
+        2 => "refused log version 1 width 2\n",
+        _ => "refused log version 1 width 1\n",
+    }
+}
+
 // The status and the text of a play: one over version 1 is refused, unless the header is at fault.
-fn played(version: u8, want: &Want) -> (u8, &'static str) {
+fn played(head: Head, want: &Want) -> (u8, &'static str) {
     let is_header = matches!(
         want.found,
         Err(OpenFault::NotLog) | Err(OpenFault::OldLog { .. })
     );
-    if version == 1 && !is_header {
-        return (4, "refused log version 1 width 1\n");
+    if head.version == 1 && !is_header {
+        return (4, refused_of_1(head.width));
     }
     let [_, _, text] = want.texts;
     (want.status, text)
@@ -501,12 +595,12 @@ fn judge_play<R: Abort + Threads + Wait + Sync>(
     rt: &R,
     alloc: Global,
     file: &[u8],
-    version: u8,
+    head: Head,
     want: &Want,
 ) {
-    let (status, text) = played(version, want);
+    let (status, text) = played(head, want);
     let left = run_case(rt, alloc, &asking(file, want));
-    must(rt, left.tells(status, text), text, version as u64);
+    must(rt, left.tells(status, text), text, head.version as u64);
     if status != 0 {
         judge_kept(rt, alloc, &left, file);
     }
@@ -515,36 +609,48 @@ fn judge_play<R: Abort + Threads + Wait + Sync>(
 fn judge<R: Abort + Threads + Wait + Sync>(
     rt: &R,
     alloc: Global,
-    version: u8,
+    head: Head,
     damage: &Damage,
     want: &Want,
 ) {
-    let file = file_of(alloc, version, damage).expect(rt, "it failed");
+    let file = file_of(alloc, head, damage).expect(rt, "it failed");
     let file = file.as_slice();
     let [checked, _, _] = want.texts;
-    let is_found = is_found(rt, alloc, file, version, want);
-    must(rt, is_found, checked, version as u64);
+    let is_found = is_found(rt, alloc, file, head, want);
+    must(rt, is_found, checked, head.version as u64);
     judge_reads(rt, alloc, file, want);
-    judge_play(rt, alloc, file, version, want);
+    judge_play(rt, alloc, file, head, want);
 }
 
 fn each_file<R: Abort + Threads + Wait + Sync>(
     rt: &R,
     alloc: Global,
-    version: u8,
+    head: Head,
     all: &[(Want, &[Damage])],
 ) {
     for (want, files) in all {
         for damage in files.iter() {
-            judge(rt, alloc, version, damage, want);
+            judge(rt, alloc, head, damage, want);
         }
+    }
+}
+
+fn each_version<R: Abort + Threads + Wait + Sync>(
+    rt: &R,
+    alloc: Global,
+    width: u8,
+    of_width: &[(Want, &[Damage])],
+) {
+    for (version, of_version) in [(1, FILES_OF_1), (2, FILES_OF_2)] {
+        let head = Head { version, width };
+        each_file(rt, alloc, head, FILES);
+        each_file(rt, alloc, head, of_version);
+        each_file(rt, alloc, head, of_width);
     }
 }
 
 #[test]
 fn each_damaged_log_has_its_line_under_each_command(rt: HostRuntime) {
-    each_file(&rt, rt.alloc(), 1, FILES);
-    each_file(&rt, rt.alloc(), 1, FILES_OF_1);
-    each_file(&rt, rt.alloc(), 2, FILES);
-    each_file(&rt, rt.alloc(), 2, FILES_OF_2);
+    each_version(&rt, rt.alloc(), 1, FILES_BY_TWO);
+    each_version(&rt, rt.alloc(), 2, FILES_BY_FOUR);
 }

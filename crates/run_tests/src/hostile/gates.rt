@@ -151,7 +151,7 @@ const SPLIT_AROUND_A_PUT: &[Record] = &[
 // A put goes on between the begin and the install of its leaf's split.
 fn put_beside_split<R: Abort + Threads + Wait + Sync>(rt: &R, alloc: Global) {
     let left = meet(rt, alloc, GatePoint::Begun, SPLIT);
-    let is_whole = front(left.file(), SPLIT_AROUND_A_PUT) == Some(8);
+    let is_whole = front(1, left.file(), SPLIT_AROUND_A_PUT) == Some(8);
     must(rt, is_whole, "how many records are wanted:", 8);
 }
 

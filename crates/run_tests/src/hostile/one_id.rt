@@ -1,5 +1,5 @@
 //! One id for all sessions: each line is the one that a single object, changed row by row in the order of the history, gives.
-use crate::hostile::moments::{Trial, judge_images};
+use crate::hostile::clock::{Trial, judge_images};
 use crate::hostile::records::{DROP, MOVE, PUT, Record};
 use crate::hostile::runs::{is_log_of, is_refused, must, playing};
 use crate::memory::{EMPTY_LOG, Left, run_plan};
@@ -296,6 +296,7 @@ fn play<R: Abort + Threads + Wait + Sync>(
 
 fn judge<R: Abort>(rt: &R, alloc: Global, tale: &Tale, left: &Left, is_closed: bool) {
     let trial = Trial {
+        width: 1,
         file: EMPTY_LOG,
         first: 0,
         records: tale.records.as_slice(),
@@ -332,7 +333,7 @@ fn race<R: Abort + Threads + Wait + Sync>(
     let records = tale.records.as_slice();
     must(
         rt,
-        is_log_of(rt, alloc, left.file(), records),
+        is_log_of(rt, alloc, 1, left.file(), records),
         "file of round",
         round,
     );

@@ -3,8 +3,20 @@ use plain_list::Stamped;
 use std::alloc::{AllocError, Global};
 use zorder::Point;
 
-/// The header of a log whose splits make two children.
-pub const HEADER: &[u8] = b"MDLOCLOG\x02\x01\0\0\0\0\0\0";
+/// The header of a log whose splits make two children, width 1, or four, width 2.
+pub fn header(width: u8) -> [u8; 16] {
+    let mut bytes = *b"MDLOCLOG\x02\0\0\0\0\0\0\0";
+    bytes[9] = width;
+    bytes
+}
+
+/// How many leaves a split makes of one, by the width of its log.
+pub fn children(width: u8) -> u64 {
+    match width {
+        2 => 4,
+        _ => 2,
+    }
+}
 
 pub const PUT: u8 = 1;
 
@@ -79,9 +91,14 @@ impl Record {
     }
 }
 
-/// A log of these records, and these bytes behind them.
-pub fn log_of(alloc: Global, records: &[Record], tail: &[u8]) -> Result<Vec<u8>, AllocError> {
-    let mut bytes = Vec::from_slice(alloc, HEADER)?;
+/// A log of this width and these records, and these bytes behind them.
+pub fn log_of(
+    alloc: Global,
+    width: u8,
+    records: &[Record],
+    tail: &[u8],
+) -> Result<Vec<u8>, AllocError> {
+    let mut bytes = Vec::from_slice(alloc, header(width).as_slice())?;
     for record in records {
         bytes.extend_from_slice(record.bytes().as_slice())?;
     }
@@ -89,9 +106,9 @@ pub fn log_of(alloc: Global, records: &[Record], tail: &[u8]) -> Result<Vec<u8>,
     Ok(bytes)
 }
 
-/// How many of these records a file has, where it is a log of the first ones of them and of no others.
-pub fn front(file: &[u8], records: &[Record]) -> Option<usize> {
-    let mut rest = file.strip_prefix(HEADER)?;
+/// How many of these records a file has, where it is a log of this width, of the first ones of them and of no others.
+pub fn front(width: u8, file: &[u8], records: &[Record]) -> Option<usize> {
+    let mut rest = file.strip_prefix(header(width).as_slice())?;
     let mut count: usize = 0;
     for record in records {
         match rest.strip_prefix(record.bytes().as_slice()) {

@@ -22,6 +22,14 @@ pub fn playing<'a>(input: &'a str, file: &'a [u8], calls: &'a [Failing]) -> Plan
     }
 }
 
+/// These turns over a file, which another one is to follow.
+pub fn following<'a>(input: &'a str, file: &'a [u8]) -> Plan<'a> {
+    Plan {
+        words: &["follow", "log", "new"],
+        ..playing(input, file, &[])
+    }
+}
+
 /// A file that a crash may leave at a moment of the drive, with the byte that stands wherever any may.
 #[derive(Drop)]
 pub struct Image {
@@ -79,8 +87,12 @@ pub struct Found {
     pub objects: Vec<Member>,
 }
 
-fn inspect_any<D: LogDisk>(alloc: Global, disk: &mut D) -> Result<Seen, OpenFault> {
-    inspect(alloc, disk, 1, 1 << 24)
+// Of a log of width 2, or else of width 1.
+fn inspect_any<D: LogDisk>(alloc: Global, disk: &mut D, width: u8) -> Result<Seen, OpenFault> {
+    match width {
+        2 => inspect(alloc, disk, 2, 1 << 24),
+        _ => inspect(alloc, disk, 1, 1 << 24),
+    }
 }
 
 fn seen_in(alloc: Global, seen: &Seen) -> Result<Found, AllocError> {
@@ -94,21 +106,32 @@ fn seen_in(alloc: Global, seen: &Seen) -> Result<Found, AllocError> {
     })
 }
 
-fn found_on<D: LogDisk>(alloc: Global, disk: &mut D) -> Result<Found, OpenFault> {
-    let seen = inspect_any(alloc, disk)?;
+fn found_on<D: LogDisk>(alloc: Global, disk: &mut D, width: u8) -> Result<Found, OpenFault> {
+    let seen = inspect_any(alloc, disk, width)?;
     Ok(seen_in(alloc, &seen)?)
 }
 
-/// What is found in a file.
-pub fn found_in<R: Abort>(rt: &R, alloc: Global, file: &[u8]) -> Result<Found, OpenFault> {
+/// What is found in a file, as a log of this width.
+pub fn found_in<R: Abort>(
+    rt: &R,
+    alloc: Global,
+    width: u8,
+    file: &[u8],
+) -> Result<Found, OpenFault> {
     let file = file.to_vec(alloc).expect(rt, "it failed");
     let disk = MemDisk::new(alloc, file, 0, 16, Vec::new(alloc));
-    found_on(alloc, &mut disk.expect(rt, "it failed"))
+    found_on(alloc, &mut disk.expect(rt, "it failed"), width)
 }
 
-/// Whether a file is a log of these records, and no longer.
-pub fn is_log_of<R: Abort>(rt: &R, alloc: Global, file: &[u8], records: &[Record]) -> bool {
-    let log = log_of(alloc, records, &[0]).expect(rt, "it failed");
+/// Whether a file is a log of this width and these records, and no longer.
+pub fn is_log_of<R: Abort>(
+    rt: &R,
+    alloc: Global,
+    width: u8,
+    file: &[u8],
+    records: &[Record],
+) -> bool {
+    let log = log_of(alloc, width, records, &[0]).expect(rt, "it failed");
     file == log.as_slice()
 }
 

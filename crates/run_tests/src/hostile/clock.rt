@@ -1,13 +1,14 @@
-//! How many records a crash leaves at each moment of a run of `play` over a log.
+//! How many records a crash leaves at each moment of the drive in a run of `play` over a log.
 use crate::hostile::records::{Record, front};
 use crate::hostile::runs::{images_of, must};
 use crate::memory::Left;
 use std::alloc::Global;
 use std::process::Abort;
 
-/// A run over a file that had the first so many of these records, and whether its last call failed in an append.
+/// A run over a log of this width that had the first so many of these records, and whether its last call failed in an append.
 #[derive(Clone, Copy)]
 pub struct Trial<'a> {
+    pub width: u8,
     pub file: &'a [u8],
     pub first: usize,
     pub records: &'a [Record],
@@ -42,7 +43,7 @@ pub fn judge_images<R: Abort>(rt: &R, alloc: Global, trial: &Trial<'_>, left: &L
     let last = left.disk.moments();
     for image in images_of(rt, alloc, left).iter() {
         let count = trial.records_at(image.moment, last, image.fill);
-        let is_front = front(image.bytes.as_slice(), trial.records) == Some(count);
+        let is_front = front(trial.width, image.bytes.as_slice(), trial.records) == Some(count);
         must(rt, is_front, "records at moment", image.moment);
     }
 }
