@@ -140,6 +140,17 @@ pub fn is_untouched<R: Abort + Threads + Wait + Sync>(rt: &R, alloc: Global, cas
     holds(rt, is_untouched && case.is_left(&left), case.name);
 }
 
+/// The same of each of these runs.
+pub fn each_is_untouched<R: Abort + Threads + Wait + Sync>(
+    rt: &R,
+    alloc: Global,
+    cases: &[Case<'_>],
+) {
+    for case in cases {
+        is_untouched(rt, alloc, case);
+    }
+}
+
 /// Fails at the first run that doesn't leave what it should.
 pub fn each_is_left<R: Abort + Threads + Wait + Sync>(rt: &R, alloc: Global, cases: &[Case<'_>]) {
     for case in cases {
