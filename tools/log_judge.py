@@ -121,6 +121,36 @@ def judge_anew(state, data, is_told):
     return "" if len(data) <= 17 or not read_log(data).cells else "the new log has some records"
 
 
+def followed(turns, count, held):
+    """The lines of `follow` by these turns, of a log of so many records, into one that has so many of them; and how many that has then."""
+    known, packets, acks, lines = 0, [], [], ["turn,held,known"]
+    for number, (turn, at) in enumerate(turns, 1):
+        if turn == "send":
+            packets.append(at)
+        elif turn == "arrive":
+            held += packets[at - 1] == held < count
+            acks.append(held)
+        elif turn == "ack":
+            known = max(known, acks[at - 1])
+        lines.append(f"{number},{held},{known}")
+    return "\n".join(lines) + "\n", held
+
+
+def judge_followed(state, data, least, most):
+    """Says what is wrong with a file that follows the log of this state and was to have so many of its records, or nothing. It may be small
+    where it needs none of them."""
+    if least == 0 and len(data) <= 17:
+        return ""
+    try:
+        new = read_log(data)
+    except Damaged as line:
+        return f"the file that follows is damaged: {line}"
+    if not least <= len(new.cells) <= most:
+        return f"{len(new.cells)} records follow, and not {least} to {most}"
+    is_front = new.width == state.width and new.cells == state.cells[:len(new.cells)]
+    return "" if is_front else "other records follow"
+
+
 def load(path):
     with open(path, "rb") as file:
         return file.read()
