@@ -2,10 +2,12 @@
 use Rattle.std.proofs.Common.{◌≡◌, ℕ, List}
 use Rattle.plain_list.specs.declared.entries.Entry.{Entry}
 use Rattle.run_ends.specs.Ends.{Ends}
-use Rattle.command_words.specs.Words.{Command, Init, Check, Play, Show, Trial, Compact, AsksFor}
+use Rattle.command_words.specs.Words.{Command, Init, Check, Play, Show, Trial, Compact, Watch, Follow, AsksFor}
 use Rattle.log_run.proofs.StatusFacts.{not-told, not-made, not-compacted}
 use Rattle.log_run.specs.Compacting.{both_of}
 use Rattle.play_run.proofs.StatusFacts.{not-played, not-tried}
+use Rattle.watch_run.proofs.StatusFacts.{not-watched}
+use Rattle.follow_run.proofs.StatusFacts.{not-followed}
 use Rattle.location_run.specs.Run.{Keeps, AnswersUsage}
 
 -- no command gives status 2
@@ -16,6 +18,8 @@ accepted (Show file region) old new status h keeps = not-told _ file old.to new.
 accepted (Play log size) old new status h keeps = not-played log size old.input new.input old.to new.to status h keeps.goes
 accepted (Trial log made) old new status h keeps = not-tried log made old.to new.to status h keeps.goes
 accepted (Compact file name) old new status h keeps = not-compacted file name (both_of old) (both_of new) status keeps.ends
+accepted (Watch file) old new status h keeps = not-watched file old.input new.input old.to new.to status keeps.goes
+accepted (Follow file name) old new status h keeps = not-followed file name old new status h keeps
 
 -- words that ask for a command aren't answered as if they asked for none
 pub usage-accepted : {S D : Type 0} (words : List (List ℕ)) (a : Command) (old new : Ends S D) (status : ℕ) (h : List Entry) → AsksFor words a → Keeps a old new status h → AnswersUsage words old new status h

@@ -30,6 +30,8 @@ keeps-play (declared_command.Check file) old new status h plays = absurd plays
 keeps-play (declared_command.Show file region) old new status h plays = absurd plays
 keeps-play (declared_command.Trial log made) old new status h plays = absurd plays
 keeps-play (declared_command.Compact file name) old new status h plays = absurd plays
+keeps-play (declared_command.Watch file) old new status h plays = absurd plays
+keeps-play (declared_command.Follow file name) old new status h plays = absurd plays
 keeps-play (declared_command.Play (Some log) size) old new status h plays = plays-of (Some log.now) size old new status h plays.0 plays.1
 keeps-play (declared_command.Play None size) old new status h plays = plays-of None size old new status h plays.0 plays.1
 
@@ -44,6 +46,8 @@ keeps-trial (declared_command.Check file) old new status h tries = absurd tries
 keeps-trial (declared_command.Show file region) old new status h tries = absurd tries
 keeps-trial (declared_command.Play log size) old new status h tries = absurd tries
 keeps-trial (declared_command.Compact file name) old new status h tries = absurd tries
+keeps-trial (declared_command.Watch file) old new status h tries = absurd tries
+keeps-trial (declared_command.Follow file name) old new status h tries = absurd tries
 keeps-trial (declared_command.Trial (Some log) made) old new status h tries = tries-of (Some log.now) made old new status h tries.0 tries.1 tries.2
 keeps-trial (declared_command.Trial None made) old new status h tries = tries-of None made old new status h tries.0 tries.1 tries.2
 
@@ -58,5 +62,7 @@ few-made words (declared_command.Check file) made asks is = absurd is
 few-made words (declared_command.Show file region) made asks is = absurd is
 few-made words (declared_command.Play log size) made asks is = absurd is
 few-made words (declared_command.Compact file name) made asks is = absurd is
+few-made words (declared_command.Watch file) made asks is = absurd is
+few-made words (declared_command.Follow file name) made asks is = absurd is
 few-made words (declared_command.Trial (Some log) other) made asks is = subst (λ (m : Made). m.rows ≤ 65536) is (trial-few words (Some log.now) other asks)
 few-made words (declared_command.Trial None other) made asks is = subst (λ (m : Made). m.rows ≤ 65536) is (trial-few words None other asks)

@@ -2,7 +2,7 @@
 use Rattle.std.specs.Prelude.{◌≡◌, ◌↔◌, ℕ, List}
 use Rattle.plain_list.specs.declared.entries.Entry.{Entry}
 use Rattle.csv_rows.specs.declared.rows.Refusal.TheVariants as refusal
-use Rattle.command_words.specs.Words.{Command, Init, Check, Play, Show, Trial, Compact, AsksFor, IsAccepted}
+use Rattle.command_words.specs.Words.{Command, Init, Check, Play, Show, Trial, Compact, Watch, Follow, AsksFor, IsAccepted}
 use Rattle.run_ends.specs.Ends.{Ends, Targets, IsQuiet}
 use Rattle.run_ends.specs.Taking.{Refuses}
 use Rattle.log_run.specs.Making.{Inits}
@@ -11,6 +11,8 @@ use Rattle.play_run.specs.Playing.{Plays}
 use Rattle.log_run.specs.Showing.{Shows}
 use Rattle.log_run.specs.Compacting.{Compacts}
 use Rattle.play_run.specs.Trying.{Tries}
+use Rattle.watch_run.specs.Watching.{Watches}
+use Rattle.follow_run.specs.Following.{Follows}
 
 -- what each command promises, of what its ends were and are, its status and its history
 abbrev pub Keeps : {S D : Type 0} → Command → Ends S D → Ends S D → ℕ → List Entry → Type 0
@@ -20,6 +22,8 @@ Keeps (Play log size) old new status h = Plays log size old new status h
 Keeps (Show file region) old new status h = Shows file region old new status h
 Keeps (Trial log made) old new status h = Tries log made old new status h
 Keeps (Compact file name) old new status h = Compacts file name old new status h
+Keeps (Watch file) old new status h = Watches file old new status h
+Keeps (Follow file name) old new status h = Follows file name old new status h
 
 -- the command that the words ask for keeps its promise
 abbrev pub KeepsAsked : {S D : Type 0} → List (List ℕ) → Ends S D → Ends S D → ℕ → List Entry → Type 0

@@ -3,10 +3,11 @@ use Rattle.std.specs.String.{string_bytes}
 use Rattle.run_ends.specs.Ends.{ends}
 use Rattle.command_words.specs.Words.{AsksFor}
 use Rattle.command_words.specs.Asked.{command_of}
-use Rattle.command_words.specs.declared.parsing.Command.TheVariants.{Init, Check, Play, Show, Trial, Compact}
+use Rattle.command_words.specs.declared.parsing.Command.TheVariants.{Init, Check, Play, Show, Trial, Compact, Watch, Follow}
 use Rattle.location_run.specs.Run.{Keeps}
 use Rattle.command_words.proofs.WordsFacts.{init-width}
 use Rattle.location_run.proofs.WordsFacts.{keeps-asked, keeps-play, keeps-trial, few-made}
+use Rattle.watch_run.proofs.WatchingEnds.{watches-of}
 use Rattle.location_run.proofs.StatusFacts.{usage-accepted}
 use Rattle.location_run.proofs.top.run.Goals as goal
 
@@ -112,6 +113,34 @@ returns-in-Some-Compact g c =
     let kept : Keeps (command_of command) old new end.status end.events =
     record { ends = told.ends; unread = refl; none = told.none } in
     record { usage = usage-accepted words (command_of command) old new end.status end.events asks kept; keeps = keeps-asked words (command_of command) old new end.status end.events asks kept }
+
+pub returns-in-Some-Watch : goal.returns-in-Some-Watch
+returns-in-Some-Watch g c =
+    let words = map string_bytes c.args.words.now in
+    let command = Watch c.in-Some-Watch.file in
+    let asks : AsksFor words (command_of command) = rw c.in-Some-Watch.field-0-is at c.in-Some-Watch.ensures in
+    let end = c.watch_log-end.result in
+    let told = c.watch_log-end.ensures in
+    let at = ends g.S.Source.input g.K.Sink.output g.D.LogDisk.drive in
+    let old = at c.args.source.now c.args.sink.now c.args.disk c.args.other in
+    let new = at c.watch_log-end.new.source c.watch_log-end.new.sink end.disk c.args.other in
+    let kept : Keeps (command_of command) old new end.status end.events =
+    watches-of c.in-Some-Watch.file.now old new end.status end.events told.goes told.none refl in
+    rw c.outcome_of-in-Some-Watch.ensures
+    (record { usage = usage-accepted words (command_of command) old new end.status end.events asks kept; keeps = keeps-asked words (command_of command) old new end.status end.events asks kept })
+
+pub returns-in-Some-Follow : goal.returns-in-Some-Follow
+returns-in-Some-Follow g c =
+    let words = map string_bytes c.args.words.now in
+    let command = Follow c.in-Some-Follow.file c.in-Some-Follow.name in
+    let asks : AsksFor words (command_of command) = rw c.in-Some-Follow.field-0-is at c.in-Some-Follow.ensures in
+    let end = c.follow_log-end.result in
+    let at = ends g.S.Source.input g.K.Sink.output g.D.LogDisk.drive in
+    let old = at c.args.source.now c.args.sink.now c.args.disk c.args.other in
+    let new = at c.follow_log-end.new.source c.follow_log-end.new.sink end.disk.disk end.disk.other in
+    let kept : Keeps (command_of command) old new end.status end.events = c.follow_log-end.ensures in
+    rw c.outcome_of_both.ensures
+    (record { usage = usage-accepted words (command_of command) old new end.status end.events asks kept; keeps = keeps-asked words (command_of command) old new end.status end.events asks kept })
 
 pub returns-in-None : goal.returns-in-None
 returns-in-None g c =
