@@ -138,7 +138,7 @@ returns-in-Some-Follow g c =
     let at = ends g.S.Source.input g.K.Sink.output g.D.LogDisk.drive in
     let old = at c.args.source.now c.args.sink.now c.args.disk c.args.other in
     let new = at c.follow_log-end.new.source c.follow_log-end.new.sink end.disk.disk end.disk.other in
-    let kept : Keeps (command_of command) old new end.status end.events = c.follow_log-end.ensures in
+    let kept : Keeps (command_of command) old new end.status end.events = c.follow_log-end.ensures.ends in
     rw c.outcome_of_both.ensures
     (record { usage = usage-accepted words (command_of command) old new end.status end.events asks kept; keeps = keeps-asked words (command_of command) old new end.status end.events asks kept })
 
