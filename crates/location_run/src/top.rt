@@ -24,9 +24,10 @@ use watch_run::watch_log;
 /// answers, each kept in the log before the next, and lines. The first line is written once all is there. For `init`, `check` and
 /// `show` it is: words, attach, making or inspecting, lines; for `trial`: words, making the rows, then as for rows; for `compact`: words,
 /// attach, inspecting, attach of the new file on the other drive, writing it, line. None of them reads the source. For `watch` it is: words,
-/// source, length of the input, fences, attach, width, walk, lines; for `follow`: words, source, length of the input, turns, attach, width and
-/// walk of the first file, attach and opening of the new one on the other drive, turns, lines. `check`, `show`, `compact`, `watch` and, in its
-/// first file, `follow` read a log of version 1 or 2; rows are played over one of version 2 alone. Each goes by the width that the log has.
+/// source, length of the input, fences, attach, width, walk, lines; for `follow`: words, source, length of the input, turns, attach, width
+/// and walk of the first file, attach and opening of the new one on the other drive, turns, lines. `check`, `show`, `compact`, `watch` and,
+/// in its first file, `follow` read a log of version 1 or 2; rows are played over one of version 2 alone. Each goes by the width that the
+/// log has.
 pub fn run<R: Threads + Wait + Sync, S: Source, K: Sink, D: LogDisk + Send, G: Gate + Sync>(
     rt: &R,
     alloc: Global,

@@ -68,7 +68,8 @@ fn add_ends<K: Sink>(
     watch: &Watch,
     fences: &[Fence],
 ) -> Result<(), SinkFault>
-    ensures bytes { Adds (K.output sink.old) (K.output sink.new) piece.old.items (flat_map (counted_line watch.now.guards) fences.now) piece.new.items result }
+    ensures bytes { Adds (K.output sink.old) (K.output sink.new) piece.old.items
+        (flat_map (counted_line watch.now.guards) fences.now) piece.new.items result }
     ensures cause { Counts (K.output sink.old).faults (K.output sink.new).faults result }
 {
     for fence in fences {
