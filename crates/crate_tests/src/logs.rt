@@ -1,8 +1,8 @@
 //! A log over a drive in memory and over a file.
 //!
 //! An append leaves the format's worked bytes; with a sync failing it answers the fault, and a crash leaves the images
-//! that `split_log` promises, picked by length and fill. `recovery` makes, inspects and opens the format's worked logs. `log_compact` writes one
-//! anew.
+//! that `split_log` promises, picked by length and fill. `recovery` makes, inspects, walks over and opens the format's worked logs.
+//! `log_compact` writes one anew.
 //!
 //! Calls of logs stand in functions over any drive, which say nothing of it: a proof that knows a drive in memory takes some times as long.
 mod appends;
@@ -11,4 +11,5 @@ pub mod files;
 pub mod fixtures;
 mod images;
 mod recoveries;
+mod walks;
 mod widths;

@@ -48,7 +48,8 @@ fn found_on<D: LogDisk>(alloc: Global, disk: &mut D, most: u64) -> Result<Found,
     }
 }
 
-fn said(seen: &Seen) -> Found {
+/// What was seen of a log.
+pub fn said(seen: &Seen) -> Found {
     let leaves = seen.leaves.as_slice();
     let objects = seen.world.as_slice();
     let version = u64::from(seen.version);
