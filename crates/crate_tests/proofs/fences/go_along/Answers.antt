@@ -19,7 +19,7 @@ step-requires g c =
     let cells : List Cell = c.loop.invariant.0 in
     let told = c.next.ensures.tells 1 9 cells c.loop.invariant.2 in
     let next = subst (λ (r : Result (Option Walked) OpenFault). TellsWalked 1 9 cells (drive c.loop.walk.disk) (drive c.next.new.self.disk) c.next.new.self r)
-        c.in-Some.ensures told in
+    c.in-Some.ensures told in
     record { holds = holds-next 1 cells c.loop.invariant.1 c.in-Some.walked c.loop.watch c.loop.invariant.3 next.1 }
 
 pub loop-preserved : goal.loop-preserved
@@ -30,7 +30,7 @@ loop-preserved g c =
     let fences : List Fence = c.loop.invariant.1 in
     let told = c.next.ensures.tells 1 9 cells c.loop.invariant.2 in
     let next = subst (λ (r : Result (Option Walked) OpenFault). TellsWalked 1 9 cells (drive c.loop.walk.disk) (drive c.next.new.self.disk) c.next.new.self r)
-        c.in-Some.ensures told in
+    c.in-Some.ensures told in
     let follows = subst (λ (r : Result _ WatchFault). OnOk r ((w : ℕ) (cells : List Cell) (fences : List Fence) → FollowsCells cells fences c.loop.watch
-        → IsNextWalked w cells walked → FollowsCells (cells ++ walked.cell ∷ []) fences c.step.new.self)) c.expect-in-Some.ensures c.step.ensures.follows in
+    → IsNextWalked w cells walked → FollowsCells (cells ++ walked.cell ∷ []) fences c.step.new.self)) c.expect-in-Some.ensures c.step.ensures.follows in
     (cells ++ walked.cell ∷ [], fences, next.0, follows 1 cells fences c.loop.invariant.3 next.1)
