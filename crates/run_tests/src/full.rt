@@ -1,6 +1,7 @@
-//! A world of all the objects that it may have, through a log of their puts.
+//! A world of all the objects that it may have, through a log of their puts, and `follow` of that log.
 use crate::checks::holds;
-use crate::memory::{Plan, run_over};
+use crate::hostile::records::{DROP, Record};
+use crate::memory::{Plan, run_both, run_over};
 use disk_mem::MemDisk;
 use io_edge::OpenGate;
 use std::alloc::{AllocError, Global};
@@ -73,4 +74,51 @@ fn is_kept(file: &[u8]) -> bool {
 #[test]
 fn a_world_of_1048576_objects_takes_no_other(rt: HostRuntime) {
     keeps_changes_and_splits_alone(&rt, rt.alloc());
+}
+
+fn following(log: &[u8]) -> Plan<'_> {
+    Plan {
+        words: &["follow", "log", "new"],
+        input: "turn,number\n",
+        file: Some(log),
+        ..*CHANGES
+    }
+}
+
+// Whether `follow` by no turns writes this text, and touches NEW or doesn't.
+fn is_followed<R: Abort + Threads + Wait + Sync>(
+    rt: &R,
+    alloc: Global,
+    log: &[u8],
+    status: u8,
+    text: &str,
+    touches: &str,
+) {
+    let left = run_both(rt, alloc, &following(log), &[], &[]);
+    let is_told = left.tells(status, text) && left.others.as_str() == touches;
+    holds(rt, is_told, text);
+}
+
+// A log of 1,048,576 cells, and one of a drop more.
+fn follows_so_many<R: Abort + Threads + Wait + Sync>(rt: &R, alloc: Global) {
+    let mut log = full_log(alloc).expect(rt, "it failed");
+    is_followed(
+        rt,
+        alloc,
+        log.as_slice(),
+        0,
+        "turn,held,known\n",
+        "makes new\n",
+    );
+    let _ = log.pop();
+    let drop = Record::of(DROP, 0);
+    log.extend_from_slice(drop.bytes().as_slice())
+        .expect(rt, "it failed");
+    log.push(0).expect(rt, "it failed");
+    is_followed(rt, alloc, log.as_slice(), 8, "refused limit cells\n", "");
+}
+
+#[test]
+fn follow_takes_a_log_of_1048576_cells_and_none_of_more(rt: HostRuntime) {
+    follows_so_many(&rt, rt.alloc());
 }

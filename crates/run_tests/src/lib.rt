@@ -30,6 +30,8 @@ mod compacts;
 #[cfg(test)]
 mod faults;
 #[cfg(test)]
+mod follows;
+#[cfg(test)]
 mod full;
 #[cfg(test)]
 mod given_words;
@@ -53,5 +55,7 @@ mod shows;
 mod tests;
 #[cfg(test)]
 mod trials;
+#[cfg(test)]
+mod watches;
 #[cfg(test)]
 mod worked;

@@ -200,6 +200,14 @@ const OTHER_WORDS: &[&[&str]] = &[
     &["compact", "log", "-"],
     &["compact", "", "log"],
     &["compact", "log", "new", "new"],
+    &["watch"],
+    &["watch", "-"],
+    &["watch", "log", "log"],
+    &["follow", "log"],
+    &["follow", "log", "log"],
+    &["follow", "-", "new"],
+    &["follow", "log", "-"],
+    &["follow", "log", "new", "new"],
 ];
 
 #[test]
