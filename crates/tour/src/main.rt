@@ -1,14 +1,14 @@
 //! Runs several commands one after the other, each as the program would, and ends with the status of the last. A word `;` ends a command.
 //!
-//! One that begins with `count` and the name of a file reads that file, and in place of its lines tells how many they are: so among them can
-//! stand a play of many sessions, whose places differ from run to run.
+//! One that begins with `from` and the name of a file reads that file in place of standard input. With `count` in place of `from` it tells
+//! how many lines it has in place of these: so among them can stand a play of many sessions, whose places differ from run to run.
 #![tactic(auto)]
 
 use disk_trait::LogDisk;
-use io_edge::{MemSink, MemSource};
+use io_edge::{MemSink, MemSource, StdSink};
 use machine_run::{file_drive, out_of_memory, run_over, run_words, words_of};
 use std::fs::{self, Files};
-use std::io::Print;
+use std::io::{self, Print};
 use std::process::ExitCode;
 use std::sync::Wait;
 use std::thread::Threads;
@@ -26,6 +26,13 @@ fn main(rt: HostRuntime) -> ExitCode {
             return out_of_memory(&rt);
         };
         status = match command {
+            [first, file, rest @ ..] if first.as_str() == "from" => read_from(
+                &rt,
+                file.as_str(),
+                rest,
+                disk,
+                other,
+            ),
             [first, file, rest @ ..] if first.as_str() == "count" => count(
                 &rt,
                 file.as_str(),
@@ -39,7 +46,23 @@ fn main(rt: HostRuntime) -> ExitCode {
     status
 }
 
-// Runs a command over the bytes of a file, and tells how many lines it puts.
+// Runs a command over the bytes of a file.
+fn read_from<R: Threads + Wait + Sync + AllocGlobal + Files + Print, D: LogDisk + Send>(
+    rt: &R,
+    file: &str,
+    words: &[String],
+    disk: D,
+    other: D,
+) -> ExitCode {
+    let Ok(bytes) = fs::read(rt, file) else {
+        return ExitCode::FAILURE;
+    };
+    let mut source = MemSource::new(bytes, Vec::new(rt.alloc()));
+    let mut sink = StdSink::new(io::writer(rt));
+    run_over(rt, words, &mut source, &mut sink, disk, other)
+}
+
+// The same, and tells how many lines it puts.
 fn count<R: Threads + Wait + Sync + AllocGlobal + Files + Print, D: LogDisk + Send>(
     rt: &R,
     file: &str,
