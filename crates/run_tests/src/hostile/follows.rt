@@ -1,5 +1,5 @@
 //! Each call of the second drive failing in turn in a run of `follow`, and what a crash leaves of its file.
-use crate::hostile::follower::{Turn, input_of, told_of};
+use crate::hostile::machine::{Turn, input_of, told_of};
 use crate::hostile::records::{MOVE, PUT, Record, front, log_of};
 use crate::hostile::runs::{Image, following, found_in, images_on, is_log_of, is_refused, must};
 use crate::memory::{Left, run_both};

@@ -2,7 +2,7 @@
 use crate::hostile::compacts::GROWN;
 use crate::hostile::crashes::WHOLE;
 use crate::hostile::draws::Draws;
-use crate::hostile::follower::{Follower, Turn, input_of, told_of};
+use crate::hostile::machine::{Follower, Turn, input_of, told_of};
 use crate::hostile::records::{Record, front, log_of};
 use crate::hostile::runs::{following, must};
 use crate::memory::run_both;
