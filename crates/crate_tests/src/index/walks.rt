@@ -121,13 +121,14 @@ fn begins_over_all<I: Index>(rt: &impl Abort, index: &I, all: Name) {
 }
 
 #[test]
-fn walks_over_a_flat_index_and_a_quad_trie_begin_at_the_top(rt: HostRuntime) {
+fn walks_over_a_flat_index_begin_at_the_top(rt: HostRuntime) {
     let top = Name::whole();
     begins_at::<FlatIndex>(&rt, rt.alloc(), top, top, top);
-    begins_at::<QuadTrie>(&rt, rt.alloc(), top, top, top);
 }
 
 #[test]
 fn walks_over_a_trie_begin_where_there_is_something_to_see(rt: HostRuntime) {
-    begins_at::<KdTrie>(&rt, rt.alloc(), quarter(), first_eighth(), quarter());
+    let (kd_leaf, quad_leaf) = (first_eighth(), child(&first_eighth(), false));
+    begins_at::<KdTrie>(&rt, rt.alloc(), quarter(), kd_leaf, quarter());
+    begins_at::<QuadTrie>(&rt, rt.alloc(), quarter(), quad_leaf, quarter());
 }
