@@ -4,4 +4,5 @@ pub mod Following
 pub mod RisingIds
 pub mod SlabLemmas
 pub mod Passing
+pub mod Parts
 pub mod Answering

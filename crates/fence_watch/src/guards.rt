@@ -1,7 +1,8 @@
 //! Fences, each with the ids inside it.
 ghost use Rattle.std.specs.Prelude.{◌≡◌, ◌≤◌, ◌+◌, [], ◌++◌, length, map, Some};
 ghost use Rattle.std.specs.Prelude.{vec_len, vec_capacity, OnOk, OnErr, IfOk};
-ghost use Rattle.fence_watch.specs.Passages.{turns_of, event_by};
+ghost use Rattle.fence_watch.specs.Fences.{most_fences};
+ghost use Rattle.fence_watch.specs.Passages.{turns_of, event_by, IsOfLength};
 ghost use Rattle.fence_watch.specs.Guards.{AreRising, AllRising, guard_of, guards_of, behind_by, crossed_by, told_by, HaveRoom, HasRoom};
 
 use crate::fences::{Crossing, Event, Fence};
@@ -22,6 +23,9 @@ pub(crate) struct Step {
     pub(crate) at: u64,
     pub(crate) id: u64,
 }
+
+/// So many fences are passed over at once, where none of them is crossed.
+const MOST_AT_ONCE: usize = 32;
 
 /// Fences that nobody is inside.
 pub(crate) fn guard(alloc: Global, fences: &[Fence]) -> Result<Vec<Guarded>, AllocError>
@@ -46,6 +50,8 @@ pub(crate) fn pass(
     crossed: usize,
     events: &mut Vec<Event>,
 ) -> Result<(), AllocError>
+    requires sides { IsOfLength (length guards.old) passage }
+    requires few { length guards.old ≤ most_fences }
     requires rising { AllRising (guards_of guards.old) }
     requires count { crossed ≡ length (told_by step guards.old passage) }
     ensures guards { OnOk result (guards_of guards.new ≡ crossed_by step guards.old passage.entry) }
@@ -61,6 +67,34 @@ pub(crate) fn pass(
 
 // Takes room for an id in each fence that is entered.
 fn make_room(guards: &mut [Guarded], passage: Passage<'_>) -> Result<(), AllocError>
+    requires sides { IsOfLength (length guards.old) passage }
+    requires few { length guards.old ≤ most_fences }
+    ensures same { guards_of guards.new ≡ guards_of guards.old }
+    ensures room { OnOk result (HaveRoom guards.new (turns_of passage.entry)) }
+{
+    if guards.len() <= MOST_AT_ONCE {
+        return make_room_in(guards, passage);
+    }
+    let (these, others) = guards.split_at_mut(MOST_AT_ONCE);
+    let (near, far) = passage.split_at(MOST_AT_ONCE);
+    make_room_in(these, near)?;
+    make_room(others, far)
+}
+
+// The same of a few fences, at once where none of them is crossed.
+fn make_room_in(guards: &mut [Guarded], passage: Passage<'_>) -> Result<(), AllocError>
+    requires sides { IsOfLength (length guards.old) passage }
+    requires few { length guards.old ≤ most_fences }
+    ensures same { guards_of guards.new ≡ guards_of guards.old }
+    ensures room { OnOk result (HaveRoom guards.new (turns_of passage.entry)) }
+{
+    if passage.crossed() == 0 {
+        return Ok(());
+    }
+    make_room_each(guards, passage)
+}
+
+fn make_room_each(guards: &mut [Guarded], passage: Passage<'_>) -> Result<(), AllocError>
     ensures same { guards_of guards.new ≡ guards_of guards.old }
     ensures room { OnOk result (HaveRoom guards.new (turns_of passage.entry)) }
 {
@@ -73,16 +107,55 @@ fn make_room(guards: &mut [Guarded], passage: Passage<'_>) -> Result<(), AllocEr
     if crossing == Some(Crossing::Enter) {
         guard.inside.reserve(1)?;
     }
-    make_room(guards, passage)
+    make_room_each(guards, passage)
 }
 
 // There is room for all that comes.
 fn cross(guards: &mut [Guarded], passage: Passage<'_>, step: Step, events: &mut Vec<Event>)
+    requires sides { IsOfLength (length guards.old) passage }
+    requires few { length guards.old ≤ most_fences }
     requires rising { AllRising (guards_of guards.old) }
     requires room { HaveRoom guards.old (turns_of passage) }
     requires space { vec_len events.old + length (told_by step guards.old passage) ≤ vec_capacity events.old }
     ensures guards { guards_of guards.new ≡ crossed_by step guards.old passage.entry }
     ensures events { events.new.items ≡ events.old.items ++ told_by step guards.old passage.entry }
+{
+    if guards.len() <= MOST_AT_ONCE {
+        cross_in(guards, passage, step, events);
+        return;
+    }
+    let (these, others) = guards.split_at_mut(MOST_AT_ONCE);
+    let (near, far) = passage.split_at(MOST_AT_ONCE);
+    cross_in(these, near, step, events);
+    cross(others, far, step, events);
+}
+
+// The same of a few fences, at once where none of them is crossed.
+fn cross_in(guards: &mut [Guarded], passage: Passage<'_>, step: Step, events: &mut Vec<Event>)
+    requires sides { IsOfLength (length guards.old) passage }
+    requires few { length guards.old ≤ most_fences }
+    requires rising { AllRising (guards_of guards.old) }
+    requires room { HaveRoom guards.old (turns_of passage) }
+    requires space { vec_len events.old + length (told_by step guards.old passage) ≤ vec_capacity events.old }
+    ensures guards { guards_of guards.new ≡ crossed_by step guards.old passage.entry }
+    ensures events { events.new.items ≡ events.old.items ++ told_by step guards.old passage.entry }
+    ensures len { vec_len events.new ≡ vec_len events.old + length (told_by step guards.old passage.entry) }
+    ensures capacity { vec_capacity events.old ≤ vec_capacity events.new }
+{
+    if passage.crossed() == 0 {
+        return;
+    }
+    cross_each(guards, passage, step, events);
+}
+
+fn cross_each(guards: &mut [Guarded], passage: Passage<'_>, step: Step, events: &mut Vec<Event>)
+    requires rising { AllRising (guards_of guards.old) }
+    requires room { HaveRoom guards.old (turns_of passage) }
+    requires space { vec_len events.old + length (told_by step guards.old passage) ≤ vec_capacity events.old }
+    ensures guards { guards_of guards.new ≡ crossed_by step guards.old passage.entry }
+    ensures events { events.new.items ≡ events.old.items ++ told_by step guards.old passage.entry }
+    ensures len { vec_len events.new ≡ vec_len events.old + length (told_by step guards.old passage.entry) }
+    ensures capacity { vec_capacity events.old ≤ vec_capacity events.new }
 {
     let Some((guard, guards)) = guards.split_first_mut() else {
         return;
@@ -91,7 +164,7 @@ fn cross(guards: &mut [Guarded], passage: Passage<'_>, step: Step, events: &mut 
         return;
     };
     guard.cross(crossing, step, events);
-    cross(guards, passage, step, events);
+    cross_each(guards, passage, step, events);
 }
 
 impl Guarded {

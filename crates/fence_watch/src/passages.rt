@@ -1,5 +1,5 @@
 //! From one place to another: which fences are crossed on the way.
-ghost use Rattle.std.specs.Prelude.{◌≡◌, ◌≤◌, length, [], ◌∷◌, List, IfOk, MatchOption};
+ghost use Rattle.std.specs.Prelude.{◌≡◌, ◌≤◌, ◌-◌, length, take, drop, [], ◌∷◌, List, IfOk, MatchOption};
 ghost use Rattle.fence_watch.specs.declared.fences.Fence.{Fence};
 ghost use Rattle.fence_watch.specs.Fences.{most_fences};
 ghost use Rattle.fence_watch.specs.Passages.{turn, marks_of, turns_of, count_turns, IsOfLength, Charts, Shows, ShowsPassage};
@@ -95,6 +95,25 @@ impl<'a> Sides<'a> {
             },
         ))
     }
+
+    fn split_at(self, mid: usize) -> (Sides<'a>, Sides<'a>)
+        requires column { mid ≤ length self.column.now }
+        requires line { mid ≤ length self.line.now }
+        ensures column { result.0.column.now ≡ take mid self.entry.column.now }
+        ensures line { result.0.line.now ≡ take mid self.entry.line.now }
+        ensures columns { result.1.column.now ≡ drop mid self.entry.column.now }
+        ensures lines { result.1.line.now ≡ drop mid self.entry.line.now }
+    {
+        let (column, columns) = self.column.split_at(mid);
+        let (line, lines) = self.line.split_at(mid);
+        (
+            Sides { column, line },
+            Sides {
+                column: columns,
+                line: lines,
+            },
+        )
+    }
 }
 
 impl<'a> Passage<'a> {
@@ -123,6 +142,26 @@ impl<'a> Passage<'a> {
         let (was, before) = self.before.split_first()?;
         let (is, after) = self.after.split_first()?;
         Some((turn(was, is), Passage { before, after }))
+    }
+
+    /// What is said of the first few fences, and of the others.
+    pub(crate) fn split_at(self, mid: usize) -> (Passage<'a>, Passage<'a>)
+        requires sides { IsOfLength (length self.before.column.now) self }
+        requires mid { mid ≤ length self.before.column.now }
+        ensures near { turns_of result.0 ≡ take mid (turns_of self.entry) }
+        ensures far { turns_of result.1 ≡ drop mid (turns_of self.entry) }
+        ensures these { IsOfLength mid result.0 }
+        ensures others { IsOfLength (length self.entry.before.column.now - mid) result.1 }
+    {
+        let (before, before_others) = self.before.split_at(mid);
+        let (after, after_others) = self.after.split_at(mid);
+        (
+            Passage { before, after },
+            Passage {
+                before: before_others,
+                after: after_others,
+            },
+        )
     }
 }
 

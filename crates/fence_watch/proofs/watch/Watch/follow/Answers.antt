@@ -7,6 +7,7 @@ use Rattle.fence_watch.specs.Kept.{Keeps}
 use Rattle.fence_watch.specs.Passages.{turns_of, events_along}
 use Rattle.fence_watch.specs.Watches.{Guard, WatchView, fences_of, HoldsBefore, Steps, IsOver, most_events}
 use Rattle.fence_watch.proofs.Passing.{Counted, counted, stays, not-over, is-over, Passed, passed_by, keeps-behind, refilled}
+use Rattle.fence_watch.proofs.Parts.{sides-of, few-of}
 use Rattle.fence_watch.proofs.watch.Watch.follow.Goals as goal
 
 pub returns-then-crossed-eq0-clause-ok : goal.returns-then-crossed-eq0-clause-ok
@@ -47,6 +48,14 @@ pass-requires-clause-count c =
     let k : Counted w c.args.id guards p = counted w c.args.id guards p c.requires.is (c.passage-passage.ensures (fences_of guards) c.self.invariant.charts) in
     c.crossed-crossed.ensures.count ∙ k.count ∙ ap length (sym k.told)
     ∙ ap (λ (l : List Guarded). length (events_along w.at c.args.id (fences_of (guards_of l)) (turns_of p))) (sym c.deref_mut.ensures.value)
+
+pub pass-requires-clause-sides : goal.pass-requires-clause-sides
+pass-requires-clause-sides c =
+    sides-of c.args.walked.now.before c.args.walked.now.after c.self.inside.guards.items c.deref_mut.result.now c.passage-passage.result c.deref_mut.ensures.value
+    (c.passage-passage.ensures (fences_of (guards_of c.self.inside.guards.items)) c.self.invariant.charts)
+
+pub pass-requires-clause-few : goal.pass-requires-clause-few
+pass-requires-clause-few c = few-of c.self.inside.guards.items c.deref_mut.result.now c.deref_mut.ensures.value c.self.invariant.few
 
 pub pass-requires-clause-rising : goal.pass-requires-clause-rising
 pass-requires-clause-rising c = subst (λ (l : List Guarded). AllRising (guards_of l)) (sym c.deref_mut.ensures.value) c.self.invariant.rising
