@@ -1,14 +1,14 @@
 -- What the edge before a number tells of it.
-use Rattle.std.proofs.Common.{◌≡◌, ℕ, zero, suc, ◌≤◌, ◌<◌, ◌+◌, ◌-◌, ◌^◌, Bool, true, false, List, [], ◌∷◌, ◌++◌, Vec, Global, length, map, take, get_or, refl, sym, ◌∙◌, ap, subst, arith, ◌&&◌, cond, append_assoc, append-nil, add-one}
+use Rattle.std.proofs.Common.{◌≡◌, ℕ, zero, suc, ◌≤◌, ◌<◌, ◌+◌, ◌-◌, ◌/◌, ◌^◌, Bool, true, false, List, [], ◌∷◌, ◌++◌, Vec, Global, length, map, take, get_or, refl, sym, ◌∙◌, ap, subst, arith, ◌&&◌, cond, append_assoc, append-nil, add-one}
 use Rattle.std.specs.Prelude.{nat_le, nat_lt}
 use Rattle.std.specs.List.{Contains}
-use Rattle.std.specs.List.Sorted.{IsNonDecreasing, IsPartitionPoint}
+use Rattle.std.specs.List.Sorted.{IsNonDecreasing}
 use Rattle.std.proofs.lemmas.Bool.{lt-ltb}
 use Rattle.std.proofs.lemmas.Bool.Decides.{nat_tests}
 use Rattle.std.proofs.lemmas.List.Elements.{Contains-append_left, Contains-append_right}
 use Rattle.std.proofs.lemmas.List.Sorted.{Contains-permutation}
 use Rattle.fence_watch.specs.declared.slabs.Span.{Span}
-use Rattle.fence_watch.specs.Slabs.{spans, row_at, own_edges, edges_of, TellSpans}
+use Rattle.fence_watch.specs.Slabs.{spans, row_at, own_edges, edges_of, TellSpans, IsSlabOf}
 
 -- the edges of one span more
 edges-suc : (list : List Span) (i : ℕ) (d : Span) → i < length list → edges_of (take (suc i) list) ≡ edges_of (take i list) ++ own_edges (get_or list i d)
@@ -120,14 +120,6 @@ same-length list [] (r ∷ rows) told = absurd (cc told)
 same-length list (x ∷ edges) [] told = absurd (cc told)
 same-length list (x ∷ edges) (r ∷ rows) told = ap suc (same-length list edges rows (cc told))
 
--- the place that a search found is such a cut
-pub cut-found : (xs edges : List ℕ) (at behind : ℕ) → xs ≡ edges → behind ≤ length xs → IsPartitionPoint (λ y. nat_le y at ≡ true) (λ y. nat_le y at ≡ false) xs behind → IsCut edges at behind
-cut-found xs edges at behind same within point = subst (λ (l : List ℕ). IsCut l at behind) same (record {
-  within = within;
-  before = λ k d lt. point.0 k d (omega arith) lt;
-  after = λ k d low lt. point.1 k d low lt;
-})
-
 -- what slabs tell of a number
 pub record Finds (list : List Span) (rows : List (Vec Bool Global)) (at behind : ℕ) : Type 0 where
   pub some : 0 < behind
@@ -144,3 +136,72 @@ finds list edges rows at behind tell fits cut =
       is = λ e. row-at list edges rows (behind - 1) 0 e tell.told (omega (arith, some, cut.within))
           ∙ row-same list edges at behind 0 fits tell.sorted cut some (λ v own. there v (Contains-append_right (0 ∷ []) (edges_of list) v own));
     }
+
+to-le : (a b : ℕ) → a ≤ b → nat_le a b ≡ true
+to-le a b le = grind (arith, nat_tests)
+
+to-not_le : (a b : ℕ) → b < a → nat_le a b ≡ false
+to-not_le a b lt = grind (arith, nat_tests)
+
+-- the edges up to that of a number's slab are at most the number, and those behind it aren't
+pub cut-of : (edges : List ℕ) (at slab : ℕ) → IsNonDecreasing edges → IsSlabOf edges at slab → IsCut edges at (slab + 1)
+cut-of edges at slab sorted is = record {
+  within = omega (arith, is.within);
+  before = λ k d lt.
+      let rises : get_or edges k d ≤ get_or edges slab d = sorted k slab d (omega (arith, lt)) is.within in
+      let same : get_or edges slab d ≡ get_or edges slab 0 = default-same edges slab d 0 is.within in
+      to-le (get_or edges k d) at (omega (arith, rises, same, is.below));
+  after = λ k d low lt.
+      let next : at < get_or edges (slab + 1) 0 = is.last (omega (arith, low, lt)) in
+      let rises : get_or edges (slab + 1) d ≤ get_or edges k d = sorted (slab + 1) k d low lt in
+      let same : get_or edges (slab + 1) d ≡ get_or edges (slab + 1) 0 = default-same edges (slab + 1) d 0 (omega (arith, low, lt)) in
+      to-not_le (get_or edges k d) at (omega (arith, rises, same, next));
+}
+
+-- the row of a number's slab is that of the number
+pub row-of : (list : List Span) (edges : List ℕ) (rows : List (Vec Bool Global)) (at slab : ℕ) (e : Vec Bool Global) → TellSpans list edges rows → at < 2 ^ 32
+    → IsSlabOf edges at slab → (get_or rows slab e).items ≡ row_at at list
+row-of list edges rows at slab e tell fits is =
+    let found : Finds list rows at (slab + 1) = finds list edges rows at (slab + 1) tell fits (cut-of edges at slab tell.sorted is) in
+    let back : slab ≡ slab + 1 - 1 = omega arith in
+    ap (λ n. (get_or rows n e).items) back ∙ found.is e
+
+has-zero : (list : List Span) (edges : List ℕ) (rows : List (Vec Bool Global)) → TellSpans list edges rows → Contains edges 0
+has-zero list edges rows tell = Contains-permutation (0 ∷ edges_of list) edges 0 tell.all (0, omega arith, refl)
+
+-- there is an edge, and the first one is at most any number
+pub some-edge : (list : List Span) (edges : List ℕ) (rows : List (Vec Bool Global)) → TellSpans list edges rows → 1 ≤ length edges
+some-edge list edges rows tell = let there = has-zero list edges rows tell in omega (arith, there.1)
+
+pub first-edge : (list : List Span) (edges : List ℕ) (rows : List (Vec Bool Global)) (at : ℕ) → TellSpans list edges rows → get_or edges 0 0 ≤ at
+first-edge list edges rows at tell =
+    let there = has-zero list edges rows tell in
+    let rises : get_or edges 0 0 ≤ get_or edges there.0 0 = tell.sorted 0 there.0 0 (omega arith) there.1 in
+    omega (arith, rises, there.2)
+
+-- how far the search of a slab has come: it is among so many edges from this one on
+abbrev pub IsAmong : List ℕ → ℕ → ℕ → ℕ → Type 0
+IsAmong edges at slab left = (1 ≤ left) × (slab + left ≤ length edges) × (get_or edges slab 0 ≤ at) × (slab + left < length edges → at < get_or edges (slab + left) 0)
+
+-- the search goes on behind the middle one
+pub among-behind : (edges : List ℕ) (at slab left more : ℕ) → IsAmong edges at slab left → 1 < left → more ≡ left / 2 → get_or edges (slab + left / 2) 0 ≤ at
+    → IsAmong edges at (slab + more) (left - left / 2)
+among-behind edges at slab left more among test is below =
+    let sum : slab + left ≡ slab + more + (left - left / 2) = omega (arith, is, test) in (
+      omega (arith, test),
+      omega (arith, sum, among.1),
+      subst (λ n. get_or edges (slab + n) 0 ≤ at) (sym is) below,
+      λ lt. subst (λ n. at < get_or edges n 0) sum (among.3 (omega (arith, sum, lt))),
+    )
+
+-- or before it
+pub among-before : (edges : List ℕ) (at slab left more : ℕ) → IsNonDecreasing edges → IsAmong edges at slab left → 1 < left → more ≡ 0 → at < get_or edges (slab + left / 2) 0
+    → IsAmong edges at (slab + more) (left - left / 2)
+among-before edges at slab left more sorted among test is above =
+    let same : slab ≡ slab + more = omega (arith, is) in (
+      omega (arith, test),
+      omega (arith, is, test, among.1),
+      subst (λ n. get_or edges n 0 ≤ at) same among.2,
+      λ lt. let rises : get_or edges (slab + left / 2) 0 ≤ get_or edges (slab + more + (left - left / 2)) 0 = sorted (slab + left / 2) (slab + more + (left - left / 2)) 0 (omega (arith, is, test)) lt in
+          omega (arith, above, rises),
+    )

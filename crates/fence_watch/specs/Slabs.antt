@@ -1,5 +1,5 @@
 -- Spans of numbers, and their edges.
-use Rattle.std.specs.Prelude.{◌≡◌, ◌+◌, ◌^◌, ◌&&◌, nat_le, nat_lt, ℕ, Bool, List, [], ◌∷◌, ◌++◌, map, Vec, if◌then◌else◌}
+use Rattle.std.specs.Prelude.{◌≡◌, ◌+◌, ◌^◌, ◌≤◌, ◌<◌, ◌&&◌, nat_le, nat_lt, ℕ, Bool, List, [], ◌∷◌, ◌++◌, length, slice_index, map, Vec, if◌then◌else◌}
 use Rattle.std.specs.Global.{Global}
 use Rattle.std.specs.List.Sorted.{IsNonDecreasing, IsPermutation}
 use Rattle.fence_watch.specs.declared.slabs.Span.{Span}
@@ -25,3 +25,9 @@ pub record TellSpans (list : List Span) (edges : List ℕ) (rows : List (Vec Boo
   pub sorted : IsNonDecreasing edges
   pub all : IsPermutation (0 ∷ edges_of list) edges
   pub told : map (λ (row : Vec Bool Global). row.items) rows ≡ map (λ edge. row_at edge list) edges
+
+-- the last of these edges, which rise, that is at most a number
+pub record IsSlabOf (edges : List ℕ) (at slab : ℕ) : Type 0 where
+  pub within : slab < length edges
+  pub below : slice_index edges slab ≤ at
+  pub last : slab + 1 < length edges → at < slice_index edges (slab + 1)

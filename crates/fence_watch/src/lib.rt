@@ -3,7 +3,7 @@
 //! Contracts see a `Watch` as its fences, each with the ids inside it, and the events so far. After steps along the cells of a log its
 //! events are the `crossings` of these cells, and the ids inside each fence those of the objects that the cells leave in it.
 //!
-//! Not here: how a log is walked (`recovery`), how lines are written (`csv_rows`).
+//! Not here: how a log is walked (`recovery`), how lines are written (`watch_run`).
 #![tactic(auto)]
 
 mod fences;

@@ -1,5 +1,5 @@
 //! From one place to another: which fences are crossed on the way.
-ghost use Rattle.std.specs.Prelude.{◌≡◌, ◌≤◌, ◌-◌, length, take, drop, [], ◌∷◌, List, IfOk, MatchOption};
+ghost use Rattle.std.specs.Prelude.{◌≡◌, ◌≤◌, ◌-◌, length, take, drop, [], ◌∷◌, List, Some, IfOk, MatchOption};
 ghost use Rattle.fence_watch.specs.declared.fences.Fence.{Fence};
 ghost use Rattle.fence_watch.specs.Fences.{most_fences};
 ghost use Rattle.fence_watch.specs.Passages.{turn, marks_of, turns_of, count_turns, IsOfLength, Charts, Shows, ShowsPassage};
@@ -59,9 +59,27 @@ impl Chart {
     pub(crate) fn passage(&self, before: Option<Point>, after: Option<Point>) -> Passage<'_>
         ensures { (fences : List Fence) → Charts fences self.now → ShowsPassage before after fences result }
     {
+        if let (Some(from), Some(to)) = (before, after) {
+            return self.way(from, to);
+        }
         Passage {
             before: self.sides(before),
             after: self.sides(after),
+        }
+    }
+
+    // From one place to another one.
+    fn way(&self, from: Point, to: Point) -> Passage<'_>
+        ensures { (fences : List Fence) → Charts fences self.now → ShowsPassage (Some from) (Some to) fences result }
+    {
+        let (column, column_behind) = self.columns.rows(from.x, to.x);
+        let (line, line_behind) = self.lines.rows(from.y, to.y);
+        Passage {
+            before: Sides { column, line },
+            after: Sides {
+                column: column_behind,
+                line: line_behind,
+            },
         }
     }
 

@@ -1,7 +1,7 @@
 //! Which of some spans have a number: looked up, and not compared with each.
-ghost use Rattle.std.specs.Prelude.{◌≡◌, ◌∷◌, ◌++◌, IfOk, OnOk, map};
+ghost use Rattle.std.specs.Prelude.{◌≡◌, ◌≤◌, ◌<◌, ◌∷◌, ◌++◌, true, length, slice_index, IfOk, OnOk, map};
 ghost use Rattle.std.specs.List.Sorted.{IsNonDecreasing, IsPermutation};
-ghost use Rattle.fence_watch.specs.Slabs.{spans, row_at, own_edges, edges_of};
+ghost use Rattle.fence_watch.specs.Slabs.{spans, row_at, own_edges, edges_of, IsSlabOf};
 
 use std::alloc::{AllocError, Global};
 use std::marker::Model;
@@ -55,9 +55,49 @@ impl Slabs {
     pub(crate) fn row(&self, at: u32) -> &[bool]
         ensures { result.now ≡ row_at at self.now }
     {
-        let behind = self.edges.partition_point(|edge| *edge <= at);
-        self.rows[behind - 1].as_slice()
+        let slab = slab_of(&self.edges, at);
+        self.rows[slab].as_slice()
     }
+
+    /// The same of two numbers, looked up once where no edge lies between them, as between places of an object mostly none does.
+    pub(crate) fn rows(&self, one: u32, other: u32) -> (&[bool], &[bool])
+        ensures one { result.0.now ≡ row_at one self.now }
+        ensures other { result.1.now ≡ row_at other self.now }
+    {
+        let slab = slab_of(&self.edges, one);
+        let row = self.rows[slab].as_slice();
+        if has(&self.edges, slab, other) {
+            (row, row)
+        } else {
+            (row, self.row(other))
+        }
+    }
+}
+
+// The last of these edges that is at most a number. Each turn halves what is left, by a sum and no branch, which a processor would
+// guess wrong half of the time.
+fn slab_of(edges: &[u32], at: u32) -> usize
+    requires rise { IsNonDecreasing edges.now }
+    requires some { 1 ≤ length edges.now }
+    requires first { slice_index edges.now 0 ≤ at }
+    ensures { IsSlabOf edges.now at result }
+{
+    let mut slab = 0;
+    let mut left = edges.len();
+    while left > 1 {
+        let half = left / 2;
+        slab += if edges[slab + half] <= at { half } else { 0 };
+        left -= half;
+    }
+    slab
+}
+
+// Whether a number lies between an edge and the next one.
+fn has(edges: &[u32], slab: usize, at: u32) -> bool
+    requires { slab < length edges.now }
+    ensures { result ≡ true → IsSlabOf edges.now at slab }
+{
+    edges[slab] <= at && (slab + 1 == edges.len() || at < edges[slab + 1])
 }
 
 fn edges_of(alloc: Global, spans: &[Span]) -> Result<Vec<u32>, AllocError>
