@@ -1,8 +1,7 @@
 //! Nodes: a leaf's bucket, or two halves.
-ghost use Rattle.std.specs.Prelude.{◌≡◌, ◌≤◌, ◌<◌, ◌+◌, ◌-◌, ◌==◌, Some, length, IfOk, OnOk, OnErr};
+ghost use Rattle.std.specs.Prelude.{◌≡◌, ◌≤◌, ◌+◌, Some, length, IfOk, OnOk, OnErr};
 ghost use Rattle.std.specs.Arc.{arc_value};
 ghost use Rattle.std.specs.Borrow.{sem};
-ghost use Rattle.std.specs.Int.{bit_at};
 ghost use Rattle.zorder.specs.Bits.{low_bits};
 ghost use Rattle.bit_trie.specs.Tries.{name_at, bucket_at, graft};
 ghost use Rattle.kd_trie.specs.Nodes.{seen, twins};
@@ -11,6 +10,7 @@ ghost use Rattle.bit_trie.specs.Ways.{Fits};
 ghost use Rattle.bit_trie.specs.Walks.{Agrees};
 ghost use Rattle.bucket_versions.specs.Told.{Told};
 
+use bit_trie::next_bit;
 use bucket_versions::{Bucket, Commit, Undone, own};
 use std::alloc::{AllocError, Global};
 use std::sync::Arc;
@@ -52,15 +52,6 @@ impl Clone for Pair {
         let one = self.one.share()?;
         Ok(Pair { zero, one })
     }
-}
-
-// Whether the first of the last `left` bits of a key is 1.
-pub(crate) fn next_bit(key: u64, left: u8) -> bool
-    requires some { 0 < left }
-    requires most { left ≤ 64 }
-    ensures { result ≡ (bit_at key (left - 1) == 1) }
-{
-    (key >> (left - 1)) % 2 == 1
 }
 
 // The half of a pair that a bit leads to, to write to.

@@ -7,7 +7,8 @@ ghost use Rattle.kd_trie.specs.Nodes.{seen};
 ghost use Rattle.kd_trie.specs.Stems.{GoesPast, Passing, way_of, stem_over, all_bare};
 ghost use Rattle.bit_trie.specs.Walks.{Narrows};
 
-use crate::node::{Node, Pair, leaf_of, next_bit};
+use crate::node::{Node, Pair, leaf_of};
+use bit_trie::next_bit;
 use bucket_versions::Bucket;
 use index_layer::goes_on;
 use std::alloc::{AllocError, Global};

@@ -11,8 +11,9 @@ ghost use Rattle.kd_trie.specs.Nodes.{seen, twins};
 ghost use Rattle.bit_trie.specs.Walks.{Agrees};
 
 use crate::node::{Node, agreed, graft, leaf_of, twins};
-use crate::rows::{self, Coming, Going};
+use crate::rows;
 use crate::stem::{Stem, has_leaf_half, leaf_past, step, stretch, unwound};
+use bit_trie::{Coming, Going};
 use bucket_versions::{Bucket, Commit, RowChange, Undone};
 use std::alloc::{AllocError, Global};
 use std::sync::Arc;

@@ -1,32 +1,17 @@
 //! Rows that are put, taken and moved in a trie that is changed in place.
-ghost use Rattle.std.specs.Prelude.{◌≡◌, ◌<◌, ◌≤◌, true, false, length, IfOk, OnOk, OnErr};
+ghost use Rattle.std.specs.Prelude.{◌≡◌, true, false, IfOk, OnOk, OnErr};
 ghost use Rattle.std.specs.Arc.{arc_value};
-ghost use Rattle.bucket_versions.specs.Rows.{has_row, without_row, after_put, after_gone};
+ghost use Rattle.bucket_versions.specs.Rows.{has_row, after_gone};
 ghost use Rattle.bucket_versions.specs.Told.{Told};
 ghost use Rattle.bit_trie.specs.Ways.{Fits, has_under, put_under, gone_under, count_under, MayMove};
 ghost use Rattle.quad_trie.specs.Nodes.{seen, four, quarter_of};
 ghost use Rattle.quad_trie.specs.Quarters.{go_together, with_node};
 
-use crate::node::{Node, Quad, go_together, next_bit, quarter_mut};
-use bucket_versions::{Bucket, Commit, RowChange, Undone, own, pass, put, shift, take};
+use crate::node::{Node, Quad, go_together, quarter_mut};
+use bit_trie::{Coming, Going, next_bit, pass_there, put_there, shift_there, take_there};
+use bucket_versions::{Bucket, Commit, RowChange, Undone, own};
 use std::mem::replace;
 use std::sync::Arc;
-
-/// A row that is to go, and how that ended.
-///
-/// The ways down to a leaf answer here: they would be no loops if they gave it back.
-#[derive(Drop)]
-pub(crate) struct Going {
-    pub(crate) change: RowChange,
-    pub(crate) ended: Result<(), Undone>,
-}
-
-/// A row that is to come, and how that ended: with how many rows are there then.
-#[derive(Drop)]
-pub(crate) struct Coming {
-    pub(crate) change: RowChange,
-    pub(crate) ended: Result<u64, Undone>,
-}
 
 /// Adds a row to the leaf that the last `left` bits of its key lead to, once the step has succeeded.
 pub(crate) fn put_row<C: Commit>(node: &mut Node, to: &mut Coming, left: u8, commit: &mut C)
@@ -220,62 +205,4 @@ fn pass_on<C: Commit>(
             pass_on(leaf, from, quarter, to, left - 2, commit);
         }
     }
-}
-
-// The changes of a leaf's bucket. They stay out of the ways down to it, which are loops without them.
-
-#[inline(never)]
-fn put_there<C: Commit>(leaf: &mut Arc<Bucket>, to: &mut Coming, commit: &mut C)
-    requires can { C.can commit.old }
-    requires absent { has_row to.old.change.row (arc_value leaf.old).rows ≡ false }
-    ensures ok { OnOk to.new.ended (arc_value leaf.new ≡ after_put to.old.change (arc_value leaf.old)) }
-    ensures count { IfOk to.new.ended (λ n. n ≡ length (arc_value leaf.new).rows) }
-    ensures err { OnErr to.new.ended (arc_value leaf.new ≡ arc_value leaf.old) }
-    ensures told { Told C.done C.lost commit.old commit.new to.new.ended }
-{
-    to.ended = put(leaf, to.change, commit);
-}
-
-#[inline(never)]
-fn take_there<C: Commit>(leaf: &mut Arc<Bucket>, from: &mut Going, commit: &mut C)
-    requires can { C.can commit.old }
-    requires present { has_row from.old.change.row (arc_value leaf.old).rows ≡ true }
-    ensures ok { OnOk from.new.ended (arc_value leaf.new ≡ after_gone from.old.change (arc_value leaf.old)) }
-    ensures err { OnErr from.new.ended (arc_value leaf.new ≡ arc_value leaf.old) }
-    ensures told { Told C.done C.lost commit.old commit.new from.new.ended }
-{
-    from.ended = take(leaf, from.change, commit);
-}
-
-#[inline(never)]
-fn shift_there<C: Commit>(leaf: &mut Arc<Bucket>, from: &RowChange, to: &mut Coming, commit: &mut C)
-    requires can { C.can commit.old }
-    requires present { has_row from.now.row (arc_value leaf.old).rows ≡ true }
-    requires absent { has_row to.old.change.row (without_row from.now.row (arc_value leaf.old).rows) ≡ false }
-    ensures ok { OnOk to.new.ended (arc_value leaf.new ≡ after_put to.old.change (after_gone from.now (arc_value leaf.old))) }
-    ensures count { IfOk to.new.ended (λ n. n ≡ length (arc_value leaf.new).rows) }
-    ensures err { OnErr to.new.ended (arc_value leaf.new ≡ arc_value leaf.old) }
-    ensures told { Told C.done C.lost commit.old commit.new to.new.ended }
-{
-    to.ended = shift(leaf, *from, to.change, commit);
-}
-
-#[inline(never)]
-fn pass_there<C: Commit>(
-    leaf: &mut Arc<Bucket>,
-    from: &RowChange,
-    other: &mut Arc<Bucket>,
-    to: &mut Coming,
-    commit: &mut C,
-)
-    requires can { C.can commit.old }
-    requires rows { (has_row from.now.row (arc_value leaf.old).rows ≡ true)
-        × (has_row to.old.change.row (arc_value other.old).rows ≡ false) }
-    ensures ok { OnOk to.new.ended ((arc_value leaf.new ≡ after_gone from.now (arc_value leaf.old))
-        × (arc_value other.new ≡ after_put to.old.change (arc_value other.old))) }
-    ensures count { IfOk to.new.ended (λ n. n ≡ length (arc_value other.new).rows) }
-    ensures err { OnErr to.new.ended ((arc_value leaf.new ≡ arc_value leaf.old) × (arc_value other.new ≡ arc_value other.old)) }
-    ensures told { Told C.done C.lost commit.old commit.new to.new.ended }
-{
-    to.ended = pass(leaf, *from, other, to.change, commit);
 }

@@ -10,7 +10,8 @@ ghost use Rattle.quad_trie.specs.Places.{IsAt};
 
 use crate::narrow::narrowed;
 use crate::node::{Node, agreed, fours, graft, leaf_of};
-use crate::rows::{self, Coming, Going};
+use crate::rows;
+use bit_trie::{Coming, Going};
 use bucket_versions::{AtOnce, Bucket, Commit, RowChange, Undone};
 use index_layer::{Below, Index, IndexFault};
 use std::alloc::Global;

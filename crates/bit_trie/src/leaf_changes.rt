@@ -1,0 +1,95 @@
+//! The changes of a leaf's bucket, in which each way down a trie ends.
+//!
+//! They stay out of the ways down, which are loops without them.
+ghost use Rattle.std.specs.Prelude.{◌≡◌, true, false, length, IfOk, OnOk, OnErr};
+ghost use Rattle.std.specs.Arc.{arc_value};
+ghost use Rattle.bucket_versions.specs.Rows.{has_row, without_row, after_put, after_gone};
+ghost use Rattle.bucket_versions.specs.Told.{Told};
+
+use bucket_versions::{Bucket, Commit, RowChange, Undone, pass, put, shift, take};
+use std::sync::Arc;
+
+/// A row that is to go, and how that ended.
+///
+/// The ways down to a leaf answer here: they would be no loops if they gave it back.
+#[derive(Drop)]
+pub struct Going {
+    /// The row, and whether its bucket keeps its base.
+    pub change: RowChange,
+    /// Whether it went; until a leaf is reached, what it is made with.
+    pub ended: Result<(), Undone>,
+}
+
+/// A row that is to come, and how that ended: with how many rows are there then.
+#[derive(Drop)]
+pub struct Coming {
+    /// The row, and whether its bucket keeps its base.
+    pub change: RowChange,
+    /// Whether it came; until a leaf is reached, what it is made with.
+    pub ended: Result<u64, Undone>,
+}
+
+/// Adds a row to a leaf's bucket, once the step has succeeded.
+#[inline(never)]
+pub fn put_there<C: Commit>(leaf: &mut Arc<Bucket>, to: &mut Coming, commit: &mut C)
+    requires can { C.can commit.old }
+    requires absent { has_row to.old.change.row (arc_value leaf.old).rows ≡ false }
+    ensures ok { OnOk to.new.ended (arc_value leaf.new ≡ after_put to.old.change (arc_value leaf.old)) }
+    ensures count { IfOk to.new.ended (λ n. n ≡ length (arc_value leaf.new).rows) }
+    ensures err { OnErr to.new.ended (arc_value leaf.new ≡ arc_value leaf.old) }
+    ensures told { Told C.done C.lost commit.old commit.new to.new.ended }
+{
+    to.ended = put(leaf, to.change, commit);
+}
+
+/// Takes a row out of a leaf's bucket, once the step has succeeded.
+#[inline(never)]
+pub fn take_there<C: Commit>(leaf: &mut Arc<Bucket>, from: &mut Going, commit: &mut C)
+    requires can { C.can commit.old }
+    requires present { has_row from.old.change.row (arc_value leaf.old).rows ≡ true }
+    ensures ok { OnOk from.new.ended (arc_value leaf.new ≡ after_gone from.old.change (arc_value leaf.old)) }
+    ensures err { OnErr from.new.ended (arc_value leaf.new ≡ arc_value leaf.old) }
+    ensures told { Told C.done C.lost commit.old commit.new from.new.ended }
+{
+    from.ended = take(leaf, from.change, commit);
+}
+
+/// Takes a row out of a leaf's bucket and adds another one, once the step has succeeded.
+#[inline(never)]
+pub fn shift_there<C: Commit>(
+    leaf: &mut Arc<Bucket>,
+    from: &RowChange,
+    to: &mut Coming,
+    commit: &mut C,
+)
+    requires can { C.can commit.old }
+    requires present { has_row from.now.row (arc_value leaf.old).rows ≡ true }
+    requires absent { has_row to.old.change.row (without_row from.now.row (arc_value leaf.old).rows) ≡ false }
+    ensures ok { OnOk to.new.ended (arc_value leaf.new ≡ after_put to.old.change (after_gone from.now (arc_value leaf.old))) }
+    ensures count { IfOk to.new.ended (λ n. n ≡ length (arc_value leaf.new).rows) }
+    ensures err { OnErr to.new.ended (arc_value leaf.new ≡ arc_value leaf.old) }
+    ensures told { Told C.done C.lost commit.old commit.new to.new.ended }
+{
+    to.ended = shift(leaf, *from, to.change, commit);
+}
+
+/// Takes a row out of a leaf's bucket and adds one to another leaf's, once the step has succeeded.
+#[inline(never)]
+pub fn pass_there<C: Commit>(
+    leaf: &mut Arc<Bucket>,
+    from: &RowChange,
+    other: &mut Arc<Bucket>,
+    to: &mut Coming,
+    commit: &mut C,
+)
+    requires can { C.can commit.old }
+    requires rows { (has_row from.now.row (arc_value leaf.old).rows ≡ true)
+        × (has_row to.old.change.row (arc_value other.old).rows ≡ false) }
+    ensures ok { OnOk to.new.ended ((arc_value leaf.new ≡ after_gone from.now (arc_value leaf.old))
+        × (arc_value other.new ≡ after_put to.old.change (arc_value other.old))) }
+    ensures count { IfOk to.new.ended (λ n. n ≡ length (arc_value other.new).rows) }
+    ensures err { OnErr to.new.ended ((arc_value leaf.new ≡ arc_value leaf.old) × (arc_value other.new ≡ arc_value other.old)) }
+    ensures told { Told C.done C.lost commit.old commit.new to.new.ended }
+{
+    to.ended = pass(leaf, *from, other, to.change, commit);
+}
