@@ -1,7 +1,5 @@
 //! The trie: nodes under one stem, with leaves that tile the key space.
-ghost use Rattle.std.specs.Prelude.{◌≡◌, ◌<◌, ◌≤◌, ◌^◌, ◌⊎◌, [], Some, OnOk, IsOk};
-ghost use Rattle.std.specs.Arc.{arc_value};
-ghost use Rattle.bucket_versions.specs.Rows.{IsRows};
+ghost use Rattle.std.specs.Prelude.{◌≡◌, ◌≤◌, ◌⊎◌, [], Some};
 ghost use Rattle.index_layer.specs.Leaves.{AreLeaves, has_name};
 ghost use Rattle.index_layer.specs.LeavesProp.{AreLeaves-prop};
 ghost use Rattle.bit_trie.specs.Tries.{height, leaves_under, reach};
@@ -12,6 +10,7 @@ ghost use Rattle.kd_trie.specs.Wholes.{whole};
 use crate::node::Node;
 use crate::stem::narrowed;
 use crate::stemmed::Stemmed;
+use bit_trie::{at_once, in_order, in_range};
 use bucket_versions::{AtOnce, Bucket, Commit, RowChange, Undone};
 use index_layer::{Below, Index, IndexFault, goes_on};
 use std::alloc::Global;
@@ -178,25 +177,4 @@ impl Index for KdTrie {
         in_range(to.row.key);
         self.tree.shift_row(&from, &to, commit)
     }
-}
-
-// What a change comes to that waits for nothing: it fails for want of memory alone.
-fn at_once(done: Result<(), Undone>) -> Result<(), Memory>
-    ensures { OnOk result (IsOk done) }
-{
-    done.map_err(|_| Memory)
-}
-
-// Tells that the rows of a bucket are in order.
-fn in_order(bucket: &Arc<Bucket>)
-    ensures { IsRows (arc_value bucket.now).rows }
-{
-    let _rows = bucket.count();
-}
-
-// Tells that a key has 64 bits.
-fn in_range(key: u64)
-    ensures { key < 2 ^ 64 }
-{
-    let _ = key;
 }

@@ -1,7 +1,5 @@
 //! The trie: nodes, with leaves that tile the key space.
-ghost use Rattle.std.specs.Prelude.{◌≡◌, ◌<◌, ◌≤◌, ◌^◌, ◌⊎◌, ◌++◌, ◌∷◌, [], List, Bool, Some, IsTrue, OnOk, IsOk};
-ghost use Rattle.std.specs.Arc.{arc_value};
-ghost use Rattle.bucket_versions.specs.Rows.{IsRows};
+ghost use Rattle.std.specs.Prelude.{◌≡◌, ◌≤◌, ◌++◌, ◌∷◌, [], List, Bool};
 ghost use Rattle.index_layer.specs.Leaves.{AreLeaves, has_name};
 ghost use Rattle.index_layer.specs.LeavesProp.{AreLeaves-prop};
 ghost use Rattle.bit_trie.specs.Tries.{height, leaves_under};
@@ -11,7 +9,7 @@ ghost use Rattle.quad_trie.specs.Places.{IsAt};
 use crate::narrow::narrowed;
 use crate::node::{Node, agreed, fours, graft, leaf_of};
 use crate::rows;
-use bit_trie::{Coming, Going};
+use bit_trie::{Coming, Going, at_once, in_order, in_range};
 use bucket_versions::{AtOnce, Bucket, Commit, RowChange, Undone};
 use index_layer::{Below, Index, IndexFault};
 use std::alloc::Global;
@@ -205,25 +203,4 @@ fn ends_with_one(name: &Name) -> bool
 {
     let front = first_bits(name.bits(), name.len() - 1);
     child(&front, true) == *name
-}
-
-// Tells that the rows of a bucket are in order.
-fn in_order(bucket: &Arc<Bucket>)
-    ensures { IsRows (arc_value bucket.now).rows }
-{
-    let _rows = bucket.count();
-}
-
-// What a change comes to that waits for nothing: it fails for want of memory alone.
-fn at_once(done: Result<(), Undone>) -> Result<(), Memory>
-    ensures { OnOk result (IsOk done) }
-{
-    done.map_err(|_| Memory)
-}
-
-// Tells that a key has 64 bits.
-fn in_range(key: u64)
-    ensures { key < 2 ^ 64 }
-{
-    let _ = key;
 }
