@@ -4,3 +4,4 @@ pub mod TrieRows
 pub mod RowLeaves
 pub mod Reaching
 pub mod Walking
+pub mod Outcomes

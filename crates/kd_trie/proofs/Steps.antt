@@ -1,5 +1,5 @@
 -- A step down a pair that a trie owns, into the half under a key's next bit.
-use Rattle.std.proofs.Common.{◌≡◌, ◌⊎◌, inl, inr, ◌-◌, ◌==◌, ◌<◌, ◌≤◌, ◌∙◌, ℕ, suc, max, true, false, Bool, Result, Ok, Err, OnOk, OnErr, IfOk, IsOk, length, refl, sym, ap, arith, if◌then◌else◌}
+use Rattle.std.proofs.Common.{◌≡◌, ◌⊎◌, inl, inr, ◌-◌, ◌==◌, ◌<◌, ◌≤◌, ◌∙◌, ℕ, suc, max, true, false, Bool, Result, Ok, Err, OnErr, IfOk, length, refl, sym, ap, arith, if◌then◌else◌}
 use mathlib.Core.Bool.{beq}
 use Rattle.std.specs.Int.{bit_at}
 use Rattle.zorder.specs.Bits.{low_bits}
@@ -89,11 +89,6 @@ pub counted-step : {left : ℕ} {t : Trie} {p : Pair} {bit : Bool} {u : Trie} {E
 counted-step (Err x) row s n q made is = tt
 counted-step {left} {t} {p} {bit} {u} (Ok m) row s n q made is = is ∙ sym (ap length (ap (rows_at (low_bits left row.key)) (made-with p q bit n made) ∙ rows-with left row.key p bit (seen n) s.some s.goes))
 
--- an answer that is known
-pub held : {A E : Type 0} {x : A} (r : Result A E) → r ≡ Ok x → IsOk r
-held (Ok x) e = refl
-held (Err x) e = absurd (cc e)
-
 -- a pair that could not be owned
 pub kept-default : {A E : Type 0} {t : Trie} {e : E} (a q : Pair) (r : Result A E) → r ≡ Err e → t ≡ fork (seen a.zero) (seen a.one) → OnErr r ((q ≡ a) ⊎ ((seen q.zero ≡ seen a.zero) × (seen q.one ≡ seen a.one)))
     → fork (seen q.zero) (seen q.one) ≡ t
@@ -103,15 +98,6 @@ kept-default a q (Err x) is was same = go same ∙ sym was
     go : (q ≡ a) ⊎ ((seen q.zero ≡ seen a.zero) × (seen q.one ≡ seen a.one)) → fork (seen q.zero) (seen q.one) ≡ fork (seen a.zero) (seen a.one)
     go (inl e) = λ i. fork (seen (e i).zero) (seen (e i).one)
     go (inr e) = λ i. fork (e.0 i) (e.1 i)
-
--- what an answer says, said of more
-pub on_ok : {A E : Type 0} {P Q : Type 0} (r : Result A E) → (P → Q) → OnOk r P → OnOk r Q
-on_ok (Ok x) f p = f p
-on_ok (Err x) f p = tt
-
-pub on_err : {A E : Type 0} {P Q : Type 0} (r : Result A E) → (P → Q) → OnErr r P → OnErr r Q
-on_err (Ok x) f p = tt
-on_err (Err x) f p = f p
 
 -- two keys that go on with one bit: the second one after a change under the first
 pub rows-twice : {left key : ℕ} {t : Trie} {p : Pair} {bit : Bool} {u : Trie} → Step left key t p bit u → (other : ℕ) (f : Rows → Rows) → bit ≡ (bit_at other (left - 1) == 1)
@@ -146,12 +132,6 @@ pub unlike-zero : (a b : Bool) → a ≡ false → beq a b ≡ false → b ≡ t
 unlike-zero false false e n = absurd (cc n)
 unlike-zero false true e n = refl
 unlike-zero true b e n = absurd (cc e)
-
-pub alike : (a b : Bool) → beq a b ≡ true → a ≡ b
-alike true true e = refl
-alike false false e = refl
-alike true false e = absurd (cc e)
-alike false true e = absurd (cc e)
 
 -- two keys that part here: the first goes to one half, the second to the other
 pub record Parts (left key other : ℕ) (t near far : Trie) : Type 0 where

@@ -1,8 +1,8 @@
 -- A step down a node of four that a trie owns, into the quarter under a key's next two bits.
-use Rattle.std.proofs.Common.{◌≡◌, ◌⊎◌, inl, inr, ◌-◌, ◌==◌, ◌∙◌, ℕ, true, false, Bool, List, ◌∷◌, Result, Ok, Err, OnOk, OnErr, IfOk, IsOk, length, refl, sym, ap}
+use Rattle.std.proofs.Common.{◌≡◌, ◌⊎◌, inl, inr, ◌-◌, ◌==◌, ◌∙◌, ℕ, true, false, Bool, List, ◌∷◌, Result, Ok, Err, OnErr, IfOk, length, refl, sym, ap}
 use mathlib.Core.Bool.{beq}
 use Rattle.std.specs.Int.{bit_at}
-use Rattle.std.specs.Cmp.{first_so, second_so}
+use Rattle.std.specs.Cmp.{booleans_Decides, first_so, second_so}
 use Rattle.zorder.specs.Bits.{low_bits}
 use Rattle.bucket_versions.specs.declared.row.Row.{Row}
 use Rattle.bucket_versions.specs.declared.row.RowChange.{RowChange}
@@ -94,13 +94,6 @@ pub counted-same : {E : Type 0} (left : ℕ) (r : Result ℕ E) (row : Row) (t u
 counted-same left (Err x) row t u same is = tt
 counted-same left (Ok m) row t u same is = is ∙ ap (count_under left row) (sym same)
 
--- two bits that are alike
-alike : (a b : Bool) → beq a b ≡ true → a ≡ b
-alike true true e = refl
-alike false false e = refl
-alike true false e = absurd (cc e)
-alike false true e = absurd (cc e)
-
 -- a key that goes on with the same two bits takes the same step
 pub same-step : {left key : ℕ} {t : Trie} {q : Quad} {high low : Bool} {u : Trie} → Step left key t q high low u → (other : ℕ) → go_together left key other ≡ true → high ≡ (bit_at key (left - 1) == 1)
     → low ≡ (bit_at key (left - 1 - 1) == 1) → Step left other t q high low u
@@ -112,8 +105,8 @@ same-step {left} {key} {t} {q} {high} {low} {u} s other e first second =
       fits = s.fits;
       is = s.is;
       bits = two_bits left other high low s.some
-          (first ∙ alike (bit_at key (left - 1) == 1) (bit_at other (left - 1) == 1) (first_so one two e))
-          (second ∙ alike (bit_at key (left - 1 - 1) == 1) (bit_at other (left - 1 - 1) == 1) (second_so one two e));
+          (first ∙ (booleans_Decides (bit_at key (left - 1) == 1) (bit_at other (left - 1) == 1)).0 (first_so one two e))
+          (second ∙ (booleans_Decides (bit_at key (left - 1 - 1) == 1) (bit_at other (left - 1 - 1) == 1)).0 (second_so one two e));
       quarter = s.quarter;
     }
 
@@ -140,17 +133,3 @@ changed-twice {left} {key} {other} {t} {q} {high} {low} {u} s o f h n p made bel
     ∙ sym (changed-with q (low_bits (left - 2) other) h (changed_at (low_bits (left - 2) key) f u) high low)
     ∙ ap (changed_at (high ∷ low ∷ low_bits (left - 2) other) h) (sym (changed-with q (low_bits (left - 2) key) f u high low))
     ∙ (λ i. changed_at (sym o.bits i) h (changed_at (sym s.bits i) f (sym (whole-step s) i)))
-
--- an answer that is known
-pub held : {A E : Type 0} {x : A} (r : Result A E) → r ≡ Ok x → IsOk r
-held (Ok x) e = refl
-held (Err x) e = absurd (cc e)
-
--- what an answer says, said of more
-pub on_ok : {A E : Type 0} {P Q : Type 0} (r : Result A E) → (P → Q) → OnOk r P → OnOk r Q
-on_ok (Ok x) f p = f p
-on_ok (Err x) f p = tt
-
-pub on_err : {A E : Type 0} {P Q : Type 0} (r : Result A E) → (P → Q) → OnErr r P → OnErr r Q
-on_err (Ok x) f p = tt
-on_err (Err x) f p = f p

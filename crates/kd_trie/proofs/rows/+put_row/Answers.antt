@@ -1,15 +1,17 @@
 use Rattle.std.proofs.Common.{◌∙◌, sym, ap, rules}
+use Rattle.bit_trie.proofs.Outcomes.{held}
+use Rattle.std.proofs.lemmas.Result.{on_ok_weaker, on_err_weaker}
 use Rattle.bucket_versions.specs.Rows.{has_row, after_put}
 use Rattle.kd_trie.specs.Nodes.{seen}
 use Rattle.bit_trie.specs.Tries.{tip}
 use Rattle.bit_trie.specs.Ways.{has_under, put_under}
-use Rattle.kd_trie.proofs.Steps.{held, step, changed-step, kept-step, counted-step, rows-step, kept-default, on_ok, on_err}
+use Rattle.kd_trie.proofs.Steps.{step, changed-step, kept-step, counted-step, rows-step, kept-default}
 use Rattle.kd_trie.proofs.rows.+put_row.Goals as goal
 
 pub returns-in-Ok-clause-ok : goal.returns-in-Ok-clause-ok
 returns-in-Ok-clause-ok g t c =
     let s = step {key = c.args.to.now.change.row.key} c.requires.fits (ap seen c.in-Inner.is) c.in-Ok.ensures.value c.next_bit.ensures c.half-half.ensures.half in
-    on_ok c.put_row.new.to.ended (changed-step s (after_put c.args.to.now.change) c.put_row.new.node _ (c.own.follows.holds _ (held c.own.result c.in-Ok.is))) c.put_row.ensures.ok
+    on_ok_weaker c.put_row.new.to.ended (changed-step s (after_put c.args.to.now.change) c.put_row.new.node _ (c.own.follows.holds _ (held c.own.result c.in-Ok.is))) c.put_row.ensures.ok
 
 pub returns-in-Ok-clause-count : goal.returns-in-Ok-clause-count
 returns-in-Ok-clause-count g t c =
@@ -19,19 +21,19 @@ returns-in-Ok-clause-count g t c =
 pub returns-in-Ok-clause-err : goal.returns-in-Ok-clause-err
 returns-in-Ok-clause-err g t c =
     let s = step {key = c.args.to.now.change.row.key} c.requires.fits (ap seen c.in-Inner.is) c.in-Ok.ensures.value c.next_bit.ensures c.half-half.ensures.half in
-    on_err c.put_row.new.to.ended (kept-step s c.put_row.new.node _ (c.own.follows.holds _ (held c.own.result c.in-Ok.is))) c.put_row.ensures.err
+    on_err_weaker c.put_row.new.to.ended (kept-step s c.put_row.new.node _ (c.own.follows.holds _ (held c.own.result c.in-Ok.is))) c.put_row.ensures.err
 
 pub put_there-requires-clause-absent : goal.put_there-requires-clause-absent
 put_there-requires-clause-absent g t c = ap (λ n. has_under c.args.left c.args.to.now.change.row (seen n)) (sym c.in-Leaf.is) ∙ c.requires.absent
 
 pub returns-in-Leaf-clause-ok : goal.returns-in-Leaf-clause-ok
-returns-in-Leaf-clause-ok g t c = on_ok c.put_there.new.to.ended (λ e. ap tip e ∙ ap (λ n. put_under c.args.left c.args.to.now.change (seen n)) (sym c.in-Leaf.is)) c.put_there.ensures.ok
+returns-in-Leaf-clause-ok g t c = on_ok_weaker c.put_there.new.to.ended (λ e. ap tip e ∙ ap (λ n. put_under c.args.left c.args.to.now.change (seen n)) (sym c.in-Leaf.is)) c.put_there.ensures.ok
 
 pub returns-in-Leaf-clause-count : goal.returns-in-Leaf-clause-count
 returns-in-Leaf-clause-count g t c = c.put_there.ensures.count
 
 pub returns-in-Leaf-clause-err : goal.returns-in-Leaf-clause-err
-returns-in-Leaf-clause-err g t c = on_err c.put_there.new.to.ended (λ e. ap tip e ∙ ap seen (sym c.in-Leaf.is)) c.put_there.ensures.err
+returns-in-Leaf-clause-err g t c = on_err_weaker c.put_there.new.to.ended (λ e. ap tip e ∙ ap seen (sym c.in-Leaf.is)) c.put_there.ensures.err
 
 pub returns-in_default-clause-err : goal.returns-in_default-clause-err
 returns-in_default-clause-err g t c = kept-default c.in-Inner.pair.value _ c.own.result c.in_default.is (ap seen c.in-Inner.is) c.own.follows.holds-at-none

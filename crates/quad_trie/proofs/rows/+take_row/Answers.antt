@@ -1,18 +1,20 @@
 use Rattle.std.proofs.Common.{◌∙◌, sym, ap, rules}
+use Rattle.bit_trie.proofs.Outcomes.{held}
+use Rattle.std.proofs.lemmas.Result.{on_ok_weaker, on_err_weaker}
 use Rattle.bucket_versions.specs.Rows.{has_row, after_gone}
 use Rattle.quad_trie.specs.Nodes.{seen}
-use Rattle.quad_trie.proofs.Steps.{held, own-step, rows-step, changed-step, kept-step, kept-default, on_ok, on_err}
+use Rattle.quad_trie.proofs.Steps.{own-step, rows-step, changed-step, kept-step, kept-default}
 use Rattle.quad_trie.proofs.rows.+take_row.Goals as goal
 
 pub returns-in-Ok-clause-ok : goal.returns-in-Ok-clause-ok
 returns-in-Ok-clause-ok g t c =
     let s = own-step {key = c.args.from.now.change.row.key} c.requires.fits (ap seen c.in-Inner.is) c.in-Ok.ensures.value c.next_bit-high.ensures c.next_bit-low.ensures c.quarter_mut.ensures.quarter in
-    on_ok c.take_row.new.from.ended (changed-step s (after_gone c.args.from.now.change) c.take_row.new.node _ (c.own.follows.holds _ (held c.own.result c.in-Ok.is))) c.take_row.ensures.ok
+    on_ok_weaker c.take_row.new.from.ended (changed-step s (after_gone c.args.from.now.change) c.take_row.new.node _ (c.own.follows.holds _ (held c.own.result c.in-Ok.is))) c.take_row.ensures.ok
 
 pub returns-in-Ok-clause-err : goal.returns-in-Ok-clause-err
 returns-in-Ok-clause-err g t c =
     let s = own-step {key = c.args.from.now.change.row.key} c.requires.fits (ap seen c.in-Inner.is) c.in-Ok.ensures.value c.next_bit-high.ensures c.next_bit-low.ensures c.quarter_mut.ensures.quarter in
-    on_err c.take_row.new.from.ended (kept-step s c.take_row.new.node _ (c.own.follows.holds _ (held c.own.result c.in-Ok.is))) c.take_row.ensures.err
+    on_err_weaker c.take_row.new.from.ended (kept-step s c.take_row.new.node _ (c.own.follows.holds _ (held c.own.result c.in-Ok.is))) c.take_row.ensures.err
 
 pub returns-in_default-clause-err : goal.returns-in_default-clause-err
 returns-in_default-clause-err g t c = kept-default c.in-Inner.quad.value _ c.own.result c.in_default.is (ap seen c.in-Inner.is) c.own.follows.holds-at-none
