@@ -13,9 +13,10 @@ use Rattle.index_layer.proofs.LeafKeys.{all_at}
 use Rattle.index_layer.proofs.FoundLeaves.{AreUnder-with_row, AreUnder-without_row}
 use Rattle.index_layer.proofs.LeafChanges.{leaf_at, AreLeaves-replaced}
 use Rattle.bit_trie.specs.Tries.{Trie, tip, fork, height, leaves_under, name_at, bucket_at, rows_at, changed_at, graft}
-use Rattle.index_layer.specs.RowChanges.{ChangesAt, CountAt, Moves}
+use Rattle.index_layer.specs.RowChanges.{Holds, ChangesAt, CountAt, Moves}
+use Rattle.bit_trie.specs.Ways.{put_under, gone_under, MayMove}
 use Rattle.bit_trie.proofs.TrieLeaves.{gap, within, name-under, leaves-put, leaf-at_key}
-use Rattle.bit_trie.proofs.TrieRows.{height-changed, rows-bucket}
+use Rattle.bit_trie.proofs.TrieRows.{height-changed, rows-bucket, absent-after}
 
 changed-put : (path : List Bool) (change : Rows → Rows) (t : Trie) (a : Rows) → bucket_at path t ≡ Some a → changed_at path change t ≡ graft path (tip (change a)) t
 changed-put path change (tip b) a e = ap (λ (r : Rows). tip (change r)) (same_Some b a e)
@@ -77,7 +78,7 @@ rows-found key t row b lt h are has =
     let f = find-leaf key t lt h are in
     ap (has_row row) (rows-bucket (low_bits 64 key) t f.bucket f.held) ∙ subst (λ o. IfSome o (λ (l : Leaf). has_row row l.bucket.rows ≡ b)) f.found has
 
-pub puts : (put : RowChange) (t : Trie) → put.row.key < 2 ^ 64 → height t ≤ 64 → AreLeaves (leaves_under [] t) → has_row put.row (rows_at (low_bits 64 put.row.key) t) ≡ false
+puts : (put : RowChange) (t : Trie) → put.row.key < 2 ^ 64 → height t ≤ 64 → AreLeaves (leaves_under [] t) → has_row put.row (rows_at (low_bits 64 put.row.key) t) ≡ false
     → Changed put.row.key (after_put put) t (changed_at (low_bits 64 put.row.key) (after_put put) t)
 puts put t lt h are absent =
     let row : Row = put.row in
@@ -91,20 +92,39 @@ takes gone t lt h are =
     let f = find-leaf gone.row.key t lt h are in
     changes gone.row.key (after_gone gone) t f h are (IsRows-without_row gone.row f.bucket.rows f.in_order) (AreUnder-without_row f.name gone.row f.bucket.rows f.all_under)
 
--- what holds after a change that was made or not
-pub changes-made : {A E : Type 0} (r : Result A E) (key : ℕ) (change : Rows → Rows) (leaves : List Leaf) (old made new : Trie) → leaves_under [] old ≡ leaves → Changed key change old made
-    → OnOk r (new ≡ made) → OnOk r (ChangesAt key change leaves (leaves_under [] new))
-changes-made (Ok x) key change leaves old made new same d ok = subst (λ (ls : List Leaf). ChangesAt key change ls (leaves_under [] new)) same (subst (λ (t : Trie). ChangesAt key change (leaves_under [] old) (leaves_under [] t)) (sym ok) d.changes)
-changes-made (Err e) key change leaves old made new same d ok = tt
+-- a row that comes, where the leaf that its key is under has none like it
+pub puts-there : (put : RowChange) (t : Trie) → put.row.key < 2 ^ 64 → height t ≤ 64 → AreLeaves (leaves_under [] t) → Holds put.row (leaves_under [] t) false → Changed put.row.key (after_put put) t (put_under 64 put t)
+puts-there put t lt h are absent = puts put t lt h are (rows-found put.row.key t put.row false lt h are absent)
 
-pub moves-made : {A E : Type 0} (r : Result A E) (from to : RowChange) (leaves : List Leaf) (old once twice new : Trie) → leaves_under [] old ≡ leaves → Changed from.row.key (after_gone from) old once → Changed to.row.key (after_put to) once twice
-    → OnOk r (new ≡ twice) → OnOk r (Moves from to leaves (leaves_under [] new))
-moves-made (Ok x) from to leaves old once twice new same d e ok = record {
-  between = leaves_under [] once;
-  takes = subst (λ (ls : List Leaf). ChangesAt from.row.key (after_gone from) ls (leaves_under [] once)) same d.changes;
-  puts = subst (λ (t : Trie). ChangesAt to.row.key (after_put to) (leaves_under [] once) (leaves_under [] t)) (sym ok) e.changes;
+-- a row that goes and another one that comes
+pub record Shifted (from to : RowChange) (t : Trie) : Type 0 where
+  pub may : MayMove 64 from 64 to t (gone_under 64 from t)
+  pub goes : Changed from.row.key (after_gone from) t (gone_under 64 from t)
+  pub comes : Changed to.row.key (after_put to) (gone_under 64 from t) (put_under 64 to (gone_under 64 from t))
+
+pub shifts : (from to : RowChange) (t : Trie) → from.row.key < 2 ^ 64 → to.row.key < 2 ^ 64 → height t ≤ 64 → AreLeaves (leaves_under [] t) → Holds from.row (leaves_under [] t) true → Holds to.row (leaves_under [] t) false
+    → Shifted from to t
+shifts from to t from_lt to_lt h are present absent =
+    let goes = takes from t from_lt h are in
+    let none = absent-after (low_bits 64 to.row.key) (low_bits 64 from.row.key) to.row from t (rows-found to.row.key t to.row false to_lt h are absent) in
+    record {
+      may = record { present = rows-found from.row.key t from.row true from_lt h are present; absent = none };
+      goes = goes;
+      comes = puts to (gone_under 64 from t) to_lt goes.short goes.are_leaves none;
+    }
+
+-- what holds after a change that was made or not
+pub changes-made : {A E : Type 0} (r : Result A E) (key : ℕ) (change : Rows → Rows) (old made new : Trie) → Changed key change old made → OnOk r (new ≡ made) → OnOk r (ChangesAt key change (leaves_under [] old) (leaves_under [] new))
+changes-made (Ok x) key change old made new d ok = subst (λ (t : Trie). ChangesAt key change (leaves_under [] old) (leaves_under [] t)) (sym ok) d.changes
+changes-made (Err e) key change old made new d ok = tt
+
+pub moves-made : {A E : Type 0} (r : Result A E) (from to : RowChange) (old new : Trie) → Shifted from to old → OnOk r (new ≡ put_under 64 to (gone_under 64 from old)) → OnOk r (Moves from to (leaves_under [] old) (leaves_under [] new))
+moves-made (Ok x) from to old new s ok = record {
+  between = leaves_under [] (gone_under 64 from old);
+  takes = s.goes.changes;
+  puts = subst (λ (t : Trie). ChangesAt to.row.key (after_put to) (leaves_under [] (gone_under 64 from old)) (leaves_under [] t)) (sym ok) s.comes.changes;
 }
-moves-made (Err x) from to leaves old once twice new same d e ok = tt
+moves-made (Err x) from to old new s ok = tt
 
 -- how many rows a key leads to is how many the leaf has that it is under
 pub counts-made : {E : Type 0} (r : Result ℕ E) (key : ℕ) (made new : Trie) → key < 2 ^ 64 → height made ≤ 64 → AreLeaves (leaves_under [] made) → OnOk r (new ≡ made)

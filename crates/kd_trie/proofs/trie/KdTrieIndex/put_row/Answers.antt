@@ -1,10 +1,9 @@
-use Rattle.std.proofs.Common.{[], false, refl}
-use Rattle.zorder.specs.Bits.{low_bits}
+use Rattle.std.proofs.Common.{false}
 use Rattle.bucket_versions.specs.Rows.{after_put}
-use Rattle.bit_trie.specs.Tries.{leaves_under, changed_at}
 use Rattle.kd_trie.specs.Wholes.{whole}
+use Rattle.bit_trie.specs.Ways.{put_under}
 use Rattle.bit_trie.proofs.TrieLeaves.{short-kept, are_leaves-kept}
-use Rattle.bit_trie.proofs.RowLeaves.{puts, rows-found, changes-made, counts-made}
+use Rattle.bit_trie.proofs.RowLeaves.{puts-there, rows-found, changes-made, counts-made}
 use Rattle.kd_trie.proofs.trie.KdTrieIndex.put_row.Goals as goal
 
 pub put_row-requires-clause-absent : goal.put_row-requires-clause-absent
@@ -15,8 +14,8 @@ put_row-requires-clause-absent g c =
 pub invariant_of-self : goal.invariant_of-self
 invariant_of-self g c =
     let old = whole c.args.self.now.tree in
-    let made = changed_at (low_bits 64 c.args.put.row.key) (after_put c.args.put) old in
-    let d = puts c.args.put old c.in_range.ensures c.args.self.now.short c.args.self.now.are_leaves (rows-found c.args.put.row.key old c.args.put.row false c.in_range.ensures c.args.self.now.short c.args.self.now.are_leaves c.requires.absent) in
+    let made = put_under 64 c.args.put old in
+    let d = puts-there c.args.put old c.in_range.ensures c.args.self.now.short c.args.self.now.are_leaves c.requires.absent in
     record {
       short = short-kept c.put_row.result old made (whole c.put_row.new.self) d.short c.args.self.now.short c.put_row.ensures.ok c.put_row.ensures.err;
       are_leaves = are_leaves-kept c.put_row.result old made (whole c.put_row.new.self) d.are_leaves c.args.self.now.are_leaves c.put_row.ensures.ok c.put_row.ensures.err;
@@ -25,13 +24,13 @@ invariant_of-self g c =
 pub returns-clause-ok : goal.returns-clause-ok
 returns-clause-ok g c =
     let old = whole c.args.self.now.tree in
-    let made = changed_at (low_bits 64 c.args.put.row.key) (after_put c.args.put) old in
-    let d = puts c.args.put old c.in_range.ensures c.args.self.now.short c.args.self.now.are_leaves (rows-found c.args.put.row.key old c.args.put.row false c.in_range.ensures c.args.self.now.short c.args.self.now.are_leaves c.requires.absent) in
-    changes-made c.put_row.result c.args.put.row.key (after_put c.args.put) (leaves_under [] old) old made (whole c.put_row.new.self) refl d c.put_row.ensures.ok
+    let made = put_under 64 c.args.put old in
+    let d = puts-there c.args.put old c.in_range.ensures c.args.self.now.short c.args.self.now.are_leaves c.requires.absent in
+    changes-made c.put_row.result c.args.put.row.key (after_put c.args.put) old made (whole c.put_row.new.self) d c.put_row.ensures.ok
 
 pub returns-clause-count : goal.returns-clause-count
 returns-clause-count g c =
     let old = whole c.args.self.now.tree in
-    let made = changed_at (low_bits 64 c.args.put.row.key) (after_put c.args.put) old in
-    let d = puts c.args.put old c.in_range.ensures c.args.self.now.short c.args.self.now.are_leaves (rows-found c.args.put.row.key old c.args.put.row false c.in_range.ensures c.args.self.now.short c.args.self.now.are_leaves c.requires.absent) in
+    let made = put_under 64 c.args.put old in
+    let d = puts-there c.args.put old c.in_range.ensures c.args.self.now.short c.args.self.now.are_leaves c.requires.absent in
     counts-made c.put_row.result c.args.put.row.key made (whole c.put_row.new.self) c.in_range.ensures d.short d.are_leaves c.put_row.ensures.ok c.put_row.ensures.count

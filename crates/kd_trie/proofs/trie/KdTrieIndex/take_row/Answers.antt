@@ -1,8 +1,7 @@
-use Rattle.std.proofs.Common.{[], true, refl}
-use Rattle.zorder.specs.Bits.{low_bits}
+use Rattle.std.proofs.Common.{true}
 use Rattle.bucket_versions.specs.Rows.{after_gone}
-use Rattle.bit_trie.specs.Tries.{leaves_under, changed_at}
 use Rattle.kd_trie.specs.Wholes.{whole}
+use Rattle.bit_trie.specs.Ways.{gone_under}
 use Rattle.bit_trie.proofs.TrieLeaves.{short-kept, are_leaves-kept}
 use Rattle.bit_trie.proofs.RowLeaves.{takes, rows-found, changes-made}
 use Rattle.kd_trie.proofs.trie.KdTrieIndex.take_row.Goals as goal
@@ -15,7 +14,7 @@ take_row-requires-clause-present g c =
 pub invariant_of-self : goal.invariant_of-self
 invariant_of-self g c =
     let old = whole c.args.self.now.tree in
-    let made = changed_at (low_bits 64 c.args.gone.row.key) (after_gone c.args.gone) old in
+    let made = gone_under 64 c.args.gone old in
     let d = takes c.args.gone old c.in_range.ensures c.args.self.now.short c.args.self.now.are_leaves in
     record {
       short = short-kept c.take_row.result old made (whole c.take_row.new.self) d.short c.args.self.now.short c.take_row.ensures.ok c.take_row.ensures.err;
@@ -25,6 +24,6 @@ invariant_of-self g c =
 pub returns-clause-ok : goal.returns-clause-ok
 returns-clause-ok g c =
     let old = whole c.args.self.now.tree in
-    let made = changed_at (low_bits 64 c.args.gone.row.key) (after_gone c.args.gone) old in
+    let made = gone_under 64 c.args.gone old in
     let d = takes c.args.gone old c.in_range.ensures c.args.self.now.short c.args.self.now.are_leaves in
-    changes-made c.take_row.result c.args.gone.row.key (after_gone c.args.gone) (leaves_under [] old) old made (whole c.take_row.new.self) refl d c.take_row.ensures.ok
+    changes-made c.take_row.result c.args.gone.row.key (after_gone c.args.gone) old made (whole c.take_row.new.self) d c.take_row.ensures.ok
