@@ -1,5 +1,5 @@
 -- A trie with another bucket on a path has the leaves with another bucket under one name.
-use Rattle.std.proofs.Common.{◌≡◌, ℕ, zero, suc, ◌+◌, ◌<◌, ◌≤◌, Bool, true, false, List, [], ◌∷◌, ◌++◌, length, take, Some, Ok, Err, max, refl, sym, ◌∙◌, ap, subst, arith, append_assoc, append-nil, ◌^◌, Result, OnOk, OnErr}
+use Rattle.std.proofs.Common.{◌≡◌, ℕ, zero, suc, ◌+◌, ◌-◌, ◌<◌, ◌≤◌, Bool, true, false, List, [], ◌∷◌, ◌++◌, length, take, Some, Ok, Err, max, refl, sym, ◌∙◌, ap, subst, arith, append_assoc, append-nil, ◌^◌, Result, OnOk, OnErr}
 use Rattle.std.specs.List.{starts_with, AllByRecursion}
 use Rattle.std.proofs.lemmas.Option.{same_Some}
 use mathlib.Core.Bool.{beq}
@@ -162,11 +162,22 @@ leaves-made (Ok x) made new leaves e ok = ap (leaves_under []) ok ∙ e
 leaves-made (Err x) made new leaves e ok = tt
 
 -- the name on a path is its first bits
-pub name-front : (path : List Bool) (t : Trie) → take (length (name_at path t)) path ≡ name_at path t
+name-front : (path : List Bool) (t : Trie) → take (length (name_at path t)) path ≡ name_at path t
 name-front path (tip a) = refl
 name-front [] (fork z o) = refl
 name-front (true ∷ path) (fork z o) = ap (λ (n : List Bool). true ∷ n) (name-front path o)
 name-front (false ∷ path) (fork z o) = ap (λ (n : List Bool). false ∷ n) (name-front path z)
+
+-- the leaf that a key is under, where so many of its bits are left behind the leaf's name
+pub leaf-named : (key left : ℕ) (a : Rows) (t : Trie) (name : List Bool) → height t ≤ 64 → tiles_from 0 (names_of (leaves_under [] t)) ≡ true → key < 2 ^ 64 → bucket_at (low_bits 64 key) t ≡ Some a
+    → left + length (name_at (low_bits 64 key) t) ≡ 64 → name ≡ take (64 - left) (key_bits key) → leaf_under key (leaves_under [] t) ≡ Some (leaf_at name a)
+unfolding key_bits
+leaf-named key left a t name h tile lt held long named =
+    let count : length (name_at (low_bits 64 key) t) ≡ 64 - left = omega (arith, long) in
+    leaf-at_key key a t h tile lt held
+    ∙ (λ i. Some (leaf_at (sym (name-front (low_bits 64 key) t) i) a))
+    ∙ ap (λ (n : ℕ). Some (leaf_at (take n (low_bits 64 key)) a)) count
+    ∙ ap (λ (n : List Bool). Some (leaf_at n a)) (sym named)
 
 -- a part in the place of a leaf makes names longer by its own height, and no other
 pub height-part : (path : List Bool) (s t : Trie) (n : ℕ) → height t ≤ n → length (name_at path t) + height s ≤ n → height (graft path s t) ≤ n
