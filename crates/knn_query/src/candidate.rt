@@ -27,6 +27,11 @@ impl Candidate {
         }
     }
 
+    /// The distance in one word, or the greatest that this holds: two that differ in it are so in the order of the answer.
+    pub(crate) fn roughly(&self) -> u64 {
+        u64::try_from(self.distance).unwrap_or(u64::MAX)
+    }
+
     pub(crate) fn placed(&self) -> Placed
         ensures { result ≡ object_of self.now }
     {

@@ -78,7 +78,10 @@ impl Kept {
         requires { IsHeld self }
         ensures { (places : List Placed) → AreOf places (held self) → IfOk result (λ list. list ≡ take self.k (ranked self.from (held self))) }
     {
-        let sorted = self.heap.into_sorted_vec();
+        let mut sorted = self.heap.into_vec();
+        // First by one word, which takes half the time that two do, and then only the order of those is mended that it doesn't tell apart.
+        sorted.sort_unstable_by_key(|c| c.roughly());
+        sorted.sort_unstable();
         Ok(PlacedList::from_vec(objects(alloc, &sorted)?))
     }
 }
