@@ -8,6 +8,7 @@ pub mod RefusalLemmas
 pub mod Sent
 pub mod SplitCalls
 pub mod SplitCells
+pub mod StillWorlds
 pub mod Undone
 pub mod UpdateCalls
 pub mod EarlyReturns

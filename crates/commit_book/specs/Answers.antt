@@ -1,9 +1,11 @@
 -- What a call of a book answers.
-use Rattle.std.specs.Prelude.{◌≡◌, ℕ, Bool, List, [], ◌∷◌, ◌++◌, Option, ⊤}
+use Rattle.std.specs.Prelude.{◌≡◌, ℕ, Bool, true, false, List, [], ◌∷◌, ◌++◌, drop, Option, ⊤}
+use Rattle.std.specs.List.{list_all}
 use Rattle.plain_list.specs.declared.ops.Op.{Op}
-use Rattle.plain_list.specs.declared.ops.Op.TheVariants.{Within, Near}
+use Rattle.plain_list.specs.declared.ops.Op.TheVariants.{Put, Move, Remove, Find, Within, Near}
 use Rattle.plain_list.specs.declared.ops.Answer.{Answer}
-use Rattle.plain_list.specs.declared.entries.Entry.TheVariants.{Call}
+use Rattle.plain_list.specs.declared.entries.Entry.{Entry}
+use Rattle.plain_list.specs.declared.entries.Entry.TheVariants.{Call, Begin, Install, Abandon, Fail}
 use Rattle.plain_list.specs.Answer.{answer_of}
 use Rattle.plain_list.specs.History.{world_after, call_count}
 use Rattle.plain_list.specs.State.{state_after}
@@ -17,6 +19,27 @@ abbrev pub IsQuery : Op → Type 0
 IsQuery (Within region) = ⊤
 IsQuery (Near at k) = ⊤
 IsQuery _ = ⊥
+
+-- whether an operation changes no world
+abbrev pub is_ask : Op → Bool
+is_ask (Put id at moment) = false
+is_ask (Move id at moment) = false
+is_ask (Remove id) = false
+is_ask (Find id) = true
+is_ask (Within region) = true
+is_ask (Near at k) = true
+
+-- whether an entry leaves any world as it is
+abbrev pub is_still : Entry → Bool
+is_still (Call session row op) = is_ask op
+is_still (Begin number name) = true
+is_still (Install number) = true
+is_still (Abandon number) = true
+is_still (Fail cell lost) = true
+
+-- whether each entry behind the first so many does
+abbrev pub is_still_since : ℕ → List Entry → Bool
+is_still_since events entries = list_all is_still (drop events entries)
 
 -- the history has one entry more, of this call
 pub record Notes {D : Type 0} (old new : BookView D) (session row : ℕ) (op : Op) (place : ℕ) : Type 0 where

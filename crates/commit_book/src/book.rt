@@ -9,7 +9,7 @@ ghost use Rattle.kept_log.specs.Kept.{IsOpened, found_state};
 ghost use Rattle.kept_log.specs.Journal.{failed_cell, cells_in, disk_in};
 ghost use Rattle.plain_list.specs.declared.entries.Lost.{Lost};
 ghost use Rattle.plain_list.specs.declared.entries.Entry.{Entry};
-ghost use Rattle.commit_book.specs.Answers.{IsUpdate, IsQuery, Notes, Replies};
+ghost use Rattle.commit_book.specs.Answers.{IsUpdate, IsQuery, Notes, Replies, is_still_since};
 ghost use Rattle.commit_book.specs.BookView.{first_log, StandsAfter};
 ghost use Rattle.commit_book.specs.Crash.{LeavesCells};
 ghost use Rattle.commit_book.specs.Events.{with_entry};
@@ -243,7 +243,26 @@ impl<I: Index, D: LogDisk> Book<I, D> {
         Ok(())
     }
 
-    /// Notes a call that is answered outside, and hands out the index as it is.
+    /// Notes a query that is answered outside, and gives its place.
+    pub fn note(&mut self, session: u8, row: u32, op: &Op) -> Result<u64, BookFault>
+        requires { IsQuery op.now }
+        ensures ok { IfOk result (λ place. Notes self.old self.new session row op.now place) }
+        ensures leaves { self.new.leaves ≡ self.old.leaves }
+        ensures refused { IsRefusedBy IsMemory (call_refusal self.old.entries) result }
+        ensures err { IfErr result (λ _. self.new ≡ self.old) }
+        ensures book { AreBooks D.drive I.WIDTH self.old self.new }
+    {
+        self.keep();
+        self.check_call()?;
+        self.history.reserve(self.splits.len() + 1)?;
+        let op = *op;
+        self.history.push(Entry::Call { session, row, op });
+        let place = self.history.calls();
+        self.keep();
+        Ok(place)
+    }
+
+    /// Notes a query that is answered outside, and hands out the index as it is.
     pub fn snapshot(&mut self, session: u8, row: u32, op: &Op) -> Result<Snapshot<I>, BookFault>
         requires { IsQuery op.now }
         ensures ok { IfOk result (λ s. Notes self.old self.new session row op.now s.place) }
@@ -255,13 +274,26 @@ impl<I: Index, D: LogDisk> Book<I, D> {
     {
         self.keep();
         self.check_call()?;
-        self.history.reserve(self.splits.len() + 1)?;
         let index = self.table.share()?;
-        let op = *op;
-        self.history.push(Entry::Call { session, row, op });
-        let place = self.history.calls();
-        self.keep();
+        let place = self.note(session, row, op)?;
         Ok(Snapshot { index, place })
+    }
+
+    /// Hands out the index as it is, for queries that are noted once they are answered.
+    pub fn glance(&self) -> Result<I, Memory>
+        ensures index { IfOk result (λ index. StandsAfter I.WIDTH self.now (I.leaves index)) }
+        ensures leaves { IfOk result (λ index. I.leaves index ≡ self.now.leaves) }
+        ensures book { IsBook D.drive I.WIDTH self.now }
+    {
+        self.keep();
+        self.table.share()
+    }
+
+    /// Whether no entry behind the first so many may have changed the objects, so that the world is the one after those.
+    pub fn is_still_since(&self, events: u64) -> bool
+        ensures { result ≡ is_still_since events self.now.entries }
+    {
+        self.history.is_still_since(events as usize)
     }
 
     /// The parts that the book holds.

@@ -1,9 +1,11 @@
 //! The entries of a run, with room for those that are promised.
 ghost use Rattle.std.specs.Prelude.{◌≡◌, ◌+◌, ◌-◌, ◌<◌, ◌≤◌, ◌∷◌, ◌++◌, ◌^◌, [], OnOk, OnErr, length, vec_len, vec_capacity};
 ghost use Rattle.plain_list.specs.History.{call_count};
+ghost use Rattle.std.specs.List.{list_all};
+ghost use Rattle.commit_book.specs.Answers.{is_ask, is_still, is_still_since};
 ghost use Rattle.commit_book.specs.Events.{with_entry};
 
-use plain_list::{Entry, Lost};
+use plain_list::{Entry, Lost, Op};
 use std::alloc::{AllocError, Global};
 use std::marker::Model;
 
@@ -49,6 +51,16 @@ impl History {
         ensures { result ≡ call_count self.now.entries }
     {
         self.calls
+    }
+
+    /// Whether each entry behind the first so many leaves any world as it is.
+    pub(crate) fn is_still_since(&self, events: usize) -> bool
+        ensures { result ≡ is_still_since events self.now.entries }
+    {
+        match self.entries.get(events..) {
+            Some(later) => are_still(later),
+            None => true,
+        }
     }
 
     /// Makes room for so many entries.
@@ -98,6 +110,33 @@ fn calls_in(entry: &Entry) -> u64
         Entry::Abandon { .. } => 0,
         Entry::Fail { .. } => 0,
     }
+}
+
+fn are_still(entries: &[Entry]) -> bool
+    ensures { result ≡ list_all is_still entries.now }
+{
+    for entry in entries {
+        if !is_still(entry) {
+            return false;
+        }
+    }
+    true
+}
+
+// Whether an entry leaves any world as it is: a query, a find, or a step of a split.
+fn is_still(entry: &Entry) -> bool
+    ensures { result ≡ is_still entry.now }
+{
+    match entry {
+        Entry::Call { op, .. } => is_ask(op),
+        _ => true,
+    }
+}
+
+fn is_ask(op: &Op) -> bool
+    ensures { result ≡ is_ask op.now }
+{
+    matches!(op, Op::Find { .. } | Op::Within { .. } | Op::Near { .. })
 }
 
 // Pushes into memory that was taken before.

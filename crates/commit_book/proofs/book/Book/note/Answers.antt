@@ -1,19 +1,18 @@
 use Rattle.std.proofs.Common.{◌≡◌, ◌≤◌, List, [], ◌∷◌, ◌++◌, length, refl, sym, ap, subst, ◌∙◌, arith}
 use Rattle.plain_list.specs.declared.entries.Entry.{Entry}
 use Rattle.plain_list.specs.declared.entries.Entry.TheVariants.{Call}
-use Rattle.plain_list.specs.State.{State}
-use Rattle.plain_list.proofs.Histories.{state_after-world, has_failed-none}
+use Rattle.plain_list.proofs.Histories.{has_failed-none}
 use Rattle.kept_log.specs.Journal.{KeepsIn}
 use Rattle.commit_book.specs.Events.{Events}
 use Rattle.commit_book.proofs.BookStates.{inside-call, steps_on}
-use Rattle.commit_book.proofs.BookSteps.{query_keeps, stands_again}
+use Rattle.commit_book.proofs.BookSteps.{query_keeps}
 use Rattle.commit_book.proofs.RefusalLemmas.{MayCall, may_call, passed}
 use Rattle.plain_list.proofs.SplitHistories.{open-le}
 use Rattle.commit_book.proofs.Undone.{inside-reserved}
 use Rattle.commit_book.proofs.UpdateCalls.{keeps-query}
 use Rattle.commit_book.specs.Refusals.{IsMemory}
 use Rattle.commit_book.proofs.EarlyReturns.{never_ok, since-same, same_books, if_any, hands_on, no_memory, done_freely}
-use Rattle.commit_book.proofs.book.Book.snapshot.Goals as goal
+use Rattle.commit_book.proofs.book.Book.note.Goals as goal
 
 pub overflow_add-len : goal.overflow_add-len
 overflow_add-len g c =
@@ -41,18 +40,6 @@ invariant_of-self-2 g c =
     inside-call drive w o c.self.inside _ c.self.invariant may.going (subst (λ (g : List Entry). KeepsIn drive w o g c.self.inside.journal) (sym entries) kept) (since-same c.self.inside.journal) c.args.session c.args.row op may.few entries room
     (sym (query_keeps op c.self.inside.table.world c.requires)) refl refl
 
-pub returns-clause-index : goal.returns-clause-index
-returns-clause-index g c =
-    let w = g.I.Index.WIDTH in
-    let o = c.self.inside.opening in
-    let h = c.self.inside.history.entries in
-    let e : Entry = Call c.args.session c.args.row c.args.op.now in
-    let may : MayCall h = may_call h c.self.invariant.few (passed _ _ (rw (← c.self.view_is) at c.in_ok-check_call.ensures)) in
-    let steps = steps_on w o h e c.self.invariant.legal (has_failed-none h may.going) refl in
-    let entries : c.push.new.self.entries ≡ h ++ e ∷ [] = ap (λ (v : Events). v.entries) c.push.ensures ∙ ap (λ (v : Events). v.entries ++ e ∷ []) c.in_ok-reserve.ensures.ok in
-    let world = c.self.invariant.world ∙ sym (ap (λ (t : State). t.world) steps.after ∙ query_keeps c.args.op.now _ c.requires) ∙ state_after-world w o (h ++ e ∷ []) in
-    rw entries (stands_again _ _ _ _ _ c.in_ok-index.ensures.index (g.met.I.Index.are_leaves c.in_ok-index.index) world c.in_ok-index.ensures.rows (c.self.invariant.names ∙ sym (ap (λ (t : State). t.leaves) steps.after)))
-
 pub returns-in_err-check_call-clause-refused : goal.returns-in_err-check_call-clause-refused
 returns-in_err-check_call-clause-refused g c = hands_on (Unit {0}) IsMemory _ c.in_err-check_call.field-0.0 _ c.in_err-check_call.ensures c.from_residual.ensures.1
 
@@ -75,19 +62,6 @@ returns-in_err-reserve-clause-book g c =
     let b = c.self.inside in
     same_books g.D.LogDisk.drive g.I.Index.WIDTH _ _ ((λ i. record { leaves = b.table.leaves; opening = b.opening; entries = (c.in_err-reserve.ensures.err i).entries; bucket = b.table.size; log = b.journal }) ∙ c.self.view_is) c.keep.ensures
 
-pub returns-in_err-index-clause-refused : goal.returns-in_err-index-clause-refused
-returns-in_err-index-clause-refused g c = no_memory IsMemory _ _ refl (passed _ _ c.in_ok-check_call.ensures) c.from_residual-in_err-index.ensures.1
-
-pub returns-in_err-index-clause-err : goal.returns-in_err-index-clause-err
-returns-in_err-index-clause-err g c =
-    let b = c.self.inside in
-    if_any c.from_residual-in_err-index.result _ ((λ i. record { leaves = b.table.leaves; opening = b.opening; entries = (c.in_ok-reserve.ensures.ok i).entries; bucket = b.table.size; log = b.journal }) ∙ c.self.view_is)
-
-pub returns-in_err-index-clause-book : goal.returns-in_err-index-clause-book
-returns-in_err-index-clause-book g c =
-    let b = c.self.inside in
-    same_books g.D.LogDisk.drive g.I.Index.WIDTH _ _ ((λ i. record { leaves = b.table.leaves; opening = b.opening; entries = (c.in_ok-reserve.ensures.ok i).entries; bucket = b.table.size; log = b.journal }) ∙ c.self.view_is) c.keep.ensures
-
 pub returns-clause-ok : goal.returns-clause-ok
 returns-clause-ok g c =
     let e : Entry = Call c.args.session c.args.row c.args.op.now in
@@ -97,7 +71,7 @@ returns-clause-ok g c =
     })
 
 pub returns-clause-leaves : goal.returns-clause-leaves
-returns-clause-leaves g c = (c.in_ok-index.ensures.index ∙ ap (λ v. v.leaves) c.self.view_is, ap (λ v. v.leaves) c.self.view_is)
+returns-clause-leaves g c = ap (λ v. v.leaves) c.self.view_is
 
 pub returns-clause-refused : goal.returns-clause-refused
 returns-clause-refused g c = done_freely IsMemory _ _ (passed _ _ c.in_ok-check_call.ensures)
@@ -113,9 +87,6 @@ returns-clause-book g c =
 pub invariant_of-self : goal.invariant_of-self
 invariant_of-self g c = inside-reserved g.D.LogDisk.drive g.I.Index.WIDTH _ c.self.inside _ c.reserve.new.self _ c.self.invariant refl refl c.in_err-reserve.ensures.err c.self.invariant.room
 
-pub invariant_of-self-in_err-index : goal.invariant_of-self-in_err-index
-invariant_of-self-in_err-index g c = inside-reserved g.D.LogDisk.drive g.I.Index.WIDTH _ c.self.inside _ c.reserve.new.self _ c.self.invariant refl refl c.in_ok-reserve.ensures.ok (λ _. omega (arith, c.len.ensures))
-
 pub push-requires-clause-few : goal.push-requires-clause-few
 push-requires-clause-few g c = omega (arith, ap (λ (v : Events). length v.entries) c.in_ok-reserve.ensures.ok, c.self.invariant.few)
 
@@ -125,26 +96,5 @@ push-requires-clause-room g c = omega (arith, ap (λ (v : Events). v.room) c.in_
 pub returns-in_err-check_call-clause-ok : goal.returns-in_err-check_call-clause-ok
 returns-in_err-check_call-clause-ok g c = never_ok c.from_residual.result _ c.from_residual.ensures.0
 
-pub returns-in_err-check_call-clause-index : goal.returns-in_err-check_call-clause-index
-returns-in_err-check_call-clause-index g c = never_ok c.from_residual.result _ c.from_residual.ensures.0
-
-pub returns-in_err-check_call-clause-leaves : goal.returns-in_err-check_call-clause-leaves
-returns-in_err-check_call-clause-leaves g c = never_ok c.from_residual.result _ c.from_residual.ensures.0
-
 pub returns-in_err-reserve-clause-ok : goal.returns-in_err-reserve-clause-ok
 returns-in_err-reserve-clause-ok g c = never_ok c.from_residual-in_err-reserve.result _ c.from_residual-in_err-reserve.ensures.0
-
-pub returns-in_err-reserve-clause-index : goal.returns-in_err-reserve-clause-index
-returns-in_err-reserve-clause-index g c = never_ok c.from_residual-in_err-reserve.result _ c.from_residual-in_err-reserve.ensures.0
-
-pub returns-in_err-reserve-clause-leaves : goal.returns-in_err-reserve-clause-leaves
-returns-in_err-reserve-clause-leaves g c = never_ok c.from_residual-in_err-reserve.result _ c.from_residual-in_err-reserve.ensures.0
-
-pub returns-in_err-index-clause-ok : goal.returns-in_err-index-clause-ok
-returns-in_err-index-clause-ok g c = never_ok c.from_residual-in_err-index.result _ c.from_residual-in_err-index.ensures.0
-
-pub returns-in_err-index-clause-index : goal.returns-in_err-index-clause-index
-returns-in_err-index-clause-index g c = never_ok c.from_residual-in_err-index.result _ c.from_residual-in_err-index.ensures.0
-
-pub returns-in_err-index-clause-leaves : goal.returns-in_err-index-clause-leaves
-returns-in_err-index-clause-leaves g c = never_ok c.from_residual-in_err-index.result _ c.from_residual-in_err-index.ensures.0
