@@ -54,7 +54,7 @@ told-update w (Find id) pass is = refl
 told-update w (Within region) pass is = absurd is
 told-update w (Near at k) pass is = absurd is
 
-told-query : (w : ℕ) (op : Op) (pass : Known) → IsQuery op → told_full w op pass ≡ None
+pub told-query : (w : ℕ) (op : Op) (pass : Known) → IsQuery op → told_full w op pass ≡ None
 told-query w (Put id at moment) pass is = absurd is
 told-query w (Move id at moment) pass is = absurd is
 told-query w (Remove id) pass is = absurd is
@@ -206,7 +206,7 @@ calm-left drive step b mid (book.Stale number) calm is = is
 calm-left drive step b mid (book.NotOpen number) calm is = is
 
 -- so nothing was lost
-calm-loses : (A : Type 0) (world : World) (op : Op) (fault : BookFault) → IsCalm fault → LosesChange {A = A} world op (Err fault)
+pub calm-loses : (A : Type 0) (world : World) (op : Op) (fault : BookFault) → IsCalm fault → LosesChange {A = A} world op (Err fault)
 calm-loses A world op (book.Disk cell) calm = absurd calm
 calm-loses A world op (book.Closed cell) calm = tt
 calm-loses A world op book.HistoryFull calm = tt
@@ -219,7 +219,7 @@ calm-loses A world op book.NoLeaf calm = tt
 calm-loses A world op (book.Stale number) calm = tt
 calm-loses A world op (book.NotOpen number) calm = tt
 
-look-calm : (A : Type 0) (h : List Entry) (fault : BookFault) → IsRefusedBy {A = A} IsMemory (call_refusal h) (Err fault) → IsCalm fault
+pub look-calm : (A : Type 0) (h : List Entry) (fault : BookFault) → IsRefusedBy {A = A} IsMemory (call_refusal h) (Err fault) → IsCalm fault
 look-calm A h fault refused = refused-cause A IsMemory IsCalm (call_refusal h) fault (call-causes IsCalm h (λ n. tt) tt) (λ memory. subst IsCalm (sym memory) tt) refused
 
 module _ {I D P : Type 0} (leaves : I → List Leaf) (drive : D → Drive) (w : ℕ) (b mid : BookView D) (old took back : Known) (session row : ℕ) (op : Op) (was : WasTaken drive b old took) (books : AreBooks drive w b mid) where
@@ -254,11 +254,11 @@ module _ {I D P : Type 0} (leaves : I → List Leaf) (drive : D → Drive) (w : 
       books.before was (look-step r ok refused err) (look-says r ok stands has given) given
 
 -- a call that isn't refused is answered
-answered-ok : {A : Type 0} (IsFree : BookFault → Type 0) (op : Op) (cause : Option BookFault) (value : A) (result : Result Done CallFault) → IsRefusedBy IsFree cause (Ok value) → IsAnswered op None result → IsAnswered op cause result
+pub answered-ok : {A : Type 0} (IsFree : BookFault → Type 0) (op : Op) (cause : Option BookFault) (value : A) (result : Result Done CallFault) → IsRefusedBy IsFree cause (Ok value) → IsAnswered op None result → IsAnswered op cause result
 answered-ok IsFree op None value result refused answered = answered
 answered-ok IsFree op (Some cause) value result refused answered = absurd (cc refused)
 
-answered-err : (A : Type 0) (IsFree : BookFault → Type 0) (op : Op) (cause : Option BookFault) (fault : BookFault) → (IsFree fault → MayCome op (call_fault fault)) → IsRefusedBy {A = A} IsFree cause (Err fault) → IsAnswered op cause (Err (call_fault fault))
+pub answered-err : (A : Type 0) (IsFree : BookFault → Type 0) (op : Op) (cause : Option BookFault) (fault : BookFault) → (IsFree fault → MayCome op (call_fault fault)) → IsRefusedBy {A = A} IsFree cause (Err fault) → IsAnswered op cause (Err (call_fault fault))
 answered-err A IsFree op None fault free refused = free refused
 answered-err A IsFree op (Some cause) fault free refused = let same : fault ≡ cause = cc refused in ap (λ (f : BookFault). Err (call_fault f)) same
 
@@ -275,14 +275,14 @@ disk-comes op book.NoLeaf update is = absurd is
 disk-comes op (book.Stale number) update is = absurd is
 disk-comes op (book.NotOpen number) update is = absurd is
 
-memory-comes : (op : Op) (fault : BookFault) → fault ≡ book.Memory → MayCome op (call_fault fault)
+pub memory-comes : (op : Op) (fault : BookFault) → fault ≡ book.Memory → MayCome op (call_fault fault)
 memory-comes op fault is = subst (λ (f : BookFault). MayCome op (call_fault f)) (sym is) tt
 
 free-comes : (op : Op) (fault : BookFault) → IsUpdate op → IsMemoryOrDisk fault → MayCome op (call_fault fault)
 free-comes op fault update (inl memory) = memory-comes op fault memory
 free-comes op fault update (inr disk) = disk-comes op fault update disk
 
-fault-leaves : (A : Type 0) (w session row : ℕ) (op : Op) (old : Known) (before : List Entry) (new : Known) (fault : BookFault) → Leaves {A = A} (λ value. Call session row op) (λ h. lost.Call session row op) old before new (Err fault)
+pub fault-leaves : (A : Type 0) (w session row : ℕ) (op : Op) (old : Known) (before : List Entry) (new : Known) (fault : BookFault) → Leaves {A = A} (λ value. Call session row op) (λ h. lost.Call session row op) old before new (Err fault)
     → LosesChange {A = A} (world_after old.origin.world before) op (Err fault) → CallLeaves w session row op old before new (Err (call_fault fault))
 fault-leaves A w session row op old before new (book.Disk cell) left loses = (left, loses)
 fault-leaves A w session row op old before new (book.Closed cell) left loses = left
@@ -346,7 +346,7 @@ module _ (w session row : ℕ) (op : Op) (old new : Known) where
   change-answers (Err fault) (Err f) update updates is = subst (λ (x : CallFault). Called w session row op old new (Err x)) (sym is) (change-err fault update updates)
 
 module _ (op : Op) (old : Known) (query : IsQuery op) where
-  cause-is : (result : Result Done CallFault) (cells : ℕ) (before : List Entry) → IsAnswered op (call_refusal before) result → IsAnswered op (call_cause old.origin op cells before) result
+  pub cause-is : (result : Result Done CallFault) (cells : ℕ) (before : List Entry) → IsAnswered op (call_refusal before) result → IsAnswered op (call_cause old.origin op cells before) result
   cause-is result cells before answered = subst (λ (o : Option BookFault). IsAnswered op o result) (sym (query-cause old.origin op cells before query)) answered
 
 module _ {I P : Type 0} (leaves : I → List Leaf) (w session row : ℕ) (op : Op) (old new : Known) (query : IsQuery op) where

@@ -8,4 +8,5 @@ pub mod CallLemmas
 pub mod SplitLemmas
 pub mod LaneLemmas
 pub mod LanePasses
+pub mod RunLemmas
 pub mod SettleLemmas

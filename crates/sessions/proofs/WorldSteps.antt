@@ -76,6 +76,11 @@ pub snapshot_world : {I D P : Type 0} (old new : BookView D) (session row : ℕ)
 snapshot_world old new session row op (Ok s) ok err opening fits has = world_more old new (Call session row op) fits opening ok.entries has
 snapshot_world old new session row op (Err fault) ok err opening fits has = subst HasWorld (sym err) has
 
+pub note_world : {D : Type 0} (old new : BookView D) (session row : ℕ) (op : Op) (r : Result ℕ BookFault) → IfOk r (λ place. Notes old new session row op place)
+    → IfErr r (λ _. new ≡ old) → new.opening ≡ old.opening → FitsOp op → HasWorld old → HasWorld new
+note_world old new session row op (Ok place) ok err opening fits has = world_more old new (Call session row op) fits opening ok.entries has
+note_world old new session row op (Err fault) ok err opening fits has = subst HasWorld (sym err) has
+
 pub begin_world : {D : Type 0} (w n : ℕ) (drive : D → Drive) (old new : BookView D) (name : List Bool) (r : Result SplitTicket BookFault) → IfOk r (λ t. Begins w old new name t)
     → IfErr r (LeavesRefused drive (lost.Begin n name) old new) → new.opening ≡ old.opening → HasWorld old → HasWorld new
 begin_world w n drive old new name (Ok t) ok err opening has = world_more old new (Begin t.number name) tt opening ok.entries has

@@ -1,5 +1,5 @@
 -- What playing a lane's rows leaves.
-use Rattle.std.specs.Prelude.{◌≡◌, ℕ, ◌+◌, ◌<◌, ◌≤◌, Bool, List, [], ◌∷◌, ◌++◌, length, slice_index_or, vec_len, vec_capacity, take, true, false, Option, Some, None, Ok, Err}
+use Rattle.std.specs.Prelude.{◌≡◌, ℕ, ◌+◌, ◌<◌, ◌≤◌, Bool, List, [], ◌∷◌, ◌++◌, length, slice_index_or, vec_len, vec_capacity, drop, true, false, Option, Some, None, Ok, Err}
 use Rattle.plain_list.specs.declared.ops.Op.{Op}
 use Rattle.plain_list.specs.Answer.{IsValid}
 use Rattle.atomic_table.specs.Seated.{TableId}
@@ -10,7 +10,7 @@ use Rattle.sessions.specs.declared.faults.Split.{Split}
 use Rattle.sessions.specs.declared.store.lanes.Lane.{Lane}
 use Rattle.sessions.specs.declared.store.lanes.KeptRow.{KeptRow}
 use Rattle.sessions.specs.Calls.{Called}
-use Rattle.sessions.specs.Splits.{SplitEnds, SamePass}
+use Rattle.sessions.specs.Splits.{SplitEnds}
 
 -- the lane has a pass of this lock, and rows that may be asked, none of them kept yet, and room for all of them
 pub record IsReady {I D O P : Type 0} (lock : TableId) (lane : Lane I D O P) : Type 0 where
@@ -61,37 +61,39 @@ pub record Plays {I D O P : Type 0} (w : ℕ) (old new : Lane I D O P) : Type 0 
   pub keeps : KeepsAll w old.session old.pass front new.kept.items mid
   pub stops : Stops w old.session mid new.pass rest new.fault
 
--- a lane went on by a row, which is kept
-pub record KeepsOne {I D O P : Type 0} (w i : ℕ) (old new : Lane I D O P) : Type 0 where
+-- rows were played one after another, up to the rest, and what is kept of them stands behind what was kept before
+pub record PlaysRows (w session : ℕ) (old new : Known) (before after : List KeptRow) (rows rest : List (ℕ × Op)) : Type 0 where
+  pub front : List (ℕ × Op)
+  pub added : List KeptRow
+  pub rows_are : rows ≡ front ++ rest
+  pub kept_are : after ≡ before ++ added
+  pub keeps : KeepsAll w session old front added new
+
+-- a lane went on from a row to a later one, and kept those between
+pub record PlaysOn {I D O P : Type 0} (w i j : ℕ) (old new : Lane I D O P) : Type 0 where
   pub session : new.session ≡ old.session
   pub rows : new.rows.items ≡ old.rows.items
   pub fault : new.fault ≡ None
-  pub count : vec_len new.kept ≡ vec_len old.kept + 1
+  pub within : j ≤ length old.rows.items
+  pub count : vec_len new.kept + i ≡ vec_len old.kept + j
   pub room : vec_capacity old.kept ≤ vec_capacity new.kept
-  pub pass : SamePass old.pass new.pass
-  pub kept : KeptRow
-  pub items : new.kept.items ≡ old.kept.items ++ kept ∷ []
-  pub keeps : (d : ℕ × Op) → Keeps w old.session old.pass new.pass (slice_index_or old.rows.items i d) kept
+  pub plays : PlaysRows w old.session old.pass new.pass old.kept.items new.kept.items (drop i old.rows.items) (drop j old.rows.items)
 
--- a lane stopped at a row
-pub record StopsAt {I D O P : Type 0} (w i : ℕ) (old new : Lane I D O P) : Type 0 where
+-- a lane went on from a row to one that was refused
+pub record StopsOn {I D O P : Type 0} (w i : ℕ) (old new : Lane I D O P) : Type 0 where
   pub session : new.session ≡ old.session
   pub rows : new.rows.items ≡ old.rows.items
-  pub kept : new.kept.items ≡ old.kept.items
-  pub fault : CallFault
-  pub fault_is : new.fault ≡ Some fault
-  pub called : (d : ℕ × Op) → Called w old.session (slice_index_or old.rows.items i d).0 (slice_index_or old.rows.items i d).1 old.pass new.pass (Err fault)
+  pub mid : Known
+  pub rest : List (ℕ × Op)
+  pub plays : PlaysRows w old.session old.pass mid old.kept.items new.kept.items (drop i old.rows.items) rest
+  pub stops : Stops w old.session mid new.pass rest new.fault
 
--- either, as is told
+-- either, as is told: by a row
 abbrev pub Advances : {I D O P : Type 0} → ℕ → ℕ → Lane I D O P → Lane I D O P → Bool → Type 0
-Advances w i old new true = KeepsOne w i old new
-Advances w i old new false = StopsAt w i old new
+Advances w i old new true = PlaysOn w i (i + 1) old new
+Advances w i old new false = StopsOn w i old new
 
--- a lane has played so many rows
-pub record PlaysTo {I D O P : Type 0} (w i : ℕ) (old new : Lane I D O P) : Type 0 where
-  pub session : new.session ≡ old.session
-  pub rows : new.rows.items ≡ old.rows.items
-  pub fault : new.fault ≡ None
-  pub room : vec_len new.kept + length old.rows.items ≤ vec_capacity new.kept + i
-  pub pass : SamePass old.pass new.pass
-  pub keeps : KeepsAll w old.session old.pass (take i old.rows.items) new.kept.items new.pass
+-- or up to the row that is to be played next
+abbrev pub GoesOn : {I D O P : Type 0} → ℕ → ℕ → Lane I D O P → Lane I D O P → Option ℕ → Type 0
+GoesOn w i old new (Some j) = (i < j) × PlaysOn w i j old new
+GoesOn w i old new None = StopsOn w i old new

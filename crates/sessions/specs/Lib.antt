@@ -5,4 +5,5 @@ pub mod Opens
 pub mod Calls
 pub mod Splits
 pub mod Lanes
+pub mod Runs
 pub mod Settles

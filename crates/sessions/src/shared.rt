@@ -9,7 +9,8 @@ ghost use Rattle.plain_list.specs.declared.entries.Lost.{Lost};
 ghost use Rattle.index_layer.specs.Stands.{Stands};
 ghost use Rattle.commit_book.specs.IsBook.{IsBook, AreBooks};
 ghost use Rattle.commit_book.specs.Refusals.{IsRefusedBy, IsDisk, IsMemory, IsMemoryOrDisk, LeavesRefused, call_refusal, update_refusal, begin_refusal, install_refusal, abandon_refusal};
-ghost use Rattle.commit_book.specs.Answers.{IsUpdate, IsQuery, Notes, Replies};
+ghost use Rattle.commit_book.specs.Answers.{IsUpdate, IsQuery, Notes, Replies, is_still_since};
+ghost use Rattle.commit_book.specs.BookView.{StandsAfter};
 ghost use Rattle.commit_book.specs.SplitSteps.{Begins, CanPrepare, Installs, Abandons};
 ghost use Rattle.sessions.specs.Shared.{HasWorld, StartsAs, TellsFull};
 
@@ -22,7 +23,7 @@ use plain_list::Op;
 use split_prepare::{Prepared, SplitTicket};
 use std::alloc::{AllocFailed, Global};
 use std::marker::{Model, PhantomData};
-use zorder::{Name, Point, Region, coordinates_fit};
+use zorder::{Memory, Name, Point, Region, coordinates_fit};
 
 /// A book whose objects are a world, and whose log was opened over a drive of which this is known.
 #[derive(Drop)]
@@ -124,6 +125,33 @@ impl<I: Index, D: LogDisk, O: Start> SharedBook<I, D, O> {
     {
         told(*op);
         self.book.snapshot(session, row, op)
+    }
+
+    /// As of the book.
+    pub(crate) fn note(&mut self, session: u8, row: u32, op: &Op) -> Result<u64, BookFault>
+        requires { IsQuery op.now }
+        ensures ok { IfOk result (λ place. Notes self.old self.new session row op.now place) }
+        ensures refused { IsRefusedBy IsMemory (call_refusal self.old.entries) result }
+        ensures err { IfErr result (λ _. self.new ≡ self.old) }
+        ensures book { AreBooks D.drive I.WIDTH self.old self.new }
+    {
+        told(*op);
+        self.book.note(session, row, op)
+    }
+
+    /// As of the book.
+    pub(crate) fn glance(&self) -> Result<I, Memory>
+        ensures index { IfOk result (λ index. StandsAfter I.WIDTH self.now (I.leaves index)) }
+        ensures world { HasWorld self.now }
+    {
+        self.book.glance()
+    }
+
+    /// As of the book.
+    pub(crate) fn is_still_since(&self, events: u64) -> bool
+        ensures { result ≡ is_still_since events self.now.entries }
+    {
+        self.book.is_still_since(events)
     }
 }
 

@@ -7,6 +7,7 @@ ghost use Rattle.sessions.specs.Steps.{MayGive, WasTaken, has_entry, has_given};
 mod calls;
 mod lanes;
 mod passes;
+mod runs;
 mod settling;
 mod splits;
 

@@ -1,10 +1,11 @@
 //! Rows of several sessions at once, each session in a thread.
 ghost use Rattle.std.specs.Prelude.{◌≡◌, ℕ, ◌+◌, ◌<◌, ◌≤◌, ◌∷◌, ◌++◌, [], length, slice_index_or, vec_len, vec_capacity, None, false};
 ghost use Rattle.plain_list.specs.Answer.{IsValid};
-ghost use Rattle.sessions.specs.Lanes.{IsReady, Tries, Plays, Advances};
+ghost use Rattle.sessions.specs.Lanes.{IsReady, Tries, Plays, Advances, GoesOn};
 ghost use Rattle.sessions.specs.Splits.{SamePass};
 
 use super::Store;
+use super::runs::{Pace, Run};
 use crate::faults::{CallFault, Split};
 use crate::shared::SharedBook;
 use crate::start::Start;
@@ -112,6 +113,37 @@ impl<I: Index, D: LogDisk, O: Start> Store<I, D, O> {
         true
     }
 
+    // Plays a lane's next rows: a run of queries at once, or one row. Gives the row that is to be played next, unless one was refused.
+    fn play_next<R: Wait, G: Gate, L: Ledger>(
+        &self,
+        rt: &R,
+        alloc: Global,
+        lane: &mut Lane<I, D, O>,
+        i: usize,
+        gate: &G,
+        steps: &mut Steps<L>,
+        pace: &mut Pace,
+    ) -> Option<usize>
+        requires lock { (lane.old.pass.lock ≡ self.now) × (lane.old.pass.holds ≡ false) }
+        requires row { i < length lane.old.rows.items }
+        requires valid { (k : ℕ) (d : ℕ × Op) → k < length lane.old.rows.items → IsValid (slice_index_or lane.old.rows.items k d).1 }
+        requires room { vec_len lane.old.kept + length lane.old.rows.items ≤ vec_capacity lane.old.kept + i }
+        requires fault { lane.old.fault ≡ None }
+        ensures { GoesOn I.WIDTH i lane.old lane.new result }
+    {
+        match self.play_run(rt, alloc, lane, i, gate, steps, pace) {
+            Run::Played { next } => Some(next),
+            Run::Refused => None,
+            Run::Left => {
+                if self.play_row(rt, alloc, lane, i, gate, steps) {
+                    Some(i + 1)
+                } else {
+                    None
+                }
+            }
+        }
+    }
+
     // Plays a lane's rows up to the first that is refused.
     fn play_rows<R: Wait, G: Gate, L: Ledger>(
         &self,
@@ -128,9 +160,12 @@ impl<I: Index, D: LogDisk, O: Start> Store<I, D, O> {
         ensures { Plays I.WIDTH lane.old lane.new }
     {
         let mut steps = Steps::<L>::new(blank);
-        for i in 0..lane.rows.len() {
-            if !self.play_row(rt, alloc, lane, i, gate, &mut steps) {
-                return;
+        let mut pace = Pace::new();
+        let mut i = 0;
+        while i < lane.rows.len() {
+            match self.play_next(rt, alloc, lane, i, gate, &mut steps, &mut pace) {
+                Some(next) => i = next,
+                None => return,
             }
         }
     }
@@ -172,8 +207,8 @@ impl<I: Index + Send, D: LogDisk + Send, O: Start + Send> Store<I, D, O> {
     }
 }
 
-// Pushes into memory that was taken before.
-fn push_within(kept: &mut Vec<KeptRow>, row: KeptRow)
+/// Pushes into memory that was taken before.
+pub(super) fn push_within(kept: &mut Vec<KeptRow>, row: KeptRow)
     requires { vec_len kept.old < vec_capacity kept.old }
     ensures items { kept.new.items ≡ kept.old.items ++ row ∷ [] }
     ensures count { vec_len kept.new ≡ vec_len kept.old + 1 }
