@@ -1,5 +1,5 @@
 //! The points of the gate that a lane comes to, and then the settling of the splits at the end.
-use crate::fixtures::play;
+use crate::fixtures::{HEADER, play};
 use io_edge::{Gate, GatePoint};
 use std::alloc::Global;
 use std::process::Abort;
@@ -26,6 +26,43 @@ const POINTS: &[(GatePoint, u8)] = &[
     (GatePoint::Begun, 0),
     (GatePoint::Ready, 0),
 ];
+
+// An object, and then as many boxes as are answered one by one, and so many that they are one run.
+const FEW: usize = 15;
+
+const MANY: usize = 16;
+
+// A put of lane 3, and so many boxes.
+fn boxes(rt: &impl Abort, alloc: Global, count: usize) -> Vec<u8> {
+    let mut text = String::from_str(alloc, HEADER).expect(rt, "no memory");
+    text.push_str("3,put,1,0,0,,,0\n").expect(rt, "no memory");
+    for _ in 0..count {
+        text.push_str("3,box,,0,0,9,9,\n").expect(rt, "no memory");
+    }
+    text.into_bytes()
+}
+
+// The points of these: the index is taken for each box of a run before the answer of the first one stands.
+fn points_of(rt: &impl Abort, alloc: Global, count: usize) -> Vec<(GatePoint, u8)> {
+    let mut points = Vec::new(alloc);
+    points
+        .push((GatePoint::Answered, 3))
+        .expect(rt, "no memory");
+    for at in 0..count.saturating_mul(2) {
+        let is_taken = if count < MANY {
+            at % 2 == 0
+        } else {
+            at < count
+        };
+        let point = if is_taken {
+            GatePoint::Taken
+        } else {
+            GatePoint::Answered
+        };
+        points.push((point, 3)).expect(rt, "no memory");
+    }
+    points
+}
 
 // A gate that is to be reached at these points, in their order.
 #[derive(Drop)]
@@ -70,6 +107,28 @@ fn comes_to_its_points<R: Threads + Wait + Abort + Sync>(rt: &R, alloc: Global) 
     let left = play(rt, alloc, "4", input, &gate);
     assert_same!(rt; left.status, 0);
     assert_is!(rt; gate.was_reached());
+}
+
+fn boxes_come_to_their_points<R: Threads + Wait + Abort + Sync>(
+    rt: &R,
+    alloc: Global,
+    count: usize,
+) {
+    let points = points_of(rt, alloc, count);
+    let gate = Awaited::new(points.as_slice());
+    let left = play(rt, alloc, "4", boxes(rt, alloc, count), &gate);
+    assert_same!(rt; left.status, 0);
+    assert_is!(rt; gate.was_reached());
+}
+
+#[test]
+fn a_few_queries_are_answered_one_by_one(rt: HostRuntime) {
+    boxes_come_to_their_points(&rt, rt.alloc(), FEW);
+}
+
+#[test]
+fn many_queries_of_a_lane_are_answered_before_the_first_of_them_has_its_place(rt: HostRuntime) {
+    boxes_come_to_their_points(&rt, rt.alloc(), MANY);
 }
 
 #[test]

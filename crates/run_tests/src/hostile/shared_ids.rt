@@ -13,6 +13,11 @@ use zorder::{Memory, Placed, Point, Region};
 // Row n is one of session 1 + (n - 1) mod 16.
 const ROWS: u32 = 480;
 
+// How many rows there are where most of them only ask, and how many change before that.
+const ASKING_ROWS: u32 = 1_920;
+
+const FIRST_ROWS: u32 = 320;
+
 const SESSIONS: u32 = 16;
 
 const HALF: u32 = 1 << 31;
@@ -63,6 +68,31 @@ fn ops_of(alloc: Global, seed: u64) -> Result<Vec<Op>, AllocError> {
         ops.push(op(&mut draws, number))?;
     }
     Ok(ops)
+}
+
+// After some rows of each kind, sessions that only ask, 100 rows each, beside so many that go on as before.
+fn asking_ops(alloc: Global, seed: u64, changing: u32) -> Result<Vec<Op>, AllocError> {
+    let mut draws = Draws::new(seed);
+    let mut ops = Vec::new(alloc);
+    for number in 0..ASKING_ROWS {
+        let op = if number < FIRST_ROWS || number % SESSIONS < changing {
+            op(&mut draws, number)
+        } else {
+            question(&mut draws)
+        };
+        ops.push(op)?;
+    }
+    Ok(ops)
+}
+
+fn question(draws: &mut Draws) -> Op {
+    let at = point(draws);
+    match draws.below(4) {
+        0 => Op::Within {
+            region: Region { lo: at, hi: at },
+        },
+        _ => Op::Near { at, k: 3 },
+    }
 }
 
 fn row_of(alloc: Global, session: u32, op: &Op) -> Result<String, AllocError> {
@@ -162,19 +192,19 @@ struct Tale {
     place: u64,
 }
 
-fn no_lines(alloc: Global) -> Result<Vec<String>, AllocError> {
+fn no_lines(alloc: Global, rows: usize) -> Result<Vec<String>, AllocError> {
     let mut lines = Vec::new(alloc);
-    for _ in 0..ROWS {
+    for _ in 0..rows {
         lines.push(String::new(alloc))?;
     }
     Ok(lines)
 }
 
 impl Tale {
-    fn new(alloc: Global) -> Result<Tale, AllocError> {
+    fn new(alloc: Global, rows: usize) -> Result<Tale, AllocError> {
         Ok(Tale {
             world: World::empty(alloc),
-            lines: no_lines(alloc)?,
+            lines: no_lines(alloc, rows)?,
             called: vec![in alloc; 0; 16]?,
             place: 0,
         })
@@ -235,7 +265,7 @@ impl Tale {
 }
 
 fn tale_of<R: Abort>(rt: &R, alloc: Global, ops: &[Op], events: &[Entry]) -> Tale {
-    let mut tale = Tale::new(alloc).expect(rt, "it failed");
+    let mut tale = Tale::new(alloc, ops.len()).expect(rt, "it failed");
     for event in events {
         tale.add(rt, alloc, ops, event);
     }
@@ -249,9 +279,13 @@ fn is_kept<R: Abort>(rt: &R, alloc: Global, width: u8, left: &Left, world: &Worl
     found.objects.as_slice() == world.as_slice() && leaves > 1 && unfinished == 0
 }
 
-fn play<R: Abort + Threads + Wait + Sync>(rt: &R, alloc: Global, width: u8, file: &[u8]) {
-    let ops = ops_of(alloc, 2027).expect(rt, "it failed");
-    let ops = ops.as_slice();
+fn play<R: Abort + Threads + Wait + Sync>(
+    rt: &R,
+    alloc: Global,
+    width: u8,
+    file: &[u8],
+    ops: &[Op],
+) {
     let input = input_of(alloc, ops).expect(rt, "it failed");
     let left = run_plan(rt, alloc, &playing(&input, file, &[]));
     let tale = tale_of(rt, alloc, ops, left.history());
@@ -261,12 +295,34 @@ fn play<R: Abort + Threads + Wait + Sync>(rt: &R, alloc: Global, width: u8, file
     must(rt, is_kept, "objects of width", width as u64);
 }
 
-fn play_each<R: Abort + Threads + Wait + Sync>(rt: &R, alloc: Global) {
-    play(rt, alloc, 1, EMPTY_LOG);
-    play(rt, alloc, 2, EMPTY_QUAD_LOG);
+fn play_each<R: Abort + Threads + Wait + Sync>(rt: &R, alloc: Global, ops: &[Op]) {
+    play(rt, alloc, 1, EMPTY_LOG, ops);
+    play(rt, alloc, 2, EMPTY_QUAD_LOG, ops);
+}
+
+fn play_shared<R: Abort + Threads + Wait + Sync>(rt: &R, alloc: Global) {
+    let ops = ops_of(alloc, 2027).expect(rt, "it failed");
+    play_each(rt, alloc, ops.as_slice());
+}
+
+fn play_asking<R: Abort + Threads + Wait + Sync>(rt: &R, alloc: Global, changing: u32) {
+    let ops = asking_ops(alloc, 2028, changing).expect(rt, "it failed");
+    play_each(rt, alloc, ops.as_slice());
 }
 
 #[test]
 fn what_16_sessions_on_shared_ids_are_told_and_leave_is_what_one_list_has(rt: HostRuntime) {
-    play_each(&rt, rt.alloc());
+    play_shared(&rt, rt.alloc());
+}
+
+#[test]
+fn what_16_sessions_that_only_ask_are_told_is_what_one_list_has(rt: HostRuntime) {
+    play_asking(&rt, rt.alloc(), 0);
+}
+
+#[test]
+fn what_sessions_that_only_ask_are_told_beside_one_that_changes_is_what_one_list_has(
+    rt: HostRuntime,
+) {
+    play_asking(&rt, rt.alloc(), 1);
 }
