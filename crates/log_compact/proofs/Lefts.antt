@@ -9,7 +9,7 @@ use Rattle.zorder.specs.Key.{key_bits}
 use Rattle.zorder.specs.Name.{first_key}
 use Rattle.zorder.proofs.Ranges.{high_number-end, range-front}
 use Rattle.log_compact.specs.Fresh.{proper_prefixes}
-use Rattle.log_compact.specs.Walk.{is_first, left_at, names_left, all_new_names}
+use Rattle.log_compact.specs.Walk.{is_first, left_at}
 
 length-proper_prefixes : (name : List Bool) → length (proper_prefixes name) ≡ length name
 length-proper_prefixes [] = refl
@@ -77,8 +77,3 @@ module _ (w : ℕ) (leaf name : List Bool) (k : ℕ) (short : length leaf ≤ 64
 
   pub not-first : k % w ≡ 0 → (first_key name ≡ first_key leaf → ⊥) → left_at w leaf k ≡ left_at w leaf (k + 1)
   not-first at other = chosen false (aligned true (eq-eqb (k % w) 0 at) ∙ ne_eqb (first_key name) (first_key leaf) other)
-
--- at the next leaf all of its names are left
-pub names_left-all : (w : ℕ) (leaves : List (List Bool)) → names_left w leaves 0 ≡ all_new_names w leaves
-names_left-all w [] = refl
-names_left-all w (leaf ∷ leaves) = refl

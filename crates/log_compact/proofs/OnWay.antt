@@ -7,7 +7,7 @@ use Rattle.disk_trait.specs.Moments.{LeavesOnly}
 use Rattle.disk_trait.proofs.Told.{told_before}
 use Rattle.split_log.specs.LogText.{HoldsCells, HoldsAllOrNone, IsLog, front_of}
 use Rattle.split_log.proofs.Cells.{length-front_of}
-use Rattle.split_log.proofs.Commits.{joined, widened}
+use Rattle.split_log.proofs.Commits.{joined}
 use Rattle.log_state.specs.Recovers.{Recovers, IsLegalCells}
 use Rattle.recovery.specs.Making.{IsSmall, Makes, KeepsSmall}
 use Rattle.log_compact.specs.Staging.{IsEmpty}
@@ -41,15 +41,6 @@ module _ (w : ℕ) (cells : List Cell) (legal : IsLegalCells w cells) (old mid n
     log = λ bytes told. ((made.log bytes told).0, written (made.log bytes told).1);
     same = same ∙ made.same;
   }
-
--- where no log was made
-pub small-on_way : (w : ℕ) (cells : List Cell) (old new : Drive) → KeepsSmall old new → KeepsOnWay w cells old new
-small-on_way w cells old new kept = record {
-  on_way = λ bytes told small. widened old new IsSmall (IsOnWay w cells) (λ c is_small. inl is_small) (kept.small small);
-  in_use = kept.in_use;
-  later = kept.later;
-  file = kept.file;
-}
 
 some_same : (a b : List ℕ) → ◌≡◌ {A = Option (List ℕ)} (Some a) (Some b) → a ≡ b
 some_same a b e = cc e
