@@ -40,7 +40,8 @@ fn stage<D: LogDisk>(disk: &mut D, first: Cell, mut cells: FreshCells) -> Result
 
     ensures alone { (w : ℕ) → IsLog w [] (D.drive disk.old)
         → LeavesOnly (D.drive disk.old) (D.drive disk.new) (HoldsCells newest w []) }
-    ensures staged { OnOk result ((w : ℕ) → IsLog w [] (D.drive disk.old) → IsUncommitted w 16 [] (first ∷ cells.entry) (D.drive disk.new)) }
+    ensures staged { OnOk result ((w : ℕ) → IsLog w [] (D.drive disk.old)
+        → IsUncommitted w 16 [] (first ∷ cells.entry) (D.drive disk.new)) }
     ensures far { OnOk result (IsWithin (D.drive disk.new) 16) }
     ensures cause { CountsFaults (D.drive disk.old) (D.drive disk.new) result }
 {
