@@ -12,12 +12,10 @@ use Rattle.recovery.specs.Widths.{IsWidth}
 use Rattle.log_run.specs.declared.reading.Found.{Found}
 use Rattle.recovery.specs.Found.{IsFound}
 use Rattle.recovery.specs.declared.seen.Seen.{Seen}
-use Rattle.recovery.proofs.OnlyReading.{rose-earlier, stays-trans}
+use Rattle.recovery.proofs.OnlyReading.{stays-trans}
 use Rattle.recovery.proofs.OpeningLemmas.{leaves-trans, leaves-stays}
 use Rattle.log_compact.specs.Fresh.{ComesBySplits}
-use Rattle.log_compact.specs.Compacting.{IsCompacted, IsOnWay, KeepsOnWay, RefusesCompact}
-use Rattle.log_compact.specs.declared.compacting.CompactFault.{CompactFault}
-use Rattle.log_compact.specs.declared.compacting.CompactFault.TheVariants as compact_fault
+use Rattle.log_compact.specs.Compacting.{IsCompacted, IsOnWay, KeepsOnWay}
 use Rattle.log_compact.proofs.Counting.{comes_by_splits, fresh_few}
 use Rattle.csv_rows.specs.declared.rows.Refusal.{Refusal}
 use Rattle.csv_rows.specs.declared.rows.Refusal.TheVariants as refusal
@@ -29,7 +27,7 @@ use Rattle.run_ends.specs.Attaching.{AttachesOnce}
 use Rattle.run_ends.proofs.Attaching.{attaches-one, attaches-as}
 use Rattle.log_run.specs.Making.{IsMakingCause}
 use Rattle.log_run.specs.Checking.{IsCheckingCause, IsDecidedBy, FindsCells, HasRead, HasReadUnless}
-use Rattle.log_run.specs.Compacting.{MakesAnew, LeavesNew, EndsAnew, BothTargets, RecoversFew, EndsCompacting, compact_refusal, anew}
+use Rattle.log_run.specs.Compacting.{MakesAnew, LeavesNew, EndsAnew, BothTargets, RecoversFew, EndsCompacting, anew}
 use Rattle.log_run.proofs.MakingEnds.{bears, ends-writing, whole-writing, not-ten}
 use Rattle.log_run.proofs.CheckingFacts.{decided-refused}
 
@@ -71,15 +69,6 @@ module _ (w : ℕ) (fresh : List Cell) (a b c : Drive) (laws : KeepsLaws a) (sta
     in_use = λ bytes told long. stays-trans a b c stays (keeps.in_use bytes (stays.bytes ∙ told) long);
     later = omega (arith, later, keeps.later);
   }
-
--- why nothing is written to the attached file
-pub cause-refused : (a b c : Drive) (cause : CompactFault) → Stays a b → a.faults ≤ b.faults → RefusesCompact b c cause → IsMakingCause a c (compact_refusal cause)
-cause-refused a b c (compact_fault.InUse len) stays later refuses = (refuses.0, (λ bytes told. refuses.1 bytes (stays.bytes ∙ told)), stays-trans a b c stays refuses.2)
-cause-refused a b c compact_fault.Disk stays later rose = rose-earlier a.faults b.faults c.faults later rose
-
-pub calm-refused : (a b c : Drive) (cause : CompactFault) → b.faults ≡ a.faults → RefusesCompact b c cause → status_of (compact_refusal cause) ≢ 7 → c.faults ≡ a.faults
-calm-refused a b c (compact_fault.InUse len) same refuses other = refuses.3 ∙ same
-calm-refused a b c compact_fault.Disk same rose other = absurd (other refl)
 
 -- the cells were written
 pub ends-anew : {T E : Type 0} (w : ℕ) (world : World) (leaves : List (List Bool)) (name : List ℕ) (old new : Drive) (before after : Output) (wrote : Result T E)
