@@ -63,20 +63,25 @@ TellsCells text old status before after = (w : ℕ) × (cells : List Cell) × Fi
 
 -- a fault that the bytes show is told, and bytes that recover to cells have their text, unless the count rose or memory ran out
 pub record IsDecided (old new : Drive) (status : ℕ) (before after : Output) : Type 0 where
-  pub exact : (bytes : List ℕ) (fault : OpenFault) → old.bytes ≡ Some bytes → IsInBytes fault → IsLogFault oldest_read most_inspected bytes fault → (Rose old.faults new.faults → ⊥)
+  pub exact : (bytes : List ℕ) (fault : OpenFault) → old.bytes ≡ Some bytes → IsInBytes fault
+      → IsLogFault oldest_read most_inspected bytes fault → (Rose old.faults new.faults → ⊥)
       → Refuses (log_refusal fault) status before after ⊎ (status ≡ 9)
-  pub whole : (bytes : List ℕ) (w : ℕ) (cells : List Cell) → old.bytes ≡ Some bytes → IsWidth w → Recovers w cells bytes → length cells ≤ most_inspected → (Rose old.faults new.faults → ⊥) → (Rose before.faults after.faults → ⊥)
+  pub whole : (bytes : List ℕ) (w : ℕ) (cells : List Cell) → old.bytes ≡ Some bytes → IsWidth w → Recovers w cells bytes
+      → length cells ≤ most_inspected → (Rose old.faults new.faults → ⊥) → (Rose before.faults after.faults → ⊥)
       → (status ≡ 0) ⊎ (status ≡ 9)
 
 -- the same of the answer, where at most so many cells are read
 pub record IsDecidedBy {T : Type 0} (most : ℕ) (old new : Drive) (result : Result T Refusal) : Type 0 where
-  pub exact : (bytes : List ℕ) (fault : OpenFault) → old.bytes ≡ Some bytes → IsInBytes fault → IsLogFault oldest_read most bytes fault → (Rose old.faults new.faults → ⊥)
+  pub exact : (bytes : List ℕ) (fault : OpenFault) → old.bytes ≡ Some bytes → IsInBytes fault → IsLogFault oldest_read most bytes fault
+      → (Rose old.faults new.faults → ⊥)
       → IsErrAnd result (λ why. (why ≡ log_refusal fault) ⊎ (why ≡ refusal.Memory))
-  pub whole : (bytes : List ℕ) (w : ℕ) (cells : List Cell) → old.bytes ≡ Some bytes → IsWidth w → Recovers w cells bytes → length cells ≤ most → (Rose old.faults new.faults → ⊥) → IfErr result (λ why. why ≡ refusal.Memory)
+  pub whole : (bytes : List ℕ) (w : ℕ) (cells : List Cell) → old.bytes ≡ Some bytes → IsWidth w → Recovers w cells bytes
+      → length cells ≤ most → (Rose old.faults new.faults → ⊥) → IfErr result (λ why. why ≡ refusal.Memory)
 
 -- the text of the cells or the line of a refusal; the drive's bytes and images stay
 pub record EndsTelling {D : Type 0} (text : ℕ → List Cell → List ℕ) (file : List ℕ) (old new : Targets D) (status : ℕ) : Type 0 where
-  pub ends : TellsCells text old.drive status old.output new.output ⊎ EndsRefused (IsCheckingCause old.drive new.drive) status old.output new.output
+  pub ends : TellsCells text old.drive status old.output new.output
+      ⊎ EndsRefused (IsCheckingCause old.drive new.drive) status old.output new.output
   pub decided : IsDecided old.drive new.drive status old.output new.output
   pub stays : Stays old.drive new.drive
   -- the drive's count is as it was, but where it is what is told to have failed

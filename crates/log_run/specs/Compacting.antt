@@ -73,8 +73,10 @@ pub record LeavesNew (w : ℕ) (fresh : List Cell) (old new : Drive) : Type 0 wh
 pub record EndsAnew (w : ℕ) (world : World) (leaves : List (List Bool)) (name : List ℕ) (old new : Drive) (status : ℕ) (before after : Output) : Type 0 where
   pub ends : WritesOrRefuses w world leaves old new status before after
   pub in_use : status ≡ 10 → (bytes : List ℕ) → old.bytes ≡ Some bytes → 17 < length bytes
-  pub exact : (bytes : List ℕ) → old.bytes ≡ Some bytes → 17 < length bytes → (Rose old.faults new.faults → ⊥) → (status ≡ 10) ⊎ (status ≡ 9)
-  pub whole : (bytes : List ℕ) → old.bytes ≡ Some bytes → length bytes ≤ 17 → (Rose old.faults new.faults → ⊥) → (Rose before.faults after.faults → ⊥) → (status ≡ 0) ⊎ (status ≡ 9)
+  pub exact : (bytes : List ℕ) → old.bytes ≡ Some bytes → 17 < length bytes → (Rose old.faults new.faults → ⊥)
+      → (status ≡ 10) ⊎ (status ≡ 9)
+  pub whole : (bytes : List ℕ) → old.bytes ≡ Some bytes → length bytes ≤ 17 → (Rose old.faults new.faults → ⊥)
+      → (Rose before.faults after.faults → ⊥) → (status ≡ 0) ⊎ (status ≡ 9)
   pub keeps : LeavesNew w (anew w world leaves) old new
   -- the drive's count is as it was, but where a drive is what is told to have failed
   pub calm : status ≢ 7 → new.faults ≡ old.faults
@@ -106,14 +108,18 @@ pub record RecoversFew (drive : Drive) (cells : List Cell) : Type 0 where
 -- What the bytes of both files decide, unless memory ran out or a count rose: a fault that the first one's show is told; where they recover to
 -- cells, status 10 comes exactly where the second file has more than 17 bytes, and else status 0.
 pub record IsDecidedAnew {D : Type 0} (old new : BothTargets D) (status : ℕ) : Type 0 where
-  pub exact : (bytes : List ℕ) (fault : OpenFault) → old.to.drive.bytes ≡ Some bytes → IsInBytes fault → IsLogFault oldest_read most_inspected bytes fault → (Rose old.to.drive.faults new.to.drive.faults → ⊥)
+  pub exact : (bytes : List ℕ) (fault : OpenFault) → old.to.drive.bytes ≡ Some bytes → IsInBytes fault
+      → IsLogFault oldest_read most_inspected bytes fault → (Rose old.to.drive.faults new.to.drive.faults → ⊥)
       → Refuses (log_refusal fault) status old.to.output new.to.output ⊎ (status ≡ 9)
   pub recovers : status ≡ 10 → (bytes : List ℕ) → old.to.drive.bytes ≡ Some bytes → (cells : List Cell) × RecoversFew old.to.drive cells
   pub long : status ≡ 10 → (bytes : List ℕ) → old.other_drive.bytes ≡ Some bytes → 17 < length bytes
-  pub in_use : (cells : List Cell) (bytes : List ℕ) → RecoversFew old.to.drive cells → old.other_drive.bytes ≡ Some bytes → 17 < length bytes → (Rose old.to.drive.faults new.to.drive.faults → ⊥)
+  pub in_use : (cells : List Cell) (bytes : List ℕ) → RecoversFew old.to.drive cells → old.other_drive.bytes ≡ Some bytes
+      → 17 < length bytes → (Rose old.to.drive.faults new.to.drive.faults → ⊥)
       → (Rose old.other_drive.faults new.other_drive.faults → ⊥) → (status ≡ 10) ⊎ (status ≡ 9)
-  pub whole : (cells : List Cell) (bytes : List ℕ) → RecoversFew old.to.drive cells → old.other_drive.bytes ≡ Some bytes → length bytes ≤ 17 → (Rose old.to.drive.faults new.to.drive.faults → ⊥)
-      → (Rose old.other_drive.faults new.other_drive.faults → ⊥) → (Rose old.to.output.faults new.to.output.faults → ⊥) → (status ≡ 0) ⊎ (status ≡ 9)
+  pub whole : (cells : List Cell) (bytes : List ℕ) → RecoversFew old.to.drive cells → old.other_drive.bytes ≡ Some bytes
+      → length bytes ≤ 17 → (Rose old.to.drive.faults new.to.drive.faults → ⊥)
+      → (Rose old.other_drive.faults new.other_drive.faults → ⊥) → (Rose old.to.output.faults new.to.output.faults → ⊥)
+      → (status ≡ 0) ⊎ (status ≡ 9)
 
 -- The first file is read, and what was found written to the second: the order is attach, inspect, attach, write, line. Bytes and images of the
 -- first drive stay, whatever the status is.

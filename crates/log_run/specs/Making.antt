@@ -42,8 +42,10 @@ pub record LeavesFile (old new : Drive) : Type 0 where
 pub record EndsMaking {D : Type 0} (file : List ℕ) (w : ℕ) (old new : Targets D) (status : ℕ) : Type 0 where
   pub ends : MakesOrRefuses w old.drive new.drive status old.output new.output
   pub in_use : status ≡ 10 → (bytes : List ℕ) → old.drive.bytes ≡ Some bytes → 17 < length bytes
-  pub exact : (bytes : List ℕ) → old.drive.bytes ≡ Some bytes → 17 < length bytes → (Rose old.drive.faults new.drive.faults → ⊥) → (status ≡ 10) ⊎ (status ≡ 9)
-  pub whole : (bytes : List ℕ) → old.drive.bytes ≡ Some bytes → length bytes ≤ 17 → (Rose old.drive.faults new.drive.faults → ⊥) → (Rose old.output.faults new.output.faults → ⊥)
+  pub exact : (bytes : List ℕ) → old.drive.bytes ≡ Some bytes → 17 < length bytes → (Rose old.drive.faults new.drive.faults → ⊥)
+      → (status ≡ 10) ⊎ (status ≡ 9)
+  pub whole : (bytes : List ℕ) → old.drive.bytes ≡ Some bytes → length bytes ≤ 17 → (Rose old.drive.faults new.drive.faults → ⊥)
+      → (Rose old.output.faults new.output.faults → ⊥)
       → (status ≡ 0) ⊎ (status ≡ 9)
   pub leaves : LeavesFile old.drive new.drive
   -- the drive's count is as it was, but where it is what is told to have failed

@@ -49,7 +49,8 @@ fn write_anew<K: Sink, D: LogDisk>(
     requires width { IsWidth found.now.width }
     requires splits { ComesBySplits found.now.width found.now.seen.leaves }
     requires few { length (anew found.now.width found.now.seen.world found.now.seen.leaves) ≤ most_inspected }
-    ensures ends { EndsAnew found.now.width found.now.seen.world found.now.seen.leaves name.now (D.drive other) (D.drive result.disk) result.status (K.output sink.old) (K.output sink.new) }
+    ensures ends { EndsAnew found.now.width found.now.seen.world found.now.seen.leaves name.now (D.drive other) (D.drive result.disk)
+        result.status (K.output sink.old) (K.output sink.new) }
     ensures none { result.events ≡ [] }
 {
     match anew_in(alloc, found, name, other) {
@@ -76,8 +77,9 @@ fn anew_in<D: LogDisk>(
     ensures attached { MatchResult result (λ new. AttachedOne name.now true (D.drive other) (D.drive new))
         (λ e. AttachesOnce name.now true (D.drive other) (D.drive e.disk) (status_of e.why)) }
     ensures calm { IfErr result (λ e. status_of e.why ≢ 7 → (D.drive e.disk).faults ≡ (D.drive other).faults) }
-    ensures leaves { MatchResult result (λ new. LeavesNew found.now.width (anew found.now.width found.now.seen.world found.now.seen.leaves) (D.drive other) (D.drive new))
-        (λ e. LeavesNew found.now.width (anew found.now.width found.now.seen.world found.now.seen.leaves) (D.drive other) (D.drive e.disk)) }
+    ensures leaves { let fresh = anew found.now.width found.now.seen.world found.now.seen.leaves in
+        MatchResult result (λ new. LeavesNew found.now.width fresh (D.drive other) (D.drive new))
+        (λ e. LeavesNew found.now.width fresh (D.drive other) (D.drive e.disk)) }
 {
     if let Err(fault) = other.attach(alloc, name, true) {
         let why = attach_refusal(fault);

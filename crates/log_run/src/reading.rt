@@ -25,11 +25,13 @@ pub(crate) struct Found {
 /// The state after the cells of the log, of version 1 or 2 and of either width, and the width.
 pub(crate) fn read_log<D: LogDisk>(alloc: Global, disk: &mut D) -> Result<Found, OpenFault>
     ensures found { IfOk result (λ f. IsWidth f.width × IsFound oldest_read f.width most_inspected (D.drive disk.old) f.seen) }
-    ensures fault { IfErr result (λ e. (bytes : List ℕ) → (D.drive disk.old).bytes ≡ Some bytes → IsLogFault oldest_read most_inspected bytes e) }
+    ensures fault { IfErr result (λ e. (bytes : List ℕ) → (D.drive disk.old).bytes ≡ Some bytes
+        → IsLogFault oldest_read most_inspected bytes e) }
     ensures exact { (bytes : List ℕ) (fault : OpenFault) → (D.drive disk.old).bytes ≡ Some bytes → IsInBytes fault
-        → IsLogFault oldest_read most_inspected bytes fault → IsErrAnd result (λ e. (e ≡ fault) ⊎ IsFree (D.drive disk.old) (D.drive disk.new) e) }
-    ensures whole { (bytes : List ℕ) (w : ℕ) (cells : List Cell) → (D.drive disk.old).bytes ≡ Some bytes → IsWidth w → Recovers w cells bytes
-        → length cells ≤ most_inspected → IfErr result (IsFree (D.drive disk.old) (D.drive disk.new)) }
+        → IsLogFault oldest_read most_inspected bytes fault
+        → IsErrAnd result (λ e. (e ≡ fault) ⊎ IsFree (D.drive disk.old) (D.drive disk.new) e) }
+    ensures whole { (bytes : List ℕ) (w : ℕ) (cells : List Cell) → (D.drive disk.old).bytes ≡ Some bytes → IsWidth w
+        → Recovers w cells bytes → length cells ≤ most_inspected → IfErr result (IsFree (D.drive disk.old) (D.drive disk.new)) }
     ensures reads { OnlyReads (D.drive disk.old) (D.drive disk.new) result }
 {
     let width = width_of(disk)?;
