@@ -163,14 +163,6 @@ untouched_before a b c stays un = record {
 leaves_before : (a b c : Drive) (P : List ℕ → Type 0) → KeepsLaws a → Stays a b → LeavesNow a P → (LeavesNow b P → LeavesOnly b c P) → LeavesOnly a c P
 leaves_before a b c P laws stays now later = leaves-trans a b c P (leaves-stays a b P laws now stays) (later (λ x left. now x (stays.images x left)))
 
--- a file that was only read
-pub target_read : (w : ℕ) (cells : List Cell) (a b : Drive) → KeepsLaws a → Stays a b → KeepsTarget w cells a b
-target_read w cells a b laws stays = record {
-  small = λ bytes told now. leaves-stays a b IsSmall laws now stays;
-  log = λ bytes own told long now. leaves-stays a b (Recovers w own) laws now stays;
-  other = λ bytes told none. untouched_read a b stays;
-}
-
 module _ (w : ℕ) (cells : List Cell) (a b : Drive) (reads : IsOnlyRead a b) where
   pub opened_before : {D : Type 0} (drive : D → Drive) (log : LogView D) → OpensLog drive w cells b log → OpensLog drive w cells a log
   opened_before drive log is = record {
