@@ -21,7 +21,7 @@ use Rattle.recovery.specs.Widths.{IsWidth, HasWidth, IsLogFault}
 use Rattle.recovery.proofs.Exclusive.{one_fault, recovers_no_fault, recovers_wanted, one_recovery}
 use Rattle.recovery.proofs.OnlyReading.{stays-trans, rose-earlier}
 use Rattle.recovery.proofs.WidthLemmas.{recovers_width, same_width, fault_seen, fault_at}
-use Rattle.follower.specs.Holding.{most_cells}
+use Rattle.follower.specs.Holding.{most_followed}
 use Rattle.run_ends.specs.LogFaults.{attach_refusal, log_refusal}
 use Rattle.run_ends.specs.Limits.{oldest_read}
 use Rattle.run_ends.proofs.Attaching.{attaches-one, attaches-none}
@@ -51,21 +51,21 @@ reads-failed {U = U} a b c x e first second = record {
 
 -- the fault that is told is the one that the bytes show, unless they don't decide
 module _ (w : ℕ) (bytes : List ℕ) (a b : Drive) where
-  pub exact-of : (e : OpenFault) → IsFault oldest_read w most_cells bytes e → (e ≡ open_fault.Disk → Rose a.faults b.faults) → (shown : OpenFault) → IsInBytes shown → IsFault oldest_read w most_cells bytes shown → (e ≡ shown) ⊎ IsFree a b e
-  exact-of open_fault.NotLog is rose f shown wrong = inl (one_fault oldest_read w most_cells (lit≤ tt) bytes open_fault.NotLog f tt shown is wrong)
-  exact-of (open_fault.OldLog version width) is rose f shown wrong = inl (one_fault oldest_read w most_cells (lit≤ tt) bytes (open_fault.OldLog version width) f tt shown is wrong)
-  exact-of (open_fault.Damaged number cause) is rose f shown wrong = inl (one_fault oldest_read w most_cells (lit≤ tt) bytes (open_fault.Damaged number cause) f tt shown is wrong)
+  pub exact-of : (e : OpenFault) → IsFault oldest_read w most_followed bytes e → (e ≡ open_fault.Disk → Rose a.faults b.faults) → (shown : OpenFault) → IsInBytes shown → IsFault oldest_read w most_followed bytes shown → (e ≡ shown) ⊎ IsFree a b e
+  exact-of open_fault.NotLog is rose f shown wrong = inl (one_fault oldest_read w most_followed (lit≤ tt) bytes open_fault.NotLog f tt shown is wrong)
+  exact-of (open_fault.OldLog version width) is rose f shown wrong = inl (one_fault oldest_read w most_followed (lit≤ tt) bytes (open_fault.OldLog version width) f tt shown is wrong)
+  exact-of (open_fault.Damaged number cause) is rose f shown wrong = inl (one_fault oldest_read w most_followed (lit≤ tt) bytes (open_fault.Damaged number cause) f tt shown is wrong)
   exact-of open_fault.Disk is rose f shown wrong = inr (inr (rose refl))
   exact-of open_fault.Memory is rose f shown wrong = inr (inl refl)
-  exact-of (open_fault.TooLong limit) is rose f shown wrong = inl (one_fault oldest_read w most_cells (lit≤ tt) bytes (open_fault.TooLong limit) f tt shown is wrong)
+  exact-of (open_fault.TooLong limit) is rose f shown wrong = inl (one_fault oldest_read w most_followed (lit≤ tt) bytes (open_fault.TooLong limit) f tt shown is wrong)
 
-  pub whole-of : (e : OpenFault) → IsFault oldest_read w most_cells bytes e → (e ≡ open_fault.Disk → Rose a.faults b.faults) → (cells : List Cell) → Recovers w cells bytes → length cells ≤ most_cells → IsFree a b e
-  whole-of open_fault.NotLog is rose cells recovers few = absurd (recovers_no_fault oldest_read w most_cells (lit≤ tt) bytes cells open_fault.NotLog recovers (recovers_wanted w cells bytes recovers) few tt is)
-  whole-of (open_fault.OldLog version width) is rose cells recovers few = absurd (recovers_no_fault oldest_read w most_cells (lit≤ tt) bytes cells (open_fault.OldLog version width) recovers (recovers_wanted w cells bytes recovers) few tt is)
-  whole-of (open_fault.Damaged number cause) is rose cells recovers few = absurd (recovers_no_fault oldest_read w most_cells (lit≤ tt) bytes cells (open_fault.Damaged number cause) recovers (recovers_wanted w cells bytes recovers) few tt is)
+  pub whole-of : (e : OpenFault) → IsFault oldest_read w most_followed bytes e → (e ≡ open_fault.Disk → Rose a.faults b.faults) → (cells : List Cell) → Recovers w cells bytes → length cells ≤ most_followed → IsFree a b e
+  whole-of open_fault.NotLog is rose cells recovers few = absurd (recovers_no_fault oldest_read w most_followed (lit≤ tt) bytes cells open_fault.NotLog recovers (recovers_wanted w cells bytes recovers) few tt is)
+  whole-of (open_fault.OldLog version width) is rose cells recovers few = absurd (recovers_no_fault oldest_read w most_followed (lit≤ tt) bytes cells (open_fault.OldLog version width) recovers (recovers_wanted w cells bytes recovers) few tt is)
+  whole-of (open_fault.Damaged number cause) is rose cells recovers few = absurd (recovers_no_fault oldest_read w most_followed (lit≤ tt) bytes cells (open_fault.Damaged number cause) recovers (recovers_wanted w cells bytes recovers) few tt is)
   whole-of open_fault.Disk is rose cells recovers few = inr (rose refl)
   whole-of open_fault.Memory is rose cells recovers few = inl refl
-  whole-of (open_fault.TooLong limit) is rose cells recovers few = absurd (recovers_no_fault oldest_read w most_cells (lit≤ tt) bytes cells (open_fault.TooLong limit) recovers (recovers_wanted w cells bytes recovers) few tt is)
+  whole-of (open_fault.TooLong limit) is rose cells recovers few = absurd (recovers_no_fault oldest_read w most_followed (lit≤ tt) bytes cells (open_fault.TooLong limit) recovers (recovers_wanted w cells bytes recovers) few tt is)
 
 -- what was found before a call that leaves the bytes
 pub found-before : (w : ℕ) (a b : Drive) (cells : List Cell) → Stays a b → FindsLeader w b cells → FindsLeader w a cells
@@ -82,7 +82,7 @@ has-leader w drive cells found = record {
   sound = λ bytes e told shown wrong.
       let mine = found.recovers bytes told in
       let width : HasWidth w bytes = recovers_width w cells bytes found.leading.known mine in
-      recovers_no_fault oldest_read w most_cells (lit≤ tt) bytes cells e mine (recovers_wanted w cells bytes mine) found.leading.few shown (fault_at oldest_read most_cells bytes w width e wrong);
+      recovers_no_fault oldest_read w most_followed (lit≤ tt) bytes cells e mine (recovers_wanted w cells bytes mine) found.leading.few shown (fault_at oldest_read most_followed bytes w width e wrong);
 }
 
 -- a file that was attached and read
@@ -96,13 +96,13 @@ reads-leader file w a b c cells x stays same attached reads found = record {
 
 -- a file that was attached, and whose log wasn't read
 pub loses-leader : {T : Type 0} (file : List ℕ) (a b c : Drive) (e : OpenFault) → Stays a b → b.faults ≡ a.faults → AttachedOne file false a b → OnlyReads {T = T} b c (Err e)
-    → ((bytes : List ℕ) → b.bytes ≡ Some bytes → IsLogFault oldest_read most_cells bytes e)
-    → ((bytes : List ℕ) (f : OpenFault) → b.bytes ≡ Some bytes → IsInBytes f → IsLogFault oldest_read most_cells bytes f → (e ≡ f) ⊎ IsFree b c e)
+    → ((bytes : List ℕ) → b.bytes ≡ Some bytes → IsLogFault oldest_read most_followed bytes e)
+    → ((bytes : List ℕ) (f : OpenFault) → b.bytes ≡ Some bytes → IsInBytes f → IsLogFault oldest_read most_followed bytes f → (e ≡ f) ⊎ IsFree b c e)
     → ((w : ℕ) (cells : List Cell) → RecoversLeader w cells b → IsFree b c e) → LosesLeader file a c (log_refusal e)
 loses-leader {T = T} file a b c e stays same attached reads wrong exact whole =
     let later : a.faults ≤ b.faults = omega (arith, same) in
     record {
-      cause = reading-after oldest_read most_cells a b c e stays later wrong (λ disk. reads.failed (ap (λ (f : OpenFault). Err f) disk));
+      cause = reading-after oldest_read most_followed a b c e stays later wrong (λ disk. reads.failed (ap (λ (f : OpenFault). Err f) disk));
       exact = λ bytes f told shown is calm. calm-named a b c e f later calm (exact bytes f (stays.bytes ∙ told) shown is);
       whole = λ w cells is calm. calm-free a b c e later calm (whole w cells (record { known = is.known; bytes = is.bytes; told = stays.bytes ∙ is.told; recovers = is.recovers; few = is.few }));
       read = record {
@@ -140,21 +140,21 @@ reads-as {T = T} a b e reads = record {
 }
 
 -- what a walk tells of its next cell, and at its end
-module _ {D : Type 0} (w : ℕ) (cells : List Cell) (a b : Drive) (walk : WalkView D) (told : Option Walked) (tells : TellsWalked w most_cells cells a b walk (Ok told)) where
-  pub next-told : (walked : Walked) → told ≡ Some walked → ComesTo w most_cells (cells ++ walked.cell ∷ []) b walk
-  next-told walked is = (subst (λ (o : Option Walked). TellsWalked w most_cells cells a b walk (Ok o)) is tells).0
+module _ {D : Type 0} (w : ℕ) (cells : List Cell) (a b : Drive) (walk : WalkView D) (told : Option Walked) (tells : TellsWalked w most_followed cells a b walk (Ok told)) where
+  pub next-told : (walked : Walked) → told ≡ Some walked → ComesTo w most_followed (cells ++ walked.cell ∷ []) b walk
+  next-told walked is = (subst (λ (o : Option Walked). TellsWalked w most_followed cells a b walk (Ok o)) is tells).0
 
   pub end-told : IsWidth w → ((walked : Walked) → told ≡ Some walked → ⊥) → FindsLeader w a cells
   end-told known none = by_case told none tells
     where
-      by_case : (o : Option Walked) → ((walked : Walked) → o ≡ Some walked → ⊥) → TellsWalked w most_cells cells a b walk (Ok o) → FindsLeader w a cells
+      by_case : (o : Option Walked) → ((walked : Walked) → o ≡ Some walked → ⊥) → TellsWalked w most_followed cells a b walk (Ok o) → FindsLeader w a cells
       by_case None never is = record { leading = record { known = known; legal = is.0.legal; few = is.0.few }; recovers = is.1 }
       by_case (Some walked) never is = absurd (never walked refl)
 
 -- a log whose width was read, and then its cells
 module _ {D T : Type 0} (drive : D → Drive) (a b : Drive) (x : T) (first : OnlyReads a b (Ok x)) (w : ℕ) (has : (bytes : List ℕ) → a.bytes ≡ Some bytes → HasWidth w bytes) (result : Result (Leader D) (OpenRefused D))
     (found : IfOk result (λ l. (l.width ≡ w) × FindsLeader w b l.cells.items))
-    (wrong : IfErr result (λ e. (bytes : List ℕ) → b.bytes ≡ Some bytes → IsFault oldest_read w most_cells bytes e.cause))
+    (wrong : IfErr result (λ e. (bytes : List ℕ) → b.bytes ≡ Some bytes → IsFault oldest_read w most_followed bytes e.cause))
     (reads : MatchResult result (λ l. OnlyReads {T = Unit {0}} b (drive l.disk) (Ok tt)) (λ e. OnlyReads {T = Unit {0}} b (drive e.disk) (Err e.cause))) where
   pub led-found : IfOk result (λ l. FindsLeader l.width a l.cells.items)
   led-found = by_case result found
@@ -163,28 +163,28 @@ module _ {D T : Type 0} (drive : D → Drive) (a b : Drive) (x : T) (first : Onl
       by_case (Ok l) is = subst (λ (v : ℕ). FindsLeader v a l.cells.items) (sym is.0) (found-before w a b l.cells.items first.stays is.1)
       by_case (Err e) is = tt
 
-  pub led-fault : IfErr result (λ e. (bytes : List ℕ) → a.bytes ≡ Some bytes → IsLogFault oldest_read most_cells bytes e.cause)
+  pub led-fault : IfErr result (λ e. (bytes : List ℕ) → a.bytes ≡ Some bytes → IsLogFault oldest_read most_followed bytes e.cause)
   led-fault = by_case result wrong
     where
-      by_case : (r : Result (Leader D) (OpenRefused D)) → IfErr r (λ e. (bytes : List ℕ) → b.bytes ≡ Some bytes → IsFault oldest_read w most_cells bytes e.cause)
-          → IfErr r (λ e. (bytes : List ℕ) → a.bytes ≡ Some bytes → IsLogFault oldest_read most_cells bytes e.cause)
+      by_case : (r : Result (Leader D) (OpenRefused D)) → IfErr r (λ e. (bytes : List ℕ) → b.bytes ≡ Some bytes → IsFault oldest_read w most_followed bytes e.cause)
+          → IfErr r (λ e. (bytes : List ℕ) → a.bytes ≡ Some bytes → IsLogFault oldest_read most_followed bytes e.cause)
       by_case (Ok l) is = tt
-      by_case (Err e) is = λ bytes told. fault_seen oldest_read most_cells bytes w (has bytes told) e.cause (is bytes (first.stays.bytes ∙ told))
+      by_case (Err e) is = λ bytes told. fault_seen oldest_read most_followed bytes w (has bytes told) e.cause (is bytes (first.stays.bytes ∙ told))
 
-  pub led-exact : (bytes : List ℕ) (f : OpenFault) → a.bytes ≡ Some bytes → IsInBytes f → IsLogFault oldest_read most_cells bytes f → IsErrAnd result (λ e. (e.cause ≡ f) ⊎ IsFree a (drive e.disk) e.cause)
+  pub led-exact : (bytes : List ℕ) (f : OpenFault) → a.bytes ≡ Some bytes → IsInBytes f → IsLogFault oldest_read most_followed bytes f → IsErrAnd result (λ e. (e.cause ≡ f) ⊎ IsFree a (drive e.disk) e.cause)
   led-exact bytes f told shown is = by_case result found wrong reads
     where
-      by_case : (r : Result (Leader D) (OpenRefused D)) → IfOk r (λ l. (l.width ≡ w) × FindsLeader w b l.cells.items) → IfErr r (λ e. (bytes : List ℕ) → b.bytes ≡ Some bytes → IsFault oldest_read w most_cells bytes e.cause)
+      by_case : (r : Result (Leader D) (OpenRefused D)) → IfOk r (λ l. (l.width ≡ w) × FindsLeader w b l.cells.items) → IfErr r (λ e. (bytes : List ℕ) → b.bytes ≡ Some bytes → IsFault oldest_read w most_followed bytes e.cause)
           → MatchResult r (λ l. OnlyReads {T = Unit {0}} b (drive l.disk) (Ok tt)) (λ e. OnlyReads {T = Unit {0}} b (drive e.disk) (Err e.cause)) → IsErrAnd r (λ e. (e.cause ≡ f) ⊎ IsFree a (drive e.disk) e.cause)
       by_case (Ok l) led fault_is only = absurd ((has-leader w b l.cells.items led.1).sound bytes f (first.stays.bytes ∙ told) shown is)
       by_case (Err e) led fault_is only =
           ⊎_elim (λ same. inl same) (λ free. inr (free-later a b (drive e.disk) e.cause first.later free))
-          (exact-of w bytes b (drive e.disk) e.cause (fault_is bytes (first.stays.bytes ∙ told)) (λ disk. only.failed (ap (λ (g : OpenFault). Err g) disk)) f shown (fault_at oldest_read most_cells bytes w (has bytes told) f is))
+          (exact-of w bytes b (drive e.disk) e.cause (fault_is bytes (first.stays.bytes ∙ told)) (λ disk. only.failed (ap (λ (g : OpenFault). Err g) disk)) f shown (fault_at oldest_read most_followed bytes w (has bytes told) f is))
 
   pub led-whole : (v : ℕ) (cells : List Cell) → RecoversLeader v cells a → IfErr result (λ e. IsFree a (drive e.disk) e.cause)
   led-whole v cells recovers = by_case result wrong reads
     where
-      by_case : (r : Result (Leader D) (OpenRefused D)) → IfErr r (λ e. (bytes : List ℕ) → b.bytes ≡ Some bytes → IsFault oldest_read w most_cells bytes e.cause)
+      by_case : (r : Result (Leader D) (OpenRefused D)) → IfErr r (λ e. (bytes : List ℕ) → b.bytes ≡ Some bytes → IsFault oldest_read w most_followed bytes e.cause)
           → MatchResult r (λ l. OnlyReads {T = Unit {0}} b (drive l.disk) (Ok tt)) (λ e. OnlyReads {T = Unit {0}} b (drive e.disk) (Err e.cause)) → IfErr r (λ e. IsFree a (drive e.disk) e.cause)
       by_case (Ok l) fault_is only = tt
       by_case (Err e) fault_is only =

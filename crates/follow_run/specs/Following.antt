@@ -12,7 +12,7 @@ use Rattle.csv_rows.specs.declared.rows.Refusal.{Refusal}
 use Rattle.csv_rows.specs.declared.rows.Refusal.TheVariants as refusal
 use Rattle.follower.specs.declared.turns.Turn.{Turn}
 use Rattle.follower.specs.TurnRows.{turns_of_text}
-use Rattle.follower.specs.Holding.{most_cells}
+use Rattle.follower.specs.Holding.{most_followed}
 use Rattle.follower.specs.Opening.{IsStrange, IsTaken, most_held}
 use Rattle.io_edge.specs.Streams.{Input}
 use Rattle.io_edge.specs.Reads.{ConsumesUpTo}
@@ -54,7 +54,7 @@ pub record AreCalm {D : Type 0} (old new : BothTargets D) : Type 0 where
 -- of the second one, and the first of its cells that isn't the leader's; and where a follower takes the second, the status is 0.
 pub record AreDecided {D : Type 0} (old new : BothTargets D) (status : ℕ) : Type 0 where
   pub exact :
-      (bytes : List ℕ) (fault : OpenFault) → old.to.drive.bytes ≡ Some bytes → IsInBytes fault → IsLogFault oldest_read most_cells bytes fault → (Rose old.to.drive.faults new.to.drive.faults → ⊥)
+      (bytes : List ℕ) (fault : OpenFault) → old.to.drive.bytes ≡ Some bytes → IsInBytes fault → IsLogFault oldest_read most_followed bytes fault → (Rose old.to.drive.faults new.to.drive.faults → ⊥)
       → Refuses (log_refusal fault) status old.to.output new.to.output ⊎ (status ≡ 9)
   pub replica :
       (w : ℕ) (cells : List Cell) (bytes : List ℕ) (fault : OpenFault) → RecoversLeader w cells old.to.drive → old.other_drive.bytes ≡ Some bytes → 17 < length bytes → IsInBytes fault

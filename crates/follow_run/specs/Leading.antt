@@ -10,7 +10,7 @@ use Rattle.recovery.specs.Widths.{IsWidth, IsLogFault}
 use Rattle.recovery.specs.declared.seen.OpenFault.{OpenFault}
 use Rattle.csv_rows.specs.declared.rows.Refusal.{Refusal}
 use Rattle.csv_rows.specs.declared.rows.Refusal.TheVariants as refusal
-use Rattle.follower.specs.Holding.{AreLeading, most_cells}
+use Rattle.follower.specs.Holding.{AreLeading, most_followed}
 use Rattle.run_ends.specs.LogFaults.{IsReadingCause, log_refusal}
 use Rattle.run_ends.specs.Limits.{oldest_read}
 use Rattle.log_run.specs.Checking.{HasRead, HasReadUnless}
@@ -26,34 +26,34 @@ pub record RecoversLeader (w : ℕ) (cells : List Cell) (drive : Drive) : Type 0
   pub bytes : List ℕ
   pub told : drive.bytes ≡ Some bytes
   pub recovers : Recovers w cells bytes
-  pub few : length cells ≤ most_cells
+  pub few : length cells ≤ most_followed
 
 -- why the leader's cells aren't read, of a log of either version, of at most 1,048,576 cells
 abbrev pub IsLeaderCause : Drive → Drive → Refusal → Type 0
-IsLeaderCause old new why = IsReadingCause oldest_read most_cells old new why
+IsLeaderCause old new why = IsReadingCause oldest_read most_followed old new why
 
 -- All cells of a log of this width were walked. Where the bytes are known, they recover to no others, and nothing is at fault in them.
 pub record HasCells (w : ℕ) (old : Drive) (cells : List Cell) : Type 0 where
   pub found : FindsLeader w old cells
-  pub only : (bytes : List ℕ) (all : List Cell) → old.bytes ≡ Some bytes → Recovers w all bytes → length all ≤ most_cells → cells ≡ all
-  pub sound : (bytes : List ℕ) (fault : OpenFault) → old.bytes ≡ Some bytes → IsInBytes fault → IsFault oldest_read w most_cells bytes fault → ⊥
+  pub only : (bytes : List ℕ) (all : List Cell) → old.bytes ≡ Some bytes → Recovers w all bytes → length all ≤ most_followed → cells ≡ all
+  pub sound : (bytes : List ℕ) (fault : OpenFault) → old.bytes ≡ Some bytes → IsInBytes fault → IsFault oldest_read w most_followed bytes fault → ⊥
 
 -- they weren't: what is at fault in a log of this width, or an answer that the bytes don't decide
 pub record LacksCells (w : ℕ) (old new : Drive) (why : OpenFault) : Type 0 where
-  pub fault : (bytes : List ℕ) → old.bytes ≡ Some bytes → IsFault oldest_read w most_cells bytes why
-  pub exact : (bytes : List ℕ) (fault : OpenFault) → old.bytes ≡ Some bytes → IsInBytes fault → IsFault oldest_read w most_cells bytes fault → (why ≡ fault) ⊎ IsFree old new why
-  pub whole : (bytes : List ℕ) (all : List Cell) → old.bytes ≡ Some bytes → Recovers w all bytes → length all ≤ most_cells → IsFree old new why
+  pub fault : (bytes : List ℕ) → old.bytes ≡ Some bytes → IsFault oldest_read w most_followed bytes why
+  pub exact : (bytes : List ℕ) (fault : OpenFault) → old.bytes ≡ Some bytes → IsInBytes fault → IsFault oldest_read w most_followed bytes fault → (why ≡ fault) ⊎ IsFree old new why
+  pub whole : (bytes : List ℕ) (all : List Cell) → old.bytes ≡ Some bytes → Recovers w all bytes → length all ≤ most_followed → IsFree old new why
 
 -- The cells of a log of either width were read, and its width. Where the bytes are known, they recover to no others, and nothing is at fault in them.
 pub record HasLeader (w : ℕ) (old : Drive) (cells : List Cell) : Type 0 where
   pub found : FindsLeader w old cells
   pub only : (v : ℕ) (all : List Cell) → RecoversLeader v all old → (w ≡ v) × (cells ≡ all)
-  pub sound : (bytes : List ℕ) (fault : OpenFault) → old.bytes ≡ Some bytes → IsInBytes fault → IsLogFault oldest_read most_cells bytes fault → ⊥
+  pub sound : (bytes : List ℕ) (fault : OpenFault) → old.bytes ≡ Some bytes → IsInBytes fault → IsLogFault oldest_read most_followed bytes fault → ⊥
 
 -- they weren't
 pub record LacksLeader (old new : Drive) (why : OpenFault) : Type 0 where
-  pub fault : (bytes : List ℕ) → old.bytes ≡ Some bytes → IsLogFault oldest_read most_cells bytes why
-  pub exact : (bytes : List ℕ) (fault : OpenFault) → old.bytes ≡ Some bytes → IsInBytes fault → IsLogFault oldest_read most_cells bytes fault → (why ≡ fault) ⊎ IsFree old new why
+  pub fault : (bytes : List ℕ) → old.bytes ≡ Some bytes → IsLogFault oldest_read most_followed bytes why
+  pub exact : (bytes : List ℕ) (fault : OpenFault) → old.bytes ≡ Some bytes → IsInBytes fault → IsLogFault oldest_read most_followed bytes fault → (why ≡ fault) ⊎ IsFree old new why
   pub whole : (w : ℕ) (cells : List Cell) → RecoversLeader w cells old → IsFree old new why
 
 -- the file was attached and its cells were read
@@ -66,7 +66,7 @@ pub record ReadsLeader (file : List ℕ) (w : ℕ) (old new : Drive) (cells : Li
 pub record LosesLeader (file : List ℕ) (old new : Drive) (why : Refusal) : Type 0 where
   pub cause : IsLeaderCause old new why
   pub exact :
-      (bytes : List ℕ) (fault : OpenFault) → old.bytes ≡ Some bytes → IsInBytes fault → IsLogFault oldest_read most_cells bytes fault → (Rose old.faults new.faults → ⊥)
+      (bytes : List ℕ) (fault : OpenFault) → old.bytes ≡ Some bytes → IsInBytes fault → IsLogFault oldest_read most_followed bytes fault → (Rose old.faults new.faults → ⊥)
       → (why ≡ log_refusal fault) ⊎ (why ≡ refusal.Memory)
   pub whole : (w : ℕ) (cells : List Cell) → RecoversLeader w cells old → (Rose old.faults new.faults → ⊥) → why ≡ refusal.Memory
   pub read : HasReadUnless file old new why

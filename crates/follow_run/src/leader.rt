@@ -8,7 +8,7 @@ ghost use Rattle.recovery.specs.Found.{IsFree};
 ghost use Rattle.recovery.specs.Reading.{OnlyReads};
 ghost use Rattle.recovery.specs.Walks.{ComesTo};
 ghost use Rattle.recovery.specs.Widths.{IsWidth, IsLogFault};
-ghost use Rattle.follower.specs.Holding.{most_cells};
+ghost use Rattle.follower.specs.Holding.{most_followed};
 ghost use Rattle.run_ends.specs.Limits.{oldest_read};
 ghost use Rattle.follow_run.specs.Leading.{FindsLeader, RecoversLeader, ReadsLeader, LosesLeader};
 
@@ -18,8 +18,8 @@ use recovery::{OpenFault, OpenRefused, Walk, width_of};
 use run_ends::{Unmade, attach_refusal, log_refusal};
 use std::alloc::Global;
 
-/// How many cells a leader may have.
-const MOST_CELLS: u64 = 1 << 20;
+/// How many cells a log that is followed may have.
+const MOST_FOLLOWED: u64 = 1 << 20;
 
 /// The cells of a log and its width, with the drive from which they were read.
 #[derive(Drop)]
@@ -55,9 +55,9 @@ pub(crate) fn find_leader<D: LogDisk>(
 fn read_leader<D: LogDisk>(alloc: Global, mut disk: D) -> Result<Leader<D>, OpenRefused<D>>
     ensures found { IfOk result (λ l. FindsLeader l.width (D.drive disk) l.cells.items) }
     ensures fault { IfErr result (λ e. (bytes : List ℕ) → (D.drive disk).bytes ≡ Some bytes
-        → IsLogFault oldest_read most_cells bytes e.cause) }
+        → IsLogFault oldest_read most_followed bytes e.cause) }
     ensures exact { (bytes : List ℕ) (fault : OpenFault) → (D.drive disk).bytes ≡ Some bytes → IsInBytes fault
-        → IsLogFault oldest_read most_cells bytes fault
+        → IsLogFault oldest_read most_followed bytes fault
         → IsErrAnd result (λ e. (e.cause ≡ fault) ⊎ IsFree (D.drive disk) (D.drive e.disk) e.cause) }
     ensures whole { (w : ℕ) (cells : List Cell) → RecoversLeader w cells (D.drive disk)
         → IfErr result (λ e. IsFree (D.drive disk) (D.drive e.disk) e.cause) }
@@ -75,11 +75,11 @@ fn walk_leader<D: LogDisk>(alloc: Global, disk: D, width: u8) -> Result<Leader<D
     requires width { IsWidth width }
     ensures found { IfOk result (λ l. (l.width ≡ width) × FindsLeader width (D.drive disk) l.cells.items) }
     ensures fault { IfErr result (λ e. (bytes : List ℕ) → (D.drive disk).bytes ≡ Some bytes
-        → IsFault oldest_read width most_cells bytes e.cause) }
+        → IsFault oldest_read width most_followed bytes e.cause) }
     ensures reads { MatchResult result (λ l. OnlyReads {T = Unit {0}} (D.drive disk) (D.drive l.disk) (Ok tt))
         (λ e. OnlyReads {T = Unit {0}} (D.drive disk) (D.drive e.disk) (Err e.cause)) }
 {
-    let mut walk = match Walk::start(alloc, disk, width, MOST_CELLS) {
+    let mut walk = match Walk::start(alloc, disk, width, MOST_FOLLOWED) {
         Ok(walk) => walk,
         Err(refused) => return Err(refused),
     };
@@ -98,10 +98,10 @@ fn walk_leader<D: LogDisk>(alloc: Global, disk: D, width: u8) -> Result<Leader<D
 // All cells of a walk that has just begun.
 fn collect<D: LogDisk>(alloc: Global, walk: &mut Walk<D>) -> Result<Vec<Cell>, OpenFault>
     requires width { IsWidth walk.old.reading.replay.width }
-    requires begun { ComesTo walk.old.reading.replay.width most_cells [] (D.drive walk.old.disk) walk.old }
+    requires begun { ComesTo walk.old.reading.replay.width most_followed [] (D.drive walk.old.disk) walk.old }
     ensures found { IfOk result (λ cells. FindsLeader walk.old.reading.replay.width (D.drive walk.old.disk) cells.items) }
     ensures fault { IfErr result (λ e. (bytes : List ℕ) → (D.drive walk.old.disk).bytes ≡ Some bytes
-        → IsFault oldest_read walk.old.reading.replay.width most_cells bytes e) }
+        → IsFault oldest_read walk.old.reading.replay.width most_followed bytes e) }
     ensures reads { OnlyReads (D.drive walk.old.disk) (D.drive walk.new.disk) result }
 {
     let mut cells = Vec::new(alloc);

@@ -7,9 +7,9 @@ use Rattle.split_log.specs.LogText.{IsLog}
 use Rattle.log_state.specs.Recovers.{Recovers, IsLegalCells}
 use Rattle.follower.specs.Follow.{Following, IsSound}
 
--- how many cells a leader may have
-abbrev pub most_cells : ℕ
-most_cells = 1048576
+-- how many cells a log that is followed may have
+abbrev pub most_followed : ℕ
+most_followed = 1048576
 
 -- what a clause sees of a follower
 pub record FollowerView (D : Type 0) : Type 0 where
@@ -32,7 +32,7 @@ pub record RecoversFirst (w : ℕ) (cells : List Cell) (least most : ℕ) (image
 pub record AreLeading (w : ℕ) (cells : List Cell) : Type 0 where
   pub known : (w ≡ 1) ⊎ (w ≡ 2)
   pub legal : IsLegalCells w cells
-  pub few : length cells ≤ most_cells
+  pub few : length cells ≤ most_followed
 
 -- The follower holds the first of these cells: no more are known to be held, and where its bytes are known, they are the text of these, and a
 -- crash leaves that.
