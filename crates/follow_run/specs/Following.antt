@@ -54,16 +54,21 @@ pub record AreCalm {D : Type 0} (old new : BothTargets D) : Type 0 where
 -- of the second one, and the first of its cells that isn't the leader's; and where a follower takes the second, the status is 0.
 pub record AreDecided {D : Type 0} (old new : BothTargets D) (status : ℕ) : Type 0 where
   pub exact :
-      (bytes : List ℕ) (fault : OpenFault) → old.to.drive.bytes ≡ Some bytes → IsInBytes fault → IsLogFault oldest_read most_followed bytes fault → (Rose old.to.drive.faults new.to.drive.faults → ⊥)
+      (bytes : List ℕ) (fault : OpenFault) → old.to.drive.bytes ≡ Some bytes → IsInBytes fault
+      → IsLogFault oldest_read most_followed bytes fault → (Rose old.to.drive.faults new.to.drive.faults → ⊥)
       → Refuses (log_refusal fault) status old.to.output new.to.output ⊎ (status ≡ 9)
   pub replica :
-      (w : ℕ) (cells : List Cell) (bytes : List ℕ) (fault : OpenFault) → RecoversLeader w cells old.to.drive → old.other_drive.bytes ≡ Some bytes → 17 < length bytes → IsInBytes fault
-      → IsFault newest w most_held bytes fault → AreCalm old new → Refuses (log_refusal fault) status old.to.output new.to.output ⊎ (status ≡ 9)
+      (w : ℕ) (cells : List Cell) (bytes : List ℕ) (fault : OpenFault) → RecoversLeader w cells old.to.drive
+      → old.other_drive.bytes ≡ Some bytes → 17 < length bytes → IsInBytes fault
+      → IsFault newest w most_held bytes fault → AreCalm old new
+      → Refuses (log_refusal fault) status old.to.output new.to.output ⊎ (status ≡ 9)
   pub strange :
-      (w : ℕ) (cells : List Cell) (bytes : List ℕ) (cell : ℕ) → RecoversLeader w cells old.to.drive → old.other_drive.bytes ≡ Some bytes → IsStrange w cells bytes cell → AreCalm old new
+      (w : ℕ) (cells : List Cell) (bytes : List ℕ) (cell : ℕ) → RecoversLeader w cells old.to.drive → old.other_drive.bytes ≡ Some bytes
+      → IsStrange w cells bytes cell → AreCalm old new
       → Refuses (refusal.Strange cell) status old.to.output new.to.output ⊎ (status ≡ 9)
   pub whole :
-      (w : ℕ) (cells : List Cell) (bytes : List ℕ) (first : ℕ) → RecoversLeader w cells old.to.drive → old.other_drive.bytes ≡ Some bytes → IsTaken w cells bytes first → AreCalm old new
+      (w : ℕ) (cells : List Cell) (bytes : List ℕ) (first : ℕ) → RecoversLeader w cells old.to.drive → old.other_drive.bytes ≡ Some bytes
+      → IsTaken w cells bytes first → AreCalm old new
       → (Rose old.to.output.faults new.to.output.faults → ⊥) → (status ≡ 0) ⊎ (status ≡ 9)
 
 -- The first file is read, and its cells followed in the second along turns: the order is attach, width, walk, attach, open, turns, lines. Bytes and
@@ -96,7 +101,8 @@ pub record TurnsDecide {D : Type 0} (before after : Input) (old new : BothTarget
   pub wrong :
       (bytes : List ℕ) (why : Refusal) → before.left ≡ Some bytes → judged_turns bytes ≡ Err why → (Rose before.faults after.faults → ⊥)
       → Refuses why status old.to.output new.to.output ⊎ (status ≡ 9)
-  pub turns : (bytes : List ℕ) (turns : List Turn) → before.left ≡ Some bytes → judged_turns bytes ≡ Ok turns → (Rose before.faults after.faults → ⊥) → AreDecided old new status
+  pub turns : (bytes : List ℕ) (turns : List Turn) → before.left ≡ Some bytes → judged_turns bytes ≡ Ok turns
+      → (Rose before.faults after.faults → ⊥) → AreDecided old new status
 
 -- how a run of `follow` goes, of what its source gave and what it wrote to
 pub record GoesFollowing {D : Type 0} (file name : List ℕ) (before after : Input) (old new : BothTargets D) (status : ℕ) : Type 0 where

@@ -36,7 +36,8 @@ pub record OpensReplica {D : Type 0} (drive : D → Drive) (w : ℕ) (cells : Li
   pub calm : (drive f.disk).faults ≡ old.faults
   pub keeps : KeepsTarget w cells old (drive f.disk)
   -- where the bytes are known, nothing is at fault in them, and each cell is the leader's
-  pub sound : (bytes : List ℕ) (fault : OpenFault) → old.bytes ≡ Some bytes → 17 < length bytes → IsInBytes fault → IsFault newest w most_held bytes fault → ⊥
+  pub sound : (bytes : List ℕ) (fault : OpenFault) → old.bytes ≡ Some bytes → 17 < length bytes → IsInBytes fault
+      → IsFault newest w most_held bytes fault → ⊥
   pub own : (bytes : List ℕ) (cell : ℕ) → old.bytes ≡ Some bytes → IsStrange w cells bytes cell → ⊥
   pub attached : AttachedOne name true old (drive f.disk)
 
@@ -46,10 +47,13 @@ pub record LosesReplica (w : ℕ) (cells : List Cell) (name : List ℕ) (old new
   pub untouched : status_of why ≢ 7 → (bytes : List ℕ) → old.bytes ≡ Some bytes → IsUntouched old new
   pub keeps : KeepsTarget w cells old new
   pub exact :
-      (bytes : List ℕ) (fault : OpenFault) → old.bytes ≡ Some bytes → 17 < length bytes → IsInBytes fault → IsFault newest w most_held bytes fault → (Rose old.faults new.faults → ⊥)
+      (bytes : List ℕ) (fault : OpenFault) → old.bytes ≡ Some bytes → 17 < length bytes → IsInBytes fault
+      → IsFault newest w most_held bytes fault → (Rose old.faults new.faults → ⊥)
       → (why ≡ log_refusal fault) ⊎ (why ≡ refusal.Memory)
-  pub strange : (bytes : List ℕ) (cell : ℕ) → old.bytes ≡ Some bytes → IsStrange w cells bytes cell → (Rose old.faults new.faults → ⊥) → (why ≡ refusal.Strange cell) ⊎ (why ≡ refusal.Memory)
-  pub whole : (bytes : List ℕ) (first : ℕ) → old.bytes ≡ Some bytes → IsTaken w cells bytes first → (Rose old.faults new.faults → ⊥) → why ≡ refusal.Memory
+  pub strange : (bytes : List ℕ) (cell : ℕ) → old.bytes ≡ Some bytes → IsStrange w cells bytes cell → (Rose old.faults new.faults → ⊥)
+      → (why ≡ refusal.Strange cell) ⊎ (why ≡ refusal.Memory)
+  pub whole : (bytes : List ℕ) (first : ℕ) → old.bytes ≡ Some bytes → IsTaken w cells bytes first → (Rose old.faults new.faults → ⊥)
+      → why ≡ refusal.Memory
   pub calm : status_of why ≢ 7 → new.faults ≡ old.faults
   pub attached : AttachesOnce name true old new (status_of why)
 
@@ -77,7 +81,8 @@ pub record PlaysAll (w : ℕ) (cells : List Cell) (first : ℕ) (turns : List Tu
   pub reports_are : told ≡ reports (length cells) (opened_with first) turns
   pub sound : (n : ℕ) → n ≤ length turns → IsSound (machine_at (length cells) first turns n)
   pub passes : (bytes : List ℕ) → old.bytes ≡ Some bytes → PassesTurns w cells first turns (length turns) old new
-  pub exactly : (bytes : List ℕ) → old.bytes ≡ Some bytes → LeavesNow new (Recovers w (take (machine_at (length cells) first turns (length turns)).held cells))
+  pub exactly : (bytes : List ℕ) → old.bytes ≡ Some bytes
+      → LeavesNow new (Recovers w (take (machine_at (length cells) first turns (length turns)).held cells))
   pub calm : new.faults ≡ old.faults
   pub file : SameFile old new
 
@@ -95,7 +100,8 @@ pub record StopsPlaying (w : ℕ) (cells : List Cell) (first : ℕ) (turns : Lis
 
 -- A turn was refused, or its report couldn't be kept. Where the bytes are known, the drive failed or memory ran out.
 pub record LosesTurn {D : Type 0} (drive : D → Drive) (cells : List Cell) (turn : Turn) (old : FollowerView D) (disk : D) (fault : FollowFault) : Type 0 where
-  pub why : FailsTurn drive cells turn old disk fault ⊎ ((f : FollowerView D) × (f.disk ≡ disk) × (fault ≡ Memory) × MakesTurn drive cells turn old f)
+  pub why : FailsTurn drive cells turn old disk fault
+      ⊎ ((f : FollowerView D) × (f.disk ≡ disk) × (fault ≡ Memory) × MakesTurn drive cells turn old f)
   pub free : (bytes : List ℕ) → (drive old.disk).bytes ≡ Some bytes → IsFree (drive old.disk) (drive disk) fault
 
 -- how turns end that are played since a follower was opened
@@ -105,7 +111,8 @@ pub record EndsPlaying (w : ℕ) (cells : List Cell) (first : ℕ) (turns : List
   pub ends : EndsTurns w cells first turns made old new status before after
   pub sound : (n : ℕ) → n ≤ made → IsSound (machine_at (length cells) first turns n)
   pub passes : (bytes : List ℕ) → old.bytes ≡ Some bytes → PassesTurns w cells first turns made old new
-  pub whole : (bytes : List ℕ) → old.bytes ≡ Some bytes → (Rose old.faults new.faults → ⊥) → (Rose before.faults after.faults → ⊥) → (status ≡ 0) ⊎ (status ≡ 9)
+  pub whole : (bytes : List ℕ) → old.bytes ≡ Some bytes → (Rose old.faults new.faults → ⊥) → (Rose before.faults after.faults → ⊥)
+      → (status ≡ 0) ⊎ (status ≡ 9)
   pub calm : status ≢ 7 → new.faults ≡ old.faults
   pub later : old.faults ≤ new.faults
   pub file : SameFile old new

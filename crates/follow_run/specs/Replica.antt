@@ -90,7 +90,8 @@ most_behind _ held = held
 pub record TellsReports (w : ℕ) (cells : List Cell) (first : ℕ) (turns : List Turn) (made : ℕ) (old new : Drive) (status : ℕ) (before after : Output) : Type 0 where
   pub all : made ≡ length turns
   pub wrote : EndsWriting (reports_text (reports (length cells) (opened_with first) turns)) status before after
-  pub exactly : (bytes : List ℕ) → old.bytes ≡ Some bytes → LeavesNow new (Recovers w (take (machine_at (length cells) first turns made).held cells))
+  pub exactly : (bytes : List ℕ) → old.bytes ≡ Some bytes
+      → LeavesNow new (Recovers w (take (machine_at (length cells) first turns made).held cells))
 
 -- The turns stopped behind those that were made, for this reason. A crash leaves the cells that are held, exactly, or one more behind a failed
 -- append.
@@ -115,11 +116,13 @@ pub record LeavesFrom (w : ℕ) (cells : List Cell) (least : ℕ) (new : Drive) 
 -- the cells that it had, or the first of the leader's cells. From when it was opened and some turns were made, these are at least as many as
 -- were held then, of which no more were known to be.
 pub record KeepsFirst (w : ℕ) (cells : List Cell) (first : ℕ) (turns : List Turn) (made : ℕ) (old new : Drive) : Type 0 where
-  pub small : (bytes : List ℕ) → old.bytes ≡ Some bytes → LeavesNow old IsSmall → LeavesOnly old new (λ image. IsSmall image ⊎ RecoversFirst w cells first (length cells) image)
+  pub small : (bytes : List ℕ) → old.bytes ≡ Some bytes → LeavesNow old IsSmall
+      → LeavesOnly old new (λ image. IsSmall image ⊎ RecoversFirst w cells first (length cells) image)
   pub log :
       (bytes : List ℕ) → old.bytes ≡ Some bytes → 17 < length bytes → LeavesNow old (Recovers w (take first cells))
       → LeavesOnly old new (RecoversFirst w cells first (length cells))
-  pub from : (bytes : List ℕ) (n : ℕ) → old.bytes ≡ Some bytes → n ≤ made → LeavesFrom w cells (machine_at (length cells) first turns n).held new
+  pub from : (bytes : List ℕ) (n : ℕ) → old.bytes ≡ Some bytes → n ≤ made
+      → LeavesFrom w cells (machine_at (length cells) first turns n).held new
   pub sound : (n : ℕ) → n ≤ made → IsSound (machine_at (length cells) first turns n)
 
 -- The second file was opened, and had so many of the leader's cells then; so many turns were made.
@@ -136,13 +139,15 @@ pub record PlaysTurns (w : ℕ) (cells : List Cell) (turns : List Turn) (old new
 -- isn't the leader's, and over bytes that a follower takes all turns are told.
 pub record IsDecidedThere (w : ℕ) (cells : List Cell) (old new : Drive) (status : ℕ) (before after : Output) : Type 0 where
   pub exact :
-      (bytes : List ℕ) (fault : OpenFault) → old.bytes ≡ Some bytes → 17 < length bytes → IsInBytes fault → IsFault newest w most_held bytes fault → (Rose old.faults new.faults → ⊥)
+      (bytes : List ℕ) (fault : OpenFault) → old.bytes ≡ Some bytes → 17 < length bytes → IsInBytes fault
+      → IsFault newest w most_held bytes fault → (Rose old.faults new.faults → ⊥)
       → Refuses (log_refusal fault) status before after ⊎ (status ≡ 9)
   pub strange :
       (bytes : List ℕ) (cell : ℕ) → old.bytes ≡ Some bytes → IsStrange w cells bytes cell → (Rose old.faults new.faults → ⊥)
       → Refuses (refusal.Strange cell) status before after ⊎ (status ≡ 9)
   pub whole :
-      (bytes : List ℕ) (first : ℕ) → old.bytes ≡ Some bytes → IsTaken w cells bytes first → (Rose old.faults new.faults → ⊥) → (Rose before.faults after.faults → ⊥)
+      (bytes : List ℕ) (first : ℕ) → old.bytes ≡ Some bytes → IsTaken w cells bytes first → (Rose old.faults new.faults → ⊥)
+      → (Rose before.faults after.faults → ⊥)
       → (status ≡ 0) ⊎ (status ≡ 9)
 
 -- The leader's cells were followed in the file of this name along turns.
