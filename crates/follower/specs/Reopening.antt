@@ -19,7 +19,8 @@ use Rattle.follower.specs.Faults.{is_drives}
 pub record Reopens {D : Type 0} (drive : D → Drive) (w count : ℕ) (old : Drive) (log : LogView D) : Type 0 where
   pub cells : log.cells ≡ count
   pub sound : log.failed ≡ None
-  pub text : (bytes : List ℕ) → old.bytes ≡ Some bytes → (own : List Cell) × (length own ≡ count) × Recovers w own bytes × IsLog w own (drive log.disk)
+  pub text : (bytes : List ℕ) → old.bytes ≡ Some bytes
+      → (own : List Cell) × (length own ≡ count) × Recovers w own bytes × IsLog w own (drive log.disk)
   pub told : is_some (drive log.disk).bytes ≡ is_some old.bytes
   pub calm : (drive log.disk).faults ≡ old.faults
   pub calls : CallsToOpen count old (drive log.disk)
