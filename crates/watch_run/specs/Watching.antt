@@ -53,16 +53,20 @@ IsWatchingCause fences old new why = IsCheckingCause old new why ⊎ ((why ≡ r
 -- something is at fault behind them; else a fault that the bytes show is told; and bytes that recover to cells with few enough crossings have
 -- their text, unless the sink's count rose.
 pub record IsDecidedAlong (fences : List Fence) (old new : Drive) (status : ℕ) (before after : Output) : Type 0 where
-  pub over : (bytes : List ℕ) → old.bytes ≡ Some bytes → IsCrowded fences bytes → (Rose old.faults new.faults → ⊥) → Refuses refusal.LongEvents status before after ⊎ (status ≡ 9)
-  pub exact : (bytes : List ℕ) (fault : OpenFault) → old.bytes ≡ Some bytes → IsInBytes fault → IsLogFault oldest_read most_inspected bytes fault → (IsCrowded fences bytes → ⊥)
+  pub over : (bytes : List ℕ) → old.bytes ≡ Some bytes → IsCrowded fences bytes → (Rose old.faults new.faults → ⊥)
+      → Refuses refusal.LongEvents status before after ⊎ (status ≡ 9)
+  pub exact : (bytes : List ℕ) (fault : OpenFault) → old.bytes ≡ Some bytes → IsInBytes fault
+      → IsLogFault oldest_read most_inspected bytes fault → (IsCrowded fences bytes → ⊥)
       → (Rose old.faults new.faults → ⊥) → Refuses (log_refusal fault) status before after ⊎ (status ≡ 9)
-  pub whole : (bytes : List ℕ) (w : ℕ) (cells : List Cell) → old.bytes ≡ Some bytes → IsWidth w → Recovers w cells bytes → length cells ≤ most_inspected → length (crossings cells fences) ≤ most_events
+  pub whole : (bytes : List ℕ) (w : ℕ) (cells : List Cell) → old.bytes ≡ Some bytes → IsWidth w → Recovers w cells bytes
+      → length cells ≤ most_inspected → length (crossings cells fences) ≤ most_events
       → (Rose old.faults new.faults → ⊥) → (Rose before.faults after.faults → ⊥) → (status ≡ 0) ⊎ (status ≡ 9)
 
 -- The text of the crossings of these fences along the cells of the log, and of who is inside behind the last, or the line of a refusal. The
 -- drive's bytes and images stay.
 pub record EndsWatching {D : Type 0} (fences : List Fence) (file : List ℕ) (old new : Targets D) (status : ℕ) : Type 0 where
-  pub ends : TellsCells (watched_text fences) old.drive status old.output new.output ⊎ EndsRefused (IsWatchingCause fences old.drive new.drive) status old.output new.output
+  pub ends : TellsCells (watched_text fences) old.drive status old.output new.output
+      ⊎ EndsRefused (IsWatchingCause fences old.drive new.drive) status old.output new.output
   pub decided : IsDecidedAlong fences old.drive new.drive status old.output new.output
   pub stays : Stays old.drive new.drive
   -- the drive's count is as it was, but where it is what is told to have failed
@@ -94,7 +98,9 @@ pub record Watches {S D : Type 0} (file : List ℕ) (old new : Ends S D) (status
   pub goes : GoesAlong file old.input new.input old.to new.to status
   pub none : h ≡ []
   pub other : new.other ≡ old.other
-  pub input : (bytes : List ℕ) (why : Refusal) → old.input.left ≡ Some bytes → judged_by fences_of_text bytes ≡ Err why → (Rose old.input.faults new.input.faults → ⊥)
+  pub input : (bytes : List ℕ) (why : Refusal) → old.input.left ≡ Some bytes → judged_by fences_of_text bytes ≡ Err why
+      → (Rose old.input.faults new.input.faults → ⊥)
       → Refuses why status old.to.output new.to.output ⊎ (status ≡ 9)
-  pub follows : (bytes : List ℕ) (fences : List Fence) → old.input.left ≡ Some bytes → judged_by fences_of_text bytes ≡ Ok fences → (Rose old.input.faults new.input.faults → ⊥)
+  pub follows : (bytes : List ℕ) (fences : List Fence) → old.input.left ≡ Some bytes → judged_by fences_of_text bytes ≡ Ok fences
+      → (Rose old.input.faults new.input.faults → ⊥)
       → IsDecidedAlong fences old.to.drive new.to.drive status old.to.output new.to.output

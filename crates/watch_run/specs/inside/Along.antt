@@ -50,10 +50,13 @@ pub record RunsFile (fences : List Fence) (file : List ℕ) (old new : Drive) (v
 -- why a watch doesn't come to the log's end, and what the bytes say of that
 pub record RefusesAlong (fences : List Fence) (old new : Drive) (why : Refusal) : Type 0 where
   pub cause : IsWatchingCause fences old new why
-  pub over : (bytes : List ℕ) → old.bytes ≡ Some bytes → IsCrowded fences bytes → (Rose old.faults new.faults → ⊥) → (why ≡ refusal.LongEvents) ⊎ (why ≡ refusal.Memory)
-  pub exact : (bytes : List ℕ) (fault : OpenFault) → old.bytes ≡ Some bytes → IsInBytes fault → IsLogFault oldest_read most_inspected bytes fault → (IsCrowded fences bytes → ⊥)
+  pub over : (bytes : List ℕ) → old.bytes ≡ Some bytes → IsCrowded fences bytes → (Rose old.faults new.faults → ⊥)
+      → (why ≡ refusal.LongEvents) ⊎ (why ≡ refusal.Memory)
+  pub exact : (bytes : List ℕ) (fault : OpenFault) → old.bytes ≡ Some bytes → IsInBytes fault
+      → IsLogFault oldest_read most_inspected bytes fault → (IsCrowded fences bytes → ⊥)
       → (Rose old.faults new.faults → ⊥) → (why ≡ log_refusal fault) ⊎ (why ≡ refusal.Memory)
-  pub whole : (bytes : List ℕ) (w : ℕ) (cells : List Cell) → old.bytes ≡ Some bytes → IsWidth w → Recovers w cells bytes → length cells ≤ most_inspected → length (crossings cells fences) ≤ most_events
+  pub whole : (bytes : List ℕ) (w : ℕ) (cells : List Cell) → old.bytes ≡ Some bytes → IsWidth w → Recovers w cells bytes
+      → length cells ≤ most_inspected → length (crossings cells fences) ≤ most_events
       → (Rose old.faults new.faults → ⊥) → why ≡ refusal.Memory
   pub stays : Stays old new
   pub calm : status_of why ≢ 7 → new.faults ≡ old.faults
