@@ -70,12 +70,7 @@ pub fn run<R: Threads + Wait + Sync, S: Source, K: Sink, D: LogDisk + Send, G: G
         Some(Command::Compact(file, name)) => {
             let mut disk = disk;
             let end = compact_log(alloc, file, name, sink, &mut disk, other);
-            Outcome {
-                status: end.status,
-                disk,
-                other: end.disk,
-                events: end.events,
-            }
+            outcome_of_other(end, disk)
         }
         Some(Command::Watch(file)) => {
             let end = watch_log(alloc, file, source, sink, disk);
@@ -100,6 +95,18 @@ fn outcome_of<D: LogDisk>(end: Ended<D>, other: D) -> Outcome<D>
         status: end.status,
         disk: end.disk,
         other,
+        events: end.events,
+    }
+}
+
+// What a run leaves whose command ends with the second drive.
+fn outcome_of_other<D: LogDisk>(end: Ended<D>, disk: D) -> Outcome<D>
+    ensures { result ≡ record { status = end.status; disk = disk; other = end.disk; events = end.events } }
+{
+    Outcome {
+        status: end.status,
+        disk,
+        other: end.disk,
         events: end.events,
     }
 }

@@ -112,7 +112,8 @@ returns-in-Some-Compact g c =
     let new = at c.args.source.now c.compact_log-end.new.sink c.compact_log-end.new.disk end.disk in
     let kept : Keeps (command_of command) old new end.status end.events =
     record { ends = told.ends; unread = refl; none = told.none } in
-    record { usage = usage-accepted words (command_of command) old new end.status end.events asks kept; keeps = keeps-asked words (command_of command) old new end.status end.events asks kept }
+    rw c.outcome_of_other.ensures
+    (record { usage = usage-accepted words (command_of command) old new end.status end.events asks kept; keeps = keeps-asked words (command_of command) old new end.status end.events asks kept })
 
 pub returns-in-Some-Watch : goal.returns-in-Some-Watch
 returns-in-Some-Watch g c =
