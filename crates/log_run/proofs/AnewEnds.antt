@@ -1,10 +1,8 @@
 -- How a writing anew ends.
-use Rattle.std.proofs.Common.{◌≡◌, inl, inr, ◌∙◌, ℕ, ◌≤◌, Bool, true, false, List, length, Result, Ok, Err, refl, sym, ap, subst, arith}
-use Rattle.std.specs.Prelude.{◌≢◌}
-use Rattle.causes.specs.Causes.{Rose, Counts}
-use Rattle.io_edge.specs.Puts.{Puts}
+use Rattle.std.proofs.Common.{◌≡◌, inl, inr, ◌∙◌, ℕ, ◌≤◌, Bool, false, List, length, Ok, Err, sym, ap, subst, arith}
+use Rattle.causes.specs.Causes.{Rose}
 use Rattle.io_edge.specs.Streams.{Output}
-use Rattle.disk_trait.specs.Drive.{Drive, AttachedOne, KeepsLaws, Stays}
+use Rattle.disk_trait.specs.Drive.{Drive, KeepsLaws, Stays}
 use Rattle.cell_format.specs.declared.cell.Cell.{Cell}
 use Rattle.plain_list.specs.World.{World}
 use Rattle.log_state.specs.Recovers.{state_of}
@@ -19,16 +17,12 @@ use Rattle.log_compact.specs.Compacting.{IsCompacted, IsOnWay, KeepsOnWay}
 use Rattle.log_compact.proofs.Counting.{comes_by_splits, fresh_few}
 use Rattle.csv_rows.specs.declared.rows.Refusal.{Refusal}
 use Rattle.csv_rows.specs.declared.rows.Refusal.TheVariants as refusal
-use Rattle.csv_rows.specs.LogLines.{compacted_line}
 use Rattle.run_ends.specs.Limits.{oldest_read, most_inspected}
-use Rattle.run_ends.specs.Status.{status_of, written_status}
+use Rattle.run_ends.specs.Status.{status_of}
 use Rattle.run_ends.specs.Taking.{Refuses}
-use Rattle.run_ends.specs.Attaching.{AttachesOnce}
 use Rattle.run_ends.proofs.Attaching.{attaches-one, attaches-as}
-use Rattle.log_run.specs.Making.{IsMakingCause}
 use Rattle.log_run.specs.Checking.{IsCheckingCause, IsDecidedBy, FindsCells, HasRead, HasReadUnless}
-use Rattle.log_run.specs.Compacting.{MakesAnew, LeavesNew, EndsAnew, BothTargets, RecoversFew, EndsCompacting, anew}
-use Rattle.log_run.proofs.MakingEnds.{bears, ends-writing, whole-writing, not-ten}
+use Rattle.log_run.specs.Compacting.{LeavesNew, EndsAnew, BothTargets, RecoversFew, EndsCompacting, anew}
 use Rattle.log_run.proofs.CheckingFacts.{decided-refused}
 
 -- what was found may be written anew
@@ -69,37 +63,6 @@ module _ (w : ℕ) (fresh : List Cell) (a b c : Drive) (laws : KeepsLaws a) (sta
     in_use = λ bytes told long. stays-trans a b c stays (keeps.in_use bytes (stays.bytes ∙ told) long);
     later = omega (arith, later, keeps.later);
   }
-
--- the cells were written
-pub ends-anew : {T E : Type 0} (w : ℕ) (world : World) (leaves : List (List Bool)) (name : List ℕ) (old new : Drive) (before after : Output) (wrote : Result T E)
-    → Puts before.taken after.taken (compacted_line (length (anew w world leaves))) wrote → Counts before.faults after.faults wrote → MakesAnew w world leaves old new → AttachedOne name true old new
-    → LeavesNew w (anew w world leaves) old new → EndsAnew w world leaves name old new (written_status wrote) before after
-ends-anew w world leaves name old new before after wrote puts counts made attached left = record {
-  ends = inl (made, ends-writing (compacted_line (length (anew w world leaves))) before after wrote puts counts);
-  in_use = λ ten. absurd (not-ten wrote ten);
-  exact = λ bytes told long calm. let small = (made.made.log bytes told).0 in absurd (omega (arith, small, long));
-  whole = λ bytes told small calm quiet. inl (whole-writing before.faults after.faults wrote counts quiet);
-  keeps = left;
-  calm = λ other. made.made.same;
-  attached = attaches-one name true old new (written_status wrote) attached;
-}
-
--- they weren't
-pub ends-refused : (w : ℕ) (world : World) (leaves : List (List Bool)) (name : List ℕ) (old new : Drive) (before after : Output) (why : Refusal) (status : ℕ) → Refuses why status before after → IsMakingCause old new why
-    → AttachesOnce name true old new (status_of why) → (status_of why ≢ 7 → new.faults ≡ old.faults) → LeavesNew w (anew w world leaves) old new
-    → EndsAnew w world leaves name old new status before after
-ends-refused w world leaves name old new before after why status refuses cause attached calm left =
-    let is = refuses.status_is in
-    let it = bears old new why cause in
-    record {
-      ends = inr (why, cause, refuses);
-      in_use = λ ten. it.in_use (sym is ∙ ten);
-      exact = λ bytes told long steady. rw is (it.exact bytes told long steady);
-      whole = λ bytes told small steady quiet. rw is (it.whole bytes told small steady);
-      keeps = left;
-      calm = λ other. calm (λ e. other (is ∙ e));
-      attached = attaches-as name true old new status (status_of why) is attached;
-    }
 
 -- a log that was read
 pub compacts-found : {D : Type 0} (file name : List ℕ) (old new : BothTargets D) (log : Found) (status : ℕ) (known : IsWidth log.width) (found : IsFound oldest_read log.width most_inspected old.to.drive log.seen)
