@@ -1,8 +1,8 @@
 -- What the edge before a number tells of it.
-use Rattle.std.proofs.Common.{◌≡◌, ℕ, zero, suc, ◌≤◌, ◌<◌, ◌+◌, ◌-◌, ◌/◌, ◌^◌, Bool, true, false, List, [], ◌∷◌, ◌++◌, Vec, Global, length, map, take, get_or, refl, sym, ◌∙◌, ap, subst, arith, ◌&&◌, cond, append_assoc, append-nil, add-one}
+use Rattle.std.proofs.Common.{◌≡◌, ℕ, zero, suc, ◌≤◌, ◌<◌, ◌+◌, ◌-◌, ◌^◌, Bool, true, false, List, [], ◌∷◌, ◌++◌, Vec, Global, length, map, take, get_or, refl, sym, ◌∙◌, ap, arith, ◌&&◌, cond, append_assoc, append-nil, add-one}
 use Rattle.std.specs.Prelude.{nat_le, nat_lt}
 use Rattle.std.specs.List.{Contains}
-use Rattle.std.specs.List.Sorted.{IsNonDecreasing}
+use Rattle.std.specs.List.Sorted.{IsNonDecreasing, IsPermutation}
 use Rattle.std.proofs.lemmas.Bool.{lt-ltb}
 use Rattle.std.proofs.lemmas.Bool.Decides.{nat_tests}
 use Rattle.std.proofs.lemmas.List.Elements.{Contains-append_left, Contains-append_right}
@@ -166,42 +166,15 @@ row-of list edges rows at slab e tell fits is =
     let back : slab ≡ slab + 1 - 1 = omega arith in
     ap (λ n. (get_or rows n e).items) back ∙ found.is e
 
-has-zero : (list : List Span) (edges : List ℕ) (rows : List (Vec Bool Global)) → TellSpans list edges rows → Contains edges 0
-has-zero list edges rows tell = Contains-permutation (0 ∷ edges_of list) edges 0 tell.all (0, omega arith, refl)
+has-zero : (list : List Span) (edges : List ℕ) → IsPermutation (0 ∷ edges_of list) edges → Contains edges 0
+has-zero list edges all = Contains-permutation (0 ∷ edges_of list) edges 0 all (0, omega arith, refl)
 
 -- there is an edge, and the first one is at most any number
-pub some-edge : (list : List Span) (edges : List ℕ) (rows : List (Vec Bool Global)) → TellSpans list edges rows → 1 ≤ length edges
-some-edge list edges rows tell = let there = has-zero list edges rows tell in omega (arith, there.1)
+pub some-edge : (list : List Span) (edges : List ℕ) → IsPermutation (0 ∷ edges_of list) edges → 1 ≤ length edges
+some-edge list edges all = let there = has-zero list edges all in omega (arith, there.1)
 
-pub first-edge : (list : List Span) (edges : List ℕ) (rows : List (Vec Bool Global)) (at : ℕ) → TellSpans list edges rows → get_or edges 0 0 ≤ at
-first-edge list edges rows at tell =
-    let there = has-zero list edges rows tell in
-    let rises : get_or edges 0 0 ≤ get_or edges there.0 0 = tell.sorted 0 there.0 0 (omega arith) there.1 in
+pub first-edge : (list : List Span) (edges : List ℕ) (at : ℕ) → IsNonDecreasing edges → IsPermutation (0 ∷ edges_of list) edges → get_or edges 0 0 ≤ at
+first-edge list edges at sorted all =
+    let there = has-zero list edges all in
+    let rises : get_or edges 0 0 ≤ get_or edges there.0 0 = sorted 0 there.0 0 (omega arith) there.1 in
     omega (arith, rises, there.2)
-
--- how far the search of a slab has come: it is among so many edges from this one on
-abbrev pub IsAmong : List ℕ → ℕ → ℕ → ℕ → Type 0
-IsAmong edges at slab left = (1 ≤ left) × (slab + left ≤ length edges) × (get_or edges slab 0 ≤ at) × (slab + left < length edges → at < get_or edges (slab + left) 0)
-
--- the search goes on behind the middle one
-pub among-behind : (edges : List ℕ) (at slab left more : ℕ) → IsAmong edges at slab left → 1 < left → more ≡ left / 2 → get_or edges (slab + left / 2) 0 ≤ at
-    → IsAmong edges at (slab + more) (left - left / 2)
-among-behind edges at slab left more among test is below =
-    let sum : slab + left ≡ slab + more + (left - left / 2) = omega (arith, is, test) in (
-      omega (arith, test),
-      omega (arith, sum, among.1),
-      subst (λ n. get_or edges (slab + n) 0 ≤ at) (sym is) below,
-      λ lt. subst (λ n. at < get_or edges n 0) sum (among.3 (omega (arith, sum, lt))),
-    )
-
--- or before it
-pub among-before : (edges : List ℕ) (at slab left more : ℕ) → IsNonDecreasing edges → IsAmong edges at slab left → 1 < left → more ≡ 0 → at < get_or edges (slab + left / 2) 0
-    → IsAmong edges at (slab + more) (left - left / 2)
-among-before edges at slab left more sorted among test is above =
-    let same : slab ≡ slab + more = omega (arith, is) in (
-      omega (arith, test),
-      omega (arith, is, test, among.1),
-      subst (λ n. get_or edges n 0 ≤ at) same among.2,
-      λ lt. let rises : get_or edges (slab + left / 2) 0 ≤ get_or edges (slab + more + (left - left / 2)) 0 = sorted (slab + left / 2) (slab + more + (left - left / 2)) 0 (omega (arith, is, test)) lt in
-          omega (arith, above, rises),
-    )

@@ -31,3 +31,10 @@ pub record IsSlabOf (edges : List ℕ) (at slab : ℕ) : Type 0 where
   pub within : slab < length edges
   pub below : slice_index edges slab ≤ at
   pub last : slab + 1 < length edges → at < slice_index edges (slab + 1)
+
+-- the slab of a number is among so many from one on
+pub record IsAmong (edges : List ℕ) (at slab count : ℕ) : Type 0 where
+  pub some : 1 ≤ count
+  pub within : slab + count ≤ length edges
+  pub below : slice_index edges slab ≤ at
+  pub last : slab + count < length edges → at < slice_index edges (slab + count)

@@ -8,6 +8,7 @@
 
 mod fences;
 mod guards;
+mod hints;
 mod ids;
 mod passages;
 mod rows;

@@ -1,8 +1,9 @@
 //! Which of some spans have a number: looked up, and not compared with each.
-ghost use Rattle.std.specs.Prelude.{◌≡◌, ◌≤◌, ◌<◌, ◌∷◌, ◌++◌, true, length, slice_index, IfOk, OnOk, map};
+ghost use Rattle.std.specs.Prelude.{◌≡◌, ◌<◌, ◌∷◌, ◌++◌, true, length, IfOk, OnOk, map};
 ghost use Rattle.std.specs.List.Sorted.{IsNonDecreasing, IsPermutation};
 ghost use Rattle.fence_watch.specs.Slabs.{spans, row_at, own_edges, edges_of, IsSlabOf};
 
+use crate::hints::Hints;
 use std::alloc::{AllocError, Global};
 use std::marker::Model;
 
@@ -27,6 +28,7 @@ impl Span {
 pub(crate) struct Slabs {
     spans: Vec<Span>,
     edges: Vec<u32>,
+    hints: Hints,
     rows: Vec<Vec<bool>>,
 }
 
@@ -47,15 +49,21 @@ impl Slabs {
         ensures { IfOk result (λ s. s ≡ spans.items) }
     {
         let edges = edges_of(alloc, &spans)?;
+        let hints = Hints::new(alloc, &edges)?;
         let rows = rows_of(alloc, &edges, &spans)?;
-        Ok(Slabs { spans, edges, rows })
+        Ok(Slabs {
+            spans,
+            edges,
+            hints,
+            rows,
+        })
     }
 
     /// For each span, whether it has the number.
     pub(crate) fn row(&self, at: u32) -> &[bool]
         ensures { result.now ≡ row_at at self.now }
     {
-        let slab = slab_of(&self.edges, at);
+        let slab = self.hints.slab(&self.edges, at);
         self.rows[slab].as_slice()
     }
 
@@ -64,7 +72,7 @@ impl Slabs {
         ensures one { result.0.now ≡ row_at one self.now }
         ensures other { result.1.now ≡ row_at other self.now }
     {
-        let slab = slab_of(&self.edges, one);
+        let slab = self.hints.slab(&self.edges, one);
         let row = self.rows[slab].as_slice();
         if has(&self.edges, slab, other) {
             (row, row)
@@ -72,24 +80,6 @@ impl Slabs {
             (row, self.row(other))
         }
     }
-}
-
-// The last of these edges that is at most a number. Each turn halves what is left, by a sum and no branch, which a processor would
-// guess wrong half of the time.
-fn slab_of(edges: &[u32], at: u32) -> usize
-    requires rise { IsNonDecreasing edges.now }
-    requires some { 1 ≤ length edges.now }
-    requires first { slice_index edges.now 0 ≤ at }
-    ensures { IsSlabOf edges.now at result }
-{
-    let mut slab = 0;
-    let mut left = edges.len();
-    while left > 1 {
-        let half = left / 2;
-        slab += if edges[slab + half] <= at { half } else { 0 };
-        left -= half;
-    }
-    slab
 }
 
 // Whether a number lies between an edge and the next one.

@@ -4,38 +4,38 @@ use Rattle.fence_watch.specs.Slabs.{row_at, IsSlabOf}
 use Rattle.fence_watch.proofs.SlabLemmas.{some-edge, first-edge, row-of}
 use Rattle.fence_watch.proofs.slabs.Slabs.rows.Goals as goal
 
-pub slab_of-slab-requires-clause-rise : goal.slab_of-slab-requires-clause-rise
-slab_of-slab-requires-clause-rise c = subst IsNonDecreasing (sym c.deref.ensures.value) c.self.invariant.sorted
+pub slab-slab-requires-clause-rise : goal.slab-slab-requires-clause-rise
+slab-slab-requires-clause-rise c = subst IsNonDecreasing (sym c.deref.ensures.value) c.self.invariant.sorted
 
-pub slab_of-slab-requires-clause-some : goal.slab_of-slab-requires-clause-some
-slab_of-slab-requires-clause-some c =
-    subst (λ (l : List ℕ). 1 ≤ length l) (sym c.deref.ensures.value) (some-edge c.self.inside.spans.items c.self.inside.edges.items c.self.inside.rows.items c.self.invariant)
+pub slab-slab-requires-clause-some : goal.slab-slab-requires-clause-some
+slab-slab-requires-clause-some c =
+    subst (λ (l : List ℕ). 1 ≤ length l) (sym c.deref.ensures.value) (some-edge c.self.inside.spans.items c.self.inside.edges.items c.self.invariant.all)
 
-pub slab_of-slab-requires-clause-first : goal.slab_of-slab-requires-clause-first
-slab_of-slab-requires-clause-first c =
+pub slab-slab-requires-clause-first : goal.slab-slab-requires-clause-first
+slab-slab-requires-clause-first c =
     subst (λ (l : List ℕ). get_or l 0 0 ≤ c.args.one) (sym c.deref.ensures.value)
-    (first-edge c.self.inside.spans.items c.self.inside.edges.items c.self.inside.rows.items c.args.one c.self.invariant)
+    (first-edge c.self.inside.spans.items c.self.inside.edges.items c.args.one c.self.invariant.sorted c.self.invariant.all)
 
 pub returns-then-has-clause-one : goal.returns-then-has-clause-one
 returns-then-has-clause-one c =
-    let slab = subst (λ (l : List ℕ). IsSlabOf l c.args.one c.slab_of-slab.result) c.deref.ensures.value c.slab_of-slab.ensures in
+    let slab = subst (λ (l : List ℕ). IsSlabOf l c.args.one c.slab-slab.result) c.deref.ensures.value c.slab-slab.ensures in
     c.as_slice-row.ensures.value
     ∙ ap (λ (row : Vec Bool Global). row.items) c.index.ensures
-    ∙ row-of c.self.inside.spans.items c.self.inside.edges.items c.self.inside.rows.items c.args.one c.slab_of-slab.result c.index.result.now c.self.invariant c.ranges.one.fits slab
+    ∙ row-of c.self.inside.spans.items c.self.inside.edges.items c.self.inside.rows.items c.args.one c.slab-slab.result c.index.result.now c.self.invariant c.ranges.one.fits slab
     ∙ ap (row_at c.args.one) c.self.view_is
 
 pub returns-then-has-clause-other : goal.returns-then-has-clause-other
 returns-then-has-clause-other c =
-    let slab = subst (λ (l : List ℕ). IsSlabOf l c.args.other c.slab_of-slab.result) c.deref-2.ensures.value (c.has.ensures c.if-has.true) in
+    let slab = subst (λ (l : List ℕ). IsSlabOf l c.args.other c.slab-slab.result) c.deref-2.ensures.value (c.has.ensures c.if-has.true) in
     c.as_slice-row.ensures.value
     ∙ ap (λ (row : Vec Bool Global). row.items) c.index.ensures
-    ∙ row-of c.self.inside.spans.items c.self.inside.edges.items c.self.inside.rows.items c.args.other c.slab_of-slab.result c.index.result.now c.self.invariant c.ranges.other.fits slab
+    ∙ row-of c.self.inside.spans.items c.self.inside.edges.items c.self.inside.rows.items c.args.other c.slab-slab.result c.index.result.now c.self.invariant c.ranges.other.fits slab
     ∙ ap (row_at c.args.other) c.self.view_is
 
 pub returns-else-has-clause-one : goal.returns-else-has-clause-one
 returns-else-has-clause-one c =
-    let slab = subst (λ (l : List ℕ). IsSlabOf l c.args.one c.slab_of-slab.result) c.deref.ensures.value c.slab_of-slab.ensures in
+    let slab = subst (λ (l : List ℕ). IsSlabOf l c.args.one c.slab-slab.result) c.deref.ensures.value c.slab-slab.ensures in
     c.as_slice-row.ensures.value
     ∙ ap (λ (row : Vec Bool Global). row.items) c.index.ensures
-    ∙ row-of c.self.inside.spans.items c.self.inside.edges.items c.self.inside.rows.items c.args.one c.slab_of-slab.result c.index.result.now c.self.invariant c.ranges.one.fits slab
+    ∙ row-of c.self.inside.spans.items c.self.inside.edges.items c.self.inside.rows.items c.args.one c.slab-slab.result c.index.result.now c.self.invariant c.ranges.one.fits slab
     ∙ ap (row_at c.args.one) c.self.view_is

@@ -2,10 +2,13 @@ use Rattle.std.proofs.Common.{◌≡◌, ◌∙◌, List, [], ◌∷◌, length,
 use Rattle.fence_watch.specs.declared.fences.Fence.{Fence}
 use Rattle.fence_watch.specs.Guards.{guards_of}
 use Rattle.fence_watch.specs.Passages.{Charts}
-use Rattle.fence_watch.specs.Watches.{fences_of}
+use Rattle.fence_watch.specs.Watches.{Guard, fences_of}
 use Rattle.fence_watch.proofs.watch.Watch.new.Goals as goal
 
-unguarded : (fences : List Fence) → fences_of (map (λ (f : Fence). record { fence = f; inside = [] }) fences) ≡ fences
+abbrev unguarded_by : Fence → Guard
+unguarded_by f = record { fence = f; inside = [] }
+
+unguarded : (fences : List Fence) → fences_of (map unguarded_by fences) ≡ fences
 unguarded [] = refl
 unguarded (f ∷ fences) = ap (λ (l : List Fence). f ∷ l) (unguarded fences)
 
@@ -19,3 +22,9 @@ invariant_of-result c =
       few = omega (arith, ap length same, ap length c.as_slice-2.ensures.fences, c.as_slice-2.ensures.rules.most);
       events = omega (arith, ap length c.new-2.ensures.items);
     }
+
+pub returns : goal.returns
+returns c = record {
+  events = c.new-2.ensures.items;
+  guards = c.in_ok-guard.ensures.guards ∙ ap (λ (l : List Fence). map unguarded_by l) c.as_slice.ensures.fences;
+}
