@@ -2,6 +2,7 @@ pub mod RowsFacts
 pub mod Insides
 pub mod Following
 pub mod RisingIds
+pub mod MarkLemmas
 pub mod SlabLemmas
 pub mod Passing
 pub mod Parts

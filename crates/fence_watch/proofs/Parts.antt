@@ -1,60 +1,100 @@
 -- Fences in two parts: the first few, and the others.
-use Rattle.std.proofs.Common.{◌≡◌, ℕ, zero, suc, ◌≤◌, ◌+◌, ◌-◌, Bool, List, [], ◌∷◌, ◌++◌, length, take, drop, Option, Some, None, Result, Ok, Err, OnOk, refl, sym, ◌∙◌, ap, subst, arith, ◌&&◌, append_assoc, length-append}
+use Rattle.std.proofs.Common.{◌≡◌, ℕ, zero, suc, ◌≤◌, ◌+◌, ◌/◌, ◌%◌, ◌==◌, List, [], ◌∷◌, ◌++◌, length, take, drop, Option, Some, None, Result, Ok, Err, OnOk, refl, sym, ◌∙◌, ap, subst, arith, append_assoc, length-append}
 use Rattle.std.proofs.lemmas.List.{map-append}
 use Rattle.std.proofs.Math.Seq.{take-append_seam, drop-append_seam}
-use Rattle.zorder.specs.declared.points.Point.{Point}
 use Rattle.fence_watch.specs.declared.fences.Event.{Event}
 use Rattle.fence_watch.specs.declared.fences.Crossing.{Crossing}
 use Rattle.fence_watch.specs.declared.guards.Guarded.{Guarded}
-use Rattle.fence_watch.specs.declared.passages.Passage.{Passage}
-use Rattle.fence_watch.specs.Fences.{most_fences}
+use Rattle.fence_watch.specs.declared.guards.Step.{Step}
+use Rattle.fence_watch.specs.declared.passages.Pair.{Pair}
+use Rattle.fence_watch.specs.Marks.{marks_in}
 use Rattle.fence_watch.specs.Watches.{Guard, fences_of}
-use Rattle.fence_watch.specs.Passages.{turn, both, turns, count_turns, event_by, events_along, ShowsPassage, IsOfLength}
-use Rattle.fence_watch.specs.Guards.{AllRising, guard_of, guards_of, behind_by, guards_along, HaveRoom}
+use Rattle.fence_watch.specs.Passages.{turn, turns, turns_in, word_turns, turns_of, count_turns, event_by, events_along}
+use Rattle.fence_watch.proofs.MarkLemmas.{length-word}
+use Rattle.fence_watch.specs.Guards.{AllRising, guard_of, guards_of, behind_by, guards_along, HaveRoom, crossed_by, told_by, crossed_in, told_in}
 
 -- how the fences of each part are crossed
-pub turns-take : (n : ℕ) (a b c d : List Bool) → turns (both (take n a) (take n b)) (both (take n c) (take n d)) ≡ take n (turns (both a b) (both c d))
-turns-take zero a b c d = refl
-turns-take (suc n) [] b c d = refl
-turns-take (suc n) (w ∷ a) [] [] d = refl
-turns-take (suc n) (w ∷ a) [] (y ∷ c) [] = refl
-turns-take (suc n) (w ∷ a) [] (y ∷ c) (z ∷ d) = refl
-turns-take (suc n) (w ∷ a) (x ∷ b) [] d = refl
-turns-take (suc n) (w ∷ a) (x ∷ b) (y ∷ c) [] = refl
-turns-take (suc n) (w ∷ a) (x ∷ b) (y ∷ c) (z ∷ d) = ap (λ (l : List (Option Crossing)). turn (w && x) (y && z) ∷ l) (turns-take n a b c d)
+pub near-turns : (n : ℕ) (p : Pair) (passage whole : List Pair) → whole ≡ p ∷ passage → n ≡ 64 → turns_in n p ≡ take 64 (turns_of whole)
+unfolding word_turns
+near-turns n p passage whole is len =
+    ap (λ k. turns_in k p) len ∙ sym (take-append_seam (word_turns p) (turns_of passage)) ∙ ap (λ k. take k (word_turns p ++ turns_of passage)) (length-word p)
+    ∙ ap (λ (l : List Pair). take 64 (turns_of l)) (sym is)
 
-no-marks : (l : List Bool) → both l [] ≡ []
-no-marks [] = refl
-no-marks (x ∷ l) = refl
+pub far-turns : (p : Pair) (passage whole : List Pair) → whole ≡ p ∷ passage → turns_of passage ≡ drop 64 (turns_of whole)
+far-turns p passage whole is =
+    sym (drop-append_seam (word_turns p) (turns_of passage)) ∙ ap (λ k. drop k (word_turns p ++ turns_of passage)) (length-word p) ∙ ap (λ (l : List Pair). drop 64 (turns_of l)) (sym is)
 
-no-turns : (l : List Bool) → turns l [] ≡ []
-no-turns [] = refl
-no-turns (x ∷ l) = refl
+-- of fewer guards than a word has bits the lowest ones tell all
+along-in : (id n : ℕ) (guards : List Guarded) (a b : ℕ) (rest : List (Option Crossing)) → length guards ≤ n
+    → guards_along id (guards_of guards) (turns (marks_in (length guards) a) (marks_in (length guards) b)) ≡ guards_along id (guards_of guards) (turns (marks_in n a) (marks_in n b) ++ rest)
+along-in id n [] a b rest few = refl
+along-in id zero (g ∷ guards) a b rest few = absurd (omega (arith, few))
+along-in id (suc n) (g ∷ guards) a b rest few =
+    ap (λ (l : List Guard). behind_by id (guard_of g) (turn (a % 2 == 1) (b % 2 == 1)) ∷ l) (along-in id n guards (a / 2) (b / 2) rest (omega (arith, few)))
 
-pub turns-drop : (n : ℕ) (a b c d : List Bool) → turns (both (drop n a) (drop n b)) (both (drop n c) (drop n d)) ≡ drop n (turns (both a b) (both c d))
-turns-drop zero a b c d = refl
-turns-drop (suc n) [] b c d = refl
-turns-drop (suc n) (w ∷ a) [] c d = ap (λ (l : List Bool). turns l (both (drop (suc n) c) (drop (suc n) d))) (no-marks (drop n a))
-turns-drop (suc n) (w ∷ a) (x ∷ b) [] d = no-turns (both (drop n a) (drop n b))
-turns-drop (suc n) (w ∷ a) (x ∷ b) (y ∷ c) [] =
-    ap (turns (both (drop n a) (drop n b))) (no-marks (drop n c)) ∙ no-turns (both (drop n a) (drop n b))
-turns-drop (suc n) (w ∷ a) (x ∷ b) (y ∷ c) (z ∷ d) = turns-drop n a b c d
+told-in : (at id n : ℕ) (guards : List Guarded) (a b : ℕ) (rest : List (Option Crossing)) → length guards ≤ n
+    → events_along at id (fences_of (guards_of guards)) (turns (marks_in (length guards) a) (marks_in (length guards) b)) ≡ events_along at id (fences_of (guards_of guards)) (turns (marks_in n a) (marks_in n b) ++ rest)
+told-in at id n [] a b rest few = refl
+told-in at id zero (g ∷ guards) a b rest few = absurd (omega (arith, few))
+told-in at id (suc n) (g ∷ guards) a b rest few =
+    ap (λ (l : List Event). event_by at id g.fence (turn (a % 2 == 1) (b % 2 == 1)) ++ l) (told-in at id n guards (a / 2) (b / 2) rest (omega (arith, few)))
+
+room-in : (n : ℕ) (guards : List Guarded) (a b : ℕ) (rest : List (Option Crossing)) → length guards ≤ n
+    → HaveRoom guards (turns (marks_in (length guards) a) (marks_in (length guards) b)) → HaveRoom guards (turns (marks_in n a) (marks_in n b) ++ rest)
+room-in n [] a b rest few room = tt
+room-in zero (g ∷ guards) a b rest few room = absurd (omega (arith, few))
+room-in (suc n) (g ∷ guards) a b rest few room = (room.0, room-in n guards (a / 2) (b / 2) rest (omega (arith, few)) room.1)
+
+room-out : (n : ℕ) (guards : List Guarded) (a b : ℕ) (rest : List (Option Crossing)) → length guards ≤ n
+    → HaveRoom guards (turns (marks_in n a) (marks_in n b) ++ rest) → HaveRoom guards (turns (marks_in (length guards) a) (marks_in (length guards) b))
+room-out n [] a b rest few room = tt
+room-out zero (g ∷ guards) a b rest few room = absurd (omega (arith, few))
+room-out (suc n) (g ∷ guards) a b rest few room = (room.0, room-out n guards (a / 2) (b / 2) rest (omega (arith, few)) room.1)
+
+pub along-word : (step : Step) (guards : List Guarded) (p : Pair) (passage whole : List Pair) → whole ≡ p ∷ passage → length guards ≤ 64 → crossed_in step guards p ≡ crossed_by step guards whole
+unfolding word_turns
+along-word step guards p passage whole is few = along-in step.id 64 guards p.was p.is (turns_of passage) few ∙ ap (crossed_by step guards) (sym is)
+
+pub told-word : (step : Step) (guards : List Guarded) (p : Pair) (passage whole : List Pair) → whole ≡ p ∷ passage → length guards ≤ 64 → told_in step guards p ≡ told_by step guards whole
+unfolding word_turns
+told-word step guards p passage whole is few = told-in step.at step.id 64 guards p.was p.is (turns_of passage) few ∙ ap (told_by step guards) (sym is)
+
+pub room-word : {E : Type 0} (r : Result (Unit {0}) E) (n : ℕ) (guards : List Guarded) (p : Pair) (passage whole : List Pair) → whole ≡ p ∷ passage → length guards ≡ n → n ≤ 64
+    → OnOk r (HaveRoom guards (turns_in n p)) → OnOk r (HaveRoom guards (turns_of whole))
+unfolding word_turns
+room-word (Ok x) n guards p passage whole is len few room =
+    subst (λ (l : List Pair). HaveRoom guards (turns_of l)) (sym is)
+    (room-in 64 guards p.was p.is (turns_of passage) (omega (arith, len, few)) (subst (λ k. HaveRoom guards (turns_in k p)) (sym len) room))
+room-word (Err e) n guards p passage whole is len few room = tt
+
+pub room-of_word : (guards : List Guarded) (p : Pair) (passage whole : List Pair) → whole ≡ p ∷ passage → length guards ≤ 64 → HaveRoom guards (turns_of whole) → HaveRoom guards (turns_in (length guards) p)
+unfolding word_turns
+room-of_word guards p passage whole is few room = room-out 64 guards p.was p.is (turns_of passage) few (subst (λ (l : List Pair). HaveRoom guards (turns_of l)) is room)
+
+-- along no passage
+pub no-items : {X : Type 0} (xs : List X) → length xs ≡ 0 → xs ≡ []
+no-items [] e = refl
+no-items (x ∷ xs) e = absurd (omega (arith, e))
+
+pub no-room : (guards : List Guarded) → HaveRoom guards []
+no-room [] = tt
+no-room (g ∷ guards) = tt
+
+pub none-told : (at id : ℕ) (guards : List Guarded) → events_along at id (fences_of (guards_of guards)) [] ≡ []
+none-told at id [] = refl
+none-told at id (g ∷ guards) = refl
 
 -- what both parts tell, and what is left of them
 pub told-parts : (at id n : ℕ) (guards : List Guarded) (ts : List (Option Crossing)) → events_along at id (fences_of (guards_of guards)) ts
     ≡ events_along at id (fences_of (guards_of (take n guards))) (take n ts) ++ events_along at id (fences_of (guards_of (drop n guards))) (drop n ts)
 told-parts at id zero guards ts = refl
 told-parts at id (suc n) [] ts = refl
-told-parts at id (suc n) (g ∷ guards) [] = sym (none_along (drop n guards))
-  where
-    none_along : (l : List Guarded) → events_along at id (fences_of (guards_of l)) [] ≡ []
-    none_along [] = refl
-    none_along (x ∷ l) = refl
+told-parts at id (suc n) (g ∷ guards) [] = sym (none-told at id (drop n guards))
 told-parts at id (suc n) (g ∷ guards) (t ∷ ts) =
     ap (λ (l : List Event). event_by at id g.fence t ++ l) (told-parts at id n guards ts)
     ∙ sym (append_assoc (event_by at id g.fence t) (events_along at id (fences_of (guards_of (take n guards))) (take n ts)) (events_along at id (fences_of (guards_of (drop n guards))) (drop n ts)))
 
-as_is : (id : ℕ) (guards : List Guard) → guards_along id guards [] ≡ guards
+pub as_is : (id : ℕ) (guards : List Guard) → guards_along id guards [] ≡ guards
 as_is id [] = refl
 as_is id (g ∷ guards) = refl
 
@@ -91,11 +131,7 @@ room-take (suc n) (g ∷ guards) (t ∷ ts) room = (room.0, room-take n guards t
 pub room-drop : (n : ℕ) (guards : List Guarded) (ts : List (Option Crossing)) → HaveRoom guards ts → HaveRoom (drop n guards) (drop n ts)
 room-drop zero guards ts room = room
 room-drop (suc n) [] ts room = tt
-room-drop (suc n) (g ∷ guards) [] room = nothing_comes (drop n guards)
-  where
-    nothing_comes : (l : List Guarded) → HaveRoom l []
-    nothing_comes [] = tt
-    nothing_comes (x ∷ l) = tt
+room-drop (suc n) (g ∷ guards) [] room = no-room (drop n guards)
 room-drop (suc n) (g ∷ guards) (t ∷ ts) room = room-drop n guards ts room.1
 
 pub room-append : (n : ℕ) (xs ys : List Guarded) (ts : List (Option Crossing)) → length xs ≡ n → HaveRoom xs (take n ts) → HaveRoom ys (drop n ts) → HaveRoom (xs ++ ys) ts
@@ -119,9 +155,6 @@ told-none at id (g ∷ guards) (None ∷ ts) e = told-none at id guards ts e
 told-none at id (g ∷ guards) (Some c ∷ ts) e = absurd (omega (arith, e))
 
 -- what both parts come to
-pub same-parts : (n : ℕ) (guards these others : List Guarded) → guards_of these ≡ guards_of (take n guards) → guards_of others ≡ guards_of (drop n guards) → guards_of (these ++ others) ≡ guards_of guards
-same-parts n guards these others near far = map-append guard_of these others ∙ (λ i. near i ++ far i) ∙ sym (halves n guards)
-
 pub crossed-parts : (id n : ℕ) (guards these others : List Guarded) (ts near far : List (Option Crossing)) → near ≡ take n ts → far ≡ drop n ts → guards_of these ≡ guards_along id (guards_of (take n guards)) near
     → guards_of others ≡ guards_along id (guards_of (drop n guards)) far → guards_of (these ++ others) ≡ guards_along id (guards_of guards) ts
 crossed-parts id n guards these others ts near far is_near is_far front back =
@@ -134,40 +167,12 @@ pub told-both : (at id n : ℕ) (guards : List Guarded) (ts near far : List (Opt
 told-both at id n guards ts near far is_near is_far =
     (λ i. events_along at id (fences_of (guards_of (take n guards))) (is_near i) ++ events_along at id (fences_of (guards_of (drop n guards))) (is_far i)) ∙ sym (told-parts at id n guards ts)
 
-pub told-length : (at id n : ℕ) (guards : List Guarded) (ts near far : List (Option Crossing)) → near ≡ take n ts → far ≡ drop n ts
-    → length (events_along at id (fences_of (guards_of (take n guards))) near) + length (events_along at id (fences_of (guards_of (drop n guards))) far) ≡ length (events_along at id (fences_of (guards_of guards)) ts)
-told-length at id n guards ts near far is_near is_far =
-    let both_told = ap length (told-both at id n guards ts near far is_near is_far) in
-    omega (arith, both_told, length-append {A = Event})
-
--- how many fences there are
-guards-length : (guards : List Guarded) → length (fences_of (guards_of guards)) ≡ length guards
-guards-length [] = refl
-guards-length (g ∷ guards) = ap suc (guards-length guards)
-
-pub sides-of : (before after : Option Point) (guards same : List Guarded) (p : Passage) → same ≡ guards → ShowsPassage before after (fences_of (guards_of guards)) p → IsOfLength (length same) p
-sides-of before after guards same p is shows =
-    let there : length (fences_of (guards_of guards)) ≡ length same = guards-length guards ∙ ap length (sym is) in
-    record {
-      before_column = shows.before.column ∙ there;
-      before_line = shows.before.line ∙ there;
-      after_column = shows.after.column ∙ there;
-      after_line = shows.after.line ∙ there;
-    }
-
-pub few-of : (guards same : List Guarded) → same ≡ guards → length (fences_of (guards_of guards)) ≤ most_fences → length same ≤ most_fences
-few-of guards same is few = omega (arith, few, guards-length guards, ap length is)
-
 -- the same of parts that make up the whole
 front-part : (n : ℕ) (guards xs ys : List Guarded) → guards ≡ xs ++ ys → length xs ≡ n → take n guards ≡ xs
 front-part n guards xs ys is len = ap (take n) is ∙ ap (λ k. take k (xs ++ ys)) (sym len) ∙ take-append_seam xs ys
 
 back-part : (n : ℕ) (guards xs ys : List Guarded) → guards ≡ xs ++ ys → length xs ≡ n → drop n guards ≡ ys
 back-part n guards xs ys is len = ap (drop n) is ∙ ap (λ k. drop k (xs ++ ys)) (sym len) ∙ drop-append_seam xs ys
-
-pub both-same : (guards xs ys these others : List Guarded) → guards ≡ xs ++ ys → guards_of these ≡ guards_of xs → guards_of others ≡ guards_of ys → guards_of (these ++ others) ≡ guards_of guards
-both-same guards xs ys these others is near far =
-    map-append guard_of these others ∙ (λ i. near i ++ far i) ∙ sym (map-append guard_of xs ys) ∙ ap guards_of (sym is)
 
 pub room-both : {E : Type 0} (r : Result (Unit {0}) E) (n : ℕ) (these others : List Guarded) (ts near far : List (Option Crossing)) → near ≡ take n ts → far ≡ drop n ts → length these ≡ n → HaveRoom these near → OnOk r (HaveRoom others far) → OnOk r (HaveRoom (these ++ others) ts)
 room-both (Ok x) n these others ts near far is_near is_far len front back = room-append n these others ts len (subst (HaveRoom these) is_near front) (subst (HaveRoom others) is_far back)
@@ -204,8 +209,3 @@ crossed-of id n guards xs ys these others ts near far is len is_near is_far fron
     crossed-parts id n guards these others ts near far is_near is_far
     (front ∙ ap (λ (l : List Guarded). guards_along id (guards_of l) near) (sym (front-part n guards xs ys is len)))
     (back ∙ ap (λ (l : List Guarded). guards_along id (guards_of l) far) (sym (back-part n guards xs ys is len)))
-
-pub length-others : (n all : ℕ) (guards xs ys : List Guarded) (far : Passage) → guards ≡ xs ++ ys → length xs ≡ n → all ≡ length guards → IsOfLength (all - n) far → IsOfLength (length ys) far
-length-others n all guards xs ys far is len same sides =
-    let e : all - n ≡ length ys = omega (arith, same, ap length is, len, length-append xs ys) in
-    subst (λ k. IsOfLength k far) e sides

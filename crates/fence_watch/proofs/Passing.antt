@@ -1,24 +1,24 @@
 -- What the rows of two places tell of the fences that are crossed between them.
-use Rattle.std.proofs.Common.{◌≡◌, ℕ, suc, ◌≤◌, ◌<◌, ◌+◌, Bool, true, false, List, [], ◌∷◌, ◌++◌, length, map, Option, Some, None, refl, sym, ◌∙◌, ap, subst, arith, cond, ◌&&◌, append-nil, take, drop}
-use Rattle.std.proofs.lemmas.List.{take-append-le, take_all}
+use Rattle.std.proofs.Common.{◌≡◌, ℕ, zero, suc, ◌≤◌, ◌<◌, ◌+◌, Bool, true, false, List, [], ◌∷◌, ◌++◌, length, map, Option, Some, None, refl, sym, ◌∙◌, ap, subst, arith, cond, ◌&&◌, append-nil, take, drop}
+use Rattle.std.proofs.lemmas.List.{take-append-le, take_all, length-map}
 use Rattle.std.specs.Prelude.{nat_le}
 use Rattle.zorder.specs.declared.points.Point.{Point}
 use Rattle.fence_watch.specs.declared.fences.Fence.{Fence}
 use Rattle.fence_watch.specs.declared.fences.Event.{Event}
 use Rattle.fence_watch.specs.declared.fences.Crossing.{Crossing}
 use Rattle.fence_watch.specs.declared.fences.Crossing.TheVariants.{Enter, Leave}
-use Rattle.fence_watch.specs.declared.slabs.Span.{Span}
 use Rattle.fence_watch.specs.declared.guards.Guarded.{Guarded}
 use Rattle.fence_watch.specs.declared.passages.Chart.{Chart}
-use Rattle.fence_watch.specs.declared.passages.Sides.{Sides}
-use Rattle.fence_watch.specs.declared.passages.Passage.{Passage}
+use Rattle.fence_watch.specs.declared.passages.Pair.{Pair}
 use Rattle.fence_watch.specs.Fences.{lies_in, most_fences}
 use Rattle.fence_watch.specs.Slabs.{row_at}
+use Rattle.fence_watch.specs.Marks.{marks_of, filled, all_marks}
+use Rattle.fence_watch.proofs.MarkLemmas.{both-all, turns-all}
 use Rattle.fence_watch.specs.Crossings.{crossings_of, crossings_by}
 use Rattle.recovery.specs.declared.walked.Walked.{Walked}
 use Rattle.recovery.specs.Walks.{object_of}
 use Rattle.fence_watch.specs.Watches.{Guard, WatchView, fences_of, guard_behind, with_id, without_id, has_id, HoldsBefore, events_by, Steps, IsOver, most_events}
-use Rattle.fence_watch.specs.Passages.{turn, both, turns, turns_of, count_turns, event_by, events_along, turn_at, column_of, line_of, Charts, Shows, ShowsPassage}
+use Rattle.fence_watch.specs.Passages.{turn, both, turns, turns_of, count_turns, event_by, events_along, turn_at, all_turns, column_of, line_of, Charts, ShowsPassage}
 use Rattle.fence_watch.specs.Guards.{AreRising, AllRising, behind_by, guards_of, guards_along}
 use Rattle.fence_watch.specs.Kept.{Keeps}
 use Rattle.fence_watch.proofs.RisingIds.{rising-with_id, rising-without_id}
@@ -34,40 +34,55 @@ marks-some p [] = refl
 marks-some p (f ∷ fences) = λ i.
     and-regroup (nat_le f.region.lo.x p.x) (nat_le p.x f.region.hi.x) (nat_le f.region.lo.y p.y) (nat_le p.y f.region.hi.y) i ∷ marks-some p fences i
 
-marks-none : (fences : List Fence) → both (map (λ (f : Fence). false) fences) (map (λ (f : Fence). false) fences) ≡ map (λ (f : Fence). lies_in f None) fences
-marks-none [] = refl
-marks-none (f ∷ fences) = ap (λ (l : List Bool). false ∷ l) (marks-none fences)
+-- the marks of a place, or of none
+pub marks-place : (p : Point) (fences : List Fence) (column line : List ℕ) → marks_of column ≡ all_marks (row_at p.x (map column_of fences)) → marks_of line ≡ all_marks (row_at p.y (map line_of fences))
+    → both (marks_of column) (marks_of line) ≡ all_marks (map (λ (f : Fence). lies_in f (Some p)) fences)
+marks-place p fences column line is_column is_line =
+    (λ i. both (is_column i) (is_line i)) ∙ both-all (row_at p.x (map column_of fences)) (row_at p.y (map line_of fences)) ∙ ap all_marks (marks-some p fences)
 
-length-row : (at : ℕ) (axis : Fence → Span) (fences : List Fence) → length (row_at at (map axis fences)) ≡ length fences
-length-row at axis [] = refl
-length-row at axis (f ∷ fences) = ap suc (length-row at axis fences)
+pub shows-places : (before after : Option Point) (fences : List Fence) (was is : List ℕ) (passage : List Pair) → turns_of passage ≡ turns (marks_of was) (marks_of is)
+    → marks_of was ≡ all_marks (map (λ (f : Fence). lies_in f before) fences) → marks_of is ≡ all_marks (map (λ (f : Fence). lies_in f after) fences) → ShowsPassage before after fences passage
+shows-places before after fences was is passage pairs here there =
+    pairs ∙ (λ i. turns (here i) (there i)) ∙ turns-all (λ (f : Fence). lies_in f before) (λ (f : Fence). lies_in f after) fences
 
-length-nowhere : (fences : List Fence) → length (map (λ (f : Fence). false) fences) ≡ length fences
-length-nowhere [] = refl
-length-nowhere (f ∷ fences) = ap suc (length-nowhere fences)
+-- turns that are filled up tell of no more than the fences that there are
+along-filled : (id n : ℕ) (before after : Option Point) (guards : List Guard) → length (fences_of guards) ≤ n
+    → guards_along id guards (filled None n (map (turn_at before after) (fences_of guards))) ≡ guards_along id guards (map (turn_at before after) (fences_of guards))
+along-filled id n before after [] few = refl
+along-filled id zero before after (g ∷ guards) few = absurd (omega (arith, few))
+along-filled id (suc n) before after (g ∷ guards) few =
+    ap (λ (l : List Guard). behind_by id g (turn_at before after g.fence) ∷ l) (along-filled id n before after guards (omega (arith, few)))
 
--- rows of a place, or of none, show it
-pub shows-some : (p : Point) (fences : List Fence) (s : Sides) → s.column.now ≡ row_at p.x (map column_of fences) → s.line.now ≡ row_at p.y (map line_of fences) → Shows (Some p) fences s
-shows-some p fences s column line = record {
-  column = ap length column ∙ length-row p.x column_of fences;
-  line = ap length line ∙ length-row p.y line_of fences;
-  marks = (λ i. both (column i) (line i)) ∙ marks-some p fences;
-}
+told-filled : (at id n : ℕ) (before after : Option Point) (fences : List Fence) → length fences ≤ n
+    → events_along at id fences (filled None n (map (turn_at before after) fences)) ≡ events_along at id fences (map (turn_at before after) fences)
+told-filled at id n before after [] few = refl
+told-filled at id zero before after (f ∷ fences) few = absurd (omega (arith, few))
+told-filled at id (suc n) before after (f ∷ fences) few =
+    ap (λ (l : List Event). event_by at id f (turn_at before after f) ++ l) (told-filled at id n before after fences (omega (arith, few)))
 
-pub shows-none : (fences : List Fence) (s : Sides) → s.column.now ≡ map (λ (f : Fence). false) fences → s.line.now ≡ map (λ (f : Fence). false) fences → Shows None fences s
-shows-none fences s column line = record {
-  column = ap length column ∙ length-nowhere fences;
-  line = ap length line ∙ length-nowhere fences;
-  marks = (λ i. both (column i) (line i)) ∙ marks-none fences;
-}
+none-more : (n : ℕ) → count_turns (filled None n []) ≡ 0
+none-more zero = refl
+none-more (suc n) = none-more n
 
--- how each fence is crossed
-turns-map : (before after : Option Point) (fences : List Fence) → turns (map (λ (f : Fence). lies_in f before) fences) (map (λ (f : Fence). lies_in f after) fences) ≡ map (turn_at before after) fences
-turns-map before after [] = refl
-turns-map before after (f ∷ fences) = ap (λ (l : List (Option Crossing)). turn_at before after f ∷ l) (turns-map before after fences)
+count-filled : (n : ℕ) (ts : List (Option Crossing)) → length ts ≤ n → count_turns (filled None n ts) ≡ count_turns ts
+count-filled n [] few = none-more n
+count-filled zero (t ∷ ts) few = absurd (omega (arith, few))
+count-filled (suc n) (None ∷ ts) few = count-filled n ts (omega (arith, few))
+count-filled (suc n) (Some c ∷ ts) few = omega (arith, count-filled n ts (omega (arith, few)))
 
-pub turns-shown : (before after : Option Point) (fences : List Fence) (p : Passage) → ShowsPassage before after fences p → turns_of p ≡ map (turn_at before after) fences
-turns-shown before after fences p shows = (λ i. turns (shows.before.marks i) (shows.after.marks i)) ∙ turns-map before after fences
+along-all : (id : ℕ) (before after : Option Point) (guards : List Guard) → length (fences_of guards) ≤ most_fences
+    → guards_along id guards (all_turns (map (turn_at before after) (fences_of guards))) ≡ guards_along id guards (map (turn_at before after) (fences_of guards))
+unfolding all_turns
+along-all id before after guards few = along-filled id 256 before after guards few
+
+told-all : (at id : ℕ) (before after : Option Point) (fences : List Fence) → length fences ≤ most_fences
+    → events_along at id fences (all_turns (map (turn_at before after) fences)) ≡ events_along at id fences (map (turn_at before after) fences)
+unfolding all_turns
+told-all at id before after fences few = told-filled at id 256 before after fences few
+
+count-all : (ts : List (Option Crossing)) → length ts ≤ most_fences → count_turns (all_turns ts) ≡ count_turns ts
+unfolding all_turns
+count-all ts few = count-filled 256 ts few
 
 one-event : (at id : ℕ) (f : Fence) (was is : Bool)
     → event_by at id f (turn was is) ≡ cond was (cond is [] (record { at = at; crossing = Leave; id = id; fence = f.id } ∷ [])) (cond is (record { at = at; crossing = Enter; id = id; fence = f.id } ∷ []) [])
@@ -92,15 +107,15 @@ guards-map id before after [] = refl
 guards-map id before after (g ∷ guards) = λ i. one-guard id g (lies_in g.fence before) (lies_in g.fence after) i ∷ guards-map id before after guards i
 
 -- what happens along a passage that shows two places
-pub events-shown : (at id : ℕ) (o : Option ℕ) (before after : Option Point) (fences : List Fence) (p : Passage) → o ≡ Some id → ShowsPassage before after fences p
+pub events-shown : (at id : ℕ) (o : Option ℕ) (before after : Option Point) (fences : List Fence) (p : List Pair) → o ≡ Some id → length fences ≤ most_fences → ShowsPassage before after fences p
     → events_along at id fences (turns_of p) ≡ crossings_by at o before after fences
-events-shown at id o before after fences p is shows =
-    ap (events_along at id fences) (turns-shown before after fences p shows) ∙ events-map at id before after fences ∙ ap (λ (x : Option ℕ). crossings_by at x before after fences) (sym is)
+events-shown at id o before after fences p is few shows =
+    ap (events_along at id fences) shows ∙ told-all at id before after fences few ∙ events-map at id before after fences ∙ ap (λ (x : Option ℕ). crossings_by at x before after fences) (sym is)
 
-pub guards-shown : (id : ℕ) (o : Option ℕ) (before after : Option Point) (guards : List Guard) (p : Passage) → o ≡ Some id → ShowsPassage before after (fences_of guards) p
+pub guards-shown : (id : ℕ) (o : Option ℕ) (before after : Option Point) (guards : List Guard) (p : List Pair) → o ≡ Some id → length (fences_of guards) ≤ most_fences → ShowsPassage before after (fences_of guards) p
     → guards_along id guards (turns_of p) ≡ map (guard_behind o before after) guards
-guards-shown id o before after guards p is shows =
-    ap (guards_along id guards) (turns-shown before after (fences_of guards) p shows) ∙ guards-map id before after guards ∙ ap (λ (x : Option ℕ). map (guard_behind x before after) guards) (sym is)
+guards-shown id o before after guards p is few shows =
+    ap (guards_along id guards) shows ∙ along-all id before after guards few ∙ guards-map id before after guards ∙ ap (λ (x : Option ℕ). map (guard_behind x before after) guards) (sym is)
 
 count-events : (at id : ℕ) (before after : Option Point) (fences : List Fence) → count_turns (map (turn_at before after) fences) ≡ length (events_along at id fences (map (turn_at before after) fences))
 count-events at id before after [] = refl
@@ -113,11 +128,12 @@ count-events at id before after (f ∷ fences) = by_turn (turn_at before after f
     by_turn None e = e
     by_turn (Some c) e = let one : count_turns ts + 1 ≡ suc (length (events_along at id fences ts)) = omega (arith, e) in one
 
-pub count-shown : (at id : ℕ) (o : Option ℕ) (before after : Option Point) (fences : List Fence) (p : Passage) → o ≡ Some id → ShowsPassage before after fences p
+pub count-shown : (at id : ℕ) (o : Option ℕ) (before after : Option Point) (fences : List Fence) (p : List Pair) → o ≡ Some id → length fences ≤ most_fences → ShowsPassage before after fences p
     → count_turns (turns_of p) ≡ length (crossings_by at o before after fences)
-count-shown at id o before after fences p is shows =
-    ap count_turns (turns-shown before after fences p shows) ∙ count-events at id before after fences
-    ∙ ap length (ap (events_along at id fences) (sym (turns-shown before after fences p shows)) ∙ events-shown at id o before after fences p is shows)
+count-shown at id o before after fences p is few shows =
+    let len : length (map (turn_at before after) fences) ≡ length fences = length-map fences (turn_at before after) in
+    ap count_turns shows ∙ count-all (map (turn_at before after) fences) (omega (arith, len, few)) ∙ count-events at id before after fences
+    ∙ ap length (events-map at id before after fences ∙ ap (λ (x : Option ℕ). crossings_by at x before after fences) (sym is))
 
 -- where no fence is crossed nothing changes
 pub none-events : (events : List Event) → length events ≡ 0 → events ≡ []
@@ -152,31 +168,31 @@ rising-behind (Some id) before after (g ∷ guards) holds rising =
     one false false has = rising.0
 
 -- what a passage that shows both places of a step tells of its events and of the guards behind it
-pub record Counted (walked : Walked) (id : ℕ) (guards : List Guard) (p : Passage) : Type 0 where
+pub record Counted (walked : Walked) (id : ℕ) (guards : List Guard) (p : List Pair) : Type 0 where
   pub count : count_turns (turns_of p) ≡ length (events_by walked guards)
   pub told : events_along walked.at id (fences_of guards) (turns_of p) ≡ events_by walked guards
   pub behind : guards_along id guards (turns_of p) ≡ map (guard_behind (object_of walked.cell) walked.before walked.after) guards
 
-pub counted : (walked : Walked) (id : ℕ) (guards : List Guard) (p : Passage) → object_of walked.cell ≡ Some id → ShowsPassage walked.before walked.after (fences_of guards) p → Counted walked id guards p
-counted walked id guards p is shows = record {
-  count = count-shown walked.at id (object_of walked.cell) walked.before walked.after (fences_of guards) p is shows;
-  told = events-shown walked.at id (object_of walked.cell) walked.before walked.after (fences_of guards) p is shows;
-  behind = guards-shown id (object_of walked.cell) walked.before walked.after guards p is shows;
+pub counted : (walked : Walked) (id : ℕ) (guards : List Guard) (p : List Pair) → object_of walked.cell ≡ Some id → length (fences_of guards) ≤ most_fences → ShowsPassage walked.before walked.after (fences_of guards) p → Counted walked id guards p
+counted walked id guards p is few shows = record {
+  count = count-shown walked.at id (object_of walked.cell) walked.before walked.after (fences_of guards) p is few shows;
+  told = events-shown walked.at id (object_of walked.cell) walked.before walked.after (fences_of guards) p is few shows;
+  behind = guards-shown id (object_of walked.cell) walked.before walked.after guards p is few shows;
 }
 
 -- where no fence is crossed the watch stays as it is
-pub stays : (walked : Walked) (id : ℕ) (v : WatchView) (p : Passage) → Counted walked id v.guards p → count_turns (turns_of p) ≡ 0 → Steps walked v v
-stays walked id v p k zero =
-    let none : events_by walked v.guards ≡ [] = none-events (events_by walked v.guards) (sym k.count ∙ zero) in
+pub stays : (walked : Walked) (id : ℕ) (v : WatchView) (p : List Pair) → Counted walked id v.guards p → count_turns (turns_of p) ≡ 0 → Steps walked v v
+stays walked id v p k crossed =
+    let none : events_by walked v.guards ≡ [] = none-events (events_by walked v.guards) (sym k.count ∙ crossed) in
     record {
       events = sym (append-nil v.events) ∙ ap (λ (l : List Event). v.events ++ l) (sym none);
-      guards = sym (none-guards id v.guards (turns_of p) zero) ∙ k.behind;
+      guards = sym (none-guards id v.guards (turns_of p) crossed) ∙ k.behind;
     }
 
-pub not-over : (walked : Walked) (id crossed : ℕ) (v : WatchView) (p : Passage) → Counted walked id v.guards p → crossed ≡ count_turns (turns_of p) → length v.events + crossed ≤ most_events → IsOver walked v → ⊥
+pub not-over : (walked : Walked) (id crossed : ℕ) (v : WatchView) (p : List Pair) → Counted walked id v.guards p → crossed ≡ count_turns (turns_of p) → length v.events + crossed ≤ most_events → IsOver walked v → ⊥
 not-over walked id crossed v p k counts fits over = omega (arith, k.count, counts, fits, over)
 
-pub is-over : (walked : Walked) (id crossed : ℕ) (v : WatchView) (p : Passage) → Counted walked id v.guards p → crossed ≡ count_turns (turns_of p) → most_events < length v.events + crossed → IsOver walked v
+pub is-over : (walked : Walked) (id crossed : ℕ) (v : WatchView) (p : List Pair) → Counted walked id v.guards p → crossed ≡ count_turns (turns_of p) → most_events < length v.events + crossed → IsOver walked v
 is-over walked id crossed v p k counts past = omega (arith, k.count, counts, past)
 
 -- what a step leaves
@@ -184,7 +200,7 @@ pub record Passed (walked : Walked) (before : List Guard) (told : List Event) (n
   pub guards : guards_of new ≡ map (guard_behind (object_of walked.cell) walked.before walked.after) before
   pub events : now ≡ told ++ events_by walked before
 
-pub passed_by : (walked : Walked) (id : ℕ) (old same : List Guarded) (told : List Event) (new : List Guarded) (events : List Event) (p : Passage) → same ≡ old → Counted walked id (guards_of old) p
+pub passed_by : (walked : Walked) (id : ℕ) (old same : List Guarded) (told : List Event) (new : List Guarded) (events : List Event) (p : List Pair) → same ≡ old → Counted walked id (guards_of old) p
     → guards_of new ≡ guards_along id (guards_of same) (turns_of p) → events ≡ told ++ events_along walked.at id (fences_of (guards_of same)) (turns_of p) → Passed walked (guards_of old) told new events
 passed_by walked id old same told new events p is k behind said = record {
   guards = behind ∙ ap (λ (l : List Guarded). guards_along id (guards_of l) (turns_of p)) is ∙ k.behind;

@@ -1,5 +1,5 @@
 -- What the edge before a number tells of it.
-use Rattle.std.proofs.Common.{◌≡◌, ℕ, zero, suc, ◌≤◌, ◌<◌, ◌+◌, ◌-◌, ◌^◌, Bool, true, false, List, [], ◌∷◌, ◌++◌, Vec, Global, length, map, take, get_or, refl, sym, ◌∙◌, ap, arith, ◌&&◌, cond, append_assoc, append-nil, add-one}
+use Rattle.std.proofs.Common.{◌≡◌, ℕ, zero, suc, ◌≤◌, ◌<◌, ◌+◌, ◌-◌, ◌^◌, Bool, true, false, List, [], ◌∷◌, ◌++◌, length, map, take, get_or, refl, sym, ◌∙◌, ap, arith, ◌&&◌, cond, append_assoc, append-nil, add-one}
 use Rattle.std.specs.Prelude.{nat_le, nat_lt}
 use Rattle.std.specs.List.{Contains}
 use Rattle.std.specs.List.Sorted.{IsNonDecreasing, IsPermutation}
@@ -8,6 +8,7 @@ use Rattle.std.proofs.lemmas.Bool.Decides.{nat_tests}
 use Rattle.std.proofs.lemmas.List.Elements.{Contains-append_left, Contains-append_right}
 use Rattle.std.proofs.lemmas.List.Sorted.{Contains-permutation}
 use Rattle.fence_watch.specs.declared.slabs.Span.{Span}
+use Rattle.fence_watch.specs.Marks.{marks_of, all_marks}
 use Rattle.fence_watch.specs.Slabs.{spans, row_at, own_edges, edges_of, TellSpans, IsSlabOf}
 
 -- the edges of one span more
@@ -66,9 +67,6 @@ comes-before edges at behind v cut there le = (there.0, by_test (nat_le behind t
         absurd (omega (arith, after, there.2, le))
     by_test false e = above behind there.0 e
 
-pub some-before : (edges : List ℕ) (at behind : ℕ) → IsCut edges at behind → Contains edges 0 → 0 < behind
-some-before edges at behind cut there = let k = comes-before edges at behind 0 cut there (omega arith) in omega (arith, k.1)
-
 -- the last edge before it is at least each such edge
 pub last-before : (edges : List ℕ) (at behind v d : ℕ) → IsNonDecreasing edges → IsCut edges at behind → Contains edges v → v ≤ at → v ≤ get_or edges (behind - 1) d
 last-before edges at behind v d sorted cut there le =
@@ -107,35 +105,18 @@ row-same (s ∷ list) edges at behind d fits sorted cut some all =
     λ i. slab-same s edge at here i ∷ row-same list edges at behind d fits sorted cut some (λ v there. all v (Contains-append_right (own_edges s) (edges_of list) v there)) i
 
 -- the row at an index, where rows are those of the edges
-pub row-at : (list : List Span) (edges : List ℕ) (rows : List (Vec Bool Global)) (i d : ℕ) (e : Vec Bool Global)
-    → map (λ (row : Vec Bool Global). row.items) rows ≡ map (λ edge. row_at edge list) edges → i < length edges → (get_or rows i e).items ≡ row_at (get_or edges i d) list
+pub row-at : (list : List Span) (edges : List ℕ) (rows : List (List ℕ)) (i d : ℕ) (e : List ℕ)
+    → map marks_of rows ≡ map (λ edge. all_marks (row_at edge list)) edges → i < length edges → marks_of (get_or rows i e) ≡ all_marks (row_at (get_or edges i d) list)
 row-at list [] rows i d e told lt = absurd (omega (arith, lt))
 row-at list (x ∷ edges) [] i d e told lt = absurd (cc told)
 row-at list (x ∷ edges) (r ∷ rows) zero d e told lt = cc told
 row-at list (x ∷ edges) (r ∷ rows) (suc i) d e told lt = row-at list edges rows i d e (cc told) (omega (arith, lt))
 
-pub same-length : (list : List Span) (edges : List ℕ) (rows : List (Vec Bool Global)) → map (λ (row : Vec Bool Global). row.items) rows ≡ map (λ edge. row_at edge list) edges → length rows ≡ length edges
+pub same-length : (list : List Span) (edges : List ℕ) (rows : List (List ℕ)) → map marks_of rows ≡ map (λ edge. all_marks (row_at edge list)) edges → length rows ≡ length edges
 same-length list [] [] told = refl
 same-length list [] (r ∷ rows) told = absurd (cc told)
 same-length list (x ∷ edges) [] told = absurd (cc told)
 same-length list (x ∷ edges) (r ∷ rows) told = ap suc (same-length list edges rows (cc told))
-
--- what slabs tell of a number
-pub record Finds (list : List Span) (rows : List (Vec Bool Global)) (at behind : ℕ) : Type 0 where
-  pub some : 0 < behind
-  pub within : behind ≤ length rows
-  pub is : (e : Vec Bool Global) → (get_or rows (behind - 1) e).items ≡ row_at at list
-
-pub finds : (list : List Span) (edges : List ℕ) (rows : List (Vec Bool Global)) (at behind : ℕ) → TellSpans list edges rows → at < 2 ^ 32 → IsCut edges at behind → Finds list rows at behind
-finds list edges rows at behind tell fits cut =
-    let there : (v : ℕ) → Contains (0 ∷ edges_of list) v → Contains edges v = λ v. Contains-permutation (0 ∷ edges_of list) edges v tell.all in
-    let some : 0 < behind = some-before edges at behind cut (there 0 (0, omega arith, refl)) in
-    record {
-      some = some;
-      within = omega (arith, cut.within, same-length list edges rows tell.told);
-      is = λ e. row-at list edges rows (behind - 1) 0 e tell.told (omega (arith, some, cut.within))
-          ∙ row-same list edges at behind 0 fits tell.sorted cut some (λ v own. there v (Contains-append_right (0 ∷ []) (edges_of list) v own));
-    }
 
 to-le : (a b : ℕ) → a ≤ b → nat_le a b ≡ true
 to-le a b le = grind (arith, nat_tests)
@@ -158,14 +139,6 @@ cut-of edges at slab sorted is = record {
       to-not_le (get_or edges k d) at (omega (arith, rises, same, next));
 }
 
--- the row of a number's slab is that of the number
-pub row-of : (list : List Span) (edges : List ℕ) (rows : List (Vec Bool Global)) (at slab : ℕ) (e : Vec Bool Global) → TellSpans list edges rows → at < 2 ^ 32
-    → IsSlabOf edges at slab → (get_or rows slab e).items ≡ row_at at list
-row-of list edges rows at slab e tell fits is =
-    let found : Finds list rows at (slab + 1) = finds list edges rows at (slab + 1) tell fits (cut-of edges at slab tell.sorted is) in
-    let back : slab ≡ slab + 1 - 1 = omega arith in
-    ap (λ n. (get_or rows n e).items) back ∙ found.is e
-
 has-zero : (list : List Span) (edges : List ℕ) → IsPermutation (0 ∷ edges_of list) edges → Contains edges 0
 has-zero list edges all = Contains-permutation (0 ∷ edges_of list) edges 0 all (0, omega arith, refl)
 
@@ -178,3 +151,13 @@ first-edge list edges at sorted all =
     let there = has-zero list edges all in
     let rises : get_or edges 0 0 ≤ get_or edges there.0 0 = sorted 0 there.0 0 (omega arith) there.1 in
     omega (arith, rises, there.2)
+
+-- the row of a number's slab is that of the number
+pub row-of : (list : List Span) (edges : List ℕ) (rows : List (List ℕ)) (at slab : ℕ) (e : List ℕ) → TellSpans list edges rows → at < 2 ^ 32
+    → IsSlabOf edges at slab → marks_of (get_or rows slab e) ≡ all_marks (row_at at list)
+row-of list edges rows at slab e tell fits is =
+    let there : (v : ℕ) → Contains (0 ∷ edges_of list) v → Contains edges v = λ v. Contains-permutation (0 ∷ edges_of list) edges v tell.all in
+    let same : row_at (get_or edges (slab + 1 - 1) 0) list ≡ row_at at list =
+    row-same list edges at (slab + 1) 0 fits tell.sorted (cut-of edges at slab tell.sorted is) (omega arith) (λ v own. there v (Contains-append_right (0 ∷ []) (edges_of list) v own)) in
+    let back : slab ≡ slab + 1 - 1 = omega arith in
+    row-at list edges rows slab 0 e tell.told is.within ∙ ap (λ n. all_marks (row_at (get_or edges n 0) list)) back ∙ ap all_marks same

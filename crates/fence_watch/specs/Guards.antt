@@ -1,13 +1,13 @@
 -- Guards as they are kept, the room in them, and what crossings make of them.
-use Rattle.std.specs.Prelude.{ℕ, ◌+◌, ◌≤◌, ◌<◌, List, [], ◌∷◌, map, Option, Some, None, ⊤, vec_len, vec_capacity}
+use Rattle.std.specs.Prelude.{ℕ, ◌+◌, ◌≤◌, ◌<◌, List, [], ◌∷◌, length, map, Option, Some, None, ⊤, vec_len, vec_capacity}
 use Rattle.std.specs.List.{AllByRecursion}
 use Rattle.fence_watch.specs.declared.fences.Crossing.{Crossing}
 use Rattle.fence_watch.specs.declared.fences.Crossing.TheVariants.{Enter, Leave}
 use Rattle.fence_watch.specs.declared.fences.Event.{Event}
 use Rattle.fence_watch.specs.declared.guards.Guarded.{Guarded}
 use Rattle.fence_watch.specs.declared.guards.Step.{Step}
-use Rattle.fence_watch.specs.declared.passages.Passage.{Passage}
-use Rattle.fence_watch.specs.Passages.{turns_of, events_along}
+use Rattle.fence_watch.specs.declared.passages.Pair.{Pair}
+use Rattle.fence_watch.specs.Passages.{turns_in, turns_of, events_along}
 use Rattle.fence_watch.specs.Watches.{Guard, fences_of, with_id, without_id}
 
 -- each id is above those before it
@@ -48,8 +48,15 @@ HaveRoom (g ∷ guards) [] = ⊤
 HaveRoom (g ∷ guards) (t ∷ ts) = HasRoom g t × HaveRoom guards ts
 
 -- what a step along a passage makes of guards, and what it tells
-abbrev pub crossed_by : Step → List Guarded → Passage → List Guard
+abbrev pub crossed_by : Step → List Guarded → List Pair → List Guard
 crossed_by step guards passage = guards_along step.id (guards_of guards) (turns_of passage)
 
-abbrev pub told_by : Step → List Guarded → Passage → List Event
+abbrev pub told_by : Step → List Guarded → List Pair → List Event
 told_by step guards passage = events_along step.at step.id (fences_of (guards_of guards)) (turns_of passage)
+
+-- the same of as few guards as two words have bits
+abbrev pub crossed_in : Step → List Guarded → Pair → List Guard
+crossed_in step guards p = guards_along step.id (guards_of guards) (turns_in (length guards) p)
+
+abbrev pub told_in : Step → List Guarded → Pair → List Event
+told_in step guards p = events_along step.at step.id (fences_of (guards_of guards)) (turns_in (length guards) p)

@@ -3,6 +3,7 @@ pub mod FenceRows
 pub mod FenceExamples
 pub mod Crossings
 pub mod Watches
+pub mod Marks
 pub mod Slabs
 pub mod Passages
 pub mod Guards

@@ -1,5 +1,5 @@
 -- How fences are crossed between two places, fence by fence.
-use Rattle.std.specs.Prelude.{◌≡◌, ◌+◌, ◌&&◌, ℕ, Bool, true, false, List, [], ◌∷◌, ◌++◌, length, map, Option, Some, None}
+use Rattle.std.specs.Prelude.{◌≡◌, ◌+◌, ◌&&◌, ℕ, Bool, true, false, List, [], ◌∷◌, ◌++◌, map, Option, Some, None}
 use Rattle.zorder.specs.declared.points.Point.{Point}
 use Rattle.fence_watch.specs.declared.fences.Fence.{Fence}
 use Rattle.fence_watch.specs.declared.fences.Event.{Event}
@@ -7,9 +7,9 @@ use Rattle.fence_watch.specs.declared.fences.Crossing.{Crossing}
 use Rattle.fence_watch.specs.declared.fences.Crossing.TheVariants.{Enter, Leave}
 use Rattle.fence_watch.specs.declared.slabs.Span.{Span}
 use Rattle.fence_watch.specs.declared.passages.Chart.{Chart}
-use Rattle.fence_watch.specs.declared.passages.Sides.{Sides}
-use Rattle.fence_watch.specs.declared.passages.Passage.{Passage}
+use Rattle.fence_watch.specs.declared.passages.Pair.{Pair}
 use Rattle.fence_watch.specs.Fences.{lies_in}
+use Rattle.fence_watch.specs.Marks.{marks_in, filled}
 
 -- how a fence is crossed by an object that was in it, or not, and is
 abbrev pub turn : Bool → Bool → Option Crossing
@@ -24,17 +24,27 @@ both (x ∷ xs) (y ∷ ys) = (x && y) ∷ both xs ys
 both (x ∷ xs) [] = []
 both [] ys = []
 
-abbrev pub marks_of : Sides → List Bool
-marks_of s = both s.column.now s.line.now
-
 -- how each fence is crossed
 abbrev pub turns : List Bool → List Bool → List (Option Crossing)
 turns (was ∷ before) (is ∷ after) = turn was is ∷ turns before after
 turns (was ∷ before) [] = []
 turns [] after = []
 
-abbrev pub turns_of : Passage → List (Option Crossing)
-turns_of p = turns (marks_of p.before) (marks_of p.after)
+-- how the fences of the lowest bits of two words are crossed
+abbrev pub turns_in : ℕ → Pair → List (Option Crossing)
+turns_in n p = turns (marks_in n p.was) (marks_in n p.is)
+
+-- the same of all bits
+unfoldable pub word_turns : Pair → List (Option Crossing)
+word_turns p = turns_in 64 p
+
+abbrev pub turns_of : List Pair → List (Option Crossing)
+turns_of [] = []
+turns_of (p ∷ passage) = word_turns p ++ turns_of passage
+
+-- a turn for each of the fences that there may be
+unfoldable pub all_turns : List (Option Crossing) → List (Option Crossing)
+all_turns ts = filled None 256 ts
 
 -- how many fences are crossed
 abbrev pub count_turns : List (Option Crossing) → ℕ
@@ -67,22 +77,7 @@ line_of f = record { from = f.region.lo.y; to = f.region.hi.y }
 pub record Charts (fences : List Fence) (c : Chart) : Type 0 where
   pub columns : c.columns ≡ map column_of fences
   pub lines : c.lines ≡ map line_of fences
-  pub nowhere : c.nowhere.items ≡ map (λ (f : Fence). false) fences
 
--- for each fence both rows have a mark, and both marks together tell whether the place lies in it
-pub record Shows (place : Option Point) (fences : List Fence) (s : Sides) : Type 0 where
-  pub column : length s.column.now ≡ length fences
-  pub line : length s.line.now ≡ length fences
-  pub marks : marks_of s ≡ map (λ (f : Fence). lies_in f place) fences
-
--- the same of both places of a passage
-pub record ShowsPassage (old new : Option Point) (fences : List Fence) (p : Passage) : Type 0 where
-  pub before : Shows old fences p.before
-  pub after : Shows new fences p.after
-
--- all four rows have this length
-pub record IsOfLength (n : ℕ) (p : Passage) : Type 0 where
-  pub before_column : length p.before.column.now ≡ n
-  pub before_line : length p.before.line.now ≡ n
-  pub after_column : length p.after.column.now ≡ n
-  pub after_line : length p.after.line.now ≡ n
+-- how each of these fences is crossed between two places
+abbrev pub ShowsPassage : (before after : Option Point) → List Fence → List Pair → Type 0
+ShowsPassage before after fences passage = turns_of passage ≡ all_turns (map (turn_at before after) fences)

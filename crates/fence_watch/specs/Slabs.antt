@@ -1,8 +1,8 @@
 -- Spans of numbers, and their edges.
-use Rattle.std.specs.Prelude.{◌≡◌, ◌+◌, ◌^◌, ◌≤◌, ◌<◌, ◌&&◌, nat_le, nat_lt, ℕ, Bool, List, [], ◌∷◌, ◌++◌, length, slice_index, map, Vec, if◌then◌else◌}
-use Rattle.std.specs.Global.{Global}
+use Rattle.std.specs.Prelude.{◌≡◌, ◌+◌, ◌^◌, ◌≤◌, ◌<◌, ◌&&◌, nat_le, nat_lt, ℕ, Bool, List, [], ◌∷◌, ◌++◌, length, slice_index, map, if◌then◌else◌}
 use Rattle.std.specs.List.Sorted.{IsNonDecreasing, IsPermutation}
 use Rattle.fence_watch.specs.declared.slabs.Span.{Span}
+use Rattle.fence_watch.specs.Marks.{marks_of, all_marks}
 
 -- whether a span has a number
 abbrev pub spans : ℕ → Span → Bool
@@ -21,10 +21,10 @@ edges_of [] = []
 edges_of (s ∷ list) = own_edges s ++ edges_of list
 
 -- the edges are 0 and those of the spans, in order, and for each there is a row that tells which of the spans have it
-pub record TellSpans (list : List Span) (edges : List ℕ) (rows : List (Vec Bool Global)) : Type 0 where
+pub record TellSpans (list : List Span) (edges : List ℕ) (rows : List (List ℕ)) : Type 0 where
   pub sorted : IsNonDecreasing edges
   pub all : IsPermutation (0 ∷ edges_of list) edges
-  pub told : map (λ (row : Vec Bool Global). row.items) rows ≡ map (λ edge. row_at edge list) edges
+  pub told : map marks_of rows ≡ map (λ edge. all_marks (row_at edge list)) edges
 
 -- the last of these edges, which rise, that is at most a number
 pub record IsSlabOf (edges : List ℕ) (at slab : ℕ) : Type 0 where

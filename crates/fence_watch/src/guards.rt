@@ -1,13 +1,12 @@
 //! Fences, each with the ids inside it.
 ghost use Rattle.std.specs.Prelude.{◌≡◌, ◌≤◌, ◌+◌, [], ◌++◌, length, map, Some};
 ghost use Rattle.std.specs.Prelude.{vec_len, vec_capacity, OnOk, OnErr, IfOk};
-ghost use Rattle.fence_watch.specs.Fences.{most_fences};
-ghost use Rattle.fence_watch.specs.Passages.{turns_of, event_by, IsOfLength};
-ghost use Rattle.fence_watch.specs.Guards.{AreRising, AllRising, guard_of, guards_of, behind_by, crossed_by, told_by, HaveRoom, HasRoom};
+ghost use Rattle.fence_watch.specs.Passages.{turns_in, turns_of, event_by};
+ghost use Rattle.fence_watch.specs.Guards.{AreRising, AllRising, guard_of, guards_of, behind_by, crossed_by, told_by, crossed_in, told_in, HaveRoom, HasRoom};
 
 use crate::fences::{Crossing, Event, Fence};
 use crate::ids::{put_id, take_id};
-use crate::passages::Passage;
+use crate::passages::Pair;
 use std::alloc::{AllocError, Global};
 
 // It has no view of its own, so that contracts see how much room there is.
@@ -23,9 +22,6 @@ pub(crate) struct Step {
     pub(crate) at: u64,
     pub(crate) id: u64,
 }
-
-/// So many fences are passed over at once, where none of them is crossed.
-const MOST_AT_ONCE: usize = 32;
 
 /// Fences that nobody is inside.
 pub(crate) fn guard(alloc: Global, fences: &[Fence]) -> Result<Vec<Guarded>, AllocError>
@@ -45,17 +41,15 @@ pub(crate) fn guard(alloc: Global, fences: &[Fence]) -> Result<Vec<Guarded>, All
 /// Crosses as many fences as were counted. All memory is taken before anything is changed.
 pub(crate) fn pass(
     guards: &mut [Guarded],
-    passage: Passage<'_>,
+    passage: &[Pair],
     step: Step,
     crossed: usize,
     events: &mut Vec<Event>,
 ) -> Result<(), AllocError>
-    requires sides { IsOfLength (length guards.old) passage }
-    requires few { length guards.old ≤ most_fences }
     requires rising { AllRising (guards_of guards.old) }
-    requires count { crossed ≡ length (told_by step guards.old passage) }
-    ensures guards { OnOk result (guards_of guards.new ≡ crossed_by step guards.old passage.entry) }
-    ensures events { OnOk result (events.new.items ≡ events.old.items ++ told_by step guards.old passage.entry) }
+    requires count { crossed ≡ length (told_by step guards.old passage.now) }
+    ensures guards { OnOk result (guards_of guards.new ≡ crossed_by step guards.old passage.now) }
+    ensures events { OnOk result (events.new.items ≡ events.old.items ++ told_by step guards.old passage.now) }
     ensures same_guards { OnErr result (guards_of guards.new ≡ guards_of guards.old) }
     ensures same_events { OnErr result (events.new.items ≡ events.old.items) }
 {
@@ -66,105 +60,76 @@ pub(crate) fn pass(
 }
 
 // Takes room for an id in each fence that is entered.
-fn make_room(guards: &mut [Guarded], passage: Passage<'_>) -> Result<(), AllocError>
-    requires sides { IsOfLength (length guards.old) passage }
-    requires few { length guards.old ≤ most_fences }
+fn make_room(guards: &mut [Guarded], passage: &[Pair]) -> Result<(), AllocError>
     ensures same { guards_of guards.new ≡ guards_of guards.old }
-    ensures room { OnOk result (HaveRoom guards.new (turns_of passage.entry)) }
+    ensures room { OnOk result (HaveRoom guards.new (turns_of passage.now)) }
 {
-    if guards.len() <= MOST_AT_ONCE {
-        return make_room_in(guards, passage);
+    let Some((pair, passage)) = passage.split_first() else {
+        return Ok(());
+    };
+    if guards.len() <= 64 {
+        return make_room_in(guards, *pair);
     }
-    let (these, others) = guards.split_at_mut(MOST_AT_ONCE);
-    let (near, far) = passage.split_at(MOST_AT_ONCE);
-    make_room_in(these, near)?;
-    make_room(others, far)
+    let (these, others) = guards.split_at_mut(64);
+    make_room_in(these, *pair)?;
+    make_room(others, passage)
 }
 
-// The same of a few fences, at once where none of them is crossed.
-fn make_room_in(guards: &mut [Guarded], passage: Passage<'_>) -> Result<(), AllocError>
-    requires sides { IsOfLength (length guards.old) passage }
-    requires few { length guards.old ≤ most_fences }
+// The same of as many fences as a word has bits, up to the last one that is crossed.
+fn make_room_in(guards: &mut [Guarded], pair: Pair) -> Result<(), AllocError>
     ensures same { guards_of guards.new ≡ guards_of guards.old }
-    ensures room { OnOk result (HaveRoom guards.new (turns_of passage.entry)) }
+    ensures room { OnOk result (HaveRoom guards.new (turns_in (length guards.old) pair)) }
 {
-    if passage.crossed() == 0 {
+    if pair.is_quiet() {
         return Ok(());
     }
-    make_room_each(guards, passage)
-}
-
-fn make_room_each(guards: &mut [Guarded], passage: Passage<'_>) -> Result<(), AllocError>
-    ensures same { guards_of guards.new ≡ guards_of guards.old }
-    ensures room { OnOk result (HaveRoom guards.new (turns_of passage.entry)) }
-{
     let Some((guard, guards)) = guards.split_first_mut() else {
         return Ok(());
     };
-    let Some((crossing, passage)) = passage.split_first() else {
-        return Ok(());
-    };
-    if crossing == Some(Crossing::Enter) {
+    if pair.first() == Some(Crossing::Enter) {
         guard.inside.reserve(1)?;
     }
-    make_room_each(guards, passage)
+    make_room_in(guards, pair.others())
 }
 
 // There is room for all that comes.
-fn cross(guards: &mut [Guarded], passage: Passage<'_>, step: Step, events: &mut Vec<Event>)
-    requires sides { IsOfLength (length guards.old) passage }
-    requires few { length guards.old ≤ most_fences }
+fn cross(guards: &mut [Guarded], passage: &[Pair], step: Step, events: &mut Vec<Event>)
     requires rising { AllRising (guards_of guards.old) }
-    requires room { HaveRoom guards.old (turns_of passage) }
-    requires space { vec_len events.old + length (told_by step guards.old passage) ≤ vec_capacity events.old }
-    ensures guards { guards_of guards.new ≡ crossed_by step guards.old passage.entry }
-    ensures events { events.new.items ≡ events.old.items ++ told_by step guards.old passage.entry }
+    requires room { HaveRoom guards.old (turns_of passage.now) }
+    requires space { vec_len events.old + length (told_by step guards.old passage.now) ≤ vec_capacity events.old }
+    ensures guards { guards_of guards.new ≡ crossed_by step guards.old passage.now }
+    ensures events { events.new.items ≡ events.old.items ++ told_by step guards.old passage.now }
 {
-    if guards.len() <= MOST_AT_ONCE {
-        cross_in(guards, passage, step, events);
+    let Some((pair, passage)) = passage.split_first() else {
+        return;
+    };
+    if guards.len() <= 64 {
+        cross_in(guards, *pair, step, events);
         return;
     }
-    let (these, others) = guards.split_at_mut(MOST_AT_ONCE);
-    let (near, far) = passage.split_at(MOST_AT_ONCE);
-    cross_in(these, near, step, events);
-    cross(others, far, step, events);
+    let (these, others) = guards.split_at_mut(64);
+    cross_in(these, *pair, step, events);
+    cross(others, passage, step, events);
 }
 
-// The same of a few fences, at once where none of them is crossed.
-fn cross_in(guards: &mut [Guarded], passage: Passage<'_>, step: Step, events: &mut Vec<Event>)
-    requires sides { IsOfLength (length guards.old) passage }
-    requires few { length guards.old ≤ most_fences }
+// The same of as many fences as a word has bits, up to the last one that is crossed.
+fn cross_in(guards: &mut [Guarded], pair: Pair, step: Step, events: &mut Vec<Event>)
     requires rising { AllRising (guards_of guards.old) }
-    requires room { HaveRoom guards.old (turns_of passage) }
-    requires space { vec_len events.old + length (told_by step guards.old passage) ≤ vec_capacity events.old }
-    ensures guards { guards_of guards.new ≡ crossed_by step guards.old passage.entry }
-    ensures events { events.new.items ≡ events.old.items ++ told_by step guards.old passage.entry }
-    ensures len { vec_len events.new ≡ vec_len events.old + length (told_by step guards.old passage.entry) }
+    requires room { HaveRoom guards.old (turns_in (length guards.old) pair) }
+    requires space { vec_len events.old + length (told_in step guards.old pair) ≤ vec_capacity events.old }
+    ensures guards { guards_of guards.new ≡ crossed_in step guards.old pair }
+    ensures events { events.new.items ≡ events.old.items ++ told_in step guards.old pair }
+    ensures len { vec_len events.new ≡ vec_len events.old + length (told_in step guards.old pair) }
     ensures capacity { vec_capacity events.old ≤ vec_capacity events.new }
 {
-    if passage.crossed() == 0 {
+    if pair.is_quiet() {
         return;
     }
-    cross_each(guards, passage, step, events);
-}
-
-fn cross_each(guards: &mut [Guarded], passage: Passage<'_>, step: Step, events: &mut Vec<Event>)
-    requires rising { AllRising (guards_of guards.old) }
-    requires room { HaveRoom guards.old (turns_of passage) }
-    requires space { vec_len events.old + length (told_by step guards.old passage) ≤ vec_capacity events.old }
-    ensures guards { guards_of guards.new ≡ crossed_by step guards.old passage.entry }
-    ensures events { events.new.items ≡ events.old.items ++ told_by step guards.old passage.entry }
-    ensures len { vec_len events.new ≡ vec_len events.old + length (told_by step guards.old passage.entry) }
-    ensures capacity { vec_capacity events.old ≤ vec_capacity events.new }
-{
     let Some((guard, guards)) = guards.split_first_mut() else {
         return;
     };
-    let Some((crossing, passage)) = passage.split_first() else {
-        return;
-    };
-    guard.cross(crossing, step, events);
-    cross_each(guards, passage, step, events);
+    guard.cross(pair.first(), step, events);
+    cross_in(guards, pair.others(), step, events);
 }
 
 impl Guarded {

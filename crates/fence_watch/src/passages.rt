@@ -1,8 +1,9 @@
 //! From one place to another: which fences are crossed on the way.
-ghost use Rattle.std.specs.Prelude.{◌≡◌, ◌≤◌, ◌-◌, length, take, drop, [], ◌∷◌, List, Some, IfOk, MatchOption};
+ghost use Rattle.std.specs.Prelude.{◌≡◌, ◌≤◌, ◌==◌, ◌%◌, ◌/◌, true, map, List, Some, IfOk};
 ghost use Rattle.fence_watch.specs.declared.fences.Fence.{Fence};
-ghost use Rattle.fence_watch.specs.Fences.{most_fences};
-ghost use Rattle.fence_watch.specs.Passages.{turn, marks_of, turns_of, count_turns, IsOfLength, Charts, Shows, ShowsPassage};
+ghost use Rattle.fence_watch.specs.Fences.{most_fences, lies_in};
+ghost use Rattle.fence_watch.specs.Marks.{marks_of, all_marks};
+ghost use Rattle.fence_watch.specs.Passages.{turn, both, turns, word_turns, turns_of, count_turns, Charts, ShowsPassage};
 
 use crate::fences::{Crossing, Fence};
 use crate::slabs::{Slabs, Span};
@@ -14,21 +15,13 @@ use zorder::Point;
 pub(crate) struct Chart {
     columns: Slabs,
     lines: Slabs,
-    nowhere: Vec<bool>,
 }
 
-/// For each fence, whether it has a place's first coordinate, and its second one.
+/// Of 64 fences, a bit for each: which an object was in, and is in.
 #[derive(Clone, Copy)]
-pub(crate) struct Sides<'a> {
-    column: &'a [bool],
-    line: &'a [bool],
-}
-
-/// The places before and after a step.
-#[derive(Clone, Copy)]
-pub(crate) struct Passage<'a> {
-    before: Sides<'a>,
-    after: Sides<'a>,
+pub(crate) struct Pair {
+    was: u64,
+    is: u64,
 }
 
 impl Chart {
@@ -37,7 +30,6 @@ impl Chart {
     {
         let mut columns = Vec::new(alloc);
         let mut lines = Vec::new(alloc);
-        let mut nowhere = Vec::new(alloc);
         for fence in fences {
             columns.push(Span {
                 from: fence.region.lo.x,
@@ -47,140 +39,124 @@ impl Chart {
                 from: fence.region.lo.y,
                 to: fence.region.hi.y,
             })?;
-            nowhere.push(false)?;
         }
         Ok(Chart {
             columns: Slabs::new(alloc, columns)?,
             lines: Slabs::new(alloc, lines)?,
-            nowhere,
         })
     }
 
-    pub(crate) fn passage(&self, before: Option<Point>, after: Option<Point>) -> Passage<'_>
+    /// How each fence is crossed by an object that goes from one place to another one.
+    pub(crate) fn passage(&self, before: Option<Point>, after: Option<Point>) -> [Pair; 4]
         ensures { (fences : List Fence) → Charts fences self.now → ShowsPassage before after fences result }
     {
         if let (Some(from), Some(to)) = (before, after) {
             return self.way(from, to);
         }
-        Passage {
-            before: self.sides(before),
-            after: self.sides(after),
-        }
+        pairs_of(&self.marks(before), &self.marks(after))
     }
 
     // From one place to another one.
-    fn way(&self, from: Point, to: Point) -> Passage<'_>
+    fn way(&self, from: Point, to: Point) -> [Pair; 4]
         ensures { (fences : List Fence) → Charts fences self.now → ShowsPassage (Some from) (Some to) fences result }
     {
         let (column, column_behind) = self.columns.rows(from.x, to.x);
         let (line, line_behind) = self.lines.rows(from.y, to.y);
-        Passage {
-            before: Sides { column, line },
-            after: Sides {
-                column: column_behind,
-                line: line_behind,
-            },
-        }
+        pairs_of(&both(column, line), &both(column_behind, line_behind))
     }
 
-    fn sides(&self, place: Option<Point>) -> Sides<'_>
-        ensures { (fences : List Fence) → Charts fences self.now → Shows place fences result }
+    // The fences that have a place.
+    fn marks(&self, place: Option<Point>) -> [u64; 4]
+        ensures { (fences : List Fence) → Charts fences self.now
+            → marks_of result ≡ all_marks (map (λ (f : Fence). lies_in f place) fences) }
     {
         match place {
-            Some(at) => Sides {
-                column: self.columns.row(at.x),
-                line: self.lines.row(at.y),
-            },
-            None => Sides {
-                column: self.nowhere.as_slice(),
-                line: self.nowhere.as_slice(),
-            },
+            Some(at) => both(self.columns.row(at.x), self.lines.row(at.y)),
+            None => [0, 0, 0, 0],
         }
     }
 }
 
-impl<'a> Sides<'a> {
-    fn split_first(self) -> Option<(bool, Sides<'a>)>
-        ensures { MatchOption result (marks_of self.entry ≡ []) (λ r. marks_of self.entry ≡ r.0 ∷ marks_of r.1) }
+fn both(column: &[u64; 4], line: &[u64; 4]) -> [u64; 4]
+    ensures { marks_of result ≡ both (marks_of column.now) (marks_of line.now) }
+{
+    [
+        column[0] & line[0],
+        column[1] & line[1],
+        column[2] & line[2],
+        column[3] & line[3],
+    ]
+}
+
+fn pairs_of(was: &[u64; 4], is: &[u64; 4]) -> [Pair; 4]
+    ensures { turns_of result ≡ turns (marks_of was.now) (marks_of is.now) }
+{
+    [
+        Pair {
+            was: was[0],
+            is: is[0],
+        },
+        Pair {
+            was: was[1],
+            is: is[1],
+        },
+        Pair {
+            was: was[2],
+            is: is[2],
+        },
+        Pair {
+            was: was[3],
+            is: is[3],
+        },
+    ]
+}
+
+/// How many fences are crossed.
+pub(crate) fn crossed(passage: &[Pair; 4]) -> usize
+    ensures count { result ≡ count_turns (turns_of passage.now) }
+    ensures few { result ≤ most_fences }
+{
+    passage[0].crossed() + passage[1].crossed() + passage[2].crossed() + passage[3].crossed()
+}
+
+impl Pair {
+    fn crossed(self) -> usize
+        ensures count { result ≡ count_turns (word_turns self) }
+        ensures few { result ≤ 64 }
     {
-        let (column, columns) = self.column.split_first()?;
-        let (line, lines) = self.line.split_first()?;
-        Some((
-            *column && *line,
-            Sides {
-                column: columns,
-                line: lines,
-            },
-        ))
+        differing(self.was, self.is)
     }
 
-    fn split_at(self, mid: usize) -> (Sides<'a>, Sides<'a>)
-        requires column { mid ≤ length self.column.now }
-        requires line { mid ≤ length self.line.now }
-        ensures column { result.0.column.now ≡ take mid self.entry.column.now }
-        ensures line { result.0.line.now ≡ take mid self.entry.line.now }
-        ensures columns { result.1.column.now ≡ drop mid self.entry.column.now }
-        ensures lines { result.1.line.now ≡ drop mid self.entry.line.now }
+    pub(crate) fn is_quiet(self) -> bool
+        ensures { result ≡ true → self.was ≡ self.is }
     {
-        let (column, columns) = self.column.split_at(mid);
-        let (line, lines) = self.line.split_at(mid);
-        (
-            Sides { column, line },
-            Sides {
-                column: columns,
-                line: lines,
-            },
-        )
+        self.was == self.is
+    }
+
+    /// How the first fence is crossed, if it is.
+    pub(crate) fn first(self) -> Option<Crossing>
+        ensures { result ≡ turn (self.was % 2 == 1) (self.is % 2 == 1) }
+    {
+        turn(self.was % 2 == 1, self.is % 2 == 1)
+    }
+
+    /// The same of the other fences.
+    pub(crate) fn others(self) -> Pair
+        ensures was { result.was ≡ self.was / 2 }
+        ensures is { result.is ≡ self.is / 2 }
+    {
+        Pair {
+            was: self.was / 2,
+            is: self.is / 2,
+        }
     }
 }
 
-impl<'a> Passage<'a> {
-    /// How many fences are crossed. A loop without a branch, of which vectors are made: most steps cross none, and end here.
-    #[inline(never)]
-    pub(crate) fn crossed(&self) -> usize
-        requires sides { IsOfLength (length self.now.before.column.now) self.now }
-        requires few { length self.now.before.column.now ≤ most_fences }
-        ensures count { result ≡ count_turns (turns_of self.now) }
-        ensures few { result ≤ most_fences }
-    {
-        let Passage { before, after } = *self;
-        let mut crossed = 0u16;
-        for i in 0..before.column.len() {
-            let was = before.column[i] & before.line[i];
-            let is = after.column[i] & after.line[i];
-            crossed += (was != is) as u16;
-        }
-        usize::from(crossed)
-    }
-
-    /// How the first fence is crossed, if it is, and what is said of the others.
-    pub(crate) fn split_first(self) -> Option<(Option<Crossing>, Passage<'a>)>
-        ensures { MatchOption result (turns_of self.entry ≡ []) (λ r. turns_of self.entry ≡ r.0 ∷ turns_of r.1) }
-    {
-        let (was, before) = self.before.split_first()?;
-        let (is, after) = self.after.split_first()?;
-        Some((turn(was, is), Passage { before, after }))
-    }
-
-    /// What is said of the first few fences, and of the others.
-    pub(crate) fn split_at(self, mid: usize) -> (Passage<'a>, Passage<'a>)
-        requires sides { IsOfLength (length self.before.column.now) self }
-        requires mid { mid ≤ length self.before.column.now }
-        ensures near { turns_of result.0 ≡ take mid (turns_of self.entry) }
-        ensures far { turns_of result.1 ≡ drop mid (turns_of self.entry) }
-        ensures these { IsOfLength mid result.0 }
-        ensures others { IsOfLength (length self.entry.before.column.now - mid) result.1 }
-    {
-        let (before, before_others) = self.before.split_at(mid);
-        let (after, after_others) = self.after.split_at(mid);
-        (
-            Passage { before, after },
-            Passage {
-                before: before_others,
-                after: after_others,
-            },
-        )
-    }
+fn differing(was: u64, is: u64) -> usize
+    ensures count { result ≡ count_turns (word_turns (record { was = was; is = is })) }
+    ensures few { result ≤ 64 }
+{
+    (was ^ is).count_ones() as usize
 }
 
 fn turn(was: bool, is: bool) -> Option<Crossing>

@@ -1,6 +1,8 @@
 //! Which of some spans have a number: looked up, and not compared with each.
-ghost use Rattle.std.specs.Prelude.{◌≡◌, ◌<◌, ◌∷◌, ◌++◌, true, length, IfOk, OnOk, map};
+ghost use Rattle.std.specs.Prelude.{◌≡◌, ◌≤◌, ◌<◌, ◌∷◌, ◌++◌, true, length, take, drop, IfOk, OnOk, map};
 ghost use Rattle.std.specs.List.Sorted.{IsNonDecreasing, IsPermutation};
+ghost use Rattle.std.specs.Simd.Lanes.{mask_l};
+ghost use Rattle.fence_watch.specs.Marks.{marks_of, all_marks};
 ghost use Rattle.fence_watch.specs.Slabs.{spans, row_at, own_edges, edges_of, IsSlabOf};
 
 use crate::hints::Hints;
@@ -29,7 +31,7 @@ pub(crate) struct Slabs {
     spans: Vec<Span>,
     edges: Vec<u32>,
     hints: Hints,
-    rows: Vec<Vec<bool>>,
+    rows: Vec<[u64; 4]>,
 }
 
 impl Model for Slabs {
@@ -60,20 +62,20 @@ impl Slabs {
     }
 
     /// For each span, whether it has the number.
-    pub(crate) fn row(&self, at: u32) -> &[bool]
-        ensures { result.now ≡ row_at at self.now }
+    pub(crate) fn row(&self, at: u32) -> &[u64; 4]
+        ensures { marks_of result.now ≡ all_marks (row_at at self.now) }
     {
         let slab = self.hints.slab(&self.edges, at);
-        self.rows[slab].as_slice()
+        &self.rows[slab]
     }
 
     /// The same of two numbers, looked up once where no edge lies between them, as between places of an object mostly none does.
-    pub(crate) fn rows(&self, one: u32, other: u32) -> (&[bool], &[bool])
-        ensures one { result.0.now ≡ row_at one self.now }
-        ensures other { result.1.now ≡ row_at other self.now }
+    pub(crate) fn rows(&self, one: u32, other: u32) -> (&[u64; 4], &[u64; 4])
+        ensures one { marks_of result.0.now ≡ all_marks (row_at one self.now) }
+        ensures other { marks_of result.1.now ≡ all_marks (row_at other self.now) }
     {
         let slab = self.hints.slab(&self.edges, one);
-        let row = self.rows[slab].as_slice();
+        let row = &self.rows[slab];
         if has(&self.edges, slab, other) {
             (row, row)
         } else {
@@ -113,22 +115,51 @@ fn push_edges(edges: &mut Vec<u32>, span: &Span) -> Result<(), AllocError>
     Ok(())
 }
 
-fn rows_of(alloc: Global, edges: &[u32], spans: &[Span]) -> Result<Vec<Vec<bool>>, AllocError>
-    ensures { IfOk result (λ rows. map (λ row. row.items) rows.items ≡ map (λ edge. row_at edge spans.now) edges.now) }
+fn rows_of(alloc: Global, edges: &[u32], spans: &[Span]) -> Result<Vec<[u64; 4]>, AllocError>
+    ensures { IfOk result (λ rows. map marks_of rows.items ≡ map (λ edge. all_marks (row_at edge spans.now)) edges.now) }
 {
     let mut rows = Vec::new(alloc);
     for edge in edges {
-        rows.push(row_of(alloc, *edge, spans)?)?;
+        rows.push(row_of(*edge, spans))?;
     }
     Ok(rows)
 }
 
-fn row_of(alloc: Global, at: u32, spans: &[Span]) -> Result<Vec<bool>, AllocError>
-    ensures { IfOk result (λ row. row.items ≡ row_at at spans.now) }
+// A bit for each of the spans that there may be.
+fn row_of(at: u32, spans: &[Span]) -> [u64; 4]
+    ensures { marks_of result ≡ all_marks (row_at at spans.now) }
 {
-    let mut row = Vec::new(alloc);
-    for span in spans {
-        row.push(span.has(at))?;
+    let (first, spans) = of_one_word(spans);
+    let (second, spans) = of_one_word(spans);
+    let (third, spans) = of_one_word(spans);
+    let (fourth, _) = of_one_word(spans);
+    [
+        word_of(at, first),
+        word_of(at, second),
+        word_of(at, third),
+        word_of(at, fourth),
+    ]
+}
+
+fn of_one_word(spans: &[Span]) -> (&[Span], &[Span])
+    ensures front { result.0.now ≡ take 64 spans.now }
+    ensures few { length result.0.now ≤ 64 }
+    ensures back { result.1.now ≡ drop 64 spans.now }
+{
+    if spans.len() <= 64 {
+        return (spans, &[]);
     }
-    Ok(row)
+    spans.split_at(64)
+}
+
+// The first span is the lowest bit.
+fn word_of(at: u32, spans: &[Span]) -> u64
+    requires { length spans.now ≤ 64 }
+    ensures { result ≡ mask_l (row_at at spans.now) }
+{
+    let Some((span, spans)) = spans.split_first() else {
+        return 0;
+    };
+    let others = 2 * word_of(at, spans);
+    if span.has(at) { others + 1 } else { others }
 }

@@ -11,7 +11,7 @@ ghost use Rattle.fence_watch.specs.Watches.{Steps, IsOver, HoldsBefore, FollowsC
 
 use crate::fences::{Event, Fences};
 use crate::guards::{Guarded, Step, guard, pass};
-use crate::passages::Chart;
+use crate::passages::{Chart, crossed};
 use cell_format::Cell;
 use recovery::Walked;
 use std::alloc::Global;
@@ -110,7 +110,7 @@ impl Watch {
         ensures too_many { (result ≡ Err WatchFault.TooMany) ↔ IsOver walked.now self.old }
     {
         let passage = self.chart.passage(walked.before, walked.after);
-        let crossed = passage.crossed();
+        let crossed = crossed(&passage);
         if crossed == 0 {
             return Ok(());
         }
@@ -118,7 +118,7 @@ impl Watch {
             return Err(WatchFault::TooMany);
         }
         let step = Step { at: walked.at, id };
-        let Ok(()) = pass(&mut self.guards, passage, step, crossed, &mut self.events) else {
+        let Ok(()) = pass(&mut self.guards, &passage, step, crossed, &mut self.events) else {
             return Err(WatchFault::Memory);
         };
         Ok(())

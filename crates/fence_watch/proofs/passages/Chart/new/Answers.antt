@@ -1,4 +1,4 @@
-use Rattle.std.proofs.Common.{◌≡◌, ◌∙◌, false, List, map, take, ap}
+use Rattle.std.proofs.Common.{◌≡◌, ◌∙◌, List, map, take, ap}
 use Rattle.std.proofs.lemmas.List.{take_all}
 use Rattle.fence_watch.specs.declared.fences.Fence.{Fence}
 use Rattle.fence_watch.specs.Passages.{column_of, line_of}
@@ -10,5 +10,4 @@ returns c =
     record {
       columns = c.in_ok-new.ensures ∙ c.loop-fence.invariant.columns ∙ ap (λ (l : List Fence). map column_of l) whole;
       lines = c.in_ok-new-2.ensures ∙ c.loop-fence.invariant.lines ∙ ap (λ (l : List Fence). map line_of l) whole;
-      nowhere = c.loop-fence.invariant.nowhere ∙ ap (λ (l : List Fence). map (λ (f : Fence). false) l) whole;
     }

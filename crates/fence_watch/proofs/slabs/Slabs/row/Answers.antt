@@ -1,5 +1,7 @@
-use Rattle.std.proofs.Common.{◌∙◌, ◌≤◌, ℕ, Bool, List, Vec, Global, get_or, length, ap, sym, subst}
+use Rattle.std.proofs.Common.{◌∙◌, ◌≤◌, ℕ, List, get_or, length, ap, sym, subst}
 use Rattle.std.specs.List.Sorted.{IsNonDecreasing}
+use Rattle.fence_watch.specs.declared.slabs.Span.{Span}
+use Rattle.fence_watch.specs.Marks.{marks_of, all_marks}
 use Rattle.fence_watch.specs.Slabs.{row_at, IsSlabOf}
 use Rattle.fence_watch.proofs.SlabLemmas.{some-edge, first-edge, row-of}
 use Rattle.fence_watch.proofs.slabs.Slabs.row.Goals as goal
@@ -19,7 +21,6 @@ slab-slab-requires-clause-first c =
 pub returns : goal.returns
 returns c =
     let slab = subst (λ (l : List ℕ). IsSlabOf l c.args.at c.slab-slab.result) c.deref.ensures.value c.slab-slab.ensures in
-    c.as_slice.ensures.value
-    ∙ ap (λ (row : Vec Bool Global). row.items) c.index.ensures
+    ap marks_of c.index.ensures
     ∙ row-of c.self.inside.spans.items c.self.inside.edges.items c.self.inside.rows.items c.args.at c.slab-slab.result c.index.result.now c.self.invariant c.ranges.at.fits slab
-    ∙ ap (row_at c.args.at) c.self.view_is
+    ∙ ap (λ (l : List Span). all_marks (row_at c.args.at l)) c.self.view_is

@@ -1,5 +1,7 @@
-use Rattle.std.proofs.Common.{◌∙◌, ◌≤◌, ℕ, Bool, List, Vec, Global, get_or, length, ap, sym, subst}
+use Rattle.std.proofs.Common.{◌∙◌, ◌≤◌, ℕ, List, get_or, length, ap, sym, subst}
 use Rattle.std.specs.List.Sorted.{IsNonDecreasing}
+use Rattle.fence_watch.specs.declared.slabs.Span.{Span}
+use Rattle.fence_watch.specs.Marks.{marks_of, all_marks}
 use Rattle.fence_watch.specs.Slabs.{row_at, IsSlabOf}
 use Rattle.fence_watch.proofs.SlabLemmas.{some-edge, first-edge, row-of}
 use Rattle.fence_watch.proofs.slabs.Slabs.rows.Goals as goal
@@ -19,23 +21,20 @@ slab-slab-requires-clause-first c =
 pub returns-then-has-clause-one : goal.returns-then-has-clause-one
 returns-then-has-clause-one c =
     let slab = subst (λ (l : List ℕ). IsSlabOf l c.args.one c.slab-slab.result) c.deref.ensures.value c.slab-slab.ensures in
-    c.as_slice-row.ensures.value
-    ∙ ap (λ (row : Vec Bool Global). row.items) c.index.ensures
-    ∙ row-of c.self.inside.spans.items c.self.inside.edges.items c.self.inside.rows.items c.args.one c.slab-slab.result c.index.result.now c.self.invariant c.ranges.one.fits slab
-    ∙ ap (row_at c.args.one) c.self.view_is
+    ap marks_of c.index-row.ensures
+    ∙ row-of c.self.inside.spans.items c.self.inside.edges.items c.self.inside.rows.items c.args.one c.slab-slab.result c.index-row.result.now c.self.invariant c.ranges.one.fits slab
+    ∙ ap (λ (l : List Span). all_marks (row_at c.args.one l)) c.self.view_is
 
 pub returns-then-has-clause-other : goal.returns-then-has-clause-other
 returns-then-has-clause-other c =
     let slab = subst (λ (l : List ℕ). IsSlabOf l c.args.other c.slab-slab.result) c.deref-2.ensures.value (c.has.ensures c.if-has.true) in
-    c.as_slice-row.ensures.value
-    ∙ ap (λ (row : Vec Bool Global). row.items) c.index.ensures
-    ∙ row-of c.self.inside.spans.items c.self.inside.edges.items c.self.inside.rows.items c.args.other c.slab-slab.result c.index.result.now c.self.invariant c.ranges.other.fits slab
-    ∙ ap (row_at c.args.other) c.self.view_is
+    ap marks_of c.index-row.ensures
+    ∙ row-of c.self.inside.spans.items c.self.inside.edges.items c.self.inside.rows.items c.args.other c.slab-slab.result c.index-row.result.now c.self.invariant c.ranges.other.fits slab
+    ∙ ap (λ (l : List Span). all_marks (row_at c.args.other l)) c.self.view_is
 
 pub returns-else-has-clause-one : goal.returns-else-has-clause-one
 returns-else-has-clause-one c =
     let slab = subst (λ (l : List ℕ). IsSlabOf l c.args.one c.slab-slab.result) c.deref.ensures.value c.slab-slab.ensures in
-    c.as_slice-row.ensures.value
-    ∙ ap (λ (row : Vec Bool Global). row.items) c.index.ensures
-    ∙ row-of c.self.inside.spans.items c.self.inside.edges.items c.self.inside.rows.items c.args.one c.slab-slab.result c.index.result.now c.self.invariant c.ranges.one.fits slab
-    ∙ ap (row_at c.args.one) c.self.view_is
+    ap marks_of c.index-row.ensures
+    ∙ row-of c.self.inside.spans.items c.self.inside.edges.items c.self.inside.rows.items c.args.one c.slab-slab.result c.index-row.result.now c.self.invariant c.ranges.one.fits slab
+    ∙ ap (λ (l : List Span). all_marks (row_at c.args.one l)) c.self.view_is

@@ -7,7 +7,6 @@ use Rattle.fence_watch.specs.Kept.{Keeps}
 use Rattle.fence_watch.specs.Passages.{turns_of, events_along}
 use Rattle.fence_watch.specs.Watches.{Guard, WatchView, fences_of, HoldsBefore, Steps, IsOver, most_events}
 use Rattle.fence_watch.proofs.Passing.{Counted, counted, stays, not-over, is-over, Passed, passed_by, keeps-behind, refilled}
-use Rattle.fence_watch.proofs.Parts.{sides-of, few-of}
 use Rattle.fence_watch.proofs.watch.Watch.follow.Goals as goal
 
 pub returns-then-crossed-eq0-clause-ok : goal.returns-then-crossed-eq0-clause-ok
@@ -16,7 +15,7 @@ returns-then-crossed-eq0-clause-ok c =
     let p = c.passage-passage.result in
     let guards : List Guard = guards_of c.self.inside.guards.items in
     let v : WatchView = record { guards = guards; events = c.self.inside.events.items } in
-    let k : Counted w c.args.id guards p = counted w c.args.id guards p c.requires.is (c.passage-passage.ensures (fences_of guards) c.self.invariant.charts) in
+    let k : Counted w c.args.id guards p = counted w c.args.id guards p c.requires.is c.self.invariant.few (c.passage-passage.ensures (fences_of guards) c.self.invariant.charts) in
     subst (λ (x : WatchView). Steps w x x) c.self.view_is (stays w c.args.id v p k (sym c.crossed-crossed.ensures.count ∙ c.if-crossed-eq0.true))
 
 pub returns-then-crossed-eq0-clause-too_many : goal.returns-then-crossed-eq0-clause-too_many
@@ -25,7 +24,7 @@ returns-then-crossed-eq0-clause-too_many c =
     let p = c.passage-passage.result in
     let guards : List Guard = guards_of c.self.inside.guards.items in
     let v : WatchView = record { guards = guards; events = c.self.inside.events.items } in
-    let k : Counted w c.args.id guards p = counted w c.args.id guards p c.requires.is (c.passage-passage.ensures (fences_of guards) c.self.invariant.charts) in
+    let k : Counted w c.args.id guards p = counted w c.args.id guards p c.requires.is c.self.invariant.few (c.passage-passage.ensures (fences_of guards) c.self.invariant.charts) in
     let few : length v.events + c.crossed-crossed.result ≤ most_events = omega (arith, c.self.invariant.events, c.if-crossed-eq0.true) in
     ((λ e. absurd (cc e)), (λ over. absurd (not-over w c.args.id c.crossed-crossed.result v p k c.crossed-crossed.ensures.count few (subst (λ (x : WatchView). IsOver w x) (sym c.self.view_is) over))))
 
@@ -36,7 +35,7 @@ returns-then-len-crossed-gt-MOST_EVENTS-clause-too_many c =
     let p = c.passage-passage.result in
     let guards : List Guard = guards_of c.self.inside.guards.items in
     let v : WatchView = record { guards = guards; events = c.self.inside.events.items } in
-    let k : Counted w c.args.id guards p = counted w c.args.id guards p c.requires.is (c.passage-passage.ensures (fences_of guards) c.self.invariant.charts) in
+    let k : Counted w c.args.id guards p = counted w c.args.id guards p c.requires.is c.self.invariant.few (c.passage-passage.ensures (fences_of guards) c.self.invariant.charts) in
     let past : most_events < length v.events + c.crossed-crossed.result = omega (arith, c.len.ensures, c.if-len-crossed-gt-MOST_EVENTS.true, c.self.inside.events.ok.0) in
     ((λ e. subst (λ (x : WatchView). IsOver w x) c.self.view_is (is-over w c.args.id c.crossed-crossed.result v p k c.crossed-crossed.ensures.count past)), (λ over. refl))
 
@@ -45,17 +44,9 @@ pass-requires-clause-count c =
     let w = c.args.walked.now in
     let p = c.passage-passage.result in
     let guards : List Guard = guards_of c.self.inside.guards.items in
-    let k : Counted w c.args.id guards p = counted w c.args.id guards p c.requires.is (c.passage-passage.ensures (fences_of guards) c.self.invariant.charts) in
+    let k : Counted w c.args.id guards p = counted w c.args.id guards p c.requires.is c.self.invariant.few (c.passage-passage.ensures (fences_of guards) c.self.invariant.charts) in
     c.crossed-crossed.ensures.count ∙ k.count ∙ ap length (sym k.told)
     ∙ ap (λ (l : List Guarded). length (events_along w.at c.args.id (fences_of (guards_of l)) (turns_of p))) (sym c.deref_mut.ensures.value)
-
-pub pass-requires-clause-sides : goal.pass-requires-clause-sides
-pass-requires-clause-sides c =
-    sides-of c.args.walked.now.before c.args.walked.now.after c.self.inside.guards.items c.deref_mut.result.now c.passage-passage.result c.deref_mut.ensures.value
-    (c.passage-passage.ensures (fences_of (guards_of c.self.inside.guards.items)) c.self.invariant.charts)
-
-pub pass-requires-clause-few : goal.pass-requires-clause-few
-pass-requires-clause-few c = few-of c.self.inside.guards.items c.deref_mut.result.now c.deref_mut.ensures.value c.self.invariant.few
 
 pub pass-requires-clause-rising : goal.pass-requires-clause-rising
 pass-requires-clause-rising c = subst (λ (l : List Guarded). AllRising (guards_of l)) (sym c.deref_mut.ensures.value) c.self.invariant.rising
@@ -66,7 +57,7 @@ returns-in_default-clause-too_many c =
     let p = c.passage-passage.result in
     let guards : List Guard = guards_of c.self.inside.guards.items in
     let v : WatchView = record { guards = guards; events = c.self.inside.events.items } in
-    let k : Counted w c.args.id guards p = counted w c.args.id guards p c.requires.is (c.passage-passage.ensures (fences_of guards) c.self.invariant.charts) in
+    let k : Counted w c.args.id guards p = counted w c.args.id guards p c.requires.is c.self.invariant.few (c.passage-passage.ensures (fences_of guards) c.self.invariant.charts) in
     let fits : length v.events + c.crossed-crossed.result ≤ most_events = omega (arith, c.len.ensures, c.if-len-crossed-gt-MOST_EVENTS.false, c.self.inside.events.ok.0) in
     ((λ e. absurd (cc e)), (λ over. absurd (not-over w c.args.id c.crossed-crossed.result v p k c.crossed-crossed.ensures.count fits (subst (λ (x : WatchView). IsOver w x) (sym c.self.view_is) over))))
 
@@ -75,7 +66,7 @@ invariant_of-self-2 c =
     let w = c.args.walked.now in
     let p = c.passage-passage.result in
     let guards : List Guard = guards_of c.self.inside.guards.items in
-    let k : Counted w c.args.id guards p = counted w c.args.id guards p c.requires.is (c.passage-passage.ensures (fences_of guards) c.self.invariant.charts) in
+    let k : Counted w c.args.id guards p = counted w c.args.id guards p c.requires.is c.self.invariant.few (c.passage-passage.ensures (fences_of guards) c.self.invariant.charts) in
     let kept = refilled c.self.inside.guards.len c.pass.new.guards c.self.inside.guards.items (c.pass.auto.guards ∙ c.deref_mut.ensures.len) in
     let passed : Passed w guards c.self.inside.events.items c.pass.new.guards c.pass.new.events.items =
     passed_by w c.args.id c.self.inside.guards.items c.deref_mut.result.now c.self.inside.events.items c.pass.new.guards c.pass.new.events.items p c.deref_mut.ensures.value k c.in-Ok.ensures.guards c.in-Ok.ensures.events in
@@ -90,7 +81,7 @@ returns-clause-ok c =
     let w = c.args.walked.now in
     let p = c.passage-passage.result in
     let guards : List Guard = guards_of c.self.inside.guards.items in
-    let k : Counted w c.args.id guards p = counted w c.args.id guards p c.requires.is (c.passage-passage.ensures (fences_of guards) c.self.invariant.charts) in
+    let k : Counted w c.args.id guards p = counted w c.args.id guards p c.requires.is c.self.invariant.few (c.passage-passage.ensures (fences_of guards) c.self.invariant.charts) in
     let kept = refilled c.self.inside.guards.len c.pass.new.guards c.self.inside.guards.items (c.pass.auto.guards ∙ c.deref_mut.ensures.len) in
     let passed : Passed w guards c.self.inside.events.items c.pass.new.guards c.pass.new.events.items =
     passed_by w c.args.id c.self.inside.guards.items c.deref_mut.result.now c.self.inside.events.items c.pass.new.guards c.pass.new.events.items p c.deref_mut.ensures.value k c.in-Ok.ensures.guards c.in-Ok.ensures.events in
@@ -103,6 +94,6 @@ returns-clause-too_many c =
     let p = c.passage-passage.result in
     let guards : List Guard = guards_of c.self.inside.guards.items in
     let v : WatchView = record { guards = guards; events = c.self.inside.events.items } in
-    let k : Counted w c.args.id guards p = counted w c.args.id guards p c.requires.is (c.passage-passage.ensures (fences_of guards) c.self.invariant.charts) in
+    let k : Counted w c.args.id guards p = counted w c.args.id guards p c.requires.is c.self.invariant.few (c.passage-passage.ensures (fences_of guards) c.self.invariant.charts) in
     let fits : length v.events + c.crossed-crossed.result ≤ most_events = omega (arith, c.len.ensures, c.if-len-crossed-gt-MOST_EVENTS.false, c.self.inside.events.ok.0) in
     ((λ e. absurd (cc e)), (λ over. absurd (not-over w c.args.id c.crossed-crossed.result v p k c.crossed-crossed.ensures.count fits (subst (λ (x : WatchView). IsOver w x) (sym c.self.view_is) over))))
