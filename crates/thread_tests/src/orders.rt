@@ -107,6 +107,31 @@ fn a_query_that_is_held_answers_as_at_its_place(rt: HostRuntime) {
     is_played(&rt, rt.alloc(), &OVERTAKEN);
 }
 
+// Lane 1 has taken the index for a run of 16 boxes, and stays until the put of lane 2 was answered. So the lock is free meanwhile, and the
+// boxes are answered anew.
+const RUN_OVERTAKEN: Scene = Scene {
+    input: rows!(
+        "1,put,1,0,0,,,0\n1,box,,0,0,9,9,\n1,box,,0,0,9,9,\n1,box,,0,0,9,9,\n1,box,,0,0,9,9,\n1,box,,0,0,9,9,\n1,box,,0,0,9,9,\n1,box,,0,0,9,9,\n1,box,,0,0,9,9,\n1,box,,0,0,9,9,\n1,box,,0,0,9,9,\n1,box,,0,0,9,9,\n1,box,,0,0,9,9,\n1,box,,0,0,9,9,\n1,box,,0,0,9,9,\n1,box,,0,0,9,9,\n1,box,,0,0,9,9,\n2,where,9,,,,,\n2,put,2,5,5,,,0\n"
+    ),
+    turns: &[
+        answered!(1, 2),
+        answered!(2, 3),
+        turn!(GatePoint::Taken, 1, 4),
+        answered!(2, 0),
+    ],
+    these: lines!(
+        "1,1,done,\n2,4,found,1:0:0;2:5:5\n3,5,found,1:0:0;2:5:5\n4,6,found,1:0:0;2:5:5\n5,7,found,1:0:0;2:5:5\n6,8,found,1:0:0;2:5:5\n7,9,found,1:0:0;2:5:5\n8,10,found,1:0:0;2:5:5\n9,11,found,1:0:0;2:5:5\n10,12,found,1:0:0;2:5:5\n11,13,found,1:0:0;2:5:5\n12,14,found,1:0:0;2:5:5\n13,15,found,1:0:0;2:5:5\n14,16,found,1:0:0;2:5:5\n15,17,found,1:0:0;2:5:5\n16,18,found,1:0:0;2:5:5\n17,19,found,1:0:0;2:5:5\n18,2,absent,\n19,3,done,\n"
+    ),
+    those: lines!(
+        "1,2,done,\n2,4,found,1:0:0;2:5:5\n3,5,found,1:0:0;2:5:5\n4,6,found,1:0:0;2:5:5\n5,7,found,1:0:0;2:5:5\n6,8,found,1:0:0;2:5:5\n7,9,found,1:0:0;2:5:5\n8,10,found,1:0:0;2:5:5\n9,11,found,1:0:0;2:5:5\n10,12,found,1:0:0;2:5:5\n11,13,found,1:0:0;2:5:5\n12,14,found,1:0:0;2:5:5\n13,15,found,1:0:0;2:5:5\n14,16,found,1:0:0;2:5:5\n15,17,found,1:0:0;2:5:5\n16,18,found,1:0:0;2:5:5\n17,19,found,1:0:0;2:5:5\n18,1,absent,\n19,3,done,\n"
+    ),
+};
+
+#[test]
+fn a_run_of_queries_that_a_put_overtakes_answers_as_behind_it(rt: HostRuntime) {
+    is_played(&rt, rt.alloc(), &RUN_OVERTAKEN);
+}
+
 // Lane 1's fifth put makes the one leaf full. It has begun the split, and stays until the put of lane 2 was answered.
 const BETWEEN: Scene = Scene {
     input: rows!(
