@@ -66,7 +66,7 @@ module _ (region : Region) (is_box : IsBox region) where
       (none_in (region_of name) region name (has_point-region_of name short) rows
       (λ shared. true≢false (sym ((meet-points (region_of name) region (IsBox-region_of name short) is_box).1 shared) ∙ apart)) under)
 
-  members-append : (xs ys : List Row) → members_in region (objects_of (xs ++ ys)) ≡ members_in region (objects_of xs) ++ members_in region (objects_of ys)
+  pub members-append : (xs ys : List Row) → members_in region (objects_of (xs ++ ys)) ≡ members_in region (objects_of xs) ++ members_in region (objects_of ys)
   members-append xs ys = ap (members_in region) (map-append placed_of xs ys) ∙ filter-append (λ (m : Placed). has_point region m.at) (objects_of xs) (objects_of ys)
 
   pub held-append : (xs ys : List Leaf) → objects_held region (xs ++ ys) ≡ objects_held region xs ++ objects_held region ys

@@ -3,3 +3,4 @@ pub mod BoxLeaves
 pub mod InOrder
 pub mod Listings
 pub mod Reaches
+pub mod Wholes

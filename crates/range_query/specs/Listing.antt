@@ -1,6 +1,8 @@
 -- What is found in a box so far.
 use Rattle.std.specs.Prelude.{◌≡◌, ◌≤◌, ◌<◌, ◌+◌, ◌^◌, ◌++◌, ⊤, List, length, Result, OnOk}
 use Rattle.zorder.specs.declared.points.Placed.{Placed}
+use Rattle.bucket_versions.specs.declared.row.Row.{Row}
+use Rattle.table_share.specs.Objects.{objects_of}
 use Rattle.plain_list.specs.declared.ops.Answer.{Answer}
 use Rattle.plain_list.specs.declared.ops.Answer.TheVariants.{Found}
 use Rattle.range_query.specs.declared.found.Listing.{Listing}
@@ -12,6 +14,10 @@ IsListing ms listing = (listing.count ≡ length ms) × (length ms ≤ 2048 → 
 -- objects come to those that are listed, in their order, where there are not too many to be counted
 abbrev pub Adds : {T E : Type 0} → Result T E → List Placed → Listing → Listing → Type 0
 Adds result more old new = (ms : List Placed) → length ms + length more < 2 ^ 64 → IsListing ms old → OnOk result (IsListing (ms ++ more) new)
+
+-- the same of the objects that rows stand for
+abbrev pub AddsAll : {T E : Type 0} → Result T E → List Row → Listing → Listing → Type 0
+AddsAll result rows old new = (ms : List Placed) → length ms + length rows < 2 ^ 64 → IsListing ms old → OnOk result (IsListing (ms ++ objects_of rows) new)
 
 -- it holds where objects are listed
 abbrev pub OnFound : Answer → Type 0 → Type 0

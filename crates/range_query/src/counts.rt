@@ -15,7 +15,7 @@ use step_count::Steps;
 use zorder::{Name, Region, child, key};
 
 /// How many objects are in the box. A leaf's bucket is opened, which is a step, only where the box has some points of
-/// its region and not all. It takes no memory.
+/// its region and not all; what lies inside the box is counted by whole subtrees. It takes no memory.
 pub fn count_in<I: Index, L: Ledger>(index: &I, region: &Region, steps: &mut Steps<L>) -> u64
     requires { IsBox region.now }
     ensures number { OfPlaces (I.leaves index.now) (λ places. result ≡ length (members_in region.now places)) }
@@ -23,11 +23,11 @@ pub fn count_in<I: Index, L: Ledger>(index: &I, region: &Region, steps: &mut Ste
 {
     let (name, place) = index.reach(key(region.lo), key(region.hi));
     let area = prefix_names::region(&name);
-    count_below(index, &name, place, &area, region, steps)
+    number_below(index, &name, place, &area, region, steps)
 }
 
 // How many there are below a name, whose region is `area`.
-fn count_below<I: Index, L: Ledger>(
+fn number_below<I: Index, L: Ledger>(
     index: &I,
     name: &Name,
     place: &I::Place,
@@ -44,34 +44,17 @@ fn count_below<I: Index, L: Ledger>(
     if !meets(area, region) {
         return 0;
     }
+    if inside(area, region) {
+        return index.count_below(name, place);
+    }
     match index.below(name, place) {
-        Below::Leaf(bucket) => count_leaf(name, bucket, area, region, steps),
+        Below::Leaf(bucket) => count_rows(bucket, region, steps),
         Below::Halves { zero, one } => {
             let (low, high) = halves(name, area);
-            let first = count_below(index, &child(name, false), zero, &low, region, steps);
-            let second = count_below(index, &child(name, true), one, &high, region, steps);
+            let first = number_below(index, &child(name, false), zero, &low, region, steps);
+            let second = number_below(index, &child(name, true), one, &high, region, steps);
             first.saturating_add(second)
         }
-    }
-}
-
-fn count_leaf<L: Ledger>(
-    name: &Name,
-    bucket: &Bucket,
-    area: &Region,
-    region: &Region,
-    steps: &mut Steps<L>,
-) -> u64
-    requires is_box { IsBox region.now }
-    requires area { IsAreaOf name.now area.now }
-    requires met { is_met region.now name.now ≡ true }
-    ensures number { AreKeysUnder name.now bucket.now.rows → IsNumberIn region.now bucket.now.rows result }
-    ensures opened { steps.new ≡ steps.old + (if is_cut region.now name.now then 1 else 0) }
-{
-    if inside(area, region) {
-        bucket.count()
-    } else {
-        count_rows(bucket, region, steps)
     }
 }
 

@@ -3,13 +3,15 @@ ghost use Rattle.std.specs.Prelude.{◌≡◌, ◌≤◌, ◌<◌, ◌+◌, ◌+
 ghost use Rattle.zorder.specs.declared.points.Placed.{Placed};
 ghost use Rattle.zorder.specs.Region.{IsBox};
 ghost use Rattle.plain_list.specs.Queries.{members_in, listed};
-ghost use Rattle.table_share.specs.KeysUnder.{AreKeysUnder, AreAllKeysUnder};
+ghost use Rattle.index_layer.specs.Leaves.{all_rows};
+ghost use Rattle.index_layer.specs.Subtree.{subtree};
+ghost use Rattle.table_share.specs.KeysUnder.{AreAllKeysUnder};
 ghost use Rattle.table_share.specs.Objects.{objects_of};
 ghost use Rattle.table_share.specs.Standing.{OfPlaces};
-ghost use Rattle.range_query.specs.Cut.{IsAreaOf, is_met, leaves_met, below_met, held_below};
-ghost use Rattle.range_query.specs.Listing.{Adds, IsListing, OnFound};
+ghost use Rattle.range_query.specs.Cut.{IsAreaOf, leaves_met, below_met, held_below};
+ghost use Rattle.range_query.specs.Listing.{Adds, AddsAll, IsListing, OnFound};
 
-use crate::ranges::push_all;
+use crate::ranges::push_whole;
 use bucket_versions::Bucket;
 use index_layer::{Below, Index};
 use plain_list::{Answer, PlacedList};
@@ -57,8 +59,8 @@ impl Listing {
 
 /// The answer to a box: the objects in the order of their ids, or how many they are where that is too long a list. A leaf's
 /// bucket is opened, which is a step, where the box has some points of its region, and once: objects are counted and listed
-/// in one walk. Once there are too many to be listed, a leaf inside the box is counted without a step. Memory is taken for
-/// no more objects than may be listed.
+/// in one walk. A subtree inside the box of which too many would be listed is counted whole, without a step. Memory is taken
+/// for no more objects than may be listed.
 pub fn found_in<I: Index, L: Ledger>(
     alloc: Global,
     index: &I,
@@ -104,8 +106,11 @@ fn list_below<I: Index, L: Ledger>(
     if !meets(area, region) {
         return Ok(());
     }
+    if inside(area, region) {
+        return list_whole(found, index, name, place, steps);
+    }
     match index.below(name, place) {
-        Below::Leaf(bucket) => list_leaf(found, name, bucket, area, region, steps),
+        Below::Leaf(bucket) => list_rows(found, bucket, region, steps),
         Below::Halves { zero, one } => {
             let (low, high) = halves(name, area);
             list_below(found, index, &child(name, false), zero, &low, region, steps)?;
@@ -114,43 +119,23 @@ fn list_below<I: Index, L: Ledger>(
     }
 }
 
-// The objects of a leaf that the box meets. Those of a leaf inside the box are all there.
-fn list_leaf<L: Ledger>(
+// All objects below a name. Its leaves are opened only where these are listed.
+fn list_whole<I: Index, L: Ledger>(
     found: &mut Listing,
+    index: &I,
     name: &Name,
-    bucket: &Bucket,
-    area: &Region,
-    region: &Region,
+    place: &I::Place,
     steps: &mut Steps<L>,
 ) -> Result<(), Memory>
-    requires is_box { IsBox region.now }
-    requires area { IsAreaOf name.now area.now }
-    ensures lists { AreKeysUnder name.now bucket.now.rows → Adds result (members_in region.now (objects_of bucket.now.rows)) found.old found.new }
+    requires at { I.is_at index.now place.now name.now }
+    ensures lists { AddsAll result (all_rows (subtree name.now (I.leaves index.now))) found.old found.new }
     ensures grows { found.old.count ≤ found.new.count }
-    ensures opened { steps.new ≤ steps.old + 1 }
-    ensures exact { OnOk result (found.new.count ≤ 2048 → steps.new ≡ steps.old + 1) }
+    ensures opened { steps.new ≤ steps.old + length (subtree name.now (I.leaves index.now)) }
+    ensures exact { OnOk result (found.new.count ≤ 2048 → steps.new ≡ steps.old + length (subtree name.now (I.leaves index.now))) }
 {
-    if inside(area, region) {
-        list_all(found, bucket, steps)
-    } else {
-        list_rows(found, bucket, region, steps)
-    }
-}
-
-// All objects of a bucket; opens it only where they are listed.
-fn list_all<L: Ledger>(
-    found: &mut Listing,
-    bucket: &Bucket,
-    steps: &mut Steps<L>,
-) -> Result<(), Memory>
-    ensures lists { (ms : List Placed) → length ms + length bucket.now.rows < 2 ^ 64 → IsListing ms found.old → OnOk result (IsListing (ms ++ objects_of bucket.now.rows) found.new) }
-    ensures grows { found.old.count ≤ found.new.count }
-    ensures opened { steps.new ≤ steps.old + 1 }
-    ensures exact { OnOk result (found.new.count ≤ 2048 → steps.new ≡ steps.old + 1) }
-{
-    let count = found.count.saturating_add(bucket.count());
+    let count = found.count.saturating_add(index.count_below(name, place));
     if count <= MOST_LISTED {
-        push_all(&mut found.list, bucket, steps)?;
+        push_whole(&mut found.list, index, name, place, steps)?;
     }
     found.count = count;
     Ok(())

@@ -3,6 +3,8 @@ ghost use Rattle.std.specs.Prelude.{◌≡◌, ◌≤◌, ◌+◌, ◌++◌, IfO
 ghost use Rattle.zorder.specs.Region.{IsBox};
 ghost use Rattle.plain_list.specs.Queries.{members_in};
 ghost use Rattle.table_share.specs.KeysUnder.{AreKeysUnder, AreAllKeysUnder};
+ghost use Rattle.index_layer.specs.Leaves.{all_rows};
+ghost use Rattle.index_layer.specs.Subtree.{subtree};
 ghost use Rattle.table_share.specs.Objects.{objects_of};
 ghost use Rattle.table_share.specs.Standing.{OfPlaces};
 ghost use Rattle.range_query.specs.Cut.{leaves_met, below_met, held_below};
@@ -89,7 +91,29 @@ fn push_leaf<L: Ledger>(
     }
 }
 
-pub(crate) fn push_all<L: Ledger>(
+/// All objects below a name, in the order of their keys.
+pub(crate) fn push_whole<I: Index, L: Ledger>(
+    found: &mut Vec<Placed>,
+    index: &I,
+    name: &Name,
+    place: &I::Place,
+    steps: &mut Steps<L>,
+) -> Result<(), Memory>
+    requires at { I.is_at index.now place.now name.now }
+    ensures objects { OnOk result (found.new.items ≡ found.old.items ++ objects_of (all_rows (subtree name.now (I.leaves index.now)))) }
+    ensures opened { steps.new ≤ steps.old + length (subtree name.now (I.leaves index.now)) }
+    ensures exact { OnOk result (steps.new ≡ steps.old + length (subtree name.now (I.leaves index.now))) }
+{
+    match index.below(name, place) {
+        Below::Leaf(bucket) => push_all(found, bucket, steps),
+        Below::Halves { zero, one } => {
+            push_whole(found, index, &child(name, false), zero, steps)?;
+            push_whole(found, index, &child(name, true), one, steps)
+        }
+    }
+}
+
+fn push_all<L: Ledger>(
     found: &mut Vec<Placed>,
     bucket: &Bucket,
     steps: &mut Steps<L>,

@@ -1,16 +1,18 @@
 use Rattle.std.proofs.Common.{◌≡◌, ◌≤◌, ◌+◌, ◌++◌, ◌∷◌, ◌∙◌, [], Bool, List, OnOk, length, length-append, true, false, refl, sym, ap, subst, arith, ◌<◌, rules}
 use Rattle.std.specs.Arc.{arc_value}
+use Rattle.std.proofs.lemmas.List.{length-map}
 use Rattle.zorder.specs.declared.points.Placed.{Placed}
 use Rattle.prefix_names.specs.Regions.{region_of}
-use Rattle.index_layer.specs.Leaves.{Leaf}
-use Rattle.table_share.specs.KeysUnder.{AreKeysUnder}
+use Rattle.index_layer.specs.Leaves.{Leaf, all_rows}
+use Rattle.table_share.specs.Objects.{placed_of}
 use Rattle.table_share.specs.Subtree.{subtree, leaves_of}
-use Rattle.table_share.proofs.Subtrees.{inner-room, passing-both, passing-leaf, subtree-failing}
+use Rattle.table_share.proofs.Subtrees.{whenever, inner-room, passing-both, passing-leaf, subtree-failing}
 use Rattle.range_query.specs.Cut.{IsAreaOf, is_met, leaves_met, objects_held}
 use Rattle.range_query.specs.Listing.{IsListing}
-use Rattle.range_query.proofs.BoxLeaves.{met-is, is_met-narrows, found_one, found_two, found_none, held-append, keys_of_leaf}
+use Rattle.range_query.proofs.BoxLeaves.{met-is, is_met-narrows, found_one, found_two, found_none, held-append}
 use Rattle.range_query.proofs.Listings.{on_ok}
 use Rattle.range_query.proofs.Reaches.{area-box}
+use Rattle.range_query.proofs.Wholes.{met-whole, held-whole, within-name}
 use Rattle.range_query.proofs.found.+list_below.Goals as goal
 
 pub returns-then-not-meets-clause-lists : goal.returns-then-not-meets-clause-lists
@@ -46,6 +48,32 @@ returns-in_err-list_below-in-Halves-clause-opened g t c =
     let both = passing-both passes leaves (g.met.I.Index.are_leaves c.args.index.now).tile name c.child.result (name ++ true ∷ []) c.child.ensures refl c.in-Halves.ensures.0 c.in-Halves.ensures.1 in
     omega (arith, c.list_below.ensures.opened, ap length both, length-append (leaves_of passes (subtree c.child.result leaves)) (leaves_of passes (subtree (name ++ true ∷ []) leaves)))
 
+pub returns-then-inside-clause-lists : goal.returns-then-inside-clause-lists
+returns-then-inside-clause-lists g t c under ms fits is =
+    let leaves : List Leaf = g.I.Index.leaves c.args.index.now in
+    let name = c.args.name.now in
+    let held = held-whole c.args.region.now c.requires.is_box name (within-name c.args.area.now c.args.region.now name c.requires.area (c.inside.ensures.points.0 c.if-inside.true))
+    leaves (g.met.I.Index.are_leaves c.args.index.now).tile under in
+    subst (λ (xs : List Placed). OnOk c.list_whole.result (IsListing (ms ++ xs) c.list_whole.new.found)) (sym held)
+    (c.list_whole.ensures.lists ms (omega (arith, fits, ap length held, length-map (all_rows (subtree name leaves)) placed_of)) is)
+
+pub returns-then-inside-clause-opened : goal.returns-then-inside-clause-opened
+returns-then-inside-clause-opened g t c =
+    let name = c.args.name.now in
+    let met = met-whole c.args.region.now c.requires.is_box name (within-name c.args.area.now c.args.region.now name c.requires.area (c.inside.ensures.points.0 c.if-inside.true))
+    0 (g.I.Index.leaves c.args.index.now) (g.met.I.Index.are_leaves c.args.index.now).tile in
+    omega (arith, c.list_whole.ensures.opened, ap length met)
+
+pub returns-then-inside-clause-exact : goal.returns-then-inside-clause-exact
+returns-then-inside-clause-exact g t c =
+    let name = c.args.name.now in
+    let met = met-whole c.args.region.now c.requires.is_box name (within-name c.args.area.now c.args.region.now name c.requires.area (c.inside.ensures.points.0 c.if-inside.true))
+    0 (g.I.Index.leaves c.args.index.now) (g.met.I.Index.are_leaves c.args.index.now).tile in
+    subst (λ n. OnOk c.list_whole.result (c.list_whole.new.found.count ≤ 2048 → c.list_whole.new.steps ≡ c.args.steps.now + n)) (sym (ap length met)) c.list_whole.ensures.exact
+
+pub inside-requires-clause-a_box : goal.inside-requires-clause-a_box
+inside-requires-clause-a_box g t c = area-box c.args.name.now c.args.area.now c.requires.area
+
 pub returns-in-Leaf-clause-lists : goal.returns-in-Leaf-clause-lists
 returns-in-Leaf-clause-lists g t c under ms fits is =
     let leaves : List Leaf = g.I.Index.leaves c.args.index.now in
@@ -57,22 +85,22 @@ returns-in-Leaf-clause-lists g t c under ms fits is =
     let ls : List Leaf = leaves_of passes (subtree name leaves) in
     let one = passing-leaf passes leaves (g.met.I.Index.are_leaves c.args.index.now).tile name b c.in-Leaf.ensures (met-is region c.args.area.now c.args.name.now c.meets.result true c.meets.ensures.test c.requires.area.is c.if-not-meets.false) in
     let count = ap length (found_one region c.requires.is_box [] rows ls name b (ap (λ r. r.rows) c.deref.ensures) one) in
-    subst (λ (xs : List Placed). OnOk c.list_leaf.result (IsListing xs c.list_leaf.new.found)) (found_one region c.requires.is_box ms rows ls name b (ap (λ r. r.rows) c.deref.ensures) one)
-    (c.list_leaf.ensures.lists (subst (λ r. AreKeysUnder name r.rows) (sym c.deref.ensures) (keys_of_leaf name b leaves c.in-Leaf.ensures under)) ms (omega (arith, fits, count)) is)
+    subst (λ (xs : List Placed). OnOk c.list_rows.result (IsListing xs c.list_rows.new.found)) (found_one region c.requires.is_box ms rows ls name b (ap (λ r. r.rows) c.deref.ensures) one)
+    (c.list_rows.ensures.lists ms (omega (arith, fits, count)) is)
 
 pub returns-in-Leaf-clause-opened : goal.returns-in-Leaf-clause-opened
 returns-in-Leaf-clause-opened g t c =
     let leaves : List Leaf = g.I.Index.leaves c.args.index.now in
     let passes : List Bool → Bool = is_met c.args.region.now in
     let one = passing-leaf passes leaves (g.met.I.Index.are_leaves c.args.index.now).tile c.args.name.now (arc_value c.in-Leaf.bucket.now) c.in-Leaf.ensures (met-is c.args.region.now c.args.area.now c.args.name.now c.meets.result true c.meets.ensures.test c.requires.area.is c.if-not-meets.false) in
-    omega (arith, c.list_leaf.ensures.opened, ap length one)
+    omega (arith, c.list_rows.ensures.opened, ap length one)
 
 pub returns-in-Leaf-clause-exact : goal.returns-in-Leaf-clause-exact
 returns-in-Leaf-clause-exact g t c =
     let leaves : List Leaf = g.I.Index.leaves c.args.index.now in
     let passes : List Bool → Bool = is_met c.args.region.now in
     let one = passing-leaf passes leaves (g.met.I.Index.are_leaves c.args.index.now).tile c.args.name.now (arc_value c.in-Leaf.bucket.now) c.in-Leaf.ensures (met-is c.args.region.now c.args.area.now c.args.name.now c.meets.result true c.meets.ensures.test c.requires.area.is c.if-not-meets.false) in
-    subst (λ n. OnOk c.list_leaf.result (c.list_leaf.new.found.count ≤ 2048 → c.list_leaf.new.steps ≡ c.args.steps.now + n)) (sym (ap length one)) c.list_leaf.ensures.exact
+    whenever c.list_rows.result (λ few. omega (arith, c.list_rows.ensures.opened, ap length one))
 
 pub returns-in_ok-list_below-in-Halves-clause-lists : goal.returns-in_ok-list_below-in-Halves-clause-lists
 returns-in_ok-list_below-in-Halves-clause-lists g t c under ms fits is =

@@ -1,16 +1,18 @@
-use Rattle.std.proofs.Common.{◌≡◌, ◌<◌, ◌^◌, ◌∙◌, List, length, length-append, true, false, not, sym, ap, subst, arith, ◌+◌, ◌∷◌, [], rules}
+use Rattle.std.proofs.Common.{◌≡◌, ◌<◌, ◌^◌, ◌∙◌, ℕ, cond, List, length, length-append, true, false, not, sym, ap, subst, arith, ◌+◌, ◌∷◌, [], rules}
 use Rattle.std.specs.Prelude.{◌&&◌}
 use Rattle.std.specs.Arc.{arc_value}
+use Rattle.std.specs.Cmp.Derive.{both_true}
+use Rattle.zorder.specs.declared.points.Region.{Region}
 use Rattle.prefix_names.specs.Regions.{lies_in, region_of}
 use Rattle.index_layer.specs.Leaves.{Leaf, all_rows}
-use Rattle.table_share.specs.KeysUnder.{AreKeysUnder}
 use Rattle.table_share.specs.Subtree.{subtree}
 use Rattle.table_share.proofs.Subtrees.{inner-room, passing-both, passing-leaf, subtree-failing, subtree-leaf}
 use Rattle.range_query.specs.Cut.{IsAreaOf, is_met, is_cut, leaves_met, leaves_cut, number_in}
 use Rattle.range_query.proofs.BoxCounts.{count_one, count_two, cut_one}
-use Rattle.range_query.proofs.BoxLeaves.{met-is, is_met-narrows, is_cut-narrows, keys_of_leaf}
+use Rattle.range_query.proofs.BoxLeaves.{met-is, is_met-narrows, is_cut-narrows}
 use Rattle.range_query.proofs.Reaches.{area-box}
-use Rattle.range_query.proofs.counts.+count_below.Goals as goal
+use Rattle.range_query.proofs.Wholes.{number-whole, uncut-whole, within-name}
+use Rattle.range_query.proofs.counts.+number_below.Goals as goal
 
 pub returns-then-not-meets-clause-number : goal.returns-then-not-meets-clause-number
 returns-then-not-meets-clause-number g t c under fits =
@@ -38,6 +40,23 @@ pub child-requires : goal.child-requires
 child-requires g t c =
     inner-room c.args.name.now (g.I.Index.leaves c.args.index.now) (g.met.I.Index.are_leaves c.args.index.now).tile c.in-Halves.ensures.0
 
+pub returns-then-inside-clause-number : goal.returns-then-inside-clause-number
+returns-then-inside-clause-number g t c under fits =
+    let leaves : List Leaf = g.I.Index.leaves c.args.index.now in
+    let whole = number-whole c.args.region.now c.requires.is_box c.args.name.now (within-name c.args.area.now c.args.region.now c.args.name.now c.requires.area (c.inside.ensures.points.0 c.if-inside.true))
+    leaves (g.met.I.Index.are_leaves c.args.index.now).tile under in
+    omega (arith, c.count_below.ensures, whole, fits)
+
+pub returns-then-inside-clause-opened : goal.returns-then-inside-clause-opened
+returns-then-inside-clause-opened g t c =
+    let leaves : List Leaf = g.I.Index.leaves c.args.index.now in
+    let within : lies_in (region_of c.args.name.now) c.args.region.now ≡ true =
+    ap (λ (r : Region). lies_in r c.args.region.now) (sym c.requires.area.is) ∙ sym c.inside.ensures.test ∙ c.if-inside.true in
+    omega (arith, ap length (uncut-whole c.args.region.now c.requires.is_box c.args.name.now leaves (g.met.I.Index.are_leaves c.args.index.now).tile within))
+
+pub inside-requires-clause-a_box : goal.inside-requires-clause-a_box
+inside-requires-clause-a_box g t c = area-box c.args.name.now c.args.area.now c.requires.area
+
 pub returns-in-Leaf-clause-number : goal.returns-in-Leaf-clause-number
 returns-in-Leaf-clause-number g t c under fits =
     let leaves : List Leaf = g.I.Index.leaves c.args.index.now in
@@ -47,7 +66,7 @@ returns-in-Leaf-clause-number g t c under fits =
     let met : is_met region name ≡ true = met-is region c.args.area.now c.args.name.now c.meets.result true c.meets.ensures.test c.requires.area.is c.if-not-meets.false in
     let one = passing-leaf (is_met region) leaves (g.met.I.Index.are_leaves c.args.index.now).tile name b c.in-Leaf.ensures met in
     let same = count_one region c.deref.result.now.rows (leaves_met region (subtree name leaves)) name b (ap (λ b. b.rows) c.deref.ensures) one in
-    c.count_leaf.ensures.number (subst (λ b. AreKeysUnder name b.rows) (sym c.deref.ensures) (keys_of_leaf name b leaves c.in-Leaf.ensures under)) (subst (λ n. n < 2 ^ 64) same fits) ∙ sym same
+    c.count_rows.ensures.number (subst (λ n. n < 2 ^ 64) same fits) ∙ sym same
 
 pub returns-in-Leaf-clause-opened : goal.returns-in-Leaf-clause-opened
 returns-in-Leaf-clause-opened g t c =
@@ -55,8 +74,12 @@ returns-in-Leaf-clause-opened g t c =
     let name = c.args.name.now in
     let region = c.args.region.now in
     let b = arc_value c.in-Leaf.bucket.now in
+    let met : is_met region name ≡ true = met-is region c.args.area.now name c.meets.result true c.meets.ensures.test c.requires.area.is c.if-not-meets.false in
+    let part : lies_in (region_of name) region ≡ false =
+    ap (λ (r : Region). lies_in r region) (sym c.requires.area.is) ∙ sym c.inside.ensures.test ∙ c.if-inside.false in
+    let cut : is_cut region name ≡ true = both_true met (ap not part) in
     let one = subtree-leaf name 0 leaves (record { name = name; bucket = b }) (g.met.I.Index.are_leaves c.args.index.now).tile c.in-Leaf.ensures in
-    omega (arith, c.count_leaf.ensures.opened, ap (λ (ls : List Leaf). length (leaves_cut region ls)) one, cut_one region name b)
+    omega (arith, c.count_rows.ensures.opened, ap (λ (ls : List Leaf). length (leaves_cut region ls)) one, cut_one region name b, ap {B = ℕ} (λ t. cond t 1 0) cut)
 
 pub returns-in-Halves-clause-number : goal.returns-in-Halves-clause-number
 returns-in-Halves-clause-number g t c under fits =
@@ -65,8 +88,8 @@ returns-in-Halves-clause-number g t c under fits =
     let region = c.args.region.now in
     let both = passing-both (is_met region) leaves (g.met.I.Index.are_leaves c.args.index.now).tile name c.child.result c.child-in-Halves.result c.child.ensures c.child-in-Halves.ensures c.in-Halves.ensures.0 c.in-Halves.ensures.1 in
     let sum = count_two region (leaves_met region (subtree name leaves)) (leaves_met region (subtree c.child.result leaves)) (leaves_met region (subtree c.child-in-Halves.result leaves)) both in
-    let first = c.count_below-first.ensures.number under (omega (arith, sum, fits)) in
-    let second = c.count_below-second.ensures.number under (omega (arith, sum, fits)) in
+    let first = c.number_below-first.ensures.number under (omega (arith, sum, fits)) in
+    let second = c.number_below-second.ensures.number under (omega (arith, sum, fits)) in
     omega (arith, c.saturating_add.ensures, first, second, sum, fits)
 
 pub returns-in-Halves-clause-opened : goal.returns-in-Halves-clause-opened
@@ -74,14 +97,14 @@ returns-in-Halves-clause-opened g t c =
     let leaves : List Leaf = g.I.Index.leaves c.args.index.now in
     let region = c.args.region.now in
     let both = passing-both (is_cut region) leaves (g.met.I.Index.are_leaves c.args.index.now).tile c.args.name.now c.child.result c.child-in-Halves.result c.child.ensures c.child-in-Halves.ensures c.in-Halves.ensures.0 c.in-Halves.ensures.1 in
-    omega (arith, c.count_below-first.ensures.opened, c.count_below-second.ensures.opened, ap length both, length-append (leaves_cut region (subtree c.child.result leaves)) (leaves_cut region (subtree c.child-in-Halves.result leaves)))
+    omega (arith, c.number_below-first.ensures.opened, c.number_below-second.ensures.opened, ap length both, length-append (leaves_cut region (subtree c.child.result leaves)) (leaves_cut region (subtree c.child-in-Halves.result leaves)))
 
 pub child-requires-in-Halves : goal.child-requires-in-Halves
 child-requires-in-Halves g t c =
     inner-room c.args.name.now (g.I.Index.leaves c.args.index.now) (g.met.I.Index.are_leaves c.args.index.now).tile c.in-Halves.ensures.0
 
-pub count_below-first-requires : goal.count_below-first-requires
-count_below-first-requires g t c κs within =
+pub number_below-first-requires : goal.number_below-first-requires
+number_below-first-requires g t c κs within =
     let name = c.args.name.now in
     let room : length name < 64 = inner-room c.args.name.now (g.I.Index.leaves c.args.index.now) (g.met.I.Index.are_leaves c.args.index.now).tile c.in-Halves.ensures.0 in
     let longer : length c.child.result ≡ length name + 1 = ap length c.child.ensures ∙ length-append name (false ∷ []) in
@@ -89,8 +112,8 @@ count_below-first-requires g t c κs within =
     let of : IsAreaOf c.child.result c.halves.result.0 = record { is = c.halves.ensures.zero ∙ ap region_of (sym c.child.ensures); short = omega (arith, room, longer) } in
     (omega (arith, room, longer), (search rules, (search rules, (search rules, (c.requires.is_box, (there, of))))))
 
-pub count_below-second-requires : goal.count_below-second-requires
-count_below-second-requires g t c κs within =
+pub number_below-second-requires : goal.number_below-second-requires
+number_below-second-requires g t c κs within =
     let name = c.args.name.now in
     let room : length name < 64 = inner-room c.args.name.now (g.I.Index.leaves c.args.index.now) (g.met.I.Index.are_leaves c.args.index.now).tile c.in-Halves.ensures.0 in
     let longer : length c.child-in-Halves.result ≡ length name + 1 = ap length c.child-in-Halves.ensures ∙ length-append name (true ∷ []) in
@@ -100,6 +123,3 @@ count_below-second-requires g t c κs within =
 
 pub halves-requires-clause-whole : goal.halves-requires-clause-whole
 halves-requires-clause-whole g t c = c.requires.area.is
-
-pub count_leaf-requires-clause-met : goal.count_leaf-requires-clause-met
-count_leaf-requires-clause-met g t c = met-is c.args.region.now c.args.area.now c.args.name.now c.meets.result true c.meets.ensures.test c.requires.area.is c.if-not-meets.false
