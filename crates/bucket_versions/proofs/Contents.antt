@@ -9,8 +9,8 @@ use Rattle.bucket_versions.specs.declared.content.Base.TheVariants.{Own, Below, 
 use Rattle.bucket_versions.specs.Rows.{IsRows, AreRows, as_base, rows_over, rows_between}
 use Rattle.bucket_versions.specs.Delta.{delta_len, difference}
 use Rattle.bucket_versions.specs.RowList.{rows_under, listed, IsRowList}
-use Rattle.bucket_versions.specs.Content.{base_in, kept_in, is_own, IsReady, settled}
-use Rattle.bucket_versions.proofs.RowSets.{IsRows-difference, difference-none, difference-between, length-delta, rows_of}
+use Rattle.bucket_versions.specs.Content.{base_in, kept_in, IsReady, settled}
+use Rattle.bucket_versions.proofs.RowSets.{IsRows-difference, difference-none, difference-between, length-delta}
 
 -- the rows of a list rise
 pub IsRows-listed : (l : RowList) → IsRowList l → IsRows (listed l)

@@ -1,7 +1,5 @@
 -- A list of rows in which a row is turned, and how many rows there are then.
-use Rattle.std.proofs.Common.{◌≡◌, ◌∙◌, ℕ, suc, ◌+◌, ◌-◌, ◌*◌, ◌^◌, ◌<◌, ◌≤◌, Bool, true, false, not, ◌||◌, List, [], ◌∷◌, length, leb, ltb, refl, sym, ap, arith, cond, subst, IsTrue}
-use Rattle.std.specs.Prelude.{nat_le}
-use Rattle.std.specs.List.{remove}
+use Rattle.std.proofs.Common.{◌≡◌, ◌∙◌, ℕ, suc, ◌+◌, ◌*◌, ◌^◌, ◌<◌, ◌≤◌, Bool, true, false, ◌||◌, List, [], ◌∷◌, length, leb, ltb, refl, sym, ap, arith, cond, subst}
 use Rattle.std.specs.Arc.{arc_value}
 use Rattle.std.proofs.lemmas.Bool.Decides.{nat_tests}
 use Rattle.std.proofs.lemmas.List.Edits.{length-remove}
@@ -9,7 +7,7 @@ use Rattle.std.proofs.lemmas.Nat.{mul-le}
 use Rattle.bucket_versions.specs.declared.row.Row.{Row}
 use Rattle.bucket_versions.specs.declared.row_list.Under.{Under}
 use Rattle.bucket_versions.specs.declared.row_list.Under.TheVariants.{Nothing, Shared}
-use Rattle.bucket_versions.specs.Rows.{is_below, IsRows, has_row, with_row, without_row, row_place}
+use Rattle.bucket_versions.specs.Rows.{is_below, IsRows, has_row, with_row, row_place}
 use Rattle.bucket_versions.specs.Delta.{difference, turn}
 use Rattle.bucket_versions.specs.RowList.{rows_under, is_short, MayHave, IsCounted, IsListed}
 use Rattle.bucket_versions.proofs.RowPlaces.{there}

@@ -5,11 +5,11 @@ use Rattle.std.specs.List.{filter, insert, remove}
 use Rattle.std.proofs.lemmas.Bool.Decides.{nat_tests}
 use mathlib.Core.Bool.{true≢false}
 use Rattle.bucket_versions.specs.declared.row.Row.{Row}
-use Rattle.bucket_versions.specs.Rows.{Rows, AreRows, is_below, same_row, IsAbove, IsRows, has_row, with_row, without_row, rows_between, row_place}
+use Rattle.bucket_versions.specs.Rows.{Rows, is_below, same_row, IsAbove, IsRows, has_row, with_row, without_row, rows_between, row_place}
 use Rattle.bucket_versions.specs.Delta.{AreParts, weave, difference, turn, delta_len}
-use Rattle.bucket_versions.proofs.RowOrder.{same_row-eq, same_row-refl, is_below-not_back, is_below-either, IsAbove-lower, IsRows-filter, IsRows-with_row, IsRows-without_row, IsRows-rows_between}
+use Rattle.bucket_versions.proofs.RowOrder.{same_row-eq, same_row-refl, is_below-not_back, is_below-either, IsAbove-lower, IsRows-filter, IsRows-with_row, IsRows-without_row}
 use Rattle.bucket_versions.proofs.RowPlaces.{none_above, put_at_place, gone_at_place}
-use Rattle.bucket_versions.proofs.RowRanges.{has_row-filter, has_row-rows_between}
+use Rattle.bucket_versions.proofs.RowRanges.{has_row-filter}
 
 -- whether exactly one of two holds
 abbrev pub differ : Bool → Bool → Bool

@@ -1,6 +1,5 @@
-use Rattle.std.proofs.Common.{◌≡◌, ◌∙◌, ◌+◌, List, length, true, false, sym, arith}
+use Rattle.std.proofs.Common.{◌≡◌, ◌∙◌, ◌+◌, List, length, sym, arith}
 use Rattle.bucket_versions.specs.declared.row.Row.{Row}
-use Rattle.bucket_versions.specs.Rows.{has_row}
 use Rattle.bucket_versions.specs.Delta.{difference, turn}
 use Rattle.bucket_versions.proofs.RowSets.{IsRows-difference}
 use Rattle.bucket_versions.proofs.RowLists.{length-turn_absent, length-turn_present}

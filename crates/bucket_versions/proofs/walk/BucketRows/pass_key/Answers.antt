@@ -1,7 +1,6 @@
-use Rattle.std.proofs.Common.{◌≡◌, ◌∙◌, List, sym, ap, ltb}
+use Rattle.std.proofs.Common.{◌∙◌, List, sym, ap, ltb}
 use Rattle.std.specs.List.{filter}
 use Rattle.bucket_versions.specs.declared.row.Row.{Row}
-use Rattle.bucket_versions.specs.Delta.{difference}
 use Rattle.bucket_versions.proofs.RowSets.{filtered_parts}
 use Rattle.bucket_versions.proofs.walk.BucketRows.pass_key.Goals as goal
 
