@@ -57,7 +57,9 @@ impl Notes {
 
     fn answer_of_lock(&self, hold: Hold) -> io::Result<()> {
         match (self.failing, hold) {
-            (Some(Call::Share), Hold::Shared) | (Some(Call::Alone), Hold::Alone) => Err(io::Error::from(ErrorKind::WouldBlock)),
+            (Some(Call::Share), Hold::Shared) | (Some(Call::Alone), Hold::Alone) => Err(
+                io::Error::from(ErrorKind::WouldBlock),
+            ),
             _ => self.answer(Call::Lock),
         }
     }
