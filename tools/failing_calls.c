@@ -2,7 +2,8 @@
 //
 // REFUSE is the number of the request for memory that is refused, and the file REFUSED is made then. WATCHED is the file whose calls fail,
 // PLAN says which, and TRACED is the file that gets a line for each of its calls, in their order: kind, place, bytes asked for, bytes
-// moved, error, and of a write the bytes in hexadecimal. Kinds: a open, d second handle, l length, p place, r read, w write, s sync, c cut.
+// moved, error, and of a write the bytes in hexadecimal. Kinds: a open, d second handle, h lock beside others that read, x lock alone,
+// l length, p place, r read, w write, s sync, c cut.
 // A write to standard output is traced as kind o, and never fails.
 #define _GNU_SOURCE
 #include <errno.h>
@@ -124,11 +125,17 @@ int openat(int folder, const char *name, int flags, ...) {
     return opened(folder, name, flags, mode);
 }
 
+static int locked(int fd, struct flock *lock) {
+    struct failing f = begun(lock->l_type == F_RDLCK ? 'h' : 'x');
+    return ended(f, 0, 0, f.error ? 0 : syscall(SYS_fcntl, fd, F_OFD_SETLK, lock), 0);
+}
+
 int fcntl(int fd, int command, ...) {
     va_list rest;
     va_start(rest, command);
     long word = va_arg(rest, long);
     va_end(rest);
+    if (is_watched(fd) && command == F_OFD_SETLK) return locked(fd, (struct flock *)word);
     if (!is_watched(fd) || (command != F_DUPFD_CLOEXEC && command != F_DUPFD)) return syscall(SYS_fcntl, fd, command, word);
     struct failing f = begun('d');
     int second = f.error ? 0 : syscall(SYS_fcntl, fd, command, word);

@@ -1,5 +1,6 @@
 """Reads logs and answers rows after docs/FORMATS alone, and says what is wrong with what a run left: for tools/torture."""
 import collections
+import copy
 import errno
 import struct
 import sys
@@ -233,6 +234,32 @@ def judge_output(before, rows, output, added=None):
     return "" if added in (None, changes) else "the records aren't the changes in the order of their places"
 
 
+def judge_writers(before, after, runs):
+    """Says what is wrong with a log that runs at once were to add to, or nothing. Each has rows of sessions that no other has, its status and
+    its output: its changes stand together, all of them where a line was written, none where it was refused."""
+    wrong = judge_changes(before, after, [row for run in runs for row in run[0]], False)
+    owner = {row[0]: number for number, run in enumerate(runs) for row in run[0]}
+    state, starts, made, last = copy.deepcopy(before), {}, [[] for _ in runs], None
+    for cell in () if wrong else after.cells[len(before.cells):]:
+        if cell[0] <= DROP:
+            number = owner[cell[1] // 1000]
+            if number != last and number in starts:
+                return f"run {number}: changes of another one stand between its own"
+            starts.setdefault(number, copy.deepcopy(state))
+            made[number].append(cell)
+            last = number
+        state.add(cell)
+    for number, (rows, status, output) in enumerate(runs):
+        points = dict(before.points)
+        wanted = sum(answered(points, row)[1] is not None for row in rows)
+        has_line = output.startswith(FIRST)
+        if (has_line and len(made[number]) < wanted) or (status == 7 and made[number]):
+            wrong = wrong or f"run {number}, status {status}: {len(made[number])} of {wanted} changes"
+        if status == 0 and number in starts:
+            wrong = wrong or judge_output(starts[number], rows, output, made[number])
+    return wrong
+
+
 def judge_shared(before, after, rows):
     """Says what is wrong with the records of a run whose sessions share ids and put or move to points that no other row has, or nothing."""
     if after.cells[:len(before.cells)] != before.cells:
@@ -264,7 +291,12 @@ def changes_behind(before, after):
 Call = collections.namedtuple("Call", "kind at asked moved error piece")
 
 # How each kind of call is told of in a case.
-KINDS = {"a": "open", "d": "second handle", "l": "length", "p": "place", "r": "read", "w": "write", "s": "sync", "c": "cut"}
+KINDS = {
+    "a": "open", "d": "second handle", "h": "lock beside readers", "x": "lock alone", "l": "length", "p": "place", "r": "read", "w": "write",
+    "s": "sync", "c": "cut"}
+
+# The errors of a lock that say that there are none for this file: the run goes on.
+UNLOCKED = (errno.EINVAL, errno.ENOSYS, errno.EOPNOTSUPP)
 
 
 def read_trace(path):
@@ -286,6 +318,8 @@ def has_failed(call):
     """Whether a run ends with this call. Syncs and cuts that a signal interrupts are tried again, by std."""
     if call.kind == "w" and call.asked and not call.moved:
         return True
+    if call.kind in "hx" and call.error in UNLOCKED:
+        return False
     return call.error != 0 and not (call.kind in "sc" and call.error == errno.EINTR)
 
 
@@ -330,7 +364,7 @@ class Drive:
         if call.kind in "ad" and call.error == errno.ENOMEM:
             return 9, "refused memory\n"
         places = call.kind == "p" and self.syncs == self.opening and call.at <= 16 + 32 * self.cells
-        if call.kind in "adlrc" or self.syncs < self.opening or places:
+        if call.kind in "adhxlrc" or self.syncs < self.opening or places:
             return 7, "refused disk\n"
         return 7, f"refused disk cell {self.placed()}\n"
 

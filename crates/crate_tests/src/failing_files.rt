@@ -1,5 +1,5 @@
 //! A drive over files of the test's own, one call of which fails: what the drive answers then, and what it asks of its file.
-use disk_file::FileDisk;
+use disk_file::{FileDisk, Hold, LockFile};
 use disk_trait::LogDisk;
 use std::alloc::{Allocator, Global};
 use std::cell::Cell;
@@ -12,6 +12,10 @@ use std::process::Abort;
 enum Call {
     Open,
     Clone,
+    // Another open has a lock in the way, of readers beside it, or of one alone; or there are no locks.
+    Share,
+    Alone,
+    Lock,
     Metadata,
     SetLen,
     SyncData,
@@ -20,11 +24,15 @@ enum Call {
     Write,
 }
 
-// The call that fails, and what was asked of a file: clones, syncs of its bytes, and the sum of the lengths to which it was cut.
+// What was asked of a file: clones, writes, syncs of its bytes, and the sum of the lengths to which it was cut.
+type Asked = (u64, u64, u64, u64);
+
+// The call that fails, and what was asked.
 #[derive(Drop)]
 struct Notes {
     failing: Option<Call>,
     clones: Cell<u64>,
+    writes: Cell<u64>,
     syncs: Cell<u64>,
     cuts: Cell<u64>,
 }
@@ -34,6 +42,7 @@ impl Notes {
         Notes {
             failing,
             clones: Cell::new(0),
+            writes: Cell::new(0),
             syncs: Cell::new(0),
             cuts: Cell::new(0),
         }
@@ -46,8 +55,22 @@ impl Notes {
         Ok(())
     }
 
-    fn asked(&self) -> (u64, u64, u64) {
-        (self.clones.get(), self.syncs.get(), self.cuts.get())
+    fn answer_of_lock(&self, hold: Hold) -> io::Result<()> {
+        match (self.failing, hold) {
+            (Some(Call::Share), Hold::Shared) | (Some(Call::Alone), Hold::Alone) => Err(
+                io::Error::from(ErrorKind::WouldBlock),
+            ),
+            _ => self.answer(Call::Lock),
+        }
+    }
+
+    fn asked(&self) -> Asked {
+        (
+            self.clones.get(),
+            self.writes.get(),
+            self.syncs.get(),
+            self.cuts.get(),
+        )
     }
 }
 
@@ -78,6 +101,7 @@ impl Read for NotedFile<'_> {
 impl Write for NotedFile<'_> {
     fn write(&mut self, buf: &[u8]) -> io::Result<usize> {
         self.notes.answer(Call::Write)?;
+        add(&self.notes.writes, 1);
         Ok(buf.len())
     }
 
@@ -119,6 +143,12 @@ impl<'a> OpenFile for NotedFile<'a> {
         self.notes.answer(Call::Clone)?;
         add(&self.notes.clones, 1);
         Ok(NotedFile { notes: self.notes })
+    }
+}
+
+impl LockFile for NotedFile<'_> {
+    fn try_hold(&self, hold: Hold) -> io::Result<()> {
+        self.notes.answer_of_lock(hold)
     }
 }
 
@@ -196,7 +226,7 @@ struct Case {
     failing: Option<Call>,
     attaches: bool,
     told: Told,
-    asked: (u64, u64, u64),
+    asked: Asked,
 }
 
 const NO_FILE: Told = (None, None, false, false, false);
@@ -207,55 +237,73 @@ const CASES: &[Case] = &[
         failing: None,
         attaches: true,
         told: (Some(LENGTH), Some(0), true, true, true),
-        asked: (1, 1, 7),
+        asked: (1, 1, 1, 7),
     },
     Case {
         failing: Some(Call::Open),
         attaches: false,
         told: NO_FILE,
-        asked: (0, 0, 0),
+        asked: (0, 0, 0, 0),
     },
     Case {
         failing: Some(Call::Clone),
         attaches: false,
         told: NO_FILE,
-        asked: (0, 0, 0),
+        asked: (0, 0, 0, 0),
+    },
+    Case {
+        failing: Some(Call::Share),
+        attaches: false,
+        told: NO_FILE,
+        asked: (1, 0, 0, 0),
+    },
+    Case {
+        failing: Some(Call::Alone),
+        attaches: true,
+        told: (Some(LENGTH), Some(0), false, false, false),
+        asked: (1, 0, 0, 0),
+    },
+    Case {
+        failing: Some(Call::Lock),
+        attaches: true,
+        told: (Some(LENGTH), Some(0), true, true, true),
+        asked: (1, 1, 1, 7),
     },
     Case {
         failing: Some(Call::Metadata),
         attaches: true,
         told: (None, Some(0), true, true, true),
-        asked: (1, 1, 7),
+        asked: (1, 1, 1, 7),
     },
     Case {
         failing: Some(Call::SetLen),
         attaches: true,
         told: (Some(LENGTH), Some(0), true, false, true),
-        asked: (1, 1, 0),
+        asked: (1, 1, 1, 0),
     },
     Case {
         failing: Some(Call::SyncData),
         attaches: true,
         told: (Some(LENGTH), Some(0), true, true, false),
-        asked: (1, 0, 7),
+        asked: (1, 1, 0, 7),
     },
     Case {
         failing: Some(Call::Seek),
         attaches: true,
         told: (Some(LENGTH), None, false, true, true),
-        asked: (1, 1, 7),
+        asked: (1, 0, 1, 7),
     },
     Case {
         failing: Some(Call::Read),
         attaches: true,
         told: (Some(LENGTH), None, true, true, true),
-        asked: (1, 1, 7),
+        asked: (1, 1, 1, 7),
     },
     Case {
         failing: Some(Call::Write),
         attaches: true,
         told: (Some(LENGTH), Some(0), false, true, true),
-        asked: (1, 1, 7),
+        asked: (1, 0, 1, 7),
     },
 ];
 

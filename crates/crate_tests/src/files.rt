@@ -73,14 +73,44 @@ fn keeps_what_is_written<R: Abort + Files + AllocGlobal, D: LogDisk + Send>(
     is_read_back(rt, disk, name);
 }
 
-fn path<R: Abort + Env + AllocGlobal>(rt: &R, id: u32) -> PathBuf {
-    let name = format!(in rt.alloc(); "disk_file-{id}").expect(rt, "a name");
+// Two drives read it. Neither changes it, until the other lets go of it; from then on no third one reads it.
+fn has_one_writer<R: Abort + AllocGlobal, D: LogDisk>(rt: &R, drives: [D; 3], name: &str) {
+    let [mut first, mut second, mut third] = drives;
+    assert_is!(rt; attach(&mut first, rt.alloc(), name, true).is_ok());
+    assert_is!(rt; attach(&mut second, rt.alloc(), name, false).is_ok());
+    is_refused(rt, &mut first);
+    is_refused(rt, &mut second);
+    drop(second);
+    first.write(0, b"ab").expect(rt, "no write");
+    assert_is!(rt; matches!(attach(&mut third, rt.alloc(), name, false), Err(AttachFault::Disk)));
+}
+
+fn is_refused<D: LogDisk>(rt: &impl Abort, disk: &mut D) {
+    assert_is!(rt; disk.sync().is_err());
+    assert_is!(rt; disk.cut(0).is_err());
+    assert_is!(rt; disk.write(0, b"xyz").is_err());
+    assert_is!(rt; matches!(length(disk), Ok(0)));
+}
+
+fn drive<R: Abort + Files + Clone + Drop>(rt: &R) -> FileDisk<R> {
+    FileDisk::new(rt.clone().expect(rt, "it failed"))
+}
+
+fn path<R: Abort + Env + AllocGlobal>(rt: &R, case: &str, id: u32) -> PathBuf {
+    let name = format!(in rt.alloc(); "disk_file-{case}-{id}").expect(rt, "a name");
     path_of(rt, name.as_str())
 }
 
 #[test]
 fn a_file_is_made_where_it_may_be_and_keeps_what_is_written_a_log_too(rt: HostRuntime) {
-    let path = path(&rt, process::id(rt.process()));
-    let disk = FileDisk::new(rt.clone().expect(&rt, "it failed"));
-    keeps_what_is_written(&rt, disk, path.as_str());
+    let path = path(&rt, "kept", process::id(rt.process()));
+    keeps_what_is_written(&rt, drive(&rt), path.as_str());
+}
+
+#[test]
+fn an_open_that_reads_a_file_is_in_the_way_of_a_writer_and_a_writer_of_all(rt: HostRuntime) {
+    let path = path(&rt, "locked", process::id(rt.process()));
+    let drives = [drive(&rt), drive(&rt), drive(&rt)];
+    has_one_writer(&rt, drives, path.as_str());
+    expect_taken_away(&rt, path.as_str(), b"ab");
 }

@@ -1,4 +1,5 @@
 pub mod Served
 pub mod Moves
+pub mod Holds
 pub mod Laws
 pub use Rattle.disk_trait.specs.Drive

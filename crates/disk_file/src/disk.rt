@@ -1,11 +1,12 @@
 //! The drive over a file of the machine.
 ghost use Rattle.std.specs.Prelude.{◌≡◌, ◌+◌, ◌^◌, ◌≤◌, false, length};
 
-use crate::moves::{read_from, write_to};
+use crate::held::HeldFile;
+use crate::locks::LockFile;
 use crate::opening::opened;
 use disk_trait::{AttachFault, DiskFault, LogDisk};
 use std::alloc::Global;
-use std::fs::{Files, OpenFile};
+use std::fs::Files;
 use std::marker::Model;
 
 /// A drive whose file `R` opens. It has none until an attach has answered Ok, and keeps the one that it has where a later
@@ -13,7 +14,7 @@ use std::marker::Model;
 #[derive(Drop)]
 pub struct FileDisk<R: Files + Drop> {
     rt: R,
-    file: Option<R::File>,
+    file: Option<HeldFile<R::File>>,
     faults: u64,
 }
 
@@ -54,29 +55,10 @@ impl<R: Files + Drop> FileDisk<R> {
     }
 }
 
-fn length_of<F: OpenFile>(file: &F) -> Result<u64, DiskFault> {
-    match file.metadata() {
-        Ok(found) => Ok(found.len()),
-        Err(_) => Err(DiskFault),
-    }
-}
-
-fn cut_to<F: OpenFile>(file: &F, len: u64) -> Result<(), DiskFault> {
-    match file.set_len(len) {
-        Ok(()) => Ok(()),
-        Err(_) => Err(DiskFault),
-    }
-}
-
-fn synced<F: OpenFile>(file: &F) -> Result<(), DiskFault> {
-    // The bytes and the length; the times of the file aren't waited for.
-    match file.sync_data() {
-        Ok(()) => Ok(()),
-        Err(_) => Err(DiskFault),
-    }
-}
-
-impl<R: Files + Drop> LogDisk for FileDisk<R> {
+impl<R: Files + Drop> LogDisk for FileDisk<R>
+where
+    R::File: LockFile,
+{
     ghost use Rattle.disk_trait.specs.Drive.{IsWithin, Stays, Reads, TellsLength, Writes, Cuts, Syncs, MadeOne, CountsFaults, CountsAttach};
     ghost use Rattle.disk_file.specs.Served.{file_drive, Attaches, Serves};
     ghost use Rattle.disk_file.specs.Laws.{file_laws};
@@ -111,7 +93,7 @@ impl<R: Files + Drop> LogDisk for FileDisk<R> {
         ensures cause { CountsFaults (file_drive self.old) (file_drive self.new) result }
     {
         let len = match &self.file {
-            Some(file) => length_of(file),
+            Some(file) => file.len(),
             None => Err(DiskFault),
         };
         self.counted(len)
@@ -124,7 +106,7 @@ impl<R: Files + Drop> LogDisk for FileDisk<R> {
         ensures cause { CountsFaults (file_drive self.old) (file_drive self.new) result }
     {
         let count = match &mut self.file {
-            Some(file) => read_from(file, at, into),
+            Some(file) => file.read(at, into),
             None => Err(DiskFault),
         };
         self.counted(count)
@@ -139,7 +121,7 @@ impl<R: Files + Drop> LogDisk for FileDisk<R> {
         ensures cause { CountsFaults (file_drive self.old) (file_drive self.new) result }
     {
         let written = match &mut self.file {
-            Some(file) => write_to(file, at, piece),
+            Some(file) => file.write(at, piece),
             None => Err(DiskFault),
         };
         self.counted(written)
@@ -152,8 +134,8 @@ impl<R: Files + Drop> LogDisk for FileDisk<R> {
         ensures made { MadeOne (file_drive self.old) (file_drive self.new) result }
         ensures cause { CountsFaults (file_drive self.old) (file_drive self.new) result }
     {
-        let cut = match &self.file {
-            Some(file) => cut_to(file, len),
+        let cut = match &mut self.file {
+            Some(file) => file.cut(len),
             None => Err(DiskFault),
         };
         self.counted(cut)
@@ -165,8 +147,8 @@ impl<R: Files + Drop> LogDisk for FileDisk<R> {
         ensures made { MadeOne (file_drive self.old) (file_drive self.new) result }
         ensures cause { CountsFaults (file_drive self.old) (file_drive self.new) result }
     {
-        let done = match &self.file {
-            Some(file) => synced(file),
+        let done = match &mut self.file {
+            Some(file) => file.sync(),
             None => Err(DiskFault),
         };
         self.counted(done)

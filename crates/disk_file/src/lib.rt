@@ -8,8 +8,11 @@
 #![tactic(auto)]
 
 mod disk;
+mod held;
+mod locks;
 mod moves;
 mod opening;
 mod sending;
 
 pub use disk::FileDisk;
+pub use locks::{Hold, LockFile};

@@ -3,6 +3,8 @@ ghost use Rattle.std.specs.Prelude.{◌≡◌, ◌↔◌, true};
 ghost use Rattle.std.specs.Fs.{new_options, with_read, with_write, with_create};
 ghost use Rattle.std.specs.IoError.{error_kind};
 
+use crate::held::HeldFile;
+use crate::locks::LockFile;
 use disk_trait::AttachFault;
 use std::fs::{Files, OpenFile, OpenOptions};
 use std::io::{self, ErrorKind};
@@ -32,9 +34,12 @@ fn cause(error: &io::Error) -> AttachFault
     }
 }
 
-/// Opens the file of a name, and makes it where it isn't there and `make` is true.
-pub fn opened<R: Files>(rt: &R, name: &str, make: bool) -> Result<R::File, AttachFault> {
-    match open_apart(rt, name, make) {
+/// Opens the file of a name, and makes it where it isn't there and `make` is true. It is locked beside others that read it.
+pub fn opened<R: Files>(rt: &R, name: &str, make: bool) -> Result<HeldFile<R::File>, AttachFault>
+where
+    R::File: LockFile,
+{
+    match open_apart(rt, name, make).and_then(HeldFile::shared) {
         Ok(file) => Ok(file),
         Err(error) => Err(cause(&error)),
     }
