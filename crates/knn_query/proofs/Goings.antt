@@ -1,9 +1,9 @@
 -- A search goes down to a leaf.
-use Rattle.std.proofs.Common.{◌≡◌, ℕ, ◌+◌, ◌<◌, ◌≤◌, Bool, true, false, List, [], ◌∷◌, ◌++◌, length, inl, inr, refl, sym, ◌∙◌, ap, subst, arith}
+use Rattle.std.proofs.Common.{◌≡◌, ℕ, ◌+◌, ◌<◌, ◌≤◌, true, false, List, [], ◌∷◌, length, inl, inr, sym, ap, subst, arith}
 use Rattle.std.specs.List.{All, sum_by}
 use Rattle.std.specs.List.Sorted.{IsPermutation}
 use Rattle.std.proofs.lemmas.List.Elements.{All-cons, All-map}
-use Rattle.std.proofs.lemmas.List.Sorted.{All-permutation, IsPermutation-append_comm, IsPermutation-append_left, IsPermutation-cons, IsPermutation-map, IsPermutation-sym, sum_by-IsPermutation}
+use Rattle.std.proofs.lemmas.List.Sorted.{All-permutation, IsPermutation-append_comm, IsPermutation-append_left, IsPermutation-cons, IsPermutation-map, sum_by-IsPermutation}
 use Rattle.std.proofs.lemmas.List.Sums.{sum_by-cons}
 use Rattle.zorder.specs.declared.points.Point.{Point}
 use Rattle.zorder.specs.Tile.{tiles_from}
@@ -12,7 +12,7 @@ use Rattle.index_layer.specs.Part.{is_inner}
 use Rattle.table_share.proofs.Subtrees.{inner-room}
 use Rattle.knn_query.specs.Ahead.{IsAhead, number_nearer, weight_of}
 use Rattle.knn_query.specs.Passes.{held}
-use Rattle.knn_query.specs.Waiting.{ahead_of, waiting_at, IsNearest, IsOrder}
+use Rattle.knn_query.specs.Waiting.{ahead_of, IsNearest}
 use Rattle.knn_query.specs.Search.{State, IsWanted, AreHalves, IsPutOrOut}
 use Rattle.knn_query.specs.declared.ahead.Ahead.{Ahead}
 use Rattle.knn_query.specs.declared.ahead.Waiting.{Waiting}

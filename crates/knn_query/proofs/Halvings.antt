@@ -1,10 +1,10 @@
 -- One half of a region is as near as the whole.
-use Rattle.std.proofs.Common.{◌≡◌, ℕ, ◌+◌, ◌-◌, ◌/◌, ◌%◌, ◌<◌, ◌≤◌, ◌⊎◌, Bool, true, false, List, [], ◌∷◌, ◌++◌, length, inl, inr, refl, sym, ap, subst, arith, rules}
-use Rattle.std.specs.Prelude.{nat_le, IsTrue}
+use Rattle.std.proofs.Common.{◌≡◌, ℕ, ◌+◌, ◌-◌, ◌/◌, ◌%◌, ◌<◌, ◌≤◌, ◌⊎◌, Bool, true, false, List, [], ◌∷◌, ◌++◌, length, inl, inr, refl, ap, arith}
+use Rattle.std.specs.Prelude.{nat_le}
 use Rattle.std.proofs.lemmas.Bool.{leb-true, leb-false}
 use Rattle.zorder.specs.declared.points.Point.{Point}
 use Rattle.zorder.specs.declared.points.Region.{Region}
-use Rattle.zorder.specs.Region.{has_point, IsBox}
+use Rattle.zorder.specs.Region.{IsBox}
 use Rattle.zorder.specs.Distance.{distance, least_distance}
 use Rattle.prefix_names.specs.Regions.{region_of}
 use Rattle.prefix_names.proofs.Corners.{IsBox-region_of}

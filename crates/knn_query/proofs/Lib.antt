@@ -5,6 +5,7 @@ pub mod Shuffles
 pub mod Halvings
 pub mod Searching
 pub mod Keeping
+pub mod Pasts
 pub mod Steps
 pub mod Goings
 pub mod Places

@@ -1,11 +1,10 @@
 -- The places of what is ahead.
-use Rattle.std.proofs.Common.{◌≡◌, Bool, List, [], ◌∷◌, ◌++◌, true, false, sym, ap, subst}
-use Rattle.std.specs.List.Sorted.{IsPermutation}
-use Rattle.std.proofs.lemmas.List.Elements.{All-cons, All-head, All-tail}
+use Rattle.std.proofs.Common.{Bool, List, [], ◌∷◌, ◌++◌, true, false, sym, subst}
+use Rattle.std.proofs.lemmas.List.Elements.{All-cons}
 use Rattle.std.proofs.lemmas.List.Sorted.{All-permutation}
 use Rattle.std.proofs.Common.{inl, inr}
 use denote.Ref.{Bor}
-use Rattle.knn_query.specs.Waiting.{AreAt, IsNearest, IsOrder, waiting_at}
+use Rattle.knn_query.specs.Waiting.{AreAt, IsNearest, waiting_at}
 use Rattle.knn_query.specs.Search.{AreHalves, IsPutOrOut}
 use Rattle.knn_query.specs.declared.ahead.Ahead.{Ahead}
 use Rattle.knn_query.specs.declared.ahead.Waiting.{Waiting}

@@ -1,12 +1,12 @@
 -- A best-first search: what is ahead, and what was opened.
-use Rattle.std.proofs.Common.{◌≡◌, ℕ, zero, suc, ◌+◌, ◌-◌, ◌<◌, ◌≤◌, Bool, true, false, cond, List, [], ◌∷◌, ◌++◌, length, take, get_or, Some, refl, sym, ap, subst, ◌∙◌, arith, append_assoc, length-append, length-take}
+use Rattle.std.proofs.Common.{◌≡◌, ℕ, zero, suc, ◌+◌, ◌-◌, ◌<◌, ◌≤◌, Bool, true, false, cond, List, [], ◌∷◌, ◌++◌, length, take, get_or, Some, refl, sym, ap, subst, ◌∙◌, arith, length-take}
 use Rattle.std.specs.Prelude.{nat_lt}
 use Rattle.std.specs.List.{All}
 use Rattle.std.specs.List.Sorted.{IsPermutation}
 use Rattle.std.proofs.lemmas.Grind.{flat_map-append}
 use Rattle.std.proofs.lemmas.List.{map-append, get_or-take}
-use Rattle.std.proofs.lemmas.List.Elements.{All-nil, All-head, All-tail, All-append, filter-append}
-use Rattle.std.proofs.lemmas.List.Sorted.{All-permutation, IsPermutation-sym, IsPermutation-trans, IsPermutation-append_comm, IsPermutation-append_left, IsPermutation-append_right, sum_by-IsPermutation, sorted_far, length_permutation}
+use Rattle.std.proofs.lemmas.List.Elements.{All-nil, All-head, All-tail, All-append}
+use Rattle.std.proofs.lemmas.List.Sorted.{All-permutation, IsPermutation-append_right, sum_by-IsPermutation, sorted_far, length_permutation}
 use Rattle.std.proofs.lemmas.List.Sums.{sum_by-cons, sum_by-append, sum_by-take-le}
 use Rattle.std.proofs.lemmas.Bool.Decides.{nat_tests}
 use Rattle.zorder.specs.declared.points.Point.{Point}
@@ -25,7 +25,7 @@ use Rattle.plain_list.specs.AtPlaces.{AreOf}
 use Rattle.plain_list.proofs.Ranking.{IsPermutation-ranked, IsSortedBy-ranked, is_before-order}
 use Rattle.table_share.specs.Objects.{placed_of, objects_of}
 use Rattle.table_share.specs.KeysUnder.{AreKeysUnder, AreAllKeysUnder}
-use Rattle.table_share.specs.Subtree.{subtree, leaves_of}
+use Rattle.table_share.specs.Subtree.{subtree}
 use Rattle.table_share.proofs.Subtrees.{begins}
 use Rattle.knn_query.specs.Ahead.{least_to, reach_of, number_nearer, IsAhead, leaves_ahead, objects_ahead, Searches}
 use Rattle.knn_query.specs.Passes.{held, Keeps}

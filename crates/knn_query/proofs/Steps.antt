@@ -1,7 +1,7 @@
 -- The steps of a best-first search.
 use Rattle.std.proofs.Common.{◌≡◌, ℕ, zero, suc, ◌+◌, ◌-◌, ◌*◌, ◌^◌, ◌<◌, ◌≤◌, Bool, true, false, cond, List, [], ◌∷◌, ◌++◌, length, take, get_or, Some, refl, sym, ap, subst, ◌∙◌, arith, append_assoc, length-append, length-take}
 use Rattle.std.specs.Prelude.{nat_lt}
-use Rattle.std.specs.List.{All, filter, sum_by}
+use Rattle.std.specs.List.{All, filter}
 use Rattle.std.proofs.Math.Nat.{pow-succ'}
 use Rattle.std.proofs.lemmas.Nat.{pow_pos}
 use Rattle.std.proofs.lemmas.Bool.{le-leb}
@@ -9,7 +9,7 @@ use Rattle.std.specs.List.Sorted.{IsPermutation}
 use Rattle.std.proofs.lemmas.List.{append-nil, get_or-take}
 use Rattle.std.proofs.lemmas.List.Elements.{All-nil, All-cons, All-head, All-tail, filter-append}
 use Rattle.std.proofs.lemmas.List.Sorted.{All-permutation, IsPermutation-refl}
-use Rattle.std.proofs.lemmas.List.Sums.{sum_by-cons, sum_by-append}
+use Rattle.std.proofs.lemmas.List.Sums.{sum_by-cons}
 use Rattle.std.proofs.lemmas.Bool.Decides.{nat_tests}
 use Rattle.zorder.specs.declared.points.Point.{Point}
 use Rattle.zorder.specs.declared.points.Placed.{Placed}
@@ -35,9 +35,9 @@ use Rattle.table_share.proofs.RowObjects.{objects-permutation}
 use Rattle.table_share.proofs.LeafRows.{leaves_under}
 use Rattle.table_share.proofs.Narrowings.{narrowed-rows, narrowed-fewer}
 use Rattle.table_share.proofs.Subtrees.{subtree-whole, subtree-leaf, subtree-halves, inner-room}
-use Rattle.knn_query.specs.Ahead.{least_to, reach_of, number_nearer, IsAhead, leaves_ahead, objects_ahead, Searches, weight_of}
+use Rattle.knn_query.specs.Ahead.{least_to, reach_of, number_nearer, IsAhead, leaves_ahead, objects_ahead, weight_of}
 use Rattle.knn_query.specs.Search.{State, Counts, CountsNear, every, within}
-use Rattle.knn_query.specs.Passes.{held, IsEmpty, IsHeld, Keeps, Passes}
+use Rattle.knn_query.specs.Passes.{held, IsEmpty, Keeps, Passes}
 use Rattle.knn_query.specs.declared.ahead.Ahead.{Ahead}
 use Rattle.knn_query.specs.declared.kept.Kept.{Kept}
 use Rattle.knn_query.proofs.Shuffles.{objects-shuffled, number-shuffled, leaves-shuffled}

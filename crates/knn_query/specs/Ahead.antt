@@ -1,6 +1,6 @@
 -- The subtrees that are still ahead of a search.
-use Rattle.std.specs.Prelude.{◌≡◌, ◌≤◌, ◌+◌, ◌-◌, ◌^◌, ◌++◌, ◌∷◌, ℕ, Bool, nat_le, nat_lt, List, length, slice_index_or}
-use Rattle.std.specs.List.{All, flat_map, count_by}
+use Rattle.std.specs.Prelude.{◌≡◌, ◌≤◌, ◌+◌, ◌-◌, ◌^◌, ℕ, Bool, nat_le, nat_lt, List, length, slice_index_or}
+use Rattle.std.specs.List.{flat_map, count_by}
 use Rattle.zorder.specs.declared.points.Point.{Point}
 use Rattle.zorder.specs.declared.points.Placed.{Placed}
 use Rattle.zorder.specs.Distance.{distance, least_distance}

@@ -9,7 +9,7 @@ use Rattle.table_share.specs.Subtree.{leaves_of}
 use Rattle.table_share.specs.Standing.{OfPlaces}
 use Rattle.knn_query.specs.Ahead.{least_to, reach_of, number_nearer, IsAhead, leaves_ahead, objects_ahead, Searches, weight_of}
 use Rattle.knn_query.specs.Passes.{held, IsHeld}
-use Rattle.knn_query.specs.Waiting.{ahead_of, waiting_at, IsOrder}
+use Rattle.knn_query.specs.Waiting.{waiting_at, IsOrder}
 use Rattle.knn_query.specs.declared.ahead.Ahead.{Ahead}
 use Rattle.knn_query.specs.declared.ahead.Waiting.{Waiting}
 use Rattle.knn_query.specs.declared.kept.Kept.{Kept}

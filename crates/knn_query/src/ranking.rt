@@ -1,19 +1,21 @@
 //! Objects in the order of their distance to a point.
-ghost use Rattle.std.specs.Prelude.{◌≡◌, ◌≤◌, ◌<◌, ◌+◌, ◌∷◌, [], take, IfOk, OnOk, length};
+ghost use Rattle.std.specs.Prelude.{◌≡◌, ◌≤◌, ◌<◌, ◌+◌, ◌∷◌, [], false, take, IfOk, OnOk, length};
 ghost use Rattle.plain_list.specs.Queries.{ranked};
 ghost use Rattle.table_share.specs.Objects.{objects_of, placed_of};
 ghost use Rattle.table_share.specs.Standing.{OfPlaces};
+ghost use Rattle.std.specs.Prelude.{nat_lt};
+ghost use Rattle.std.specs.List.{filter};
 ghost use Rattle.std.specs.Arc.{arc_value};
 ghost use Rattle.std.specs.List.Sorted.{IsPermutation};
 ghost use Rattle.std.specs.BinaryHeap.{heap_items, IsHeap};
 ghost use Rattle.knn_query.specs.Ahead.{IsAhead, OpensNear};
 ghost use Rattle.knn_query.specs.Waiting.{ahead_of, waiting_cmp, AreAt};
 ghost use Rattle.knn_query.specs.Search.{AreHalves, IsPutOrOut, IsWanted, LeadsTo};
-ghost use Rattle.knn_query.specs.Passes.{held, HasReach, IsEmpty, IsHeld, Keeps, Passes};
+ghost use Rattle.knn_query.specs.Passes.{held, HasReach, IsBeyond, IsEmpty, IsHeld, Keeps, Passes};
 
 use crate::ahead::{Ahead, Waiting, by_distance, take_nearest};
-use crate::kept::Kept;
-use bucket_versions::{Bucket, Row};
+use crate::kept::{Came, Kept};
+use bucket_versions::{Bucket, BucketRows, Row};
 use index_layer::{Below, Index};
 use plain_list::PlacedList;
 use prefix_names::KeyBox;
@@ -161,7 +163,7 @@ fn put_far<P: Drop>(
     Ok(())
 }
 
-// Adds the objects of a bucket.
+// Adds the objects of a bucket. Where one comes too late, so do those at its point that follow.
 fn add_rows<L: Ledger>(
     kept: &mut Kept,
     bucket: &Bucket,
@@ -172,25 +174,37 @@ fn add_rows<L: Ledger>(
     ensures opened { steps.new ≡ steps.old + 1 }
 {
     let mut within = kept.reach();
-    for row in bucket.rows(steps) {
-        add_row(kept, &mut within, row)?;
+    let mut rows = bucket.rows(steps);
+    while let Some(row) = rows.next() {
+        if !add_row(kept, &mut within, row)? {
+            pass_key(&mut rows, row.key);
+        }
     }
     Ok(())
 }
 
-// Adds the object of a row, unless its key tells that it is too far. Once there are enough the others need be near.
-fn add_row(kept: &mut Kept, within: &mut KeyBox, row: &Row) -> Result<(), AllocError>
+// Adds the object of a row, unless its key tells that it is too far, and answers whether it was kept. Once there are enough
+// the others need be near.
+fn add_row(kept: &mut Kept, within: &mut KeyBox, row: &Row) -> Result<bool, AllocError>
     requires held { IsHeld kept.old }
     requires reach { HasReach within.old kept.old }
     ensures passes { OnOk result (Passes (placed_of row.now ∷ []) kept.old kept.new) }
     ensures reach { OnOk result (HasReach within.new kept.new) }
+    ensures beyond { IfOk result (λ goes. goes ≡ false → IsBeyond kept.new (placed_of row.now)) }
 {
     if !within.has(row.key) {
-        return Ok(());
+        return Ok(false);
     }
-    if !kept.add(placed(row))? {
-        return Ok(());
+    match kept.add(placed(row))? {
+        Came::More => {
+            *within = kept.reach();
+            Ok(true)
+        }
+        Came::Instead => Ok(true),
+        Came::Beyond => Ok(false),
     }
-    *within = kept.reach();
-    Ok(())
 }
+
+fn pass_key(rows: &mut BucketRows<'_>, key: u64)
+    ensures { rows.new ≡ filter (λ r. nat_lt key r.key) rows.old }
+{}

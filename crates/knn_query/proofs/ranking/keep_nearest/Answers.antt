@@ -1,20 +1,19 @@
-use Rattle.std.proofs.Common.{◌≡◌, ◌<◌, ◌≤◌, ◌+◌, ◌∷◌, ◌∙◌, [], ℕ, List, true, refl, sym, subst, arith}
+use Rattle.std.proofs.Common.{◌≡◌, ◌≤◌, ◌+◌, ◌∷◌, ◌∙◌, [], ℕ, List, sym, subst, arith}
 use Rattle.std.specs.Prelude.{nat_le}
-use Rattle.std.specs.List.{All, sum_by}
 use Rattle.std.specs.Arc.{arc_value}
 use Rattle.std.specs.BinaryHeap.{heap_items}
 use Rattle.std.specs.List.Sorted.{IsPermutation}
 use Rattle.std.proofs.lemmas.Bool.{leb-true, leb-false}
 use Rattle.std.proofs.lemmas.List.Elements.{All-nil, All-cons, All-head, All-tail}
-use Rattle.std.proofs.lemmas.List.Sorted.{All-permutation, IsPermutation-map, sum_by-IsPermutation}
+use Rattle.std.proofs.lemmas.List.Sorted.{All-permutation, IsPermutation-map}
 use Rattle.bucket_versions.specs.Rows.{Rows}
 use Rattle.index_layer.specs.Leaves.{Leaf}
 use Rattle.index_layer.specs.Narrowed.{PassesBare}
 use Rattle.table_share.specs.Objects.{objects_of}
-use Rattle.knn_query.specs.Waiting.{waiting_at, ahead_of, AreAt}
-use Rattle.knn_query.specs.Ahead.{IsAhead, number_nearer, reach_of, leaves_ahead, objects_ahead, weight_of}
+use Rattle.knn_query.specs.Waiting.{waiting_at, ahead_of}
+use Rattle.knn_query.specs.Ahead.{IsAhead, number_nearer, reach_of, leaves_ahead, objects_ahead}
 use Rattle.knn_query.specs.Passes.{held, Keeps, Passes}
-use Rattle.knn_query.specs.Search.{State, IsWanted, within}
+use Rattle.knn_query.specs.Search.{within}
 use Rattle.knn_query.specs.declared.ahead.Ahead.{Ahead}
 use Rattle.knn_query.proofs.Places.{at-taken, IsAt}
 use Rattle.knn_query.proofs.Steps.{begins-state, closed, opened-leaf, near-leaf, leaf-state, ends, ends-every, state-shuffled}
