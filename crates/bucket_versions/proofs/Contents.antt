@@ -1,45 +1,39 @@
--- A list of rows and a base, through a change that keeps the base or doesn't.
+-- Rows and a base, through a change that keeps the base or doesn't.
 use Rattle.std.proofs.Common.{◌≡◌, ◌∙◌, ℕ, Bool, true, false, List, [], ap, sym}
 use mathlib.Core.Bool.{true≢false}
 use Rattle.std.specs.Arc.{arc_value}
 use Rattle.bucket_versions.specs.declared.row.Row.{Row}
+use Rattle.bucket_versions.specs.declared.row_list.RowList.{RowList}
 use Rattle.bucket_versions.specs.declared.content.Base.{Base}
-use Rattle.bucket_versions.specs.declared.content.Base.TheVariants.{Own, Beside, Below}
+use Rattle.bucket_versions.specs.declared.content.Base.TheVariants.{Own, Below, Beside}
 use Rattle.bucket_versions.specs.Rows.{IsRows, AreRows, as_base, rows_over, rows_between}
-use Rattle.bucket_versions.specs.Delta.{AreParts, delta_len, difference, turn}
-use Rattle.bucket_versions.specs.Content.{base_in, is_listed, kept_in, IsReady, settled}
-use Rattle.bucket_versions.proofs.RowSets.{AreRows-now, IsRows-turn, difference-turn, difference-none, difference-between, length-delta}
+use Rattle.bucket_versions.specs.Delta.{delta_len, difference}
+use Rattle.bucket_versions.specs.RowList.{rows_under, listed, IsRowList}
+use Rattle.bucket_versions.specs.Content.{base_in, kept_in, IsReady, settled}
+use Rattle.bucket_versions.proofs.RowSets.{IsRows-difference, difference-none, difference-between, length-delta}
 
--- a row is turned in the list
-pub ready_turned : (keeps : Bool) (b : Base) (list now : List Row) (r : Row) → AreParts (base_in b list) list → IsReady keeps b → now ≡ turn r list
-    → kept_in (settled keeps b) now ≡ rows_over keeps (turn r (kept_in b list).rows) (kept_in b list)
-ready_turned true Own list now r parts ready is = absurd (true≢false ready)
-ready_turned true (Beside base) list now r parts ready is = λ i. record { base = (arc_value base).items; rows = is i }
-ready_turned true (Below base) list now r parts ready is =
-    let rows : difference (arc_value base).items now ≡ turn r (difference (arc_value base).items list) =
-    ap (difference (arc_value base).items) is ∙ difference-turn r (arc_value base).items list parts.base parts.delta in
-    λ i. record { base = (arc_value base).items; rows = rows i }
-ready_turned false Own list now r parts ready is = λ i. record { base = is i; rows = is i }
-ready_turned false (Beside base) list now r parts ready is = λ i. record { base = is i; rows = is i }
-ready_turned false (Below base) list now r parts ready is = absurd (true≢false (sym ready))
+-- the rows of a list rise
+pub IsRows-listed : (l : RowList) → IsRowList l → IsRows (listed l)
+IsRows-listed l is = IsRows-difference (rows_under l.under) l.list.items is.under is.list
 
--- one row after another is
-pub ready_twice : (keeps : Bool) (b : Base) (list now : List Row) (from to : Row) → AreParts (base_in b list) list → IsReady keeps b → now ≡ turn to (turn from list)
-    → kept_in (settled keeps b) now ≡ rows_over keeps (turn to (turn from (kept_in b list).rows)) (kept_in b list)
-ready_twice true Own list now from to parts ready is = absurd (true≢false ready)
-ready_twice true (Beside base) list now from to parts ready is = λ i. record { base = (arc_value base).items; rows = is i }
-ready_twice true (Below base) list now from to parts ready is =
-    let old = (arc_value base).items in
-    let rows : difference old now ≡ turn to (turn from (difference old list)) =
-    ap (difference old) is ∙ difference-turn to old (turn from list) parts.base (IsRows-turn from list parts.delta)
-    ∙ ap (turn to) (difference-turn from old list parts.base parts.delta) in
-    λ i. record { base = old; rows = rows i }
-ready_twice false Own list now from to parts ready is = λ i. record { base = is i; rows = is i }
-ready_twice false (Beside base) list now from to parts ready is = λ i. record { base = is i; rows = is i }
-ready_twice false (Below base) list now from to parts ready is = absurd (true≢false (sym ready))
+pub kept_rising : (b : Base) (l : RowList) → IsRows (base_in b l) → IsRowList l → AreRows (kept_in b l)
+kept_rising b l base is = record { base = base; rows = IsRows-listed l is }
 
-pub kept_rising : (b : Base) (list : List Row) → AreParts (base_in b list) list → AreRows (kept_in b list)
-kept_rising b list parts = AreRows-now (is_listed b) (base_in b list) list parts
+-- a base that stands apart stays as rows change, and else the rows are it
+pub ready_changed : (keeps : Bool) (b : Base) (old now : RowList) (rows : List Row) → IsReady keeps b → rows_under now.under ≡ rows_under old.under → listed now ≡ rows
+    → kept_in (settled keeps b) now ≡ rows_over keeps rows (kept_in b old)
+ready_changed true Own old now rows ready under is = absurd (true≢false ready)
+ready_changed true Below old now rows ready under is = λ i. record { base = under i; rows = is i }
+ready_changed true (Beside base) old now rows ready under is = λ i. record { base = (arc_value base).items; rows = is i }
+ready_changed false b old now rows ready under is = λ i. record { base = is i; rows = is i }
+
+-- and so does its order
+pub base_rising : (keeps : Bool) (b : Base) (old now : RowList) → IsReady keeps b → rows_under now.under ≡ rows_under old.under → IsRows (base_in b old) → IsRowList now
+    → IsRows (base_in (settled keeps b) now)
+base_rising true Own old now ready under rising is = absurd (true≢false ready)
+base_rising true Below old now ready under rising is = is.under
+base_rising true (Beside base) old now ready under rising is = rising
+base_rising false b old now ready under rising is = IsRows-listed now is
 
 -- rows that are their own base have no delta
 pub delta-none : (rows : List Row) → IsRows rows → delta_len (as_base rows) ≡ 0

@@ -1,8 +1,9 @@
 -- A filter of rows that a search splits into those that pass, and those that don't.
-use Rattle.std.proofs.Common.{◌≡◌, ℕ, zero, suc, ◌<◌, ◌≤◌, eqb, Bool, true, false, ◌&&◌, List, [], ◌∷◌, length, get_or, take, drop, refl, ◌∙◌, ap, arith, cond}
+use Rattle.std.proofs.Common.{◌≡◌, ℕ, zero, suc, ◌<◌, ◌≤◌, eqb, ltb, Bool, true, false, ◌&&◌, List, [], ◌∷◌, length, get_or, take, drop, refl, ◌∙◌, ap, arith, cond}
 use Rattle.std.specs.List.{filter, AllWithin}
 use Rattle.std.specs.List.Sorted.{IsNonDecreasingBy}
 use Rattle.std.proofs.lemmas.Bool.{eqb-true, eqb-false}
+use Rattle.std.proofs.lemmas.Bool.Decides.{nat_tests}
 use Rattle.bucket_versions.specs.declared.row.Row.{Row}
 use Rattle.bucket_versions.specs.Rows.{IsRows}
 use Rattle.bucket_versions.proofs.RowOrder.{IsRows-at, is_below-key}
@@ -57,3 +58,11 @@ keys_rise rows rising i j d le lt = by_place (eqb i j) refl
     by_place : (b : Bool) → eqb i j ≡ b → (get_or rows i d).key ≤ (get_or rows j d).key
     by_place true e = let same : i ≡ j = eqb-true i j e in let key : (get_or rows i d).key ≡ (get_or rows j d).key = ap (λ k. (get_or rows k d).key) same in omega (arith, key)
     by_place false e = let other : i ≡ j → ⊥ = eqb-false i j e in is_below-key (get_or rows i d) (get_or rows j d) (IsRows-at rows i j d rising (omega (arith, other)) lt)
+
+-- where the first key is above one, all are
+is_above : (key a b : ℕ) → key < a → a ≤ b → ltb key b ≡ true
+is_above key a b lt le = grind (arith, nat_tests)
+
+pub filter-above : (key : ℕ) (rows : List Row) → IsRows rows → ((d : Row) → key < (get_or rows 0 d).key) → filter (λ r. ltb key r.key) rows ≡ rows
+filter-above key rows rising first =
+    filter-all (λ (r : Row). ltb key r.key) rows (λ k d lt. is_above key (get_or rows 0 d).key (get_or rows k d).key (first d) (keys_rise rows rising 0 k d (omega arith) lt))

@@ -1,15 +1,15 @@
 -- Rows in order are told by what is among them; what is among the rows that a call makes.
-use Rattle.std.proofs.Common.{◌≡◌, ℕ, suc, ◌+◌, ◌≤◌, Bool, true, false, not, ◌&&◌, ◌||◌, List, [], ◌∷◌, length, Result, Ok, Err, OnOk, refl, sym, ◌∙◌, ap, arith, cond}
+use Rattle.std.proofs.Common.{◌≡◌, ℕ, suc, ◌+◌, ◌-◌, ◌≤◌, Bool, true, false, not, ◌&&◌, ◌||◌, List, [], ◌∷◌, length, Result, Ok, Err, OnOk, refl, sym, ◌∙◌, ap, arith, cond}
 use Rattle.std.specs.Prelude.{nat_le}
 use Rattle.std.specs.List.{filter, insert, remove}
 use Rattle.std.proofs.lemmas.Bool.Decides.{nat_tests}
 use mathlib.Core.Bool.{true≢false}
 use Rattle.bucket_versions.specs.declared.row.Row.{Row}
-use Rattle.bucket_versions.specs.Rows.{Rows, AreRows, is_below, same_row, IsAbove, IsRows, has_row, with_row, without_row, rows_between, row_place}
-use Rattle.bucket_versions.specs.Delta.{AreParts, weave, difference, rows_now, turn, delta_len}
-use Rattle.bucket_versions.proofs.RowOrder.{same_row-eq, same_row-refl, is_below-not_back, is_below-either, IsAbove-lower, IsRows-filter, IsRows-with_row, IsRows-without_row, IsRows-rows_between}
+use Rattle.bucket_versions.specs.Rows.{Rows, is_below, same_row, IsAbove, IsRows, has_row, with_row, without_row, rows_between, row_place}
+use Rattle.bucket_versions.specs.Delta.{AreParts, weave, difference, turn, delta_len}
+use Rattle.bucket_versions.proofs.RowOrder.{same_row-eq, same_row-refl, is_below-not_back, is_below-either, IsAbove-lower, IsRows-filter, IsRows-with_row, IsRows-without_row}
 use Rattle.bucket_versions.proofs.RowPlaces.{none_above, put_at_place, gone_at_place}
-use Rattle.bucket_versions.proofs.RowRanges.{has_row-filter, has_row-rows_between}
+use Rattle.bucket_versions.proofs.RowRanges.{has_row-filter}
 
 -- whether exactly one of two holds
 abbrev pub differ : Bool → Bool → Bool
@@ -219,7 +219,7 @@ pub difference-none : (base : List Row) → difference base [] ≡ base
 difference-none [] = refl
 difference-none (r ∷ base) = ap (λ (l : List Row). r ∷ l) (difference-none base)
 
--- the rows between two keys are the base's and the delta's there
+-- the rows that a test passes are the base's and the delta's that it does
 differ_and : (x y k : Bool) → differ (x && k) (y && k) ≡ (differ x y && k)
 differ_and true true true = refl
 differ_and true true false = refl
@@ -227,17 +227,23 @@ differ_and true false true = refl
 differ_and true false false = refl
 differ_and false y k = refl
 
+pub difference-filter : (p : Row → Bool) (base delta : List Row) → IsRows base → IsRows delta → difference (filter p base) (filter p delta) ≡ filter p (difference base delta)
+difference-filter p base delta rising other =
+    let some = filter p base in
+    let few = filter p delta in
+    rows-eq (difference some few) (filter p (difference base delta))
+    (IsRows-difference some few (IsRows-filter p base rising) (IsRows-filter p delta other))
+    (IsRows-filter p (difference base delta) (IsRows-difference base delta rising other))
+    (λ q. has_row-difference q some few (IsRows-filter p base rising) (IsRows-filter p delta other)
+    ∙ (λ i. differ (has_row-filter p base q i) (has_row-filter p delta q i))
+    ∙ differ_and (has_row q base) (has_row q delta) (p q)
+    ∙ sym (has_row-filter p (difference base delta) q ∙ ap (λ b. b && p q) (has_row-difference q base delta rising other)))
+
+pub filtered_parts : (p : Row → Bool) (base delta some few : List Row) → AreParts base delta → some ≡ filter p base → few ≡ filter p delta → difference some few ≡ filter p (difference base delta)
+filtered_parts p base delta some few parts is is_too = (λ i. difference (is i) (is_too i)) ∙ difference-filter p base delta parts.base parts.delta
+
 pub difference-between : (lo hi : ℕ) (base delta : List Row) → IsRows base → IsRows delta → difference (rows_between lo hi base) (rows_between lo hi delta) ≡ rows_between lo hi (difference base delta)
-difference-between lo hi base delta rising other =
-    let some = rows_between lo hi base in
-    let few = rows_between lo hi delta in
-    rows-eq (difference some few) (rows_between lo hi (difference base delta))
-    (IsRows-difference some few (IsRows-rows_between lo hi base rising) (IsRows-rows_between lo hi delta other))
-    (IsRows-rows_between lo hi (difference base delta) (IsRows-difference base delta rising other))
-    (λ q. has_row-difference q some few (IsRows-rows_between lo hi base rising) (IsRows-rows_between lo hi delta other)
-    ∙ (λ i. differ (has_row-rows_between lo hi base q i) (has_row-rows_between lo hi delta q i))
-    ∙ differ_and (has_row q base) (has_row q delta) (nat_le lo q.key && nat_le q.key hi)
-    ∙ sym (has_row-rows_between lo hi (difference base delta) q ∙ ap (λ b. b && (nat_le lo q.key && nat_le q.key hi)) (has_row-difference q base delta rising other)))
+difference-between lo hi base delta rising other = difference-filter (λ r. nat_le lo r.key && nat_le r.key hi) base delta rising other
 
 -- how many rows a difference has at most
 length_weave : (r : Row) (base delta : List Row) → ((rows : List Row) → length (difference base rows) ≤ length base + length rows) → length (weave r (difference base) delta) ≤ suc (length base) + length delta
@@ -254,7 +260,7 @@ length-difference [] delta = omega arith
 length-difference (r ∷ base) delta = length_weave r base delta (λ rows. length-difference base rows)
 
 -- the rows of a list that pass a test, and those that don't
-length_split : (p : Row → Bool) (rows : List Row) → length (filter p rows) + length (filter (λ r. not (p r)) rows) ≡ length rows
+pub length_split : (p : Row → Bool) (rows : List Row) → length (filter p rows) + length (filter (λ r. not (p r)) rows) ≡ length rows
 length_split p [] = refl
 length_split p (r ∷ rows) = by_test (p r) (length_split p rows)
   where
@@ -296,6 +302,28 @@ length-delta base delta rising other =
     ∙ sym (has_row-filter (λ r. not (has_row r base)) delta q)) in
     sym (length_split (λ r. has_row r base) delta) ∙ sym (λ i. length (gone i) + length (added i))
 
+-- of the rows of two lists as many are in the first and the second as in the second and the first
+in_both : (x y : Bool) → (x && y) ≡ (y && x)
+in_both true true = refl
+in_both true false = refl
+in_both false true = refl
+in_both false false = refl
+
+length_both : (base rows : List Row) → IsRows base → IsRows rows → length (filter (λ r. has_row r rows) base) ≡ length (filter (λ r. has_row r base) rows)
+length_both base rows rising other =
+    ap length (rows-eq (filter (λ r. has_row r rows) base) (filter (λ r. has_row r base) rows)
+    (IsRows-filter (λ r. has_row r rows) base rising) (IsRows-filter (λ r. has_row r base) rows other)
+    (λ q. has_row-filter (λ r. has_row r rows) base q ∙ in_both (has_row q base) (has_row q rows) ∙ sym (has_row-filter (λ r. has_row r base) rows q)))
+
+-- how many rows are in exactly one of two lists, as those tell that are in the second alone
+pub delta_told : (base rows : List Row) (came : ℕ) → IsRows base → IsRows rows → came ≡ length (filter (λ r. not (has_row r base)) rows)
+    → (came ≤ length rows) × ((length rows - came ≤ length base + came) × (length base + came - (length rows - came) ≡ delta_len (record { base = base; rows = rows })))
+delta_told base rows came rising other is =
+    let one = length_split (λ r. has_row r rows) base in
+    let two = length_split (λ r. has_row r base) rows in
+    let same = length_both base rows rising other in
+    (omega (arith, two, is), (omega (arith, one, two, same, is), omega (arith, one, two, same, is)))
+
 -- a put at the place of a row that isn't there turns it, and so does a removal at the place of one that is
 pub put_turns : (old now : List Row) (r : Row) (i : ℕ) → IsRows old → has_row r old ≡ false → i ≡ row_place r old → now ≡ insert old i r → (now ≡ turn r old) × IsRows now
 put_turns old now r i rising none at is =
@@ -306,14 +334,6 @@ pub gone_turns : (old now : List Row) (r : Row) (i : ℕ) → IsRows old → has
 gone_turns old now r i rising has at is =
     let both = gone_at_place old now r i rising has at is in
     (both.0 ∙ sym (turn-present r old has), both.1)
-
--- the rows that a list stands for rise
-pub IsRows-now : (w : Bool) (base list : List Row) → AreParts base list → IsRows (rows_now w base list)
-IsRows-now true base list parts = parts.delta
-IsRows-now false base list parts = IsRows-difference base list parts.base parts.delta
-
-pub AreRows-now : (w : Bool) (base list : List Row) → AreParts base list → AreRows (record { base = base; rows = rows_now w base list })
-AreRows-now w base list parts = record { base = parts.base; rows = IsRows-now w base list parts }
 
 -- the delta of a base and the rows on it
 differ_twice : (x y : Bool) → differ x (differ x y) ≡ y

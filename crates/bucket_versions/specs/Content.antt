@@ -1,46 +1,42 @@
--- What a list of rows and a base stand for.
-use Rattle.std.specs.Prelude.{◌≡◌, Bool, true, false, List, if◌then◌else◌}
+-- What rows and a base stand for.
+use Rattle.std.specs.Prelude.{◌≡◌, Bool, true, false, List, if◌then◌else◌, ⊤}
 use Rattle.std.specs.Arc.{arc_value}
 use Rattle.bucket_versions.specs.declared.row.Row.{Row}
+use Rattle.bucket_versions.specs.declared.row_list.RowList.{RowList}
 use Rattle.bucket_versions.specs.declared.content.Base.{Base}
-use Rattle.bucket_versions.specs.declared.content.Base.TheVariants.{Own, Beside, Below}
+use Rattle.bucket_versions.specs.declared.content.Base.TheVariants.{Own, Below, Beside}
 use Rattle.bucket_versions.specs.declared.content.Content.{Content}
-use Rattle.bucket_versions.specs.Rows.{Rows}
-use Rattle.bucket_versions.specs.Delta.{rows_now, AreParts}
+use Rattle.bucket_versions.specs.Rows.{Rows, IsRows}
+use Rattle.bucket_versions.specs.RowList.{rows_under, listed, IsRowList}
 
 -- the rows of a base
-abbrev pub base_in : Base → List Row → List Row
-base_in Own list = list
-base_in (Beside base) list = (arc_value base).items
-base_in (Below base) list = (arc_value base).items
+abbrev pub base_in : Base → RowList → List Row
+base_in Own rows = listed rows
+base_in Below rows = rows_under rows.under
+base_in (Beside base) rows = (arc_value base).items
 
--- whether the list has the rows whole
-abbrev pub is_listed : Base → Bool
-is_listed Own = true
-is_listed (Beside base) = true
-is_listed (Below base) = false
-
--- whether the list is the base too
+-- whether the rows are the base too
 abbrev pub is_own : Base → Bool
 is_own Own = true
+is_own Below = false
 is_own (Beside base) = false
-is_own (Below base) = false
 
--- the base, and the rows that the list stands for
-abbrev pub kept_in : Base → List Row → Rows
-kept_in base list = record { base = base_in base list; rows = rows_now (is_listed base) (base_in base list) list }
+-- the base, and the rows now
+abbrev pub kept_in : Base → RowList → Rows
+kept_in base rows = record { base = base_in base rows; rows = listed rows }
 
 abbrev pub kept : Content → Rows
-kept c = kept_in c.base c.list.items
+kept c = kept_in c.base c.rows
 
--- base and list rise
-abbrev pub AreKept : Content → Type 0
-AreKept c = AreParts (base_in c.base c.list.items) c.list.items
+-- base and rows rise
+pub record AreKept (c : Content) : Type 0 where
+  pub base : IsRows (base_in c.base c.rows)
+  pub rows : IsRowList c.rows
 
--- the base stands apart where it is to be kept; else the list has the rows whole
+-- the base stands apart where it is to be kept
 abbrev pub IsReady : Bool → Base → Type 0
 IsReady true base = is_own base ≡ false
-IsReady false base = is_listed base ≡ true
+IsReady false base = ⊤
 
 -- the base that is kept, or else the rows'
 abbrev pub settled : Bool → Base → Base

@@ -19,11 +19,6 @@ abbrev pub difference : List Row → List Row → List Row
 difference [] delta = delta
 difference (r ∷ base) delta = weave r (difference base) delta
 
--- the rows that a list stands for: the list where it is whole, and else a base with those of the list turned
-abbrev pub rows_now : Bool → List Row → List Row → List Row
-rows_now true base list = list
-rows_now false base list = difference base list
-
 -- the rows without this one where it is among them, and with it where it isn't
 abbrev pub turn : Row → List Row → List Row
 turn r rows = if has_row r rows then without_row r rows else with_row r rows

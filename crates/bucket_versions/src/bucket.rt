@@ -7,8 +7,8 @@ ghost use Rattle.bucket_versions.specs.Delta.{AreParts, delta_len, difference, t
 mod in_place;
 mod shares;
 
-use crate::content::{Base, Content};
-use crate::deltas::merged;
+use crate::content::Content;
+use crate::deltas::{are_same, holds, merged};
 use crate::places;
 use crate::row::Row;
 use crate::walk::BucketRows;
@@ -92,10 +92,7 @@ impl Bucket {
     {
         Bucket {
             alloc,
-            content: Content {
-                base: Base::Own,
-                list: rows,
-            },
+            content: Content::new(rows),
         }
     }
 
@@ -158,7 +155,8 @@ impl Bucket {
     pub fn cut(&self, lo: u64, hi: u64) -> Result<Bucket, Memory>
         ensures { IfOk result (λ b. b ≡ as_base (rows_between lo hi self.now.base)) }
     {
-        Bucket::from_rows(self.alloc, places::between(self.base_rows(), lo, hi))
+        let (base, delta) = self.base_parts();
+        cut_out(self.alloc, base, delta, lo, hi)
     }
 
     // A bucket of the rows with keys from `lo` to `hi`.
@@ -166,9 +164,7 @@ impl Bucket {
         ensures { IfOk result (λ b. b ≡ as_base (rows_between lo hi self.now.rows)) }
     {
         let (base, delta) = self.parts();
-        let some = places::between(base, lo, hi);
-        let late = places::between(delta, lo, hi);
-        Ok(Bucket::from_vec(self.alloc, merged(self.alloc, some, late)?))
+        cut_out(self.alloc, base, delta, lo, hi)
     }
 
     /// This bucket, under a pointer that indexes share.
@@ -178,18 +174,16 @@ impl Bucket {
         Ok(Arc::new(self.alloc, self)?)
     }
 
-    fn base_rows(&self) -> &[Row]
-        ensures base { result.now ≡ self.now.base }
-        ensures in_order { AreRows self.now }
-    {
-        self.content.base_rows()
-    }
-
     /// Whether both have the same base.
     pub fn has_base_of(&self, other: &Bucket) -> bool
         ensures { result ≡ same_rows self.now.base other.now.base }
     {
-        self.base_rows() == other.base_rows()
+        let (base, delta) = self.base_parts();
+        let (others, turned) = other.base_parts();
+        are_same(
+            BucketRows::over(base, delta),
+            BucketRows::over(others, turned),
+        )
     }
 
     // Whether the rows are their own base, as its form tells.
@@ -206,7 +200,7 @@ impl Bucket {
         self.content.is_as_cut(lo, hi)
     }
 
-    /// How many rows there are. Where a base is kept it costs one pass over it and a delta of 32 rows at most, and else nothing.
+    /// How many rows there are.
     pub fn count(&self) -> u64
         ensures count { result ≡ length self.now.rows }
         ensures in_order { AreRows self.now }
@@ -228,6 +222,14 @@ impl Bucket {
         ensures rising { AreRows self.now }
     {
         self.content.parts()
+    }
+
+    // Two lists whose difference the base is.
+    fn base_parts(&self) -> (&[Row], &[Row])
+        ensures rows { difference result.0.now result.1.now ≡ self.now.base }
+        ensures in_order { AreParts result.0.now result.1.now }
+    {
+        self.content.base_parts()
     }
 
     fn walk(&self) -> BucketRows<'_>
@@ -253,7 +255,16 @@ impl Bucket {
         ensures { result ≡ has_row row.now self.now.rows }
     {
         let (base, delta) = self.parts();
-        let in_base = places::place_of(base, row).is_ok();
-        in_base != places::place_of(delta, row).is_ok()
+        holds(base, delta, row)
     }
+}
+
+// A bucket of the rows of two lists with keys from `lo` to `hi`.
+fn cut_out(alloc: Global, base: &[Row], delta: &[Row], lo: u64, hi: u64) -> Result<Bucket, Memory>
+    requires { AreParts base.now delta.now }
+    ensures { IfOk result (λ b. b ≡ as_base (rows_between lo hi (difference base.now delta.now))) }
+{
+    let some = places::between(base, lo, hi);
+    let late = places::between(delta, lo, hi);
+    Ok(Bucket::from_vec(alloc, merged(alloc, some, late)?))
 }

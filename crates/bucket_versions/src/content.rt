@@ -1,65 +1,73 @@
-//! What a bucket keeps: a list of rows, and a base that is this list or stands apart from it.
-ghost use Rattle.std.specs.Prelude.{◌≡◌, ◌<◌, ◌^◌, false, true, length, if◌then◌else◌, IfOk, OnOk, OnErr, IsTrue};
+//! What a bucket keeps: its rows, and a base that they are themselves or that stands apart from them.
+ghost use Rattle.std.specs.Prelude.{◌≡◌, ◌+◌, ◌<◌, ◌^◌, false, true, length, if◌then◌else◌, IfOk, OnOk, OnErr, IsTrue};
 ghost use Rattle.std.specs.Arc.{arc_value};
 ghost use Rattle.bucket_versions.specs.declared.content.Base.{Base};
-ghost use Rattle.bucket_versions.specs.Rows.{has_row, as_base, with_rows, rows_over, rows_between, after_put};
+ghost use Rattle.bucket_versions.specs.Rows.{IsRows, has_row, as_base, with_rows, rows_over, rows_between, after_put};
 ghost use Rattle.bucket_versions.specs.Delta.{AreParts, delta_len, difference, turn, after_turn};
-ghost use Rattle.bucket_versions.specs.Content.{kept, AreKept, is_own, is_listed, IsReady, settled};
+ghost use Rattle.bucket_versions.specs.RowList.{HasRoom};
+ghost use Rattle.bucket_versions.specs.Content.{kept, AreKept, is_own, IsReady, settled};
 ghost use Rattle.bucket_versions.specs.Told.{Told};
 
 use crate::bucket::Bucket;
-use crate::commit::{Commit, Undone};
-use crate::deltas::merged;
-use crate::own_rows;
+use crate::commit::{AtOnce, Commit, Undone};
+use crate::deltas::delta_of;
 use crate::places::between;
 use crate::row::{Row, RowChange};
-use crate::walk::BucketRows;
+use crate::row_list::RowList;
 use std::alloc::{AllocError, Global};
 use std::sync::Arc;
 use zorder::Memory;
 
-// A delta of so many rows gives way to the list of all rows.
-const MOST_TURNED: usize = 32;
-
 /// Where the base of a bucket is.
 #[derive(Drop)]
 pub(crate) enum Base {
-    /// The rows are their own base, and the list has them.
+    /// The rows are their own base.
     Own,
-    /// It stands beside the rows, of which the list has all.
+    /// It is what stands below the list of rows.
+    Below,
+    /// It stands beside the rows.
     Beside(Arc<Vec<Row>>),
-    /// It stands below the rows: the list has the delta, the rows that stand in exactly one of both.
-    Below(Arc<Vec<Row>>),
 }
 
-/// A list in order, and a base.
+/// Rows in order, and a base.
 #[derive(Drop)]
 pub(crate) struct Content {
     pub(crate) base: Base,
-    pub(crate) list: Vec<Row>,
+    pub(crate) rows: RowList,
 }
 
 impl Content {
+    /// Rows that are their own base.
+    pub(crate) fn new(list: Vec<Row>) -> Content
+        requires { IsRows list.items }
+        ensures rows { kept result ≡ as_base list.items }
+        ensures in_order { AreKept result }
+    {
+        Content {
+            base: Base::Own,
+            rows: RowList::new(list),
+        }
+    }
+
     /// Two lists whose difference the rows are.
     pub(crate) fn parts(&self) -> (&[Row], &[Row])
         requires { AreKept self.now }
         ensures rows { difference result.0.now result.1.now ≡ (kept self.now).rows }
         ensures in_order { AreParts result.0.now result.1.now }
     {
-        match &self.base {
-            Base::Own => (&self.list, &[]),
-            Base::Beside(_) => (&self.list, &[]),
-            Base::Below(base) => (base, &self.list),
-        }
+        self.rows.parts()
     }
 
-    pub(crate) fn base_rows(&self) -> &[Row]
-        ensures { result.now ≡ (kept self.now).base }
+    /// Two lists whose difference the base is.
+    pub(crate) fn base_parts(&self) -> (&[Row], &[Row])
+        requires { AreKept self.now }
+        ensures rows { difference result.0.now result.1.now ≡ (kept self.now).base }
+        ensures in_order { AreParts result.0.now result.1.now }
     {
         match &self.base {
-            Base::Own => &self.list,
-            Base::Beside(base) => base,
-            Base::Below(base) => base,
+            Base::Own => self.rows.parts(),
+            Base::Below => (self.rows.under(), &[]),
+            Base::Beside(base) => (base, &[]),
         }
     }
 
@@ -70,26 +78,23 @@ impl Content {
         matches!(self.base, Base::Own)
     }
 
-    /// Whether no row with a key from `lo` to `hi` came or went, as its form tells: a list of all rows beside a base tells it of none.
+    /// Whether no row with a key from `lo` to `hi` came or went, as its form tells: rows beside a base tell it of none.
     pub(crate) fn is_as_cut(&self, lo: u64, hi: u64) -> bool
         requires { AreKept self.now }
         ensures { IsTrue result → rows_between lo hi (kept self.now).rows ≡ rows_between lo hi (kept self.now).base }
     {
         match &self.base {
             Base::Own => true,
+            Base::Below => between(&self.rows.list, lo, hi).is_empty(),
             Base::Beside(_) => false,
-            Base::Below(_) => between(&self.list, lo, hi).is_empty(),
         }
     }
 
     pub(crate) fn count(&self) -> u64
+        requires { AreKept self.now }
         ensures { result ≡ length (kept self.now).rows }
     {
-        match &self.base {
-            Base::Own => self.list.len() as u64,
-            Base::Beside(_) => self.list.len() as u64,
-            Base::Below(base) => how_many(base, &self.list),
-        }
+        self.rows.count()
     }
 
     pub(crate) fn delta_len(&self) -> u64
@@ -98,55 +103,27 @@ impl Content {
     {
         match &self.base {
             Base::Own => 0,
-            Base::Beside(base) => how_many(base, &self.list),
-            Base::Below(_) => self.list.len() as u64,
+            Base::Below => self.rows.list.len() as u64,
+            Base::Beside(base) => {
+                let (under, delta) = self.rows.parts();
+                delta_of(base, under, delta, self.rows.count())
+            }
         }
     }
 
-    /// The same, with a list of its own. A base that stands apart is shared.
+    /// The same, with a list of its own. What stands below it is shared, and so is a base that stands apart.
     pub(crate) fn share(&self, alloc: Global) -> Result<Content, AllocError>
         requires { AreKept self.now }
         ensures same { IfOk result (λ c. kept c ≡ kept self.now) }
         ensures in_order { IfOk result (λ c. AreKept c) }
     {
-        let list = Vec::from_slice(alloc, &self.list)?;
+        let rows = self.rows.share(alloc)?;
         let base = match &self.base {
             Base::Own => Base::Own,
-            Base::Beside(base) => Base::Beside(another(base)?),
-            Base::Below(base) => Base::Below(another(base)?),
+            Base::Below => Base::Below,
+            Base::Beside(base) => Base::Beside(Arc::try_clone(base)?),
         };
-        Ok(Content { base, list })
-    }
-
-    // Lists the rows whole.
-    fn list_rows(&mut self, alloc: Global) -> Result<(), Memory>
-        requires { AreKept self.old }
-        ensures same { kept self.new ≡ kept self.old }
-        ensures in_order { AreKept self.new }
-        ensures own { is_own self.new.base ≡ is_own self.old.base }
-        ensures ok { OnOk result (is_listed self.new.base ≡ true) }
-    {
-        let Base::Below(base) = &self.base else {
-            return Ok(());
-        };
-        let rows = merged(alloc, base, &self.list)?;
-        let base = another(base)?;
-        self.list = rows;
-        self.base = Base::Beside(base);
-        Ok(())
-    }
-
-    // Lists the rows whole where the delta is long, so that no walk over them is.
-    fn list_many(&mut self, alloc: Global) -> Result<(), Memory>
-        requires { AreKept self.old }
-        ensures same { kept self.new ≡ kept self.old }
-        ensures in_order { AreKept self.new }
-        ensures own { is_own self.new.base ≡ is_own self.old.base }
-    {
-        if self.list.len() < MOST_TURNED {
-            return Ok(());
-        }
-        self.list_rows(alloc)
+        Ok(Content { base, rows })
     }
 
     // Puts the base apart from the rows, so that it stays when these change.
@@ -156,13 +133,28 @@ impl Content {
         ensures in_order { AreKept self.new }
         ensures ok { OnOk result (is_own self.new.base ≡ false) }
     {
-        let Base::Own = &self.base else {
-            return self.list_many(alloc);
-        };
-        let base = shared(alloc, Vec::from_slice(alloc, &self.list)?)?;
-        self.list = Vec::new(alloc);
-        self.base = Base::Below(base);
+        if let Base::Own = &self.base {
+            self.rows.lower(alloc)?;
+            self.base = Base::Below;
+        }
         Ok(())
+    }
+
+    // Makes room for two rows more. A base that stands below the rows is then beside them, if the list gives way.
+    fn make_room(&mut self, alloc: Global) -> Result<(), Memory>
+        requires { AreKept self.old }
+        ensures same { kept self.new ≡ kept self.old }
+        ensures in_order { AreKept self.new }
+        ensures own { is_own self.new.base ≡ is_own self.old.base }
+        ensures ok { OnOk result (HasRoom 2 self.new.rows) }
+    {
+        if !self.rows.is_full() {
+            return Ok(());
+        }
+        if let Base::Below = &self.base {
+            self.base = Base::Beside(self.rows.shared_under(alloc)?);
+        }
+        self.rows.renew(alloc)
     }
 
     // Makes ready for a change that keeps the base or doesn't.
@@ -170,16 +162,15 @@ impl Content {
         requires { AreKept self.old }
         ensures same { kept self.new ≡ kept self.old }
         ensures in_order { AreKept self.new }
-        ensures ok { OnOk result (IsReady keeps_base self.new.base) }
+        ensures ok { OnOk result (IsReady keeps_base self.new.base × HasRoom 2 self.new.rows) }
     {
         if keeps_base {
-            self.part_base(alloc)
-        } else {
-            self.list_rows(alloc)
+            self.part_base(alloc)?;
         }
+        self.make_room(alloc)
     }
 
-    // Makes the listed rows their own base, where the base isn't kept.
+    // Makes the rows their own base, where the base isn't kept.
     fn settle(&mut self, keeps_base: bool)
         ensures { self.new ≡ record self.old { base = settled keeps_base self.old.base } }
     {
@@ -194,10 +185,11 @@ impl Content {
         ensures ok { OnOk result (kept self.new ≡ with_rows (turn row (kept self.old).rows) (kept self.old)) }
         ensures in_order { AreKept self.new }
     {
-        self.part_base(alloc)?;
-        self.list.reserve(1)?;
-        own_rows::turn_within(&mut self.list, row);
-        Ok(())
+        self.make_ready(alloc, true)?;
+        match self.rows.turn_one(row, &mut AtOnce) {
+            Ok(()) => Ok(()),
+            Err(_) => Err(Memory),
+        }
     }
 
     /// Turns a row, once the step has succeeded.
@@ -215,7 +207,7 @@ impl Content {
         ensures told { Told C.done C.lost commit.old commit.new result }
     {
         self.make_ready(alloc, change.keeps_base)?;
-        if let Err(undone) = own_rows::turn_one(&mut self.list, change.row, commit) {
+        if let Err(undone) = self.rows.turn_one(change.row, commit) {
             return Err(undone);
         }
         self.settle(change.keeps_base);
@@ -238,7 +230,7 @@ impl Content {
         ensures told { Told C.done C.lost commit.old commit.new result }
     {
         self.make_ready(alloc, to.keeps_base)?;
-        if let Err(undone) = own_rows::turn_two(&mut self.list, from, to.row, commit) {
+        if let Err(undone) = self.rows.turn_two(from, to.row, commit) {
             return Err(undone);
         }
         self.settle(to.keeps_base);
@@ -262,29 +254,10 @@ impl Content {
         ensures told { Told C.done C.lost commit.old commit.new result }
     {
         self.make_ready(alloc, from.keeps_base)?;
-        if let Err(undone) = own_rows::hand_over(&mut self.list, from.row, other, to, commit) {
+        if let Err(undone) = self.rows.hand_over(from.row, other, to, commit) {
             return Err(undone);
         }
         self.settle(from.keeps_base);
         Ok(())
     }
-}
-
-fn how_many(base: &[Row], delta: &[Row]) -> u64
-    requires { length (difference base.now delta.now) < 2 ^ 64 }
-    ensures { result ≡ length (difference base.now delta.now) }
-{
-    BucketRows::over(base, delta).count() as u64
-}
-
-fn shared(alloc: Global, rows: Vec<Row>) -> Result<Arc<Vec<Row>>, Memory>
-    ensures { IfOk result (λ shared. arc_value shared ≡ rows) }
-{
-    Ok(Arc::new(alloc, rows)?)
-}
-
-fn another(rows: &Arc<Vec<Row>>) -> Result<Arc<Vec<Row>>, AllocError>
-    ensures { IfOk result (λ copy. arc_value copy ≡ arc_value rows.now) }
-{
-    Arc::try_clone(rows)
 }

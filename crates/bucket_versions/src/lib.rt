@@ -1,8 +1,10 @@
 //! Versions of a bucket: the rows under one leaf of an index.
 //!
 //! Contracts see a `Bucket` as two lists of distinct rows in order: its base, and its rows now. Mostly the rows are their own
-//! base, and it keeps one list. A base that is kept while rows change stands apart, where versions share it, and the list has the
-//! delta: the rows that stand in exactly one of the two. A delta of 32 rows gives way to the list of all rows. `with_put` and
+//! base. Few rows are one list, which a change shifts and a version copies whole. Of many the list has a delta alone: the rows
+//! that stand in exactly one of all and others below, which versions share. A delta that is long for the rows below gives way
+//! to a list of all rows, so that a change shifts, and a version copies, no more than some square root of them. A base that is
+//! kept while rows change stands below the list at first, and then beside it. `with_put` and
 //! `with_gone` give a new bucket with the same base, `folded` makes the rows its base, `cut` makes a bucket of some of the base's
 //! rows, and `caught_up` gives such a one the rows that the other has since. No call hands out rows of a bucket but `rows`, which
 //! is a step. `put`, `take`, `shift` and `pass` change what a pointer holds,
@@ -20,6 +22,7 @@ mod own_rows;
 mod owned;
 mod places;
 mod row;
+mod row_list;
 mod sending;
 mod walk;
 

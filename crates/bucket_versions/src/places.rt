@@ -1,5 +1,5 @@
 //! Where rows stand in a list in order, found by binary search.
-ghost use Rattle.std.specs.Prelude.{◌≡◌, ◌≤◌, ◌<◌, ◌+◌, ◌*◌, ◌^◌, ℕ, nat_le, true, false, length, take, drop, MatchResult};
+ghost use Rattle.std.specs.Prelude.{◌≡◌, ◌≤◌, ◌<◌, ◌+◌, ◌*◌, ◌^◌, ℕ, nat_le, nat_lt, true, false, length, take, drop, MatchResult};
 ghost use Rattle.std.specs.List.{filter, remove};
 ghost use Rattle.bucket_versions.specs.Rows.{IsRows, has_row, with_row, without_row, rows_between, row_place, is_below};
 
@@ -68,5 +68,16 @@ fn from_key(rows: &[Row], lo: u64) -> &[Row]
     ensures { result.now ≡ filter (λ r. nat_le lo r.key) rows.now }
 {
     let start = rows.partition_point(|r| r.key < lo);
+    &rows[start..]
+}
+
+/// The rows with keys above this one, out of rows in order.
+#[inline(never)]
+pub(crate) fn above_key(rows: &[Row], key: u64) -> &[Row]
+    requires { IsRows rows.now }
+    ensures rows { result.now ≡ filter (λ r. nat_lt key r.key) rows.now }
+    ensures in_order { IsRows result.now }
+{
+    let start = rows.partition_point(|r| r.key <= key);
     &rows[start..]
 }

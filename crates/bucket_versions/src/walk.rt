@@ -1,7 +1,10 @@
 //! The rows of a bucket, one after the other.
-ghost use Rattle.std.specs.Prelude.{◌≡◌, ◌∷◌, [], false, MatchOption};
-ghost use Rattle.bucket_versions.specs.Delta.{difference, heads_meet, delta_leads};
+ghost use Rattle.std.specs.Prelude.{◌≡◌, ◌∷◌, [], false, nat_lt, MatchOption, IfSome, IsTrue};
+ghost use Rattle.std.specs.List.{filter};
+ghost use Rattle.bucket_versions.specs.Rows.{IsRows};
+ghost use Rattle.bucket_versions.specs.Delta.{AreParts, difference, heads_meet, delta_leads};
 
+use crate::places::above_key;
 use crate::row::Row;
 use std::marker::Model;
 
@@ -15,18 +18,44 @@ pub struct BucketRows<'a> {
 impl<'a> Model for BucketRows<'a> {
     ghost use Rattle.std.specs.Prelude.{List};
     ghost use Rattle.bucket_versions.specs.declared.row.Row.{Row};
-    ghost use Rattle.bucket_versions.specs.Delta.{difference};
+    ghost use Rattle.bucket_versions.specs.Delta.{AreParts, difference};
 
     ghost Value = { List Row };
 
     ghost view = { λ s. difference s.base.now s.delta.now };
+
+    ghost invariant = { λ s. AreParts s.base.now s.delta.now };
 }
 
 impl<'a> BucketRows<'a> {
     pub(crate) fn over(base: &'a [Row], delta: &'a [Row]) -> BucketRows<'a>
+        requires { AreParts base.now delta.now }
         ensures { result ≡ difference base.now delta.now }
     {
         BucketRows { base, delta }
+    }
+
+    /// Passes over the rows that are next with keys up to this one: a search, so however many they are it costs their logarithm.
+    pub fn pass_key(&mut self, key: u64)
+        ensures { self.new ≡ filter (λ r. nat_lt key r.key) self.old }
+    {
+        if are_above(self.base, key) && are_above(self.delta, key) {
+            return;
+        }
+        self.base = above_key(self.base, key);
+        self.delta = above_key(self.delta, key);
+    }
+}
+
+// Whether all rows in order have keys above this one, as the first tells.
+#[inline(always)]
+fn are_above(rows: &[Row], key: u64) -> bool
+    requires { IsRows rows.now }
+    ensures { IsTrue result → filter (λ r. nat_lt key r.key) rows.now ≡ rows.now }
+{
+    match rows.first() {
+        Some(row) => key < row.key,
+        None => true,
     }
 }
 
@@ -55,6 +84,8 @@ fn leads(base: &[Row], delta: &[Row]) -> bool
 
 // Both, without the rows at their heads that are in both: those were taken out.
 fn apart<'a>(base: &'a [Row], delta: &'a [Row]) -> (&'a [Row], &'a [Row])
+    requires { AreParts base.now delta.now }
+    ensures in_order { AreParts result.0.now result.1.now }
     ensures rows { difference result.0.now result.1.now ≡ difference base.now delta.now }
     ensures apart { heads_meet result.0.now result.1.now ≡ false }
 {
@@ -94,7 +125,9 @@ impl<'a> Iterator for BucketRows<'a> {
 // iterator, so that a loop over the rows of one list keeps the iterator in registers.
 #[inline(never)]
 fn merged_next<'a>(base: &'a [Row], delta: &'a [Row]) -> Option<(&'a Row, &'a [Row], &'a [Row])>
-    ensures { MatchOption result (difference base.now delta.now ≡ []) (λ next. difference base.now delta.now ≡ next.0.now ∷ difference next.1.now next.2.now) }
+    requires { AreParts base.now delta.now }
+    ensures in_order { IfSome result (λ next. AreParts next.1.now next.2.now) }
+    ensures next { MatchOption result (difference base.now delta.now ≡ []) (λ next. difference base.now delta.now ≡ next.0.now ∷ difference next.1.now next.2.now) }
 {
     let (base, delta) = apart(base, delta);
     if leads(base, delta) {

@@ -4,4 +4,4 @@ use Rattle.bucket_versions.proofs.Contents.{kept_rising}
 use Rattle.bucket_versions.proofs.bucket.Bucket.count.Goals as goal
 
 pub returns-clause-in_order : goal.returns-clause-in_order
-returns-clause-in_order c = subst AreRows c.self.view_is (kept_rising c.self.inside.content.base c.self.inside.content.list.items c.self.invariant)
+returns-clause-in_order c = subst AreRows c.self.view_is (kept_rising c.self.inside.content.base c.self.inside.content.rows c.self.invariant.base c.self.invariant.rows)

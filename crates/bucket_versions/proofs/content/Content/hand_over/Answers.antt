@@ -1,17 +1,14 @@
-use Rattle.std.proofs.Common.{◌∙◌, ap}
-use Rattle.bucket_versions.specs.Rows.{rows_over}
-use Rattle.bucket_versions.specs.Delta.{turn}
-use Rattle.bucket_versions.specs.Content.{kept}
-use Rattle.bucket_versions.proofs.Contents.{ready_turned}
+use Rattle.std.proofs.Common.{sym, subst}
+use Rattle.bucket_versions.specs.Content.{AreKept}
+use Rattle.bucket_versions.proofs.Contents.{base_rising}
 use Rattle.bucket_versions.proofs.content.Content.hand_over.Goals as goal
 
-pub returns-clause-ok : goal.returns-clause-ok
-returns-clause-ok g c =
+pub returns-clause-in_order : goal.returns-clause-in_order
+returns-clause-in_order g c =
     let keeps = c.args.from.keeps_base in
-    let row = c.args.from.row in
-    let ready = c.make_ready.new.self in (
-      ap kept c.settle.ensures
-          ∙ ready_turned keeps ready.base ready.list.items c.hand_over.new.rows.items row c.make_ready.ensures.in_order c.in_ok-make_ready.ensures.ok c.in_default.ensures.ok.0
-          ∙ ap (λ v. rows_over keeps (turn row v.rows) v) c.make_ready.ensures.same,
-      c.in_default.ensures.ok.1,
-    )
+    let ready = c.make_ready.new.self in
+    let now = c.hand_over.new.self in
+    subst AreKept (sym c.settle.ensures) (record {
+      base = base_rising keeps ready.base ready.rows now c.in_ok-make_ready.ensures.ok.0 c.hand_over.ensures.is.1 c.make_ready.ensures.in_order.base c.hand_over.ensures.is.0;
+      rows = c.hand_over.ensures.is.0;
+    })

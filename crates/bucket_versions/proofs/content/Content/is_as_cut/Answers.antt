@@ -4,8 +4,8 @@ use Rattle.std.proofs.lemmas.List.{nil_from_length}
 use Rattle.bucket_versions.specs.declared.row.Row.{Row}
 use Rattle.bucket_versions.specs.declared.content.Base.{Base}
 use Rattle.bucket_versions.specs.Rows.{rows_between}
-use Rattle.bucket_versions.specs.Delta.{AreParts, rows_now}
-use Rattle.bucket_versions.specs.Content.{base_in, is_listed}
+use Rattle.bucket_versions.specs.RowList.{rows_under, listed}
+use Rattle.bucket_versions.specs.Content.{base_in}
 use Rattle.bucket_versions.proofs.Contents.{between-base}
 use Rattle.bucket_versions.proofs.content.Content.is_as_cut.Goals as goal
 
@@ -13,8 +13,9 @@ pub returns-in-Below : goal.returns-in-Below
 returns-in-Below c empty =
     let lo = c.args.lo in
     let hi = c.args.hi in
-    let list : List Row = c.args.self.now.list.items in
+    let rows = c.args.self.now.rows in
+    let list : List Row = rows.list.items in
     let none : rows_between lo hi list ≡ [] =
     sym (c.between.ensures.rows ∙ ap (rows_between lo hi) c.deref.ensures.value) ∙ nil_from_length c.between.result.now (eqb-true _ _ (sym c.is_empty.ensures ∙ empty)) in
-    let Keeps : Base → Type 0 = λ b. AreParts (base_in b list) list → rows_between lo hi (rows_now (is_listed b) (base_in b list) list) ≡ rows_between lo hi (base_in b list) in
-    subst Keeps (sym c.in-Below.is) (λ parts. between-base lo hi _ list parts.base parts.delta none) c.requires
+    let Keeps : Base → Type 0 = λ b. rows_between lo hi (listed rows) ≡ rows_between lo hi (base_in b rows) in
+    subst Keeps (sym c.in-Below.is) (between-base lo hi (rows_under rows.under) list c.requires.rows.under c.requires.rows.list none)

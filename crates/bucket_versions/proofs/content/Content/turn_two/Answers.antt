@@ -1,16 +1,14 @@
-use Rattle.std.proofs.Common.{◌∙◌, ap}
-use Rattle.bucket_versions.specs.Rows.{rows_over}
-use Rattle.bucket_versions.specs.Delta.{turn}
-use Rattle.bucket_versions.specs.Content.{kept}
-use Rattle.bucket_versions.proofs.Contents.{ready_twice}
+use Rattle.std.proofs.Common.{sym, subst}
+use Rattle.bucket_versions.specs.Content.{AreKept}
+use Rattle.bucket_versions.proofs.Contents.{base_rising}
 use Rattle.bucket_versions.proofs.content.Content.turn_two.Goals as goal
 
-pub returns-clause-ok : goal.returns-clause-ok
-returns-clause-ok g c =
+pub returns-clause-in_order : goal.returns-clause-in_order
+returns-clause-in_order g c =
     let keeps = c.args.to.keeps_base in
-    let from = c.args.from in
-    let to = c.args.to.row in
     let ready = c.make_ready.new.self in
-    ap kept c.settle.ensures
-    ∙ ready_twice keeps ready.base ready.list.items c.turn_two.new.rows.items from to c.make_ready.ensures.in_order c.in_ok-make_ready.ensures.ok c.in_default.ensures.ok
-    ∙ ap (λ v. rows_over keeps (turn to (turn from v.rows)) v) c.make_ready.ensures.same
+    let now = c.turn_two.new.self in
+    subst AreKept (sym c.settle.ensures) (record {
+      base = base_rising keeps ready.base ready.rows now c.in_ok-make_ready.ensures.ok.0 c.turn_two.ensures.is.1 c.make_ready.ensures.in_order.base c.turn_two.ensures.is.0;
+      rows = c.turn_two.ensures.is.0;
+    })

@@ -1,7 +1,0 @@
-use Rattle.std.proofs.Common.{subst}
-use Rattle.bucket_versions.specs.Rows.{AreRows}
-use Rattle.bucket_versions.proofs.Contents.{kept_rising}
-use Rattle.bucket_versions.proofs.bucket.Bucket.base_rows.Goals as goal
-
-pub returns-clause-in_order : goal.returns-clause-in_order
-returns-clause-in_order c = subst AreRows c.self.view_is (kept_rising c.self.inside.content.base c.self.inside.content.list.items c.self.invariant)

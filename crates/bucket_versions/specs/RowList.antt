@@ -1,0 +1,47 @@
+-- What a list of rows stands for: itself, or rows below it with those of the list turned.
+use Rattle.std.specs.Prelude.{◌≡◌, ℕ, ◌+◌, ◌*◌, ◌^◌, ◌<◌, nat_le, Bool, ◌||◌, List, [], length, ⊤, IsTrue}
+use Rattle.std.specs.Arc.{arc_value}
+use Rattle.bucket_versions.specs.declared.row.Row.{Row}
+use Rattle.bucket_versions.specs.declared.row_list.Under.{Under}
+use Rattle.bucket_versions.specs.declared.row_list.Under.TheVariants.{Nothing, Shared}
+use Rattle.bucket_versions.specs.declared.row_list.RowList.{RowList}
+use Rattle.bucket_versions.specs.Rows.{IsRows}
+use Rattle.bucket_versions.specs.Delta.{difference}
+
+-- the rows below a list
+abbrev pub rows_under : Under → List Row
+rows_under Nothing = []
+rows_under (Shared base count) = (arc_value base).items
+
+-- the rows that a list stands for
+abbrev pub listed : RowList → List Row
+listed l = difference (rows_under l.under) l.list.items
+
+-- whether a delta may have so many rows: 32, or four times the square root of how many are below it
+abbrev pub is_short : ℕ → ℕ → Bool
+is_short below n = nat_le n 32 || nat_le (n * n) (16 * below)
+
+-- a list may be of so many rows
+abbrev pub MayHave : Under → ℕ → Type 0
+MayHave Nothing n = ⊤
+MayHave (Shared base count) n = IsTrue (is_short (length (arc_value base).items) n)
+
+-- the count is that of all rows
+abbrev pub IsCounted : Under → List Row → Type 0
+IsCounted Nothing list = ⊤
+IsCounted (Shared base count) list = count ≡ length (difference (arc_value base).items list)
+
+-- both lists rise, the lower one has no more rows than memory, and the upper one is short where there is a lower one
+pub record IsListed (u : Under) (rows : List Row) : Type 0 where
+  pub under : IsRows (rows_under u)
+  pub list : IsRows rows
+  pub few : length (rows_under u) < 2 ^ 62
+  pub short : MayHave u (length rows)
+  pub counted : IsCounted u rows
+
+abbrev pub IsRowList : RowList → Type 0
+IsRowList l = IsListed l.under l.list.items
+
+-- so many rows more are not too many
+abbrev pub HasRoom : ℕ → RowList → Type 0
+HasRoom more l = MayHave l.under (length l.list.items + more)
