@@ -1,11 +1,10 @@
 -- Rows of one key, of which one comes too late.
-use Rattle.std.proofs.Common.{◌≡◌, ◌==◌, ◌&&◌, ◌||◌, ℕ, ◌<◌, ◌≤◌, Bool, true, false, cond, List, [], ◌∷◌, ◌++◌, length, map, refl, sym, ap, subst, ◌∙◌, arith}
+use Rattle.std.proofs.Common.{◌≡◌, ◌==◌, ◌&&◌, ◌||◌, ℕ, ◌<◌, ◌≤◌, Bool, true, false, cond, List, [], ◌∷◌, ◌++◌, refl, sym, ap, subst, ◌∙◌, arith}
 use Rattle.std.specs.Prelude.{nat_lt, IsTrue}
 use Rattle.std.specs.List.{All, filter}
 use Rattle.std.specs.BinaryHeap.{heap_items}
 use Rattle.std.proofs.lemmas.Bool.Decides.{nat_tests}
 use Rattle.std.proofs.lemmas.List.{length-map}
-use Rattle.std.proofs.lemmas.List.Elements.{All-tail}
 use Rattle.zorder.specs.declared.points.Point.{Point}
 use Rattle.zorder.specs.declared.points.Placed.{Placed}
 use Rattle.zorder.specs.Distance.{distance}
@@ -61,18 +60,18 @@ later-beyond kept r s same later beyond = record {
 pub past-passes : (p : Point) (k : ℕ) (places rest : List Placed) (kept : Kept) (r : Row) (rows : List Row) → kept.from ≡ p → kept.k ≡ k → IsBeyond kept (placed_of r) → IsAbove r rows → IsRows rows
     → AreOf places (objects_of rows) × Keeps p k places (objects_of rows ++ rest) kept → AreOf places (objects_of (past r.key rows)) × Keeps p k places (objects_of (past r.key rows) ++ rest) kept
 past-passes p k places rest kept r [] from_is k_is beyond above rising both = both
-past-passes p k places rest kept r (s ∷ rows) from_is k_is beyond above rising both = by_test (nat_lt r.key s.key) refl
+past-passes p k places rest kept r (s ∷ rows) from_is k_is beyond above rising both = by_test (nat_lt r.key s.key) refl (past-passes p k places rest kept r rows from_is k_is beyond above.1 rising.1)
   where
     Both : List Row → Type 0
     Both rs = AreOf places (objects_of rs) × Keeps p k places (objects_of rs ++ rest) kept
 
-    by_test : (b : Bool) → nat_lt r.key s.key ≡ b → Both (cond b (s ∷ past r.key rows) (past r.key rows))
-    by_test true e = subst Both (ap (λ (rs : List Row). s ∷ rs) (sym (past-all r.key s rows (grind (arith, nat_tests)) rising.0))) both
-    by_test false e =
+    by_test : (b : Bool) → nat_lt r.key s.key ≡ b → (Both rows → Both (past r.key rows)) → Both (cond b (s ∷ past r.key rows) (past r.key rows))
+    by_test true e later = subst Both (ap (λ (rs : List Row). s ∷ rs) (sym (past-all r.key s rows (grind (arith, nat_tests)) rising.0))) both
+    by_test false e later =
         let same = above-key r s above.0 e in
         let late = later-beyond kept r s same.0 same.1 beyond in
         let behind : All (λ (n : Placed). is_before p (placed_of s) n ≡ false) (held kept) = subst (λ q. All (λ (n : Placed). is_before q (placed_of s) n ≡ false) (held kept)) from_is late.behind in
-        past-passes p k places rest kept r rows from_is k_is beyond above.1 rising.1 (
+        later (
           back_of places (placed_of s ∷ []) (objects_of rows) both.0,
           pass_skips p k places (placed_of s) (objects_of rows ++ rest) (held kept) both.1 (omega (arith, late.full, k_is, length-map (heap_items kept.heap) object_of)) behind,
         )

@@ -3,8 +3,6 @@ ghost use Rattle.std.specs.Prelude.{◌≡◌, ◌≤◌, ◌<◌, ◌+◌, ◌�
 ghost use Rattle.plain_list.specs.Queries.{ranked};
 ghost use Rattle.table_share.specs.Objects.{objects_of, placed_of};
 ghost use Rattle.table_share.specs.Standing.{OfPlaces};
-ghost use Rattle.std.specs.Prelude.{nat_lt};
-ghost use Rattle.std.specs.List.{filter};
 ghost use Rattle.std.specs.Arc.{arc_value};
 ghost use Rattle.std.specs.List.Sorted.{IsPermutation};
 ghost use Rattle.std.specs.BinaryHeap.{heap_items, IsHeap};
@@ -15,7 +13,7 @@ ghost use Rattle.knn_query.specs.Passes.{held, HasReach, IsBeyond, IsEmpty, IsHe
 
 use crate::ahead::{Ahead, Waiting, by_distance, take_nearest};
 use crate::kept::{Came, Kept};
-use bucket_versions::{Bucket, BucketRows, Row};
+use bucket_versions::{Bucket, Row};
 use index_layer::{Below, Index};
 use plain_list::PlacedList;
 use prefix_names::KeyBox;
@@ -177,7 +175,7 @@ fn add_rows<L: Ledger>(
     let mut rows = bucket.rows(steps);
     while let Some(row) = rows.next() {
         if !add_row(kept, &mut within, row)? {
-            pass_key(&mut rows, row.key);
+            rows.pass_key(row.key);
         }
     }
     Ok(())
@@ -204,7 +202,3 @@ fn add_row(kept: &mut Kept, within: &mut KeyBox, row: &Row) -> Result<bool, Allo
         Came::Beyond => Ok(false),
     }
 }
-
-fn pass_key(rows: &mut BucketRows<'_>, key: u64)
-    ensures { rows.new ≡ filter (λ r. nat_lt key r.key) rows.old }
-{}
