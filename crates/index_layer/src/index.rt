@@ -1,17 +1,19 @@
 //! What each index is: leaves in the order of their keys, a bucket for each.
-ghost use Rattle.std.specs.Prelude.{◌≡◌, ◌⊎◌, ◌^◌, ◌+◌, ◌≤◌, ◌↔◌, ℕ, Bool, List, [], length, map, false, true, Ok, IfOk, OnOk, OnErr, IfErr, IsErrOf};
+ghost use Rattle.std.specs.Prelude.{◌≡◌, ◌⊎◌, ◌^◌, ◌+◌, ◌-◌, ◌≤◌, ◌↔◌, min, ℕ, Bool, List, [], length, map, false, true, Ok, IfOk, OnOk, OnErr, IfErr, IsErrOf};
 ghost use Rattle.std.specs.Arc.{arc_value};
 ghost use Rattle.bucket_versions.specs.Told.{Told};
-ghost use Rattle.index_layer.specs.Leaves.{Leaf, AreLeaves, one_leaf, has_name, leaf_under, replaced, split, AreUnder, AreAllUnder};
+ghost use Rattle.index_layer.specs.Leaves.{Leaf, AreLeaves, all_rows, one_leaf, has_name, leaf_under, replaced, split, AreUnder, AreAllUnder};
 ghost use Rattle.index_layer.specs.Part.{IsPart};
 ghost use Rattle.index_layer.specs.Below.{IsBelow, begins_some};
 ghost use Rattle.index_layer.specs.Narrowed.{PassesBare};
+ghost use Rattle.index_layer.specs.Subtree.{subtree};
 ghost use Rattle.zorder.specs.Key.{is_under};
 ghost use Rattle.index_layer.specs.RowChanges.{ChangesAt, CountAt, Moves, Holds};
 ghost use Rattle.bucket_versions.specs.Rows.{after_put, after_gone};
 
 use crate::names::goes_on;
 use bucket_versions::{Bucket, Commit, RowChange, Undone};
+use prefix_names::key_range;
 use std::alloc::{AllocError, Global};
 use std::sync::Arc;
 use zorder::{Memory, Name};
@@ -159,6 +161,30 @@ pub trait Index: Sized + Drop {
         ensures passed { PassesBare name result.0 (leaves self.now) }
     {
         (name, place)
+    }
+
+    /// How many rows the leaves have whose names begin with a place's, at most what 64 bits hold. It opens no bucket.
+    fn count_below(&self, name: &Name, place: &Self::Place) -> u64
+        requires { is_at self.now place.now name.now }
+        ensures { result ≡ min (length (all_rows (subtree name.now (leaves self.now)))) (2 ^ 64 - 1) }
+    {
+        let _ = place;
+        let (first, last) = key_range(name);
+        let (found, _) = self.leaf_of(first);
+        if found.len() < name.len() {
+            return 0;
+        }
+        let mut count = 0u64;
+        let mut key = first;
+        'leaves: loop {
+            let (leaf, bucket) = self.leaf_of(key);
+            count = count.saturating_add(bucket.count());
+            let (_, end) = key_range(&leaf);
+            if last <= end {
+                return count;
+            }
+            key = end + 1;
+        }
     }
 
     /// The index with another bucket under a leaf's name.

@@ -1,4 +1,3 @@
-pub mod WalkLemmas
 pub mod FoldLemmas
 pub mod FirstObjects
 pub mod RowObjects

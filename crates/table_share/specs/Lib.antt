@@ -1,4 +1,3 @@
-pub mod Walk
 pub mod Folds
 pub mod Objects
 pub mod Standing

@@ -1,14 +1,10 @@
--- The leaves in the subtree of a name.
+-- The leaves whose names pass a test.
 use Rattle.std.specs.Prelude.{ℕ, Bool, List, nat_le, nat_lt, ◌&&◌}
-use Rattle.std.specs.List.{filter, starts_with}
-use mathlib.Core.Bool.{beq}
+use Rattle.std.specs.List.{filter}
 use Rattle.zorder.specs.Name.{first_key}
 use Rattle.zorder.specs.Tile.{next_key}
 use Rattle.index_layer.specs.Leaves.{Leaf}
-
--- the leaves whose names begin with this one
-abbrev pub subtree : List Bool → List Leaf → List Leaf
-subtree name leaves = filter (λ (l : Leaf). starts_with beq l.name name) leaves
+pub use Rattle.index_layer.specs.Subtree.{subtree}
 
 -- the leaves whose names pass a test
 abbrev pub leaves_of : (List Bool → Bool) → List Leaf → List Leaf

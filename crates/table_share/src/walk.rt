@@ -22,7 +22,7 @@ impl<'a, I: Index> Model for LeafWalk<'a, I> {
 
     ghost Value = { List Leaf };
 
-    ghost use Rattle.table_share.specs.Walk.{leaves_left, IsAt};
+    ghost use Rattle.index_layer.specs.Walk.{leaves_left, IsAt};
 
     ghost view = { λ w. leaves_left w.key (I.leaves w.index.now) };
 

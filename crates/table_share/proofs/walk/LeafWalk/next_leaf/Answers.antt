@@ -1,8 +1,8 @@
 use Rattle.std.proofs.Common.{◌≡◌, ◌∷◌, List, Some, ap, sym, ◌∙◌, subst}
 use Rattle.std.specs.Arc.{arc_value}
 use Rattle.index_layer.specs.Leaves.{Leaf}
-use Rattle.table_share.specs.Walk.{leaves_left, IsAt}
-use Rattle.table_share.proofs.WalkLemmas.{next_leaf-is, left_after}
+use Rattle.index_layer.specs.Walk.{leaves_left, IsAt}
+use Rattle.index_layer.proofs.WalkLemmas.{next_leaf-is, left_after}
 use Rattle.table_share.proofs.walk.LeafWalk.next_leaf.Goals as goal
 
 pub invariant_of-self : goal.invariant_of-self

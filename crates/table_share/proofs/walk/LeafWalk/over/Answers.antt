@@ -1,7 +1,7 @@
 use Rattle.std.proofs.Common.{◌≡◌, true, List, sym, subst, arith}
 use Rattle.zorder.specs.Tile.{tiles_from}
 use Rattle.index_layer.specs.Leaves.{Leaf, names_of}
-use Rattle.table_share.proofs.WalkLemmas.{leaves_from-tiled}
+use Rattle.index_layer.proofs.WalkLemmas.{leaves_from-tiled}
 use Rattle.table_share.proofs.walk.LeafWalk.over.Goals as goal
 
 pub invariant_of-result : goal.invariant_of-result

@@ -11,7 +11,7 @@ use Rattle.zorder.specs.Tile.{tiles_from, next_key}
 use Rattle.index_layer.specs.Leaves.{Leaf, names_of, leaf_under}
 use Rattle.index_layer.proofs.LeafKeys.{first_from, tile_short, tile_first, tile_rest, ends_before, first_key-next, first_key-fits, first_key-under, next_key-end}
 use Rattle.index_layer.proofs.LeafNames.{leaf_under-among}
-use Rattle.table_share.specs.Walk.{leaves_from, leaves_left, IsAt}
+use Rattle.index_layer.specs.Walk.{leaves_from, leaves_left, IsAt}
 
 not_le : (m n : ℕ) → n < m → nat_le m n ≡ false
 not_le m n h = grind (arith, nat_tests)
@@ -113,3 +113,16 @@ left_after last None key leaves l is none next = (sym (none_behind (next_key l.n
   where
     by_end : (n m : ℕ) → m ≡ n → (m < 2 ^ 64 → ⊥) → 2 ^ 64 ≤ n
     by_end n m e none = omega (arith, e, none)
+
+-- from where a leaf begins on, the leaves tile the rest of the keys
+pub tiles_at : (j : ℕ) (front : List Leaf) (l : Leaf) (rest : List Leaf) → tiles_from j (names_of (front ++ l ∷ rest)) ≡ true
+    → tiles_from (first_key l.name) (names_of (leaves_from (first_key l.name) (front ++ l ∷ rest))) ≡ true
+tiles_at j [] l rest tile =
+    let first : first_key l.name ≡ j = tile_first j l rest tile in
+    let here : tiles_from (first_key l.name) (names_of (l ∷ rest)) ≡ true = subst (λ k. tiles_from k (names_of (l ∷ rest)) ≡ true) (sym first) tile in
+    subst (λ (ls : List Leaf). tiles_from (first_key l.name) (names_of ls) ≡ true) (sym (leaves_from-tiled (first_key l.name) (l ∷ rest) here)) here
+tiles_at j (f ∷ front) l rest tile =
+    let before : next_key f.name ≤ first_key l.name = ends_before j f front l rest tile in
+    let less : first_key f.name < first_key l.name = omega (arith, before, first_key-next f.name) in
+    subst (λ (ls : List Leaf). tiles_from (first_key l.name) (names_of ls) ≡ true) (sym (drop_first (nat_le (first_key l.name) (first_key f.name)) f (leaves_from (first_key l.name) (front ++ l ∷ rest)) (not_le (first_key l.name) (first_key f.name) less)))
+    (tiles_at (next_key f.name) front l rest (tile_rest j f (front ++ l ∷ rest) tile))
