@@ -5,3 +5,4 @@ pub mod RowLeaves
 pub mod Reaching
 pub mod Walking
 pub mod Outcomes
+pub mod RowCounts

@@ -1,5 +1,5 @@
 -- What a way leads to.
-use Rattle.std.specs.Prelude.{◌≡◌, ◌≤◌, ℕ, Bool, true, false, length}
+use Rattle.std.specs.Prelude.{◌≡◌, ◌≤◌, ℕ, Bool, true, false, length, Result, Ok, Err}
 use Rattle.zorder.specs.Bits.{low_bits}
 use Rattle.bucket_versions.specs.declared.row.Row.{Row}
 use Rattle.bucket_versions.specs.declared.row.RowChange.{RowChange}
@@ -30,3 +30,8 @@ gone_under left c t = changed_at (low_bits left c.row.key) (after_gone c) t
 pub record MayMove (left : ℕ) (from : RowChange) (to_left : ℕ) (to : RowChange) (t u : Trie) : Type 0 where
   pub present : has_under left from.row t ≡ true
   pub absent : has_under to_left to.row u ≡ false
+
+-- 1 where something is done, and else 0
+abbrev pub once_if : {A E : Type 0} → Result A E → ℕ
+once_if (Ok x) = 1
+once_if (Err e) = 0

@@ -1,11 +1,13 @@
 //! The changes of a leaf's bucket, in which each way down a trie ends.
 //!
 //! They stay out of the ways down, which are loops without them.
-ghost use Rattle.std.specs.Prelude.{◌≡◌, true, false, length, IfOk, OnOk, OnErr};
+ghost use Rattle.std.specs.Prelude.{◌≡◌, ◌+◌, true, false, length, IfOk, OnOk, OnErr};
 ghost use Rattle.std.specs.Arc.{arc_value};
 ghost use Rattle.bucket_versions.specs.Rows.{has_row, without_row, after_put, after_gone};
 ghost use Rattle.bucket_versions.specs.Told.{Told};
+ghost use Rattle.bit_trie.specs.Ways.{once_if};
 
+use crate::told::in_order;
 use bucket_versions::{Bucket, Commit, RowChange, Undone, pass, put, shift, take};
 use std::sync::Arc;
 
@@ -37,6 +39,7 @@ pub fn put_there<C: Commit>(leaf: &mut Arc<Bucket>, to: &mut Coming, commit: &mu
     ensures ok { OnOk to.new.ended (arc_value leaf.new ≡ after_put to.old.change (arc_value leaf.old)) }
     ensures count { IfOk to.new.ended (λ n. n ≡ length (arc_value leaf.new).rows) }
     ensures err { OnErr to.new.ended (arc_value leaf.new ≡ arc_value leaf.old) }
+    ensures more { length (arc_value leaf.new).rows ≡ length (arc_value leaf.old).rows + once_if to.new.ended }
     ensures told { Told C.done C.lost commit.old commit.new to.new.ended }
 {
     to.ended = put(leaf, to.change, commit);
@@ -49,8 +52,10 @@ pub fn take_there<C: Commit>(leaf: &mut Arc<Bucket>, from: &mut Going, commit: &
     requires present { has_row from.old.change.row (arc_value leaf.old).rows ≡ true }
     ensures ok { OnOk from.new.ended (arc_value leaf.new ≡ after_gone from.old.change (arc_value leaf.old)) }
     ensures err { OnErr from.new.ended (arc_value leaf.new ≡ arc_value leaf.old) }
+    ensures less { length (arc_value leaf.new).rows + once_if from.new.ended ≡ length (arc_value leaf.old).rows }
     ensures told { Told C.done C.lost commit.old commit.new from.new.ended }
 {
+    in_order(leaf);
     from.ended = take(leaf, from.change, commit);
 }
 
@@ -68,8 +73,10 @@ pub fn shift_there<C: Commit>(
     ensures ok { OnOk to.new.ended (arc_value leaf.new ≡ after_put to.old.change (after_gone from.now (arc_value leaf.old))) }
     ensures count { IfOk to.new.ended (λ n. n ≡ length (arc_value leaf.new).rows) }
     ensures err { OnErr to.new.ended (arc_value leaf.new ≡ arc_value leaf.old) }
+    ensures same { length (arc_value leaf.new).rows ≡ length (arc_value leaf.old).rows }
     ensures told { Told C.done C.lost commit.old commit.new to.new.ended }
 {
+    in_order(leaf);
     to.ended = shift(leaf, *from, to.change, commit);
 }
 
@@ -89,7 +96,10 @@ pub fn pass_there<C: Commit>(
         × (arc_value other.new ≡ after_put to.old.change (arc_value other.old))) }
     ensures count { IfOk to.new.ended (λ n. n ≡ length (arc_value other.new).rows) }
     ensures err { OnErr to.new.ended ((arc_value leaf.new ≡ arc_value leaf.old) × (arc_value other.new ≡ arc_value other.old)) }
+    ensures less { length (arc_value leaf.new).rows + once_if to.new.ended ≡ length (arc_value leaf.old).rows }
+    ensures more { length (arc_value other.new).rows ≡ length (arc_value other.old).rows + once_if to.new.ended }
     ensures told { Told C.done C.lost commit.old commit.new to.new.ended }
 {
+    in_order(leaf);
     to.ended = pass(leaf, *from, other, to.change, commit);
 }

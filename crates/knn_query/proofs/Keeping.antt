@@ -1,5 +1,5 @@
 -- What a candidate more makes of what is kept.
-use Rattle.std.proofs.Common.{◌≡◌, ◌==◌, ◌&&◌, ◌||◌, ℕ, ◌<◌, ◌≤◌, Bool, true, false, List, [], ◌∷◌, length, map, get_or, inl, inr, refl, sym, ap, subst, ◌∙◌, arith, lit<}
+use Rattle.std.proofs.Common.{◌≡◌, ◌==◌, ◌&&◌, ◌||◌, ℕ, ◌<◌, ◌≤◌, Bool, true, false, List, [], ◌∷◌, length, map, get_or, refl, sym, ap, subst, ◌∙◌, arith, lit<}
 use Rattle.std.specs.Prelude.{nat_le, nat_lt}
 use Rattle.std.specs.List.{All}
 use Rattle.std.specs.Ordering.{is_lt}
@@ -15,8 +15,8 @@ use Rattle.prefix_names.specs.declared.key_boxes.KeyBox.{KeyBox}
 use Rattle.knn_query.specs.Passes.{IsPass}
 use Rattle.plain_list.proofs.Ranking.{is_before-cmp}
 use Rattle.knn_query.specs.Ahead.{number_nearer}
-use Rattle.knn_query.specs.Candidates.{object_of, candidate_cmp, IsInPlace, IsMeasured, Replaces}
-use Rattle.knn_query.specs.Passes.{IsHeld, IsOut, HasReach, Passes}
+use Rattle.knn_query.specs.Candidates.{object_of, candidate_cmp, IsBehind, IsInPlace, IsMeasured}
+use Rattle.knn_query.specs.Passes.{held, IsBeyond, IsHeld, IsOut, HasReach, Passes}
 use Rattle.knn_query.specs.declared.candidate.Candidate.{Candidate}
 use Rattle.knn_query.specs.declared.kept.Kept.{Kept}
 use Rattle.knn_query.proofs.Cuts.{pass_skips}
@@ -101,53 +101,77 @@ nearer-replaced reach one old new r near =
     let gone : r.gone.distance < reach = All-head P r.gone r.left both in
     All-permutation P (one ∷ r.left) new r.is (All-cons P one r.left (omega (arith, first_near one r.gone r.before, gone)) (All-tail P r.gone r.left both))
 
--- where k are kept, one more is passed over, or takes the place of the farthest
-pub replaced-passes : (m : Placed) (one : Candidate) (old new : Kept) → object_of one ≡ m → IsMeasured old.from one → IsHeld old → old.k ≤ length (heap_items old.heap) → new.from ≡ old.from → new.k ≡ old.k
-    → Replaces one (heap_items old.heap) (heap_items new.heap) → Passes (m ∷ []) old new
-replaced-passes m one old new is_m at_one h many from_is k_is (inl r) =
-    let p = old.from in
-    let cs : List Candidate = heap_items old.heap in
+-- one that comes before none of k is passed over
+pub beyond-passes : (m : Placed) (kept : Kept) → IsHeld kept → IsBeyond kept m → Passes (m ∷ []) kept kept
+beyond-passes m kept h beyond =
     record {
-      from = from_is;
-      k_is = k_is;
-      is_held = record {
-        ordered = subst (IsHeap candidate_cmp) (sym r.same) h.ordered;
-        measured = subst (λ q. All (IsMeasured q) (heap_items new.heap)) (sym from_is) (subst (All (IsMeasured p)) (sym r.same) h.measured);
-        few = omega (arith, h.few, ap length r.same, k_is);
-      };
-      out = λ n out. record {
-        full = omega (arith, out.full, ap length r.same, k_is);
-        near = subst (λ q. All (λ (c : Candidate). c.distance < distance n.at q) (heap_items new.heap)) (sym from_is) (subst (AreNearer (distance n.at p)) (sym r.same) out.near);
-      };
-      keeps = λ places rest are pass.
-          subst (λ ds. IsPass p old.k places rest (map object_of ds)) (sym r.same)
-          (pass_skips p old.k places m rest (map object_of cs) pass (omega (arith, many, length-map cs object_of)) (subst (λ (n : Placed). Bounds p n (map object_of cs)) is_m (bounds-map p one cs at_one h.measured r.bound)));
-    }
-replaced-passes m one old new is_m at_one h many from_is k_is (inr r) =
-    let p = old.from in
-    let cs : List Candidate = heap_items old.heap in
-    let ds : List Candidate = heap_items new.heap in
-    let left : All (IsMeasured p) r.left = All-tail (IsMeasured p) r.gone r.left (All-permutation (IsMeasured p) cs (r.gone ∷ r.left) r.was h.measured) in
-    record {
-      from = from_is;
-      k_is = k_is;
-      is_held = record {
-        ordered = r.ordered;
-        measured = subst (λ q. All (IsMeasured q) ds) (sym from_is) (All-permutation (IsMeasured p) (one ∷ r.left) ds r.is (All-cons (IsMeasured p) one r.left at_one left));
-        few = omega (arith, h.few, length_permutation cs (r.gone ∷ r.left) r.was, length_permutation (one ∷ r.left) ds r.is, k_is);
-      };
-      out = λ n out. record {
-        full = omega (arith, out.full, length_permutation cs (r.gone ∷ r.left) r.was, length_permutation (one ∷ r.left) ds r.is, k_is);
-        near = subst (λ q. All (λ (c : Candidate). c.distance < distance n.at q) ds) (sym from_is) (nearer-replaced (distance n.at p) one cs ds r out.near);
-      };
-      keeps = λ places rest are pass. pass_replaces p old.k places rest m (are 0 m (lit< tt)) one cs ds is_m at_one h.measured many r pass;
+      from = refl;
+      k_is = refl;
+      is_held = h;
+      out = λ n out. out;
+      keeps = λ places rest are pass. pass_skips kept.from kept.k places m rest (held kept) pass (omega (arith, beyond.full, length-map (heap_items kept.heap) object_of)) beyond.behind;
     }
 
--- one that is too far is passed over
-pub out-passes : (m : Placed) (kept : Kept) → IsHeld kept → IsOut kept m → Passes (m ∷ []) kept kept
-out-passes m kept h out =
+pub out-beyond : (m : Placed) (kept : Kept) → IsHeld kept → IsOut kept m → IsBeyond kept m
+out-beyond m kept h out =
     let one : Candidate = record { distance = distance m.at kept.from; id = m.id; at = m.at } in
-    replaced-passes m one kept kept refl refl h out.full refl refl (inl (record { same = refl; bound = nearer-bound one (heap_items kept.heap) out.near }))
+    record { full = out.full; behind = bounds-map kept.from one (heap_items kept.heap) refl h.measured (nearer-bound one (heap_items kept.heap) out.near) }
+
+module _ (m : Placed) (one : Candidate) (old new : Kept) (is_m : object_of one ≡ m) (at_one : IsMeasured old.from one) (h : IsHeld old) (many : old.k ≤ length (heap_items old.heap)) (from_is : new.from ≡ old.from) (k_is : new.k ≡ old.k) where
+  -- one that comes before none of k, which stay
+  module _ (r : IsBehind one (heap_items old.heap) (heap_items new.heap)) where
+    behind-held : IsHeld new
+    behind-held = record {
+      ordered = subst (IsHeap candidate_cmp) (sym r.same) h.ordered;
+      measured = subst (λ q. All (IsMeasured q) (heap_items new.heap)) (sym from_is) (subst (All (IsMeasured old.from)) (sym r.same) h.measured);
+      few = omega (arith, h.few, ap length r.same, k_is);
+    }
+
+    pub behind-beyond : IsBeyond new m
+    behind-beyond = record {
+      full = omega (arith, many, ap length r.same, k_is);
+      behind = subst (λ q. Bounds q m (held new)) (sym from_is)
+          (subst (λ ds. Bounds old.from m (map object_of ds)) (sym r.same) (subst (λ (n : Placed). Bounds old.from n (held old)) is_m (bounds-map old.from one (heap_items old.heap) at_one h.measured r.bound)));
+    }
+
+    pub behind-passes : Passes (m ∷ []) old new
+    behind-passes =
+        let passes = beyond-passes m new behind-held behind-beyond in
+        record {
+          from = from_is;
+          k_is = k_is;
+          is_held = behind-held;
+          out = λ n out. record {
+            full = omega (arith, out.full, ap length r.same, k_is);
+            near = subst (λ q. All (λ (c : Candidate). c.distance < distance n.at q) (heap_items new.heap)) (sym from_is) (subst (AreNearer (distance n.at old.from)) (sym r.same) out.near);
+          };
+          keeps = λ places rest are pass.
+              subst (λ q. IsPass q old.k places rest (held new)) from_is (subst (λ j. IsPass new.from j places rest (held new)) k_is
+              (passes.keeps places rest are
+              (subst (λ q. IsPass q new.k places (m ∷ rest) (held new)) (sym from_is) (subst (λ j. IsPass old.from j places (m ∷ rest) (held new)) (sym k_is) (subst (λ ds. IsPass old.from old.k places (m ∷ rest) (map object_of ds)) (sym r.same) pass)))));
+        }
+
+  -- one that takes the place of the farthest
+  pub replaced-passes : IsInPlace one (heap_items old.heap) (heap_items new.heap) → Passes (m ∷ []) old new
+  replaced-passes r =
+      let p = old.from in
+      let cs : List Candidate = heap_items old.heap in
+      let ds : List Candidate = heap_items new.heap in
+      let left : All (IsMeasured p) r.left = All-tail (IsMeasured p) r.gone r.left (All-permutation (IsMeasured p) cs (r.gone ∷ r.left) r.was h.measured) in
+      record {
+        from = from_is;
+        k_is = k_is;
+        is_held = record {
+          ordered = r.ordered;
+          measured = subst (λ q. All (IsMeasured q) ds) (sym from_is) (All-permutation (IsMeasured p) (one ∷ r.left) ds r.is (All-cons (IsMeasured p) one r.left at_one left));
+          few = omega (arith, h.few, length_permutation cs (r.gone ∷ r.left) r.was, length_permutation (one ∷ r.left) ds r.is, k_is);
+        };
+        out = λ n out. record {
+          full = omega (arith, out.full, length_permutation cs (r.gone ∷ r.left) r.was, length_permutation (one ∷ r.left) ds r.is, k_is);
+          near = subst (λ q. All (λ (c : Candidate). c.distance < distance n.at q) ds) (sym from_is) (nearer-replaced (distance n.at p) one cs ds r out.near);
+        };
+        keeps = λ places rest are pass. pass_replaces p old.k places rest m (are 0 m (lit< tt)) one cs ds is_m at_one h.measured many r pass;
+      }
 
 -- the reach of what is kept has what passes keep in it
 pub reach-kept : (box : KeyBox) (ms : List Placed) (old new : Kept) → Passes ms old new → HasReach box old → HasReach box new

@@ -1,9 +1,12 @@
 pub mod Cuts
 pub mod Candidates
 pub mod Passing
+pub mod Shuffles
+pub mod Halvings
 pub mod Searching
 pub mod Keeping
+pub mod Pasts
 pub mod Steps
+pub mod Goings
 pub mod Places
-pub mod FarFirst
 pub mod Reaches

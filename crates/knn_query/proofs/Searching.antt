@@ -1,12 +1,12 @@
 -- A best-first search: what is ahead, and what was opened.
-use Rattle.std.proofs.Common.{◌≡◌, ℕ, zero, suc, ◌+◌, ◌-◌, ◌<◌, ◌≤◌, Bool, true, false, cond, List, [], ◌∷◌, ◌++◌, length, take, get_or, Some, refl, sym, ap, subst, ◌∙◌, arith, append_assoc, length-append, length-take}
+use Rattle.std.proofs.Common.{◌≡◌, ℕ, zero, suc, ◌+◌, ◌-◌, ◌<◌, ◌≤◌, Bool, true, false, cond, List, [], ◌∷◌, ◌++◌, length, take, get_or, Some, refl, sym, ap, subst, ◌∙◌, arith, length-take}
 use Rattle.std.specs.Prelude.{nat_lt}
 use Rattle.std.specs.List.{All}
 use Rattle.std.specs.List.Sorted.{IsPermutation}
 use Rattle.std.proofs.lemmas.Grind.{flat_map-append}
 use Rattle.std.proofs.lemmas.List.{map-append, get_or-take}
-use Rattle.std.proofs.lemmas.List.Elements.{All-nil, All-head, All-tail, All-append, filter-append}
-use Rattle.std.proofs.lemmas.List.Sorted.{All-permutation, IsPermutation-sym, IsPermutation-trans, IsPermutation-append_comm, IsPermutation-append_left, IsPermutation-append_right, sum_by-IsPermutation, sorted_far, length_permutation}
+use Rattle.std.proofs.lemmas.List.Elements.{All-nil, All-head, All-tail, All-append}
+use Rattle.std.proofs.lemmas.List.Sorted.{All-permutation, IsPermutation-append_right, sum_by-IsPermutation, sorted_far, length_permutation}
 use Rattle.std.proofs.lemmas.List.Sums.{sum_by-cons, sum_by-append, sum_by-take-le}
 use Rattle.std.proofs.lemmas.Bool.Decides.{nat_tests}
 use Rattle.zorder.specs.declared.points.Point.{Point}
@@ -25,9 +25,9 @@ use Rattle.plain_list.specs.AtPlaces.{AreOf}
 use Rattle.plain_list.proofs.Ranking.{IsPermutation-ranked, IsSortedBy-ranked, is_before-order}
 use Rattle.table_share.specs.Objects.{placed_of, objects_of}
 use Rattle.table_share.specs.KeysUnder.{AreKeysUnder, AreAllKeysUnder}
-use Rattle.table_share.specs.Subtree.{subtree, leaves_of}
+use Rattle.table_share.specs.Subtree.{subtree}
 use Rattle.table_share.proofs.Subtrees.{begins}
-use Rattle.knn_query.specs.Ahead.{least_to, reach_of, number_nearer, IsAhead, IsOne, leaves_ahead, objects_ahead, Searches}
+use Rattle.knn_query.specs.Ahead.{least_to, reach_of, number_nearer, IsAhead, leaves_ahead, objects_ahead, Searches}
 use Rattle.knn_query.specs.Passes.{held, Keeps}
 use Rattle.knn_query.specs.declared.ahead.Ahead.{Ahead}
 use Rattle.knn_query.specs.declared.kept.Kept.{Kept}
@@ -84,6 +84,17 @@ module _ (p : Point) where
       at_most : (b : Bool) → one_if b ≤ 1
       at_most true = omega arith
       at_most false = omega arith
+
+  -- within a greater distance there are no fewer
+  pub number-grows : (r s : ℕ) (ms : List Placed) → r ≤ s → number_nearer p r ms ≤ number_nearer p s ms
+  number-grows r s [] le = omega arith
+  number-grows r s (m ∷ ms) le =
+      omega (arith, sum_by-cons (λ n. one_if (nearer r n)) m ms, sum_by-cons (λ n. one_if (nearer s n)) m ms, number-grows r s ms le, one (nearer r m) (nearer s m) refl refl)
+    where
+      one : (b c : Bool) → nearer r m ≡ b → nearer s m ≡ c → one_if b ≤ one_if c
+      one false c e f = omega arith
+      one true true e f = omega arith
+      one true false e f = absurd (grind (arith, nat_tests))
 
   -- where the farthest is nearer, all are
   not_below-near : (m n : Placed) → is_before p m n ≡ false → distance n.at p ≤ distance m.at p
@@ -148,71 +159,14 @@ module _ (p : Point) where
           let sum : number_nearer p reach (list ++ rest) ≡ number_nearer p reach list + number_nearer p reach rest = sum_by-append (λ n. one_if (nearer reach n)) list rest in
           absurd (omega (arith, all, long, ap (number_nearer p reach) same, part, number-ranked reach (list ++ rest), sum, none_nearer reach rest far, few))
 
--- the leaves and the objects that are ahead, in parts
+-- the objects that are ahead, in parts
 module _ (leaves : List Leaf) where
   abbrev below : List Bool → List Placed
   below name = objects_of (all_rows (subtree name leaves))
 
-  leaves-append : (xs ys : List Ahead) → leaves_ahead leaves (xs ++ ys) ≡ leaves_ahead leaves xs ++ leaves_ahead leaves ys
-  leaves-append xs ys = flat_map-append (λ (a : Ahead). subtree a.name leaves) xs ys
-
-  of-append : (xs ys : List Leaf) → objects_of (all_rows (xs ++ ys)) ≡ objects_of (all_rows xs) ++ objects_of (all_rows ys)
-  of-append xs ys = ap objects_of (flat_map-append (λ (l : Leaf). l.bucket.rows) xs ys) ∙ map-append placed_of (all_rows xs) (all_rows ys)
-
-  objects-append : (xs ys : List Ahead) → objects_ahead leaves (xs ++ ys) ≡ objects_ahead leaves xs ++ objects_ahead leaves ys
-  objects-append xs ys = ap (λ (ls : List Leaf). objects_of (all_rows ls)) (leaves-append xs ys) ∙ of-append (leaves_ahead leaves xs) (leaves_ahead leaves ys)
-
-  objects-cons : (a : Ahead) (ys : List Ahead) → objects_ahead leaves (a ∷ ys) ≡ below a.name ++ objects_ahead leaves ys
-  objects-cons a ys = of-append (subtree a.name leaves) (leaves_ahead leaves ys)
-
-  -- the objects below the first come first
-  pub first-permutation : (old new : List Ahead) (a : Ahead) → IsOne old new a → IsPermutation (objects_ahead leaves old) (below a.name ++ objects_ahead leaves new)
-  first-permutation old new a (front, back, is, left) =
-      let one = objects_ahead leaves front in
-      let two = objects_ahead leaves back in
-      let parts : objects_ahead leaves old ≡ one ++ (below a.name ++ two) = ap (objects_ahead leaves) is ∙ objects-append front (a ∷ back) ∙ ap (λ ms. one ++ ms) (objects-cons a back) in
-      let rest : objects_ahead leaves new ≡ one ++ two = ap (objects_ahead leaves) left ∙ objects-append front back in
-      let moved : IsPermutation ((one ++ below a.name) ++ two) ((below a.name ++ one) ++ two) = IsPermutation-append_left two (one ++ below a.name) (below a.name ++ one) (IsPermutation-append_comm one (below a.name)) in
-      subst (λ (ms : List Placed). IsPermutation ms (below a.name ++ objects_ahead leaves new)) (append_assoc one (below a.name) two ∙ sym parts)
-      (subst (λ (ms : List Placed). IsPermutation ((one ++ below a.name) ++ two) ms) (append_assoc (below a.name) one two ∙ ap (λ ms. below a.name ++ ms) (sym rest)) moved)
-
-  module _ (passes : List Bool → Bool) where
-    abbrev number : List Leaf → ℕ
-    number ls = length (leaves_of passes ls)
-
-    number-append : (xs ys : List Leaf) → number (xs ++ ys) ≡ number xs + number ys
-    number-append xs ys = ap length (filter-append (λ (l : Leaf). passes l.name) xs ys) ∙ length-append (leaves_of passes xs) (leaves_of passes ys)
-
-    pub first-number : (old new : List Ahead) (a : Ahead) → IsOne old new a → number (leaves_ahead leaves old) ≡ number (subtree a.name leaves) + number (leaves_ahead leaves new)
-    first-number old new a (front, back, is, left) =
-        omega (
-          arith,
-          ap (λ xs. number (leaves_ahead leaves xs)) is ∙ ap number (leaves-append front (a ∷ back)),
-          number-append (leaves_ahead leaves front) (subtree a.name leaves ++ leaves_ahead leaves back),
-          number-append (subtree a.name leaves) (leaves_ahead leaves back),
-          ap (λ xs. number (leaves_ahead leaves xs)) left ∙ ap number (leaves-append front back),
-          number-append (leaves_ahead leaves front) (leaves_ahead leaves back),
-        )
-
-    -- two more
-    pub two-number : (old mid new : List Ahead) (a b : Ahead) → IsOne mid old a → IsOne new mid b → number (leaves_ahead leaves new) ≡ number (leaves_ahead leaves old) + number (subtree a.name leaves ++ subtree b.name leaves)
-    two-number old mid new a b one two = omega (arith, first-number mid old a one, first-number new mid b two, number-append (subtree a.name leaves) (subtree b.name leaves))
-
-  pub two-permutation : (old mid new : List Ahead) (a b : Ahead) (both : List Leaf) → IsOne mid old a → IsOne new mid b → both ≡ subtree a.name leaves ++ subtree b.name leaves
-      → IsPermutation (objects_of (all_rows both) ++ objects_ahead leaves old) (objects_ahead leaves new)
-  two-permutation old mid new a b both one two is =
-      let rest = objects_ahead leaves old in
-      let parts : objects_of (all_rows both) ≡ below a.name ++ below b.name = ap (λ (ls : List Leaf). objects_of (all_rows ls)) is ∙ of-append (subtree a.name leaves) (subtree b.name leaves) in
-      let first : IsPermutation ((below a.name ++ below b.name) ++ rest) (below b.name ++ (below a.name ++ rest)) =
-      subst (IsPermutation ((below a.name ++ below b.name) ++ rest)) (append_assoc (below b.name) (below a.name) rest)
-      (IsPermutation-append_left rest (below a.name ++ below b.name) (below b.name ++ below a.name) (IsPermutation-append_comm (below a.name) (below b.name))) in
-      let second : IsPermutation (below b.name ++ (below a.name ++ rest)) (below b.name ++ objects_ahead leaves mid) =
-      IsPermutation-append_right (below b.name) (below a.name ++ rest) (objects_ahead leaves mid) (IsPermutation-sym (objects_ahead leaves mid) (below a.name ++ rest) (first-permutation mid old a one)) in
-      let third : IsPermutation (below b.name ++ objects_ahead leaves mid) (objects_ahead leaves new) =
-      IsPermutation-sym (objects_ahead leaves new) (below b.name ++ objects_ahead leaves mid) (first-permutation new mid b two) in
-      subst (λ (ms : List Placed). IsPermutation (ms ++ rest) (objects_ahead leaves new)) (sym parts)
-      (IsPermutation-trans ((below a.name ++ below b.name) ++ rest) (below b.name ++ (below a.name ++ rest)) (objects_ahead leaves new) first
-      (IsPermutation-trans (below b.name ++ (below a.name ++ rest)) (below b.name ++ objects_ahead leaves mid) (objects_ahead leaves new) second third))
+  pub objects-cons : (a : Ahead) (ys : List Ahead) → objects_ahead leaves (a ∷ ys) ≡ below a.name ++ objects_ahead leaves ys
+  objects-cons a ys =
+      ap objects_of (flat_map-append (λ (l : Leaf). l.bucket.rows) (subtree a.name leaves) (leaves_ahead leaves ys)) ∙ map-append placed_of (all_rows (subtree a.name leaves)) (all_rows (leaves_ahead leaves ys))
 
   -- the objects below a name are no nearer than its region
   module _ (p : Point) (under : AreAllKeysUnder leaves) where
@@ -235,13 +189,13 @@ module _ (leaves : List Leaf) where
             (All-append P (objects_of l.bucket.rows) (objects_of (all_rows (subtree name ls)))
             (far_rows p name reach far P (λ m le. le) l.bucket.rows (under_front name l.name l.bucket.rows (front-from_test name l.name e) under.0)) rest)
 
-    pub far_ahead : (reach : ℕ) (ahead : List Ahead) → All (IsAhead p) ahead → All (λ (a : Ahead). reach ≤ a.least) ahead → All (λ (m : Placed). reach ≤ distance m.at p) (objects_ahead leaves ahead)
+    pub far_ahead : (reach : ℕ) (ahead : List Ahead) → All (IsAhead p) ahead → All (λ (a : Ahead). reach ≤ a.least.0) ahead → All (λ (m : Placed). reach ≤ distance m.at p) (objects_ahead leaves ahead)
     far_ahead reach [] are low = All-nil (λ (m : Placed). reach ≤ distance m.at p)
     far_ahead reach (a ∷ ahead) are low =
         let P : Placed → Type 0 = λ m. reach ≤ distance m.at p in
         let is = All-head (IsAhead p) a ahead are in
-        let le : reach ≤ a.least = All-head (λ (a : Ahead). reach ≤ a.least) a ahead low in
+        let le : reach ≤ a.least.0 = All-head (λ (a : Ahead). reach ≤ a.least.0) a ahead low in
         subst (All P) (sym (objects-cons a ahead))
         (All-append P (below a.name) (objects_ahead leaves ahead)
         (far_below a.name reach (λ q is_point inside. let near : least_to p a.name ≤ distance q p = least_distance-le (region_of a.name) p q (has_point-region_of a.name is.short q is_point ∙ inside) in omega (arith, le, is.least_is, near)) leaves under)
-        (far_ahead reach ahead (All-tail (IsAhead p) a ahead are) (All-tail (λ (a : Ahead). reach ≤ a.least) a ahead low)))
+        (far_ahead reach ahead (All-tail (IsAhead p) a ahead are) (All-tail (λ (a : Ahead). reach ≤ a.least.0) a ahead low)))

@@ -1,15 +1,15 @@
 -- The steps of a best-first search.
-use Rattle.std.proofs.Common.{◌≡◌, ℕ, zero, suc, ◌+◌, ◌-◌, ◌*◌, ◌^◌, ◌<◌, ◌≤◌, Bool, true, false, cond, List, [], ◌∷◌, ◌++◌, length, take, get_or, Some, refl, sym, ap, subst, ◌∙◌, arith, length-append, length-take}
-use Rattle.std.specs.Prelude.{nat_le, nat_lt}
-use Rattle.std.specs.List.{All, filter, sum_by}
+use Rattle.std.proofs.Common.{◌≡◌, ℕ, zero, suc, ◌+◌, ◌-◌, ◌*◌, ◌^◌, ◌<◌, ◌≤◌, Bool, true, false, cond, List, [], ◌∷◌, ◌++◌, length, take, get_or, Some, refl, sym, ap, subst, ◌∙◌, arith, append_assoc, length-append, length-take}
+use Rattle.std.specs.Prelude.{nat_lt}
+use Rattle.std.specs.List.{All, filter}
 use Rattle.std.proofs.Math.Nat.{pow-succ'}
 use Rattle.std.proofs.lemmas.Nat.{pow_pos}
 use Rattle.std.proofs.lemmas.Bool.{le-leb}
 use Rattle.std.specs.List.Sorted.{IsPermutation}
 use Rattle.std.proofs.lemmas.List.{append-nil, get_or-take}
 use Rattle.std.proofs.lemmas.List.Elements.{All-nil, All-cons, All-head, All-tail, filter-append}
-use Rattle.std.proofs.lemmas.List.Sorted.{All-permutation, IsPermutation-sym, IsPermutation-middle}
-use Rattle.std.proofs.lemmas.List.Sums.{sum_by-cons, sum_by-append}
+use Rattle.std.proofs.lemmas.List.Sorted.{All-permutation, IsPermutation-refl}
+use Rattle.std.proofs.lemmas.List.Sums.{sum_by-cons}
 use Rattle.std.proofs.lemmas.Bool.Decides.{nat_tests}
 use Rattle.zorder.specs.declared.points.Point.{Point}
 use Rattle.zorder.specs.declared.points.Placed.{Placed}
@@ -35,13 +35,14 @@ use Rattle.table_share.proofs.RowObjects.{objects-permutation}
 use Rattle.table_share.proofs.LeafRows.{leaves_under}
 use Rattle.table_share.proofs.Narrowings.{narrowed-rows, narrowed-fewer}
 use Rattle.table_share.proofs.Subtrees.{subtree-whole, subtree-leaf, subtree-halves, inner-room}
-use Rattle.knn_query.specs.Ahead.{least_to, reach_of, number_nearer, IsAhead, IsOne, IsFirst, leaves_ahead, objects_ahead, Searches, weight_of}
-use Rattle.knn_query.specs.Passes.{held, IsEmpty, IsHeld, Keeps, Passes}
+use Rattle.knn_query.specs.Ahead.{least_to, reach_of, number_nearer, IsAhead, leaves_ahead, objects_ahead, weight_of}
+use Rattle.knn_query.specs.Search.{State, Counts, CountsNear, every, within}
+use Rattle.knn_query.specs.Passes.{held, IsEmpty, Keeps, Passes}
 use Rattle.knn_query.specs.declared.ahead.Ahead.{Ahead}
 use Rattle.knn_query.specs.declared.kept.Kept.{Kept}
-use Rattle.knn_query.proofs.Places.{one-of}
+use Rattle.knn_query.proofs.Shuffles.{objects-shuffled, number-shuffled, leaves-shuffled}
 use Rattle.knn_query.proofs.Passing.{passes_on, front_of, back_of, before_all, filter-all}
-use Rattle.knn_query.proofs.Searching.{first-permutation, first-number, two-number, two-permutation, far_ahead, reach-within, searches_permuted, ranked-far, number-ranked, none_nearer, fewer, one_if, nearer}
+use Rattle.knn_query.proofs.Searching.{objects-cons, far_ahead, reach-within, searches_permuted, ranked-far, number-ranked, none_nearer, fewer, one_if, nearer}
 
 -- where k are nearer than all that is to come, nothing of it is wanted
 module _ (p : Point) (reach : ℕ) where
@@ -68,21 +69,16 @@ module _ (p : Point) (reach : ℕ) where
       by_test false e rest = ap (λ (l : List Placed). n ∷ l) rest
 
   module _ (k : ℕ) (best : List Placed) (long : length best ≡ k) (near : All (λ (n : Placed). distance n.at p < reach) best) where
-    all_out : (rest : List Placed) → All (λ (m : Placed). reach ≤ distance m.at p) rest → take k (with_more p best rest) ≡ best
-    all_out [] far = whole
-      where
-        whole : take k best ≡ best
-        whole = ap (λ j. take j best) (sym long) ∙ take-all best
-          where
-            take-all : (ms : List Placed) → take (length ms) ms ≡ ms
-            take-all [] = refl
-            take-all (m ∷ ms) = ap (λ (l : List Placed). m ∷ l) (take-all ms)
-    all_out (m ∷ rest) far =
-        let out : take k (with_ranked p m best) ≡ best = subst (λ j. take j (with_ranked p m best) ≡ best) long (left_out m best near (All-head (λ (m : Placed). reach ≤ distance m.at p) m rest far)) in
-        sym (take-with_more p k rest (with_ranked p m best)) ∙ ap (λ l. take k (with_more p l rest)) out ∙ all_out rest (All-tail (λ (m : Placed). reach ≤ distance m.at p) m rest far)
+    front_out : (front rest : List Placed) → All (λ (m : Placed). reach ≤ distance m.at p) front → take k (with_more p best (front ++ rest)) ≡ take k (with_more p best rest)
+    front_out [] rest far = refl
+    front_out (m ∷ front) rest far =
+        let out : take k (with_ranked p m best) ≡ best = subst (λ j. take j (with_ranked p m best) ≡ best) long (left_out m best near (All-head (λ (m : Placed). reach ≤ distance m.at p) m front far)) in
+        sym (take-with_more p k (front ++ rest) (with_ranked p m best)) ∙ ap (λ l. take k (with_more p l (front ++ rest))) out ∙ front_out front rest (All-tail (λ (m : Placed). reach ≤ distance m.at p) m front far)
 
-  pub keeps-closed : (k : ℕ) (places rest : List Placed) (kept : Kept) → Keeps p k places rest kept → All (λ (m : Placed). reach ≤ distance m.at p) rest → k ≤ number_nearer p reach (held kept) → Keeps p k places [] kept
-  keeps-closed k places rest kept pass far many =
+  -- where k are nearer than some of what is to come, those need not come
+  pub keeps-out : (k : ℕ) (places front rest : List Placed) (kept : Kept) → Keeps p k places (front ++ rest) kept → All (λ (m : Placed). reach ≤ distance m.at p) front → k ≤ number_nearer p reach (held kept)
+      → Keeps p k places rest kept
+  keeps-out k places front rest kept pass far many =
       let list : List Placed = held kept in
       let best : List Placed = take k (ranked p list) in
       let counted : k ≤ number_nearer p reach (ranked p list) = omega (arith, many, number-ranked p reach list) in
@@ -91,7 +87,7 @@ module _ (p : Point) (reach : ℕ) where
       by_test i d lt (nat_lt (distance (get_or (ranked p list) i d).at p) reach) refl in
       record {
         are_of = pass.are_of;
-        nearest = all_out k best long near [] (All-nil (λ (m : Placed). reach ≤ distance m.at p)) ∙ sym (all_out k best long near rest far) ∙ pass.nearest;
+        nearest = sym (front_out k best long near front rest far) ∙ pass.nearest;
       }
     where
       by_test : (i : ℕ) (d : Placed) → i < length (take k (ranked p (held kept))) → (b : Bool) → nat_lt (distance (get_or (ranked p (held kept)) i d).at p) reach ≡ b
@@ -123,158 +119,142 @@ module _ (p : Point) (reach : ℕ) where
               same_at (m ∷ ms) zero e d lt = refl
               same_at (m ∷ ms) (suc i) e d lt = same_at ms i e d (omega (arith, lt))
 
--- every leaf, and those of which some point may be as near
-abbrev pub every : List Bool → Bool
-every name = true
-
-abbrev pub within : Point → ℕ → List Bool → Bool
-within p reach name = nat_le (least_to p name) reach
-
--- what holds of some subtrees and of one more
-all-put : (P : Ahead → Type 0) (old new : List Ahead) (a : Ahead) → IsOne new old a → P a → All P old → All P new
-all-put P old new a (front, back, is, left) here all =
-    let both : All P (a ∷ (front ++ back)) = All-cons P a (front ++ back) here (subst (All P) left all) in
-    subst (All P) (sym is) (All-permutation P (a ∷ (front ++ back)) (front ++ a ∷ back) (IsPermutation-sym (front ++ a ∷ back) (a ∷ (front ++ back)) (IsPermutation-middle front a back)) both)
-
 module _ (p : Point) (k : ℕ) (leaves : List Leaf) (before : ℕ) where
-  abbrev Counts : (List Bool → Bool) → ℕ → List Leaf → Type 0
-  Counts passes now left = now + length (leaves_of passes left) ≤ before + length (leaves_of passes leaves)
-
-  -- of places with k objects, by the distance of the k-th
-  abbrev CountsNear : ℕ → List Leaf → Type 0
-  CountsNear now left = OfPlaces leaves (λ places. (d : Placed) → k ≤ length places → Counts (within p (reach_of p k places d)) now left)
-
-  pub record State (now : ℕ) (ahead : List Ahead) (kept : Kept) : Type 0 where
-    pub from : kept.from ≡ p
-    pub k_is : kept.k ≡ k
-    pub is_held : IsHeld kept
-    pub are : All (IsAhead p) ahead
-    pub searches : OfPlaces leaves (λ places. Searches p k places (objects_ahead leaves ahead) kept)
-    pub opened : Counts every now (leaves_ahead leaves ahead)
-    pub near : CountsNear now (leaves_ahead leaves ahead)
-    pub some : now ≡ before → held kept ≡ []
-
-  -- where one subtree was taken out
-  pub record Taken (now : ℕ) (a : Ahead) (left : List Ahead) (kept : Kept) : Type 0 where
-    pub from : kept.from ≡ p
-    pub k_is : kept.k ≡ k
-    pub is_held : IsHeld kept
-    pub is : IsAhead p a
-    pub are : All (IsAhead p) left
-    pub searches : OfPlaces leaves (λ places. Searches p k places (objects_of (all_rows (subtree a.name leaves)) ++ objects_ahead leaves left) kept)
-    pub far : OfPlaces leaves (λ places. All (λ (m : Placed). a.least ≤ distance m.at p) (objects_of (all_rows (subtree a.name leaves)) ++ objects_ahead leaves left))
-    pub opened : Counts every now (subtree a.name leaves ++ leaves_ahead leaves left)
-    pub near : CountsNear now (subtree a.name leaves ++ leaves_ahead leaves left)
-    pub some : now ≡ before → held kept ≡ []
-
   number-append : (passes : List Bool → Bool) (xs ys : List Leaf) → length (leaves_of passes (xs ++ ys)) ≡ length (leaves_of passes xs) + length (leaves_of passes ys)
   number-append passes xs ys = ap length (filter-append (λ (l : Leaf). passes l.name) xs ys) ∙ length-append (leaves_of passes xs) (leaves_of passes ys)
 
-  taken-count : (passes : List Bool → Bool) (now : ℕ) (old new : List Ahead) (a : Ahead) → IsOne old new a → Counts passes now (leaves_ahead leaves old) → Counts passes now (subtree a.name leaves ++ leaves_ahead leaves new)
-  taken-count passes now old new a first counts =
-      omega (arith, counts, first-number leaves passes old new a first, number-append passes (subtree a.name leaves) (leaves_ahead leaves new))
-
-  pub taken : (now : ℕ) (old new : List Ahead) (a : Ahead) (kept : Kept) → State now old kept → IsFirst old new a → Taken now a new kept
-  taken now old new a kept s first =
-      let (front, back, is, left, low) = first in
-      let moved : IsPermutation old (a ∷ new) = subst (λ (xs : List Ahead). IsPermutation xs (a ∷ new)) (sym is) (subst (λ (xs : List Ahead). IsPermutation (front ++ a ∷ back) (a ∷ xs)) (sym left) (IsPermutation-middle front a back)) in
-      let all : All (IsAhead p) (a ∷ new) = All-permutation (IsAhead p) old (a ∷ new) moved s.are in
-      let one = one-of old new a first in
+  -- where the leaves that are ahead are the same, in another order
+  state-same : (now : ℕ) (xs ys : List Ahead) (kept : Kept) → IsPermutation (leaves_ahead leaves xs) (leaves_ahead leaves ys) → All (IsAhead p) ys → State p k leaves before now xs kept → State p k leaves before now ys kept
+  state-same now xs ys kept perm are s =
+      let count : (passes : List Bool → Bool) → Counts leaves before passes now (leaves_ahead leaves xs) → Counts leaves before passes now (leaves_ahead leaves ys) =
+      λ passes counts. omega (arith, counts, number-shuffled passes (leaves_ahead leaves xs) (leaves_ahead leaves ys) perm) in
       record {
         from = s.from;
         k_is = s.k_is;
         is_held = s.is_held;
-        is = All-head (IsAhead p) a new all;
-        are = All-tail (IsAhead p) a new all;
+        are = are;
         searches = λ places names are_places stands.
-            searches_permuted p k places (objects_ahead leaves old) (objects_of (all_rows (subtree a.name leaves)) ++ objects_ahead leaves new) kept (first-permutation leaves old new a one) (s.searches places names are_places stands);
-        far = λ places names are_places stands.
-            All-permutation (λ (m : Placed). a.least ≤ distance m.at p) (objects_ahead leaves old) (objects_of (all_rows (subtree a.name leaves)) ++ objects_ahead leaves new) (first-permutation leaves old new a one)
-            (far_ahead leaves p (leaves_under places leaves stands.rows) a.least old s.are low);
-        opened = taken-count every now old new a one s.opened;
-        near = λ places names are_places stands d many. taken-count (within p (reach_of p k places d)) now old new a one (s.near places names are_places stands d many);
+            searches_permuted p k places (objects_ahead leaves xs) (objects_ahead leaves ys) kept (objects-shuffled (leaves_ahead leaves xs) (leaves_ahead leaves ys) perm) (s.searches places names are_places stands);
+        opened = count every s.opened;
+        near = λ places names are_places stands d many. count (within p (reach_of p k places d)) (s.near places names are_places stands d many);
         some = s.some;
       }
 
-  -- no more than these were opened
-  pub ends : (passes : List Bool → Bool) (now : ℕ) (left : List Leaf) → Counts passes now left → now ≤ before + length (leaves_of passes leaves)
-  ends passes now left counts = omega (arith, counts)
+  pub state-shuffled : (now : ℕ) (xs ys : List Ahead) (kept : Kept) → IsPermutation xs ys → State p k leaves before now xs kept → State p k leaves before now ys kept
+  state-shuffled now xs ys kept perm s = state-same now xs ys kept (leaves-shuffled leaves xs ys perm) (All-permutation (IsAhead p) xs ys perm s.are) s
 
-  pub ends-every : (now : ℕ) (left : List Leaf) → Counts every now left → now ≤ before + length leaves
-  ends-every now left counts = omega (arith, counts, ap length (filter-all leaves))
-
-  module _ (tile : tiles_from 0 (names_of leaves) ≡ true) (now : ℕ) (a : Ahead) (left : List Ahead) (kept : Kept) (t : Taken now a left kept) where
-    abbrev below : List Placed
-    below = objects_of (all_rows (subtree a.name leaves))
-
-    -- where k are nearer, the search ends
-    pub closed : k ≤ number_nearer p a.least (held kept) → OfPlaces leaves (λ places. Keeps p k places [] kept)
-    closed many places names are_places stands =
-        keeps-closed p a.least k places (below ++ objects_ahead leaves left) kept (t.searches places names are_places stands).keeps (t.far places names are_places stands) many
-
-    module _ (b : Rows) (found : leaf_named a.name leaves ≡ Some (record { name = a.name; bucket = b })) (few : number_nearer p a.least (held kept) < k) where
-      one : subtree a.name leaves ≡ leaf_at a.name b ∷ []
-      one = subtree-leaf a.name 0 leaves (leaf_at a.name b) tile found
-
-      leaf-count : (passes : List Bool → Bool) → passes a.name ≡ true → Counts passes now (subtree a.name leaves ++ leaves_ahead leaves left) → Counts passes (now + 1) (leaves_ahead leaves left)
-      leaf-count passes passing counts =
-          omega (
-            arith,
-            counts,
-            ap (λ (ls : List Leaf). length (leaves_of passes (ls ++ leaves_ahead leaves left))) one,
-            ap (λ c. length (cond c (leaf_at a.name b ∷ leaves_of passes (leaves_ahead leaves left)) (leaves_of passes (leaves_ahead leaves left)))) passing,
-          )
-
-      pub opened-leaf : Counts every (now + 1) (leaves_ahead leaves left)
-      opened-leaf = leaf-count every refl t.opened
-
-      pub near-leaf : CountsNear (now + 1) (leaves_ahead leaves left)
-      near-leaf places names are_places stands d many =
-          let reach = reach-within p k a.least places (below ++ objects_ahead leaves left) kept d (t.searches places names are_places stands).keeps (t.far places names are_places stands) few many in
-          leaf-count (within p (reach_of p k places d)) (le-leb (least_to p a.name) (reach_of p k places d) (omega (arith, reach, t.is.least_is))) (t.near places names are_places stands d many)
-
-      pub leaf-state : (new : Kept) (then : ℕ) → then ≡ now + 1 → before ≤ now → Passes (objects_of b.rows) kept new → State then left new
-      leaf-state new then next le passes = record {
-        from = passes.from ∙ t.from;
-        k_is = passes.k_is ∙ t.k_is;
-        is_held = passes.is_held;
-        are = t.are;
-        searches = λ places names are_places stands.
-            let s = t.searches places names are_places stands in
-            let here : below ≡ objects_of b.rows = ap (λ (ls : List Leaf). objects_of (all_rows ls)) one ∙ ap objects_of (append-nil b.rows) in
-            let are : AreOf places (objects_of b.rows ++ objects_ahead leaves left) = subst (λ (ms : List Placed). AreOf places (ms ++ objects_ahead leaves left)) here s.are_of in
-            record {
-              are_of = back_of places (objects_of b.rows) (objects_ahead leaves left) are;
-              keeps = passes_on p k places (objects_of b.rows) (objects_ahead leaves left) kept new t.from t.k_is passes (front_of places (objects_of b.rows) (objects_ahead leaves left) are)
-                  (subst (λ (ms : List Placed). Keeps p k places (ms ++ objects_ahead leaves left) kept) here s.keeps);
-            };
-        opened = subst (λ n. Counts every n (leaves_ahead leaves left)) (sym next) opened-leaf;
-        near = λ places names are_places stands d many. subst (λ n. Counts (within p (reach_of p k places d)) n (leaves_ahead leaves left)) (sym next) (near-leaf places names are_places stands d many);
-        some = λ same. absurd (omega (arith, same, next, le));
+  -- without some that are ahead, of which nothing need come
+  state-less : (now : ℕ) (b : Ahead) (left : List Ahead) (kept : Kept) → OfPlaces leaves (λ places. Keeps p k places (objects_ahead leaves left) kept) → State p k leaves before now (b ∷ left) kept → State p k leaves before now left kept
+  state-less now b left kept keeps s =
+      let count : (passes : List Bool → Bool) → Counts leaves before passes now (leaves_ahead leaves (b ∷ left)) → Counts leaves before passes now (leaves_ahead leaves left) =
+      λ passes counts. omega (arith, counts, number-append passes (subtree b.name leaves) (leaves_ahead leaves left)) in
+      record {
+        from = s.from;
+        k_is = s.k_is;
+        is_held = s.is_held;
+        are = All-tail (IsAhead p) b left s.are;
+        searches = λ places names are_places stands. record {
+          are_of = back_of places (objects_of (all_rows (subtree b.name leaves))) (objects_ahead leaves left) (subst (AreOf places) (objects-cons leaves b left) (s.searches places names are_places stands).are_of);
+          keeps = keeps places names are_places stands;
+        };
+        opened = count every s.opened;
+        near = λ places names are_places stands d many. count (within p (reach_of p k places d)) (s.near places names are_places stands d many);
+        some = s.some;
       }
 
-    -- a subtree of two halves
-    pub inner-state : (fore hind : Ahead) (mid new : List Ahead) → is_inner a.name leaves ≡ true → has_name a.name leaves ≡ false → fore.name ≡ a.name ++ false ∷ [] → hind.name ≡ a.name ++ true ∷ [] → IsAhead p fore → IsAhead p hind
-        → IsOne mid left fore → IsOne new mid hind → State now new kept
-    inner-state fore hind mid new inner none is_fore is_hind fore_is hind_is one two =
-        let both : subtree a.name leaves ≡ subtree fore.name leaves ++ subtree hind.name leaves =
-        subtree-halves a.name (omega (arith, inner-room a.name leaves tile inner)) 0 leaves tile none ∙ (λ i. subtree (sym is_fore i) leaves ++ subtree (sym is_hind i) leaves) in
-        let count : (passes : List Bool → Bool) → Counts passes now (subtree a.name leaves ++ leaves_ahead leaves left) → Counts passes now (leaves_ahead leaves new) =
-        λ passes counts. omega (arith, counts, two-number leaves passes left mid new fore hind one two, number-append passes (subtree a.name leaves) (leaves_ahead leaves left), ap (λ ls. length (leaves_of passes ls)) both) in
-        record {
-          from = t.from;
-          k_is = t.k_is;
-          is_held = t.is_held;
-          are = all-put (IsAhead p) mid new hind two hind_is (all-put (IsAhead p) left mid fore one fore_is t.are);
-          searches = λ places names are_places stands.
-              searches_permuted p k places (below ++ objects_ahead leaves left) (objects_ahead leaves new) kept (two-permutation leaves left mid new fore hind (subtree a.name leaves) one two both) (t.searches places names are_places stands);
-          opened = count every t.opened;
-          near = λ places names are_places stands d many. count (within p (reach_of p k places d)) (t.near places names are_places stands d many);
-          some = t.some;
-        }
+  far_below : (b : Ahead) → IsAhead p b → OfPlaces leaves (λ places. All (λ (m : Placed). b.least.0 ≤ distance m.at p) (objects_of (all_rows (subtree b.name leaves))))
+  far_below b is places names are_places stands =
+      let P : Placed → Type 0 = λ m. b.least.0 ≤ distance m.at p in
+      subst (λ (ls : List Leaf). All P (objects_of (all_rows ls))) (append-nil (subtree b.name leaves))
+      (far_ahead leaves p (leaves_under places leaves stands.rows) b.least.0 (b ∷ []) (All-cons (IsAhead p) b [] is (All-nil (IsAhead p)))
+      (All-cons (λ (c : Ahead). b.least.0 ≤ c.least.0) b [] (omega arith) (All-nil (λ (c : Ahead). b.least.0 ≤ c.least.0))))
+
+  -- a subtree is left out where k of those that are kept are nearer
+  pub state-out : (now : ℕ) (b : Ahead) (left : List Ahead) (kept : Kept) → k ≤ number_nearer p b.least.0 (held kept) → State p k leaves before now (b ∷ left) kept → State p k leaves before now left kept
+  state-out now b left kept many s =
+      state-less now b left kept
+      (λ places names are_places stands.
+      keeps-out p b.least.0 k places (objects_of (all_rows (subtree b.name leaves))) (objects_ahead leaves left) kept
+      (subst (λ (ms : List Placed). Keeps p k places ms kept) (objects-cons leaves b left) (s.searches places names are_places stands).keeps)
+      (far_below b (All-head (IsAhead p) b left s.are) places names are_places stands) many) s
+
+  -- no more than these were opened
+  pub ends : (passes : List Bool → Bool) (now : ℕ) (left : List Leaf) → Counts leaves before passes now left → now ≤ before + length (leaves_of passes leaves)
+  ends passes now left counts = omega (arith, counts)
+
+  pub ends-every : (now : ℕ) (left : List Leaf) → Counts leaves before every now left → now ≤ before + length leaves
+  ends-every now left counts = omega (arith, counts, ap length (filter-all leaves))
+
+  -- the objects of what is ahead are no nearer than the nearest of them
+  all_far : (now : ℕ) (a : Ahead) (left : List Ahead) (kept : Kept) → State p k leaves before now (a ∷ left) kept → All (λ (b : Ahead). a.least.0 ≤ b.least.0) (a ∷ left)
+      → OfPlaces leaves (λ places. All (λ (m : Placed). a.least.0 ≤ distance m.at p) (objects_ahead leaves (a ∷ left)))
+  all_far now a left kept s low places names are_places stands = far_ahead leaves p (leaves_under places leaves stands.rows) a.least.0 (a ∷ left) s.are low
+
+  -- where k are nearer than the nearest, the search ends
+  pub closed : (now : ℕ) (a : Ahead) (left : List Ahead) (kept : Kept) → State p k leaves before now (a ∷ left) kept → All (λ (b : Ahead). a.least.0 ≤ b.least.0) (a ∷ left) → k ≤ number_nearer p a.least.0 (held kept)
+      → OfPlaces leaves (λ places. Keeps p k places [] kept)
+  closed now a left kept s low many places names are_places stands =
+      keeps-out p a.least.0 k places (objects_ahead leaves (a ∷ left)) [] kept
+      (subst (λ (ms : List Placed). Keeps p k places ms kept) (sym (append-nil (objects_ahead leaves (a ∷ left)))) (s.searches places names are_places stands).keeps) (all_far now a left kept s low places names are_places stands) many
+
+  -- a subtree of two halves
+  pub state-halves : tiles_from 0 (names_of leaves) ≡ true → (now : ℕ) (a fore hind : Ahead) (left : List Ahead) (kept : Kept) → is_inner a.name leaves ≡ true → has_name a.name leaves ≡ false → fore.name ≡ a.name ++ false ∷ []
+      → hind.name ≡ a.name ++ true ∷ [] → IsAhead p fore → IsAhead p hind → State p k leaves before now (a ∷ left) kept → State p k leaves before now (fore ∷ hind ∷ left) kept
+  state-halves tile now a fore hind left kept inner none is_fore is_hind fore_is hind_is s =
+      let both : subtree a.name leaves ≡ subtree fore.name leaves ++ subtree hind.name leaves =
+      subtree-halves a.name (omega (arith, inner-room a.name leaves tile inner)) 0 leaves tile none ∙ (λ i. subtree (sym is_fore i) leaves ++ subtree (sym is_hind i) leaves) in
+      let same : leaves_ahead leaves (a ∷ left) ≡ leaves_ahead leaves (fore ∷ hind ∷ left) =
+      ap (λ (ls : List Leaf). ls ++ leaves_ahead leaves left) both ∙ append_assoc (subtree fore.name leaves) (subtree hind.name leaves) (leaves_ahead leaves left) in
+      state-same now (a ∷ left) (fore ∷ hind ∷ left) kept (subst (IsPermutation (leaves_ahead leaves (a ∷ left))) same (IsPermutation-refl (leaves_ahead leaves (a ∷ left))))
+      (All-cons (IsAhead p) fore (hind ∷ left) fore_is (All-cons (IsAhead p) hind left hind_is (All-tail (IsAhead p) a left s.are))) s
+
+  -- at a leaf
+  module _ (tile : tiles_from 0 (names_of leaves) ≡ true) (now : ℕ) (a : Ahead) (left : List Ahead) (kept : Kept) (s : State p k leaves before now (a ∷ left) kept)
+      (b : Rows) (found : leaf_named a.name leaves ≡ Some (record { name = a.name; bucket = b })) (low : All (λ (c : Ahead). a.least.0 ≤ c.least.0) (a ∷ left)) (few : number_nearer p a.least.0 (held kept) < k) where
+    one : subtree a.name leaves ≡ leaf_at a.name b ∷ []
+    one = subtree-leaf a.name 0 leaves (leaf_at a.name b) tile found
+
+    leaf-count : (passes : List Bool → Bool) → passes a.name ≡ true → Counts leaves before passes now (leaves_ahead leaves (a ∷ left)) → Counts leaves before passes (now + 1) (leaves_ahead leaves left)
+    leaf-count passes passing counts =
+        omega (
+          arith,
+          counts,
+          ap (λ (ls : List Leaf). length (leaves_of passes (ls ++ leaves_ahead leaves left))) one,
+          ap (λ c. length (cond c (leaf_at a.name b ∷ leaves_of passes (leaves_ahead leaves left)) (leaves_of passes (leaves_ahead leaves left)))) passing,
+        )
+
+    pub opened-leaf : Counts leaves before every (now + 1) (leaves_ahead leaves left)
+    opened-leaf = leaf-count every refl s.opened
+
+    pub near-leaf : CountsNear p k leaves before (now + 1) (leaves_ahead leaves left)
+    near-leaf places names are_places stands d many =
+        let reach = reach-within p k a.least.0 places (objects_ahead leaves (a ∷ left)) kept d (s.searches places names are_places stands).keeps (all_far now a left kept s low places names are_places stands) few many in
+        let is : IsAhead p a = All-head (IsAhead p) a left s.are in
+        leaf-count (within p (reach_of p k places d)) (le-leb (least_to p a.name) (reach_of p k places d) (omega (arith, reach, is.least_is))) (s.near places names are_places stands d many)
+
+    pub leaf-state : (new : Kept) (then : ℕ) → then ≡ now + 1 → before ≤ now → Passes (objects_of b.rows) kept new → State p k leaves before then left new
+    leaf-state new then next le passes = record {
+      from = passes.from ∙ s.from;
+      k_is = passes.k_is ∙ s.k_is;
+      is_held = passes.is_held;
+      are = All-tail (IsAhead p) a left s.are;
+      searches = λ places names are_places stands.
+          let t = s.searches places names are_places stands in
+          let here : objects_ahead leaves (a ∷ left) ≡ objects_of b.rows ++ objects_ahead leaves left =
+          objects-cons leaves a left ∙ ap (λ (ls : List Leaf). objects_of (all_rows ls) ++ objects_ahead leaves left) one ∙ ap (λ (rs : List Row). objects_of rs ++ objects_ahead leaves left) (append-nil b.rows) in
+          let are : AreOf places (objects_of b.rows ++ objects_ahead leaves left) = subst (AreOf places) here t.are_of in
+          record {
+            are_of = back_of places (objects_of b.rows) (objects_ahead leaves left) are;
+            keeps = passes_on p k places (objects_of b.rows) (objects_ahead leaves left) kept new s.from s.k_is passes (front_of places (objects_of b.rows) (objects_ahead leaves left) are)
+                (subst (λ (ms : List Placed). Keeps p k places ms kept) here t.keeps);
+          };
+      opened = subst (λ n. Counts leaves before every n (leaves_ahead leaves left)) (sym next) opened-leaf;
+      near = λ places names are_places stands d many. subst (λ n. Counts leaves before (within p (reach_of p k places d)) n (leaves_ahead leaves left)) (sym next) (near-leaf places names are_places stands d many);
+      some = λ same. absurd (omega (arith, same, next, le));
+    }
 
   -- at a name below which are all rows
-  pub begins-state : (a : Ahead) (kept : Kept) → IsEmpty p k kept → PassesBare [] a.name leaves → IsAhead p a → State before (a ∷ []) kept
+  pub begins-state : (a : Ahead) (kept : Kept) → IsEmpty p k kept → PassesBare [] a.name leaves → IsAhead p a → State p k leaves before before (a ∷ []) kept
   begins-state a kept empty passed is =
       let all : leaves_ahead leaves (a ∷ []) ≡ subtree a.name leaves = append-nil (subtree a.name leaves) in
       let rows : all_rows (leaves_ahead leaves (a ∷ [])) ≡ all_rows leaves = ap all_rows all ∙ narrowed-rows [] a.name leaves passed ∙ ap all_rows (subtree-whole leaves) in
@@ -316,31 +296,15 @@ weight-halves name a b room =
     let double : 2 ^ suc (64 - length name) ≡ 2 * 2 ^ (64 - length name) = pow-succ' 2 (64 - length name) in
     omega (arith, ap (λ n. 2 ^ n) first, ap (λ n. 2 ^ n) second, ap (λ n. 2 ^ n) more, double, pow_pos (64 - length name))
 
-weight-some : (a : Ahead) → length a.name ≤ 64 → 0 < weight_of a
+pub weight-some : (a : Ahead) → length a.name ≤ 64 → 0 < weight_of a
 weight-some a short =
     let more : 65 - length a.name ≡ suc (64 - length a.name) = omega (arith, short) in
     let double : 2 ^ suc (64 - length a.name) ≡ 2 * 2 ^ (64 - length a.name) = pow-succ' 2 (64 - length a.name) in
     omega (arith, ap (λ n. 2 ^ n) more, double, pow_pos (64 - length a.name))
 
-weight-first : (old new : List Ahead) (a : Ahead) → IsOne old new a → sum_by weight_of old ≡ weight_of a + sum_by weight_of new
-weight-first old new a (front, back, is, left) =
-    omega (arith, ap (sum_by weight_of) is, sum_by-append weight_of front (a ∷ back), sum_by-cons weight_of a back, ap (sum_by weight_of) left, sum_by-append weight_of front back)
-
-pub weight-less : (old new : List Ahead) (a : Ahead) → IsFirst old new a → length a.name ≤ 64 → sum_by weight_of new < sum_by weight_of old
-weight-less old new a first short = omega (arith, weight-first old new a (one-of old new a first), weight-some a short)
-
-pub weight-two : (old left mid new : List Ahead) (a fore hind : Ahead) → IsFirst old left a → IsOne mid left fore → IsOne new mid hind → length a.name < 64 → fore.name ≡ a.name ++ false ∷ [] → hind.name ≡ a.name ++ true ∷ []
-    → sum_by weight_of new < sum_by weight_of old
-weight-two old left mid new a fore hind first one two room is_fore is_hind =
-    omega (
-      arith,
-      weight-first old left a (one-of old left a first),
-      weight-first mid left fore one,
-      weight-first new mid hind two,
-      ap (λ (n : List Bool). 2 ^ (65 - length n) - 1) is_fore,
-      ap (λ (n : List Bool). 2 ^ (65 - length n) - 1) is_hind,
-      weight-halves a.name false true room,
-    )
+pub weight-two : (a fore hind : Ahead) → length a.name < 64 → fore.name ≡ a.name ++ false ∷ [] → hind.name ≡ a.name ++ true ∷ [] → weight_of fore + weight_of hind < weight_of a
+weight-two a fore hind room is_fore is_hind =
+    omega (arith, ap (λ (n : List Bool). 2 ^ (65 - length n) - 1) is_fore, ap (λ (n : List Bool). 2 ^ (65 - length n) - 1) is_hind, weight-halves a.name false true room)
 
 -- where something was found, something was opened
 pub opens-some : (before now n : ℕ) → before ≤ now → (now ≡ before → n ≡ 0) → 0 < n → before < now

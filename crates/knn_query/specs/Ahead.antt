@@ -1,6 +1,6 @@
 -- The subtrees that are still ahead of a search.
-use Rattle.std.specs.Prelude.{◌≡◌, ◌≤◌, ◌+◌, ◌-◌, ◌^◌, ◌++◌, ◌∷◌, ℕ, Bool, nat_le, nat_lt, List, length, slice_index_or}
-use Rattle.std.specs.List.{All, flat_map, count_by}
+use Rattle.std.specs.Prelude.{◌≡◌, ◌≤◌, ◌+◌, ◌-◌, ◌^◌, ℕ, Bool, nat_le, nat_lt, List, length, slice_index_or}
+use Rattle.std.specs.List.{flat_map, count_by}
 use Rattle.zorder.specs.declared.points.Point.{Point}
 use Rattle.zorder.specs.declared.points.Placed.{Placed}
 use Rattle.zorder.specs.Distance.{distance, least_distance}
@@ -33,7 +33,7 @@ number_nearer p reach list = count_by (λ (m : Placed). nat_lt (distance m.at p)
 -- the region is that of the name, and the distance that to it
 pub record IsAhead (p : Point) (a : Ahead) : Type 0 where
   pub region_is : a.region ≡ region_of a.name
-  pub least_is : a.least ≡ least_to p a.name
+  pub least_is : a.least.0 ≡ least_to p a.name
   pub short : length a.name ≤ 64
 
 -- the leaves that are still ahead, and their objects
@@ -48,23 +48,9 @@ pub record Searches (p : Point) (k : ℕ) (places rest : List Placed) (kept : Ke
   pub are_of : AreOf places rest
   pub keeps : Keeps p k places rest kept
 
--- one of some subtrees, and the others in their order
-abbrev pub IsOne : List Ahead → List Ahead → Ahead → Type 0
-IsOne old new a = (front : List Ahead) × (back : List Ahead) × (old ≡ front ++ a ∷ back) × (new ≡ front ++ back)
-
--- the nearest of some subtrees, and the others in their order
-abbrev pub IsFirst : List Ahead → List Ahead → Ahead → Type 0
-IsFirst old new a =
-    (front : List Ahead) × (back : List Ahead) × (old ≡ front ++ a ∷ back) × (new ≡ front ++ back) × All (λ (b : Ahead). a.least ≤ b.least) old
-
 -- where there are k objects, no more was opened than the leaves of which some point may be as near as the k-th
 abbrev pub OpensNear : Point → ℕ → List Leaf → ℕ → ℕ → List Placed → Type 0
 OpensNear p k leaves before now places = (d : Placed) → k ≤ length places → now ≤ before + length (leaves_within p (reach_of p k places d) leaves)
-
--- the same, with those that are ahead
-abbrev pub OpensNearOf : Point → ℕ → List Leaf → List Leaf → ℕ → ℕ → List Placed → Type 0
-OpensNearOf p k leaves left before now places =
-    (d : Placed) → k ≤ length places → now + length (leaves_within p (reach_of p k places d) left) ≡ before + length (leaves_within p (reach_of p k places d) leaves)
 
 -- how much is left to do below a name
 abbrev pub weight_of : Ahead → ℕ

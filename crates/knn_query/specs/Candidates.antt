@@ -1,5 +1,5 @@
 -- Objects with their distance to a point, and a heap of them.
-use Rattle.std.specs.Prelude.{◌≡◌, ◌⊎◌, true, List, ◌∷◌}
+use Rattle.std.specs.Prelude.{◌≡◌, Bool, true, false, List, ◌∷◌}
 use Rattle.std.specs.declared.cmp.Ordering.{Ordering}
 use Rattle.std.specs.Ordering.{nat_cmp, ordering_then, is_lt}
 use Rattle.std.specs.List.Sorted.{IsPermutation}
@@ -35,6 +35,7 @@ pub record IsInPlace (one : Candidate) (old new : List Candidate) : Type 0 where
   pub before : is_lt (candidate_cmp one gone) ≡ true
   pub bound : IsUpperBound candidate_cmp gone left
 
--- the last of a heap is left out for one that comes before it
-abbrev pub Replaces : Candidate → List Candidate → List Candidate → Type 0
-Replaces one old new = IsBehind one old new ⊎ IsInPlace one old new
+-- the last of a heap is left out for one that comes before it, or there is none, as the answer tells
+abbrev pub Replaces : Candidate → List Candidate → List Candidate → Bool → Type 0
+Replaces one old new true = IsInPlace one old new
+Replaces one old new false = IsBehind one old new

@@ -1,5 +1,5 @@
 -- What is kept of objects that come one after the other.
-use Rattle.std.specs.Prelude.{◌≡◌, ◌≤◌, ◌<◌, false, ℕ, List, [], ◌++◌, length, map, take}
+use Rattle.std.specs.Prelude.{◌≡◌, ◌≤◌, ◌<◌, false, ℕ, ⊤, List, [], ◌++◌, length, map, take}
 use Rattle.std.specs.List.{All, fold}
 use Rattle.std.specs.BinaryHeap.{heap_items, IsHeap}
 use Rattle.zorder.specs.declared.points.Point.{Point}
@@ -10,10 +10,12 @@ use Rattle.zorder.specs.Region.{has_point}
 use Rattle.prefix_names.specs.Regions.{box_of}
 use Rattle.prefix_names.specs.declared.key_boxes.KeyBox.{KeyBox}
 use Rattle.plain_list.specs.AtPlaces.{AreOf}
-use Rattle.plain_list.specs.Queries.{with_ranked, ranked}
+use Rattle.plain_list.specs.Queries.{is_before, with_ranked, ranked}
 use Rattle.knn_query.specs.Candidates.{object_of, candidate_cmp, IsMeasured}
 use Rattle.knn_query.specs.declared.candidate.Candidate.{Candidate}
 use Rattle.knn_query.specs.declared.kept.Kept.{Kept}
+use Rattle.knn_query.specs.declared.kept.Came.{Came}
+use Rattle.knn_query.specs.declared.kept.Came.TheVariants.{More, Instead, Beyond}
 
 -- a ranking with more objects
 abbrev pub with_more : Point → List Placed → List Placed → List Placed
@@ -50,7 +52,18 @@ pub record IsOut (kept : Kept) (m : Placed) : Type 0 where
   pub full : kept.k ≤ length (heap_items kept.heap)
   pub near : All (λ (c : Candidate). c.distance < distance m.at kept.from) (heap_items kept.heap)
 
--- each object outside of the box is so
+-- k are kept, and this object comes before none of them
+pub record IsBeyond (kept : Kept) (m : Placed) : Type 0 where
+  pub full : kept.k ≤ length (heap_items kept.heap)
+  pub behind : All (λ (n : Placed). is_before kept.from m n ≡ false) (held kept)
+
+-- what became of an object tells it
+abbrev pub Tells : Kept → Placed → Came → Type 0
+Tells kept m More = ⊤
+Tells kept m Instead = ⊤
+Tells kept m Beyond = IsBeyond kept m
+
+-- each object outside of the box has k that are nearer
 abbrev pub HasReach : KeyBox → Kept → Type 0
 HasReach box kept = (m : Placed) → IsPoint m.at → has_point (box_of box) m.at ≡ false → IsOut kept m
 

@@ -1,6 +1,9 @@
 -- The subtrees that are still ahead of a search, each with its place in the index.
-use Rattle.std.specs.Prelude.{◌≡◌, ◌≤◌, ◌∷◌, ◌++◌, [], ℕ, ⊤, Bool, List, map}
-use Rattle.std.specs.List.{All, insert}
+use Rattle.std.specs.Prelude.{◌≡◌, ◌≤◌, ◌⊎◌, ◌∷◌, Bool, List, map}
+use Rattle.std.specs.declared.cmp.Ordering.{Ordering}
+use Rattle.std.specs.Ordering.{nat_cmp}
+use Rattle.std.specs.List.{All}
+use Rattle.std.specs.List.Sorted.{IsPermutation}
 use denote.Ref.{Bor}
 use Rattle.knn_query.specs.declared.ahead.Ahead.{Ahead}
 use Rattle.knn_query.specs.declared.ahead.Waiting.{Waiting}
@@ -9,23 +12,23 @@ use Rattle.knn_query.specs.declared.ahead.Waiting.{Waiting}
 abbrev pub waiting_at : {P : Type 0} → Ahead → P → Waiting P
 waiting_at a p = record { ahead = a; place = p }
 
+-- the order of a heap of them: of two the nearer is the greater
+abbrev pub waiting_cmp : {P : Type 0} → Waiting P → Waiting P → Ordering
+waiting_cmp v w = nat_cmp w.ahead.least.0 v.ahead.least.0
+
 -- the subtrees without their places
 abbrev pub ahead_of : {P : Type 0} → List (Waiting P) → List Ahead
 ahead_of {P} waiting = map (λ (w : Waiting P). w.ahead) waiting
 
--- each is as far as the next, or farther
-abbrev pub IsFarFirst : {P : Type 0} → List (Waiting P) → Type 0
-IsFarFirst [] = ⊤
-IsFarFirst {P} (w ∷ waiting) = All (λ (v : Waiting P). v.ahead.least ≤ w.ahead.least) waiting × IsFarFirst waiting
-
--- the last of them is this one, the nearest, and the others are left
+-- one of them, the nearest, and the others
 pub record IsNearest {P : Type 0} (w : Waiting P) (old new : List (Waiting P)) : Type 0 where
-  pub last : old ≡ new ++ w ∷ []
-  pub low : All (λ (v : Waiting P). w.ahead.least ≤ v.ahead.least) old
+  pub taken : IsPermutation old (w ∷ new)
+  pub low : All (λ (v : Waiting P). w.ahead.least.0 ≤ v.ahead.least.0) (w ∷ new)
 
--- two are put among them
-abbrev pub Gets : {P : Type 0} → Waiting P → Waiting P → List (Waiting P) → List (Waiting P) → Type 0
-Gets one two old new = (i : ℕ) × (j : ℕ) × (new ≡ insert (insert old i one) j two)
+-- two of them in either order, the first no farther than the second
+pub record IsOrder {P : Type 0} (one two near far : Waiting P) : Type 0 where
+  pub either : ((near ≡ one) × (far ≡ two)) ⊎ ((near ≡ two) × (far ≡ one))
+  pub low : near.ahead.least.0 ≤ far.ahead.least.0
 
 -- each place is that of its name
 abbrev pub AreAt : {P : Type 0} → (P → List Bool → Type 0) → List (Waiting (Bor P)) → Type 0

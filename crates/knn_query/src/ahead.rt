@@ -1,20 +1,26 @@
-//! Subtrees that are still ahead of a search, the nearest of them last.
-ghost use Rattle.std.specs.Prelude.{◌≡◌, ◌≤◌, ◌<◌, ◌∷◌, ◌++◌, [], ℕ, false, true, length, take, drop, MatchOption, OnOk};
-ghost use Rattle.std.specs.List.{All, insert};
+//! Subtrees that are still ahead of a search, the nearest of them first out of a heap.
+ghost use Rattle.std.specs.Prelude.{◌≡◌, ◌≤◌, ◌<◌, ◌∷◌, ◌++◌, [], false, true, length, MatchOption, OnOk};
+ghost use Rattle.std.specs.List.Sorted.{IsPermutation};
+ghost use Rattle.std.specs.BinaryHeap.{heap_items, IsHeap};
 ghost use Rattle.prefix_names.specs.Regions.{region_of};
 ghost use Rattle.knn_query.specs.Ahead.{IsAhead};
-ghost use Rattle.knn_query.specs.Waiting.{IsFarFirst, IsNearest};
+ghost use Rattle.knn_query.specs.Waiting.{waiting_cmp, IsNearest, IsOrder};
 
 use prefix_names::{halves, least, region};
-use std::alloc::AllocError;
+use std::cmp::Reverse;
+use std::collections::BinaryHeap;
 use zorder::{Name, Point, Region, child};
 
-/// A name whose subtree wasn't opened, its region, and the squared distance from which on there may be points in it.
+/// A name whose subtree wasn't opened, its region, and the squared distance from which on there may be points in it. The nearer
+/// is the greater.
 #[derive(Clone, Copy, Drop)]
+#[derive_where(PartialEq, Eq, PartialOrd, Ord)]
 pub(crate) struct Ahead {
+    pub(crate) least: Reverse<u128>,
+    #[derive_where(skip)]
     pub(crate) name: Name,
+    #[derive_where(skip)]
     pub(crate) region: Region,
-    pub(crate) least: u128,
 }
 
 impl Ahead {
@@ -44,53 +50,38 @@ impl Ahead {
         ensures ahead { IsAhead from result }
     {
         Ahead {
+            least: Reverse(least(&region, from)),
             name,
             region,
-            least: least(&region, from),
         }
     }
 }
 
 /// A subtree that is ahead, and its place in the index.
 #[derive(Drop)]
+#[derive_where(PartialEq, Eq, PartialOrd, Ord)]
 pub(crate) struct Waiting<P> {
     pub(crate) ahead: Ahead,
+    #[derive_where(skip)]
     pub(crate) place: P,
 }
 
 /// Takes the nearest out.
-pub(crate) fn take_nearest<P: Drop>(waiting: &mut Vec<Waiting<P>>) -> Option<Waiting<P>>
-    requires { IsFarFirst waiting.old.items }
-    ensures taken { MatchOption result ((waiting.old.items ≡ []) × (waiting.new.items ≡ [])) (λ next. IsNearest next waiting.old.items waiting.new.items) }
-    ensures sorted { IsFarFirst waiting.new.items }
+pub(crate) fn take_nearest<P: Drop>(waiting: &mut BinaryHeap<Waiting<P>>) -> Option<Waiting<P>>
+    requires { IsHeap waiting_cmp (heap_items waiting.old) }
+    ensures taken { MatchOption result (heap_items waiting.old ≡ []) (λ next. IsNearest next (heap_items waiting.old) (heap_items waiting.new)) }
+    ensures ordered { IsHeap waiting_cmp (heap_items waiting.new) }
 {
     waiting.pop()
 }
 
-/// Puts a subtree in front of those that are nearer.
-pub(crate) fn put_ahead<P: Drop>(
-    waiting: &mut Vec<Waiting<P>>,
-    one: Waiting<P>,
-) -> Result<(), AllocError>
-    requires { IsFarFirst waiting.old.items }
-    ensures put { OnOk result ((i : ℕ) × (waiting.new.items ≡ insert waiting.old.items i one)) }
-    ensures sorted { OnOk result (IsFarFirst waiting.new.items) }
+/// Two subtrees, the nearer first.
+pub(crate) fn by_distance<P: Drop>(one: Waiting<P>, two: Waiting<P>) -> (Waiting<P>, Waiting<P>)
+    ensures { IsOrder one two result.0 result.1 }
 {
-    let place = count_farther(waiting.as_slice(), one.ahead.least);
-    waiting.insert(place, one)?;
-    Ok(())
-}
-
-// How many are as far as this, or farther. What is put in is mostly nearer than most of the others.
-fn count_farther<P>(waiting: &[Waiting<P>], least: u128) -> usize
-    requires { IsFarFirst waiting.now }
-    ensures within { result ≤ length waiting.now }
-    ensures farther { All (λ w. least ≤ w.ahead.least) (take result waiting.now) }
-    ensures nearer { All (λ w. w.ahead.least ≤ least) (drop result waiting.now) }
-{
-    let mut place = waiting.len();
-    while 0 < place && waiting[place - 1].ahead.least < least {
-        place -= 1;
+    if two.ahead.least.0 < one.ahead.least.0 {
+        (two, one)
+    } else {
+        (one, two)
     }
-    place
 }

@@ -6,7 +6,7 @@ ghost use Rattle.plain_list.specs.Queries.{ranked};
 ghost use Rattle.plain_list.specs.AtPlaces.{AreOf};
 ghost use Rattle.knn_query.specs.Ahead.{number_nearer};
 ghost use Rattle.knn_query.specs.Candidates.{candidate_cmp, object_of, Replaces};
-ghost use Rattle.knn_query.specs.Passes.{held, HasReach, IsEmpty, IsHeld, Passes};
+ghost use Rattle.knn_query.specs.Passes.{held, HasReach, IsEmpty, IsHeld, Passes, Tells};
 
 use crate::candidate::Candidate;
 use crate::reach::{box_within, whole_box};
@@ -15,6 +15,16 @@ use prefix_names::KeyBox;
 use std::alloc::{AllocError, Global};
 use std::collections::BinaryHeap;
 use zorder::{Placed, Point};
+
+/// What became of an object.
+pub(crate) enum Came {
+    /// It makes one more.
+    More,
+    /// It stands in the place of the farthest.
+    Instead,
+    /// `k` that are kept come before it.
+    Beyond,
+}
 
 /// The `k` nearest of the objects that were added, or all where they are fewer, the farthest of them at the top.
 #[derive(Drop)]
@@ -35,18 +45,21 @@ impl Kept {
         })
     }
 
-    /// Adds an object, where it belongs to the nearest, and tells whether that makes one more.
-    pub(crate) fn add(&mut self, m: Placed) -> Result<bool, AllocError>
+    /// Adds an object, where it belongs to the nearest.
+    pub(crate) fn add(&mut self, m: Placed) -> Result<Came, AllocError>
         requires { IsHeld self.old }
-        ensures { OnOk result (Passes (m ∷ []) self.old self.new) }
+        ensures passes { OnOk result (Passes (m ∷ []) self.old self.new) }
+        ensures came { IfOk result (Tells self.new m) }
     {
         let one = Candidate::new(m, self.from);
         if self.heap.len() < self.k {
             self.heap.push(one)?;
-            Ok(true)
+            return Ok(Came::More);
+        }
+        if replace_farthest(&mut self.heap, one) {
+            Ok(Came::Instead)
         } else {
-            replace_farthest(&mut self.heap, one);
-            Ok(false)
+            Ok(Came::Beyond)
         }
     }
 
@@ -86,21 +99,22 @@ impl Kept {
     }
 }
 
-// Leaves the farthest out for a candidate that comes before it.
-fn replace_farthest(heap: &mut BinaryHeap<Candidate>, one: Candidate)
+// Leaves the farthest out for a candidate that comes before it, if there is one.
+fn replace_farthest(heap: &mut BinaryHeap<Candidate>, one: Candidate) -> bool
     requires { IsHeap candidate_cmp (heap_items heap.old) }
-    ensures { Replaces one (heap_items heap.old) (heap_items heap.new) }
+    ensures { Replaces one (heap_items heap.old) (heap_items heap.new) result }
 {
     let Some(farthest) = heap.peek() else {
-        return;
+        return false;
     };
     if !one.cmp(farthest).is_lt() {
-        return;
+        return false;
     }
     let Some(mut farthest) = heap.peek_mut() else {
-        return;
+        return false;
     };
     *farthest = one;
+    true
 }
 
 fn objects(alloc: Global, candidates: &[Candidate]) -> Result<Vec<Placed>, AllocError>

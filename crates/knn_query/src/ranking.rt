@@ -1,19 +1,25 @@
 //! Objects in the order of their distance to a point.
-ghost use Rattle.std.specs.Prelude.{◌≡◌, ◌≤◌, ◌<◌, ◌+◌, ◌∷◌, [], ℕ, take, IfOk, OnOk, length};
+ghost use Rattle.std.specs.Prelude.{◌≡◌, ◌≤◌, ◌<◌, ◌+◌, ◌∷◌, [], false, take, IfOk, OnOk, length};
 ghost use Rattle.plain_list.specs.Queries.{ranked};
 ghost use Rattle.table_share.specs.Objects.{objects_of, placed_of};
 ghost use Rattle.table_share.specs.Standing.{OfPlaces};
-ghost use Rattle.knn_query.specs.Ahead.{OpensNear};
-ghost use Rattle.knn_query.specs.Waiting.{IsFarFirst, Gets, waiting_at};
-ghost use Rattle.knn_query.specs.Passes.{held, HasReach, IsEmpty, IsHeld, Keeps, Passes};
+ghost use Rattle.std.specs.Arc.{arc_value};
+ghost use Rattle.std.specs.List.Sorted.{IsPermutation};
+ghost use Rattle.std.specs.BinaryHeap.{heap_items, IsHeap};
+ghost use Rattle.knn_query.specs.Ahead.{IsAhead, OpensNear};
+ghost use Rattle.knn_query.specs.Waiting.{ahead_of, waiting_cmp, AreAt};
+ghost use Rattle.knn_query.specs.Search.{AreHalves, IsPutOrOut, IsWanted, LeadsTo};
+ghost use Rattle.knn_query.specs.Passes.{held, HasReach, IsBeyond, IsEmpty, IsHeld, Keeps, Passes};
 
-use crate::ahead::{Ahead, Waiting, put_ahead, take_nearest};
-use crate::kept::Kept;
+use crate::ahead::{Ahead, Waiting, by_distance, take_nearest};
+use crate::kept::{Came, Kept};
 use bucket_versions::{Bucket, Row};
 use index_layer::{Below, Index};
 use plain_list::PlacedList;
 use prefix_names::KeyBox;
 use std::alloc::{AllocError, Global};
+use std::collections::BinaryHeap;
+use std::sync::Arc;
 use std::sync::ledger::Ledger;
 use step_count::Steps;
 use table_share::placed;
@@ -64,44 +70,67 @@ fn keep_nearest<I: Index, L: Ledger>(
     let ahead = Ahead::at(name, kept.from);
     let mut waiting = first_of_many(alloc, Waiting { ahead, place })?;
     while let Some(next) = take_nearest(&mut waiting) {
-        match index.below(&next.ahead.name, next.place) {
-            Below::Leaf(bucket) => {
-                if kept.has_nearer(next.ahead.least) {
-                    return Ok(kept);
-                }
-                add_rows(&mut kept, bucket, steps)?;
-            }
-            Below::Halves { zero, one } => {
-                let (fore, hind) = next.ahead.halves(kept.from);
-                put_halves(&mut waiting, fore, zero, hind, one)?;
-            }
+        if kept.has_nearer(next.ahead.least.0) {
+            return Ok(kept);
         }
+        let bucket = nearest_leaf(index, next.ahead, next.place, &kept, &mut waiting)?;
+        add_rows(&mut kept, bucket, steps)?;
     }
     Ok(kept)
 }
 
-// A list of one, with room for as many as are mostly ahead at once.
-fn first_of_many<T: Drop>(alloc: Global, first: T) -> Result<Vec<T>, AllocError>
-    ensures { IfOk result (λ all. all.items ≡ first ∷ []) }
+// A heap of one, with room for as many as are mostly ahead at once.
+fn first_of_many<P: Drop>(
+    alloc: Global,
+    first: Waiting<P>,
+) -> Result<BinaryHeap<Waiting<P>>, AllocError>
+    ensures one { IfOk result (λ all. IsPermutation (first ∷ []) (heap_items all)) }
+    ensures ordered { IfOk result (λ all. IsHeap waiting_cmp (heap_items all)) }
 {
-    let mut all = Vec::with_capacity(alloc, MANY_AHEAD)?;
+    let mut all = BinaryHeap::with_capacity(alloc, MANY_AHEAD)?;
     all.push(first)?;
     Ok(all)
 }
 
-// Puts two subtrees where they belong, each with its place.
-#[inline(always)]
-fn put_halves<P: Drop>(
-    waiting: &mut Vec<Waiting<P>>,
-    fore: Ahead,
-    zero: P,
-    hind: Ahead,
-    one: P,
-) -> Result<(), AllocError>
-    requires { IsFarFirst waiting.old.items }
-    ensures put { OnOk result (Gets (waiting_at fore zero) (waiting_at hind one) waiting.old.items waiting.new.items) }
-    ensures sorted { OnOk result (IsFarFirst waiting.new.items) }
+// Goes down to a leaf that is as near as the subtree. Of two halves one is so; the other one waits.
+fn nearest_leaf<'a, I: Index>(
+    index: &'a I,
+    first: Ahead,
+    at: &'a I::Place,
+    kept: &Kept,
+    waiting: &mut BinaryHeap<Waiting<&'a I::Place>>,
+) -> Result<&'a Arc<Bucket>, AllocError>
+    requires wanted { IsWanted kept.now first (ahead_of (heap_items waiting.old)) }
+    requires place { I.is_at index.now at.now first.name }
+    requires places { AreAt (I.is_at index.now) (heap_items waiting.old) }
+    requires ordered { IsHeap waiting_cmp (heap_items waiting.old) }
+    ensures leads { IfOk result (λ bucket. LeadsTo (I.leaves index.now) (arc_value bucket.now) kept.now (first ∷ ahead_of (heap_items waiting.old)) (ahead_of (heap_items waiting.new))) }
+    ensures places { OnOk result (AreAt (I.is_at index.now) (heap_items waiting.new)) }
+    ensures ordered { OnOk result (IsHeap waiting_cmp (heap_items waiting.new)) }
 {
+    let mut ahead = first;
+    let mut place = at;
+    'down: loop {
+        match index.below(&ahead.name, place) {
+            Below::Leaf(bucket) => return Ok(bucket),
+            Below::Halves { zero, one } => {
+                let (near, far) = halves_at(&ahead, kept.from, zero, one);
+                put_far(waiting, kept, far)?;
+                ahead = near.ahead;
+                place = near.place;
+            }
+        }
+    }
+}
+
+// Two halves with their places, the nearer first.
+#[inline(always)]
+fn halves_at<P: Drop>(ahead: &Ahead, from: Point, zero: P, one: P) -> (Waiting<P>, Waiting<P>)
+    requires room { length ahead.now.name < 64 }
+    requires ahead { IsAhead from ahead.now }
+    ensures { AreHalves from ahead.now zero one result.0 result.1 }
+{
+    let (fore, hind) = ahead.halves(from);
     let fore = Waiting {
         ahead: fore,
         place: zero,
@@ -110,12 +139,29 @@ fn put_halves<P: Drop>(
         ahead: hind,
         place: one,
     };
-    put_ahead(waiting, fore)?;
-    put_ahead(waiting, hind)?;
+    by_distance(fore, hind)
+}
+
+// Puts a subtree among those that wait, unless k of those that are kept are nearer.
+#[inline(always)]
+fn put_far<P: Drop>(
+    waiting: &mut BinaryHeap<Waiting<P>>,
+    kept: &Kept,
+    far: Waiting<P>,
+) -> Result<(), AllocError>
+    requires held { IsHeld kept.now }
+    requires some { 1 ≤ kept.now.k }
+    ensures put { OnOk result (IsPutOrOut kept.now far (heap_items waiting.old) (heap_items waiting.new)) }
+    ensures ordered { IsHeap waiting_cmp (heap_items waiting.old) → OnOk result (IsHeap waiting_cmp (heap_items waiting.new)) }
+{
+    if kept.has_nearer(far.ahead.least.0) {
+        return Ok(());
+    }
+    waiting.push(far)?;
     Ok(())
 }
 
-// Adds the objects of a bucket.
+// Adds the objects of a bucket. Where one comes too late, so do those at its point that follow.
 fn add_rows<L: Ledger>(
     kept: &mut Kept,
     bucket: &Bucket,
@@ -126,25 +172,33 @@ fn add_rows<L: Ledger>(
     ensures opened { steps.new ≡ steps.old + 1 }
 {
     let mut within = kept.reach();
-    for row in bucket.rows(steps) {
-        add_row(kept, &mut within, row)?;
+    let mut rows = bucket.rows(steps);
+    while let Some(row) = rows.next() {
+        if !add_row(kept, &mut within, row)? {
+            rows.pass_key(row.key);
+        }
     }
     Ok(())
 }
 
-// Adds the object of a row, unless its key tells that it is too far. Once there are enough the others need be near.
-fn add_row(kept: &mut Kept, within: &mut KeyBox, row: &Row) -> Result<(), AllocError>
+// Adds the object of a row, unless its key tells that it is too far, and answers whether it was kept. Once there are enough
+// the others need be near.
+fn add_row(kept: &mut Kept, within: &mut KeyBox, row: &Row) -> Result<bool, AllocError>
     requires held { IsHeld kept.old }
     requires reach { HasReach within.old kept.old }
     ensures passes { OnOk result (Passes (placed_of row.now ∷ []) kept.old kept.new) }
     ensures reach { OnOk result (HasReach within.new kept.new) }
+    ensures beyond { IfOk result (λ goes. goes ≡ false → IsBeyond kept.new (placed_of row.now)) }
 {
     if !within.has(row.key) {
-        return Ok(());
+        return Ok(false);
     }
-    if !kept.add(placed(row))? {
-        return Ok(());
+    match kept.add(placed(row))? {
+        Came::More => {
+            *within = kept.reach();
+            Ok(true)
+        }
+        Came::Instead => Ok(true),
+        Came::Beyond => Ok(false),
     }
-    *within = kept.reach();
-    Ok(())
 }

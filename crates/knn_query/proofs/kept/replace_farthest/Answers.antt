@@ -1,4 +1,4 @@
-use Rattle.std.proofs.Common.{◌≡◌, ◌<◌, ◌∙◌, ◌∷◌, true, false, List, [], length, get_or, inl, inr, refl, sym, ap, arith, rules}
+use Rattle.std.proofs.Common.{◌≡◌, ◌<◌, ◌∙◌, ◌∷◌, true, false, List, [], length, get_or, refl, sym, ap, arith, rules}
 use Rattle.std.specs.BinaryHeap.{heap_items, IsUpperBound}
 use Rattle.std.specs.Ordering.{is_lt}
 use Rattle.std.specs.List.Sorted.{IsPermutation}
@@ -21,10 +21,10 @@ bound-left gone old left was bound =
 
 pub returns-then-not-is_lt : goal.returns-then-not-is_lt
 returns-then-not-is_lt c =
-    inl (record {
+    record {
       same = refl;
       bound = bound-behind c.args.one c.in-Some.farthest.now (heap_items c.args.heap.now) (ap is_lt (sym c.cmp.ensures) ∙ sym c.is_lt.ensures ∙ c.if-not-is_lt.true) (c.in-Some.ensures.greatest c.requires);
-    })
+    }
 
 pub returns : goal.returns
 returns c =
@@ -37,7 +37,7 @@ returns c =
     let ordered = c.drop-farthest.ensures.heap_order (search rules) (c.in-Some-peek_mut.ensures.heap_order c.requires) in
     let before : is_lt (candidate_cmp c.args.one top) ≡ true = ap (λ d. is_lt (candidate_cmp c.args.one d)) (sym same) ∙ ap is_lt (sym c.cmp.ensures) ∙ sym c.is_lt.ensures ∙ c.if-not-is_lt.false in
     let bound = bound-left top old p.heap.now.data.items c.in-Some-peek_mut.ensures.permutation (c.in-Some-peek_mut.ensures.greatest c.requires) in
-    inr (record {
+    record {
       gone = top;
       left = p.heap.now.data.items;
       was = c.in-Some-peek_mut.ensures.permutation;
@@ -45,4 +45,4 @@ returns c =
       ordered = search rules;
       before = before;
       bound = bound;
-    })
+    }

@@ -4,13 +4,13 @@ use Rattle.std.specs.BinaryHeap.{heap_items}
 use Rattle.std.proofs.lemmas.List.Elements.{All-cons}
 use Rattle.std.proofs.lemmas.List.Sorted.{All-permutation, IsPermutation-map, length_permutation}
 use Rattle.zorder.specs.declared.points.Placed.{Placed}
-use Rattle.knn_query.specs.Candidates.{object_of, IsMeasured}
+use Rattle.knn_query.specs.Candidates.{object_of, IsMeasured, Replaces}
 use Rattle.knn_query.proofs.Candidates.{pass_adds_one}
-use Rattle.knn_query.proofs.Keeping.{replaced-passes}
+use Rattle.knn_query.proofs.Keeping.{replaced-passes, behind-passes, behind-beyond}
 use Rattle.knn_query.proofs.kept.Kept.add.Goals as goal
 
-pub returns-in_ok-push : goal.returns-in_ok-push
-returns-in_ok-push c =
+pub returns-then-len-self-clause-passes : goal.returns-then-len-self-clause-passes
+returns-then-len-self-clause-passes c =
     let p = c.args.self.now.from in
     let k = c.args.self.now.k in
     let one = c.new-one.result in
@@ -31,7 +31,20 @@ returns-in_ok-push c =
       keeps = λ places rest are pass. pass_adds_one p k places rest c.args.m (map object_of cs) (map object_of ds) (are 0 c.args.m (lit< tt)) made pass;
     }
 
-pub returns-else-len-self : goal.returns-else-len-self
-returns-else-len-self c =
+pub returns-then-replace_farthest-clause-passes : goal.returns-then-replace_farthest-clause-passes
+returns-then-replace_farthest-clause-passes c =
     replaced-passes c.args.m c.new-one.result c.args.self.now (record { from = c.args.self.now.from; k = c.args.self.now.k; heap = c.replace_farthest.new.heap }) c.new-one.ensures.object c.new-one.ensures.measured c.requires
-    (omega (arith, c.if-len-self.false, c.len.ensures, c.args.self.now.heap.data.ok.0)) refl refl c.replace_farthest.ensures
+    (omega (arith, c.if-len-self.false, c.len.ensures, c.args.self.now.heap.data.ok.0)) refl refl
+    (subst (Replaces c.new-one.result (heap_items c.args.self.now.heap) (heap_items c.replace_farthest.new.heap)) c.if-replace_farthest.true c.replace_farthest.ensures)
+
+pub returns-else-replace_farthest-clause-passes : goal.returns-else-replace_farthest-clause-passes
+returns-else-replace_farthest-clause-passes c =
+    behind-passes c.args.m c.new-one.result c.args.self.now (record { from = c.args.self.now.from; k = c.args.self.now.k; heap = c.replace_farthest.new.heap }) c.new-one.ensures.object c.new-one.ensures.measured c.requires
+    (omega (arith, c.if-len-self.false, c.len.ensures, c.args.self.now.heap.data.ok.0)) refl refl
+    (subst (Replaces c.new-one.result (heap_items c.args.self.now.heap) (heap_items c.replace_farthest.new.heap)) c.if-replace_farthest.false c.replace_farthest.ensures)
+
+pub returns-else-replace_farthest-clause-came : goal.returns-else-replace_farthest-clause-came
+returns-else-replace_farthest-clause-came c =
+    behind-beyond c.args.m c.new-one.result c.args.self.now (record { from = c.args.self.now.from; k = c.args.self.now.k; heap = c.replace_farthest.new.heap }) c.new-one.ensures.object c.new-one.ensures.measured c.requires
+    (omega (arith, c.if-len-self.false, c.len.ensures, c.args.self.now.heap.data.ok.0)) refl refl
+    (subst (Replaces c.new-one.result (heap_items c.args.self.now.heap) (heap_items c.replace_farthest.new.heap)) c.if-replace_farthest.false c.replace_farthest.ensures)
