@@ -6,6 +6,7 @@
 //! Not here: how a log is walked (`recovery`), how lines are written (`watch_run`).
 #![tactic(auto)]
 
+mod counts;
 mod fences;
 mod guards;
 mod hints;
@@ -13,8 +14,11 @@ mod ids;
 mod passages;
 mod rows;
 mod slabs;
+mod tally;
 mod watch;
 
+pub use counts::FenceCount;
 pub use fences::{Crossing, Event, Fence, Fences};
 pub use rows::read_fences;
+pub use tally::Tally;
 pub use watch::{Watch, WatchFault};
