@@ -1,6 +1,5 @@
 -- What a step tells of a tally, told of the guards over it.
 use Rattle.std.proofs.Common.{◌≡◌, ℕ, ◌≤◌, ◌<◌, ◌+◌, List, ◌++◌, length, map, Option, Result, Ok, Err, OnOk, OnErr, sym, ◌∙◌, ap, subst}
-use Rattle.zorder.specs.declared.points.Point.{Point}
 use Rattle.recovery.specs.declared.walked.Walked.{Walked}
 use Rattle.recovery.specs.Walks.{object_of}
 use Rattle.fence_watch.specs.declared.fences.Fence.{Fence}
@@ -10,7 +9,7 @@ use Rattle.fence_watch.specs.Counts.{fences_counted}
 use Rattle.fence_watch.specs.Guards.{AllRising}
 use Rattle.fence_watch.specs.Kept.{Keeps}
 use Rattle.fence_watch.specs.Tallies.{TallyView, Tallies, IsPast}
-use Rattle.fence_watch.specs.Watches.{Guard, WatchView, fences_of, guard_behind, HoldsBefore, Steps, IsOver, most_events}
+use Rattle.fence_watch.specs.Watches.{Guard, fences_of, guard_behind, HoldsBefore, Steps, IsOver, most_events}
 use Rattle.fence_watch.proofs.Passing.{fences-behind, rising-behind}
 use Rattle.fence_watch.proofs.Tallying.{fences-behind as counted-behind}
 

@@ -1,11 +1,10 @@
 -- Guards in two parts: the first few, and the others.
-use Rattle.std.proofs.Common.{◌≡◌, ℕ, zero, suc, ◌≤◌, ◌+◌, ◌/◌, List, [], ◌∷◌, ◌++◌, length, take, drop, Option, Some, None, Result, Ok, Err, OnOk, refl, sym, ◌∙◌, ap, subst, arith}
+use Rattle.std.proofs.Common.{◌≡◌, ℕ, zero, suc, ◌≤◌, ◌/◌, List, [], ◌∷◌, ◌++◌, length, take, drop, Option, Some, None, Result, Ok, Err, OnOk, sym, ◌∙◌, ap, subst, arith}
 use Rattle.std.proofs.lemmas.List.{map-append, length-map}
 use Rattle.fence_watch.specs.declared.fences.Crossing.{Crossing}
 use Rattle.fence_watch.specs.declared.guards.Guarded.{Guarded}
 use Rattle.fence_watch.specs.declared.passages.Pair.{Pair}
 use Rattle.fence_watch.specs.Marks.{marks_in}
-use Rattle.fence_watch.specs.Watches.{Guard}
 use Rattle.fence_watch.specs.Passages.{turns, turns_in, word_turns, turns_of, count_turns}
 use Rattle.fence_watch.specs.Guards.{AllRising, guard_of, guards_of, behind_by, guards_along, HaveRoom, crossed_by, crossed_in}
 use Rattle.fence_watch.proofs.AlongParts.{front-of, back-of, along-in, along-both}

@@ -1,26 +1,21 @@
 -- What the rows of two places tell of the fences that are crossed between them.
-use Rattle.std.proofs.Common.{◌≡◌, ℕ, zero, suc, ◌≤◌, ◌<◌, ◌+◌, Bool, true, false, List, [], ◌∷◌, ◌++◌, length, map, Option, Some, None, refl, sym, ◌∙◌, ap, subst, arith, cond, ◌&&◌, append-nil, take, drop}
-use Rattle.std.proofs.lemmas.List.{take-append-le, take_all, length-map}
+use Rattle.std.proofs.Common.{◌≡◌, ℕ, zero, suc, ◌≤◌, ◌+◌, Bool, true, false, List, [], ◌∷◌, ◌++◌, length, map, Option, Some, None, refl, sym, ◌∙◌, ap, arith, cond, ◌&&◌}
+use Rattle.std.proofs.lemmas.List.{length-map}
 use Rattle.std.specs.Prelude.{nat_le}
 use Rattle.zorder.specs.declared.points.Point.{Point}
 use Rattle.fence_watch.specs.declared.fences.Fence.{Fence}
 use Rattle.fence_watch.specs.declared.fences.Event.{Event}
 use Rattle.fence_watch.specs.declared.fences.Crossing.{Crossing}
 use Rattle.fence_watch.specs.declared.fences.Crossing.TheVariants.{Enter, Leave}
-use Rattle.fence_watch.specs.declared.guards.Guarded.{Guarded}
-use Rattle.fence_watch.specs.declared.passages.Chart.{Chart}
 use Rattle.fence_watch.specs.declared.passages.Pair.{Pair}
 use Rattle.fence_watch.specs.Fences.{lies_in, most_fences}
 use Rattle.fence_watch.specs.Slabs.{row_at}
 use Rattle.fence_watch.specs.Marks.{marks_of, filled, all_marks}
 use Rattle.fence_watch.proofs.MarkLemmas.{both-all, turns-all}
 use Rattle.fence_watch.specs.Crossings.{crossings_of, crossings_by}
-use Rattle.recovery.specs.declared.walked.Walked.{Walked}
-use Rattle.recovery.specs.Walks.{object_of}
-use Rattle.fence_watch.specs.Watches.{Guard, WatchView, fences_of, guard_behind, with_id, without_id, has_id, HoldsBefore, events_by, Steps, IsOver, most_events}
-use Rattle.fence_watch.specs.Passages.{turn, both, turns, turns_of, count_turns, event_by, events_along, turn_at, all_turns, column_of, line_of, Charts, ShowsPassage}
-use Rattle.fence_watch.specs.Guards.{AreRising, AllRising, behind_by, guards_of, guards_along}
-use Rattle.fence_watch.specs.Kept.{Keeps}
+use Rattle.fence_watch.specs.Watches.{Guard, fences_of, guard_behind, with_id, without_id, has_id, HoldsBefore}
+use Rattle.fence_watch.specs.Passages.{turn, both, turns, turns_of, count_turns, event_by, events_along, turn_at, all_turns, column_of, line_of, ShowsPassage}
+use Rattle.fence_watch.specs.Guards.{AreRising, AllRising, behind_by, guards_along}
 use Rattle.fence_watch.proofs.RisingIds.{rising-with_id, rising-without_id}
 
 -- both rows of a place

@@ -6,7 +6,6 @@ use Rattle.std.proofs.lemmas.List.{take-append-le, take_all}
 use Rattle.std.proofs.lemmas.Bool.{lt-ltb, eqb-true}
 use Rattle.std.proofs.lemmas.Bool.Decides.{nat_tests}
 use Rattle.zorder.specs.declared.points.Point.{Point}
-use Rattle.zorder.specs.declared.points.Placed.{Placed}
 use Rattle.zorder.specs.Region.{has_point}
 use Rattle.cell_format.specs.declared.cell.Cell.{Cell}
 use Rattle.cell_format.specs.declared.cell.Cell.TheVariants as cell
@@ -22,17 +21,16 @@ use Rattle.recovery.specs.declared.walked.Walked.{Walked}
 use Rattle.recovery.specs.Walks.{object_of, place_in, IsNextWalked}
 use Rattle.fence_watch.specs.declared.fences.Fence.{Fence}
 use Rattle.fence_watch.specs.declared.fences.Event.{Event}
-use Rattle.fence_watch.specs.declared.fences.Crossing.{Crossing}
 use Rattle.fence_watch.specs.declared.counts.FenceCount.{FenceCount}
 use Rattle.fence_watch.specs.declared.passages.Chart.{Chart}
 use Rattle.fence_watch.specs.declared.passages.Pair.{Pair}
 use Rattle.fence_watch.specs.Fences.{lies_in, inside_of, most_fences}
-use Rattle.fence_watch.specs.Crossings.{world_behind, world_after_cells, crossings, crossings_by}
+use Rattle.fence_watch.specs.Crossings.{world_behind, world_after_cells, crossings_by}
 use Rattle.fence_watch.specs.Marks.{filled}
 use Rattle.fence_watch.specs.Passages.{along, turn, turns_of, count_turns, events_along, turn_at, all_turns, Charts, ShowsPassage}
 use Rattle.fence_watch.specs.Guards.{AreRising}
 use Rattle.fence_watch.specs.Watches.{Guard, guard_in, guard_behind, inside_behind, with_id, without_id, has_id, most_events}
-use Rattle.fence_watch.specs.Counts.{fences_counted, count_by, number_by, one_more}
+use Rattle.fence_watch.specs.Counts.{fences_counted, count_by, one_more}
 use Rattle.fence_watch.specs.Tallies.{TallyView, count_behind, count_in, number_behind, events_told, Tallies, TalliesCells, IsPast}
 use Rattle.fence_watch.specs.Kept.{KeepsTally}
 use Rattle.fence_watch.proofs.AlongParts.{along-none}

@@ -1,4 +1,4 @@
-//! A watch: fences, who is inside, and who crossed.
+//! A watch: a tally of fences, and the ids of those that are inside.
 ghost use Rattle.std.specs.Prelude.{◌≡◌, ◌≤◌, ◌↔◌, ℕ, List, [], ◌∷◌, ◌++◌, length};
 ghost use Rattle.std.specs.Prelude.{Err, Some, None, IfOk, OnOk, OnErr, MatchOption};
 ghost use Rattle.cell_format.specs.declared.cell.Cell.{Cell};
@@ -29,7 +29,10 @@ pub enum WatchFault {
     Memory,
 }
 
-/// Fences along a log.
+/// Fences along a log, with the ids inside each.
+///
+/// `inside` hands out a slice and takes no memory, so the ids of a fence are one rising list: an id that comes before others moves them all, and
+/// so many that come against their order cost the square of their number. Where numbers are enough, a `Tally` keeps no ids.
 #[derive(Drop)]
 pub struct Watch {
     guards: Vec<Guarded>,

@@ -1,7 +1,6 @@
-use Rattle.std.proofs.Common.{◌≡◌, ◌∙◌, ◌++◌, ◌<◌, List, length, sym, ap, arith, append-nil, length-append, append_assoc}
+use Rattle.std.proofs.Common.{◌∙◌, ◌++◌, ◌<◌, List, length, sym, ap, arith, append-nil, length-append, append_assoc}
 use Rattle.fence_watch.specs.declared.fences.Event.{Event}
-use Rattle.fence_watch.specs.declared.counts.FenceCount.{FenceCount}
-use Rattle.fence_watch.specs.Counts.{count_by, counted_by, counted_in, said_by, said_in}
+use Rattle.fence_watch.specs.Counts.{count_by, counted_by, said_by, said_in}
 use Rattle.fence_watch.specs.Passages.{turns_in, turns_of}
 use Rattle.fence_watch.proofs.AlongParts.{no-items, near-turns, far-turns, along-nil, none-said, counted-word, said-word, said-both, length-both, along-both}
 use Rattle.fence_watch.proofs.counts.+cross_counted.Goals as goal

@@ -1,10 +1,10 @@
-use Rattle.std.proofs.Common.{◌≡◌, ◌∙◌, ◌≤◌, ◌<◌, ◌+◌, ◌++◌, List, length, length-append, take, drop, refl, sym, ap, subst, arith}
+use Rattle.std.proofs.Common.{◌∙◌, ◌≤◌, ◌<◌, ◌+◌, ◌++◌, List, length, length-append, take, drop, refl, sym, ap, subst, arith}
 use Rattle.fence_watch.specs.declared.fences.Event.{Event}
 use Rattle.fence_watch.specs.declared.counts.FenceCount.{FenceCount}
 use Rattle.fence_watch.specs.Counts.{count_by, fences_counted}
 use Rattle.fence_watch.specs.Kept.{KeepsTally}
 use Rattle.fence_watch.specs.Passages.{along, turns_of, events_along, ShowsPassage}
-use Rattle.fence_watch.specs.Tallies.{TallyView, Tallies, IsPast, events_told}
+use Rattle.fence_watch.specs.Tallies.{TallyView, Tallies, IsPast}
 use Rattle.fence_watch.specs.Watches.{most_events}
 use Rattle.fence_watch.proofs.Tallying.{Said, said, stays, not-past, is-past, keeps-tallied, rewritten}
 use Rattle.fence_watch.proofs.tally.Tally.pass.Goals as goal
