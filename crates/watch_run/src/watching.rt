@@ -48,7 +48,7 @@ fn tell_watch<K: Sink, D: LogDisk>(
 {
     match follow(alloc, file, fences, disk) {
         Ok(Along { watch, disk }) => {
-            let status = written(write_watch(sink, &watch, fences.as_slice()));
+            let status = written(write_watch(sink, &watch));
             without_rows(alloc, status, disk)
         }
         Err(Unmade { disk, why }) => refuse_on(alloc, &why, sink, disk),
