@@ -24,9 +24,11 @@ mod walk;
 mod walked;
 
 pub use heads::width_of;
-pub use inspecting::inspect;
+pub use inspecting::{inspect, inspect_log};
 pub use making::init;
-pub use opening::open;
-pub use seen::{InitFault, InitRefused, Leaves, OpenFault, OpenRefused, Opened, Seen};
+pub use opening::{open, open_log};
+pub use seen::{
+    InitFault, InitRefused, Leaves, OpenFault, OpenRefused, Opened, OpenedLog, Seen, SeenLog,
+};
 pub use walk::{Walk, WalkEnd};
 pub use walked::Walked;
