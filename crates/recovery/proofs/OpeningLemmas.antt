@@ -1,9 +1,9 @@
 -- What a crash leaves while a log is opened.
-use Rattle.std.proofs.Common.{◌≡◌, ◌≢◌, ◌⊎◌, ℕ, ◌+◌, ◌*◌, ◌<◌, ◌≤◌, inl, inr, ⊎_elim, true, false, List, [], ◌∷◌, ◌++◌, length, take, drop, Option, Some, None, is_some, refl, sym, ◌∙◌, ap, subst, lit≤, arith, length-append}
+use Rattle.std.proofs.Common.{◌≡◌, ◌≢◌, ◌⊎◌, ℕ, ◌+◌, ◌*◌, ◌<◌, ◌≤◌, inl, inr, ⊎_elim, true, false, List, [], ◌∷◌, ◌++◌, length, take, drop, get_or, Option, Some, None, is_some, refl, sym, ◌∙◌, ap, subst, lit≤, arith, length-append}
 use Rattle.std.specs.Prelude.{Result, Ok, Err, IfOk}
 use Rattle.std.specs.Result.{IsErrAnd}
 use Rattle.causes.specs.Causes.{Rose}
-use Rattle.std.proofs.lemmas.List.{take_at, take-append-drop}
+use Rattle.std.proofs.lemmas.List.{take_at, take-append-drop, get_or-take}
 use Rattle.cell_format.specs.declared.cell.Cell.{Cell}
 use Rattle.disk_trait.specs.declared.disk.DiskFault.{DiskFault}
 use Rattle.disk_trait.specs.Drive.{Drive, HasNoMore, Made, MadeWell, SameFile, KeepsLaws, Stays, Shortened, Cuts, Syncs, Only, CountsFaults}
@@ -18,8 +18,8 @@ use Rattle.recovery.specs.declared.seen.Seen.{Seen}
 use Rattle.log_state.specs.Recovers.{Recovers}
 use Rattle.recovery.specs.declared.seen.OpenFault.{OpenFault}
 use Rattle.recovery.specs.declared.seen.OpenFault.TheVariants.{Disk}
-use Rattle.recovery.specs.Found.{IsWanted, IsFound}
-use Rattle.recovery.specs.Opening.{CallsToCut, CallsToOpen, CallsRefused, HasNoLog, HasNoLogFor, LeavesUnopenedFor, IsReady, IsUntouched, KeepsLog}
+use Rattle.recovery.specs.Found.{IsWanted, IsNewest}
+use Rattle.recovery.specs.Opening.{CallsToCut, CallsToOpen, CallsRefused, HasNoLog, HasNoLogFor, LeavesUnopenedFor, IsReady, IsUntouched, KeepsLog, KeepsNewest}
 use Rattle.recovery.specs.Reading.{IsFoundIn, IsFoundFor}
 use Rattle.recovery.specs.Wanted.{IsWidthFor}
 use Rattle.recovery.specs.Widths.{IsWidthOf}
@@ -90,6 +90,26 @@ module _ (w : ℕ) (cells : List Cell) (end : ℕ) (at_end : end ≡ 17 + 32 * l
       let here : LeavesNow b (Recovers w cells) = λ x left. let (d, before, cut) = cuts.crash x left in recovers-shortened d x (now d before) cut in
       (goes_on a a b (Recovers w cells) (started a (Recovers w cells) laws now) cuts.time here, here)
 
+-- a cut behind the header keeps the version
+shortened-newest : (end : ℕ) (old new : List ℕ) → 9 ≤ end → Shortened end old new → IsNewest old → IsNewest new
+shortened-newest end old new long cut is =
+    let within : 8 < end = omega (arith, long) in
+    sym (get_or-take end new 8 0 within) ∙ ap (λ (l : List ℕ). get_or l 8 0) cut.before ∙ get_or-take end old 8 0 within ∙ is
+
+pub newest-cut : {T : Type 0} (end : ℕ) (a b : Drive) (result : Result T DiskFault) → 9 ≤ end → KeepsLaws a → Cuts a b end result → LeavesNow a IsNewest → LeavesOnly a b IsNewest × LeavesNow b IsNewest
+newest-cut end a b result long laws cuts now =
+    let here : LeavesNow b IsNewest = λ x left. let (d, before, cut) = cuts.crash x left in shortened-newest end d x long cut (now d before) in
+    (goes_on a a b IsNewest (started a IsNewest laws now) cuts.time here, here)
+
+-- a sync, calls that only read, and what comes behind them
+pub newest-read : {T : Type 0} (a b c : Drive) (result : Result T DiskFault) → KeepsLaws a → KeepsLaws b → Syncs a b result → Stays b c → KeepsNewest a c
+newest-read a b c result before after syncs stays now =
+    leaves-trans a b c IsNewest (leaves-sync a b IsNewest result before now syncs) (leaves-stays b c IsNewest after (λ x left. now x (syncs.crash x left)) stays)
+
+pub newest-last : {T : Type 0} (a b c d : Drive) (result : Result T DiskFault) → KeepsLaws a → KeepsLaws b → Syncs a b result → Stays b c → KeepsNewest c d → KeepsNewest a d
+newest-last a b c d result before after syncs stays last now =
+    leaves-trans a c d IsNewest (newest-read a b c result before after syncs stays now) (last (λ x left. now x (syncs.crash x (stays.images x left))))
+
 module _ (w most len : ℕ) (d0 d1 d2 : Drive) (seen : Seen) (laws0 : KeepsLaws d0) (laws1 : KeepsLaws d1) (bytes_kept : d1.bytes ≡ d0.bytes) (images_kept : (c : List ℕ) → d1.images c → d0.images c)
     (in_file : IsFoundIn newest w most d1 seen len) (stays : Stays d1 d2) where
   -- the cells that were found are those that a crash leaves
@@ -120,9 +140,10 @@ module _ (w most len : ℕ) (d0 d1 d2 : Drive) (seen : Seen) (laws0 : KeepsLaws 
       inr (λ bytes told. omega (arith, longer, in_file.whole bytes (bytes_kept ∙ told)), made-then (true ∷ []) (true ∷ true ∷ []) d0 d1 d3 first (still-made (true ∷ true ∷ []) d1 d2 d3 stays.calls more))
 
   -- cut where they end, the file is their log
-  pub is_ready : (d3 : Drive) → d3.faults ≡ d0.faults → SameFile d0 d3 → CallsToOpen seen.cells d0 d3 → ((bytes : List ℕ) → d0.bytes ≡ Some bytes → Only bytes d1.images) → is_some d3.bytes ≡ is_some d2.bytes
+  pub is_ready : (d3 : Drive) → KeepsNewest d0 d3 → d3.faults ≡ d0.faults → SameFile d0 d3 → CallsToOpen seen.cells d0 d3 → ((bytes : List ℕ) → d0.bytes ≡ Some bytes → Only bytes d1.images) → is_some d3.bytes ≡ is_some d2.bytes
       → ((xs : List ℕ) → d2.bytes ≡ Some xs → Only xs d2.images → (d3.bytes ≡ Some (take (17 + 32 * seen.cells) xs)) × Only (take (17 + 32 * seen.cells) xs) d3.images) → IsReady w seen d0 d3
-  is_ready d3 same file calls only told_kept cut = record {
+  is_ready d3 kept_newest same file calls only told_kept cut = record {
+    newest = kept_newest;
     same = same;
     file = file;
     calls = calls;
@@ -184,8 +205,9 @@ cut_refused a b c d first still (inr at_sync) =
     record { other = λ other. absurd (other refl); disk = inr (2, record { few = lit≤ tt; calls = made-then (true ∷ []) (true ∷ false ∷ []) a b d first (still-made (true ∷ false ∷ []) b c d still at_sync) }) }
 
 -- an opening that is refused at its sync, at what was read, and at the cut
-pub refused_sync : {T : Type 0} (wanted : Option ℕ) (most : ℕ) (a b : Drive) (result : Result T DiskFault) → Syncs a b result → Made (false ∷ []) a b → SameFile a b → LeavesUnopenedFor wanted most a b Disk
-refused_sync wanted most a b result syncs made file = record {
+pub refused_sync : {T : Type 0} (wanted : Option ℕ) (most : ℕ) (a b : Drive) (result : Result T DiskFault) → KeepsNewest a b → Syncs a b result → Made (false ∷ []) a b → SameFile a b → LeavesUnopenedFor wanted most a b Disk
+refused_sync wanted most a b result kept_newest syncs made file = record {
+  newest = kept_newest;
   unfailed = λ other. absurd (other refl);
   calm = λ other. absurd (other refl);
   no_log = λ bytes told none. untouched-sync a b result syncs;
@@ -193,8 +215,9 @@ refused_sync wanted most a b result syncs made file = record {
   file = file;
 }
 
-pub refused_read : {T : Type 0} (wanted : Option ℕ) (most : ℕ) (a b c : Drive) (result : Result T DiskFault) (fault : OpenFault) → Syncs a b result → MadeWell 1 a b → Stays b c → b.faults ≡ a.faults → (fault ≢ Disk → c.faults ≡ b.faults) → SameFile a c → LeavesUnopenedFor wanted most a c fault
-refused_read wanted most a b c result fault syncs made stays same calm file = record {
+pub refused_read : {T : Type 0} (wanted : Option ℕ) (most : ℕ) (a b c : Drive) (result : Result T DiskFault) (fault : OpenFault) → KeepsNewest a c → Syncs a b result → MadeWell 1 a b → Stays b c → b.faults ≡ a.faults → (fault ≢ Disk → c.faults ≡ b.faults) → SameFile a c → LeavesUnopenedFor wanted most a c fault
+refused_read wanted most a b c result fault kept_newest syncs made stays same calm file = record {
+  newest = kept_newest;
   unfailed = λ other. untouched-stays a b c (untouched-sync a b result syncs) stays;
   calm = λ other. calm other ∙ same;
   no_log = λ bytes told none. untouched-stays a b c (untouched-sync a b result syncs) stays;
@@ -212,8 +235,9 @@ log_stands wanted w most len drive seen bytes told at none =
     no_log (Some v) same none = subst (λ u. HasNoLog u most bytes) same none
     no_log None known none = none w known
 
-pub refused_cut : (wanted : Option ℕ) (w most len : ℕ) (a b c d : Drive) (seen : Seen) → b.bytes ≡ a.bytes → IsFoundFor newest wanted most b w seen len → MadeWell 1 a b → Stays b c → Made (false ∷ []) c d ⊎ Made (true ∷ false ∷ []) c d → SameFile a d → LeavesUnopenedFor wanted most a d Disk
-refused_cut wanted w most len a b c d seen kept at made stays failed file = record {
+pub refused_cut : (wanted : Option ℕ) (w most len : ℕ) (a b c d : Drive) (seen : Seen) → KeepsNewest a d → b.bytes ≡ a.bytes → IsFoundFor newest wanted most b w seen len → MadeWell 1 a b → Stays b c → Made (false ∷ []) c d ⊎ Made (true ∷ false ∷ []) c d → SameFile a d → LeavesUnopenedFor wanted most a d Disk
+refused_cut wanted w most len a b c d seen kept_newest kept at made stays failed file = record {
+  newest = kept_newest;
   unfailed = λ other. absurd (other refl);
   calm = λ other. absurd (other refl);
   no_log = λ bytes told none. absurd (log_stands wanted w most len b seen bytes (kept ∙ told) at none);

@@ -1,5 +1,5 @@
 -- What is at fault in a log that is wanted, by its width or by the width that it has.
-use Rattle.std.proofs.Common.{◌≡◌, ◌≢◌, ℕ, ◌≤◌, ◌⊎◌, inl, inr, ⊎_elim, List, Option, Some, None, length, refl, sym, ◌∙◌, subst, arith}
+use Rattle.std.proofs.Common.{◌≡◌, ℕ, ◌≤◌, ◌⊎◌, inl, inr, ⊎_elim, List, Option, Some, None, length, refl, sym, ◌∙◌, subst, arith}
 use Rattle.std.specs.Prelude.{slice_index, IfSome}
 use Rattle.causes.specs.Causes.{Rose}
 use Rattle.disk_trait.specs.Drive.{Drive}
@@ -64,7 +64,7 @@ module _ (oldest most : ℕ) (bytes : List ℕ) where
     one_own fault.NotLog fault.NotLog se sf a b = refl
     one_own fault.NotLog (fault.OldLog version width) se sf a b = absurd (b.is_log a)
     one_own fault.NotLog (fault.Damaged n why) se sf a (w, has, is) = absurd (has.is_log a)
-    one_own fault.NotLog (fault.TooLong limit) se sf a (w, has, is) = absurd (has.is_log a)
+    one_own fault.NotLog (fault.TooLong limit) se sf a (w, has, same, is) = absurd (has.is_log a)
     one_own fault.NotLog fault.Disk se sf a b = absurd sf
     one_own fault.NotLog fault.Memory se sf a b = absurd sf
     one_own (fault.OldLog v u) fault.NotLog se sf a b = absurd (a.is_log b)

@@ -1,6 +1,5 @@
 -- Which logs are wanted: those of a width that is named, or of either width; and what may be told of one that isn't read, whether its bytes are known or not.
 use Rattle.std.specs.Prelude.{◌≡◌, ◌≢◌, ◌⊎◌, ℕ, ◌<◌, List, Option, Some, None, ⊤}
-use Rattle.disk_trait.specs.Drive.{Drive}
 use Rattle.recovery.specs.declared.seen.OpenFault.{OpenFault}
 use Rattle.recovery.specs.declared.seen.OpenFault.TheVariants.{NotLog, OldLog, Damaged, Disk, Memory, TooLong}
 use Rattle.recovery.specs.Faults.{IsFault}

@@ -11,7 +11,7 @@ ghost use Rattle.log_state.specs.Recovers.{Recovers};
 ghost use Rattle.split_log.specs.LogView.{most_cells};
 ghost use Rattle.recovery.specs.Faults.{IsFault, IsInBytes};
 ghost use Rattle.recovery.specs.Found.{IsFound, IsFree};
-ghost use Rattle.recovery.specs.Opening.{KeepsCells, CallsToCut, LeavesUnopened, IsReady, OpensLog, RefusesLog, RefusesFor, KeepsLog};
+ghost use Rattle.recovery.specs.Opening.{KeepsCells, KeepsNewest, CallsToCut, LeavesUnopened, IsReady, OpensLog, RefusesLog, RefusesFor, KeepsLog};
 ghost use Rattle.recovery.specs.Widths.{IsWidth, IsLogFault};
 ghost use Rattle.recovery.specs.Wanted.{IsWidthFor, IsFaultFor, MayTell};
 
@@ -151,6 +151,7 @@ fn cut_behind<D: LogDisk>(disk: &mut D, end: u64, len: u64) -> Result<(), DiskFa
     ensures told { OnOk result (is_some (D.drive disk.new).bytes ≡ is_some (D.drive disk.old).bytes) }
     ensures any_moment { (w : ℕ) (cells : List Cell) → end ≡ 17 + 32 * length cells → LeavesNow (D.drive disk.old) (Recovers w cells)
         → LeavesOnly (D.drive disk.old) (D.drive disk.new) (Recovers w cells) }
+    ensures newest { 9 ≤ end → KeepsNewest (D.drive disk.old) (D.drive disk.new) }
     ensures calls { CallsToCut end len (D.drive disk.old) (D.drive disk.new) result }
     ensures cause { CountsFaults (D.drive disk.old) (D.drive disk.new) result }
 {

@@ -2,6 +2,7 @@
 ghost use Rattle.std.specs.Prelude.{◌≡◌, ◌≤◌, ◌+◌, ◌-◌, ◌*◌, ◌<◌, ◌⊎◌, [], ℕ, List, Some, false, take, drop, min, length, slice_index, OnOk, IfOk, IfErr, IfSome};
 ghost use Rattle.cell_format.specs.declared.cell.Cell.{Cell};
 ghost use Rattle.disk_trait.specs.Drive.{Stays, CountsFaults};
+ghost use Rattle.recovery.specs.Faults.{IsInBytes};
 ghost use Rattle.recovery.specs.Reading.{StartsFor, IsBehind, Advances, WalksOn, IsFilled, IsEmptied, NeedsNoPiece, Stops, IsSeenOf, OnlyReads, ReadsPiece};
 ghost use Rattle.recovery.specs.Walks.{IsOfHead};
 ghost use Rattle.recovery.specs.Widths.{IsWidth};
@@ -38,6 +39,7 @@ pub(crate) struct Reading {
 
 impl Model for Reading {
     ghost use Rattle.std.specs.Prelude.{take, drop};
+    ghost use Rattle.recovery.specs.Faults.{IsInBytes};
     ghost use Rattle.recovery.specs.Reading.{ReadingView, IsReading};
 
     ghost Value = { ReadingView };
@@ -110,7 +112,8 @@ impl Reading {
 
     /// What is at fault where the next commit byte, which was there, can't be read any more: it counts as set.
     fn unread(&self) -> OpenFault
-        ensures { IsBehind self.now.most self.now.number result }
+        ensures behind { IsBehind self.now.most self.now.number result }
+        ensures other { IsInBytes result }
     {
         if self.number == self.most {
             return OpenFault::TooLong { most: self.most };

@@ -1,7 +1,7 @@
 use Rattle.std.proofs.Common.{sym, subst}
 use Rattle.std.proofs.lemmas.Result.{IfOk-weaker, IfErr-weaker}
 use Rattle.recovery.specs.declared.heads.Head.{Head}
-use Rattle.recovery.specs.Headers.{HasHead, HasHeader}
+use Rattle.recovery.specs.Headers.{HasHead}
 use Rattle.recovery.specs.Wanted.{IsFaultFor, MayTellHeadFor}
 use Rattle.recovery.proofs.PieceLemmas.{passed_on}
 use Rattle.recovery.proofs.WantedLemmas.{known_for}

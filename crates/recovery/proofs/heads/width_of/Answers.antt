@@ -1,6 +1,5 @@
 use Rattle.std.proofs.Common.{Err, ◌∙◌, ap}
 use Rattle.disk_trait.specs.Drive.{Drive}
-use Rattle.recovery.specs.Widths.{HasWidth}
 use Rattle.recovery.proofs.OnlyReading.{rose-earlier}
 use Rattle.recovery.proofs.OpeningLemmas.{not_ok}
 use Rattle.recovery.proofs.PieceLemmas.{passed_on}

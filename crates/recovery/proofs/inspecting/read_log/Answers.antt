@@ -5,7 +5,7 @@ use Rattle.recovery.specs.Wanted.{MayTellCells}
 use Rattle.recovery.proofs.PieceLemmas.{passed_on}
 use Rattle.recovery.proofs.ReadingLemmas.{has_read-stays}
 use Rattle.recovery.proofs.WalkLemmas.{found_read}
-use Rattle.recovery.proofs.WantedLemmas.{starts_width, fault_for, cells_may, memory_for}
+use Rattle.recovery.proofs.WantedLemmas.{starts_width, fault_for, cells_may}
 use Rattle.recovery.proofs.inspecting.read_log.Goals as goal
 
 pub returns-in_err-reading-clause-may : goal.returns-in_err-reading-clause-may

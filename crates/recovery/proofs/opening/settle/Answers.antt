@@ -1,9 +1,10 @@
-use Rattle.std.proofs.Common.{lit≤, Err, Some, ap, sym, ◌∙◌, arith}
+use Rattle.std.proofs.Common.{lit≤, Err, ap, sym, ◌∙◌, arith}
 use Rattle.cell_format.specs.Spelling.{newest}
 use Rattle.disk_trait.specs.Drive.{Drive}
+use Rattle.recovery.specs.Found.{IsNewest}
 use Rattle.recovery.proofs.PieceLemmas.{passed_on}
 use Rattle.recovery.proofs.OnlyReading.{found_before}
-use Rattle.recovery.proofs.OpeningLemmas.{keeps_sync, keeps_stays, keeps_log, calls_open, is_ready, newest_is, not_ok, rose-later, refused_sync, refused_read, refused_cut}
+use Rattle.recovery.proofs.OpeningLemmas.{leaves-sync, newest-read, newest-last, keeps_sync, keeps_stays, keeps_log, calls_open, is_ready, newest_is, not_ok, rose-later, refused_sync, refused_read, refused_cut}
 use Rattle.recovery.proofs.WantedLemmas.{disk_for}
 use Rattle.recovery.proofs.opening.settle.Goals as goal
 
@@ -16,7 +17,9 @@ returns-in_err-sync-clause-refused g c =
     passed_on c.from_residual.result _ _ c.from_residual.ensures.1 (record {
       shows = λ bytes told. disk_for newest c.args.wanted c.args.most bytes;
       may = tt;
-      leaves = refused_sync c.args.wanted c.args.most (g.D.LogDisk.drive c.args.disk.now) (g.D.LogDisk.drive c.sync.new.self) c.sync.result c.sync.ensures.syncs c.in_err-sync.ensures.made c.sync.ensures.cause.file;
+      leaves = refused_sync c.args.wanted c.args.most (g.D.LogDisk.drive c.args.disk.now) (g.D.LogDisk.drive c.sync.new.self) c.sync.result
+          (λ now. leaves-sync (g.D.LogDisk.drive c.args.disk.now) (g.D.LogDisk.drive c.sync.new.self) IsNewest c.sync.result (g.met.D.LogDisk.keeps_laws c.args.disk.now) now c.sync.ensures.syncs)
+          c.sync.ensures.syncs c.in_err-sync.ensures.made c.sync.ensures.cause.file;
       rose = λ disk. c.in_err-sync.ensures.cause.failed;
     })
 
@@ -37,7 +40,9 @@ returns-in_err-found-clause-refused g c =
     passed_on c.from_residual-in_err-found.result _ _ c.from_residual-in_err-found.ensures.1 (record {
       shows = λ bytes told. c.in_err-found.ensures.fault bytes (c.sync.ensures.syncs.bytes ∙ told);
       may = c.in_err-found.ensures.may;
-      leaves = refused_read c.args.wanted c.args.most old mid new c.sync.result _ c.sync.ensures.syncs c.in_ok-sync.ensures.made c.read_log.ensures.reads.stays c.in_ok-sync.ensures.cause.same c.in_err-found.ensures.reads.same
+      leaves = refused_read c.args.wanted c.args.most old mid new c.sync.result _
+          (newest-read old mid new c.sync.result (g.met.D.LogDisk.keeps_laws c.args.disk.now) (g.met.D.LogDisk.keeps_laws c.sync.new.self) c.sync.ensures.syncs c.read_log.ensures.reads.stays)
+          c.sync.ensures.syncs c.in_ok-sync.ensures.made c.read_log.ensures.reads.stays c.in_ok-sync.ensures.cause.same c.in_err-found.ensures.reads.same
           (λ all told. c.sync.ensures.cause.file all (c.read_log.ensures.reads.file all told));
       rose = λ disk. rose-later old.faults mid.faults new.faults c.sync.ensures.cause.later (c.in_err-found.ensures.reads.failed (ap (λ x. Err x) disk));
     })
@@ -57,10 +62,12 @@ returns-in_err-cut_behind-clause-opened g c =
 pub returns-in_err-cut_behind-clause-refused : goal.returns-in_err-cut_behind-clause-refused
 returns-in_err-cut_behind-clause-refused g c =
     let drive = g.D.LogDisk.drive in
+    let laws = g.met.D.LogDisk.keeps_laws in
     passed_on c.from_residual-in_err-cut_behind.result _ _ c.from_residual-in_err-cut_behind.ensures.1 (record {
       shows = λ bytes told. disk_for newest c.args.wanted c.args.most bytes;
       may = tt;
       leaves = refused_cut c.args.wanted c.in_ok-found.found.width c.args.most c.in_ok-found.found.len (drive c.args.disk.now) (drive c.sync.new.self) (drive c.read_log.new.disk) (drive c.cut_behind.new.disk) c.in_ok-found.found.seen
+          (newest-last (drive c.args.disk.now) (drive c.sync.new.self) (drive c.read_log.new.disk) (drive c.cut_behind.new.disk) c.sync.result (laws c.args.disk.now) (laws c.sync.new.self) c.sync.ensures.syncs c.read_log.ensures.reads.stays (c.cut_behind.ensures.newest (omega arith)))
           c.sync.ensures.syncs.bytes c.in_ok-found.ensures.found c.in_ok-sync.ensures.made c.read_log.ensures.reads.stays c.in_err-cut_behind.ensures.calls
           (λ all told. c.sync.ensures.cause.file all (c.read_log.ensures.reads.file all (c.cut_behind.ensures.cause.file all told)));
       rose = λ disk. omega (arith, c.sync.ensures.cause.later, c.read_log.ensures.reads.later, c.in_err-cut_behind.ensures.cause.failed);
@@ -97,6 +104,7 @@ returns-clause-opened g c =
         version = newest_is c.in_ok-found.found.seen.version at.within.found.wanted;
         ready = is_ready w c.args.most c.in_ok-found.found.len (drive c.args.disk.now) (drive c.sync.new.self) (drive c.read_log.new.disk) c.in_ok-found.found.seen (laws c.args.disk.now) (laws c.sync.new.self)
             c.sync.ensures.syncs.bytes c.sync.ensures.syncs.crash at.within c.read_log.ensures.reads.stays (drive c.cut_behind.new.disk)
+            (newest-last (drive c.args.disk.now) (drive c.sync.new.self) (drive c.read_log.new.disk) (drive c.cut_behind.new.disk) c.sync.result (laws c.args.disk.now) (laws c.sync.new.self) c.sync.ensures.syncs c.read_log.ensures.reads.stays (c.cut_behind.ensures.newest (omega arith)))
             (c.in_ok-cut_behind.ensures.cause.same ∙ c.in_ok-found.ensures.reads.same ∙ c.in_ok-sync.ensures.cause.same)
             (λ all told. c.sync.ensures.cause.file all (c.read_log.ensures.reads.file all (c.cut_behind.ensures.cause.file all told))) calls
             c.in_ok-sync.ensures.syncs.done c.in_ok-cut_behind.ensures.told c.in_ok-cut_behind.ensures.done;

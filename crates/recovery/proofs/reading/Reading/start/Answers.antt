@@ -2,7 +2,6 @@ use Rattle.std.proofs.Common.{sym, ◌∙◌}
 use Rattle.recovery.proofs.OnlyReading.{reads_sound, stays-trans}
 use Rattle.recovery.proofs.PieceLemmas.{passed_on}
 use Rattle.recovery.proofs.ReadingLemmas.{starts}
-use Rattle.recovery.proofs.WantedLemmas.{memory_for}
 use Rattle.recovery.proofs.WidthLemmas.{may_head}
 use Rattle.recovery.proofs.reading.Reading.start.Goals as goal
 

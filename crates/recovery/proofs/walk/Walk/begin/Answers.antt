@@ -1,4 +1,5 @@
-use Rattle.std.proofs.Common.{Err, ap, lit≤, sym, ◌∙◌}
+use Rattle.std.proofs.Common.{[], Err, ap, lit≤, refl, sym, ◌∙◌, arith}
+use Rattle.recovery.proofs.ReadingLemmas.{has_read-stays}
 use Rattle.recovery.proofs.WalkLemmas.{head_is_good}
 use Rattle.recovery.proofs.WantedLemmas.{starts_width, told_for, for_width, head_free}
 use Rattle.recovery.proofs.walk.Walk.begin.Goals as goal
@@ -20,3 +21,24 @@ returns-in-Err-clause-whole g c bytes w told fits has =
     head_free c.args.most w bytes (g.D.LogDisk.drive c.args.disk) (g.D.LogDisk.drive c.read_first.new.disk) c.in-Err.cause has c.in-Err.ensures.fault.head
     (for_width 1 c.args.most bytes c.args.wanted w fits has c.in-Err.cause (c.in-Err.ensures.fault.shows bytes told))
     (λ e. c.read_first.ensures.reads.failed (c.in-Err.is ∙ ap (λ x. Err x) e))
+
+pub returns-in-Ok-clause-begins : goal.returns-in-Ok-clause-begins
+returns-in-Ok-clause-begins g c =
+    let drive = g.D.LogDisk.drive in
+    let r = c.in-Ok.reading in
+    let begun = c.in-Ok.ensures.starts.0 in
+    let kept = c.read_first.ensures.reads.stays.bytes in (
+      begun.fits,
+      record {
+        width = record { known = begun.known; named = λ bytes told. (starts_width 1 c.args.wanted c.args.most (drive c.args.disk) r (lit≤ tt) begun).named bytes (sym kept ∙ told) };
+        comes = record {
+          legal = refl;
+          few = omega arith;
+          wanted = begun.starts.wanted;
+          width = refl;
+          most_is = begun.starts.most_is;
+          room = omega (arith, begun.starts.long);
+          read = has_read-stays [] (drive c.args.disk) (drive c.read_first.new.disk) r kept begun.starts.read;
+        };
+      },
+    )
