@@ -19,7 +19,7 @@ use Rattle.log_state.specs.Recovers.{Recovers}
 use Rattle.recovery.specs.declared.seen.OpenFault.{OpenFault}
 use Rattle.recovery.specs.declared.seen.OpenFault.TheVariants.{Disk}
 use Rattle.recovery.specs.Found.{IsWanted, IsNewest}
-use Rattle.recovery.specs.Opening.{CallsToCut, CallsToOpen, CallsRefused, HasNoLog, HasNoLogFor, LeavesUnopenedFor, IsReady, IsUntouched, KeepsLog, KeepsNewest}
+use Rattle.recovery.specs.Opening.{CallsToCut, CallsToOpen, CallsRefused, HasNoLog, HasNoLogFor, LeavesUnopenedFor, IsReady, IsUntouched, KeepsStanding, KeepsNewest}
 use Rattle.recovery.specs.Reading.{IsFoundIn, IsFoundFor}
 use Rattle.recovery.specs.Wanted.{IsWidthFor}
 use Rattle.recovery.specs.Widths.{IsWidthOf}
@@ -46,10 +46,10 @@ pub leaves-sync : {T : Type 0} (a b : Drive) (P : List ℕ → Type 0) (result :
 leaves-sync a b P result laws now syncs = goes_on a a b P (started a P laws now) syncs.time (λ x left. now x (syncs.crash x left))
 
 -- a sync, and then calls that only read, keep the cells
-pub keeps_sync : {T : Type 0} (a b : Drive) (result : Result T DiskFault) → KeepsLaws a → Syncs a b result → a.faults ≤ b.faults → KeepsLog a b
+pub keeps_sync : {T : Type 0} (a b : Drive) (result : Result T DiskFault) → KeepsLaws a → Syncs a b result → a.faults ≤ b.faults → KeepsStanding a b
 keeps_sync a b result laws syncs later = record { cells = λ w bytes cells told now. leaves-sync a b (Recovers w cells) result laws now syncs; later = later }
 
-pub keeps_stays : (a b c : Drive) → KeepsLaws b → b.bytes ≡ a.bytes → ((x : List ℕ) → b.images x → a.images x) → KeepsLog a b → Stays b c → b.faults ≤ c.faults → KeepsLog a c
+pub keeps_stays : (a b c : Drive) → KeepsLaws b → b.bytes ≡ a.bytes → ((x : List ℕ) → b.images x → a.images x) → KeepsStanding a b → Stays b c → b.faults ≤ c.faults → KeepsStanding a c
 keeps_stays a b c laws bytes_kept images_kept synced stays later = record {
   cells = λ w bytes cells told now. leaves-trans a b c (Recovers w cells) (synced.cells w bytes cells told now) (leaves-stays b c (Recovers w cells) laws (λ x left. now x (images_kept x left)) stays);
   later = omega (arith, synced.later, later);
@@ -121,8 +121,8 @@ module _ (w most len : ℕ) (d0 d1 d2 : Drive) (seen : Seen) (laws0 : KeepsLaws 
       let same : cells ≡ in_file.found.cells = holds-same recovers.version found.version w cells in_file.found.cells bytes (subst (λ u. HoldsCells recovers.version u cells bytes) one recovers.holds) found.holds in
       omega (arith, ap length same, in_file.found.finds.count)
 
-  pub keeps_log : (d3 : Drive) → IsWidthOf d1 w → KeepsLog d0 d1 → d1.faults ≤ d2.faults → d2.faults ≤ d3.faults
-      → ((v : ℕ) (cells : List Cell) → 17 + 32 * seen.cells ≡ 17 + 32 * length cells → LeavesNow d2 (Recovers v cells) → LeavesOnly d2 d3 (Recovers v cells)) → KeepsLog d0 d3
+  pub keeps_log : (d3 : Drive) → IsWidthOf d1 w → KeepsStanding d0 d1 → d1.faults ≤ d2.faults → d2.faults ≤ d3.faults
+      → ((v : ℕ) (cells : List Cell) → 17 + 32 * seen.cells ≡ 17 + 32 * length cells → LeavesNow d2 (Recovers v cells) → LeavesOnly d2 d3 (Recovers v cells)) → KeepsStanding d0 d3
   keeps_log d3 width synced read_later cut_later cut = record {
     cells = λ v bytes cells told now.
         let now1 : LeavesNow d1 (Recovers v cells) = λ x left. now x (images_kept x left) in

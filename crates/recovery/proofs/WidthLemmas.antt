@@ -11,7 +11,7 @@ use Rattle.log_state.specs.Recovers.{Recovers}
 use Rattle.recovery.specs.Faults.{IsDamaged, IsTooLong, IsOldLog, IsFault, IsInBytes}
 use Rattle.recovery.specs.Found.{IsWanted}
 use Rattle.recovery.specs.Headers.{HasHeader, FailsHead}
-use Rattle.recovery.specs.Widths.{IsWidth, HasWidth, IsStrange, IsStrangeLog, IsHeadFault, IsLogFault}
+use Rattle.recovery.specs.Widths.{IsWidth, HasWidth, IsStrangeHead, IsStrangeLog, IsHeadFault, IsLogFault}
 use Rattle.recovery.specs.Wanted.{IsOtherFor, IsFaultFor, MayTellFor, MayTellHead, MayTellHeadFor}
 use Rattle.recovery.specs.Walks.{IsOfHead}
 use Rattle.recovery.proofs.HeadLemmas.{header_bytes, header_is_log, index_width}
@@ -27,7 +27,7 @@ module _ (v w : ℕ) (bytes : List ℕ) (has : HasHeader v w bytes) where
   pub has_width : IsWanted 1 v → IsWidth w → HasWidth w bytes
   has_width wanted known = record { is_log = header_is_log v w bytes has; version = subst (IsWanted 1) version_there wanted; named = width_there; known = known }
 
-  is_strange : (oldest : ℕ) → IsStrange oldest v w → IsStrangeLog oldest bytes v w
+  is_strange : (oldest : ℕ) → IsStrangeHead oldest v w → IsStrangeLog oldest bytes v w
   is_strange oldest other = record { is_log = header_is_log v w bytes has; version_is = version_there; width_is = width_there; other = other }
 
   is_old : (oldest width : ℕ) → (IsWanted oldest v → ⊥) ⊎ (w ≢ width) → IsOldLog oldest width bytes v w

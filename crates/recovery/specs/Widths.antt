@@ -23,15 +23,15 @@ pub record IsWidthOf (drive : Drive) (w : ℕ) : Type 0 where
   pub named : (bytes : List ℕ) → drive.bytes ≡ Some bytes → HasWidth w bytes
 
 -- a version that isn't wanted, or a width that is neither 1 nor 2
-abbrev pub IsStrange : ℕ → ℕ → ℕ → Type 0
-IsStrange oldest version width = (IsWanted oldest version → ⊥) ⊎ ((width ≢ 1) × (width ≢ 2))
+abbrev pub IsStrangeHead : ℕ → ℕ → ℕ → Type 0
+IsStrangeHead oldest version width = (IsWanted oldest version → ⊥) ⊎ ((width ≢ 1) × (width ≢ 2))
 
 -- a log of such a version or width
 pub record IsStrangeLog (oldest : ℕ) (bytes : List ℕ) (version width : ℕ) : Type 0 where
   pub is_log : IsNotLog bytes → ⊥
   pub version_is : version ≡ slice_index bytes 8
   pub width_is : width ≡ slice_index bytes 9
-  pub other : IsStrange oldest version width
+  pub other : IsStrangeHead oldest version width
 
 -- what is at fault in the head of the bytes; that the drive failed isn't seen there
 abbrev pub IsHeadFault : List ℕ → OpenFault → Type 0

@@ -11,7 +11,7 @@ ghost use Rattle.log_state.specs.Recovers.{Recovers};
 ghost use Rattle.split_log.specs.LogView.{most_cells};
 ghost use Rattle.recovery.specs.Faults.{IsFault, IsInBytes};
 ghost use Rattle.recovery.specs.Found.{IsFound, IsFree};
-ghost use Rattle.recovery.specs.Opening.{KeepsCells, KeepsNewest, CallsToCut, LeavesUnopened, IsReady, OpensLog, RefusesLog, RefusesFor, KeepsLog};
+ghost use Rattle.recovery.specs.Opening.{KeepsCells, KeepsNewest, CallsToCut, LeavesUnopened, IsReady, OpensByHead, RefusesLog, RefusesFor, KeepsStanding};
 ghost use Rattle.recovery.specs.Widths.{IsWidth, IsLogFault};
 ghost use Rattle.recovery.specs.Wanted.{IsWidthFor, IsFaultFor, MayTell};
 
@@ -31,7 +31,7 @@ pub fn open_log<D: LogDisk>(
 ) -> Result<OpenedLog<D>, OpenRefused<D>>
     requires few { most ≤ most_cells }
 
-    ensures opened { IfOk result (λ o. OpensLog most (D.drive disk) (D.drive o.opened.log.disk) o.width o.opened.seen) }
+    ensures opened { IfOk result (λ o. OpensByHead most (D.drive disk) (D.drive o.opened.log.disk) o.width o.opened.seen) }
     ensures log { IfOk result (λ o. (o.opened.log.cells ≡ o.opened.seen.cells) × (o.opened.log.failed ≡ None)) }
     ensures start { IfOk result (λ o. o.opened.start.value ≡ disk) }
     ensures refused { IfErr result (λ e. RefusesLog most (D.drive disk) (D.drive e.disk) e.cause) }
@@ -40,8 +40,8 @@ pub fn open_log<D: LogDisk>(
     ensures whole { (w : ℕ) (bytes : List ℕ) (cells : List Cell) → IsWidth w → (D.drive disk).bytes ≡ Some bytes
         → Recovers w cells bytes → slice_index bytes 8 ≡ newest → length cells ≤ most
         → IfErr result (λ e. IsFree (D.drive disk) (D.drive e.disk) e.cause) }
-    ensures any_moment { MatchResult result (λ o. KeepsLog (D.drive disk) (D.drive o.opened.log.disk))
-        (λ e. KeepsLog (D.drive disk) (D.drive e.disk)) }
+    ensures any_moment { MatchResult result (λ o. KeepsStanding (D.drive disk) (D.drive o.opened.log.disk))
+        (λ e. KeepsStanding (D.drive disk) (D.drive e.disk)) }
 {
     open_wanted(alloc, disk, None, most)
 }
@@ -91,7 +91,7 @@ fn open_wanted<D: LogDisk>(
     requires few { most ≤ most_cells }
 
     ensures opened { IfOk result (λ o. IsWidthFor wanted o.width
-        × OpensLog most (D.drive disk) (D.drive o.opened.log.disk) o.width o.opened.seen) }
+        × OpensByHead most (D.drive disk) (D.drive o.opened.log.disk) o.width o.opened.seen) }
     ensures log { IfOk result (λ o. (o.opened.log.cells ≡ o.opened.seen.cells) × (o.opened.log.failed ≡ None)) }
     ensures start { IfOk result (λ o. o.opened.start.value ≡ disk) }
     ensures refused { IfErr result (λ e. RefusesFor wanted most (D.drive disk) (D.drive e.disk) e.cause) }
@@ -101,8 +101,8 @@ fn open_wanted<D: LogDisk>(
     ensures whole { (w : ℕ) (bytes : List ℕ) (cells : List Cell) → IsWidthFor wanted w → IsWidth w → (D.drive disk).bytes ≡ Some bytes
         → Recovers w cells bytes → slice_index bytes 8 ≡ newest → length cells ≤ most
         → IfErr result (λ e. IsFree (D.drive disk) (D.drive e.disk) e.cause) }
-    ensures any_moment { MatchResult result (λ o. KeepsLog (D.drive disk) (D.drive o.opened.log.disk))
-        (λ e. KeepsLog (D.drive disk) (D.drive e.disk)) }
+    ensures any_moment { MatchResult result (λ o. KeepsStanding (D.drive disk) (D.drive o.opened.log.disk))
+        (λ e. KeepsStanding (D.drive disk) (D.drive e.disk)) }
 {
     let start = Snapshot::of(&disk);
     match settle(alloc, &mut disk, wanted, most) {
@@ -127,9 +127,9 @@ fn settle<D: LogDisk>(
 ) -> Result<SeenLog, OpenFault>
     requires width { IfSome wanted IsWidth }
 
-    ensures opened { IfOk result (λ l. IsWidthFor wanted l.width × OpensLog most (D.drive disk.old) (D.drive disk.new) l.width l.seen) }
+    ensures opened { IfOk result (λ l. IsWidthFor wanted l.width × OpensByHead most (D.drive disk.old) (D.drive disk.new) l.width l.seen) }
     ensures refused { IfErr result (RefusesFor wanted most (D.drive disk.old) (D.drive disk.new)) }
-    ensures any_moment { KeepsLog (D.drive disk.old) (D.drive disk.new) }
+    ensures any_moment { KeepsStanding (D.drive disk.old) (D.drive disk.new) }
 {
     // Synced first: what is read is then what a crash leaves.
     disk.sync()?;
