@@ -1,5 +1,5 @@
 -- What a log keeps with one entry more.
-use Rattle.std.proofs.Common.{◌≡◌, ℕ, ◌+◌, Bool, true, false, ◌&&◌, List, [], ◌∷◌, ◌++◌, length, cond, Some, None, refl, sym, ◌∙◌, ap, subst, arith, append_assoc}
+use Rattle.std.proofs.Common.{◌≡◌, inl, inr, ⊎_elim, ℕ, ◌+◌, ◌≤◌, Bool, true, false, ◌&&◌, List, [], ◌∷◌, ◌++◌, length, cond, Some, None, refl, sym, ◌∙◌, ap, subst, arith, append_assoc}
 use Rattle.std.proofs.lemmas.Bool.{true≢false}
 use Rattle.std.proofs.lemmas.List.{append-nil}
 use Rattle.std.specs.Cmp.{second_so}
@@ -13,7 +13,7 @@ use Rattle.plain_list.specs.History.{world_after}
 use Rattle.plain_list.specs.State.{State, empty_state, step, is_possible, is_free, is_fail, is_empty, is_legal_history, IsLegal}
 use Rattle.plain_list.proofs.Histories.{has_failed}
 use Rattle.disk_trait.specs.Drive.{Drive}
-use Rattle.disk_trait.specs.Moments.{LeavesOnly, LeavesNow}
+use Rattle.disk_trait.specs.Moments.{LeavesOnly, LeavesNow, LeavesSince}
 use Rattle.split_log.specs.LogText.{IsLog, HoldsCells, HoldsEither}
 use Rattle.log_state.specs.Recovers.{IsLegalCells, is_legal_cells}
 use Rattle.log_state.specs.Changes.{cells_of, failed_cells, lost_cells}
@@ -22,6 +22,8 @@ use Rattle.log_state.proofs.Keeping.{either_since, kept_added, kept_failed, kept
 use Rattle.log_state.proofs.LegalCells.{legal-front}
 use Rattle.log_state.proofs.LegalBehind.{legal_behind}
 use Rattle.log_state.proofs.PlacedChanges.{cells_of-append, failed_cells-append, failed_cells-none}
+use Rattle.recovery.specs.Found.{IsNewest}
+use Rattle.recovery.proofs.HeadLemmas.{index_version}
 use Rattle.kept_log.specs.KeptView.{KeptView}
 use Rattle.kept_log.specs.Kept.{KeepsSince, Keeps}
 use Rattle.kept_log.specs.Steps.{IsNext}
@@ -51,6 +53,15 @@ lost_none world (Call session row op) cell one = refl
 lost_none world (Begin number name) cell one = refl
 lost_none world (Install number) cell one = refl
 lost_none world (Abandon number) cell one = refl
+
+-- a log's bytes name the newest version, and so does what an append leaves
+newest-either : (w : ℕ) (cells : List Cell) (cell : Cell) (c : List ℕ) → HoldsEither w cells cell c → IsNewest c
+newest-either w cells cell c (inl alone) = index_version newest w cells c alone
+newest-either w cells cell c (inr both) = index_version newest w (cells ++ cell ∷ []) c both
+
+newest-later : (w : ℕ) (cells : List Cell) (cell : Cell) (t : ℕ) (d0 d1 : Drive) → t ≤ d0.clock → LeavesOnly d0 d1 (HoldsEither w cells cell) → LeavesSince d0 t IsNewest
+    → LeavesSince d1 t IsNewest
+newest-later w cells cell t d0 d1 le any_moment so_far c left = ⊎_elim (so_far c) (newest-either w cells cell c) (any_moment.before t c le left)
 
 module _ (w : ℕ) (s : State) (h : List Entry) (e : Entry) (cell : Cell) (next : IsNext w s h e cell) where
   sound : has_failed h ≡ false
@@ -93,6 +104,7 @@ module _ (w : ℕ) (s : State) (h : List Entry) (e : Entry) (cell : Cell) (next 
             (λ c left. subst (λ l. HoldsCells newest w l c) (append_assoc first (cells_of s.world h) (cell ∷ []))
             (leaves-log w ((first ++ cells_of s.world h) ++ cell ∷ []) d1 log c left))
             None log;
+        newest = λ here. newest-later w (first ++ cells_of s.world h) cell start.clock d0 d1 kept.later any_moment (kept.newest here);
       }
 
       pub since-failed : (number : ℕ) (lost : Lost) → lost_cells lost ≡ cell ∷ [] → LeavesNow d1 (HoldsEither w (first ++ cells_of s.world h) cell)
@@ -105,6 +117,7 @@ module _ (w : ℕ) (s : State) (h : List Entry) (e : Entry) (cell : Cell) (next 
             history = kept_failed w first s.world h e cell start.clock d0 d1 kept.later none_lost legal_with kept.history any_moment (h ++ Fail number lost ∷ [])
                 (λ i. same i ++ (failed_cells-append h (Fail number lost ∷ []) sound ∙ one) i)
                 same number now;
+            newest = λ here. newest-later w (first ++ cells_of s.world h) cell start.clock d0 d1 kept.later any_moment (kept.newest here);
           }
 
 -- an entry without a cell leaves all as it was
@@ -124,7 +137,9 @@ kept-quiet drive w s h e log legal none going kept =
             opening = was.opening;
             later = was.later;
             history = kept_quiet w first s.world h (h ++ e ∷ []) (drive log.start).clock (drive log.disk) log.failed cells lost was.history;
+            newest = was.newest;
           };
+      text = λ first bytes told recovers none. subst (λ (l : List Cell). IsLog w (first ++ l) (drive log.disk)) (sym cells) (kept.text first bytes told recovers none);
     }
   where
     lost_going : (e : Entry) → is_fail e ≡ false → failed_cells (e ∷ []) ≡ []

@@ -72,6 +72,9 @@ module _ {D : Type 0} (drive : D → Drive) (cell : Cell) (old new : KeptView D)
         since-added w s h e cell next first (drive old.start) (drive old.disk) (drive new.disk) starts.recovers.legal
         (still w s h kept first starts) (during w s h kept first starts)
         (adds.log w (first ++ cells_of s.world h) (log_of w s h kept first starts)));
+    text = λ first bytes told recovers none.
+        subst (λ (l : List Cell). IsLog w l (drive new.disk)) (append_assoc first (cells_of s.world h) (cell ∷ []) ∙ ap (λ l. first ++ l) (sym (cells_with w s h e cell next)))
+        (adds.log w (first ++ cells_of s.world h) (kept.text first bytes (sym (ap (λ (d : D). (drive d).bytes) opened.start) ∙ told) recovers sound));
   }
 
   -- the log is closed at the cell
@@ -88,4 +91,8 @@ module _ {D : Type 0} (drive : D → Drive) (cell : Cell) (old new : KeptView D)
         since-failed w s h e cell next first (drive old.start) (drive old.disk) (drive new.disk) starts.recovers.legal
         (still w s h kept first starts) (during w s h kept first starts)
         number lost one (fails.either w (first ++ cells_of s.world h) (log_of w s h kept first starts)));
+    text = λ first bytes told recovers none. absurd (closed_not none (closed-at number fails));
   }
+    where
+      closed_not : {failed : Option ℕ} {n : ℕ} → failed ≡ None → failed ≡ Some n → ⊥
+      closed_not none some = cc (none, some)

@@ -21,6 +21,8 @@ use Rattle.split_log.specs.LogView.{most_cells}
 use Rattle.log_state.specs.Recovers.{Recovers}
 use Rattle.log_state.specs.Changes.{cells_of, failed_cells}
 use Rattle.log_state.proofs.PlacedChanges.{failed_cells-none as failed_cells-sound}
+use Rattle.recovery.specs.Calls.{AllWentWell, EndsAtFault}
+use Rattle.recovery.proofs.CallLemmas.{well-then, ends-then}
 use Rattle.kept_log.specs.KeptView.{KeptView}
 use Rattle.kept_log.specs.Kept.{StartsWith, IsOpened}
 use Rattle.kept_log.specs.Steps.{IsSince}
@@ -75,6 +77,8 @@ in-quiet drive w s h e (Some log) legal none going kept =
       later = kept.later;
       rose = unnamed (failed_cell (h ++ e ∷ [])) unfailed;
       calm = λ none. kept.calm (failed_cell-none h sound);
+      well = λ none. kept.well (failed_cell-none h sound);
+      stopped = unnamed (failed_cell (h ++ e ∷ [])) unfailed;
       file = kept.file;
     }
 
@@ -96,6 +100,8 @@ in-opened drive w s log first opened most sound = record {
   later = omega (arith, opened.same);
   rose = unnamed None refl;
   calm = λ none. opened.same;
+  well = λ none. opened.calls;
+  stopped = unnamed None refl;
   file = opened.file;
 }
 
@@ -134,6 +140,9 @@ module _ {D : Type 0} (drive : D → Drive) (cell : Cell) (old new : KeptView D)
           later = still_later kept.later;
           rose = unnamed (failed_cell (h ++ e ∷ [])) unfailed;
           calm = λ none. adds.same ∙ kept.calm (failed_cell-none h sound) ∙ ap (λ (d : D). (drive d).faults) (sym opened.start);
+          well = λ none. subst (λ (d : D). AllWentWell (drive d) (drive new.disk)) (sym opened.start)
+              (well-then (drive old.start) (drive old.disk) (drive new.disk) (kept.well (failed_cell-none h sound)) (record { count = 4; calls = adds.calls }));
+          stopped = unnamed (failed_cell (h ++ e ∷ [])) unfailed;
           file = still_file adds.file kept.file;
         };
   }
@@ -161,6 +170,10 @@ module _ {D : Type 0} (drive : D → Drive) (cell : Cell) (old new : KeptView D)
           rose = λ told. rose_since (drive new.start).faults (drive old.disk).faults (drive new.disk).faults
               (omega (arith, kept.later, ap (λ (d : D). (drive d).faults) opened.start)) fails.rose;
           calm = λ none. no_number (failed_cell (h ++ Fail number lost ∷ [])) number none last;
+          well = λ none. no_number (failed_cell (h ++ Fail number lost ∷ [])) number none last;
+          stopped = λ told. subst (λ (d : D). EndsAtFault (drive d) (drive new.disk)) (sym opened.start)
+              (ends-then (drive old.start) (drive old.disk) (drive new.disk) (kept.well (failed_cell-none h (sound-push w s h e next.legal)))
+              (record { went_well = fails.broken.went_well; calls = fails.broken.stops.calls }));
           file = still_file fails.file kept.file;
         };
   }

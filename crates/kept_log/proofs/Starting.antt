@@ -12,6 +12,7 @@ use Rattle.log_state.specs.Recovers.{Recovers, state_of}
 use Rattle.recovery.specs.Found.{IsFound}
 use Rattle.recovery.specs.Opening.{KeepsCells, IsReady}
 use Rattle.recovery.specs.declared.seen.Seen.{Seen}
+use Rattle.recovery.proofs.CallLemmas.{well-opened}
 use Rattle.kept_log.specs.KeptView.{KeptView}
 use Rattle.kept_log.specs.Kept.{StartsWith, KeepsSince, Keeps, IsOpened, found_state}
 
@@ -29,12 +30,18 @@ starts-settled w first drive bytes settled told recovers = record {
 pub leaves-log : (w : ℕ) (cells : List Cell) (drive : Drive) → IsLog w cells drive → LeavesNow drive (HoldsCells newest w cells)
 leaves-log w cells drive log c left = record { front = log.bytes; rest = []; parts = log.durable c left ∙ sym (append-nil log.bytes); text = log.text }
 
+-- the file is the text of the cells that its bytes recovered to
+text-opened : (w : ℕ) (s : State) (first : List Cell) (bytes : List ℕ) (start now : Drive) → IsOpened w s start now → start.bytes ≡ Some bytes → Recovers w first bytes
+    → IsLog w first now
+text-opened w s first bytes start now opened told recovers =
+    let (cells, also, log) = opened.log bytes told in
+    subst (λ (l : List Cell). IsLog w l now) (holds-same also.version recovers.version w cells first bytes also.holds recovers.holds) log
+
 since-opened : (w : ℕ) (s : State) (first : List Cell) (start now : Drive) (failed : _) → IsOpened w s start now → StartsWith w first start
     → KeepsSince w first s [] start now failed
 since-opened w s first start now failed opened starts =
-    let (cells, recovers, log) = opened.log starts.bytes starts.told in
     let same : first ++ [] ≡ first = append-nil first in
-    let is_log : IsLog w first now = subst (λ (l : List Cell). IsLog w l now) (holds-same recovers.version starts.recovers.version w cells first starts.bytes recovers.holds starts.recovers.holds) log in
+    let is_log : IsLog w first now = text-opened w s first starts.bytes start now opened starts.told starts.recovers in
     let any_moment = opened.any_moment starts.bytes first starts.told starts.images in
     record {
       opening = opened.state starts.bytes first starts.told starts.recovers;
@@ -45,6 +52,7 @@ since-opened w s first start now failed opened starts =
             (record { version = newest; known = inr refl; holds = leaves-log w first now is_log c left; legal = starts.recovers.legal }));
         log = λ none. subst (λ (l : List Cell). IsLog w l now) (sym same) is_log;
       };
+      newest = λ here. (opened.newest here).each;
     }
 
 pub kept-opened : {D : Type 0} (drive : D → Drive) (w : ℕ) (s : State) (log : KeptView D) → log.cells ≡ log.first
@@ -52,6 +60,8 @@ pub kept-opened : {D : Type 0} (drive : D → Drive) (w : ℕ) (s : State) (log 
 kept-opened drive w s log same opened = record {
   count = omega (arith, same);
   since = λ first starts. since-opened w s first (drive log.start) (drive log.disk) log.failed opened starts;
+  text = λ first bytes told recovers none.
+      subst (λ (l : List Cell). IsLog w l (drive log.disk)) (sym (append-nil first)) (text-opened w s first bytes (drive log.start) (drive log.disk) opened told recovers);
 }
 
 -- what the opening of a log answers says that it was opened at the state that was found
@@ -65,6 +75,8 @@ opened-found w most start now seen found ready any_moment = record {
       ∙ (λ i. record { world = sym found.finds.world i; leaves = sym found.finds.leaves i; splits = []; begun = sym found.finds.begun i });
   log = λ bytes told. let (cells, count, recovers, log) = ready.log bytes told in (cells, recovers, log);
   any_moment = any_moment;
+  newest = ready.newest;
+  calls = well-opened seen.cells start now ready.calls;
   same = ready.same;
   file = ready.file;
 }

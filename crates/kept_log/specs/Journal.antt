@@ -12,6 +12,7 @@ use Rattle.disk_trait.specs.Drive.{Drive, Made, SameFile}
 use Rattle.disk_trait.specs.Moments.{LeavesOnly}
 use Rattle.log_state.specs.Recovers.{Recovers}
 use Rattle.log_state.specs.Changes.{cells_of, lost_cells}
+use Rattle.recovery.specs.Calls.{AllWentWell, EndsAtFault}
 use Rattle.kept_log.specs.KeptView.{KeptView}
 use Rattle.kept_log.specs.Kept.{StartsWith, Keeps}
 use Rattle.split_log.specs.LogView.{most_cells}
@@ -33,7 +34,7 @@ disk_in None = None
 disk_in (Some log) = Some log.disk
 
 -- A log keeps the history. It failed where the history says so: the failed append names the log's number of cells, and the drive has failed
--- since the opening, and else no call of it has. The file is the one that was attached.
+-- since the opening, and else no call of it has: no device call was made behind one that failed. The file is the one that was attached.
 pub record KeepsLog {D : Type 0} (drive : D → Drive) (w : ℕ) (s : State) (h : List Entry) (log : KeptView D) : Type 0 where
   pub keeps : Keeps drive w s h log
   pub failed : log.failed ≡ failed_cell h
@@ -42,6 +43,8 @@ pub record KeepsLog {D : Type 0} (drive : D → Drive) (w : ℕ) (s : State) (h 
   pub later : (drive log.start).faults ≤ (drive log.disk).faults
   pub rose : is_some (failed_cell h) ≡ true → Rose (drive log.start).faults (drive log.disk).faults
   pub calm : failed_cell h ≡ None → (drive log.disk).faults ≡ (drive log.start).faults
+  pub well : failed_cell h ≡ None → AllWentWell (drive log.start) (drive log.disk)
+  pub stopped : is_some (failed_cell h) ≡ true → EndsAtFault (drive log.start) (drive log.disk)
   pub file : SameFile (drive log.start) (drive log.disk)
 
 -- the log keeps the history, where there is one; else no append has failed

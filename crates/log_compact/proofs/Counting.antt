@@ -17,7 +17,8 @@ use Rattle.plain_list.specs.State.{State, OpenSplit, empty_state, step, split_le
 use Rattle.plain_list.proofs.Worlds.{length-with_member, length-with_moved}
 use Rattle.log_state.specs.Recovers.{entry_of, is_legal_cells, is_possible_cell, cells_after, state_of, IsLegalCells}
 use Rattle.log_compact.specs.Fresh.{split_cells, put_cells, fresh_cells, inner_names, ComesBySplits}
-use Rattle.log_compact.proofs.Forest.{IsWidth, forest_of, length-one, length-two}
+use Rattle.recovery.specs.Widths.{IsWidth}
+use Rattle.log_compact.proofs.Forest.{forest_of, length-one, length-two}
 use Rattle.log_compact.proofs.Inner.{inner_names-forest}
 
 -- the leaves of any cells come by splits

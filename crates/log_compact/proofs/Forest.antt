@@ -8,13 +8,10 @@ use Rattle.zorder.specs.Tile.{children}
 use Rattle.zorder.specs.Name.{first_key}
 use Rattle.zorder.proofs.Tiles.{first_left, first_right}
 use Rattle.plain_list.specs.State.{split_leaf}
+use Rattle.recovery.specs.Widths.{IsWidth}
 use Rattle.log_compact.specs.Fresh.{ComesBySplits}
 use Rattle.log_compact.specs.Walk.{AreShort}
 use Rattle.log_compact.proofs.Order.{is_left, left-under}
-
--- splits are of one bit or of two
-abbrev pub IsWidth : ℕ → Type 0
-IsWidth w = (w ≡ 1) ⊎ (w ≡ 2)
 
 -- Some roots, the leaves that stand under them, and the names that were split on the way, each before those under it.
 pub data Forest (w : ℕ) : List (List Bool) → List (List Bool) → List (List Bool) → Type 0 where

@@ -8,6 +8,7 @@ use Rattle.cell_format.specs.declared.cell.Cause.{Cause}
 use Rattle.recovery.specs.declared.seen.OpenFault.{OpenFault}
 use Rattle.recovery.specs.declared.seen.OpenFault.TheVariants.{Damaged, Disk, Memory}
 use Rattle.recovery.specs.declared.seen.Seen.{Seen}
+use Rattle.recovery.specs.Faults.{IsInBytes}
 use Rattle.recovery.specs.Found.{IsFound}
 use Rattle.recovery.specs.Reading.{OnlyReads, IsFoundIn}
 
@@ -98,7 +99,11 @@ pub reads_memory : {T : Type 0} (a b : Drive) (result : Result T OpenFault) → 
 reads_memory a b (Ok x) same stays calm file = absurd same
 reads_memory a b (Err e) same stays calm file = record { stays = stays; later = omega (arith, calm); same = λ other. calm; failed = λ disk. cc (same, disk); file = file }
 
--- damage isn't the drive's fault
+-- what the bytes show isn't the drive's fault
+pub in_bytes-other : (e : OpenFault) → IsInBytes e → e ≢ Disk
+in_bytes-other e shown disk = subst IsInBytes disk shown
+
+-- damage isn't either
 pub damaged-other : (e : OpenFault) (cell : ℕ) (cause : Cause) → e ≡ Damaged cell cause → e ≢ Disk
 damaged-other e cell cause is disk = cc (is, disk)
 

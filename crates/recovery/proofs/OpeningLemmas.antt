@@ -1,9 +1,9 @@
 -- What a crash leaves while a log is opened.
-use Rattle.std.proofs.Common.{◌≡◌, ◌≢◌, ◌⊎◌, ℕ, ◌+◌, ◌*◌, ◌<◌, ◌≤◌, inl, inr, ⊎_elim, true, false, List, [], ◌∷◌, ◌++◌, length, take, drop, Some, is_some, refl, sym, ◌∙◌, ap, subst, lit≤, arith, length-append}
-use Rattle.std.specs.Prelude.{Result, Ok, Err, IfOk, IsErrOf}
+use Rattle.std.proofs.Common.{◌≡◌, ◌≢◌, ◌⊎◌, ℕ, ◌+◌, ◌*◌, ◌<◌, ◌≤◌, inl, inr, ⊎_elim, true, false, List, [], ◌∷◌, ◌++◌, length, take, drop, get_or, Option, Some, None, is_some, refl, sym, ◌∙◌, ap, subst, lit≤, arith, length-append}
+use Rattle.std.specs.Prelude.{Result, Ok, Err, IfOk}
 use Rattle.std.specs.Result.{IsErrAnd}
 use Rattle.causes.specs.Causes.{Rose}
-use Rattle.std.proofs.lemmas.List.{take_at, take-append-drop}
+use Rattle.std.proofs.lemmas.List.{take_at, take-append-drop, get_or-take}
 use Rattle.cell_format.specs.declared.cell.Cell.{Cell}
 use Rattle.disk_trait.specs.declared.disk.DiskFault.{DiskFault}
 use Rattle.disk_trait.specs.Drive.{Drive, HasNoMore, Made, MadeWell, SameFile, KeepsLaws, Stays, Shortened, Cuts, Syncs, Only, CountsFaults}
@@ -18,10 +18,12 @@ use Rattle.recovery.specs.declared.seen.Seen.{Seen}
 use Rattle.log_state.specs.Recovers.{Recovers}
 use Rattle.recovery.specs.declared.seen.OpenFault.{OpenFault}
 use Rattle.recovery.specs.declared.seen.OpenFault.TheVariants.{Disk}
-use Rattle.recovery.specs.Found.{IsWanted, IsFound}
-use Rattle.recovery.specs.Opening.{KeepsCells, CallsToCut, CallsToOpen, CallsRefused, LeavesUnopened, IsReady, IsUntouched}
-use Rattle.recovery.specs.Reading.{IsFoundIn}
-use Rattle.recovery.proofs.HeadLemmas.{index_version}
+use Rattle.recovery.specs.Found.{IsWanted, IsNewest}
+use Rattle.recovery.specs.Opening.{CallsToCut, CallsToOpen, CallsRefused, HasNoLog, HasNoLogFor, LeavesUnopenedFor, IsReady, IsUntouched, KeepsStanding, KeepsNewest}
+use Rattle.recovery.specs.Reading.{IsFoundIn, IsFoundFor}
+use Rattle.recovery.specs.Wanted.{IsWidthFor}
+use Rattle.recovery.specs.Widths.{IsWidthOf}
+use Rattle.recovery.proofs.HeadLemmas.{index_version, index_width}
 
 -- one stretch after another
 pub leaves-trans : (a b c : Drive) (P : List ℕ → Type 0) → LeavesOnly a b P → LeavesOnly b c P → LeavesOnly a c P
@@ -42,6 +44,16 @@ leaves-stays a b P laws now stays = record {
 -- a sync
 pub leaves-sync : {T : Type 0} (a b : Drive) (P : List ℕ → Type 0) (result : Result T DiskFault) → KeepsLaws a → LeavesNow a P → Syncs a b result → LeavesOnly a b P
 leaves-sync a b P result laws now syncs = goes_on a a b P (started a P laws now) syncs.time (λ x left. now x (syncs.crash x left))
+
+-- a sync, and then calls that only read, keep the cells
+pub keeps_sync : {T : Type 0} (a b : Drive) (result : Result T DiskFault) → KeepsLaws a → Syncs a b result → a.faults ≤ b.faults → KeepsStanding a b
+keeps_sync a b result laws syncs later = record { cells = λ w bytes cells told now. leaves-sync a b (Recovers w cells) result laws now syncs; later = later }
+
+pub keeps_stays : (a b c : Drive) → KeepsLaws b → b.bytes ≡ a.bytes → ((x : List ℕ) → b.images x → a.images x) → KeepsStanding a b → Stays b c → b.faults ≤ c.faults → KeepsStanding a c
+keeps_stays a b c laws bytes_kept images_kept synced stays later = record {
+  cells = λ w bytes cells told now. leaves-trans a b c (Recovers w cells) (synced.cells w bytes cells told now) (leaves-stays b c (Recovers w cells) laws (λ x left. now x (images_kept x left)) stays);
+  later = omega (arith, synced.later, later);
+}
 
 -- the version of a log that is wanted from the newest on
 pub newest_is : (v : ℕ) → IsWanted newest v → v ≡ newest
@@ -78,23 +90,47 @@ module _ (w : ℕ) (cells : List Cell) (end : ℕ) (at_end : end ≡ 17 + 32 * l
       let here : LeavesNow b (Recovers w cells) = λ x left. let (d, before, cut) = cuts.crash x left in recovers-shortened d x (now d before) cut in
       (goes_on a a b (Recovers w cells) (started a (Recovers w cells) laws now) cuts.time here, here)
 
+-- a cut behind the header keeps the version
+shortened-newest : (end : ℕ) (old new : List ℕ) → 9 ≤ end → Shortened end old new → IsNewest old → IsNewest new
+shortened-newest end old new long cut is =
+    let within : 8 < end = omega (arith, long) in
+    sym (get_or-take end new 8 0 within) ∙ ap (λ (l : List ℕ). get_or l 8 0) cut.before ∙ get_or-take end old 8 0 within ∙ is
+
+pub newest-cut : {T : Type 0} (end : ℕ) (a b : Drive) (result : Result T DiskFault) → 9 ≤ end → KeepsLaws a → Cuts a b end result → LeavesNow a IsNewest → LeavesOnly a b IsNewest × LeavesNow b IsNewest
+newest-cut end a b result long laws cuts now =
+    let here : LeavesNow b IsNewest = λ x left. let (d, before, cut) = cuts.crash x left in shortened-newest end d x long cut (now d before) in
+    (goes_on a a b IsNewest (started a IsNewest laws now) cuts.time here, here)
+
+-- a sync, calls that only read, and what comes behind them
+pub newest-read : {T : Type 0} (a b c : Drive) (result : Result T DiskFault) → KeepsLaws a → KeepsLaws b → Syncs a b result → Stays b c → KeepsNewest a c
+newest-read a b c result before after syncs stays now =
+    leaves-trans a b c IsNewest (leaves-sync a b IsNewest result before now syncs) (leaves-stays b c IsNewest after (λ x left. now x (syncs.crash x left)) stays)
+
+pub newest-last : {T : Type 0} (a b c d : Drive) (result : Result T DiskFault) → KeepsLaws a → KeepsLaws b → Syncs a b result → Stays b c → KeepsNewest c d → KeepsNewest a d
+newest-last a b c d result before after syncs stays last now =
+    leaves-trans a c d IsNewest (newest-read a b c result before after syncs stays now) (last (λ x left. now x (syncs.crash x (stays.images x left))))
+
 module _ (w most len : ℕ) (d0 d1 d2 : Drive) (seen : Seen) (laws0 : KeepsLaws d0) (laws1 : KeepsLaws d1) (bytes_kept : d1.bytes ≡ d0.bytes) (images_kept : (c : List ℕ) → d1.images c → d0.images c)
     (in_file : IsFoundIn newest w most d1 seen len) (stays : Stays d1 d2) where
   -- the cells that were found are those that a crash leaves
-  found_cells : (bytes : List ℕ) (cells : List Cell) → d0.bytes ≡ Some bytes → LeavesNow d0 (Recovers w cells) → 17 + 32 * seen.cells ≡ 17 + 32 * length cells
-  found_cells bytes cells told now =
+  found_cells : (v : ℕ) (bytes : List ℕ) (cells : List Cell) → IsWidthOf d1 w → d0.bytes ≡ Some bytes → LeavesNow d0 (Recovers v cells) → 17 + 32 * seen.cells ≡ 17 + 32 * length cells
+  found_cells v bytes cells width told now =
       let recovers = now bytes (laws0.held bytes told) in
       let found = in_file.found.recovers bytes (bytes_kept ∙ told) in
-      let same : cells ≡ in_file.found.cells = holds-same recovers.version found.version w cells in_file.found.cells bytes recovers.holds found.holds in
+      let one : v ≡ w = sym (index_width recovers.version v cells bytes recovers.holds) ∙ sym (width.named bytes (bytes_kept ∙ told)).named in
+      let same : cells ≡ in_file.found.cells = holds-same recovers.version found.version w cells in_file.found.cells bytes (subst (λ u. HoldsCells recovers.version u cells bytes) one recovers.holds) found.holds in
       omega (arith, ap length same, in_file.found.finds.count)
 
-  pub keeps_cells : (d3 : Drive) → ((P : List ℕ → Type 0) → LeavesNow d0 P → LeavesOnly d0 d1 P) → ((v : ℕ) (cells : List Cell) → 17 + 32 * seen.cells ≡ 17 + 32 * length cells → LeavesNow d2 (Recovers v cells) → LeavesOnly d2 d3 (Recovers v cells)) → KeepsCells w d0 d3
-  keeps_cells d3 time cut bytes cells told now =
-      let now1 : LeavesNow d1 (Recovers w cells) = λ x left. now x (images_kept x left) in
-      let first : LeavesOnly d0 d1 (Recovers w cells) = time (Recovers w cells) now in
-      let second : LeavesOnly d1 d2 (Recovers w cells) = leaves-stays d1 d2 (Recovers w cells) laws1 now1 stays in
-      let now2 : LeavesNow d2 (Recovers w cells) = λ x left. now1 x (stays.images x left) in
-      leaves-trans d0 d2 d3 (Recovers w cells) (leaves-trans d0 d1 d2 (Recovers w cells) first second) (cut w cells (found_cells bytes cells told now) now2)
+  pub keeps_log : (d3 : Drive) → IsWidthOf d1 w → KeepsStanding d0 d1 → d1.faults ≤ d2.faults → d2.faults ≤ d3.faults
+      → ((v : ℕ) (cells : List Cell) → 17 + 32 * seen.cells ≡ 17 + 32 * length cells → LeavesNow d2 (Recovers v cells) → LeavesOnly d2 d3 (Recovers v cells)) → KeepsStanding d0 d3
+  keeps_log d3 width synced read_later cut_later cut = record {
+    cells = λ v bytes cells told now.
+        let now1 : LeavesNow d1 (Recovers v cells) = λ x left. now x (images_kept x left) in
+        let second : LeavesOnly d1 d2 (Recovers v cells) = leaves-stays d1 d2 (Recovers v cells) laws1 now1 stays in
+        let now2 : LeavesNow d2 (Recovers v cells) = λ x left. now1 x (stays.images x left) in
+        leaves-trans d0 d2 d3 (Recovers v cells) (leaves-trans d0 d1 d2 (Recovers v cells) (synced.cells v bytes cells told now) second) (cut v cells (found_cells v bytes cells width told now) now2);
+    later = omega (arith, synced.later, read_later, cut_later);
+  }
 
   -- which calls opened it, after the sync and the calls that only read
   pub calls_open : (d3 : Drive) → MadeWell 1 d0 d1 → ((len ≡ 17 + 32 * seen.cells) × HasNoMore d2.calls d3.calls) ⊎ ((17 + 32 * seen.cells < len) × MadeWell 2 d2 d3) → CallsToOpen seen.cells d0 d3
@@ -104,9 +140,10 @@ module _ (w most len : ℕ) (d0 d1 d2 : Drive) (seen : Seen) (laws0 : KeepsLaws 
       inr (λ bytes told. omega (arith, longer, in_file.whole bytes (bytes_kept ∙ told)), made-then (true ∷ []) (true ∷ true ∷ []) d0 d1 d3 first (still-made (true ∷ true ∷ []) d1 d2 d3 stays.calls more))
 
   -- cut where they end, the file is their log
-  pub is_ready : (d3 : Drive) → d3.faults ≡ d0.faults → SameFile d0 d3 → CallsToOpen seen.cells d0 d3 → ((bytes : List ℕ) → d0.bytes ≡ Some bytes → Only bytes d1.images) → is_some d3.bytes ≡ is_some d2.bytes
+  pub is_ready : (d3 : Drive) → KeepsNewest d0 d3 → d3.faults ≡ d0.faults → SameFile d0 d3 → CallsToOpen seen.cells d0 d3 → ((bytes : List ℕ) → d0.bytes ≡ Some bytes → Only bytes d1.images) → is_some d3.bytes ≡ is_some d2.bytes
       → ((xs : List ℕ) → d2.bytes ≡ Some xs → Only xs d2.images → (d3.bytes ≡ Some (take (17 + 32 * seen.cells) xs)) × Only (take (17 + 32 * seen.cells) xs) d3.images) → IsReady w seen d0 d3
-  is_ready d3 same file calls only told_kept cut = record {
+  is_ready d3 kept_newest same file calls only told_kept cut = record {
+    newest = kept_newest;
     same = same;
     file = file;
     calls = calls;
@@ -135,13 +172,9 @@ pub not_ok : {T E : Type 0} (result : Result T E) (fault : E) (P : T → Type 0)
 not_ok (Ok x) fault P same = absurd same
 not_ok (Err e) fault P same = tt
 
--- the drive's fault, passed on, comes where the count rose
-pub rose_on : {T : Type 0} (result : Result T OpenFault) (fault : OpenFault) (a b c : ℕ) → IsErrAnd result (λ e. e ≡ fault) → a ≤ b → (fault ≡ Disk → Rose b c) → IsErrOf result Disk → Rose a c
-rose_on (Ok x) fault a b c same le rose is = absurd same
-rose_on (Err e) fault a b c same le rose is =
-    let e_is : e ≡ Disk = cc is in
-    let later : Rose b c = rose (sym same ∙ e_is) in
-    omega (arith, le, later)
+-- where the count rose later it rose
+pub rose-later : (a b c : ℕ) → a ≤ b → Rose b c → Rose a c
+rose-later a b c le rose = omega (arith, le, rose)
 
 -- a sync, and then calls that only read, leave the file
 untouched-sync : {T : Type 0} (a b : Drive) (result : Result T DiskFault) → Syncs a b result → IsUntouched a b
@@ -172,8 +205,9 @@ cut_refused a b c d first still (inr at_sync) =
     record { other = λ other. absurd (other refl); disk = inr (2, record { few = lit≤ tt; calls = made-then (true ∷ []) (true ∷ false ∷ []) a b d first (still-made (true ∷ false ∷ []) b c d still at_sync) }) }
 
 -- an opening that is refused at its sync, at what was read, and at the cut
-pub refused_sync : {T : Type 0} (w most : ℕ) (a b : Drive) (result : Result T DiskFault) → Syncs a b result → Made (false ∷ []) a b → SameFile a b → LeavesUnopened w most a b Disk
-refused_sync w most a b result syncs made file = record {
+pub refused_sync : {T : Type 0} (wanted : Option ℕ) (most : ℕ) (a b : Drive) (result : Result T DiskFault) → KeepsNewest a b → Syncs a b result → Made (false ∷ []) a b → SameFile a b → LeavesUnopenedFor wanted most a b Disk
+refused_sync wanted most a b result kept_newest syncs made file = record {
+  newest = kept_newest;
   unfailed = λ other. absurd (other refl);
   calm = λ other. absurd (other refl);
   no_log = λ bytes told none. untouched-sync a b result syncs;
@@ -181,8 +215,9 @@ refused_sync w most a b result syncs made file = record {
   file = file;
 }
 
-pub refused_read : {T : Type 0} (w most : ℕ) (a b c : Drive) (result : Result T DiskFault) (fault : OpenFault) → Syncs a b result → MadeWell 1 a b → Stays b c → b.faults ≡ a.faults → (fault ≢ Disk → c.faults ≡ b.faults) → SameFile a c → LeavesUnopened w most a c fault
-refused_read w most a b c result fault syncs made stays same calm file = record {
+pub refused_read : {T : Type 0} (wanted : Option ℕ) (most : ℕ) (a b c : Drive) (result : Result T DiskFault) (fault : OpenFault) → KeepsNewest a c → Syncs a b result → MadeWell 1 a b → Stays b c → b.faults ≡ a.faults → (fault ≢ Disk → c.faults ≡ b.faults) → SameFile a c → LeavesUnopenedFor wanted most a c fault
+refused_read wanted most a b c result fault kept_newest syncs made stays same calm file = record {
+  newest = kept_newest;
   unfailed = λ other. untouched-stays a b c (untouched-sync a b result syncs) stays;
   calm = λ other. calm other ∙ same;
   no_log = λ bytes told none. untouched-stays a b c (untouched-sync a b result syncs) stays;
@@ -190,11 +225,22 @@ refused_read w most a b c result fault syncs made stays same calm file = record 
   file = file;
 }
 
-pub refused_cut : (w most : ℕ) (a b c d : Drive) (seen : Seen) → b.bytes ≡ a.bytes → IsFound newest w most b seen → MadeWell 1 a b → Stays b c → Made (false ∷ []) c d ⊎ Made (true ∷ false ∷ []) c d → SameFile a d → LeavesUnopened w most a d Disk
-refused_cut w most a b c d seen kept found made stays failed file = record {
+-- a log that was found is one that might be opened
+log_stands : (wanted : Option ℕ) (w most len : ℕ) (drive : Drive) (seen : Seen) (bytes : List ℕ) → drive.bytes ≡ Some bytes → IsFoundFor newest wanted most drive w seen len → HasNoLogFor wanted most bytes → ⊥
+log_stands wanted w most len drive seen bytes told at none =
+    let found = at.within.found in
+    no_log wanted at.fits none found.cells (found.recovers bytes told) (sym (found.named bytes told) ∙ newest_is seen.version found.wanted) found.few
+  where
+    no_log : (wanted : Option ℕ) → IsWidthFor wanted w → HasNoLogFor wanted most bytes → HasNoLog w most bytes
+    no_log (Some v) same none = subst (λ u. HasNoLog u most bytes) same none
+    no_log None known none = none w known
+
+pub refused_cut : (wanted : Option ℕ) (w most len : ℕ) (a b c d : Drive) (seen : Seen) → KeepsNewest a d → b.bytes ≡ a.bytes → IsFoundFor newest wanted most b w seen len → MadeWell 1 a b → Stays b c → Made (false ∷ []) c d ⊎ Made (true ∷ false ∷ []) c d → SameFile a d → LeavesUnopenedFor wanted most a d Disk
+refused_cut wanted w most len a b c d seen kept_newest kept at made stays failed file = record {
+  newest = kept_newest;
   unfailed = λ other. absurd (other refl);
   calm = λ other. absurd (other refl);
-  no_log = λ bytes told none. absurd (none found.cells (found.recovers bytes (kept ∙ told)) (sym (found.named bytes (kept ∙ told)) ∙ newest_is seen.version found.wanted) found.few);
+  no_log = λ bytes told none. absurd (log_stands wanted w most len b seen bytes (kept ∙ told) at none);
   calls = cut_refused a b c d made stays.calls failed;
   file = file;
 }

@@ -26,8 +26,10 @@ use Rattle.recovery.specs.Replay.{ReplayView}
 use Rattle.recovery.specs.Room.{HasRoomAfter}
 use Rattle.recovery.specs.Walked.{object_of, place_in, IsNextWalked}
 use Rattle.recovery.specs.Pieces.{FailsAt}
-use Rattle.recovery.specs.Reading.{ReadingView, HasRead, FailsIn, IsBehind, Stops, Starts, SameLog, NeedsNoPiece, IsReady, IsFilled, IsEmptied, PassesOn, WalksOn, Advances, ReadsPiece}
+use Rattle.recovery.specs.Reading.{ReadingView, HasRead, FailsIn, IsBehind, Stops, StartsFor, SameLog, NeedsNoPiece, HasAllThatIsLeft, IsFilled, IsEmptied, PassesOn, WalksOn, Advances, ReadsPiece}
 use Rattle.recovery.specs.Headers.{HasHeader}
+use Rattle.recovery.specs.Widths.{IsWidth}
+use Rattle.recovery.specs.Wanted.{IsWidthFor, MayTellCells}
 use Rattle.recovery.proofs.HeadLemmas.{begins_first}
 use Rattle.recovery.proofs.PieceLemmas.{all_append}
 use Rattle.recovery.proofs.CellEffects.{placed_after}
@@ -86,15 +88,20 @@ begins_next v w cells c piece more bytes begins fits spelled possible = record {
 }
 
 -- before the first cell
-pub starts : (oldest version w most len : ℕ) (drive : Drive) (replay : ReplayView) → replay ≡ record { version = version; width = w; state = empty_state } → IsWanted oldest version → 17 ≤ len → ((xs : List ℕ) → drive.bytes ≡ Some xs → length xs ≡ len)
-    → ((xs : List ℕ) → drive.bytes ≡ Some xs → HasHeader version w xs) → Starts oldest w most drive (record { replay = replay; number = 0; most = most; len = len; rest = [] })
-starts oldest version w most len drive replay first wanted long whole has =
-    subst (λ r. Starts oldest w most drive (record { replay = r; number = 0; most = most; len = len; rest = [] })) (sym first) (record {
-      wanted = wanted;
-      width = refl;
-      most_is = refl;
-      long = long;
-      read = record { legal = refl; state = refl; count = refl; room = omega (arith, long); begins = λ xs told. (whole xs told, (has xs told).rest, begins_first version w xs (has xs told)) };
+pub starts : (oldest : ℕ) (wanted : Option ℕ) (version w most len : ℕ) (drive : Drive) (replay : ReplayView) → replay ≡ record { version = version; width = w; state = empty_state } → IsWanted oldest version → IsWidth w → IsWidthFor wanted w → 17 ≤ len
+    → ((xs : List ℕ) → drive.bytes ≡ Some xs → length xs ≡ len) → ((xs : List ℕ) → drive.bytes ≡ Some xs → HasHeader version w xs)
+    → StartsFor oldest wanted most drive (record { replay = replay; number = 0; most = most; len = len; rest = [] })
+starts oldest wanted version w most len drive replay first is_wanted known fits long whole has =
+    subst (λ r. StartsFor oldest wanted most drive (record { replay = r; number = 0; most = most; len = len; rest = [] })) (sym first) (record {
+      known = known;
+      fits = fits;
+      starts = record {
+        wanted = is_wanted;
+        width = refl;
+        most_is = refl;
+        long = long;
+        read = record { legal = refl; state = refl; count = refl; room = omega (arith, long); begins = λ xs told. (whole xs told, (has xs told).rest, begins_first version w xs (has xs told)) };
+      };
     })
 
 -- what was read is said of the drive after calls that only read
@@ -178,7 +185,7 @@ module _ (cells : List Cell) (drive : Drive) (old : ReadingView) (read : HasRead
       holds_clear old.replay.version old.replay.width cells (old.rest ++ at.1) xs at.2 (omega (arith, some, length-append old.rest at.1)) (λ set. clear (sym (first_byte old.rest at.1 some) ∙ set))
 
   -- the cell at the front is at fault
-  pub read_fault : (e : OpenFault) → 1 ≤ length old.rest → IsReady drive old → FailsAt old.replay.version old.replay.width old.most old.number old.replay.state old.rest e → FailsIn old.most drive old.replay e
+  pub read_fault : (e : OpenFault) → 1 ≤ length old.rest → HasAllThatIsLeft drive old → FailsAt old.replay.version old.replay.width old.most old.number old.replay.state old.rest e → FailsIn old.most drive old.replay e
   read_fault (fault.Damaged n why) some ready fails xs told oldest wanted =
       let at = read.begins xs told in
       let short : length old.rest < 33 → length (old.rest ++ at.1) < 33 = λ lt. omega (arith, lt, ready xs told at.0 lt fails.2 fails.1, (behind xs told).1, at.0) in
@@ -212,7 +219,7 @@ module _ (cells : List Cell) (drive : Drive) (old : ReadingView) (read : HasRead
   read_fault (fault.OldLog version width) some ready fails xs told oldest wanted = absurd fails
 
   pub fault_behind : (e : OpenFault) → FailsAt old.replay.version old.replay.width old.most old.number old.replay.state old.rest e → IsBehind old.most (length cells) e
-  fault_behind (fault.Damaged n why) fails = fails.0 ∙ sym read.count
+  fault_behind (fault.Damaged n why) fails = (fails.0 ∙ sym read.count, omega (arith, fails.1, read.count))
   fault_behind (fault.TooLong m) fails = (fails.0, read.count ∙ fails.1)
   fault_behind fault.Memory fails = tt
   fault_behind fault.Disk fails = tt
@@ -220,12 +227,21 @@ module _ (cells : List Cell) (drive : Drive) (old : ReadingView) (read : HasRead
   fault_behind (fault.OldLog version width) fails = fails
 
   pub stop_behind : (e : OpenFault) → IsBehind old.most old.number e → IsBehind old.most (length cells) e
-  stop_behind (fault.Damaged n why) at = at ∙ sym read.count
+  stop_behind (fault.Damaged n why) at = (at.0 ∙ sym read.count, omega (arith, at.1, read.count))
   stop_behind (fault.TooLong m) at = (at.0, read.count ∙ at.1)
   stop_behind fault.Memory at = tt
   stop_behind fault.Disk at = tt
   stop_behind fault.NotLog at = at
   stop_behind (fault.OldLog version width) at = at
+
+-- a fault behind cells may be told of them
+pub behind_may : (most number : ℕ) (e : OpenFault) → IsBehind most number e → MayTellCells most e
+behind_may most number fault.NotLog at = at
+behind_may most number (fault.OldLog version width) at = at
+behind_may most number (fault.Damaged n why) at = omega (arith, at.0, at.1)
+behind_may most number (fault.TooLong limit) at = at.0
+behind_may most number fault.Disk at = tt
+behind_may most number fault.Memory at = tt
 
 pub same_log-trans : (a b c : ReadingView) → SameLog a b → SameLog b c → SameLog a c
 same_log-trans a b c first second = record { version = second.version ∙ first.version; width = second.width ∙ first.width; most = second.most ∙ first.most; len = second.len ∙ first.len }
@@ -326,10 +342,10 @@ filled_before drive old new is needs = subst (IsFilled drive old) (sym is) (reco
 })
 
 -- a file with room for a commit byte isn't read empty
-pub never_empty : (drive : Drive) (old : ReadingView) (buffer : List ℕ) (got : ℕ) → ReadsPiece drive (16 + 32 * old.number) (min 65537 (old.len - (16 + 32 * old.number))) buffer got → got ≡ 0 → 17 + 32 * old.number ≤ old.len
-    → Stops drive old (fault.Damaged old.number cause.ShortCell)
-never_empty drive old buffer got reads none room = (
-  refl,
+pub never_empty : (drive : Drive) (old : ReadingView) (buffer : List ℕ) (got : ℕ) (e : OpenFault) → ReadsPiece drive (16 + 32 * old.number) (min 65537 (old.len - (16 + 32 * old.number))) buffer got → got ≡ 0 → 17 + 32 * old.number ≤ old.len
+    → IsBehind old.most old.number e → Stops drive old e
+never_empty drive old buffer got e reads none room behind = (
+  behind,
   λ cells read xs told oldest wanted. absurd (omega (arith, (reads.1 xs told).0, (read.begins xs told).0, none, room)),
 )
 

@@ -12,14 +12,15 @@ use Rattle.recovery.specs.declared.seen.Seen.{Seen}
 use Rattle.recovery.specs.declared.walked.Walked.{Walked}
 use Rattle.recovery.specs.Faults.{BeginsWith, IsFault, IsInBytes}
 use Rattle.recovery.specs.Found.{Shows, IsWanted}
-use Rattle.recovery.specs.Reading.{ReadingView, HasRead, IsBehind, FailsBehind, Starts, SameLog, Advances, ReadsAll, IsOnWay, IsSeenOf, OnlyReads, IsFoundIn}
+use Rattle.recovery.specs.Reading.{ReadingView, HasRead, IsBehind, FailsOn, Starts, SameLog, Advances, ReadsAll, IsOnWay, IsSeenOf, OnlyReads, IsFoundIn}
 use Rattle.recovery.specs.Walked.{IsNextWalked}
 use Rattle.recovery.specs.Headers.{HasHeader}
+use Rattle.recovery.specs.Wanted.{MayTellCells}
 use Rattle.recovery.specs.Walks.{WalkView, ComesTo, TellsWalked, TellsFault, TellsAll, IsOfHead}
 use Rattle.recovery.proofs.Exclusive.{known_version, behind_header, header_is_new, recovers_no_fault, recovers_wanted, told_fault, told_free, one_recovery}
 use Rattle.recovery.proofs.HeadLemmas.{index_version, header_is_log}
 use Rattle.recovery.proofs.OnlyReading.{stays-trans}
-use Rattle.recovery.proofs.ReadingLemmas.{has_read-stays, same_log-trans, same_log-refl}
+use Rattle.recovery.proofs.ReadingLemmas.{behind_may, has_read-stays, same_log-trans, same_log-refl}
 
 -- all cells of a log, one after the other
 module _ (before now after : Drive) (first r new : ReadingView) (way : IsOnWay before now first r) (stays : Stays now after) (file : SameFile now after) where
@@ -47,12 +48,17 @@ module _ (before now after : Drive) (first r new : ReadingView) (way : IsOnWay b
         );
   }
 
-  pub way_fails : (e : OpenFault) → Advances now r new (Err e) → FailsBehind before first e
-  way_fails e adv cells read xs told oldest wanted =
-      let so_far = way.reads cells read in
-      let fails = (adv.tells so_far.0 (has_read-stays so_far.0 before now r way.stays.bytes so_far.1)).2 in
-      subst (λ m. IsFault oldest first.replay.width m xs e) way.same.most
-      (subst (λ n. IsFault oldest n r.most xs e) way.same.width (fails xs (way.stays.bytes ∙ told) oldest (subst (IsWanted oldest) (sym way.same.version) wanted)))
+  pub way_fails : (e : OpenFault) → Advances now r new (Err e) → FailsOn before first e
+  way_fails e adv = record {
+    fails = λ cells read xs told oldest wanted.
+        let so_far = way.reads cells read in
+        let fails = (adv.tells so_far.0 (has_read-stays so_far.0 before now r way.stays.bytes so_far.1)).2 in
+        subst (λ m. IsFault oldest first.replay.width m xs e) way.same.most
+        (subst (λ n. IsFault oldest n r.most xs e) way.same.width (fails xs (way.stays.bytes ∙ told) oldest (subst (IsWanted oldest) (sym way.same.version) wanted)));
+    may = λ cells read.
+        let so_far = way.reads cells read in
+        subst (λ m. MayTellCells m e) way.same.most (behind_may r.most (length so_far.0) e (adv.tells so_far.0 (has_read-stays so_far.0 before now r way.stays.bytes so_far.1)).1);
+  }
 
 -- what is found in a log that was read to its end
 pub found_read : (oldest w most len : ℕ) (a b : Drive) (first r : ReadingView) (seen : Seen) → Starts oldest w most a first → b.bytes ≡ a.bytes → ReadsAll b first r → IsSeenOf r seen → len ≡ r.len → IsFoundIn oldest w most a seen len
@@ -144,19 +150,22 @@ module _ {D : Type 0} (w most : ℕ) (cells : List Cell) (old new : Drive) (next
   tells_all all (Err e) recovers few reads told =
       told_free 1 w most (lit≤ tt) bytes old new e all (told.2 bytes known) (λ disk. reads.failed (ap (λ x. Err x) disk)) recovers (recovers_wanted w all bytes recovers) few
 
--- a log that is begun has no fault in its head
-pub head_is_good : (w most : ℕ) (drive : Drive) (r : ReadingView) (bytes : List ℕ) (f : OpenFault) → Starts 1 w most drive r → drive.bytes ≡ Some bytes → IsInBytes f → IsOfHead f → IsFault 1 w most bytes f → ⊥
-head_is_good w most drive r bytes f starts known shown head is = by_fault f shown head is
-  where
-    at : (length bytes ≡ r.len) × (more : List ℕ) × BeginsWith r.replay.version r.replay.width [] (r.rest ++ more) bytes
-    at = starts.read.begins bytes known
-
-    has : HasHeader r.replay.version w bytes
-    has = record {
+-- a log that is begun has a head
+pub first_header : (oldest w most : ℕ) (drive : Drive) (r : ReadingView) (bytes : List ℕ) → Starts oldest w most drive r → drive.bytes ≡ Some bytes → HasHeader r.replay.version w bytes
+first_header oldest w most drive r bytes starts known =
+    let at = starts.read.begins bytes known in
+    record {
       rest = r.rest ++ at.1;
       parts = behind_header r.replay.version w [] (r.rest ++ at.1) bytes (subst (λ n. BeginsWith r.replay.version n [] (r.rest ++ at.1) bytes) starts.width at.2);
       long = omega (arith, starts.long, at.0);
     }
+
+-- and no fault in it
+pub head_is_good : (w most : ℕ) (drive : Drive) (r : ReadingView) (bytes : List ℕ) (f : OpenFault) → Starts 1 w most drive r → drive.bytes ≡ Some bytes → IsInBytes f → IsOfHead f → IsFault 1 w most bytes f → ⊥
+head_is_good w most drive r bytes f starts known shown head is = by_fault f shown head is
+  where
+    has : HasHeader r.replay.version w bytes
+    has = first_header 1 w most drive r bytes starts known
 
     by_fault : (f : OpenFault) → IsInBytes f → IsOfHead f → IsFault 1 w most bytes f → ⊥
     by_fault fault.NotLog shown head is = header_is_log r.replay.version w bytes has is

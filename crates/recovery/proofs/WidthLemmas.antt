@@ -1,5 +1,5 @@
 -- What the head of a file tells: its width, or one fault.
-use Rattle.std.proofs.Common.{◌≡◌, ◌≢◌, ℕ, ◌≤◌, ◌⊎◌, inl, inr, ⊎_elim, List, Some, length, refl, sym, ◌∙◌, ap, subst, arith}
+use Rattle.std.proofs.Common.{◌≡◌, ◌≢◌, ℕ, ◌≤◌, ◌⊎◌, inl, inr, ⊎_elim, List, Option, Some, None, length, refl, sym, ◌∙◌, ap, subst, arith}
 use Rattle.std.specs.Prelude.{slice_index, Result, Ok, Err, IfOk, IfErr}
 use Rattle.std.specs.Result.{IsErrAnd}
 use Rattle.causes.specs.Causes.{Rose}
@@ -11,7 +11,9 @@ use Rattle.log_state.specs.Recovers.{Recovers}
 use Rattle.recovery.specs.Faults.{IsDamaged, IsTooLong, IsOldLog, IsFault, IsInBytes}
 use Rattle.recovery.specs.Found.{IsWanted}
 use Rattle.recovery.specs.Headers.{HasHeader, FailsHead}
-use Rattle.recovery.specs.Widths.{IsWidth, HasWidth, IsStrangeLog, IsHeadFault, IsLogFault}
+use Rattle.recovery.specs.Widths.{IsWidth, HasWidth, IsStrangeHead, IsStrangeLog, IsHeadFault, IsLogFault}
+use Rattle.recovery.specs.Wanted.{IsOtherFor, IsFaultFor, MayTellFor, MayTellHead, MayTellHeadFor}
+use Rattle.recovery.specs.Walks.{IsOfHead}
 use Rattle.recovery.proofs.HeadLemmas.{header_bytes, header_is_log, index_width}
 use Rattle.recovery.proofs.Exclusive.{recovers_wanted, recovers_no_fault}
 
@@ -25,14 +27,19 @@ module _ (v w : ℕ) (bytes : List ℕ) (has : HasHeader v w bytes) where
   pub has_width : IsWanted 1 v → IsWidth w → HasWidth w bytes
   has_width wanted known = record { is_log = header_is_log v w bytes has; version = subst (IsWanted 1) version_there wanted; named = width_there; known = known }
 
-  pub is_strange : (IsWanted 1 v → ⊥) ⊎ ((w ≢ 1) × (w ≢ 2)) → IsStrangeLog 1 bytes v w
-  is_strange other = record { is_log = header_is_log v w bytes has; version_is = version_there; width_is = width_there; other = other }
+  is_strange : (oldest : ℕ) → IsStrangeHead oldest v w → IsStrangeLog oldest bytes v w
+  is_strange oldest other = record { is_log = header_is_log v w bytes has; version_is = version_there; width_is = width_there; other = other }
 
-  pub is_old : (oldest width : ℕ) → (IsWanted oldest v → ⊥) ⊎ (w ≢ width) → IsOldLog oldest width bytes v w
+  is_old : (oldest width : ℕ) → (IsWanted oldest v → ⊥) ⊎ (w ≢ width) → IsOldLog oldest width bytes v w
   is_old oldest width other = record { is_log = header_is_log v w bytes has; version_is = version_there; width_is = width_there; other = other }
 
+  -- a log that isn't wanted is at fault
+  pub is_other : (oldest : ℕ) (wanted : Option ℕ) (most : ℕ) → IsOtherFor oldest wanted v w → IsFaultFor oldest wanted most bytes (fault.OldLog v w)
+  is_other oldest (Some width) most other = is_old oldest width other
+  is_other oldest None most other = is_strange oldest other
+
 -- why no head was read is at fault in the bytes
-pub fails_log : (oldest w most : ℕ) (bytes : List ℕ) (drive : Drive) (e : OpenFault) → drive.bytes ≡ Some bytes → FailsHead drive e → IsFault oldest w most bytes e
+fails_log : (oldest w most : ℕ) (bytes : List ℕ) (drive : Drive) (e : OpenFault) → drive.bytes ≡ Some bytes → FailsHead drive e → IsFault oldest w most bytes e
 fails_log oldest w most bytes drive fault.NotLog told fails = fails bytes told
 fails_log oldest w most bytes drive (fault.OldLog version width) told fails = absurd fails
 fails_log oldest w most bytes drive (fault.Damaged n why) told fails = absurd fails
@@ -40,13 +47,44 @@ fails_log oldest w most bytes drive (fault.TooLong limit) told fails = absurd fa
 fails_log oldest w most bytes drive fault.Disk told fails = tt
 fails_log oldest w most bytes drive fault.Memory told fails = absurd fails
 
-pub fails_head : (bytes : List ℕ) (drive : Drive) (e : OpenFault) → drive.bytes ≡ Some bytes → FailsHead drive e → IsHeadFault bytes e
-fails_head bytes drive fault.NotLog told fails = fails bytes told
-fails_head bytes drive (fault.OldLog version width) told fails = absurd fails
-fails_head bytes drive (fault.Damaged n why) told fails = absurd fails
-fails_head bytes drive (fault.TooLong limit) told fails = absurd fails
-fails_head bytes drive fault.Disk told fails = tt
-fails_head bytes drive fault.Memory told fails = absurd fails
+fails_own : (oldest most : ℕ) (bytes : List ℕ) (drive : Drive) (e : OpenFault) → drive.bytes ≡ Some bytes → FailsHead drive e → IsLogFault oldest most bytes e
+fails_own oldest most bytes drive fault.NotLog told fails = fails bytes told
+fails_own oldest most bytes drive (fault.OldLog version width) told fails = absurd fails
+fails_own oldest most bytes drive (fault.Damaged n why) told fails = absurd fails
+fails_own oldest most bytes drive (fault.TooLong limit) told fails = absurd fails
+fails_own oldest most bytes drive fault.Disk told fails = tt
+fails_own oldest most bytes drive fault.Memory told fails = absurd fails
+
+pub fails_for : (oldest : ℕ) (wanted : Option ℕ) (most : ℕ) (bytes : List ℕ) (drive : Drive) (e : OpenFault) → drive.bytes ≡ Some bytes → FailsHead drive e → IsFaultFor oldest wanted most bytes e
+fails_for oldest (Some w) most bytes drive e told fails = fails_log oldest w most bytes drive e told fails
+fails_for oldest None most bytes drive e told fails = fails_own oldest most bytes drive e told fails
+
+-- and it may be told
+pub fails_may : (oldest : ℕ) (wanted : Option ℕ) (drive : Drive) (e : OpenFault) → FailsHead drive e → MayTellHeadFor oldest wanted e
+fails_may oldest wanted drive fault.NotLog fails = tt
+fails_may oldest wanted drive (fault.OldLog version width) fails = absurd fails
+fails_may oldest wanted drive (fault.Damaged n why) fails = absurd fails
+fails_may oldest wanted drive (fault.TooLong limit) fails = absurd fails
+fails_may oldest wanted drive fault.Disk fails = tt
+fails_may oldest wanted drive fault.Memory fails = absurd fails
+
+-- what may be told of a head may be told of its log
+pub may_head : (oldest : ℕ) (wanted : Option ℕ) (most : ℕ) (e : OpenFault) → MayTellHeadFor oldest wanted e → IsOfHead e × MayTellFor oldest wanted most e
+may_head oldest wanted most fault.NotLog may = (tt, tt)
+may_head oldest wanted most (fault.OldLog version width) may = (tt, may)
+may_head oldest wanted most (fault.Damaged n why) may = absurd may
+may_head oldest wanted most (fault.TooLong limit) may = absurd may
+may_head oldest wanted most fault.Disk may = (tt, tt)
+may_head oldest wanted most fault.Memory may = absurd may
+
+-- what is at fault in a log, and may be told of its head, is at fault there
+pub head_fault : (most : ℕ) (bytes : List ℕ) (e : OpenFault) → MayTellHead e → IsLogFault 1 most bytes e → IsHeadFault bytes e
+head_fault most bytes fault.NotLog may is = is
+head_fault most bytes (fault.OldLog version width) may is = is
+head_fault most bytes (fault.Damaged n why) may is = absurd may
+head_fault most bytes (fault.TooLong limit) may is = absurd may
+head_fault most bytes fault.Disk may is = tt
+head_fault most bytes fault.Memory may is = absurd may
 
 module _ (bytes : List ℕ) where
   -- a head with a width is not at fault

@@ -15,6 +15,8 @@ use Rattle.recovery.specs.Pieces.{PassesCell, FailsAt}
 use Rattle.recovery.specs.Replay.{ReplayView}
 use Rattle.recovery.specs.Room.{HasRoomAfter}
 use Rattle.recovery.specs.Walked.{IsNextWalked}
+use Rattle.recovery.specs.Widths.{IsWidth, IsWidthOf}
+use Rattle.recovery.specs.Wanted.{IsWidthFor, MayTellCells}
 
 -- the state after the cells so far, their number, how many there may be, the length of the file, and what is left of the piece that was read last,
 -- from the commit byte of the next cell on
@@ -52,7 +54,7 @@ FailsIn most drive replay e = (xs : List ℕ) → drive.bytes ≡ Some xs → (o
 abbrev pub IsBehind : ℕ → ℕ → OpenFault → Type 0
 IsBehind most number NotLog = ⊥
 IsBehind most number (OldLog version width) = ⊥
-IsBehind most number (Damaged n why) = n ≡ number
+IsBehind most number (Damaged n why) = (n ≡ number) × (number < most)
 IsBehind most number (TooLong limit) = (limit ≡ most) × (number ≡ most)
 IsBehind most number Disk = ⊤
 IsBehind most number Memory = ⊤
@@ -60,6 +62,11 @@ IsBehind most number Memory = ⊤
 -- and it is at fault behind the cells that were read
 abbrev pub FailsBehind : Drive → ReadingView → OpenFault → Type 0
 FailsBehind drive r e = (cells : List Cell) → HasRead cells drive r → FailsIn r.most drive r.replay e
+
+-- and it may be told of a cell behind them, or that there may be no more
+pub record FailsOn (drive : Drive) (r : ReadingView) (e : OpenFault) : Type 0 where
+  pub fails : FailsBehind drive r e
+  pub may : (cells : List Cell) → HasRead cells drive r → MayTellCells r.most e
 
 -- right behind them
 abbrev pub Stops : Drive → ReadingView → OpenFault → Type 0
@@ -72,6 +79,12 @@ pub record Starts (oldest w most : ℕ) (drive : Drive) (r : ReadingView) : Type
   pub most_is : r.most ≡ most
   pub long : 17 ≤ r.len
   pub read : HasRead [] drive r
+
+-- the same of a log that is wanted, by the width that it has
+pub record StartsFor (oldest : ℕ) (wanted : Option ℕ) (most : ℕ) (drive : Drive) (r : ReadingView) : Type 0 where
+  pub known : IsWidth r.replay.width
+  pub fits : IsWidthFor wanted r.replay.width
+  pub starts : Starts oldest r.replay.width most drive r
 
 -- the same log is read
 pub record SameLog (old new : ReadingView) : Type 0 where
@@ -86,15 +99,15 @@ pub record NeedsNoPiece (r : ReadingView) : Type 0 where
   pub told : length r.rest < 33 → slice_index r.rest 0 ≡ 1 → r.number < r.most → ⊥
 
 -- where the next commit byte is set, and too little is left for a cell, it is all that the file has
-abbrev pub IsReady : Drive → ReadingView → Type 0
-IsReady drive r = (xs : List ℕ) → drive.bytes ≡ Some xs → length xs ≡ r.len → length r.rest < 33 → slice_index r.rest 0 ≡ 1 → r.number < r.most
+abbrev pub HasAllThatIsLeft : Drive → ReadingView → Type 0
+HasAllThatIsLeft drive r = (xs : List ℕ) → drive.bytes ≡ Some xs → length xs ≡ r.len → length r.rest < 33 → slice_index r.rest 0 ≡ 1 → r.number < r.most
     → 16 + 32 * r.number + length r.rest ≡ r.len
 
 -- what is left of the piece tells the next cell, as far as the file does
 pub record IsFilled (drive : Drive) (old new : ReadingView) : Type 0 where
   pub same : new ≡ record old { rest = new.rest }
   pub some : 1 ≤ length new.rest
-  pub ready : IsReady drive new
+  pub ready : HasAllThatIsLeft drive new
   pub keeps : (cells : List Cell) → HasRead cells drive old → HasRead cells drive new
 
 -- nothing is left of the piece
@@ -175,3 +188,9 @@ pub record IsFoundIn (oldest w most : ℕ) (drive : Drive) (seen : Seen) (len : 
   pub found : IsFound oldest w most drive seen
   pub room : 17 + 32 * seen.cells ≤ len
   pub whole : (bytes : List ℕ) → drive.bytes ≡ Some bytes → length bytes ≡ len
+
+-- the same in a log that is wanted, by the width that it has
+pub record IsFoundFor (oldest : ℕ) (wanted : Option ℕ) (most : ℕ) (drive : Drive) (w : ℕ) (seen : Seen) (len : ℕ) : Type 0 where
+  pub width : IsWidthOf drive w
+  pub fits : IsWidthFor wanted w
+  pub within : IsFoundIn oldest w most drive seen len

@@ -9,6 +9,8 @@ use Rattle.recovery.specs.declared.walked.Walked.{Walked}
 use Rattle.recovery.specs.Faults.{IsFault}
 use Rattle.recovery.specs.Found.{IsWanted, IsFree}
 use Rattle.recovery.specs.Reading.{ReadingView, HasRead, IsBehind}
+use Rattle.recovery.specs.Widths.{IsWidthOf}
+use Rattle.recovery.specs.Wanted.{IsFaultFor, MayTellFor}
 pub use Rattle.recovery.specs.Walked.{object_of, place_in, IsNextWalked}
 
 -- the drive, and how far its log was read
@@ -26,6 +28,11 @@ pub record ComesTo {D : Type 0} (w most : ℕ) (cells : List Cell) (drive : Driv
   pub most_is : walk.reading.most ≡ most
   pub room : 17 + 32 * length cells ≤ walk.reading.len
   pub read : HasRead cells drive walk.reading
+
+-- the same of a width that logs have, which the bytes name where they are known
+pub record ComesAlong {D : Type 0} (w most : ℕ) (cells : List Cell) (drive : Drive) (walk : WalkView D) : Type 0 where
+  pub width : IsWidthOf drive w
+  pub comes : ComesTo w most cells drive walk
 
 -- What a call tells behind these cells: the next one; or that they are all, and the bytes recover to them; or what is at fault there, in the bytes or
 -- beside them. The drive is as the call finds it and leaves it, the walk as the call leaves it.
@@ -56,3 +63,9 @@ IsOfHead (Damaged number why) = ⊥
 IsOfHead (TooLong limit) = ⊥
 IsOfHead Disk = ⊤
 IsOfHead Memory = ⊤
+
+-- why no walk begins along a log that is wanted: this is at fault in its head, or beside the bytes
+pub record RefusesWalk (wanted : Option ℕ) (most : ℕ) (drive : Drive) (e : OpenFault) : Type 0 where
+  pub shows : (bytes : List ℕ) → drive.bytes ≡ Some bytes → IsFaultFor 1 wanted most bytes e
+  pub head : IsOfHead e
+  pub may : MayTellFor 1 wanted most e

@@ -1,5 +1,6 @@
 -- The width of a log, as its head names it, and what is at fault in a log of either width.
-use Rattle.std.specs.Prelude.{◌≡◌, ◌≢◌, ◌⊎◌, ℕ, List, slice_index, ⊤}
+use Rattle.std.specs.Prelude.{◌≡◌, ◌≢◌, ◌⊎◌, ℕ, List, slice_index, Some, ⊤}
+use Rattle.disk_trait.specs.Drive.{Drive}
 use Rattle.recovery.specs.declared.seen.OpenFault.{OpenFault}
 use Rattle.recovery.specs.declared.seen.OpenFault.TheVariants.{NotLog, OldLog, Damaged, Disk, Memory, TooLong}
 use Rattle.recovery.specs.Faults.{IsNotLog, IsDamaged, IsTooLong}
@@ -16,12 +17,21 @@ pub record HasWidth (w : ℕ) (bytes : List ℕ) : Type 0 where
   pub named : w ≡ slice_index bytes 9
   pub known : IsWidth w
 
--- a log of a version that isn't wanted, or whose width is neither 1 nor 2
+-- a width that logs have; where the drive's bytes are known, they are a log of it
+pub record IsWidthOf (drive : Drive) (w : ℕ) : Type 0 where
+  pub known : IsWidth w
+  pub named : (bytes : List ℕ) → drive.bytes ≡ Some bytes → HasWidth w bytes
+
+-- a version that isn't wanted, or a width that is neither 1 nor 2
+abbrev pub IsStrangeHead : ℕ → ℕ → ℕ → Type 0
+IsStrangeHead oldest version width = (IsWanted oldest version → ⊥) ⊎ ((width ≢ 1) × (width ≢ 2))
+
+-- a log of such a version or width
 pub record IsStrangeLog (oldest : ℕ) (bytes : List ℕ) (version width : ℕ) : Type 0 where
   pub is_log : IsNotLog bytes → ⊥
   pub version_is : version ≡ slice_index bytes 8
   pub width_is : width ≡ slice_index bytes 9
-  pub other : (IsWanted oldest version → ⊥) ⊎ ((width ≢ 1) × (width ≢ 2))
+  pub other : IsStrangeHead oldest version width
 
 -- what is at fault in the head of the bytes; that the drive failed isn't seen there
 abbrev pub IsHeadFault : List ℕ → OpenFault → Type 0
@@ -40,3 +50,7 @@ IsLogFault oldest most bytes (Damaged number why) = (w : ℕ) × HasWidth w byte
 IsLogFault oldest most bytes (TooLong limit) = (w : ℕ) × HasWidth w bytes × (limit ≡ most) × IsTooLong oldest w most bytes
 IsLogFault oldest most bytes Disk = ⊤
 IsLogFault oldest most bytes Memory = ⊤
+
+-- this is at fault in the drive's bytes, where they are known, for whoever reads a log by the width that it has
+abbrev pub ShowsFault : ℕ → ℕ → Drive → OpenFault → Type 0
+ShowsFault oldest most drive e = (bytes : List ℕ) → drive.bytes ≡ Some bytes → IsLogFault oldest most bytes e

@@ -1,16 +1,16 @@
 //! Reads the head of a file: which version and which width its log has.
-ghost use Rattle.std.specs.Prelude.{◌≡◌, ◌≢◌, ◌⊎◌, ◌≤◌, ℕ, true, false, List, Some, length, take, drop, replicate, IfOk, IfErr};
+ghost use Rattle.std.specs.Prelude.{◌≡◌, ◌⊎◌, ◌≤◌, ℕ, true, false, List, Some, length, take, drop, replicate, IfOk, IfErr, IfSome};
 ghost use Rattle.std.specs.Result.{IsErrAnd};
 ghost use Rattle.causes.specs.Causes.{Rose};
 ghost use Rattle.cell_format.specs.Spelling.{newest, header_text};
 ghost use Rattle.recovery.specs.declared.seen.OpenFault.{OpenFault};
 ghost use Rattle.recovery.specs.declared.seen.OpenFault.TheVariants.{OldLog};
-ghost use Rattle.recovery.specs.Faults.{HasOtherHead, IsFault, IsInBytes};
+ghost use Rattle.recovery.specs.Faults.{HasOtherHead, IsInBytes};
 ghost use Rattle.recovery.specs.Found.{IsWanted};
-ghost use Rattle.recovery.specs.Headers.{HasHeader, FailsHead};
+ghost use Rattle.recovery.specs.Headers.{HasHeader, HasHead, FailsHead};
 ghost use Rattle.recovery.specs.Reading.{OnlyReads};
-ghost use Rattle.recovery.specs.Walks.{IsOfHead};
 ghost use Rattle.recovery.specs.Widths.{IsWidth, HasWidth, IsHeadFault};
+ghost use Rattle.recovery.specs.Wanted.{IsWidthFor, IsNoWidthFor, IsOtherFor, IsFaultFor, MayTellHead, MayTellHeadFor};
 
 use crate::seen::{NEWEST, OpenFault};
 use cell_format::header;
@@ -31,6 +31,7 @@ pub fn width_of<D: LogDisk>(disk: &mut D) -> Result<u8, OpenFault>
     ensures known { IfOk result IsWidth }
     ensures told { IfOk result (λ w. (bytes : List ℕ) → (D.drive disk.old).bytes ≡ Some bytes → HasWidth w bytes) }
     ensures fault { IfErr result (λ e. (bytes : List ℕ) → (D.drive disk.old).bytes ≡ Some bytes → IsHeadFault bytes e) }
+    ensures may { IfErr result MayTellHead }
     ensures exact { (bytes : List ℕ) (fault : OpenFault) → (D.drive disk.old).bytes ≡ Some bytes → IsInBytes fault
         → IsHeadFault bytes fault → IsErrAnd result (λ e. (e ≡ fault) ⊎ Rose (D.drive disk.old).faults (D.drive disk.new).faults) }
     ensures whole { (bytes : List ℕ) (w : ℕ) → (D.drive disk.old).bytes ≡ Some bytes → HasWidth w bytes
@@ -38,8 +39,8 @@ pub fn width_of<D: LogDisk>(disk: &mut D) -> Result<u8, OpenFault>
     ensures reads { OnlyReads (D.drive disk.old) (D.drive disk.new) result }
 {
     let len = disk.len()?;
-    let head = read_head(disk, len)?;
-    head.known_width()
+    let head = read_wanted(disk, len, FIRST, None)?;
+    Ok(head.width)
 }
 
 /// Reads the head of a file of this length.
@@ -67,53 +68,49 @@ pub(crate) fn read_head<D: LogDisk>(disk: &mut D, len: u64) -> Result<Head, Open
     })
 }
 
-/// Reads the head of a file of this length, and says which version it names.
-pub(crate) fn test_header<D: LogDisk>(
+/// Reads the head of a file of this length, where it is that of a log that is wanted: of this version or a later one, and of the width
+/// that is named, or where none is, of either width.
+pub(crate) fn read_wanted<D: LogDisk>(
     disk: &mut D,
     len: u64,
     oldest: u8,
-    width: u8,
-) -> Result<u8, OpenFault>
+    wanted: Option<u8>,
+) -> Result<Head, OpenFault>
     requires len { (xs : List ℕ) → (D.drive disk.old).bytes ≡ Some xs → length xs ≡ len }
+    requires width { IfSome wanted IsWidth }
 
-    ensures ok { IfOk result (λ version. IsWanted oldest version × (17 ≤ len)
-        × ((xs : List ℕ) → (D.drive disk.old).bytes ≡ Some xs → HasHeader version width xs)) }
-    ensures err { IfErr result (λ e. (xs : List ℕ) → (D.drive disk.old).bytes ≡ Some xs → (most : ℕ) → IsFault oldest width most xs e) }
-    ensures head { IfErr result IsOfHead }
+    ensures ok { IfOk result (λ h. HasHead oldest wanted len (D.drive disk.old) h.version h.width) }
+    ensures err { IfErr result (λ e. (xs : List ℕ) → (D.drive disk.old).bytes ≡ Some xs → (most : ℕ) → IsFaultFor oldest wanted most xs e) }
+    ensures may { IfErr result (MayTellHeadFor oldest wanted) }
     ensures reads { OnlyReads (D.drive disk.old) (D.drive disk.new) result }
 {
     let head = read_head(disk, len)?;
-    head.wanted_version(oldest, width)
+    head.wanted(oldest, wanted)
 }
 
 impl Head {
-    /// The version, where it is at least the oldest one that is wanted and none that is yet to come, and the width is this one.
-    pub(crate) fn wanted_version(self, oldest: u8, width: u8) -> Result<u8, OpenFault>
-        ensures ok { IfOk result (λ v. IsWanted oldest v × (v ≡ self.version) × (width ≡ self.width)) }
-        ensures err { IfErr result (λ e. (e ≡ OldLog self.version self.width) × ((IsWanted oldest self.version → ⊥) ⊎ (self.width ≢ width))) }
+    /// The head, where it is that of a log that is wanted.
+    fn wanted(self, oldest: u8, wanted: Option<u8>) -> Result<Head, OpenFault>
+        ensures ok { IfOk result (λ h. (h ≡ self) × IsWanted oldest self.version × IsWidthFor wanted self.width) }
+        ensures err { IfErr result (λ e. (e ≡ OldLog self.version self.width) × IsOtherFor oldest wanted self.version self.width) }
     {
-        if self.version < oldest || NEWEST < self.version || self.width != width {
+        if self.version < oldest || NEWEST < self.version || !self.has_width(wanted) {
             return Err(OpenFault::OldLog {
                 version: self.version,
                 width: self.width,
             });
         }
-        Ok(self.version)
+        Ok(self)
     }
 
-    // The width, where the version is one that is read and the width one that is played.
-    fn known_width(self) -> Result<u8, OpenFault>
-        ensures ok { IfOk result (λ w. IsWanted 1 self.version × (w ≡ self.width) × IsWidth w) }
-        ensures err { IfErr result (λ e. (e ≡ OldLog self.version self.width) × ((IsWanted 1 self.version → ⊥) ⊎ ((self.width ≢ 1) × (self.width ≢ 2)))) }
+    fn has_width(self, wanted: Option<u8>) -> bool
+        ensures yes { result ≡ true → IsWidthFor wanted self.width }
+        ensures no { result ≡ false → IsNoWidthFor wanted self.width }
     {
-        if self.width != 1 && self.width != 2 {
-            return Err(OpenFault::OldLog {
-                version: self.version,
-                width: self.width,
-            });
+        match wanted {
+            Some(width) => self.width == width,
+            None => self.width == 1 || self.width == 2,
         }
-        let _version = self.wanted_version(FIRST, self.width)?;
-        Ok(self.width)
     }
 }
 

@@ -1,14 +1,15 @@
 //! Reads the cells of a log one by one, in pieces.
-ghost use Rattle.std.specs.Prelude.{◌≡◌, ◌≤◌, ◌+◌, ◌-◌, ◌*◌, ◌<◌, ◌⊎◌, [], ℕ, List, Some, false, take, drop, min, length, slice_index, OnOk, IfOk, IfErr};
+ghost use Rattle.std.specs.Prelude.{◌≡◌, ◌≤◌, ◌+◌, ◌-◌, ◌*◌, ◌<◌, ◌⊎◌, [], ℕ, List, Some, false, take, drop, min, length, slice_index, OnOk, IfOk, IfErr, IfSome};
 ghost use Rattle.cell_format.specs.declared.cell.Cell.{Cell};
 ghost use Rattle.disk_trait.specs.Drive.{Stays, CountsFaults};
-ghost use Rattle.recovery.specs.Faults.{IsFault};
-ghost use Rattle.recovery.specs.Found.{IsWanted};
-ghost use Rattle.recovery.specs.Reading.{Starts, Advances, WalksOn, IsFilled, IsEmptied, NeedsNoPiece, Stops, IsSeenOf, OnlyReads, ReadsPiece};
+ghost use Rattle.recovery.specs.Faults.{IsInBytes};
+ghost use Rattle.recovery.specs.Reading.{StartsFor, IsBehind, Advances, WalksOn, IsFilled, IsEmptied, NeedsNoPiece, Stops, IsSeenOf, OnlyReads, ReadsPiece};
 ghost use Rattle.recovery.specs.Walks.{IsOfHead};
+ghost use Rattle.recovery.specs.Widths.{IsWidth};
+ghost use Rattle.recovery.specs.Wanted.{IsFaultFor, MayTellFor};
 ghost use Rattle.recovery.specs.Room.{IsNoLess, HasRoom, HasRoomForMore};
 
-use crate::heads::test_header;
+use crate::heads::read_wanted;
 use crate::pieces::{CELL, damaged, walk_front};
 use crate::replay::Replay;
 use crate::room::Room;
@@ -38,6 +39,7 @@ pub(crate) struct Reading {
 
 impl Model for Reading {
     ghost use Rattle.std.specs.Prelude.{take, drop};
+    ghost use Rattle.recovery.specs.Faults.{IsInBytes};
     ghost use Rattle.recovery.specs.Reading.{ReadingView, IsReading};
 
     ghost Value = { ReadingView };
@@ -48,25 +50,25 @@ impl Model for Reading {
 }
 
 impl Reading {
-    /// Reads the head of a log, where its version is at least the oldest one that is wanted.
+    /// Reads the head of a log that is wanted.
     pub(crate) fn start<D: LogDisk>(
         alloc: Global,
         disk: &mut D,
         oldest: u8,
-        width: u8,
+        wanted: Option<u8>,
         most: u64,
     ) -> Result<Reading, OpenFault>
         requires oldest { 1 ≤ oldest }
-        requires width { (width ≡ 1) ⊎ (width ≡ 2) }
+        requires width { IfSome wanted IsWidth }
 
-        ensures ok { IfOk result (Starts oldest width most (D.drive disk.old)) }
-        ensures err { IfErr result (λ e. (xs : List ℕ) → (D.drive disk.old).bytes ≡ Some xs → IsFault oldest width most xs e) }
-        ensures head { IfErr result IsOfHead }
+        ensures ok { IfOk result (StartsFor oldest wanted most (D.drive disk.old)) }
+        ensures err { IfErr result (λ e. (xs : List ℕ) → (D.drive disk.old).bytes ≡ Some xs → IsFaultFor oldest wanted most xs e) }
+        ensures head { IfErr result (λ e. IsOfHead e × MayTellFor oldest wanted most e) }
         ensures reads { OnlyReads (D.drive disk.old) (D.drive disk.new) result }
     {
         let len = disk.len()?;
-        let version = test_header(disk, len, oldest, width)?;
-        let replay = Replay::new(alloc, version, width)?;
+        let head = read_wanted(disk, len, oldest, wanted)?;
+        let replay = Replay::new(alloc, head.version, head.width)?;
         let buffer = vec![in alloc; 0; PIECE]?;
         Ok(Reading {
             replay,
@@ -102,10 +104,21 @@ impl Reading {
         let from = 16 + 32 * self.number;
         let got = read_piece(disk, &mut self.buffer, from, self.len)?;
         if got == 0 {
-            return Err(damaged(self.number, Cause::ShortCell));
+            return Err(self.unread());
         }
         self.filled = got;
         Ok(())
+    }
+
+    /// What is at fault where the next commit byte, which was there, can't be read any more: it counts as set.
+    fn unread(&self) -> OpenFault
+        ensures behind { IsBehind self.now.most self.now.number result }
+        ensures other { IsInBytes result }
+    {
+        if self.number == self.most {
+            return OpenFault::TooLong { most: self.most };
+        }
+        damaged(self.number, Cause::ShortCell)
     }
 
     /// Whether what is left of the piece doesn't tell the next cell.
@@ -144,6 +157,14 @@ impl Reading {
         ensures { IsSeenOf self.now result }
     {
         self.replay.seen_in(room, self.number)
+    }
+
+    /// The width that the head names.
+    pub(crate) fn width(&self) -> u8
+        ensures is { result ≡ self.now.replay.width }
+        ensures known { IsWidth self.now.replay.width }
+    {
+        self.replay.width()
     }
 
     /// How long the file is.

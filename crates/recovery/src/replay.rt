@@ -73,6 +73,14 @@ impl Replay {
         })
     }
 
+    /// The width of its splits.
+    pub(crate) fn width(&self) -> u8
+        ensures value { result ≡ self.now.width }
+        ensures known { (self.now.width ≡ 1) ⊎ (self.now.width ≡ 2) }
+    {
+        self.width
+    }
+
     /// The version of the log.
     pub(crate) fn version(&self) -> u8
         ensures value { result ≡ self.now.version }

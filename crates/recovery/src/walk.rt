@@ -1,14 +1,16 @@
 //! Walks over the cells of a log.
-ghost use Rattle.std.specs.Prelude.{◌≡◌, ◌⊎◌, ◌≤◌, ℕ, List, [], length, Some, Ok, Err, slice_index, IfOk, IfErr, MatchResult};
+ghost use Rattle.std.specs.Prelude.{◌≡◌, ◌⊎◌, ◌≤◌, ℕ, List, [], length, Some, Ok, Err, slice_index, IfOk, IfErr, IfSome, MatchResult};
 ghost use Rattle.std.specs.Result.{IsErrAnd};
 ghost use Rattle.cell_format.specs.declared.cell.Cell.{Cell};
 ghost use Rattle.log_state.specs.Recovers.{Recovers};
 ghost use Rattle.recovery.specs.declared.seen.OpenFault.{OpenFault};
 ghost use Rattle.recovery.specs.Faults.{IsFault, IsInBytes};
 ghost use Rattle.recovery.specs.Found.{Finds, IsWanted, IsFree};
-ghost use Rattle.recovery.specs.Reading.{Starts, OnlyReads};
+ghost use Rattle.recovery.specs.Reading.{StartsFor, OnlyReads};
 ghost use Rattle.recovery.specs.Room.{HasRoom};
-ghost use Rattle.recovery.specs.Walks.{ComesTo, TellsWalked, TellsFault, TellsAll, IsOfHead};
+ghost use Rattle.recovery.specs.Walks.{ComesTo, ComesAlong, RefusesWalk, TellsWalked, TellsFault, TellsAll, IsOfHead};
+ghost use Rattle.recovery.specs.Widths.{IsWidth, HasWidth, IsLogFault, ShowsFault};
+ghost use Rattle.recovery.specs.Wanted.{IsWidthFor, IsFaultFor, MayTell, MayTellLog};
 
 use crate::heads::FIRST;
 use crate::reading::Reading;
@@ -46,25 +48,58 @@ pub struct WalkEnd<D: Drop> {
 }
 
 impl<D: LogDisk> Walk<D> {
-    /// Begins before the first cell of a log of version 1 or 2 whose splits make `2 ^ width` children, where there may be at most
-    /// `most` cells.
-    pub fn start(
-        alloc: Global,
-        mut disk: D,
-        width: u8,
-        most: u64,
-    ) -> Result<Walk<D>, OpenRefused<D>>
+    /// Begins before the first cell of a log of version 1 or 2, by the width that its head names, where there may be at most `most` cells.
+    pub fn along(alloc: Global, disk: D, most: u64) -> Result<Walk<D>, OpenRefused<D>>
+        ensures begins { IfOk result (λ w. ComesAlong w.reading.replay.width most [] (D.drive w.disk) w) }
+        ensures fault { IfErr result (λ e. ShowsFault 1 most (D.drive disk) e.cause × IsOfHead e.cause × MayTellLog 1 most e.cause) }
+        ensures exact { (bytes : List ℕ) (fault : OpenFault) → (D.drive disk).bytes ≡ Some bytes → IsInBytes fault → IsOfHead fault
+            → IsLogFault 1 most bytes fault
+            → IsErrAnd result (λ e. (e.cause ≡ fault) ⊎ IsFree (D.drive disk) (D.drive e.disk) e.cause) }
+        ensures whole { (bytes : List ℕ) (w : ℕ) → (D.drive disk).bytes ≡ Some bytes → HasWidth w bytes
+            → IfErr result (λ e. IsFree (D.drive disk) (D.drive e.disk) e.cause) }
+        ensures reads { MatchResult result (λ w. OnlyReads {T = Unit {0}} (D.drive disk) (D.drive w.disk) (Ok tt))
+            (λ e. OnlyReads {T = Unit {0}} (D.drive disk) (D.drive e.disk) (Err e.cause)) }
+    {
+        Walk::begin(alloc, disk, None, most)
+    }
+
+    /// The same in a log whose splits make `2 ^ width` children.
+    pub fn start(alloc: Global, disk: D, width: u8, most: u64) -> Result<Walk<D>, OpenRefused<D>>
         requires width { (width ≡ 1) ⊎ (width ≡ 2) }
 
         ensures begins { IfOk result (λ w. ComesTo width most [] (D.drive w.disk) w) }
         ensures fault { IfErr result (λ e. (bytes : List ℕ) → (D.drive disk).bytes ≡ Some bytes → IsFault 1 width most bytes e.cause) }
         ensures head { IfErr result (λ e. IsOfHead e.cause) }
+        ensures may { IfErr result (λ e. MayTell 1 width most e.cause) }
         ensures exact { (bytes : List ℕ) (fault : OpenFault) → (D.drive disk).bytes ≡ Some bytes → IsInBytes fault → IsOfHead fault
             → IsFault 1 width most bytes fault → IsErrAnd result (λ e. (e.cause ≡ fault) ⊎ IsFree (D.drive disk) (D.drive e.disk) e.cause) }
         ensures reads { MatchResult result (λ w. OnlyReads {T = Unit {0}} (D.drive disk) (D.drive w.disk) (Ok tt))
             (λ e. OnlyReads {T = Unit {0}} (D.drive disk) (D.drive e.disk) (Err e.cause)) }
     {
-        match begin(alloc, &mut disk, width, most) {
+        Walk::begin(alloc, disk, Some(width), most)
+    }
+
+    // The same in a log that is wanted.
+    fn begin(
+        alloc: Global,
+        mut disk: D,
+        wanted: Option<u8>,
+        most: u64,
+    ) -> Result<Walk<D>, OpenRefused<D>>
+        requires width { IfSome wanted IsWidth }
+
+        ensures begins { IfOk result (λ w. IsWidthFor wanted w.reading.replay.width
+            × ComesAlong w.reading.replay.width most [] (D.drive w.disk) w) }
+        ensures fault { IfErr result (λ e. RefusesWalk wanted most (D.drive disk) e.cause) }
+        ensures exact { (bytes : List ℕ) (fault : OpenFault) → (D.drive disk).bytes ≡ Some bytes → IsInBytes fault → IsOfHead fault
+            → IsFaultFor 1 wanted most bytes fault
+            → IsErrAnd result (λ e. (e.cause ≡ fault) ⊎ IsFree (D.drive disk) (D.drive e.disk) e.cause) }
+        ensures whole { (bytes : List ℕ) (w : ℕ) → (D.drive disk).bytes ≡ Some bytes → IsWidthFor wanted w → HasWidth w bytes
+            → IfErr result (λ e. IsFree (D.drive disk) (D.drive e.disk) e.cause) }
+        ensures reads { MatchResult result (λ w. OnlyReads {T = Unit {0}} (D.drive disk) (D.drive w.disk) (Ok tt))
+            (λ e. OnlyReads {T = Unit {0}} (D.drive disk) (D.drive e.disk) (Err e.cause)) }
+    {
+        match read_first(alloc, &mut disk, wanted, most) {
             Ok((reading, room)) => Ok(Walk {
                 disk,
                 reading,
@@ -72,6 +107,14 @@ impl<D: LogDisk> Walk<D> {
             }),
             Err(cause) => Err(OpenRefused { disk, cause }),
         }
+    }
+
+    /// The width of the log's splits.
+    pub fn width(&self) -> u8
+        ensures is { result ≡ self.now.reading.replay.width }
+        ensures known { IsWidth self.now.reading.replay.width }
+    {
+        self.reading.width()
     }
 
     /// Goes over the next cell, and says what it was; none where there are no more. A fault leaves the walk where it was, so that
@@ -111,21 +154,20 @@ impl<D: LogDisk> Walk<D> {
     }
 }
 
-/// Reads the head of a log, and takes the room to tell that it has no cells.
-fn begin<D: LogDisk>(
+/// Reads the head of a log that is wanted, and takes the room to tell that it has no cells.
+fn read_first<D: LogDisk>(
     alloc: Global,
     disk: &mut D,
-    width: u8,
+    wanted: Option<u8>,
     most: u64,
 ) -> Result<(Reading, Room), OpenFault>
-    requires width { (width ≡ 1) ⊎ (width ≡ 2) }
+    requires width { IfSome wanted IsWidth }
 
-    ensures starts { IfOk result (λ r. Starts 1 width most (D.drive disk.old) r.0 × HasRoom r.0.replay.state r.1) }
-    ensures fault { IfErr result (λ e. (bytes : List ℕ) → (D.drive disk.old).bytes ≡ Some bytes → IsFault 1 width most bytes e) }
-    ensures head { IfErr result IsOfHead }
+    ensures starts { IfOk result (λ r. StartsFor 1 wanted most (D.drive disk.old) r.0 × HasRoom r.0.replay.state r.1) }
+    ensures fault { IfErr result (RefusesWalk wanted most (D.drive disk.old)) }
     ensures reads { OnlyReads (D.drive disk.old) (D.drive disk.new) result }
 {
-    let reading = Reading::start(alloc, disk, FIRST, width, most)?;
+    let reading = Reading::start(alloc, disk, FIRST, wanted, most)?;
     let mut room = Room::new(alloc);
     reading.make_room(&mut room)?;
     Ok((reading, room))

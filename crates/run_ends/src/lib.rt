@@ -7,6 +7,7 @@
 //! Not here: what a command does (`log_run`, `play_run`), which command words ask for (`location_run`), the texts of lines (`csv_rows`).
 #![tactic(auto)]
 
+mod attaching;
 mod ended;
 mod input;
 mod limits;
@@ -14,6 +15,7 @@ mod log_faults;
 mod refusals;
 mod writing;
 
+pub use attaching::attach;
 pub use ended::{Ended, refuse_on, without_rows};
 pub use input::{read_bytes, read_judged, refusal_of};
 pub use limits::{MOST_INSPECTED, MOST_PLAYED, TRIAL_BUCKET};

@@ -1,9 +1,11 @@
 use Rattle.log_state.specs.Recovers.{Recovers}
+use Rattle.recovery.specs.Found.{IsNewest}
 use Rattle.std.proofs.Common.{inl, inr, true, false, [], ◌∷◌, Some, take, is_some, sym, ap, ◌∙◌, arith}
 use Rattle.std.proofs.lemmas.List.{take_all}
 use Rattle.disk_trait.proofs.Calls.{made-then}
+use Rattle.disk_trait.proofs.Stretches.{started}
 use Rattle.recovery.proofs.MakingLemmas.{not_made}
-use Rattle.recovery.proofs.OpeningLemmas.{leaves-trans, leaves-sync, leaves-cut, cut_failed, counts_on}
+use Rattle.recovery.proofs.OpeningLemmas.{leaves-trans, leaves-sync, leaves-cut, newest-cut, cut_failed, counts_on}
 use Rattle.recovery.proofs.opening.cut_behind.Goals as goal
 
 pub returns-in_err-cut-clause-any_moment : goal.returns-in_err-cut-clause-any_moment
@@ -87,3 +89,23 @@ returns-in_ok-sync-clause-calls g c =
 pub returns-else-len-end-clause-calls : goal.returns-else-len-end-clause-calls
 returns-else-len-end-clause-calls g c =
     inl (omega (arith, c.requires.within, c.if-len-end.false), λ all told. told)
+
+pub returns-in_err-cut-clause-newest : goal.returns-in_err-cut-clause-newest
+returns-in_err-cut-clause-newest g c long now =
+    (newest-cut c.args.end (g.D.LogDisk.drive c.args.disk.now) (g.D.LogDisk.drive c.cut.new.self) c.cut.result long (g.met.D.LogDisk.keeps_laws c.args.disk.now) c.cut.ensures.cuts now).0
+
+pub returns-in_err-sync-clause-newest : goal.returns-in_err-sync-clause-newest
+returns-in_err-sync-clause-newest g c long now =
+    let cut = newest-cut c.args.end (g.D.LogDisk.drive c.args.disk.now) (g.D.LogDisk.drive c.cut.new.self) c.cut.result long (g.met.D.LogDisk.keeps_laws c.args.disk.now) c.cut.ensures.cuts now in
+    leaves-trans (g.D.LogDisk.drive c.args.disk.now) (g.D.LogDisk.drive c.cut.new.self) (g.D.LogDisk.drive c.sync.new.self) IsNewest cut.0
+    (leaves-sync (g.D.LogDisk.drive c.cut.new.self) (g.D.LogDisk.drive c.sync.new.self) IsNewest c.sync.result (g.met.D.LogDisk.keeps_laws c.cut.new.self) cut.1 c.sync.ensures.syncs)
+
+pub returns-in_ok-sync-clause-newest : goal.returns-in_ok-sync-clause-newest
+returns-in_ok-sync-clause-newest g c long now =
+    let cut = newest-cut c.args.end (g.D.LogDisk.drive c.args.disk.now) (g.D.LogDisk.drive c.cut.new.self) c.cut.result long (g.met.D.LogDisk.keeps_laws c.args.disk.now) c.cut.ensures.cuts now in
+    leaves-trans (g.D.LogDisk.drive c.args.disk.now) (g.D.LogDisk.drive c.cut.new.self) (g.D.LogDisk.drive c.sync.new.self) IsNewest cut.0
+    (leaves-sync (g.D.LogDisk.drive c.cut.new.self) (g.D.LogDisk.drive c.sync.new.self) IsNewest c.sync.result (g.met.D.LogDisk.keeps_laws c.cut.new.self) cut.1 c.sync.ensures.syncs)
+
+pub returns-else-len-end-clause-newest : goal.returns-else-len-end-clause-newest
+returns-else-len-end-clause-newest g c long now =
+    started (g.D.LogDisk.drive c.args.disk.now) IsNewest (g.met.D.LogDisk.keeps_laws c.args.disk.now) now
