@@ -1,17 +1,20 @@
 -- What a crash leaves on the way from a small file to a log of all cells.
-use Rattle.std.proofs.Common.{◌≡◌, inl, inr, ℕ, ◌≤◌, List, [], ◌∷◌, length, Option, Some, refl, sym, ◌∙◌, ap, arith, length-append}
+use Rattle.std.proofs.Common.{◌≡◌, inl, inr, ℕ, ◌≤◌, List, [], ◌∷◌, length, Option, Some, refl, sym, ◌∙◌, ap, subst, ⊎_elim, arith, length-append, ◌⊎◌}
 use Rattle.cell_format.specs.declared.cell.Cell.{Cell}
 use Rattle.cell_format.specs.Spelling.{newest}
-use Rattle.disk_trait.specs.Drive.{Drive, SameFile}
+use Rattle.causes.specs.Causes.{Rose}
+use Rattle.disk_trait.specs.Drive.{Drive, HasNoMore, StopsAfter, SameFile}
 use Rattle.disk_trait.specs.Moments.{LeavesOnly}
 use Rattle.disk_trait.proofs.Told.{told_before}
 use Rattle.split_log.specs.LogText.{HoldsCells, HoldsAllOrNone, IsLog, front_of}
 use Rattle.split_log.proofs.Cells.{length-front_of}
 use Rattle.split_log.proofs.Commits.{joined}
 use Rattle.log_state.specs.Recovers.{Recovers, IsLegalCells}
-use Rattle.recovery.specs.Making.{IsSmall, Makes, KeepsSmall}
+use Rattle.recovery.specs.Calls.{AllWentWell, EndsAtFault, StopsAtFault}
+use Rattle.recovery.specs.Making.{IsSmall, Makes, KeepsSmall, FailsToMake}
+use Rattle.recovery.proofs.CallLemmas.{well-none, well-then, ends-then}
 use Rattle.log_compact.specs.Staging.{IsEmpty}
-use Rattle.log_compact.specs.Compacting.{IsCompacted, IsOnWay, KeepsOnWay}
+use Rattle.log_compact.specs.Compacting.{IsCompacted, FailsToCompact, IsOnWay, KeepsOnWay}
 
 recovers : (w : ℕ) (cells : List Cell) (c : List ℕ) → HoldsCells newest w cells c → IsLegalCells w cells → Recovers w cells c
 recovers w cells c holds legal = record { version = 2; known = inr refl; holds = holds; legal = legal }
@@ -36,11 +39,27 @@ module _ (w : ℕ) (cells : List Cell) (legal : IsLegalCells w cells) (old mid n
       file = λ all told. kept.file all (file all told);
     }
 
-  pub compacted : Makes w old mid → (IsLog w [] mid → IsLog w cells new) → new.faults ≡ mid.faults → IsCompacted w cells old new
-  compacted made written same = record {
+  pub compacted : Makes w old mid → (IsLog w [] mid → IsLog w cells new) → new.faults ≡ mid.faults → AllWentWell mid new → IsCompacted w cells old new
+  compacted made written same calls = record {
     log = λ bytes told. ((made.log bytes told).0, written (made.log bytes told).1);
     same = same ∙ made.same;
+    calls = well-then old mid new (record { count = 2; calls = made.calls }) calls;
   }
+
+  -- the drive failed while the cells were written
+  pub failed-after : Makes w old mid → Rose mid.faults new.faults → EndsAtFault mid new → FailsToCompact old new
+  failed-after made rose ended = record {
+    rose = subst (λ (n : ℕ). Rose n new.faults) made.same rose;
+    calls = inr (ends-then old mid new (record { count = 2; calls = made.calls }) ended);
+  }
+
+-- the drive failed while the log of no cells was made
+pub failed-making : (old new : Drive) → FailsToMake old new → FailsToCompact old new
+failed-making old new fails = record { rose = fails.rose; calls = by_case fails.calls }
+  where
+    by_case : HasNoMore old.calls new.calls ⊎ ((went_well : ℕ) × StopsAfter 1 went_well old new) → StopsAtFault old new
+    by_case (inl none) = inl (well-none old new none)
+    by_case (inr (k, stops)) = inr (record { went_well = k; calls = stops.calls })
 
 some_same : (a b : List ℕ) → ◌≡◌ {A = Option (List ℕ)} (Some a) (Some b) → a ≡ b
 some_same a b e = cc e

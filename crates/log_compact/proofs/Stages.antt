@@ -3,7 +3,7 @@ use Rattle.std.proofs.Common.{◌≡◌, ℕ, ◌+◌, ◌*◌, ◌≤◌, List,
 use Rattle.std.proofs.lemmas.List.{append-nil, take_at, take_all, drop_all, take-take}
 use Rattle.std.specs.List.{flat_map}
 use Rattle.disk_trait.specs.declared.disk.DiskFault.{DiskFault}
-use Rattle.disk_trait.specs.Drive.{Drive, SameFile, KeepsLaws, Writes, Torn, Holds}
+use Rattle.disk_trait.specs.Drive.{Drive, SameFile, KeepsLaws, Writes, Torn, Holds, MadeWell}
 use Rattle.disk_trait.specs.Moments.{LeavesOnly, LeavesNow}
 use Rattle.disk_trait.proofs.Stretches.{goes_on}
 use Rattle.disk_trait.proofs.Told.{told_before}
@@ -15,6 +15,7 @@ use Rattle.split_log.specs.Commit.{IsUncommitted}
 use Rattle.split_log.proofs.Cells.{length-front_of, length-cells, holds_front}
 use Rattle.split_log.proofs.Kept.{leaves_now}
 use Rattle.split_log.proofs.Placing.{before_all}
+use Rattle.recovery.proofs.CallLemmas.{well-none, well-then}
 use Rattle.log_compact.specs.Staging.{AreCells, staged, IsStaging, IsEmpty}
 
 -- an empty log has 17 bytes
@@ -68,9 +69,10 @@ module _ (start now next : Drive) (laws : KeepsLaws now) (at : ℕ) (piece : Lis
         omega (arith, ap length (some_same ys zs (sym told ∙ there) ∙ held-past xs piece zs at (whole xs before) holds), length-append xs piece, whole xs before)
 
     -- a piece more was sent
-    pub staging-more : (all rest left : List Cell) (staging : IsStaging all rest at start now) → behind_first rest ≡ piece ++ behind_first left → (AreCells left → AreCells rest) → next.faults ≡ now.faults → SameFile now next
+    pub staging-more : (all rest left : List Cell) (staging : IsStaging all rest at start now) → behind_first rest ≡ piece ++ behind_first left → (AreCells left → AreCells rest) → next.faults ≡ now.faults
+        → MadeWell 1 now next → SameFile now next
         → IsStaging all left (at + length piece) start next
-    staging-more all rest left staging parts fits same file = record {
+    staging-more all rest left staging parts fits same made file = record {
       sent = staging.sent ++ piece;
       parts = staging.parts ∙ ap (λ (l : List ℕ). staging.sent ++ l) parts ∙ sym (append_assoc staging.sent piece (behind_first left));
       at_is = omega (arith, staging.at_is, length-append staging.sent piece);
@@ -79,6 +81,7 @@ module _ (start now next : Drive) (laws : KeepsLaws now) (at : ℕ) (piece : Lis
       alone = λ w log. still-alone w (staging.alone w log);
       fits = λ ok. staging.fits (fits ok);
       same = same ∙ staging.same;
+      calls = well-then start now next staging.calls (record { count = 1; calls = made });
       file = λ seen told. staging.file seen (file seen told);
     }
 
@@ -93,6 +96,7 @@ staging-none all start laws empty = record {
   alone = λ w log. before_all w [] start laws log;
   fits = λ ok. ok;
   same = refl;
+  calls = well-none start start (λ all told. told);
   file = λ seen told. told;
 }
 

@@ -6,6 +6,7 @@ use Rattle.disk_trait.specs.Moments.{LeavesNow, LeavesOnly}
 use Rattle.cell_format.specs.declared.cell.Cell.{Cell}
 use Rattle.split_log.specs.LogText.{IsLog}
 use Rattle.log_state.specs.Recovers.{Recovers}
+use Rattle.recovery.specs.Calls.{AllWentWell, StopsAtFault}
 use Rattle.recovery.specs.Making.{IsSmall}
 use Rattle.recovery.specs.declared.seen.InitFault.{InitFault}
 use Rattle.recovery.specs.declared.seen.InitFault.TheVariants as init
@@ -21,12 +22,18 @@ fault_of init.Disk = Disk
 pub record IsCompacted (w : ℕ) (cells : List Cell) (old new : Drive) : Type 0 where
   pub log : (bytes : List ℕ) → old.bytes ≡ Some bytes → IsSmall bytes × IsLog w cells new
   pub same : new.faults ≡ old.faults
+  pub calls : AllWentWell old new
+
+-- the drive failed, and no call was made behind the one that did
+pub record FailsToCompact (old new : Drive) : Type 0 where
+  pub rose : Rose old.faults new.faults
+  pub calls : StopsAtFault old new
 
 -- the file is longer, nothing was done to it, and no device call failed; or the drive failed
 abbrev pub RefusesCompact : Drive → Drive → CompactFault → Type 0
 RefusesCompact old new (InUse len) =
     (17 < len) × ((bytes : List ℕ) → old.bytes ≡ Some bytes → len ≡ length bytes) × Stays old new × (new.faults ≡ old.faults)
-RefusesCompact old new Disk = Rose old.faults new.faults
+RefusesCompact old new Disk = FailsToCompact old new
 
 -- an image on the way: small, or a log of no cell, or of all of them
 abbrev pub IsOnWay : ℕ → List Cell → List ℕ → Type 0

@@ -6,6 +6,7 @@ use Rattle.cell_format.specs.Spelling.{newest, IsCell}
 use Rattle.disk_trait.specs.Drive.{Drive, SameFile}
 use Rattle.disk_trait.specs.Moments.{LeavesOnly}
 use Rattle.split_log.specs.LogText.{front_of, behind_first, IsLog, HoldsCells}
+use Rattle.recovery.specs.Calls.{AllWentWell}
 
 -- the cells that are left, with one that was taken already
 abbrev pub and_taken : Option Cell → List Cell → List Cell
@@ -33,4 +34,5 @@ pub record IsStaging (all rest : List Cell) (at : ℕ) (start now : Drive) : Typ
   pub alone : (w : ℕ) → IsLog w [] start → LeavesOnly start now (HoldsCells newest w [])
   pub fits : AreCells rest → AreCells all
   pub same : now.faults ≡ start.faults
+  pub calls : AllWentWell start now
   pub file : SameFile start now

@@ -1,10 +1,11 @@
 //! Writes cells behind the clear commit byte of an empty log, and sets that byte at last.
-ghost use Rattle.std.specs.Prelude.{◌≡◌, ◌<◌, ◌≤◌, ◌^◌, ◌∷◌, [], ℕ, OnOk, length};
+ghost use Rattle.std.specs.Prelude.{◌≡◌, ◌<◌, ◌≤◌, ◌^◌, ◌∷◌, [], ℕ, OnOk, OnErr, length};
 ghost use Rattle.disk_trait.specs.Drive.{CountsFaults, IsWithin};
 ghost use Rattle.disk_trait.specs.Moments.{LeavesOnly};
 ghost use Rattle.cell_format.specs.Spelling.{newest};
 ghost use Rattle.split_log.specs.LogText.{IsLog, HoldsCells, HoldsAllOrNone};
 ghost use Rattle.split_log.specs.Commit.{IsUncommitted};
+ghost use Rattle.recovery.specs.Calls.{AllWentWell, EndsAtFault};
 ghost use Rattle.log_compact.specs.Staging.{IsEmpty};
 
 use crate::cells::FreshCells;
@@ -24,6 +25,8 @@ pub(crate) fn write_cells<D: LogDisk>(disk: &mut D, mut cells: FreshCells) -> Re
     ensures any_moment { (w : ℕ) → IsLog w [] (D.drive disk.old)
         → LeavesOnly (D.drive disk.old) (D.drive disk.new) (HoldsAllOrNone w [] cells.entry) }
     ensures written { OnOk result ((w : ℕ) → IsLog w [] (D.drive disk.old) → IsLog w cells.entry (D.drive disk.new)) }
+    ensures calls { OnOk result (AllWentWell (D.drive disk.old) (D.drive disk.new)) }
+    ensures stopped { OnErr result (EndsAtFault (D.drive disk.old) (D.drive disk.new)) }
     ensures cause { CountsFaults (D.drive disk.old) (D.drive disk.new) result }
 {
     let Some(first) = cells.next() else {
@@ -43,6 +46,8 @@ fn stage<D: LogDisk>(disk: &mut D, first: Cell, mut cells: FreshCells) -> Result
     ensures staged { OnOk result ((w : ℕ) → IsLog w [] (D.drive disk.old)
         → IsUncommitted w 16 [] (first ∷ cells.entry) (D.drive disk.new)) }
     ensures far { OnOk result (IsWithin (D.drive disk.new) 16) }
+    ensures calls { OnOk result (AllWentWell (D.drive disk.old) (D.drive disk.new)) }
+    ensures stopped { OnErr result (EndsAtFault (D.drive disk.old) (D.drive disk.new)) }
     ensures cause { CountsFaults (D.drive disk.old) (D.drive disk.new) result }
 {
     let mut piece = [0; PIECE];

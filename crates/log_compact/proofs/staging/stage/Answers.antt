@@ -3,6 +3,9 @@ use Rattle.std.proofs.Common.{◌≡◌, ◌+◌, ◌*◌, ◌^◌, ◌≤◌, �
 use Rattle.cell_format.specs.declared.cell.Cell.{Cell}
 use Rattle.disk_trait.specs.Drive.{Drive}
 use Rattle.split_log.specs.LogText.{behind_first}
+use Rattle.plain_list.proofs.MemberMaps.{on_err_anyway}
+use Rattle.recovery.specs.Calls.{EndsAtFault}
+use Rattle.recovery.proofs.CallLemmas.{ends-then}
 use Rattle.log_compact.specs.Staging.{and_taken, IsStaging}
 use Rattle.log_compact.proofs.Stages.{staging-none, staging-more, staged-all, still-alone, length-behind_first}
 use Rattle.log_compact.proofs.staging.stage.Goals as goal
@@ -50,7 +53,7 @@ pieces-preserved g c =
     let long : length sent ≡ c.fill-filled.result.0 = omega (arith, length-take c.fill-filled.result.0 c.fill-filled.new.piece, c.fill-filled.ensures.most, c.fill-filled.array_long) in
     subst (λ n. IsStaging all left (c.pieces.at + n) here next) long
     (staging-more here now next (g.met.D.LogDisk.keeps_laws c.pieces.disk) c.pieces.at sent c.write.result (omega (arith, so_far.at_is)) c.write.ensures.writes
-    c.in_ok-write.ensures.writes.done so_far.whole all rest left so_far c.fill-filled.ensures.text c.fill-filled.ensures.fits c.in_ok-write.ensures.cause.same c.in_ok-write.ensures.cause.file)
+    c.in_ok-write.ensures.writes.done so_far.whole all rest left so_far c.fill-filled.ensures.text c.fill-filled.ensures.fits c.in_ok-write.ensures.cause.same c.in_ok-write.ensures.made c.in_ok-write.ensures.cause.file)
 
 pub returns-clause-staged : goal.returns-clause-staged
 returns-clause-staged g c w log =
@@ -59,3 +62,12 @@ returns-clause-staged g c w log =
     let now = g.D.LogDisk.drive c.pieces.disk in
     staged-all c.args.first c.args.cells c.pieces.at here now (g.met.D.LogDisk.keeps_laws c.pieces.disk)
     (subst (λ held. IsStaging all (and_taken held c.pieces.cells) c.pieces.at here now) c.in_default.is c.pieces.invariant) w log
+
+pub returns-in_err-write-clause-stopped : goal.returns-in_err-write-clause-stopped
+returns-in_err-write-clause-stopped g c =
+    on_err_anyway c.from_residual.result (EndsAtFault (g.D.LogDisk.drive c.args.disk.now) (g.D.LogDisk.drive c.write.new.self))
+    (ends-then (g.D.LogDisk.drive c.args.disk.now) (g.D.LogDisk.drive c.pieces.disk) (g.D.LogDisk.drive c.write.new.self) c.pieces.invariant.calls
+    (record { went_well = 0; calls = c.in_err-write.ensures.made }))
+
+pub returns-clause-calls : goal.returns-clause-calls
+returns-clause-calls g c = c.pieces.invariant.calls

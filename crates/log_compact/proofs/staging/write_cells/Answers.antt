@@ -1,6 +1,7 @@
 -- Until the first commit byte is set a crash leaves no cell, and from then on none or all.
 use Rattle.std.proofs.Common.{List, [], ◌∷◌, sym, subst}
-use Rattle.std.proofs.lemmas.Result.{on_ok_weaker}
+use Rattle.std.proofs.lemmas.Result.{on_ok_weaker, on_err_weaker}
+use Rattle.recovery.proofs.CallLemmas.{well-then, ends-then}
 use Rattle.cell_format.specs.declared.cell.Cell.{Cell}
 use Rattle.disk_trait.specs.Moments.{LeavesOnly}
 use Rattle.split_log.specs.LogText.{IsLog, HoldsAllOrNone}
@@ -26,3 +27,14 @@ pub returns-clause-cause : goal.returns-clause-cause
 returns-clause-cause g c =
     counts-then (g.D.LogDisk.drive c.args.disk.now) (g.D.LogDisk.drive c.stage.new.disk) (g.D.LogDisk.drive c.commit.new.disk) c.commit.result
     c.in_ok-stage.ensures.cause.same c.in_ok-stage.ensures.cause.file c.commit.ensures.cause
+
+pub returns-clause-calls : goal.returns-clause-calls
+returns-clause-calls g c = on_ok_weaker c.commit.result (λ made.
+    well-then (g.D.LogDisk.drive c.args.disk.now) (g.D.LogDisk.drive c.stage.new.disk) (g.D.LogDisk.drive c.commit.new.disk) c.in_ok-stage.ensures.calls (record { count = 3; calls = made }))
+    c.commit.ensures.calls
+
+pub returns-clause-stopped : goal.returns-clause-stopped
+returns-clause-stopped g c = on_err_weaker c.commit.result (λ stopped.
+    ends-then (g.D.LogDisk.drive c.args.disk.now) (g.D.LogDisk.drive c.stage.new.disk) (g.D.LogDisk.drive c.commit.new.disk) c.in_ok-stage.ensures.calls
+    (record { went_well = stopped.went_well; calls = stopped.stops.calls }))
+    c.commit.ensures.stopped
