@@ -141,11 +141,12 @@ def empty_leaves():
 
 
 def leave(count, draw):
-    return [move(i, *anywhere(draw)) for i in range(count)]
+    return [move(i, *anywhere(draw)) for i in draw.sample(range(10**6), count)]
 
 
 def leave_and_ask(count, draw):
-    return [move(k, *anywhere(draw), k) if k % 2 else near(*anywhere(draw), 1, k) for k in range(count)]
+    ids = draw.sample(range(10**6), count)
+    return [move(i, *anywhere(draw), k) if k % 2 else near(*anywhere(draw), 1, k) for k, i in enumerate(ids)]
 
 
 OVER = {
