@@ -129,7 +129,7 @@ def spot_of_a_million():
     return [(i, *SPOT) for i in range(10**6)] + [(10**6 + i, *anywhere(draw)) for i in range(1000)], 0
 
 
-def a_million_anywhere(draw=None):
+def a_million_anywhere():
     draw = random.Random(1)
     return [(i, *anywhere(draw)) for i in range(10**6)], 0
 
@@ -206,8 +206,7 @@ class Bench:
             name, _, path = word.rpartition('=')
             self.ours[name or 'this'] = os.path.abspath(path)
         self.columns = [*self.ours, *self.peers]
-        room = lambda d: os.statvfs(d).f_bavail * os.statvfs(d).f_frsize
-        self.fast = next((d for d in ('/dev/shm',) if os.access(d, os.W_OK) and room(d) > 2**30), self.dir)
+        self.fast = '/dev/shm' if os.access('/dev/shm', os.W_OK) and shutil.disk_usage('/dev/shm').free > 2**30 else self.dir
 
     def run(self, words, rows, out):
         """Processor seconds and megabytes of a run, or nothing where it took too long."""
@@ -263,19 +262,18 @@ def whole(bench, name, home):
 def over(bench, name, home):
     what, base, make, sessions = OVER[name]
     objects, splits = base()
-    kept, log_file, rows = home / 'kept', home / 'log', bench.dir / 'rows'
+    kept, played, rows = home / 'kept', home / 'log', bench.dir / 'rows'
     kept.write_bytes(log(objects, splits))
-    nothing = bench.file('nothing', [])
     for program in list(bench.ours.values())[:1]:  # leaves that are over their size are split here
-        bench.run([program, 'play', kept], nothing, home / 'out')
+        bench.run([program, 'play', kept], bench.file('rows', []), home / 'out')
     first = [put(i, x, y) for i, x, y in objects] if bench.peers else []
     told, costs = {}, {column: None for column in bench.columns}
 
     def play(column, more):
         """A run of these rows over the objects: over a copy of the log, or behind the puts."""
         if column in bench.ours:
-            shutil.copyfile(kept, log_file)
-            return bench.run([bench.ours[column], 'play', log_file], bench.file('rows', more), home / 'out')
+            shutil.copyfile(kept, played)
+            return bench.run([bench.ours[column], 'play', played], bench.file('rows', more), home / 'out')
         return bench.run([bench.bin / column], bench.file('rows', first + more), home / 'out')
 
     for column in bench.columns:
