@@ -220,11 +220,11 @@ class Bench:
             sys.exit(f'{words}: status {status}: {pathlib.Path(out).read_bytes()[:80]} {(self.dir / "err").read_text()[:80]}')
         return cpu / 1e6, memory / 1024
 
-    def least(self, run):
+    def least(self, run, columns=None):
         """The least time and memory of each column by runs that alternate; one that took over half the limit isn't made again."""
         best = {}
         for turn in range(self.runs):
-            for column in self.columns:
+            for column in columns or self.columns:
                 if turn and (best[column] is None or best[column][0] > self.limit / 2):
                     continue
                 took = run(column)
@@ -276,19 +276,23 @@ def over(bench, name, home):
             return bench.run([bench.ours[column], 'play', played], bench.file('rows', more), home / 'out')
         return bench.run([bench.bin / column], bench.file('rows', first + more), home / 'out')
 
-    for column in bench.columns:
-        idle = min(filter(None, (play(column, []) for _ in range(bench.runs))), default=None)
-        for count in COUNTS if idle else ():
-            more = [gen.in_sessions(row, sessions) for row in make(count, random.Random(5))]
-            takes = [took for took in (play(column, more) for _ in range(bench.runs)) if took]
-            if not takes:
-                break
-            spent = min(takes)[0] - idle[0]
-            costs[column] = spent / count * 1e6, min(took[1] for took in takes)
-            if count == COUNTS[0] and sessions == 1:
-                told[tails(home / 'out', 0 if column in bench.ours else len(first))] = column
-            if spent > .5:
-                break
+    idle = bench.least(lambda column: play(column, []))
+    left = [column for column in bench.columns if idle[column]]
+    for count in COUNTS:
+        more = [gen.in_sessions(row, sessions) for row in make(count, random.Random(5))]
+
+        def run(column):
+            took = play(column, more)
+            if took and sessions == 1:
+                told[column, count] = tails(home / 'out', 0 if column in bench.ours else len(first))
+            return took
+
+        best = bench.least(run, left) if left else {}
+        for column, took in best.items():
+            if took:
+                costs[column] = (took[0] - idle[column][0]) / count * 1e6, took[1]
+        left = [column for column, took in best.items() if took and took[0] - idle[column][0] < .5]
+    told = {seen: column for (column, count), seen in told.items() if count == COUNTS[0]}
     rows.unlink(missing_ok=True)
     return what, 'us a row', costs, told
 
