@@ -25,8 +25,10 @@ import draw_times as draw
 ASKING = {'nears of 8': (16_384, 49_000, 8), 'nears of 512': (16_384, 16_000, 512)}
 SESSIONS = (1, 2, 4, 8, 16)
 COLOURS = {'nears of 512': '#b3123c', 'nears of 8': '#e8899f', 'near-large': '#2a6fb0', 'boxes-large': '#5a9a3c', 'read-heavy': '#b8860b',
-           'taxi': '#222222', 'write-heavy': '#888888'}
-WIDTH, HEIGHT, LEFT, TOP = 420, 260, 48, 24
+           'taxi': '#222222', 'cities': '#7a4fa3', 'write-heavy': '#888888', 'hot-spot': '#d2691e'}
+TITLE = 'Speed of many sessions beside one'
+ABOUT = 'How many times as fast the same rows are in 1 to 16 sessions as in one, for each kind of rows, on all processors of the machine.'
+WIDTH, HEIGHT, LEFT, TOP = 420, 300, 60, 40
 
 
 def asking(puts, nears, k):
@@ -85,12 +87,11 @@ def table(results):
 
 def picture(results):
     """How many times as fast each number of sessions is, on all processors that were measured."""
-    lines = {kind: speeds[max(speeds)] for kind, (_, speeds) in results.items() if kind in COLOURS}
+    lines = {kind: speeds[max(speeds)] for kind, (_, speeds) in results.items()}
     top = max(max(line) for line in lines.values()) * 1.05
     x = lambda i: LEFT + WIDTH * i / (len(SESSIONS) - 1)
     y = lambda speed: TOP + HEIGHT * (1 - speed / top)
-    yield f'<svg xmlns="http://www.w3.org/2000/svg" viewBox="0 0 {LEFT + WIDTH + 130} {TOP + HEIGHT + 44}" font-family="sans-serif">'
-    yield f'<rect width="{LEFT + WIDTH + 130}" height="{TOP + HEIGHT + 44}" fill="white"/>'
+    yield from draw.heading(LEFT + WIDTH + 130, TOP + HEIGHT + 44, TITLE, ABOUT)
     for i, n in enumerate(SESSIONS):
         yield draw.line(x(i), TOP, x(i), TOP + HEIGHT)
         yield draw.text(x(i), TOP + HEIGHT + 15, str(n), size=10)
@@ -98,6 +99,7 @@ def picture(results):
         yield draw.line(LEFT, y(tenth / 10), LEFT + WIDTH, y(tenth / 10), '#888888' if tenth == 10 else '#dddddd')
         yield draw.text(LEFT - 6, y(tenth / 10) + 4, f'{tenth / 10:.1f}', 'end', 10)
     yield draw.text(LEFT + WIDTH / 2, TOP + HEIGHT + 34, 'sessions', size=11)
+    yield draw.upwards(LEFT - 38, TOP + HEIGHT / 2, 'times as fast as one session')
     heights = spread(sorted((y(line[-1]), kind) for kind, line in lines.items()))
     for kind, line in lines.items():
         path = ' '.join(f'{x(i):.1f},{y(speed):.1f}' for i, speed in enumerate(line))

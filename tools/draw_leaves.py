@@ -91,6 +91,8 @@ def picture(state, window):
             yield f'<path d="M{number(left)} {number(top)}H{number(right)}V{number(bottom)}H{number(left)}Z"{shade}/>'
     dots = "".join("M" + " ".join(number(c) for c in window.at(*place)) + "h0" for place in places(state))
     yield f'<path d="{dots}" stroke="#222222" stroke-width="1.8" stroke-linecap="round"/>'
+    yield words(SIDE - 12, SIDE - 4, "x", 12)
+    yield words(3, 12, "y", 12)
     yield "</g>"
     lengths = [length for _, length in held]
     if lengths:
@@ -102,6 +104,8 @@ def drawn(states):
     window = Window([place for state in states for place in places(state)])
     width, height = len(states) * (SIDE + GAP) + GAP, HEAD + SIDE + FOOT
     yield f'<svg xmlns="http://www.w3.org/2000/svg" viewBox="0 0 {width} {height}" width="{width}" height="{height}" font-family="sans-serif">'
+    yield "<title>Leaves of a log</title>"
+    yield "<desc>The regions of the leaves of a log, darker the more points a leaf has, and its points; x grows to the right, y upwards.</desc>"
     yield f'<rect width="{width}" height="{height}" fill="#ffffff"/>'
     for place, state in enumerate(states):
         yield f'<g transform="translate({GAP + place * (SIDE + GAP)} 0)" fill="#2a6fb0" stroke="#2a6fb0" stroke-width="0.6">'
