@@ -70,7 +70,7 @@ def scattered(draw):
 def circle(draw):
     """Half of the rows put objects on a circle, and half ask for the nearest to its centre, which all are alike."""
     half = ROWS // 2
-    at = lambda k: (2**31 + int(2**30 * f(2 * math.pi * k / half)) for f in (math.cos, math.sin))
+    at = lambda k: (int(2**31 + 2**30 * f(2 * math.pi * k / half)) for f in (math.cos, math.sin))
     return [put(k, *at(k), k) for k in range(half)] + [near(2**31, 2**31, 1, k) for k in range(half)]
 
 
