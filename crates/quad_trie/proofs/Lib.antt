@@ -4,3 +4,4 @@ pub mod Across
 pub mod Fours
 pub mod Between
 pub mod Downwards
+pub mod Counted

@@ -1,10 +1,10 @@
 //! Nodes: a leaf's bucket, or what is under each pair of next bits.
-ghost use Rattle.std.specs.Prelude.{◌≡◌, ◌≤◌, ◌<◌, ◌+◌, ◌%◌, Some, length, IfOk, OnOk, OnErr};
+ghost use Rattle.std.specs.Prelude.{◌≡◌, ◌≤◌, ◌<◌, ◌+◌, ◌-◌, ◌^◌, ◌%◌, false, true, min, Some, length, IfOk, OnOk, OnErr};
 ghost use Rattle.std.specs.Arc.{arc_value};
 ghost use Rattle.std.specs.Borrow.{sem};
 ghost use Rattle.zorder.specs.Bits.{low_bits};
 ghost use Rattle.bucket_versions.specs.Told.{Told};
-ghost use Rattle.bit_trie.specs.Tries.{name_at, bucket_at, graft};
+ghost use Rattle.bit_trie.specs.Tries.{name_at, bucket_at, rows_in, graft};
 ghost use Rattle.bit_trie.specs.Ways.{Fits};
 ghost use Rattle.bit_trie.specs.Walks.{Agrees};
 ghost use Rattle.quad_trie.specs.Nodes.{seen, four, fours, quarter_of};
@@ -56,6 +56,15 @@ impl Quad {
             (true, false) => &self.one_zero,
             (true, true) => &self.one_one,
         }
+    }
+
+    /// How many rows are under a bit, at most what 64 bits hold.
+    pub(crate) fn count_half(&self, high: bool) -> u64
+        ensures { result ≡ min (rows_in (quarter_of self.now high false) + rows_in (quarter_of self.now high true)) (2 ^ 64 - 1) }
+    {
+        let zero = count(self.quarter(high, false));
+        let one = count(self.quarter(high, true));
+        zero.saturating_add(one)
     }
 }
 
@@ -157,6 +166,19 @@ pub(crate) fn fours(
         one_one: Node::Leaf(fourth),
     };
     Ok(Node::Inner(Arc::new(alloc, quad)?))
+}
+
+/// How many rows are under a node, at most what 64 bits hold.
+pub(crate) fn count(node: &Node) -> u64
+    ensures { result ≡ min (rows_in (seen node.now)) (2 ^ 64 - 1) }
+{
+    let quad = match node {
+        Node::Leaf(bucket) => return bucket.count(),
+        Node::Inner(quad) => quad,
+    };
+    let zero = count(&quad.zero_zero).saturating_add(count(&quad.zero_one));
+    let one = count(&quad.one_zero).saturating_add(count(&quad.one_one));
+    zero.saturating_add(one)
 }
 
 /// The bucket that the last `left` bits of a key lead to, and how many bits are left there.

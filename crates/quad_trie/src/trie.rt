@@ -7,7 +7,7 @@ ghost use Rattle.quad_trie.specs.Nodes.{seen};
 ghost use Rattle.quad_trie.specs.Places.{IsAt};
 
 use crate::narrow::narrowed;
-use crate::node::{Node, agreed, fours, graft, leaf_of};
+use crate::node::{Node, agreed, count, fours, graft, leaf_of};
 use crate::rows;
 use bit_trie::{Coming, Going, at_once, in_order, in_range};
 use bucket_versions::{AtOnce, Bucket, Commit, RowChange, Undone};
@@ -111,6 +111,18 @@ impl Index for QuadTrie {
             return (name, place);
         }
         narrowed(name, place)
+    }
+
+    fn count_below(&self, name: &Name, place: &Node) -> u64 {
+        let quad = match place {
+            Node::Leaf(bucket) => return bucket.count(),
+            Node::Inner(quad) => quad,
+        };
+        if name.len() % 2 == 0 {
+            count(place)
+        } else {
+            quad.count_half(ends_with_one(name))
+        }
     }
 
     fn replaced(&self, name: &Name, bucket: Arc<Bucket>) -> Result<Self, IndexFault> {
