@@ -178,6 +178,13 @@ module _ (p : Point) (k : ℕ) (leaves : List Leaf) (before : ℕ) where
       (subst (λ (ms : List Placed). Keeps p k places ms kept) (objects-cons leaves b left) (s.searches places names are_places stands).keeps)
       (far_below b (All-head (IsAhead p) b left s.are) places names are_places stands) many) s
 
+  -- and where nothing is below it
+  pub state-bare : (now : ℕ) (b : Ahead) (left : List Ahead) (kept : Kept) → all_rows (subtree b.name leaves) ≡ [] → State p k leaves before now (b ∷ left) kept → State p k leaves before now left kept
+  state-bare now b left kept bare s =
+      state-less now b left kept
+      (λ places names are_places stands.
+      subst (λ (ms : List Placed). Keeps p k places ms kept) (objects-cons leaves b left ∙ ap (λ (rs : List Row). objects_of rs ++ objects_ahead leaves left) bare) (s.searches places names are_places stands).keeps) s
+
   -- no more than these were opened
   pub ends : (passes : List Bool → Bool) (now : ℕ) (left : List Leaf) → Counts leaves before passes now left → now ≤ before + length (leaves_of passes leaves)
   ends passes now left counts = omega (arith, counts)

@@ -1,5 +1,8 @@
 -- Where a best-first search stands.
-use Rattle.std.specs.Prelude.{◌≡◌, ◌⊎◌, ◌≤◌, ◌<◌, ◌+◌, ◌∷◌, ◌++◌, [], ℕ, Bool, true, false, nat_le, List, Some, length}
+use Rattle.std.specs.Prelude.{◌≡◌, ◌⊎◌, ◌≤◌, ◌<◌, ◌+◌, ◌∷◌, ◌++◌, [], ℕ, Bool, true, false, nat_le, List, Option, Some, None, length}
+use Rattle.std.specs.Arc.{arc_value}
+use Rattle.std.specs.declared.sync.Arc.{Arc}
+use denote.Ref.{Bor}
 use Rattle.std.specs.List.{All, sum_by}
 use Rattle.std.specs.List.Sorted.{IsPermutation}
 use Rattle.zorder.specs.declared.points.Point.{Point}
@@ -55,6 +58,16 @@ pub record LeadsTo (leaves : List Leaf) (b : Rows) (kept : Kept) (old new : List
   pub wanted : IsWanted kept leaf new
   pub less : sum_by weight_of new < sum_by weight_of old
   pub state : (p : Point) (k before now : ℕ) → State p k leaves before now old kept → State p k leaves before now (leaf ∷ new) kept
+
+-- of what was ahead these wait; what else there was has none of the nearest
+pub record LeadsNowhere (leaves : List Leaf) (kept : Kept) (old new : List Ahead) : Type 0 where
+  pub less : sum_by weight_of new < sum_by weight_of old
+  pub state : (p : Point) (k before now : ℕ) → State p k leaves before now old kept → State p k leaves before now new kept
+
+-- the bucket of a leaf, or none
+abbrev pub Leads : {Z : Type 0} → List Leaf → Kept → List Ahead → List Ahead → Option (Bor (Arc Rows Z)) → Type 0
+Leads leaves kept old new None = LeadsNowhere leaves kept old new
+Leads leaves kept old new (Some bucket) = LeadsTo leaves (arc_value bucket.now) kept old new
 
 -- two halves at these places, the nearer first, which is as near as both
 pub record AreHalves {P : Type 0} (p : Point) (a : Ahead) (zero one : P) (near far : Waiting P) : Type 0 where

@@ -3,12 +3,11 @@ ghost use Rattle.std.specs.Prelude.{◌≡◌, ◌≤◌, ◌<◌, ◌+◌, ◌�
 ghost use Rattle.plain_list.specs.Queries.{ranked};
 ghost use Rattle.table_share.specs.Objects.{objects_of, placed_of};
 ghost use Rattle.table_share.specs.Standing.{OfPlaces};
-ghost use Rattle.std.specs.Arc.{arc_value};
 ghost use Rattle.std.specs.List.Sorted.{IsPermutation};
 ghost use Rattle.std.specs.BinaryHeap.{heap_items, IsHeap};
 ghost use Rattle.knn_query.specs.Ahead.{IsAhead, OpensNear};
 ghost use Rattle.knn_query.specs.Waiting.{ahead_of, waiting_cmp, AreAt};
-ghost use Rattle.knn_query.specs.Search.{AreHalves, IsPutOrOut, IsWanted, LeadsTo};
+ghost use Rattle.knn_query.specs.Search.{AreHalves, IsPutOrOut, IsWanted, Leads};
 ghost use Rattle.knn_query.specs.Passes.{held, HasReach, IsBeyond, IsEmpty, IsHeld, Keeps, Passes};
 
 use crate::ahead::{Ahead, Waiting, by_distance, take_nearest};
@@ -73,7 +72,10 @@ fn keep_nearest<I: Index, L: Ledger>(
         if kept.has_nearer(next.ahead.least.0) {
             return Ok(kept);
         }
-        let bucket = nearest_leaf(index, next.ahead, next.place, &kept, &mut waiting)?;
+        let found = nearest_leaf(index, next.ahead, next.place, &kept, &mut waiting)?;
+        let Some(bucket) = found else {
+            continue;
+        };
         add_rows(&mut kept, bucket, steps)?;
     }
     Ok(kept)
@@ -92,27 +94,27 @@ fn first_of_many<P: Drop>(
     Ok(all)
 }
 
-// Goes down to a leaf that is as near as the subtree. Of two halves one is so; the other one waits.
+// Goes down to a leaf that is as near as the subtree, unless nothing is there. Of two halves one is so; the other one waits.
 fn nearest_leaf<'a, I: Index>(
     index: &'a I,
     first: Ahead,
     at: &'a I::Place,
     kept: &Kept,
     waiting: &mut BinaryHeap<Waiting<&'a I::Place>>,
-) -> Result<&'a Arc<Bucket>, AllocError>
+) -> Result<Option<&'a Arc<Bucket>>, AllocError>
     requires wanted { IsWanted kept.now first (ahead_of (heap_items waiting.old)) }
     requires place { I.is_at index.now at.now first.name }
     requires places { AreAt (I.is_at index.now) (heap_items waiting.old) }
     requires ordered { IsHeap waiting_cmp (heap_items waiting.old) }
-    ensures leads { IfOk result (λ bucket. LeadsTo (I.leaves index.now) (arc_value bucket.now) kept.now (first ∷ ahead_of (heap_items waiting.old)) (ahead_of (heap_items waiting.new))) }
+    ensures leads { IfOk result (Leads (I.leaves index.now) kept.now (first ∷ ahead_of (heap_items waiting.old)) (ahead_of (heap_items waiting.new))) }
     ensures places { OnOk result (AreAt (I.is_at index.now) (heap_items waiting.new)) }
     ensures ordered { OnOk result (IsHeap waiting_cmp (heap_items waiting.new)) }
 {
     let mut ahead = first;
     let mut place = at;
-    'down: loop {
+    'down: while index.count_below(&ahead.name, place) > 0 {
         match index.below(&ahead.name, place) {
-            Below::Leaf(bucket) => return Ok(bucket),
+            Below::Leaf(bucket) => return Ok(Some(bucket)),
             Below::Halves { zero, one } => {
                 let (near, far) = halves_at(&ahead, kept.from, zero, one);
                 put_far(waiting, kept, far)?;
@@ -121,6 +123,7 @@ fn nearest_leaf<'a, I: Index>(
             }
         }
     }
+    Ok(None)
 }
 
 // Two halves with their places, the nearer first.

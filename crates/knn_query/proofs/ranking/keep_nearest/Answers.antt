@@ -13,7 +13,7 @@ use Rattle.table_share.specs.Objects.{objects_of}
 use Rattle.knn_query.specs.Waiting.{waiting_at, ahead_of}
 use Rattle.knn_query.specs.Ahead.{IsAhead, number_nearer, reach_of, leaves_ahead, objects_ahead}
 use Rattle.knn_query.specs.Passes.{held, Keeps, Passes}
-use Rattle.knn_query.specs.Search.{within}
+use Rattle.knn_query.specs.Search.{Leads, LeadsTo, LeadsNowhere, within}
 use Rattle.knn_query.specs.declared.ahead.Ahead.{Ahead}
 use Rattle.knn_query.proofs.Places.{at-taken, IsAt}
 use Rattle.knn_query.proofs.Steps.{begins-state, closed, opened-leaf, near-leaf, leaf-state, ends, ends-every, state-shuffled}
@@ -100,15 +100,15 @@ nearest_leaf-requires-clause-places g c =
     let left = heap_items c.take_nearest.new.waiting in
     All-tail (IsAt is_at) c.in-Some.next left (at-taken is_at (heap_items c.loop-next.waiting) left c.in-Some.next c.in-Some.ensures.taken c.loop-next.invariant.2)
 
-pub returns-in_err-bucket-clause-opened : goal.returns-in_err-bucket-clause-opened
-returns-in_err-bucket-clause-opened g c =
+pub returns-in_err-found-clause-opened : goal.returns-in_err-found-clause-opened
+returns-in_err-found-clause-opened g c =
     let leaves : List Leaf = g.I.Index.leaves c.args.index.now in
     let p = c.args.kept.from in
     let k = c.args.kept.k in
     ends-every p k leaves c.args.steps.now c.loop-next.steps (leaves_ahead leaves (ahead_of (heap_items c.loop-next.waiting))) c.loop-next.invariant.0.opened
 
-pub returns-in_err-bucket-clause-near : goal.returns-in_err-bucket-clause-near
-returns-in_err-bucket-clause-near g c places names are_places stands d many =
+pub returns-in_err-found-clause-near : goal.returns-in_err-found-clause-near
+returns-in_err-found-clause-near g c places names are_places stands d many =
     let leaves : List Leaf = g.I.Index.leaves c.args.index.now in
     let p = c.args.kept.from in
     let k = c.args.kept.k in
@@ -116,7 +116,13 @@ returns-in_err-bucket-clause-near g c places names are_places stands d many =
 
 pub loop-next-smaller : goal.loop-next-smaller
 loop-next-smaller g c =
-    omega (arith, c.in_ok-bucket.ensures.leads.less, weight-taken (heap_items c.loop-next.waiting) (heap_items c.take_nearest.new.waiting) c.in-Some.next c.in-Some.ensures.taken)
+    let leaves : List Leaf = g.I.Index.leaves c.args.index.now in
+    let b : Rows = arc_value c.in-Some-found.bucket.now in
+    let kept = c.loop-next.kept in
+    let left : List Ahead = ahead_of (heap_items c.nearest_leaf.new.waiting) in
+    let begun : List Ahead = c.in-Some.next.ahead ∷ ahead_of (heap_items c.take_nearest.new.waiting) in
+    let leads : LeadsTo leaves b kept begun left = subst (Leads leaves kept begun left) c.in-Some-found.is c.in_ok-found.ensures.leads in
+    omega (arith, leads.less, weight-taken (heap_items c.loop-next.waiting) (heap_items c.take_nearest.new.waiting) c.in-Some.next c.in-Some.ensures.taken)
 
 pub loop-next-preserved : goal.loop-next-preserved
 loop-next-preserved g c =
@@ -127,8 +133,9 @@ loop-next-preserved g c =
     let s = c.loop-next.invariant.0 in
     let kept = c.loop-next.kept in
     let left : List Ahead = ahead_of (heap_items c.nearest_leaf.new.waiting) in
-    let b : Rows = arc_value c.in_ok-bucket.bucket.now in
-    let leads = c.in_ok-bucket.ensures.leads in
+    let b : Rows = arc_value c.in-Some-found.bucket.now in
+    let begun : List Ahead = c.in-Some.next.ahead ∷ ahead_of (heap_items c.take_nearest.new.waiting) in
+    let leads : LeadsTo leaves b kept begun left = subst (Leads leaves kept begun left) c.in-Some-found.is c.in_ok-found.ensures.leads in
     let a : Ahead = leads.leaf in
     let first = state-taken p k leaves c.args.steps.now c.loop-next.steps (heap_items c.loop-next.waiting) (heap_items c.take_nearest.new.waiting) c.in-Some.next kept s c.in-Some.ensures.taken in
     let t = leads.state p k c.args.steps.now c.loop-next.steps first in
@@ -137,8 +144,31 @@ loop-next-preserved g c =
     let passes : Passes (objects_of b.rows) kept c.add_rows.new.kept = subst (λ (r : Rows). Passes (objects_of r.rows) c.loop-next.kept c.add_rows.new.kept) c.deref.ensures c.in_ok-add_rows.ensures.passes in (
       leaf-state p k leaves c.args.steps.now tile c.loop-next.steps a left kept t b leads.found low few c.add_rows.new.kept c.add_rows.new.steps c.add_rows.ensures.opened c.loop-next.invariant.1 passes,
       omega (arith, c.loop-next.invariant.1, c.add_rows.ensures.opened),
-      c.in_ok-bucket.ensures.places,
-      c.in_ok-bucket.ensures.ordered,
+      c.in_ok-found.ensures.places,
+      c.in_ok-found.ensures.ordered,
+    )
+
+pub loop-next-smaller-in_default-found : goal.loop-next-smaller-in_default-found
+loop-next-smaller-in_default-found g c =
+    let leaves : List Leaf = g.I.Index.leaves c.args.index.now in
+    let left : List Ahead = ahead_of (heap_items c.nearest_leaf.new.waiting) in
+    let begun : List Ahead = c.in-Some.next.ahead ∷ ahead_of (heap_items c.take_nearest.new.waiting) in
+    let leads : LeadsNowhere leaves c.loop-next.kept begun left = subst (Leads leaves c.loop-next.kept begun left) c.in_default-found.is c.in_ok-found.ensures.leads in
+    omega (arith, leads.less, weight-taken (heap_items c.loop-next.waiting) (heap_items c.take_nearest.new.waiting) c.in-Some.next c.in-Some.ensures.taken)
+
+pub loop-next-preserved-in_default-found : goal.loop-next-preserved-in_default-found
+loop-next-preserved-in_default-found g c =
+    let leaves : List Leaf = g.I.Index.leaves c.args.index.now in
+    let p = c.args.kept.from in
+    let k = c.args.kept.k in
+    let first = state-taken p k leaves c.args.steps.now c.loop-next.steps (heap_items c.loop-next.waiting) (heap_items c.take_nearest.new.waiting) c.in-Some.next c.loop-next.kept c.loop-next.invariant.0 c.in-Some.ensures.taken in
+    let left : List Ahead = ahead_of (heap_items c.nearest_leaf.new.waiting) in
+    let begun : List Ahead = c.in-Some.next.ahead ∷ ahead_of (heap_items c.take_nearest.new.waiting) in
+    let leads : LeadsNowhere leaves c.loop-next.kept begun left = subst (Leads leaves c.loop-next.kept begun left) c.in_default-found.is c.in_ok-found.ensures.leads in (
+      leads.state p k c.args.steps.now c.loop-next.steps first,
+      c.loop-next.invariant.1,
+      c.in_ok-found.ensures.places,
+      c.in_ok-found.ensures.ordered,
     )
 
 pub returns-in_err-add_rows-clause-opened : goal.returns-in_err-add_rows-clause-opened
@@ -150,8 +180,9 @@ returns-in_err-add_rows-clause-opened g c =
     let s = c.loop-next.invariant.0 in
     let kept = c.loop-next.kept in
     let left : List Ahead = ahead_of (heap_items c.nearest_leaf.new.waiting) in
-    let b : Rows = arc_value c.in_ok-bucket.bucket.now in
-    let leads = c.in_ok-bucket.ensures.leads in
+    let b : Rows = arc_value c.in-Some-found.bucket.now in
+    let begun : List Ahead = c.in-Some.next.ahead ∷ ahead_of (heap_items c.take_nearest.new.waiting) in
+    let leads : LeadsTo leaves b kept begun left = subst (Leads leaves kept begun left) c.in-Some-found.is c.in_ok-found.ensures.leads in
     let a : Ahead = leads.leaf in
     let first = state-taken p k leaves c.args.steps.now c.loop-next.steps (heap_items c.loop-next.waiting) (heap_items c.take_nearest.new.waiting) c.in-Some.next kept s c.in-Some.ensures.taken in
     let t = leads.state p k c.args.steps.now c.loop-next.steps first in
@@ -169,8 +200,9 @@ returns-in_err-add_rows-clause-near g c places names are_places stands d many =
     let s = c.loop-next.invariant.0 in
     let kept = c.loop-next.kept in
     let left : List Ahead = ahead_of (heap_items c.nearest_leaf.new.waiting) in
-    let b : Rows = arc_value c.in_ok-bucket.bucket.now in
-    let leads = c.in_ok-bucket.ensures.leads in
+    let b : Rows = arc_value c.in-Some-found.bucket.now in
+    let begun : List Ahead = c.in-Some.next.ahead ∷ ahead_of (heap_items c.take_nearest.new.waiting) in
+    let leads : LeadsTo leaves b kept begun left = subst (Leads leaves kept begun left) c.in-Some-found.is c.in_ok-found.ensures.leads in
     let a : Ahead = leads.leaf in
     let first = state-taken p k leaves c.args.steps.now c.loop-next.steps (heap_items c.loop-next.waiting) (heap_items c.take_nearest.new.waiting) c.in-Some.next kept s c.in-Some.ensures.taken in
     let t = leads.state p k c.args.steps.now c.loop-next.steps first in

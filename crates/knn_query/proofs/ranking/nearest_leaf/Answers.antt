@@ -1,14 +1,17 @@
-use Rattle.std.proofs.Common.{◌∷◌, List, arith}
+use Rattle.std.proofs.Common.{◌≡◌, ◌∷◌, List, length, arith}
+use Rattle.std.proofs.lemmas.List.{nil_from_length}
 use Rattle.std.specs.BinaryHeap.{heap_items}
 use Rattle.std.proofs.lemmas.List.Sums.{sum_by-cons}
-use Rattle.index_layer.specs.Leaves.{Leaf}
+use Rattle.bucket_versions.specs.declared.row.Row.{Row}
+use Rattle.index_layer.specs.Leaves.{Leaf, all_rows}
+use Rattle.table_share.specs.Subtree.{subtree}
 use Rattle.table_share.proofs.Subtrees.{inner-room}
 use Rattle.knn_query.specs.Ahead.{weight_of}
 use Rattle.knn_query.specs.Waiting.{ahead_of}
 use Rattle.knn_query.specs.declared.ahead.Ahead.{Ahead}
 use Rattle.knn_query.proofs.Goings.{goes_down}
 use Rattle.knn_query.proofs.Places.{at-down}
-use Rattle.knn_query.proofs.Steps.{weight-some}
+use Rattle.knn_query.proofs.Steps.{state-bare, weight-some}
 use Rattle.knn_query.proofs.ranking.nearest_leaf.Goals as goal
 
 pub returns-in-Leaf-clause-leads : goal.returns-in-Leaf-clause-leads
@@ -22,6 +25,19 @@ returns-in-Leaf-clause-leads g c =
       wanted = goes.wanted;
       less = omega (arith, goes.less, sum_by-cons weight_of a others, weight-some a goes.wanted.is.short);
       state = goes.state;
+    }
+
+pub returns-clause-leads : goal.returns-clause-leads
+returns-clause-leads g c =
+    let leaves : List Leaf = g.I.Index.leaves c.args.index.now in
+    let goes = c.down.invariant.0 in
+    let a : Ahead = c.down.ahead in
+    let others : List Ahead = ahead_of (heap_items c.down.waiting) in
+    let rows : List Row = all_rows (subtree a.name leaves) in
+    let none : length rows ≡ 0 = omega (arith, c.count_below.ensures, c.down-test.false) in
+    record {
+      less = omega (arith, goes.less, sum_by-cons weight_of a others, weight-some a goes.wanted.is.short);
+      state = λ p k before now s. state-bare p k leaves before now a others c.args.kept.now (nil_from_length rows none) (goes.state p k before now s);
     }
 
 pub halves_at-near-requires-clause-room : goal.halves_at-near-requires-clause-room
