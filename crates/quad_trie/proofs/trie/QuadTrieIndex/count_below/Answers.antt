@@ -3,7 +3,7 @@ use Rattle.std.specs.Arc.{arc_value}
 use Rattle.bucket_versions.specs.Rows.{Rows}
 use Rattle.bit_trie.specs.Tries.{Trie, rows_in}
 use Rattle.quad_trie.specs.declared.node.Quad.{Quad}
-use Rattle.quad_trie.specs.Nodes.{seen, four, quarter_of}
+use Rattle.quad_trie.specs.Nodes.{seen, quarter_of}
 use Rattle.quad_trie.specs.Places.{IsAt}
 use Rattle.quad_trie.proofs.Between.{odd-at}
 use Rattle.quad_trie.proofs.Counted.{count-leaf, count-node, count-half}
