@@ -13,6 +13,7 @@
 #include <stdio.h>
 #include <stdlib.h>
 #include <string.h>
+#include <sys/file.h>
 #include <sys/stat.h>
 #include <sys/syscall.h>
 #include <unistd.h>
@@ -125,9 +126,10 @@ int openat(int folder, const char *name, int flags, ...) {
     return opened(folder, name, flags, mode);
 }
 
-static int locked(int fd, struct flock *lock) {
-    struct failing f = begun(lock->l_type == F_RDLCK ? 'h' : 'x');
-    return ended(f, 0, 0, f.error ? 0 : syscall(SYS_fcntl, fd, F_OFD_SETLK, lock), 0);
+int flock(int fd, int how) {
+    if (!is_watched(fd)) return syscall(SYS_flock, fd, how);
+    struct failing f = begun(how & LOCK_SH ? 'h' : 'x');
+    return ended(f, 0, 0, f.error ? 0 : syscall(SYS_flock, fd, how), 0);
 }
 
 int fcntl(int fd, int command, ...) {
@@ -135,7 +137,6 @@ int fcntl(int fd, int command, ...) {
     va_start(rest, command);
     long word = va_arg(rest, long);
     va_end(rest);
-    if (is_watched(fd) && command == F_OFD_SETLK) return locked(fd, (struct flock *)word);
     if (!is_watched(fd) || (command != F_DUPFD_CLOEXEC && command != F_DUPFD)) return syscall(SYS_fcntl, fd, command, word);
     struct failing f = begun('d');
     int second = f.error ? 0 : syscall(SYS_fcntl, fd, command, word);
