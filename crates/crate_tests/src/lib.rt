@@ -47,6 +47,8 @@ mod index;
 #[cfg(test)]
 mod keys;
 #[cfg(test)]
+mod large_buckets;
+#[cfg(test)]
 mod lines;
 #[cfg(test)]
 mod lists;
