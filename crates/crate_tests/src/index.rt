@@ -9,4 +9,5 @@ mod changes;
 mod never;
 mod queries;
 mod spread;
+mod ties;
 mod walks;

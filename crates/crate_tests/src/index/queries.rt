@@ -5,6 +5,7 @@ use crate::checks::same_rows;
 use crate::index::asks::{expect_box, expect_near};
 use crate::index::buckets::{empty_leaves, filled};
 use crate::index::spread::{finds_each_corner, ranks_by_id_where_all_are_as_far};
+use crate::index::ties::agrees_with_the_plain_list_on_ties;
 use bucket_versions::Row;
 use flat_index::FlatIndex;
 use index_layer::Index;
@@ -67,6 +68,7 @@ fn answers_the_worked_queries<I: Index, L: Ledger>(rt: &impl Abort, alloc: Globa
     answers_over_three_rows::<I, L>(rt, alloc, &mut steps);
     finds_each_corner::<I, L>(rt, alloc, &mut steps);
     ranks_by_id_where_all_are_as_far::<I, L>(rt, alloc, &mut steps);
+    agrees_with_the_plain_list_on_ties::<I, L>(rt, alloc, &mut steps);
 }
 
 #[test]
