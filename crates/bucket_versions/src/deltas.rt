@@ -1,5 +1,6 @@
 //! The rows of a base and a delta.
-ghost use Rattle.std.specs.Prelude.{◌≡◌, ◌<◌, ◌+◌, ◌^◌, length, IfOk};
+ghost use Rattle.std.specs.Prelude.{◌≡◌, ◌<◌, ◌+◌, ◌^◌, ◌∷◌, ◌++◌, List, length, IfOk};
+ghost use Rattle.bucket_versions.specs.declared.row.Row.{Row};
 ghost use Rattle.bucket_versions.specs.Rows.{IsRows, same_rows, has_row};
 ghost use Rattle.bucket_versions.specs.Delta.{AreParts, delta_len, difference};
 
@@ -8,19 +9,37 @@ use crate::row::Row;
 use crate::walk::BucketRows;
 use std::alloc::{AllocError, Global};
 
-/// The rows of a base and a delta, in a list of their own.
+/// The rows of a base and a delta, in a list of their own. What lies between two rows of the delta is copied at once.
 pub(crate) fn merged(alloc: Global, base: &[Row], delta: &[Row]) -> Result<Vec<Row>, AllocError>
     requires { AreParts base.now delta.now }
     ensures { IfOk result (λ v. v.items ≡ difference base.now delta.now) }
 {
-    if delta.is_empty() {
-        return Vec::from_slice(alloc, base);
-    }
     let mut all = Vec::with_capacity(alloc, base.len())?;
-    for row in BucketRows::over(base, delta) {
-        all.push(*row)?;
+    let mut rest = base;
+    for turned in delta {
+        rest = push_run(&mut all, rest, turned)?;
     }
+    all.extend_from_slice(rest)?;
     Ok(all)
+}
+
+// Adds the rows that come before a turned one, and that one where it isn't among them, and gives those behind it.
+fn push_run<'a>(all: &mut Vec<Row>, rest: &'a [Row], turned: &Row) -> Result<&'a [Row], AllocError>
+    requires { IsRows rest.now }
+    ensures rows { IfOk result (λ left. (delta : List Row) → all.new.items ++ difference left.now delta ≡ all.old.items ++ difference rest.now (turned.now ∷ delta)) }
+    ensures in_order { IfOk result (λ left. IsRows left.now) }
+{
+    match place_of(rest, turned) {
+        Ok(place) => {
+            all.extend_from_slice(&rest[..place])?;
+            Ok(&rest[place + 1..])
+        }
+        Err(place) => {
+            all.extend_from_slice(&rest[..place])?;
+            all.push(*turned)?;
+            Ok(&rest[place..])
+        }
+    }
 }
 
 /// Whether two walks give the same rows.

@@ -1,12 +1,10 @@
-use Rattle.std.proofs.Common.{◌≡◌, ◌∙◌, List, length, sym, subst}
-use Rattle.std.specs.Result.{IfOk}
-use Rattle.std.proofs.lemmas.Bool.{eqb-true}
+use Rattle.std.proofs.Common.{◌≡◌, ◌∙◌, ◌++◌, List, length, drop, length-drop, sym, ap, arith}
 use Rattle.bucket_versions.specs.declared.row.Row.{Row}
 use Rattle.bucket_versions.proofs.RowSets.{difference-empty}
 use Rattle.bucket_versions.proofs.deltas.merged.Goals as goal
 
-pub returns-then-is_empty : goal.returns-then-is_empty
-returns-then-is_empty c =
-    let none : length c.args.delta.now ≡ 0 = eqb-true (length c.args.delta.now) 0 (sym c.is_empty.ensures ∙ c.if-is_empty.true) in
-    let P : List Row → Type 0 = λ l. IfOk c.from_slice.result (λ v. v.items ≡ l) in
-    subst P (sym (difference-empty c.args.base.now c.args.delta.now none)) c.from_slice.ensures.items
+pub returns : goal.returns
+returns c =
+    let left : List Row = drop c.loop-turned.turned-index c.args.delta.now in
+    let none : length left ≡ 0 = omega (arith, length-drop c.loop-turned.turned-index c.args.delta.now, c.loop-turned-test.false) in
+    c.in_ok-extend_from_slice.ensures.items ∙ ap (λ (l : List Row). c.loop-turned.all.items ++ l) (sym (difference-empty c.loop-turned.rest.now left none)) ∙ c.loop-turned.invariant.0
