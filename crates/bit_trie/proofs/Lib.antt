@@ -6,3 +6,4 @@ pub mod Reaching
 pub mod Walking
 pub mod Outcomes
 pub mod RowCounts
+pub mod TrieCounts

@@ -69,7 +69,7 @@ all-from P Q f [] a = tt
 all-from P Q f (l ∷ ls) a = (f l a.0, all-from P Q f ls a.1)
 
 -- the names of the leaves of a trie begin with its name
-fronts : (name : List Bool) (t : Trie) → AllByRecursion (λ (l : Leaf). IsFront name l.name) (leaves_under name t)
+pub fronts : (name : List Bool) (t : Trie) → AllByRecursion (λ (l : Leaf). IsFront name l.name) (leaves_under name t)
 fronts name (tip b) = (([], sym (append-nil name)), tt)
 fronts name (fork z o) =
     all-both (λ (l : Leaf). IsFront name l.name) (leaves_under (name ++ false ∷ []) z) (leaves_under (name ++ true ∷ []) o) (half false z (fronts (name ++ false ∷ []) z)) (half true o (fronts (name ++ true ∷ []) o))
@@ -107,7 +107,7 @@ pub heads : (a b : Bool) (xs ys : List Bool) → a ∷ xs ≡ b ∷ ys → (a �
 heads a b xs ys e = (cc e, cc e)
 
 -- leaves beside what a path leads to, by the name there
-same_bit : (name a b : List Bool) (x y : Bool) → (name ++ x ∷ []) ++ a ≡ (name ++ y ∷ []) ++ b → x ≡ y
+pub same_bit : (name a b : List Bool) (x y : Bool) → (name ++ x ∷ []) ++ a ≡ (name ++ y ∷ []) ++ b → x ≡ y
 same_bit [] a b x y e = cc e
 same_bit (n ∷ name) a b x y e = same_bit name a b x y ((heads n n ((name ++ x ∷ []) ++ a) ((name ++ y ∷ []) ++ b) e).1)
 

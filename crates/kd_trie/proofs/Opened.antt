@@ -6,7 +6,7 @@ use Rattle.bucket_versions.specs.declared.row.Row.{Row}
 use Rattle.bucket_versions.specs.Rows.{Rows, has_row}
 use Rattle.bit_trie.specs.Tries.{Trie, height, graft, changed_at, rows_at}
 use Rattle.bit_trie.specs.Ways.{Fits}
-use Rattle.kd_trie.specs.declared.stemmed.Stemmed.{Stemmed}
+use Rattle.kd_trie.specs.declared.stem.Stemmed.{Stemmed}
 use Rattle.kd_trie.specs.Nodes.{seen}
 use Rattle.kd_trie.specs.Stems.{way_of, stem_over}
 use Rattle.kd_trie.specs.Wholes.{sides_of, whole}

@@ -44,7 +44,7 @@ pub record Parts (name rest : List Bool) (sides : List Side) : Type 0 where
   pub named : name ≡ way_of front
   pub rest_is : rest ≡ way_of back
 
-parts_of : (name rest : List Bool) (sides : List Side) → way_of sides ≡ name ++ rest → Parts name rest sides
+pub parts_of : (name rest : List Bool) (sides : List Side) → way_of sides ≡ name ++ rest → Parts name rest sides
 parts_of [] rest sides e = record { front = []; back = sides; is = refl; named = refl; rest_is = sym e }
 parts_of (b ∷ name) rest [] e = absurd (cc e)
 parts_of (b ∷ name) rest (s ∷ sides) e =
@@ -52,11 +52,11 @@ parts_of (b ∷ name) rest (s ∷ sides) e =
     let p = parts_of name rest sides h.1 in
     record { front = s ∷ p.front; back = p.back; is = ap (λ (l : List Side). s ∷ l) p.is; named = λ i. sym h.0 i ∷ p.named i; rest_is = p.rest_is }
 
-reach-way : (front back : List Side) (t : Trie) → reach (way_of front) (stem_over (front ++ back) t) ≡ Some (stem_over back t)
+pub reach-way : (front back : List Side) (t : Trie) → reach (way_of front) (stem_over (front ++ back) t) ≡ Some (stem_over back t)
 reach-way [] back t = refl
 reach-way (s ∷ front) back t = reach-halves s.bit (way_of front) (seen s.node) (stem_over (front ++ back) t) ∙ reach-way front back t
 
-bare-back : (front back : List Side) → all_bare (front ++ back) ≡ true → all_bare back ≡ true
+pub bare-back : (front back : List Side) → all_bare (front ++ back) ≡ true → all_bare back ≡ true
 bare-back [] back e = e
 bare-back (s ∷ front) back e = bare-back front back (second_so (is_bare (seen s.node)) (all_bare (front ++ back)) e)
 

@@ -9,7 +9,7 @@ use Rattle.bucket_versions.specs.Rows.{Rows, has_row, after_gone}
 use Rattle.kd_trie.specs.declared.node.Node.{Node}
 use Rattle.kd_trie.specs.declared.node.Pair.{Pair}
 use Rattle.bit_trie.specs.Tries.{Trie, fork, height, changed_at, rows_at, graft}
-use Rattle.kd_trie.specs.Nodes.{seen}
+use Rattle.kd_trie.specs.Nodes.{seen, Copies}
 use Rattle.kd_trie.specs.Halves.{half_of, with_half}
 use Rattle.bit_trie.specs.Ways.{Fits, count_under, gone_under, MayMove}
 use Rattle.bit_trie.proofs.Halves.{changed_one, changed_zero, graft_one, graft_zero, rows_one, rows_zero}
@@ -24,14 +24,14 @@ pub record Step (left key : ℕ) (t : Trie) (p : Pair) (bit : Bool) (u : Trie) :
 
 -- what `own` and `half` say is a step
 pub step : {left key : ℕ} {t : Trie} {a p : Pair} {bit : Bool} {u : Trie} → Fits left t → t ≡ fork (seen a.zero) (seen a.one)
-    → (p ≡ a) ⊎ ((seen p.zero ≡ seen a.zero) × (seen p.one ≡ seen a.one)) → bit ≡ (bit_at key (left - 1) == 1) → u ≡ half_of p bit → Step left key t p bit u
+    → (p ≡ a) ⊎ Copies a p → bit ≡ (bit_at key (left - 1) == 1) → u ≡ half_of p bit → Step left key t p bit u
 step {left} {key} {t} {a} {p} {bit} {u} fits was same goes half =
     let is : t ≡ fork (seen p.zero) (seen p.one) = was ∙ sym (whole same) in
     record { some = omega (arith, fits.height, ap height is); fits = record { height = low bit half (ap height is); most = omega (arith, fits.most) }; is = is; goes = goes; half = half }
   where
-    whole : (p ≡ a) ⊎ ((seen p.zero ≡ seen a.zero) × (seen p.one ≡ seen a.one)) → fork (seen p.zero) (seen p.one) ≡ fork (seen a.zero) (seen a.one)
+    whole : (p ≡ a) ⊎ Copies a p → fork (seen p.zero) (seen p.one) ≡ fork (seen a.zero) (seen a.one)
     whole (inl e) = λ i. fork (seen (e i).zero) (seen (e i).one)
-    whole (inr e) = λ i. fork (e.0 i) (e.1 i)
+    whole (inr e) = λ i. fork (e.zero i) (e.one i)
 
     low : (bit : Bool) → u ≡ half_of p bit → height t ≡ suc (max (height (seen p.zero)) (height (seen p.one))) → height u ≤ left - 1
     low true h e = omega (arith, fits.height, ap height h, e)
@@ -56,48 +56,56 @@ graft-with : (left key : ℕ) (x : Trie) (p : Pair) (bit : Bool) (v : Trie) → 
 graft-with left key x p true v some e = graft_one left key x (seen p.zero) v some (sym e)
 graft-with left key x p false v some e = graft_zero left key x v (seen p.one) some (sym e)
 
+-- a pair that was left with another half
+abbrev pub Made : Pair → Bool → Node → Pair → Type 0
+Made p bit n q = (q.zero ≡ (with_half p bit n).zero) × (q.one ≡ (with_half p bit n).one)
+
 -- a pair as a trie with its own half, and the pair that was left with another one
 whole-with : (p : Pair) (bit : Bool) (u : Trie) → u ≡ half_of p bit → fork (seen p.zero) (seen p.one) ≡ with_trie p bit u
 whole-with p true u h = ap (fork (seen p.zero)) (sym h)
 whole-with p false u h = ap (λ (z : Trie). fork z (seen p.one)) (sym h)
 
-made-with : (p q : Pair) (bit : Bool) (n : Node) → q ≡ with_half p bit n → fork (seen q.zero) (seen q.one) ≡ with_trie p bit (seen n)
-made-with p q true n e = λ i. fork (seen (e i).zero) (seen (e i).one)
-made-with p q false n e = λ i. fork (seen (e i).zero) (seen (e i).one)
+made-with : (p q : Pair) (bit : Bool) (n : Node) → Made p bit n q → fork (seen q.zero) (seen q.one) ≡ with_trie p bit (seen n)
+made-with p q true n e = λ i. fork (seen (e.0 i)) (seen (e.1 i))
+made-with p q false n e = λ i. fork (seen (e.0 i)) (seen (e.1 i))
+
+-- what a pair holds, by what it is
+pub made_of : {h q : Pair} → q ≡ h → (q.zero ≡ h.zero) × (q.one ≡ h.one)
+made_of e = (λ i. (e i).zero, λ i. (e i).one)
 
 -- the rows that a key leads to
 pub rows-step : {left key : ℕ} {t : Trie} {p : Pair} {bit : Bool} {u : Trie} → Step left key t p bit u → rows_at (low_bits left key) t ≡ rows_at (low_bits (left - 1) key) u
 rows-step {left} {key} {t} {p} {bit} {u} s = ap (rows_at (low_bits left key)) (s.is ∙ whole-with p bit u s.half) ∙ rows-with left key p bit u s.some s.goes
 
 -- the trie after a change below
-pub changed-step : {left key : ℕ} {t : Trie} {p : Pair} {bit : Bool} {u : Trie} → Step left key t p bit u → (f : Rows → Rows) (n : Node) (q : Pair) → q ≡ with_half p bit n
+pub changed-step : {left key : ℕ} {t : Trie} {p : Pair} {bit : Bool} {u : Trie} → Step left key t p bit u → (f : Rows → Rows) (n : Node) (q : Pair) → Made p bit n q
     → seen n ≡ changed_at (low_bits (left - 1) key) f u → fork (seen q.zero) (seen q.one) ≡ changed_at (low_bits left key) f t
 changed-step {left} {key} {t} {p} {bit} {u} s f n q made below =
     made-with p q bit n made ∙ ap (with_trie p bit) below ∙ sym (changed-with left key f p bit u s.some s.goes) ∙ ap (changed_at (low_bits left key) f) (sym (s.is ∙ whole-with p bit u s.half))
 
-pub graft-step : {left key : ℕ} {t : Trie} {p : Pair} {bit : Bool} {u : Trie} → Step left key t p bit u → (x : Trie) (n : Node) (q : Pair) → q ≡ with_half p bit n
+pub graft-step : {left key : ℕ} {t : Trie} {p : Pair} {bit : Bool} {u : Trie} → Step left key t p bit u → (x : Trie) (n : Node) (q : Pair) → Made p bit n q
     → seen n ≡ graft (low_bits (left - 1) key) x u → fork (seen q.zero) (seen q.one) ≡ graft (low_bits left key) x t
 graft-step {left} {key} {t} {p} {bit} {u} s x n q made below =
     made-with p q bit n made ∙ ap (with_trie p bit) below ∙ sym (graft-with left key x p bit u s.some s.goes) ∙ ap (graft (low_bits left key) x) (sym (s.is ∙ whole-with p bit u s.half))
 
-pub kept-step : {left key : ℕ} {t : Trie} {p : Pair} {bit : Bool} {u : Trie} → Step left key t p bit u → (n : Node) (q : Pair) → q ≡ with_half p bit n → seen n ≡ u → fork (seen q.zero) (seen q.one) ≡ t
+pub kept-step : {left key : ℕ} {t : Trie} {p : Pair} {bit : Bool} {u : Trie} → Step left key t p bit u → (n : Node) (q : Pair) → Made p bit n q → seen n ≡ u → fork (seen q.zero) (seen q.one) ≡ t
 kept-step {left} {key} {t} {p} {bit} {u} s n q made below = made-with p q bit n made ∙ ap (with_trie p bit) below ∙ sym (s.is ∙ whole-with p bit u s.half)
 
 -- how many rows a key leads to then
-pub counted-step : {left : ℕ} {t : Trie} {p : Pair} {bit : Bool} {u : Trie} {E : Type 0} (r : Result ℕ E) (row : Row) → Step left row.key t p bit u → (n : Node) (q : Pair) → q ≡ with_half p bit n
+pub counted-step : {left : ℕ} {t : Trie} {p : Pair} {bit : Bool} {u : Trie} {E : Type 0} (r : Result ℕ E) (row : Row) → Step left row.key t p bit u → (n : Node) (q : Pair) → Made p bit n q
     → IfOk r (λ m. m ≡ count_under (left - 1) row (seen n)) → IfOk r (λ m. m ≡ count_under left row (fork (seen q.zero) (seen q.one)))
 counted-step (Err x) row s n q made is = tt
 counted-step {left} {t} {p} {bit} {u} (Ok m) row s n q made is = is ∙ sym (ap length (ap (rows_at (low_bits left row.key)) (made-with p q bit n made) ∙ rows-with left row.key p bit (seen n) s.some s.goes))
 
 -- a pair that could not be owned
-pub kept-default : {A E : Type 0} {t : Trie} {e : E} (a q : Pair) (r : Result A E) → r ≡ Err e → t ≡ fork (seen a.zero) (seen a.one) → OnErr r ((q ≡ a) ⊎ ((seen q.zero ≡ seen a.zero) × (seen q.one ≡ seen a.one)))
+pub kept-default : {A E : Type 0} {t : Trie} {e : E} (a q : Pair) (r : Result A E) → r ≡ Err e → t ≡ fork (seen a.zero) (seen a.one) → OnErr r ((q ≡ a) ⊎ Copies a q)
     → fork (seen q.zero) (seen q.one) ≡ t
 kept-default a q (Ok x) is was same = absurd (cc is)
 kept-default a q (Err x) is was same = go same ∙ sym was
   where
-    go : (q ≡ a) ⊎ ((seen q.zero ≡ seen a.zero) × (seen q.one ≡ seen a.one)) → fork (seen q.zero) (seen q.one) ≡ fork (seen a.zero) (seen a.one)
+    go : (q ≡ a) ⊎ Copies a q → fork (seen q.zero) (seen q.one) ≡ fork (seen a.zero) (seen a.one)
     go (inl e) = λ i. fork (seen (e i).zero) (seen (e i).one)
-    go (inr e) = λ i. fork (e.0 i) (e.1 i)
+    go (inr e) = λ i. fork (e.zero i) (e.one i)
 
 -- two keys that go on with one bit: the second one after a change under the first
 pub rows-twice : {left key : ℕ} {t : Trie} {p : Pair} {bit : Bool} {u : Trie} → Step left key t p bit u → (other : ℕ) (f : Rows → Rows) → bit ≡ (bit_at other (left - 1) == 1)
@@ -114,7 +122,7 @@ moves-step from to s e m = record {
   absent = ap (has_row to.row) (sym (rows-twice s to.row.key (after_gone from) e)) ∙ m.absent;
 }
 
-pub changed-twice : {left key : ℕ} {t : Trie} {p : Pair} {bit : Bool} {u : Trie} → Step left key t p bit u → (other : ℕ) (f h : Rows → Rows) → bit ≡ (bit_at other (left - 1) == 1) → (n : Node) (q : Pair) → q ≡ with_half p bit n
+pub changed-twice : {left key : ℕ} {t : Trie} {p : Pair} {bit : Bool} {u : Trie} → Step left key t p bit u → (other : ℕ) (f h : Rows → Rows) → bit ≡ (bit_at other (left - 1) == 1) → (n : Node) (q : Pair) → Made p bit n q
     → seen n ≡ changed_at (low_bits (left - 1) other) h (changed_at (low_bits (left - 1) key) f u) → fork (seen q.zero) (seen q.one) ≡ changed_at (low_bits left other) h (changed_at (low_bits left key) f t)
 changed-twice {left} {key} {t} {p} {bit} {u} s other f h e n q made below =
     made-with p q bit n made ∙ ap (with_trie p bit) below
@@ -168,35 +176,35 @@ parts-zero {left} {key} {t} {p} {bit} {u} fits s other next zero apart goes = re
 
 -- the trie after a change in each half
 pub changed-parts-one : {left key : ℕ} {t : Trie} {p : Pair} {bit : Bool} {u : Trie} → Step left key t p bit u → (other : ℕ) (next : Bool) (f h : Rows → Rows) → bit ≡ true → beq bit next ≡ false → next ≡ (bit_at other (left - 1) == 1)
-    → (near far : Node) (q : Pair) → q ≡ record { zero = far; one = near } → seen near ≡ changed_at (low_bits (left - 1) key) f (seen p.one) → seen far ≡ changed_at (low_bits (left - 1) other) h (seen p.zero)
+    → (near far : Node) (q : Pair) → (q.zero ≡ far) × (q.one ≡ near) → seen near ≡ changed_at (low_bits (left - 1) key) f (seen p.one) → seen far ≡ changed_at (low_bits (left - 1) other) h (seen p.zero)
     → fork (seen q.zero) (seen q.one) ≡ changed_at (low_bits left other) h (changed_at (low_bits left key) f t)
 changed-parts-one {left} {key} {t} {p} {bit} {u} s other next f h one apart goes near far q made e d =
-    (λ i. fork (seen (made i).zero) (seen (made i).one)) ∙ (λ i. fork (d i) (e i))
+    (λ i. fork (seen (made.0 i)) (seen (made.1 i))) ∙ (λ i. fork (d i) (e i))
     ∙ sym (changed_zero left other h (seen p.zero) (changed_at (low_bits (left - 1) key) f (seen p.one)) s.some (sym goes ∙ unlike-one bit next one apart))
     ∙ ap (changed_at (low_bits left other) h) (sym (changed_one left key f (seen p.zero) (seen p.one) s.some (sym s.goes ∙ one)))
     ∙ ap (λ (x : Trie). changed_at (low_bits left other) h (changed_at (low_bits left key) f x)) (sym s.is)
 
 pub changed-parts-zero : {left key : ℕ} {t : Trie} {p : Pair} {bit : Bool} {u : Trie} → Step left key t p bit u → (other : ℕ) (next : Bool) (f h : Rows → Rows) → bit ≡ false → beq bit next ≡ false → next ≡ (bit_at other (left - 1) == 1)
-    → (near far : Node) (q : Pair) → q ≡ record { zero = near; one = far } → seen near ≡ changed_at (low_bits (left - 1) key) f (seen p.zero) → seen far ≡ changed_at (low_bits (left - 1) other) h (seen p.one)
+    → (near far : Node) (q : Pair) → (q.zero ≡ near) × (q.one ≡ far) → seen near ≡ changed_at (low_bits (left - 1) key) f (seen p.zero) → seen far ≡ changed_at (low_bits (left - 1) other) h (seen p.one)
     → fork (seen q.zero) (seen q.one) ≡ changed_at (low_bits left other) h (changed_at (low_bits left key) f t)
 changed-parts-zero {left} {key} {t} {p} {bit} {u} s other next f h zero apart goes near far q made e d =
-    (λ i. fork (seen (made i).zero) (seen (made i).one)) ∙ (λ i. fork (e i) (d i))
+    (λ i. fork (seen (made.0 i)) (seen (made.1 i))) ∙ (λ i. fork (e i) (d i))
     ∙ sym (changed_one left other h (changed_at (low_bits (left - 1) key) f (seen p.zero)) (seen p.one) s.some (sym goes ∙ unlike-zero bit next zero apart))
     ∙ ap (changed_at (low_bits left other) h) (sym (changed_zero left key f (seen p.zero) (seen p.one) s.some (sym s.goes ∙ zero)))
     ∙ ap (λ (x : Trie). changed_at (low_bits left other) h (changed_at (low_bits left key) f x)) (sym s.is)
 
 -- the trie as it was, and how many rows a key leads to, where both halves were lent
-pub kept-parts : {t : Trie} (p : Pair) (zero one : Node) (q : Pair) → t ≡ fork (seen p.zero) (seen p.one) → q ≡ record { zero = zero; one = one } → seen zero ≡ seen p.zero → seen one ≡ seen p.one → fork (seen q.zero) (seen q.one) ≡ t
-kept-parts p zero one q is made e h = (λ i. fork (seen (made i).zero) (seen (made i).one)) ∙ (λ i. fork (e i) (h i)) ∙ sym is
+pub kept-parts : {t : Trie} (p : Pair) (zero one : Node) (q : Pair) → t ≡ fork (seen p.zero) (seen p.one) → (q.zero ≡ zero) × (q.one ≡ one) → seen zero ≡ seen p.zero → seen one ≡ seen p.one → fork (seen q.zero) (seen q.one) ≡ t
+kept-parts p zero one q is made e h = (λ i. fork (seen (made.0 i)) (seen (made.1 i))) ∙ (λ i. fork (e i) (h i)) ∙ sym is
 
-pub counted-zero : {E : Type 0} {left : ℕ} (r : Result ℕ E) (row : Row) (zero one : Node) (q : Pair) → 0 < left → (bit_at row.key (left - 1) == 1) ≡ false → q ≡ record { zero = zero; one = one }
+pub counted-zero : {E : Type 0} {left : ℕ} (r : Result ℕ E) (row : Row) (zero one : Node) (q : Pair) → 0 < left → (bit_at row.key (left - 1) == 1) ≡ false → (q.zero ≡ zero) × (q.one ≡ one)
     → IfOk r (λ m. m ≡ count_under (left - 1) row (seen zero)) → IfOk r (λ m. m ≡ count_under left row (fork (seen q.zero) (seen q.one)))
 counted-zero (Err x) row zero one q some goes made is = tt
 counted-zero {left = left} (Ok m) row zero one q some goes made is =
-    is ∙ sym (ap length (ap (rows_at (low_bits left row.key)) (λ i. fork (seen (made i).zero) (seen (made i).one)) ∙ rows_zero left row.key (seen zero) (seen one) some goes))
+    is ∙ sym (ap length (ap (rows_at (low_bits left row.key)) (λ i. fork (seen (made.0 i)) (seen (made.1 i))) ∙ rows_zero left row.key (seen zero) (seen one) some goes))
 
-pub counted-one : {E : Type 0} {left : ℕ} (r : Result ℕ E) (row : Row) (zero one : Node) (q : Pair) → 0 < left → (bit_at row.key (left - 1) == 1) ≡ true → q ≡ record { zero = zero; one = one }
+pub counted-one : {E : Type 0} {left : ℕ} (r : Result ℕ E) (row : Row) (zero one : Node) (q : Pair) → 0 < left → (bit_at row.key (left - 1) == 1) ≡ true → (q.zero ≡ zero) × (q.one ≡ one)
     → IfOk r (λ m. m ≡ count_under (left - 1) row (seen one)) → IfOk r (λ m. m ≡ count_under left row (fork (seen q.zero) (seen q.one)))
 counted-one (Err x) row zero one q some goes made is = tt
 counted-one {left = left} (Ok m) row zero one q some goes made is =
-    is ∙ sym (ap length (ap (rows_at (low_bits left row.key)) (λ i. fork (seen (made i).zero) (seen (made i).one)) ∙ rows_one left row.key (seen zero) (seen one) some goes))
+    is ∙ sym (ap length (ap (rows_at (low_bits left row.key)) (λ i. fork (seen (made.0 i)) (seen (made.1 i))) ∙ rows_one left row.key (seen zero) (seen one) some goes))

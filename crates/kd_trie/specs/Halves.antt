@@ -4,13 +4,17 @@ use Rattle.std.specs.Borrow.{Lends, MutBor, Fml}
 use Rattle.kd_trie.specs.declared.node.Node.{Node}
 use Rattle.kd_trie.specs.declared.node.Pair.{Pair}
 use Rattle.bit_trie.specs.Tries.{Trie}
-use Rattle.kd_trie.specs.Nodes.{seen}
+use Rattle.kd_trie.specs.Nodes.{seen, is_counted}
 use Rattle.kd_trie.specs.contracts.node.Node as node
 use Rattle.kd_trie.specs.contracts.node.Pair as pair
 
 -- what the half holds
 abbrev pub half_of : Pair → Bool → Trie
 half_of p bit = if bit then seen p.one else seen p.zero
+
+-- whether each pair from there on counts the rows below it
+abbrev pub half_counts : Pair → Bool → Bool
+half_counts p bit = if bit then is_counted p.one else is_counted p.zero
 
 -- a pair with another half
 abbrev pub with_half : Pair → Bool → Node → Pair

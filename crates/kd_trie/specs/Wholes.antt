@@ -3,7 +3,7 @@ use Rattle.std.specs.Prelude.{List}
 use Rattle.std.specs.Arc.{arc_value}
 use Rattle.kd_trie.specs.declared.stem.Side.{Side}
 use Rattle.kd_trie.specs.declared.stem.Stem.{Stem}
-use Rattle.kd_trie.specs.declared.stemmed.Stemmed.{Stemmed}
+use Rattle.kd_trie.specs.declared.stem.Stemmed.{Stemmed}
 use Rattle.bit_trie.specs.Tries.{Trie}
 use Rattle.kd_trie.specs.Nodes.{seen}
 use Rattle.kd_trie.specs.Stems.{stem_over}

@@ -1,11 +1,11 @@
 //! Nodes: a leaf's bucket, or two halves.
-ghost use Rattle.std.specs.Prelude.{◌≡◌, ◌≤◌, ◌+◌, Some, length, IfOk, OnOk, OnErr};
+ghost use Rattle.std.specs.Prelude.{◌≡◌, ◌≤◌, ◌+◌, Some, true, length, IfOk, OnOk, OnErr};
 ghost use Rattle.std.specs.Arc.{arc_value};
 ghost use Rattle.std.specs.Borrow.{sem};
 ghost use Rattle.zorder.specs.Bits.{low_bits};
-ghost use Rattle.bit_trie.specs.Tries.{name_at, bucket_at, graft};
-ghost use Rattle.kd_trie.specs.Nodes.{seen, twins};
-ghost use Rattle.kd_trie.specs.Halves.{LendsHalf, half_of};
+ghost use Rattle.bit_trie.specs.Tries.{name_at, bucket_at, graft, rows_in};
+ghost use Rattle.kd_trie.specs.Nodes.{seen, is_counted, Copies, twins};
+ghost use Rattle.kd_trie.specs.Halves.{LendsHalf, half_of, half_counts};
 ghost use Rattle.bit_trie.specs.Ways.{Fits};
 ghost use Rattle.bit_trie.specs.Walks.{Agrees};
 ghost use Rattle.bucket_versions.specs.Told.{Told};
@@ -23,34 +23,50 @@ pub enum Node {
     Inner(Arc<Pair>),
 }
 
-/// What is under the next bit 0, and under the next bit 1.
+/// What is under the next bit 0, and under the next bit 1, and how many rows that is.
 #[derive(Drop)]
 #[cycle(trie)]
 pub struct Pair {
     pub(crate) zero: Node,
     pub(crate) one: Node,
+    pub(crate) count: u64,
 }
 
 impl Node {
     /// An equal node, which shares all below.
     pub(crate) fn share(&self) -> Result<Node, AllocError>
-        ensures { IfOk result (λ n. seen n ≡ seen self.now) }
+        ensures { IfOk result (λ n. (seen n ≡ seen self.now) × (is_counted n ≡ is_counted self.now)) }
     {
         match self {
             Node::Leaf(bucket) => Ok(Node::Leaf(Arc::try_clone(bucket)?)),
             Node::Inner(pair) => Ok(Node::Inner(Arc::try_clone(pair)?)),
         }
     }
+
+    /// How many rows there are.
+    pub(crate) fn count(&self) -> u64
+        requires { is_counted self.now ≡ true }
+        ensures { result ≡ rows_in (seen self.now) }
+    {
+        match self {
+            Node::Leaf(bucket) => bucket.count(),
+            Node::Inner(pair) => pair.count,
+        }
+    }
 }
 
 impl Clone for Pair {
-    ghost is_clone = { λ pair copy. (seen copy.zero ≡ seen pair.zero) × (seen copy.one ≡ seen pair.one) };
+    ghost is_clone = { λ pair copy. Copies pair copy };
 
     // An equal pair, for who changes it.
     fn clone(&self) -> Result<Pair, AllocError> {
         let zero = self.zero.share()?;
         let one = self.one.share()?;
-        Ok(Pair { zero, one })
+        Ok(Pair {
+            zero,
+            one,
+            count: self.count,
+        })
     }
 }
 
@@ -59,6 +75,7 @@ impl Clone for Pair {
 pub(crate) fn half(pair: &mut Pair, bit: bool) -> &mut Node
     ensures* lends { sem 𝓛 (LendsHalf pair.entry bit result) }
     ensures half { seen result.now ≡ half_of pair.old bit }
+    ensures counted { is_counted result.now ≡ half_counts pair.old bit }
 {
     if bit { &mut pair.one } else { &mut pair.zero }
 }
@@ -69,11 +86,15 @@ pub(crate) fn graft<C: Commit>(
     key: u64,
     left: u8,
     part: Node,
+    gain: u64,
     commit: &mut C,
 ) -> Result<(), Undone>
     requires can { C.can commit.old }
     requires fits { Fits left (seen node.old) }
+    requires counted { (is_counted node.old ≡ true) × (is_counted part ≡ true) }
+    requires gain { gain ≡ rows_in (seen part) }
     ensures ok { OnOk result (seen node.new ≡ graft (low_bits left key) (seen part) (seen node.old)) }
+    ensures counted { is_counted node.new ≡ true }
     ensures err { OnErr result (seen node.new ≡ seen node.old) }
     ensures told { Told C.done C.lost commit.old commit.new result }
 {
@@ -87,19 +108,26 @@ pub(crate) fn graft<C: Commit>(
         }
         Node::Inner(pair) => {
             let pair = own(pair)?;
+            let Some(_most) = pair.count.checked_add(gain) else {
+                return Err(Undone::Memory);
+            };
             let half = half(pair, next_bit(key, left));
-            graft(half, key, left - 1, part, commit)
+            let done = graft(half, key, left - 1, part, gain, commit);
+            pair.count = pair.zero.count() + pair.one.count();
+            done
         }
     }
 }
 
 /// Two leaves of these buckets.
 pub(crate) fn twins(alloc: Global, zero: Arc<Bucket>, one: Arc<Bucket>) -> Result<Node, AllocError>
-    ensures { IfOk result (λ node. seen node ≡ twins (arc_value zero) (arc_value one)) }
+    ensures { IfOk result (λ node. (seen node ≡ twins (arc_value zero) (arc_value one)) × (is_counted node ≡ true)) }
 {
+    let count = zero.count().checked_add(one.count()).ok_or(AllocError)?;
     let pair = Pair {
         zero: Node::Leaf(zero),
         one: Node::Leaf(one),
+        count,
     };
     Ok(Node::Inner(Arc::new(alloc, pair)?))
 }
@@ -125,7 +153,9 @@ pub(crate) fn leaf_of(node: &Node, key: u64, left: u8) -> (u8, &Arc<Bucket>)
 /// Goes down while two keys go on with the same bit: how many of their bits are left there, and the node.
 pub(crate) fn agreed(node: &Node, from: u64, to: u64, left: u8) -> (u8, &Node)
     requires fits { Fits left (seen node.now) }
+    requires counted { is_counted node.now ≡ true }
     ensures agrees { Agrees from to left result.0 (seen node.now) (seen result.1.now) }
+    ensures counted { is_counted result.1.now ≡ true }
     ensures rest { result.0 ≤ left }
 {
     let Node::Inner(pair) = node else {

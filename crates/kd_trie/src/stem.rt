@@ -3,7 +3,7 @@ ghost use Rattle.std.specs.Prelude.{◌≡◌, ◌≤◌, ◌+◌, [], Some, Non
 ghost use Rattle.std.specs.Arc.{arc_value};
 ghost use Rattle.zorder.specs.Bits.{low_bits};
 ghost use Rattle.bit_trie.specs.Tries.{Trie, halves, height, name_at, bucket_at, is_bare};
-ghost use Rattle.kd_trie.specs.Nodes.{seen};
+ghost use Rattle.kd_trie.specs.Nodes.{seen, is_counted};
 ghost use Rattle.kd_trie.specs.Stems.{GoesPast, Passing, way_of, stem_over, all_bare};
 ghost use Rattle.bit_trie.specs.Walks.{Narrows};
 
@@ -31,6 +31,20 @@ pub(crate) struct Stem {
     pub(crate) aside: Arc<Vec<Side>>,
     ghost named: { name ≡ way_of (arc_value aside).items },
     ghost bare: { all_bare (arc_value aside).items ≡ true },
+}
+
+/// A trie: a stem, and the node that it leads to.
+///
+/// Where all objects are in one small region, each trie over them begins with a long way that has nothing beside it. As pairs it would
+/// be copied with each path; as a stem it is shared whole.
+#[derive(Drop)]
+pub(crate) struct Stemmed {
+    pub(crate) alloc: Global,
+    pub(crate) stem: Stem,
+    pub(crate) root: Node,
+    /// Of how many changes, of late, each could have lengthened the stem.
+    pub(crate) waited: u8,
+    ghost counted: { is_counted root ≡ true },
 }
 
 impl Stem {
@@ -94,22 +108,28 @@ pub(crate) fn leaf_past<'a>(
 
 /// The node that stands for these sides and what they lead to.
 pub(crate) fn unwound(alloc: Global, sides: &[Side], root: &Node) -> Result<Node, AllocError>
-    ensures { IfOk result (λ n. seen n ≡ stem_over sides.now (seen root.now)) }
+    requires bare { all_bare sides.now ≡ true }
+    requires counted { is_counted root.now ≡ true }
+    ensures over { IfOk result (λ n. seen n ≡ stem_over sides.now (seen root.now)) }
+    ensures counted { IfOk result (λ n. is_counted n ≡ true) }
 {
     let Some((side, later)) = sides.split_first() else {
         return root.share();
     };
     let on = unwound(alloc, later, root)?;
     let beside = side.node.share()?;
+    let count = on.count();
     let pair = if side.bit {
         Pair {
             zero: beside,
             one: on,
+            count,
         }
     } else {
         Pair {
             zero: on,
             one: beside,
+            count,
         }
     };
     Ok(Node::Inner(Arc::new(alloc, pair)?))
@@ -120,6 +140,7 @@ pub(crate) fn unwound(alloc: Global, sides: &[Side], root: &Node) -> Result<Node
 pub(crate) fn step(node: &Node) -> Option<(bool, &Node, &Node)>
     ensures halves { IfSome result (λ s. seen node.now ≡ halves s.0 (seen s.1.now) (seen s.2.now)) }
     ensures bare { IfSome result (λ s. is_bare (seen s.1.now) ≡ true) }
+    ensures counted { is_counted node.now ≡ true → IfSome result (λ s. is_counted s.2.now ≡ true) }
 {
     let Node::Inner(pair) = node else {
         return None;
@@ -162,10 +183,12 @@ pub(crate) fn stretch(
     aside: &mut Vec<Side>,
     node: &Node,
 ) -> Result<Node, AllocError>
-    requires { name.old ≡ way_of aside.old.items }
+    requires named { name.old ≡ way_of aside.old.items }
+    requires counted { is_counted node.now ≡ true }
     ensures named { IfOk result (λ _. name.new ≡ way_of aside.new.items) }
     ensures bare { IfOk result (λ _. all_bare aside.old.items ≡ true → all_bare aside.new.items ≡ true) }
     ensures over { IfOk result (λ n. stem_over aside.new.items (seen n) ≡ stem_over aside.old.items (seen node.now)) }
+    ensures counted { IfOk result (λ n. is_counted n ≡ true) }
 {
     if name.len() == 64 {
         return node.share();
@@ -181,7 +204,9 @@ pub(crate) fn stretch(
 
 /// Goes down while exactly one half is a leaf without rows.
 pub(crate) fn narrowed(name: Name, node: &Node) -> (Name, &Node)
-    ensures { Narrows name result.0 (seen node.now) (seen result.1.now) }
+    requires { is_counted node.now ≡ true }
+    ensures narrows { Narrows name result.0 (seen node.now) (seen result.1.now) }
+    ensures counted { is_counted result.1.now ≡ true }
 {
     if name.len() == 64 {
         return (name, node);

@@ -7,28 +7,20 @@ ghost use Rattle.bucket_versions.specs.Told.{Told};
 ghost use Rattle.bit_trie.specs.Tries.{height, name_at, bucket_at, graft, tip};
 ghost use Rattle.bit_trie.specs.Ways.{has_under, put_under, gone_under, count_under, MayMove};
 ghost use Rattle.kd_trie.specs.Wholes.{whole};
-ghost use Rattle.kd_trie.specs.Nodes.{seen, twins};
+ghost use Rattle.kd_trie.specs.Nodes.{seen, is_counted, twins};
 ghost use Rattle.bit_trie.specs.Walks.{Agrees};
 
 use crate::node::{Node, agreed, graft, leaf_of, twins};
 use crate::rows;
-use crate::stem::{Stem, has_leaf_half, leaf_past, step, stretch, unwound};
+use crate::stem::{Stem, Stemmed, has_leaf_half, leaf_past, step, stretch, unwound};
 use bit_trie::{Coming, Going};
 use bucket_versions::{Bucket, Commit, RowChange, Undone};
 use std::alloc::{AllocError, Global};
 use std::sync::Arc;
 use zorder::{Name, begins};
 
-/// A trie: a stem, and the node that it leads to.
-///
-/// Where all objects are in one small region, each trie over them begins with a long way that has nothing beside it. As pairs it would
-/// be copied with each path; as a stem it is shared whole.
-#[derive(Drop)]
-pub(crate) struct Stemmed {
-    alloc: Global,
-    pub(crate) stem: Stem,
-    pub(crate) root: Node,
-}
+// How many changes in turn could lengthen a stem before one does.
+const CHANGES_WAITED: u8 = 63;
 
 impl Stemmed {
     /// One leaf.
@@ -40,6 +32,7 @@ impl Stemmed {
             alloc,
             stem,
             root: Node::Leaf(bucket),
+            waited: 0,
         })
     }
 
@@ -53,6 +46,7 @@ impl Stemmed {
             alloc: self.alloc,
             stem,
             root,
+            waited: self.waited,
         })
     }
 
@@ -74,6 +68,7 @@ impl Stemmed {
         requires { height (whole self.now) ≤ 64 }
         ensures agrees { IfSome result (λ p. Agrees from to 64 p.0 (whole self.now) (seen p.1.now)) }
         ensures rest { IfSome result (λ p. p.0 ≤ 64) }
+        ensures counted { IfSome result (λ p. is_counted p.1.now ≡ true) }
     {
         if begins(&self.stem.name, from) && begins(&self.stem.name, to) {
             Some(agreed(&self.root, from, to, 64 - self.stem.name.len()))
@@ -108,7 +103,8 @@ impl Stemmed {
         Ok(())
     }
 
-    // Lengthens the stem to where the trie branches. For want of memory it stays as it is.
+    // Lengthens the stem to where the trie branches, if many changes in turn could have: between a change far off and the next one a
+    // stem would be made and undone each time. For want of memory it stays as it is.
     #[inline(always)]
     fn wind(&mut self)
         ensures { whole self.new ≡ whole self.old }
@@ -123,7 +119,12 @@ impl Stemmed {
     fn rewind(&mut self)
         ensures { whole self.new ≡ whole self.old }
     {
-        if step(&self.root).is_some() {
+        if step(&self.root).is_none() {
+            self.waited = 0;
+        } else if self.waited < CHANGES_WAITED {
+            self.waited += 1;
+        } else {
+            self.waited = 0;
             let _ = self.lengthen();
         }
     }
@@ -157,7 +158,8 @@ impl Stemmed {
     {
         self.open_to(key)?;
         let left = 64 - self.stem.name.len();
-        let done = graft(&mut self.root, key, left, Node::Leaf(bucket), commit);
+        let gain = bucket.count();
+        let done = graft(&mut self.root, key, left, Node::Leaf(bucket), gain, commit);
         self.wind();
         done
     }
@@ -179,7 +181,8 @@ impl Stemmed {
         let children = twins(self.alloc, zero, one)?;
         self.open_to(key)?;
         let left = 64 - self.stem.name.len();
-        let done = graft(&mut self.root, key, left, children, commit);
+        let gain = children.count();
+        let done = graft(&mut self.root, key, left, children, gain, commit);
         self.wind();
         done
     }

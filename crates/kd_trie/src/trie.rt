@@ -1,15 +1,14 @@
 //! The trie: nodes under one stem, with leaves that tile the key space.
-ghost use Rattle.std.specs.Prelude.{◌≡◌, ◌≤◌, ◌⊎◌, [], Some};
+ghost use Rattle.std.specs.Prelude.{◌≡◌, ◌≤◌, ◌⊎◌, []};
 ghost use Rattle.index_layer.specs.Leaves.{AreLeaves, has_name};
 ghost use Rattle.index_layer.specs.LeavesProp.{AreLeaves-prop};
-ghost use Rattle.bit_trie.specs.Tries.{height, leaves_under, reach};
-ghost use Rattle.kd_trie.specs.Nodes.{seen};
+ghost use Rattle.bit_trie.specs.Tries.{height, leaves_under};
+ghost use Rattle.kd_trie.specs.Nodes.{StandsFor};
 ghost use Rattle.kd_trie.specs.Stems.{GoesPast};
 ghost use Rattle.kd_trie.specs.Wholes.{whole};
 
 use crate::node::Node;
-use crate::stem::narrowed;
-use crate::stemmed::Stemmed;
+use crate::stem::{Stemmed, narrowed};
 use bit_trie::{at_once, in_order, in_range};
 use bucket_versions::{AtOnce, Bucket, Commit, RowChange, Undone};
 use index_layer::{Below, Index, IndexFault, goes_on};
@@ -42,7 +41,7 @@ impl Index for KdTrie {
 
     ghost leaves = { λ s. leaves_under [] (whole s.tree) };
 
-    ghost is_at = { λ s place name. GoesPast name s.tree.stem.name ⊎ (reach name (whole s.tree) ≡ Some (seen place)) };
+    ghost is_at = { λ s place name. GoesPast name s.tree.stem.name ⊎ StandsFor name (whole s.tree) place };
 
     ghost WIDTH = { 1 };
 
@@ -113,6 +112,16 @@ impl Index for KdTrie {
             narrowed(tree.stem.name, &tree.root)
         } else {
             narrowed(name, place)
+        }
+    }
+
+    fn count_below(&self, name: &Name, place: &Node) -> u64 {
+        let tree = &self.tree;
+        // Beside a stem there are no rows.
+        if goes_on(name, &tree.stem.name) {
+            tree.root.count()
+        } else {
+            place.count()
         }
     }
 

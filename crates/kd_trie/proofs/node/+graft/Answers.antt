@@ -1,21 +1,12 @@
-use Rattle.std.proofs.Common.{ap, rules}
-use Rattle.bit_trie.proofs.Outcomes.{held}
-use Rattle.std.proofs.lemmas.Result.{on_ok_weaker, on_err_weaker}
-use Rattle.kd_trie.specs.Nodes.{seen}
-use Rattle.kd_trie.proofs.Steps.{step, graft-step, kept-step}
+use Rattle.std.proofs.Common.{◌∙◌, ◌-◌, sym, ap, arith}
+use Rattle.zorder.specs.Bits.{low_bits}
+use Rattle.kd_trie.specs.Nodes.{seen, is_counted}
+use Rattle.kd_trie.proofs.Counting.{counts-owned, grafted-most}
 use Rattle.kd_trie.proofs.node.+graft.Goals as goal
 
-pub returns-in_ok-pair-in-Inner-clause-ok : goal.returns-in_ok-pair-in-Inner-clause-ok
-returns-in_ok-pair-in-Inner-clause-ok g t c =
-    let s = step {key = c.args.key} c.requires.fits (ap seen c.in-Inner.is) c.in_ok-pair-in-Inner.ensures.value c.next_bit.ensures c.half-half.ensures.half in
-    on_ok_weaker c.graft.result (graft-step s (seen c.args.part) c.graft.new.node _ (c.own.follows.holds _ (held c.own.result c.in_ok-pair-in-Inner.was))) c.graft.ensures.ok
-
-pub returns-in_ok-pair-in-Inner-clause-err : goal.returns-in_ok-pair-in-Inner-clause-err
-returns-in_ok-pair-in-Inner-clause-err g t c =
-    let s = step {key = c.args.key} c.requires.fits (ap seen c.in-Inner.is) c.in_ok-pair-in-Inner.ensures.value c.next_bit.ensures c.half-half.ensures.half in
-    on_err_weaker c.graft.result (kept-step s c.graft.new.node _ (c.own.follows.holds _ (held c.own.result c.in_ok-pair-in-Inner.was))) c.graft.ensures.err
-
-pub graft-requires : goal.graft-requires
-graft-requires g t c κs within =
-    let s = step {key = c.args.key} c.requires.fits (ap seen c.in-Inner.is) c.in_ok-pair-in-Inner.ensures.value c.next_bit.ensures c.half-half.ensures.half in
-    (search rules, (search rules, (c.requires.can, s.fits)))
+pub overflow_add-pair : goal.overflow_add-pair
+overflow_add-pair g t c =
+    let p = c.in_ok-pair-in-Inner.pair.now in
+    let is = counts-owned c.in_ok-pair-in-Inner.ensures.value (ap is_counted (sym c.in-Inner.is) ∙ c.requires.counted.0) in
+    let most = grafted-most c.graft-done.result p c.next_bit.result c.graft-done.new.node (low_bits (c.args.left - 1) c.args.key) (seen c.args.part) (seen c.half-half.result.now) is c.half-half.ensures.half c.graft-done.ensures.ok c.graft-done.ensures.err in
+    omega (arith, most)

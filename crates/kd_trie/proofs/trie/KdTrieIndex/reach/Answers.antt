@@ -1,12 +1,13 @@
-use Rattle.std.proofs.Common.{◌≡◌, ◌∙◌, ◌⊎◌, Bool, List, [], Some, inr, sym, ap, subst}
+use Rattle.std.proofs.Common.{◌≡◌, ◌∙◌, ◌⊎◌, Bool, List, [], inr, sym, ap, subst}
 use Rattle.zorder.specs.Key.{is_under}
 use Rattle.index_layer.specs.Below.{begins_some}
 use Rattle.index_layer.proofs.Narrowing.{under-none, some-whole}
 use Rattle.bit_trie.specs.Tries.{leaves_under, reach}
-use Rattle.kd_trie.specs.Nodes.{seen}
+use Rattle.kd_trie.specs.Nodes.{seen, StandsFor}
 use Rattle.kd_trie.specs.Stems.{GoesPast}
 use Rattle.kd_trie.specs.Wholes.{sides_of, whole}
 use Rattle.kd_trie.proofs.Passing.{top-at}
+use Rattle.kd_trie.proofs.Counted.{with-count}
 use Rattle.bit_trie.proofs.Walking.{path-is, over-from, over-to, begun}
 use Rattle.kd_trie.proofs.trie.KdTrieIndex.reach.Goals as goal
 
@@ -16,7 +17,8 @@ named c = c.first_bits.ensures ∙ path-is c.args.from c.args.to c.in-Some.left 
 pub returns-in_default-clause-at : goal.returns-in_default-clause-at
 returns-in_default-clause-at c =
     let s = c.args.self.now.tree in
-    subst (λ (n : List Bool). GoesPast n s.stem.name ⊎ (reach n (whole s) ≡ Some (seen s.root))) (sym c.whole.ensures) (top-at s.stem.name (sides_of s.stem) (seen s.root) s.stem.named)
+    subst (λ (n : List Bool). GoesPast n s.stem.name ⊎ StandsFor n (whole s) s.root) (sym c.whole.ensures)
+    (with-count [] s.stem.name (whole s) s.root (top-at s.stem.name (sides_of s.stem) (seen s.root) s.stem.named) s.counted)
 
 pub returns-in_default-clause-over : goal.returns-in_default-clause-over
 returns-in_default-clause-over c =
@@ -28,7 +30,7 @@ returns-in_default-clause-some c =
     ap (λ (n : List Bool). begins_some n leaves) c.whole.ensures ∙ some-whole leaves c.args.self.now.are_leaves.tile
 
 pub returns-clause-at : goal.returns-clause-at
-returns-clause-at c = inr (ap (λ (n : List Bool). reach n (whole c.args.self.now.tree)) (named c) ∙ c.in-Some.ensures.agrees.at)
+returns-clause-at c = inr (record { at = ap (λ (n : List Bool). reach n (whole c.args.self.now.tree)) (named c) ∙ c.in-Some.ensures.agrees.at; counted = c.in-Some.ensures.counted })
 
 pub returns-clause-over : goal.returns-clause-over
 returns-clause-over c =

@@ -6,7 +6,7 @@ use Rattle.kd_trie.specs.Nodes.{seen}
 use Rattle.kd_trie.specs.Stems.{way_of, stem_over}
 use Rattle.kd_trie.specs.Wholes.{sides_of}
 use Rattle.kd_trie.proofs.StemLemmas.{fits-under, under-stem, bucket-under, name-length-under}
-use Rattle.kd_trie.proofs.stemmed.Stemmed.leaf_of.Goals as goal
+use Rattle.kd_trie.proofs.stem.Stemmed.leaf_of.Goals as goal
 
 pub leaf_of-requires : goal.leaf_of-requires
 leaf_of-requires c =

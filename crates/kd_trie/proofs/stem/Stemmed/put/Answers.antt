@@ -3,7 +3,7 @@ use Rattle.bit_trie.specs.Tries.{tip}
 use Rattle.kd_trie.specs.Nodes.{seen}
 use Rattle.kd_trie.specs.Wholes.{whole}
 use Rattle.kd_trie.proofs.Opened.{opened, graft-made}
-use Rattle.kd_trie.proofs.stemmed.Stemmed.put.Goals as goal
+use Rattle.kd_trie.proofs.stem.Stemmed.put.Goals as goal
 
 pub graft-done-requires-clause-fits : goal.graft-done-requires-clause-fits
 graft-done-requires-clause-fits g c =

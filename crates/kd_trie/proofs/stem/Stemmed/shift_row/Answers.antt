@@ -6,7 +6,7 @@ use Rattle.kd_trie.specs.Nodes.{seen}
 use Rattle.kd_trie.specs.Wholes.{sides_of, whole}
 use Rattle.kd_trie.proofs.StemLemmas.{made-under, changed-under}
 use Rattle.kd_trie.proofs.Opened.{opened, counted, row-there}
-use Rattle.kd_trie.proofs.stemmed.Stemmed.shift_row.Goals as goal
+use Rattle.kd_trie.proofs.stem.Stemmed.shift_row.Goals as goal
 
 pub shift_row-requires-clause-fits : goal.shift_row-requires-clause-fits
 shift_row-requires-clause-fits g c =

@@ -3,7 +3,7 @@ use Rattle.bucket_versions.specs.Rows.{after_gone}
 use Rattle.kd_trie.specs.Nodes.{seen}
 use Rattle.kd_trie.specs.Wholes.{whole}
 use Rattle.kd_trie.proofs.Opened.{opened, changed-made, row-there}
-use Rattle.kd_trie.proofs.stemmed.Stemmed.take_row.Goals as goal
+use Rattle.kd_trie.proofs.stem.Stemmed.take_row.Goals as goal
 
 pub take_row-requires-clause-fits : goal.take_row-requires-clause-fits
 take_row-requires-clause-fits g c =

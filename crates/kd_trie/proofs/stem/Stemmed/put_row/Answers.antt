@@ -3,7 +3,7 @@ use Rattle.bucket_versions.specs.Rows.{after_put}
 use Rattle.kd_trie.specs.Nodes.{seen}
 use Rattle.kd_trie.specs.Wholes.{whole}
 use Rattle.kd_trie.proofs.Opened.{opened, changed-made, counted, row-there}
-use Rattle.kd_trie.proofs.stemmed.Stemmed.put_row.Goals as goal
+use Rattle.kd_trie.proofs.stem.Stemmed.put_row.Goals as goal
 
 pub put_row-requires-clause-fits : goal.put_row-requires-clause-fits
 put_row-requires-clause-fits g c =
