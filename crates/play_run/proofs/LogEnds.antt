@@ -19,7 +19,9 @@ use Rattle.run_ends.specs.Status.{status_of, WritesLines}
 use Rattle.play_run.specs.Origin.{Origin, new_origin}
 use Rattle.log_state.specs.Changes.{cells_of}
 use Rattle.lane_splits.specs.Settled.{SplitsAreDone, IsWithinLimits}
-use Rattle.play_run.specs.Crash.{KeepsPlayed}
+use Rattle.recovery.specs.Calls.{StopsAtFault}
+use Rattle.recovery.proofs.CallLemmas.{well-none}
+use Rattle.play_run.specs.Crash.{KeepsPlayed, KeepsText}
 use Rattle.plain_list.specs.declared.entries.Lost.{Lost}
 use Rattle.plain_list.specs.History.{failed_cell}
 use Rattle.plain_list.proofs.Histories.{failed_cell-last, has_failed-none}
@@ -29,7 +31,7 @@ use Rattle.play_run.specs.Answers.{AnswersAsOneList}
 use Rattle.play_run.specs.Playing.{IsStop, EndsRows, IsAnswered}
 use Rattle.play_run.specs.inside.Books.{IsLike, BeginsAs, StopsBook, LeavesLog, OpensBook}
 use Rattle.play_run.specs.inside.Ended.{EndsBook}
-use Rattle.play_run.proofs.CrashFacts.{keeps-opened}
+use Rattle.play_run.proofs.CrashFacts.{keeps-opened, text-opened, calls-opened}
 
 -- the log of a book, as it is left
 pub record KeptSince {D : Type 0} (drive : D → Drive) (w : ℕ) (s : State) (h : List Entry) (opened : KeptView D) (disk : D) : Type 0 where
@@ -115,6 +117,19 @@ keeps-book {D = D} drive file Step old w size b h disk status before after opens
     subst (λ (d : D). KeepsPlayed opens.from old (drive d) status h) kept.disk_is
     (keeps-opened drive old kept.now opens.from b.opening h status (stays-trans old (drive opens.log.start) (drive kept.now.start) opens.stays kept.like.stays) (subst (λ (v : ℕ). KeepsLog drive v b.opening h kept.now) (sym opens.width) kept.keeps) (unfailed Step h status before after ends going) opens.found opens.state)
 
+-- its text, and the device calls
+text-book : {D : Type 0} (drive : D → Drive) (file : List ℕ) (Step : List Entry → Lost → Type 0) (old : Drive) (w size : ℕ) (b : BookView D) (h : List Entry) (disk : D) (status : ℕ) (before after : Output) (opens : OpensBook drive file old w size b)
+    → LeavesLog drive w b.opening h b.log (Some disk) → EndsRows (StopsBook Step h) status before after → (WritesLines status → failed_cell h ≡ None) → KeepsText opens.from old (drive disk) status h × StopsAtFault old (drive disk)
+text-book {D = D} drive file Step old w size b h disk status before after opens leaves ends going =
+    let kept = kept-since drive w b.opening h opens.log disk b.log opens.log_is leaves in
+    let stays = stays-trans old (drive opens.log.start) (drive kept.now.start) opens.stays kept.like.stays in
+    let keeps = subst (λ (v : ℕ). KeepsLog drive v b.opening h kept.now) (sym opens.width) kept.keeps in
+    let calm = unfailed Step h status before after ends going in
+    subst (λ (d : D). KeepsText opens.from old (drive d) status h × StopsAtFault old (drive d)) kept.disk_is (
+      text-opened drive old kept.now opens.from b.opening h status stays keeps calm opens.found opens.state,
+      calls-opened drive old kept.now opens.from b.opening h status stays keeps calm opens.found opens.state,
+    )
+
 -- where no append failed no device call did
 calm-book : {D : Type 0} (drive : D → Drive) (file : List ℕ) (old : Drive) (w size : ℕ) (b : BookView D) (h : List Entry) (disk : D) → OpensBook drive file old w size b → LeavesLog drive w b.opening h b.log (Some disk)
     → failed_cell h ≡ None → (drive disk).faults ≡ old.faults
@@ -160,6 +175,8 @@ answered-over drive report file w size rows b was disk before after status h ope
       moved (λ v n s first. IsWithinLimits v n s first rows h) w opens.from.width b.bucket size b.opening opens.from.state (first_in b.log) (option_map length opens.from.first) (sym opens.width)
       opens.bucket opens.state opens.count ended.limits;
   crash = keeps-book drive file (IsNextStep w b.opening rows) (drive was) w size b h disk status before after opens ended.log ended.ends (λ writes. (ended.splits writes).going);
+  text = (text-book drive file (IsNextStep w b.opening rows) (drive was) w size b h disk status before after opens ended.log ended.ends (λ writes. (ended.splits writes).going)).0;
+  calls = (text-book drive file (IsNextStep w b.opening rows) (drive was) w size b h disk status before after opens ended.log ended.ends (λ writes. (ended.splits writes).going)).1;
   calm = λ other. calm-book drive file (drive was) w size b h disk opens ended.log (unfailed (IsNextStep w b.opening rows) h status before after ended.ends (λ writes. (ended.splits writes).going) other);
   attached = attached-book drive file (drive was) w size b h disk opens ended.log;
 }
@@ -178,6 +195,8 @@ answered-new {D = D} drive report size rows b was left before after status h ope
       moved (λ v n s first. SplitsAreDone v n s first h) 1 1 b.bucket size b.opening empty_state (first_in b.log) None refl bucket opening (ap (λ (l : Option (KeptView D)). first_in l) none) (ended.splits writes);
   limits = moved (λ v n s first. IsWithinLimits v n s first rows h) 1 1 b.bucket size b.opening empty_state (first_in b.log) None refl bucket opening (ap (λ (l : Option (KeptView D)). first_in l) none) ended.limits;
   crash = λ bytes first told is settled. absurd (cc is);
+  text = λ bytes first told is whole. absurd (cc is);
+  calls = inl (well-none (drive was) (drive was) (λ all told. told));
   calm = λ other. refl;
   attached = tt;
 }

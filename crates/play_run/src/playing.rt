@@ -7,9 +7,9 @@ ghost use Rattle.run_ends.specs.Ends.{targets};
 ghost use Rattle.run_ends.specs.Limits.{oldest_played, most_played};
 ghost use Rattle.command_words.specs.Asked.{file_of};
 ghost use Rattle.play_run.specs.Playing.{Goes, PlaysRows};
-ghost use Rattle.play_run.specs.inside.Books.{OpensLog};
+ghost use Rattle.play_run.specs.inside.Books.{OpensFile};
 
-use crate::log_book::{Wide, book_of, open_log};
+use crate::log_book::{book_of, open_file};
 use crate::play_book::play_and_tell;
 use crate::reports::Report;
 use command_words::Command;
@@ -20,7 +20,7 @@ use index_layer::Index;
 use io_edge::{Gate, Sink, Source};
 use kd_trie::KdTrie;
 use quad_trie::QuadTrie;
-use recovery::Opened;
+use recovery::{Opened, OpenedLog};
 use run_ends::{Ended, Unmade, read_judged, refuse_on};
 use std::alloc::Global;
 use std::sync::Wait;
@@ -115,8 +115,8 @@ fn over_log<R: Threads + Wait + Sync, K: Sink, D: LogDisk + Send, G: Gate + Sync
     ensures plays { PlaysRows report (Some file.now) size rows.now (targets K.output D.drive sink.old disk)
         (targets K.output D.drive sink.new result.disk) result.status result.events }
 {
-    match open_log(alloc, file, disk) {
-        Ok(Wide { opened, width }) => {
+    match open_file(alloc, file, disk) {
+        Ok(OpenedLog { opened, width }) => {
             if width == 1 {
                 over_opened::<R, KdTrie, K, D, G>(rt, alloc, rows, report, opened, size, sink, gate)
             } else {
@@ -150,7 +150,7 @@ fn over_opened<
     requires log { (opened.log.cells ≡ opened.seen.cells) × (opened.log.failed ≡ None) }
     requires found { IsFound oldest_played I.WIDTH most_played (D.drive opened.start.value) opened.seen }
     requires ready { IsOpened I.WIDTH (found_state opened.seen) (D.drive opened.start.value) (D.drive opened.log.disk) }
-    ensures plays { (file : List ℕ) (disk : D) → OpensLog file (D.drive disk) (D.drive opened.start.value) (D.drive opened.log.disk) I.WIDTH opened.seen
+    ensures plays { (file : List ℕ) (disk : D) → OpensFile file (D.drive disk) (D.drive opened.start.value) (D.drive opened.log.disk) I.WIDTH opened.seen
         → PlaysRows report (Some file) size rows.now (targets K.output D.drive sink.old disk) (targets K.output D.drive sink.new result.disk) result.status result.events }
 {
     match book_of::<I, D>(alloc, opened, size) {
