@@ -17,7 +17,7 @@ use Rattle.run_ends.specs.Limits.{most_bytes}
 use Rattle.run_ends.specs.Status.{status_of}
 use Rattle.run_ends.specs.Tables.{or_refusal, IsTableCause, ReadsTable, HasBytes, IsBytesCause}
 use Rattle.run_ends.specs.Taking.{Refuses}
-use Rattle.run_ends.proofs.Attaching.{attaches-one, attaches-as}
+use Rattle.run_ends.proofs.AttachFacts.{attaches-one, attaches-as}
 use Rattle.log_run.specs.Compacting.{BothTargets}
 use Rattle.follow_run.specs.Leading.{RecoversLeader, ReadsLeader, LosesLeader}
 use Rattle.follow_run.specs.Replica.{EndsReplica}

@@ -24,7 +24,7 @@ use Rattle.recovery.proofs.WidthLemmas.{recovers_width, same_width, fault_seen, 
 use Rattle.follower.specs.Holding.{most_followed}
 use Rattle.run_ends.specs.LogFaults.{attach_refusal, log_refusal}
 use Rattle.run_ends.specs.Limits.{oldest_read}
-use Rattle.run_ends.proofs.Attaching.{attaches-one, attaches-none}
+use Rattle.run_ends.proofs.AttachFacts.{attaches-one, attaches-none}
 use Rattle.run_ends.proofs.LogFaults.{reading-after, calm-named, calm-free}
 use Rattle.log_run.proofs.DriveSteps.{calm-attached, calm-read, free-later}
 use Rattle.follow_run.specs.declared.leader.Leader.{Leader}

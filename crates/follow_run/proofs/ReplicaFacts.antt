@@ -33,7 +33,7 @@ use Rattle.follower.proofs.TurnLemmas.{told-before}
 use Rattle.run_ends.specs.LogFaults.{attach_refusal, log_refusal}
 use Rattle.run_ends.specs.Status.{status_of, written_status}
 use Rattle.run_ends.specs.Taking.{Refuses}
-use Rattle.run_ends.proofs.Attaching.{attaches-one, attaches-none, attaches-as}
+use Rattle.run_ends.proofs.AttachFacts.{attaches-one, attaches-none, attaches-as}
 use Rattle.log_run.proofs.MakingEnds.{ends-writing, whole-writing}
 use Rattle.log_run.proofs.DriveSteps.{calm-attached}
 use Rattle.follow_run.specs.Lines.{reports_text}

@@ -20,7 +20,7 @@ use Rattle.csv_rows.specs.declared.rows.Refusal.TheVariants as refusal
 use Rattle.run_ends.specs.Limits.{oldest_read, most_inspected}
 use Rattle.run_ends.specs.Status.{status_of}
 use Rattle.run_ends.specs.Taking.{Refuses}
-use Rattle.run_ends.proofs.Attaching.{attaches-one, attaches-as}
+use Rattle.run_ends.proofs.AttachFacts.{attaches-one, attaches-as}
 use Rattle.log_run.specs.Checking.{IsCheckingCause, IsDecidedBy, FindsCells, HasRead, HasReadUnless}
 use Rattle.log_run.specs.Compacting.{LeavesNew, EndsAnew, BothTargets, RecoversFew, EndsCompacting, anew}
 use Rattle.log_run.proofs.CheckingFacts.{decided-refused}

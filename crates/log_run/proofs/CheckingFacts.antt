@@ -11,7 +11,7 @@ use Rattle.io_edge.specs.Streams.{Output}
 use Rattle.run_ends.specs.Status.{status_of}
 use Rattle.run_ends.specs.Taking.{Refuses}
 use Rattle.run_ends.specs.Ends.{Targets}
-use Rattle.run_ends.proofs.Attaching.{attaches-as}
+use Rattle.run_ends.proofs.AttachFacts.{attaches-as}
 use Rattle.run_ends.specs.LogFaults.{log_refusal}
 use Rattle.log_run.specs.Checking.{IsDecided, IsDecidedBy, IsCheckingCause, HasReadUnless, EndsTelling}
 

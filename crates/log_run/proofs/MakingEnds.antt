@@ -12,7 +12,7 @@ use Rattle.csv_rows.specs.LogLines.{made_line}
 use Rattle.run_ends.specs.Ends.{Targets}
 use Rattle.run_ends.specs.Ending.{EndsWriting}
 use Rattle.run_ends.specs.Attaching.{AttachesOnce}
-use Rattle.run_ends.proofs.Attaching.{attaches-one, attaches-as}
+use Rattle.run_ends.proofs.AttachFacts.{attaches-one, attaches-as}
 use Rattle.run_ends.specs.Status.{status_of, written_status}
 use Rattle.run_ends.specs.Taking.{Refuses}
 use Rattle.log_run.specs.Making.{IsMakingCause, LeavesFile, EndsMaking}

@@ -24,7 +24,7 @@ use Rattle.csv_rows.specs.declared.rows.Refusal.TheVariants as refusal
 use Rattle.run_ends.specs.LogFaults.{attach_refusal, log_refusal}
 use Rattle.run_ends.specs.Limits.{oldest_played, most_played}
 use Rattle.run_ends.specs.Status.{status_of}
-use Rattle.run_ends.proofs.Attaching.{attaches-one, attaches-none}
+use Rattle.run_ends.proofs.AttachFacts.{attaches-one, attaches-none}
 use Rattle.play_run.specs.Playing.{IsNotOpened}
 use Rattle.play_run.specs.inside.Books.{OpensLog}
 use Rattle.run_ends.proofs.LogFaults.{calm-free, calm-named, reading-after}

@@ -1,3 +1,3 @@
 pub mod Ends
 pub mod LogFaults
-pub mod Attaching
+pub mod AttachFacts

@@ -24,7 +24,7 @@ use Rattle.recovery.proofs.OnlyReading.{stays-trans}
 use Rattle.csv_rows.specs.declared.rows.Refusal.{Refusal}
 use Rattle.run_ends.specs.Limits.{most_inspected, oldest_read}
 use Rattle.run_ends.specs.Status.{status_of}
-use Rattle.run_ends.proofs.Attaching.{attaches-one}
+use Rattle.run_ends.proofs.AttachFacts.{attaches-one}
 use Rattle.fence_watch.specs.declared.fences.Fence.{Fence}
 use Rattle.fence_watch.specs.Crossings.{crossings}
 use Rattle.fence_watch.specs.Watches.{FollowsCells, IsOver, Steps, WatchView, events_by, guard_behind, most_events}

@@ -15,7 +15,7 @@ use Rattle.run_ends.specs.LogFaults.{log_refusal}
 use Rattle.run_ends.specs.Status.{status_of, written_status}
 use Rattle.run_ends.specs.Taking.{Refuses}
 use Rattle.run_ends.specs.Tables.{IsTableCause, judged_by}
-use Rattle.run_ends.proofs.Attaching.{attaches-one, attaches-as}
+use Rattle.run_ends.proofs.AttachFacts.{attaches-one, attaches-as}
 use Rattle.log_run.proofs.MakingEnds.{ends-writing, whole-writing}
 use Rattle.fence_watch.specs.declared.fences.Fence.{Fence}
 use Rattle.fence_watch.specs.FenceRows.{fences_of_text}

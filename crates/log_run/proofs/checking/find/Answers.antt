@@ -4,7 +4,7 @@ use Rattle.disk_trait.proofs.Calls.{attached-still}
 use Rattle.recovery.proofs.OnlyReading.{stays-trans}
 use Rattle.csv_rows.specs.declared.rows.Refusal.{Refusal}
 use Rattle.run_ends.specs.Limits.{most_inspected}
-use Rattle.run_ends.proofs.Attaching.{attaches-one, attaches-none}
+use Rattle.run_ends.proofs.AttachFacts.{attaches-one, attaches-none}
 use Rattle.log_run.specs.Checking.{IsCheckingCause, IsDecidedBy}
 use Rattle.log_run.proofs.DriveSteps.{checking-after, decided-err, checking-attached, decided-attached, calm-attached, found-after, calm-read}
 use Rattle.log_run.proofs.checking.find.Goals as goal

@@ -1,6 +1,6 @@
 use Rattle.std.proofs.Common.{true}
 use Rattle.disk_trait.proofs.Calls.{attached-still}
-use Rattle.run_ends.proofs.Attaching.{attaches-one, attaches-none}
+use Rattle.run_ends.proofs.AttachFacts.{attaches-one, attaches-none}
 use Rattle.log_run.proofs.DriveSteps.{makes-after, leaves-attached, leaves-made, cause-attached, calm-attached, cause-made, calm-made}
 use Rattle.log_run.proofs.making.make_in.Goals as goal
 
