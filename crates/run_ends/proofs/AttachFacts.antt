@@ -1,5 +1,6 @@
 -- Which file was attached, by the answer of the attach, and what that says of a log.
 use Rattle.std.proofs.Common.{◌≡◌, inl, inr, ℕ, Bool, List, None, Err, refl, sym, subst}
+use Rattle.causes.specs.Causes.{Rose}
 use Rattle.disk_trait.specs.declared.disk.AttachFault.{AttachFault}
 use Rattle.disk_trait.specs.declared.disk.AttachFault.TheVariants as attach_fault
 use Rattle.disk_trait.specs.Drive.{Drive, AttachedOne, CountsAttach, Stays}
@@ -39,3 +40,7 @@ module _ (file : List ℕ) (make : Bool) (a b : Drive) where
     | inl disk ↦ subst (IsReadingCause oldest most a b) (sym disk.0) disk.1
     | inr memory ↦ subst (IsReadingCause oldest most a b) (sym memory) tt
   ]
+
+  -- where the drive didn't fail, memory ran out
+  pub only-memory : (why : Refusal) → RefusesAttach file make a b why → (Rose a.faults b.faults → ⊥) → why ≡ refusal.Memory
+  only-memory why refuses calm = elim refuses.cause [ inl disk ↦ absurd (calm disk.1) | inr memory ↦ memory ]

@@ -22,6 +22,6 @@ pub use attaching::attach;
 pub use ended::{Drives, Ended, refuse_on, without_rows};
 pub use input::{read_bytes, read_judged, refusal_of};
 pub use limits::{MOST_INSPECTED, MOST_PLAYED, TRIAL_BUCKET};
-pub use log_faults::{Unmade, log_refusal};
+pub use log_faults::{Unmade, attach_refusal, log_refusal};
 pub use refusals::put_refusal;
 pub use writing::written;
