@@ -18,8 +18,7 @@ use Rattle.run_ends.proofs.AttachFacts.{attaches-one, attaches-as}
 use Rattle.log_run.proofs.MakingEnds.{ends-writing, whole-writing}
 use Rattle.fence_watch.specs.declared.fences.Fence.{Fence}
 use Rattle.fence_watch.specs.FenceRows.{fences_of_text}
-use Rattle.fence_watch.specs.Fences.{AreFences}
-use Rattle.fence_watch.specs.Watches.{WatchView}
+use Rattle.fence_watch.specs.Tallies.{TallyView}
 use Rattle.watch_run.specs.WatchLines.{watched_text}
 use Rattle.watch_run.specs.Watching.{EndsWatching, GoesAlong, IsDecidedAlong, Watches}
 use Rattle.watch_run.specs.inside.Along.{RefusesFile, RunsFile}
@@ -28,11 +27,11 @@ use Rattle.watch_run.proofs.Crowds.{crowd-recovers}
 use Rattle.watch_run.proofs.Texts.{text-followed}
 
 -- the lines were written, or not all of them
-pub watched-all : {D T E : Type 0} (fences : List Fence) (file : List ℕ) (old new : Targets D) (v : WatchView) (wrote : Result T E) → AreFences fences → RunsFile fences file old.drive new.drive v
-    → Puts old.output.taken new.output.taken (view_text v fences) wrote → Counts old.output.faults new.output.faults wrote → EndsWatching fences file old new (written_status wrote)
-watched-all {T = T} {E = E} fences file old new v wrote rules runs puts counts =
+pub watched-all : {D T E : Type 0} (fences : List Fence) (file : List ℕ) (old new : Targets D) (v : TallyView) (wrote : Result T E) → RunsFile fences file old.drive new.drive v
+    → Puts old.output.taken new.output.taken (view_text v) wrote → Counts old.output.faults new.output.faults wrote → EndsWatching fences file old new (written_status wrote)
+watched-all {T = T} {E = E} fences file old new v wrote runs puts counts =
     let finds = runs.finds in
-    let text : view_text v fences ≡ watched_text fences finds.width finds.cells = text-followed finds.width finds.cells fences v rules.distinct finds.follows in
+    let text : view_text v ≡ watched_text fences finds.width finds.cells = text-followed finds.width finds.cells fences v finds.follows in
     let told : Puts old.output.taken new.output.taken (watched_text fences finds.width finds.cells) wrote = subst (λ (l : List ℕ). Puts old.output.taken new.output.taken l wrote) text puts in
     record {
       ends = inl (finds.width, finds.cells, finds.found, ends-writing (watched_text fences finds.width finds.cells) old.output new.output wrote told counts);

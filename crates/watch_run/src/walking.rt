@@ -6,7 +6,7 @@ ghost use Rattle.watch_run.specs.inside.Along.{IsBegun, IsStarted, RefusesAttach
 
 use csv_rows::Refusal;
 use disk_trait::LogDisk;
-use fence_watch::{Fences, Watch, WatchFault};
+use fence_watch::{Fences, Tally, WatchFault};
 use recovery::{OpenRefused, Walk, Walked, width_of};
 use run_ends::{MOST_INSPECTED, Unmade, attach, log_refusal};
 use std::alloc::Global;
@@ -14,7 +14,7 @@ use std::alloc::Global;
 /// A watch along all cells of a log, and the drive of that log.
 #[derive(Drop)]
 pub(crate) struct Along<D: LogDisk> {
-    pub(crate) watch: Watch,
+    pub(crate) watch: Tally,
     pub(crate) disk: D,
 }
 
@@ -103,19 +103,18 @@ fn watch_all<D: LogDisk>(
     alloc: Global,
     fences: &Fences,
     walk: &mut Walk<D>,
-) -> Result<Watch, Refusal>
+) -> Result<Tally, Refusal>
     requires { (w : ℕ) × IsStarted w (D.drive walk.old.disk) walk.old }
     ensures along { MatchResult result (λ watch. RunsAlong fences.now (D.drive walk.old.disk) (D.drive walk.new.disk) watch)
         (λ why. RefusesAttached fences.now (D.drive walk.old.disk) (D.drive walk.new.disk) why) }
 {
-    let copy = fences.copy(alloc)?;
-    let mut watch = Watch::new(alloc, copy)?;
+    let mut watch = Tally::new(alloc, fences)?;
     go_along(walk, &mut watch)?;
     Ok(watch)
 }
 
 // Goes with a watch along all cells of a walk that has begun.
-fn go_along<D: LogDisk>(walk: &mut Walk<D>, watch: &mut Watch) -> Result<(), Refusal>
+fn go_along<D: LogDisk>(walk: &mut Walk<D>, watch: &mut Tally) -> Result<(), Refusal>
     requires { (w : ℕ) × (fences : List Fence) × IsBegun w fences (D.drive walk.old.disk) walk.old watch.old }
     ensures along { (w : ℕ) (fences : List Fence) → IsBegun w fences (D.drive walk.old.disk) walk.old watch.old
         → MatchResult result (λ _. RunsAlong fences (D.drive walk.old.disk) (D.drive walk.new.disk) watch.new)

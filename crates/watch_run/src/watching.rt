@@ -48,7 +48,7 @@ fn tell_watch<K: Sink, D: LogDisk>(
     let Drives { disk, other } = drives;
     match watch_file(alloc, file, fences, disk) {
         Ok(Along { watch, disk }) => {
-            let status = written(write_watch(sink, &watch, fences.as_slice()));
+            let status = written(write_watch(sink, &watch));
             without_rows(alloc, status, Drives { disk, other })
         }
         Err(Unmade { disk, why }) => refuse_on(alloc, &why, sink, Drives { disk, other }),

@@ -9,8 +9,8 @@ returns-in-Ok-clause-ends g c =
     let drives = c.args.drives in
     rw c.without_rows.ensures
     (rw c.written-status.ensures
-    (watched-all c.args.fences.now c.args.file.now (at c.args.sink.now drives) (at c.write_watch.new.sink (record { disk = along.disk; other = drives.other })) along.watch c.write_watch.result c.as_slice.ensures.rules c.in-Ok.ensures.along
-    (rw c.as_slice.ensures.fences at c.write_watch.ensures.bytes) c.write_watch.ensures.cause))
+    (watched-all c.args.fences.now c.args.file.now (at c.args.sink.now drives) (at c.write_watch.new.sink (record { disk = along.disk; other = drives.other })) along.watch c.write_watch.result c.in-Ok.ensures.along
+    c.write_watch.ensures.bytes c.write_watch.ensures.cause))
 
 pub returns-in-Err-clause-ends : goal.returns-in-Err-clause-ends
 returns-in-Err-clause-ends g c =
