@@ -17,18 +17,22 @@ module _ (file : List ℕ) (make : Bool) (a b : Drive) where
   pub attaches-as : (status n : ℕ) → status ≡ n → AttachesOnce file make a b n → AttachesOnce file make a b status
   attaches-as status n is attaches = subst (AttachesOnce file make a b) (sym is) attaches
 
+  pub attaches-none : {T : Type 0} (fault : AttachFault) → CountsAttach {T = T} file make a b (Err fault) → AttachesOnce file make a b (status_of (attach_refusal fault))
+  attaches-none attach_fault.Disk counts = record { most = inr counts.kept; one = λ drive memory. absurd (drive refl) }
+  attaches-none attach_fault.Memory counts = record { most = inr counts.kept; one = λ drive memory. absurd (memory refl) }
+
   -- an attach that was refused
   pub refuses-attach : {T : Type 0} (fault : AttachFault) → Stays a b → CountsAttach {T = T} file make a b (Err fault) → RefusesAttach file make a b (attach_refusal fault)
   refuses-attach attach_fault.Disk stays counts = record {
     cause = inl (refl, counts.failed refl);
-    attached = record { most = inr counts.kept; one = λ drive memory. absurd (drive refl) };
+    attached = attaches-none attach_fault.Disk counts;
     stays = stays;
     later = counts.later;
     calm = λ other. absurd (other refl);
   }
   refuses-attach attach_fault.Memory stays counts = record {
     cause = inr refl;
-    attached = record { most = inr counts.kept; one = λ drive memory. absurd (memory refl) };
+    attached = attaches-none attach_fault.Memory counts;
     stays = stays;
     later = counts.later;
     calm = λ other. counts.memory refl;

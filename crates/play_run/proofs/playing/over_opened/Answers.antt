@@ -23,7 +23,7 @@ pub with_drive-requires : goal.with_drive-requires
 with_drive-requires g c =
     let book = c.in-Ok.book in
     let end = c.play_and_tell-told in
-    has-drive g.D.LogDisk.drive g.I.Index.WIDTH book.opening end.result.events book.log _ end.result.disk c.in-Ok.ensures.log end.ensures.log
+    has-drive g.D.LogDisk.drive g.I.Index.WIDTH book.opening end.result.history book.log _ end.result.disk c.in-Ok.ensures.log end.ensures.log
 
 pub returns-in-Ok : goal.returns-in-Ok
 returns-in-Ok g c =
