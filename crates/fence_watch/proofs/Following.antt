@@ -156,7 +156,7 @@ drop-behind id world f rising (Some p) e =
     by_test false = refl
 
 -- a guard behind a cell is that of the world behind it
-guard-behind : (world : World) (c : Cell) (f : Fence) → IsRising (places_of world)
+pub guard-behind : (world : World) (c : Cell) (f : Fence) → IsRising (places_of world)
     → guard_in (world_behind world c) f ≡ guard_behind (object_of c) (place_in world (object_of c)) (place_in (world_behind world c) (object_of c)) (guard_in world f)
 guard-behind world (cell.Put id at moment) f rising = ap (λ (ids : List ℕ). record { fence = f; inside = ids }) (put-behind (record { id = id; at = at; moment = moment }) world f rising (position_of world id) refl (is_full world))
 guard-behind world (cell.Move id at moment) f rising = ap (λ (ids : List ℕ). record { fence = f; inside = ids }) (move-behind id (record { at = at; moment = moment }) world f rising (position_of world id) refl)
@@ -175,10 +175,10 @@ guards-behind world c [] rising = refl
 guards-behind world c (f ∷ fences) rising = λ i. guard-behind world c f rising i ∷ guards-behind world c fences rising i
 
 -- what a walk tells of the next cell, in the worlds of the crossings
-places-before : (w : ℕ) (cells : List Cell) (walked : Walked) → IsNextWalked w cells walked → walked.before ≡ place_in (world_after_cells [] cells) (object_of walked.cell)
+pub places-before : (w : ℕ) (cells : List Cell) (walked : Walked) → IsNextWalked w cells walked → walked.before ≡ place_in (world_after_cells [] cells) (object_of walked.cell)
 places-before w cells walked n = n.before ∙ ap (λ (world : World). place_in world (object_of walked.cell)) (world-of_state w cells)
 
-places-after : (w : ℕ) (cells : List Cell) (walked : Walked) → IsNextWalked w cells walked → walked.after ≡ place_in (world_behind (world_after_cells [] cells) walked.cell) (object_of walked.cell)
+pub places-after : (w : ℕ) (cells : List Cell) (walked : Walked) → IsNextWalked w cells walked → walked.after ≡ place_in (world_behind (world_after_cells [] cells) walked.cell) (object_of walked.cell)
 places-after w cells walked n = n.after ∙ ap (λ (world : World). place_in world (object_of walked.cell)) (world-of_state w (cells ++ walked.cell ∷ []) ∙ after-snoc [] cells walked.cell)
 
 -- a step along the next cell of a log

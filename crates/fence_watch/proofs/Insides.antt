@@ -34,11 +34,11 @@ true_false : true ≡ false → ⊥
 true_false t = cc t
 
 -- an id more, or none
-abbrev more : Bool → ℕ → List ℕ → List ℕ
+abbrev pub more : Bool → ℕ → List ℕ → List ℕ
 more b id ids = cond b (id ∷ ids) ids
 
 -- who is inside, where an object stands in front
-first-inside : (f : Fence) (n : Member) (ns : World) → inside_of (n ∷ ns) f ≡ more (has_point f.region n.at) n.id (inside_of ns f)
+pub first-inside : (f : Fence) (n : Member) (ns : World) → inside_of (n ∷ ns) f ≡ more (has_point f.region n.at) n.id (inside_of ns f)
 first-inside f n ns = by_test (has_point f.region n.at)
   where
     later : List Placed

@@ -6,4 +6,7 @@ pub mod MarkLemmas
 pub mod SlabLemmas
 pub mod Passing
 pub mod Parts
+pub mod AlongParts
+pub mod Tallying
+pub mod Guarding
 pub mod Answering

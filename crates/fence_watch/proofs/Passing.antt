@@ -1,26 +1,21 @@
 -- What the rows of two places tell of the fences that are crossed between them.
-use Rattle.std.proofs.Common.{◌≡◌, ℕ, zero, suc, ◌≤◌, ◌<◌, ◌+◌, Bool, true, false, List, [], ◌∷◌, ◌++◌, length, map, Option, Some, None, refl, sym, ◌∙◌, ap, subst, arith, cond, ◌&&◌, append-nil, take, drop}
-use Rattle.std.proofs.lemmas.List.{take-append-le, take_all, length-map}
+use Rattle.std.proofs.Common.{◌≡◌, ℕ, zero, suc, ◌≤◌, ◌+◌, Bool, true, false, List, [], ◌∷◌, ◌++◌, length, map, Option, Some, None, refl, sym, ◌∙◌, ap, arith, cond, ◌&&◌}
+use Rattle.std.proofs.lemmas.List.{length-map}
 use Rattle.std.specs.Prelude.{nat_le}
 use Rattle.zorder.specs.declared.points.Point.{Point}
 use Rattle.fence_watch.specs.declared.fences.Fence.{Fence}
 use Rattle.fence_watch.specs.declared.fences.Event.{Event}
 use Rattle.fence_watch.specs.declared.fences.Crossing.{Crossing}
 use Rattle.fence_watch.specs.declared.fences.Crossing.TheVariants.{Enter, Leave}
-use Rattle.fence_watch.specs.declared.guards.Guarded.{Guarded}
-use Rattle.fence_watch.specs.declared.passages.Chart.{Chart}
 use Rattle.fence_watch.specs.declared.passages.Pair.{Pair}
 use Rattle.fence_watch.specs.Fences.{lies_in, most_fences}
 use Rattle.fence_watch.specs.Slabs.{row_at}
 use Rattle.fence_watch.specs.Marks.{marks_of, filled, all_marks}
 use Rattle.fence_watch.proofs.MarkLemmas.{both-all, turns-all}
 use Rattle.fence_watch.specs.Crossings.{crossings_of, crossings_by}
-use Rattle.recovery.specs.declared.walked.Walked.{Walked}
-use Rattle.recovery.specs.Walks.{object_of}
-use Rattle.fence_watch.specs.Watches.{Guard, WatchView, fences_of, guard_behind, with_id, without_id, has_id, HoldsBefore, events_by, Steps, IsOver, most_events}
-use Rattle.fence_watch.specs.Passages.{turn, both, turns, turns_of, count_turns, event_by, events_along, turn_at, all_turns, column_of, line_of, Charts, ShowsPassage}
-use Rattle.fence_watch.specs.Guards.{AreRising, AllRising, behind_by, guards_of, guards_along}
-use Rattle.fence_watch.specs.Kept.{Keeps}
+use Rattle.fence_watch.specs.Watches.{Guard, fences_of, guard_behind, with_id, without_id, has_id, HoldsBefore}
+use Rattle.fence_watch.specs.Passages.{turn, both, turns, turns_of, count_turns, event_by, events_along, turn_at, all_turns, column_of, line_of, ShowsPassage}
+use Rattle.fence_watch.specs.Guards.{AreRising, AllRising, behind_by, guards_along}
 use Rattle.fence_watch.proofs.RisingIds.{rising-with_id, rising-without_id}
 
 -- both rows of a place
@@ -135,16 +130,10 @@ count-shown at id o before after fences p is few shows =
     ap count_turns shows ∙ count-all (map (turn_at before after) fences) (omega (arith, len, few)) ∙ count-events at id before after fences
     ∙ ap length (events-map at id before after fences ∙ ap (λ (x : Option ℕ). crossings_by at x before after fences) (sym is))
 
--- where no fence is crossed nothing changes
+-- where no fence is crossed nothing is told
 pub none-events : (events : List Event) → length events ≡ 0 → events ≡ []
 none-events [] e = refl
 none-events (x ∷ xs) e = absurd (omega (arith, e))
-
-pub none-guards : (id : ℕ) (guards : List Guard) (ts : List (Option Crossing)) → count_turns ts ≡ 0 → guards_along id guards ts ≡ guards
-none-guards id [] ts e = refl
-none-guards id (g ∷ guards) [] e = refl
-none-guards id (g ∷ guards) (None ∷ ts) e = ap (λ (l : List Guard). g ∷ l) (none-guards id guards ts e)
-none-guards id (g ∷ guards) (Some c ∷ ts) e = absurd (omega (arith, e))
 
 -- the fences stay
 pub fences-behind : (o : Option ℕ) (before after : Option Point) (guards : List Guard) → fences_of (map (guard_behind o before after) guards) ≡ fences_of guards
@@ -166,59 +155,3 @@ rising-behind (Some id) before after (g ∷ guards) holds rising =
     one true false has = rising-without_id id g.inside rising.0
     one false true has = rising-with_id id g.inside has rising.0
     one false false has = rising.0
-
--- what a passage that shows both places of a step tells of its events and of the guards behind it
-pub record Counted (walked : Walked) (id : ℕ) (guards : List Guard) (p : List Pair) : Type 0 where
-  pub count : count_turns (turns_of p) ≡ length (events_by walked guards)
-  pub told : events_along walked.at id (fences_of guards) (turns_of p) ≡ events_by walked guards
-  pub behind : guards_along id guards (turns_of p) ≡ map (guard_behind (object_of walked.cell) walked.before walked.after) guards
-
-pub counted : (walked : Walked) (id : ℕ) (guards : List Guard) (p : List Pair) → object_of walked.cell ≡ Some id → length (fences_of guards) ≤ most_fences → ShowsPassage walked.before walked.after (fences_of guards) p → Counted walked id guards p
-counted walked id guards p is few shows = record {
-  count = count-shown walked.at id (object_of walked.cell) walked.before walked.after (fences_of guards) p is few shows;
-  told = events-shown walked.at id (object_of walked.cell) walked.before walked.after (fences_of guards) p is few shows;
-  behind = guards-shown id (object_of walked.cell) walked.before walked.after guards p is few shows;
-}
-
--- where no fence is crossed the watch stays as it is
-pub stays : (walked : Walked) (id : ℕ) (v : WatchView) (p : List Pair) → Counted walked id v.guards p → count_turns (turns_of p) ≡ 0 → Steps walked v v
-stays walked id v p k crossed =
-    let none : events_by walked v.guards ≡ [] = none-events (events_by walked v.guards) (sym k.count ∙ crossed) in
-    record {
-      events = sym (append-nil v.events) ∙ ap (λ (l : List Event). v.events ++ l) (sym none);
-      guards = sym (none-guards id v.guards (turns_of p) crossed) ∙ k.behind;
-    }
-
-pub not-over : (walked : Walked) (id crossed : ℕ) (v : WatchView) (p : List Pair) → Counted walked id v.guards p → crossed ≡ count_turns (turns_of p) → length v.events + crossed ≤ most_events → IsOver walked v → ⊥
-not-over walked id crossed v p k counts fits over = omega (arith, k.count, counts, fits, over)
-
-pub is-over : (walked : Walked) (id crossed : ℕ) (v : WatchView) (p : List Pair) → Counted walked id v.guards p → crossed ≡ count_turns (turns_of p) → most_events < length v.events + crossed → IsOver walked v
-is-over walked id crossed v p k counts past = omega (arith, k.count, counts, past)
-
--- what a step leaves
-pub record Passed (walked : Walked) (before : List Guard) (told : List Event) (new : List Guarded) (now : List Event) : Type 0 where
-  pub guards : guards_of new ≡ map (guard_behind (object_of walked.cell) walked.before walked.after) before
-  pub events : now ≡ told ++ events_by walked before
-
-pub passed_by : (walked : Walked) (id : ℕ) (old same : List Guarded) (told : List Event) (new : List Guarded) (events : List Event) (p : List Pair) → same ≡ old → Counted walked id (guards_of old) p
-    → guards_of new ≡ guards_along id (guards_of same) (turns_of p) → events ≡ told ++ events_along walked.at id (fences_of (guards_of same)) (turns_of p) → Passed walked (guards_of old) told new events
-passed_by walked id old same told new events p is k behind said = record {
-  guards = behind ∙ ap (λ (l : List Guarded). guards_along id (guards_of l) (turns_of p)) is ∙ k.behind;
-  events = said ∙ ap (λ (l : List Event). told ++ l) (ap (λ (l : List Guarded). events_along walked.at id (fences_of (guards_of l)) (turns_of p)) is ∙ k.told);
-}
-
--- a list that is written over as a whole
-pub refilled : (n : ℕ) (new old : List Guarded) → length new ≡ n → take n (new ++ drop (length new) old) ≡ new
-refilled n new old e = take-append-le n new (drop (length new) old) (omega (arith, e)) ∙ take_all n new (omega (arith, e))
-
-pub keeps-behind : (walked : Walked) (guards : List Guard) (chart : Chart) (told : List Event) (new : List Guarded) (events : List Event) → Passed walked guards told new events
-    → Charts (fences_of guards) chart → AllRising guards → length (fences_of guards) ≤ most_fences → HoldsBefore (object_of walked.cell) walked.before guards → length events ≤ most_events → Keeps new chart events
-keeps-behind walked guards chart told new events passed charts rising few holds fits =
-    let o : Option ℕ = object_of walked.cell in
-    let same : fences_of (guards_of new) ≡ fences_of guards = ap fences_of passed.guards ∙ fences-behind o walked.before walked.after guards in
-    record {
-      charts = subst (λ (l : List Fence). Charts l chart) (sym same) charts;
-      rising = subst AllRising (sym passed.guards) (rising-behind o walked.before walked.after guards holds rising);
-      few = subst (λ (l : List Fence). length l ≤ most_fences) (sym same) few;
-      events = fits;
-    }

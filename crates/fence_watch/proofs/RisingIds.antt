@@ -8,7 +8,7 @@ use Rattle.std.proofs.lemmas.Grind.{common_steps}
 use Rattle.fence_watch.specs.Guards.{AreRising}
 use Rattle.fence_watch.specs.Watches.{with_id, without_id, has_id}
 
-abbrev Above : ℕ → List ℕ → Type 0
+abbrev pub Above : ℕ → List ℕ → Type 0
 Above a xs = AllByRecursion (λ y. a < y) xs
 
 above_at : (a : ℕ) (xs : List ℕ) (i d : ℕ) → Above a xs → i < length xs → a < get_or xs i d
@@ -36,7 +36,7 @@ insert-with_id id (x ∷ xs) (suc i) le less greater =
     let rest : insert xs i id ≡ with_id id xs = insert-with_id id xs i (omega (arith, le)) (λ k d lt. less (suc k) d (omega (arith, lt))) (λ k d low lt. greater (suc k) d (omega (arith, low)) (omega (arith, lt))) in
     grind (arith, nat_tests, common_steps)
 
-without-above : (id : ℕ) (xs : List ℕ) → Above id xs → without_id id xs ≡ xs
+pub without-above : (id : ℕ) (xs : List ℕ) → Above id xs → without_id id xs ≡ xs
 without-above id [] above = refl
 without-above id (x ∷ xs) above =
     let rest : without_id id xs ≡ xs = without-above id xs above.1 in

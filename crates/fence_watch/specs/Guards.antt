@@ -3,12 +3,10 @@ use Rattle.std.specs.Prelude.{ℕ, ◌+◌, ◌≤◌, ◌<◌, List, [], ◌∷
 use Rattle.std.specs.List.{AllByRecursion}
 use Rattle.fence_watch.specs.declared.fences.Crossing.{Crossing}
 use Rattle.fence_watch.specs.declared.fences.Crossing.TheVariants.{Enter, Leave}
-use Rattle.fence_watch.specs.declared.fences.Event.{Event}
 use Rattle.fence_watch.specs.declared.guards.Guarded.{Guarded}
-use Rattle.fence_watch.specs.declared.guards.Step.{Step}
 use Rattle.fence_watch.specs.declared.passages.Pair.{Pair}
-use Rattle.fence_watch.specs.Passages.{turns_in, turns_of, events_along}
-use Rattle.fence_watch.specs.Watches.{Guard, fences_of, with_id, without_id}
+use Rattle.fence_watch.specs.Passages.{along, turns_in, turns_of}
+use Rattle.fence_watch.specs.Watches.{Guard, with_id, without_id}
 
 -- each id is above those before it
 abbrev pub AreRising : List ℕ → Type 0
@@ -32,9 +30,7 @@ behind_by id g (Some Leave) = record g { inside = without_id id g.inside }
 
 -- guards behind one crossing each
 abbrev pub guards_along : ℕ → List Guard → List (Option Crossing) → List Guard
-guards_along id [] ts = []
-guards_along id (g ∷ guards) [] = g ∷ guards
-guards_along id (g ∷ guards) (t ∷ ts) = behind_by id g t ∷ guards_along id guards ts
+guards_along id guards ts = along (behind_by id) guards ts
 
 -- there is room for an id where the fence is entered
 abbrev pub HasRoom : Guarded → Option Crossing → Type 0
@@ -47,16 +43,10 @@ HaveRoom [] ts = ⊤
 HaveRoom (g ∷ guards) [] = ⊤
 HaveRoom (g ∷ guards) (t ∷ ts) = HasRoom g t × HaveRoom guards ts
 
--- what a step along a passage makes of guards, and what it tells
-abbrev pub crossed_by : Step → List Guarded → List Pair → List Guard
-crossed_by step guards passage = guards_along step.id (guards_of guards) (turns_of passage)
-
-abbrev pub told_by : Step → List Guarded → List Pair → List Event
-told_by step guards passage = events_along step.at step.id (fences_of (guards_of guards)) (turns_of passage)
+-- what a step of an object along a passage makes of guards
+abbrev pub crossed_by : ℕ → List Guarded → List Pair → List Guard
+crossed_by id guards passage = guards_along id (guards_of guards) (turns_of passage)
 
 -- the same of as few guards as two words have bits
-abbrev pub crossed_in : Step → List Guarded → Pair → List Guard
-crossed_in step guards p = guards_along step.id (guards_of guards) (turns_in (length guards) p)
-
-abbrev pub told_in : Step → List Guarded → Pair → List Event
-told_in step guards p = events_along step.at step.id (fences_of (guards_of guards)) (turns_in (length guards) p)
+abbrev pub crossed_in : ℕ → List Guarded → Pair → List Guard
+crossed_in id guards p = guards_along id (guards_of guards) (turns_in (length guards) p)

@@ -7,6 +7,8 @@ pub mod Marks
 pub mod Slabs
 pub mod Passages
 pub mod Guards
+pub mod Counts
+pub mod Tallies
 pub mod Kept
 pub mod Examples
 pub use Rattle.log_state.specs.Recovers

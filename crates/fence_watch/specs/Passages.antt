@@ -52,6 +52,12 @@ count_turns [] = 0
 count_turns (None ∷ ts) = count_turns ts
 count_turns (Some c ∷ ts) = count_turns ts + 1
 
+-- things behind one crossing each
+abbrev pub along : {X : Type 0} → (X → Option Crossing → X) → List X → List (Option Crossing) → List X
+along behind [] ts = []
+along behind (x ∷ xs) [] = x ∷ xs
+along behind (x ∷ xs) (t ∷ ts) = behind x t ∷ along behind xs ts
+
 -- the event of a fence that is crossed so
 abbrev pub event_by : ℕ → ℕ → Fence → Option Crossing → List Event
 event_by at id f None = []

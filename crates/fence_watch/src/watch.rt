@@ -1,4 +1,4 @@
-//! A watch: fences, who is inside, and who crossed.
+//! A watch: a tally of fences, and the ids of those that are inside.
 ghost use Rattle.std.specs.Prelude.{◌≡◌, ◌≤◌, ◌↔◌, ℕ, List, [], ◌∷◌, ◌++◌, length};
 ghost use Rattle.std.specs.Prelude.{Err, Some, None, IfOk, OnOk, OnErr, MatchOption};
 ghost use Rattle.cell_format.specs.declared.cell.Cell.{Cell};
@@ -8,10 +8,13 @@ ghost use Rattle.log_state.specs.Recovers.{state_of};
 ghost use Rattle.fence_watch.specs.Fences.{AreOthers};
 ghost use Rattle.fence_watch.specs.Crossings.{crossings};
 ghost use Rattle.fence_watch.specs.Watches.{Steps, IsOver, HoldsBefore, FollowsCells, IsInside, inside_at, most_events};
+ghost use Rattle.fence_watch.specs.Guards.{AllRising, guards_of, crossed_by};
+ghost use Rattle.fence_watch.specs.Tallies.{IsPast, Shows, Tallies};
 
 use crate::fences::{Event, Fences};
-use crate::guards::{Guarded, Step, guard, pass};
-use crate::passages::{Chart, crossed};
+use crate::guards::{Guarded, cross, guard, make_room};
+use crate::passages::Pair;
+use crate::tally::Tally;
 use cell_format::Cell;
 use recovery::Walked;
 use std::alloc::Global;
@@ -26,12 +29,14 @@ pub enum WatchFault {
     Memory,
 }
 
-/// Fences along a log.
+/// Fences along a log, with the ids inside each.
+///
+/// `inside` hands out a slice and takes no memory, so the ids of a fence are one rising list: an id that comes before others moves them all, and
+/// so many that come against their order cost the square of their number. Where numbers are enough, a `Tally` keeps no ids.
 #[derive(Drop)]
 pub struct Watch {
     guards: Vec<Guarded>,
-    chart: Chart,
-    events: Vec<Event>,
+    tally: Tally,
 }
 
 impl Model for Watch {
@@ -42,9 +47,9 @@ impl Model for Watch {
 
     ghost use Rattle.fence_watch.specs.Kept.{Keeps};
 
-    ghost view = { λ w. record { guards = guards_of w.guards.items; events = w.events.items } };
+    ghost view = { λ w. record { guards = guards_of w.guards.items; events = w.tally.events } };
 
-    ghost invariant = { λ w. Keeps w.guards.items w.chart w.events.items };
+    ghost invariant = { λ w. Keeps (guards_of w.guards.items) w.tally };
 }
 
 impl Watch {
@@ -54,8 +59,7 @@ impl Watch {
     {
         Ok(Watch {
             guards: guard(alloc, fences.as_slice())?,
-            chart: Chart::new(alloc, fences.as_slice())?,
-            events: Vec::new(alloc),
+            tally: Tally::new(alloc, &fences)?,
         })
     }
 
@@ -66,7 +70,7 @@ impl Watch {
         ensures follows { (cells : List Cell) (fences : List Fence) → FollowsCells cells fences self.now
             → result.now ≡ crossings cells fences }
     {
-        self.events.as_slice()
+        self.tally.events()
     }
 
     /// Who is inside the fence of this number, their ids rising.
@@ -109,26 +113,39 @@ impl Watch {
         ensures err { OnErr result (self.new ≡ self.old) }
         ensures too_many { (result ≡ Err WatchFault.TooMany) ↔ IsOver walked.now self.old }
     {
-        let passage = self.chart.passage(walked.before, walked.after);
-        let crossed = crossed(&passage);
-        if crossed == 0 {
-            return Ok(());
-        }
-        if self.events.len() + crossed > MOST_EVENTS {
-            return Err(WatchFault::TooMany);
-        }
-        let step = Step { at: walked.at, id };
-        let Ok(()) = pass(&mut self.guards, &passage, step, crossed, &mut self.events) else {
-            return Err(WatchFault::Memory);
-        };
-        Ok(())
+        let passage = self.tally.passage(walked);
+        pass(&mut self.guards, &mut self.tally, walked, id, &passage)
     }
 }
 
-/// The most events that a watch keeps.
-const MOST_EVENTS: usize = 4_194_304;
+// Goes along a cell that changes this object, and crosses fences so. All memory is taken before anything is changed.
+fn pass(
+    guards: &mut [Guarded],
+    tally: &mut Tally,
+    walked: &Walked,
+    id: u64,
+    passage: &[Pair; 4],
+) -> Result<(), WatchFault>
+    requires shows { Shows walked.now id tally.old passage.now }
+    requires rising { AllRising (guards_of guards.old) }
+    ensures guards { OnOk result (guards_of guards.new ≡ crossed_by id guards.old passage.now) }
+    ensures tally { OnOk result (Tallies walked.now tally.old tally.new) }
+    ensures same_guards { OnErr result (guards_of guards.new ≡ guards_of guards.old) }
+    ensures same_tally { OnErr result (tally.new ≡ tally.old) }
+    ensures too_many { (result ≡ Err WatchFault.TooMany) ↔ IsPast walked.now tally.old }
+{
+    if tally.is_past(walked, id, passage) {
+        return Err(WatchFault::TooMany);
+    }
+    let Ok(()) = make_room(guards, passage) else {
+        return Err(WatchFault::Memory);
+    };
+    tally.pass(walked, id, passage)?;
+    cross(guards, passage, id);
+    Ok(())
+}
 
-fn object_of(cell: &Cell) -> Option<u64>
+pub(crate) fn object_of(cell: &Cell) -> Option<u64>
     ensures { result ≡ object_of cell.now }
 {
     match *cell {

@@ -15,6 +15,8 @@ use Rattle.kept_log.specs.Counts.{first_in, count_after}
 use Rattle.csv_rows.specs.declared.rows.InRow.{InRow}
 use Rattle.csv_rows.specs.declared.rows.Refusal.{Refusal}
 use Rattle.io_edge.specs.Streams.{Output}
+use Rattle.run_ends.specs.declared.ended.Drives.{Drives}
+use Rattle.run_ends.specs.Ends.{targets}
 use Rattle.run_ends.specs.Status.{status_of, WritesLines}
 use Rattle.play_run.specs.Origin.{Origin, new_origin}
 use Rattle.log_state.specs.Changes.{cells_of}
@@ -159,10 +161,10 @@ moved P w v bucket size s t first cells width sized state count holds =
     (subst (λ (o : State). P w size o cells) state (subst (λ (n : ℕ). P w n s cells) sized (subst (λ (c : Option ℕ). P w bucket s c) count holds)))
 
 -- rows that were answered over a log
-pub answered-over : {D : Type 0} (drive : D → Drive) (report : Report) (file : List ℕ) (w size : ℕ) (rows : List InRow) (b : BookView D) (was disk : D) (before after : Output) (status : ℕ) (h : List Entry) → OpensBook drive file (drive was) w size b
+pub answered-over : {D : Type 0} (drive : D → Drive) (report : Report) (file : List ℕ) (w size : ℕ) (rows : List InRow) (b : BookView D) (was disk other : D) (before after : Output) (status : ℕ) (h : List Entry) → OpensBook drive file (drive was) w size b
     → EndsBook drive w report rows b h status (Some disk) before after
-    → IsAnswered {D = D} report (Some file) size rows (record { output = before; disk = was; drive = drive was }) (record { output = after; disk = disk; drive = drive disk }) status h
-answered-over drive report file w size rows b was disk before after status h opens ended = record {
+    → IsAnswered {D = D} report (Some file) size rows (targets (λ o. o) drive before (record { disk = was; other = other })) (targets (λ o. o) drive after (record { disk = disk; other = other })) status h
+answered-over drive report file w size rows b was disk other before after status h opens ended = record {
   from = opens.from;
   begins = opens.found;
   book = opens.shows;
@@ -182,21 +184,21 @@ answered-over drive report file w size rows b was disk before after status h ope
 }
 
 -- rows that were answered over no log
-pub answered-new : {D : Type 0} (drive : D → Drive) (report : Report) (size : ℕ) (rows : List InRow) (b : BookView D) (was : D) (left : Option D) (before after : Output) (status : ℕ) (h : List Entry) → b.opening ≡ empty_state → b.bucket ≡ size → b.log ≡ None
+pub answered-new : {D : Type 0} (drive : D → Drive) (report : Report) (size : ℕ) (rows : List InRow) (b : BookView D) (drives : Drives D) (left : Option D) (before after : Output) (status : ℕ) (h : List Entry) → b.opening ≡ empty_state → b.bucket ≡ size → b.log ≡ None
     → EndsBook drive 1 report rows b h status left before after
-    → IsAnswered {D = D} report None size rows (record { output = before; disk = was; drive = drive was }) (record { output = after; disk = was; drive = drive was }) status h
-answered-new {D = D} drive report size rows b was left before after status h opening bucket none ended = record {
+    → IsAnswered {D = D} report None size rows (targets (λ o. o) drive before drives) (targets (λ o. o) drive after drives) status h
+answered-new {D = D} drive report size rows b drives left before after status h opening bucket none ended = record {
   from = new_origin;
   begins = refl;
   book = refl;
   one_list = subst (λ (o : State). AnswersAsOneList report 1 o rows h status before after) opening ended.one_list;
-  ends = ends-weaker (StopsBook (IsNextStep 1 b.opening rows) h) (IsStop None new_origin rows (drive was) (drive was) h) status before after (new-stop drive 1 (IsNextStep 1 b.opening rows) new_origin rows (drive was) (drive was) b.opening h b.log left none ended.log) ended.ends;
+  ends = ends-weaker (StopsBook (IsNextStep 1 b.opening rows) h) (IsStop None new_origin rows (drive drives.disk) (drive drives.disk) h) status before after (new-stop drive 1 (IsNextStep 1 b.opening rows) new_origin rows (drive drives.disk) (drive drives.disk) b.opening h b.log left none ended.log) ended.ends;
   splits = λ writes.
       moved (λ v n s first. SplitsAreDone v n s first h) 1 1 b.bucket size b.opening empty_state (first_in b.log) None refl bucket opening (ap (λ (l : Option (KeptView D)). first_in l) none) (ended.splits writes);
   limits = moved (λ v n s first. IsWithinLimits v n s first rows h) 1 1 b.bucket size b.opening empty_state (first_in b.log) None refl bucket opening (ap (λ (l : Option (KeptView D)). first_in l) none) ended.limits;
   crash = λ bytes first told is settled. absurd (cc is);
   text = λ bytes first told is whole. absurd (cc is);
-  calls = inl (well-none (drive was) (drive was) (λ all told. told));
+  calls = inl (well-none (drive drives.disk) (drive drives.disk) (λ all told. told));
   calm = λ other. refl;
   attached = tt;
 }

@@ -19,7 +19,7 @@ use Rattle.csv_rows.specs.declared.rows.Refusal.TheVariants as refusal
 use Rattle.run_ends.specs.Limits.{most_bytes, oldest_played, most_played}
 use Rattle.io_edge.specs.Streams.{Input, Output}
 use Rattle.io_edge.specs.Reads.{ConsumesUpTo}
-use Rattle.run_ends.specs.Ends.{Ends, Targets}
+use Rattle.run_ends.specs.Ends.{Ends, Done, Targets}
 use Rattle.run_ends.specs.Judged.{judged}
 use Rattle.run_ends.specs.Status.{status_of, WritesLines}
 use Rattle.run_ends.specs.Ending.{EndsRefused}
@@ -155,11 +155,11 @@ IsGood (Some file) old new = IsGoodLog old new
 
 -- What `play` promises. The second drive is left as it was. Bad input gives its refusal's status, and good input over a bad log that log's, unless a count rose or memory ran out.
 -- Good input, a good log where there is one, and no fault give all lines, unless memory ran out.
-pub record Plays {S D : Type 0} (log : Option (List ℕ)) (size : ℕ) (old new : Ends S D) (status : ℕ) (h : List Entry) : Type 0 where
-  pub goes : Goes log size old.input new.input old.to new.to status h
-  pub other : new.other ≡ old.other
-  pub input : (bytes : List ℕ) (why : Refusal) → old.input.left ≡ Some bytes → judged bytes ≡ Err why → (status ≡ status_of why) ⊎ ((status ≡ 5) ⊎ (status ≡ 9))
-  pub follows : (bytes : List ℕ) (rows : List InRow) → old.input.left ≡ Some bytes → judged bytes ≡ Ok rows → (Rose old.input.faults new.input.faults → ⊥)
-      → FollowsLog log old.to.drive new.to.drive status
-  pub complete : (bytes : List ℕ) (rows : List InRow) → old.input.left ≡ Some bytes → judged bytes ≡ Ok rows → (Rose old.input.faults new.input.faults → ⊥)
-      → (Rose old.to.output.faults new.to.output.faults → ⊥) → IsGood log old.to.drive new.to.drive → (status ≡ 0) ⊎ (status ≡ 9)
+pub record Plays {S D : Type 0} (log : Option (List ℕ)) (size : ℕ) (done : Done (Ends S D)) : Type 0 where
+  pub goes : Goes log size done.old.input done.new.input done.old.to done.new.to done.status done.history
+  pub other : done.new.to.other ≡ done.old.to.other
+  pub input : (bytes : List ℕ) (why : Refusal) → done.old.input.left ≡ Some bytes → judged bytes ≡ Err why → (done.status ≡ status_of why) ⊎ ((done.status ≡ 5) ⊎ (done.status ≡ 9))
+  pub follows : (bytes : List ℕ) (rows : List InRow) → done.old.input.left ≡ Some bytes → judged bytes ≡ Ok rows → (Rose done.old.input.faults done.new.input.faults → ⊥)
+      → FollowsLog log done.old.to.drive done.new.to.drive done.status
+  pub complete : (bytes : List ℕ) (rows : List InRow) → done.old.input.left ≡ Some bytes → judged bytes ≡ Ok rows → (Rose done.old.input.faults done.new.input.faults → ⊥)
+      → (Rose done.old.to.output.faults done.new.to.output.faults → ⊥) → IsGood log done.old.to.drive done.new.to.drive → (done.status ≡ 0) ⊎ (done.status ≡ 9)

@@ -27,8 +27,9 @@ use Rattle.run_ends.specs.Status.{status_of}
 use Rattle.run_ends.proofs.AttachFacts.{attaches-one}
 use Rattle.fence_watch.specs.declared.fences.Fence.{Fence}
 use Rattle.fence_watch.specs.Crossings.{crossings}
-use Rattle.fence_watch.specs.Watches.{FollowsCells, IsOver, Steps, WatchView, events_by, guard_behind, most_events}
-use Rattle.fence_watch.proofs.Following.{follows-step}
+use Rattle.fence_watch.specs.Tallies.{IsPast, Tallies, TalliesCells, TallyView, count_behind, events_told}
+use Rattle.fence_watch.specs.Watches.{most_events}
+use Rattle.fence_watch.proofs.Tallying.{tallies-step}
 use Rattle.fence_watch.specs.declared.watch.WatchFault.{WatchFault}
 use Rattle.fence_watch.specs.declared.watch.WatchFault.TheVariants as watch_fault
 use Rattle.watch_run.specs.Watching.{IsCrowded, ShowsCrowd}
@@ -37,7 +38,7 @@ use Rattle.watch_run.proofs.Crowds.{crowd-damaged, crowd-long}
 use Rattle.watch_run.proofs.Stops.{FailsAlong, calm-still, calm-trans, refuses-crowd, refuses-later, refuses-memory}
 
 -- before the first cell
-pub followed-first : {D : Type 0} (w : ℕ) (fences : List Fence) (drive : Drive) (walk : WalkView D) (v : WatchView) → IsBegun w fences drive walk v → HaveFollowed w fences drive drive walk v
+pub followed-first : {D : Type 0} (w : ℕ) (fences : List Fence) (drive : Drive) (walk : WalkView D) (v : TallyView) → IsBegun w fences drive walk v → HaveFollowed w fences drive drive walk v
 followed-first w fences drive walk v begun = record { cells = []; came = begun.started.came; follows = begun.none; under = omega (arith, ap length begun.none.events); calm = calm-still drive }
 
 -- a call that went well
@@ -54,7 +55,7 @@ module _ {D : Type 0} (w : ℕ) (cells : List Cell) (drive : Drive) (walk : Walk
       (walk.reading.rest ++ at.1, begins, some)
 
 -- a walk and a watch behind the same cells, and the drive as it was at first, before a call and after it
-module _ {D : Type 0} (w : ℕ) (known : IsWidth w) (fences : List Fence) (first now after : Drive) (walk : WalkView D) (v : WatchView) (has : (bytes : List ℕ) → first.bytes ≡ Some bytes → HasWidth w bytes) (have : HaveFollowed w fences first now walk v) where
+module _ {D : Type 0} (w : ℕ) (known : IsWidth w) (fences : List Fence) (first now after : Drive) (walk : WalkView D) (v : TallyView) (has : (bytes : List ℕ) → first.bytes ≡ Some bytes → HasWidth w bytes) (have : HaveFollowed w fences first now walk v) where
   has-now : (bytes : List ℕ) → now.bytes ≡ Some bytes → HasWidth w bytes
   has-now bytes told = has bytes (sym have.calm.stays.bytes ∙ told)
 
@@ -101,24 +102,24 @@ module _ {D : Type 0} (w : ℕ) (known : IsWidth w) (fences : List Fence) (first
 
   -- one cell more
   module _ (new : WalkView D) (walked : Walked) (tells : TellsWalked w most_inspected have.cells now after new (Ok (Some walked))) (calm : IsCalm now after) where
-    pub followed-more : (next : WatchView) → Steps walked v next → (IsOver walked v → ⊥) → HaveFollowed w fences first after new next
+    pub followed-more : (next : TallyView) → Tallies walked v next → (IsPast walked v → ⊥) → HaveFollowed w fences first after new next
     followed-more next steps within = record {
       cells = have.cells ++ walked.cell ∷ [];
       came = tells.0;
-      follows = follows-step w have.cells fences walked v next have.follows tells.1 steps;
-      under = elim (cases_lt most_events (length v.events + length (events_by walked v.guards))) [
+      follows = tallies-step w [] have.cells fences walked v next have.follows tells.1 steps;
+      under = elim (cases_lt most_events (length v.events + length (events_told walked v.counts))) [
         | inl over ↦ absurd (within over)
-        | inr under ↦ omega (arith, under, ap length steps.events, length-append v.events (events_by walked v.guards))
+        | inr under ↦ omega (arith, under, ap length steps.events, length-append v.events (events_told walked v.counts))
       ];
       calm = calm-trans first now after have.calm calm;
     }
 
     -- with which there are too many crossings
-    pub crowd-now : IsOver walked v → ShowsCrowd fences first
+    pub crowd-now : IsPast walked v → ShowsCrowd fences first
     crowd-now over bytes told =
         let at = begins-there w (have.cells ++ walked.cell ∷ []) after new tells.0 bytes (calm.stays.bytes ∙ have.calm.stays.bytes ∙ told) in
-        let next : WatchView = record { guards = map (guard_behind (object_of walked.cell) walked.before walked.after) v.guards; events = v.events ++ events_by walked v.guards } in
-        let follows : FollowsCells (have.cells ++ walked.cell ∷ []) fences next = follows-step w have.cells fences walked v next have.follows tells.1 (record { events = refl; guards = refl }) in
+        let next : TallyView = record { counts = map (count_behind (object_of walked.cell) walked.before walked.after) v.counts; events = v.events ++ events_told walked v.counts } in
+        let follows : TalliesCells [] (have.cells ++ walked.cell ∷ []) fences next = tallies-step w [] have.cells fences walked v next have.follows tells.1 (record { events = refl; counts = refl }) in
         record {
           version = new.reading.replay.version;
           wanted = tells.0.wanted;
@@ -129,11 +130,11 @@ module _ {D : Type 0} (w : ℕ) (known : IsWidth w) (fences : List Fence) (first
           begins = at.1;
           some = at.2;
           few = tells.0.few;
-          over = omega (arith, over, ap length follows.events, length-append v.events (events_by walked v.guards));
+          over = omega (arith, over, ap length follows.events, length-append v.events (events_told walked v.counts));
         }
 
     -- whatever stops the watch there
-    pub stops-step : (why : WatchFault) → (why ≡ watch_fault.TooMany → IsOver walked v) → RefusesAttached fences first after (watch_refusal why)
+    pub stops-step : (why : WatchFault) → (why ≡ watch_fault.TooMany → IsPast walked v) → RefusesAttached fences first after (watch_refusal why)
     stops-step watch_fault.TooMany over =
         let all : IsCalm first after = calm-trans first now after have.calm calm in
         record { refuses = refuses-crowd fences first after all (crowd-now (over refl)); file = all.file }
@@ -143,7 +144,7 @@ module _ {D : Type 0} (w : ℕ) (known : IsWidth w) (fences : List Fence) (first
 
 -- what is said of a drive that was only read before
 module _ (fences : List Fence) (a b c : Drive) (calm : IsCalm a b) where
-  finds-later : (v : WatchView) → FindsAlong fences b v → FindsAlong fences a v
+  finds-later : (v : TallyView) → FindsAlong fences b v → FindsAlong fences a v
   finds-later v finds = record {
     width = finds.width;
     cells = finds.cells;
@@ -152,7 +153,7 @@ module _ (fences : List Fence) (a b c : Drive) (calm : IsCalm a b) where
     under = finds.under;
   }
 
-  pub runs-later : (v : WatchView) → RunsAlong fences b c v → RunsAlong fences a c v
+  pub runs-later : (v : TallyView) → RunsAlong fences b c v → RunsAlong fences a c v
   runs-later v runs = record { finds = finds-later v runs.finds; calm = calm-trans a b c calm runs.calm }
 
   pub refused-later : (why : Refusal) → RefusesAttached fences b c why → RefusesAttached fences a c why
@@ -160,7 +161,7 @@ module _ (fences : List Fence) (a b c : Drive) (calm : IsCalm a b) where
 
 -- behind the attach of a file
 module _ (fences : List Fence) (file : List ℕ) (a b c : Drive) (stays : Stays a b) (same : b.faults ≡ a.faults) (attached : AttachedOne file false a b) where
-  pub runs-file : (v : WatchView) → RunsAlong fences b c v → RunsFile fences file a c v
+  pub runs-file : (v : TallyView) → RunsAlong fences b c v → RunsFile fences file a c v
   runs-file v runs =
       let finds = runs.finds in
       record {

@@ -6,25 +6,21 @@ ghost use Rattle.causes.specs.Causes.{Counts};
 ghost use Rattle.io_edge.specs.Puts.{Puts};
 ghost use Rattle.csv_rows.specs.Pieces.{Adds};
 ghost use Rattle.watch_run.specs.WatchLines.{event_line, inside_line, way_text};
-ghost use Rattle.watch_run.specs.inside.Lines.{count_at, counted_line, view_text};
+ghost use Rattle.watch_run.specs.inside.Lines.{counted_line, view_text};
 
 use csv_rows::{Piece, add_number, add_pair, make_room, push_str};
-use fence_watch::{Crossing, Event, Fence, Watch};
+use fence_watch::{Crossing, Event, FenceCount, Tally};
 use io_edge::{Sink, SinkFault};
 
-/// Writes the first line, a line for each event, and one for each of these fences, in pieces of up to 64 KiB.
-pub(crate) fn write_watch<K: Sink>(
-    sink: &mut K,
-    watch: &Watch,
-    fences: &[Fence],
-) -> Result<(), SinkFault>
-    ensures bytes { Puts (K.output sink.old).taken (K.output sink.new).taken (view_text watch.now fences.now) result }
+/// Writes the first line, a line for each event, and one for each fence, in pieces of up to 64 KiB.
+pub(crate) fn write_watch<K: Sink>(sink: &mut K, watch: &Tally) -> Result<(), SinkFault>
+    ensures bytes { Puts (K.output sink.old).taken (K.output sink.new).taken (view_text watch.now) result }
     ensures cause { Counts (K.output sink.old).faults (K.output sink.new).faults result }
 {
     let mut piece = Piece::new();
     push_str(&mut piece, "cell,event,id,fence\n");
     add_events(sink, &mut piece, watch.events())?;
-    add_ends(sink, &mut piece, watch, fences)?;
+    add_ends(sink, &mut piece, watch.counts())?;
     sink.put(piece.as_slice())
 }
 
@@ -61,32 +57,20 @@ fn word_of(crossing: Crossing) -> &'static str
     }
 }
 
-// Adds the line of each fence: how many the watch has inside it.
+// Adds the line of each fence: how many are inside it.
 fn add_ends<K: Sink>(
     sink: &mut K,
     piece: &mut Piece,
-    watch: &Watch,
-    fences: &[Fence],
+    counts: &[FenceCount],
 ) -> Result<(), SinkFault>
-    ensures bytes { Adds (K.output sink.old) (K.output sink.new) piece.old.items
-        (flat_map (counted_line watch.now.guards) fences.now) piece.new.items result }
+    ensures bytes { Adds (K.output sink.old) (K.output sink.new) piece.old.items (flat_map counted_line counts.now) piece.new.items result }
     ensures cause { Counts (K.output sink.old).faults (K.output sink.new).faults result }
 {
-    for fence in fences {
+    for count in counts {
         make_room(sink, piece)?;
-        add_inside(piece, count_at(watch, fence.id), fence.id);
+        add_inside(piece, count.inside, count.fence.id);
     }
     Ok(())
-}
-
-// How many are inside the fence of this number, and 0 where there is none.
-fn count_at(watch: &Watch, fence: u64) -> u64
-    ensures { result ≡ count_at watch.now.guards fence }
-{
-    match watch.inside(fence) {
-        Some(ids) => ids.len() as u64,
-        None => 0,
-    }
 }
 
 fn add_inside(piece: &mut Piece, count: u64, fence: u64)

@@ -6,20 +6,20 @@ ghost use Rattle.watch_run.specs.inside.Along.{IsBegun, IsStarted, RefusesAttach
 
 use csv_rows::Refusal;
 use disk_trait::LogDisk;
-use fence_watch::{Fences, Watch, WatchFault};
+use fence_watch::{Fences, Tally, WatchFault};
 use recovery::{OpenRefused, Walk, Walked, width_of};
-use run_ends::{MOST_INSPECTED, Unmade, attach_refusal, log_refusal};
+use run_ends::{MOST_INSPECTED, Unmade, attach, log_refusal};
 use std::alloc::Global;
 
 /// A watch along all cells of a log, and the drive of that log.
 #[derive(Drop)]
 pub(crate) struct Along<D: LogDisk> {
-    pub(crate) watch: Watch,
+    pub(crate) watch: Tally,
     pub(crate) disk: D,
 }
 
 /// Watches the fences along the log in a file of this name, of version 1 or 2.
-pub(crate) fn follow<D: LogDisk>(
+pub(crate) fn watch_file<D: LogDisk>(
     alloc: Global,
     file: &str,
     fences: &Fences,
@@ -29,15 +29,14 @@ pub(crate) fn follow<D: LogDisk>(
         (λ e. RefusesFile fences.now file.now (D.drive disk) (D.drive e.disk) e.why) }
 {
     let mut disk = disk;
-    if let Err(fault) = disk.attach(alloc, file, false) {
-        let why = attach_refusal(fault);
+    if let Err(why) = attach(alloc, file, false, &mut disk) {
         return Err(Unmade { disk, why });
     }
-    follow_attached(alloc, fences, disk)
+    watch_attached(alloc, fences, disk)
 }
 
 // Watches the fences along the log in the file that was attached, by the width that it has.
-fn follow_attached<D: LogDisk>(
+fn watch_attached<D: LogDisk>(
     alloc: Global,
     fences: &Fences,
     disk: D,
@@ -47,7 +46,7 @@ fn follow_attached<D: LogDisk>(
 {
     let mut disk = disk;
     match width_of(&mut disk) {
-        Ok(width) => follow_by(alloc, width, fences, disk),
+        Ok(width) => watch_by(alloc, width, fences, disk),
         Err(fault) => {
             let why = log_refusal(fault);
             Err(Unmade { disk, why })
@@ -56,7 +55,7 @@ fn follow_attached<D: LogDisk>(
 }
 
 // The same by this width.
-fn follow_by<D: LogDisk>(
+fn watch_by<D: LogDisk>(
     alloc: Global,
     width: u8,
     fences: &Fences,
@@ -68,7 +67,7 @@ fn follow_by<D: LogDisk>(
         (λ e. RefusesAttached fences.now (D.drive disk) (D.drive e.disk) e.why) }
 {
     match Walk::start(alloc, disk, width, MOST_INSPECTED) {
-        Ok(walk) => follow_walk(alloc, fences, walk),
+        Ok(walk) => watch_walk(alloc, fences, walk),
         Err(OpenRefused { disk, cause }) => {
             let why = log_refusal(cause);
             Err(Unmade { disk, why })
@@ -77,7 +76,7 @@ fn follow_by<D: LogDisk>(
 }
 
 // The same along a walk that has begun.
-fn follow_walk<D: LogDisk>(
+fn watch_walk<D: LogDisk>(
     alloc: Global,
     fences: &Fences,
     walk: Walk<D>,
@@ -104,19 +103,18 @@ fn watch_all<D: LogDisk>(
     alloc: Global,
     fences: &Fences,
     walk: &mut Walk<D>,
-) -> Result<Watch, Refusal>
+) -> Result<Tally, Refusal>
     requires { (w : ℕ) × IsStarted w (D.drive walk.old.disk) walk.old }
     ensures along { MatchResult result (λ watch. RunsAlong fences.now (D.drive walk.old.disk) (D.drive walk.new.disk) watch)
         (λ why. RefusesAttached fences.now (D.drive walk.old.disk) (D.drive walk.new.disk) why) }
 {
-    let copy = fences.copy(alloc)?;
-    let mut watch = Watch::new(alloc, copy)?;
+    let mut watch = Tally::new(alloc, fences)?;
     go_along(walk, &mut watch)?;
     Ok(watch)
 }
 
 // Goes with a watch along all cells of a walk that has begun.
-fn go_along<D: LogDisk>(walk: &mut Walk<D>, watch: &mut Watch) -> Result<(), Refusal>
+fn go_along<D: LogDisk>(walk: &mut Walk<D>, watch: &mut Tally) -> Result<(), Refusal>
     requires { (w : ℕ) × (fences : List Fence) × IsBegun w fences (D.drive walk.old.disk) walk.old watch.old }
     ensures along { (w : ℕ) (fences : List Fence) → IsBegun w fences (D.drive walk.old.disk) walk.old watch.old
         → MatchResult result (λ _. RunsAlong fences (D.drive walk.old.disk) (D.drive walk.new.disk) watch.new)

@@ -17,7 +17,8 @@ use Rattle.run_ends.specs.Attaching.{AttachesOnce}
 use Rattle.log_run.specs.Checking.{FindsCells, HasRead}
 use Rattle.fence_watch.specs.declared.fences.Fence.{Fence}
 use Rattle.fence_watch.specs.Crossings.{crossings}
-use Rattle.fence_watch.specs.Watches.{FollowsCells, WatchView, most_events}
+use Rattle.fence_watch.specs.Tallies.{TalliesCells, TallyView}
+use Rattle.fence_watch.specs.Watches.{most_events}
 use Rattle.fence_watch.specs.declared.watch.WatchFault.{WatchFault}
 use Rattle.fence_watch.specs.declared.watch.WatchFault.TheVariants as fault
 use Rattle.watch_run.specs.Watching.{IsCrowded, IsWatchingCause}
@@ -29,20 +30,20 @@ pub record IsCalm (old new : Drive) : Type 0 where
   pub file : SameFile old new
 
 -- a watch along all cells of a log
-pub record FindsAlong (fences : List Fence) (old : Drive) (v : WatchView) : Type 0 where
+pub record FindsAlong (fences : List Fence) (old : Drive) (v : TallyView) : Type 0 where
   pub width : ℕ
   pub cells : List Cell
   pub found : FindsCells width old cells
-  pub follows : FollowsCells cells fences v
+  pub follows : TalliesCells [] cells fences v
   pub under : length v.events ≤ most_events
 
 -- of one that was attached already
-pub record RunsAlong (fences : List Fence) (old new : Drive) (v : WatchView) : Type 0 where
+pub record RunsAlong (fences : List Fence) (old new : Drive) (v : TallyView) : Type 0 where
   pub finds : FindsAlong fences old v
   pub calm : IsCalm old new
 
 -- of the one in a file of this name
-pub record RunsFile (fences : List Fence) (file : List ℕ) (old new : Drive) (v : WatchView) : Type 0 where
+pub record RunsFile (fences : List Fence) (file : List ℕ) (old new : Drive) (v : TallyView) : Type 0 where
   pub finds : FindsAlong fences old v
   pub read : HasRead file old new
   pub stays : Stays old new
@@ -78,15 +79,15 @@ pub record IsStarted {D : Type 0} (w : ℕ) (drive : Drive) (walk : WalkView D) 
   pub came : ComesTo w most_inspected [] drive walk
 
 -- with a watch of these fences
-pub record IsBegun {D : Type 0} (w : ℕ) (fences : List Fence) (drive : Drive) (walk : WalkView D) (v : WatchView) : Type 0 where
+pub record IsBegun {D : Type 0} (w : ℕ) (fences : List Fence) (drive : Drive) (walk : WalkView D) (v : TallyView) : Type 0 where
   pub started : IsStarted w drive walk
-  pub none : FollowsCells [] fences v
+  pub none : TalliesCells [] [] fences v
 
 -- both behind the same cells
-pub record HaveFollowed {D : Type 0} (w : ℕ) (fences : List Fence) (first now : Drive) (walk : WalkView D) (v : WatchView) : Type 0 where
+pub record HaveFollowed {D : Type 0} (w : ℕ) (fences : List Fence) (first now : Drive) (walk : WalkView D) (v : TallyView) : Type 0 where
   pub cells : List Cell
   pub came : ComesTo w most_inspected cells now walk
-  pub follows : FollowsCells cells fences v
+  pub follows : TalliesCells [] cells fences v
   pub under : length v.events ≤ most_events
   pub calm : IsCalm first now
 

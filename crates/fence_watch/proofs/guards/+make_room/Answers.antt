@@ -2,7 +2,8 @@ use Rattle.std.proofs.Common.{◌∙◌, List, length, sym, subst, arith}
 use Rattle.fence_watch.specs.declared.passages.Pair.{Pair}
 use Rattle.fence_watch.specs.Guards.{HaveRoom}
 use Rattle.fence_watch.specs.Passages.{turns_in, turns_of}
-use Rattle.fence_watch.proofs.Parts.{no-items, no-room, room-word, room-both, near-turns, far-turns}
+use Rattle.fence_watch.proofs.AlongParts.{no-items, near-turns, far-turns}
+use Rattle.fence_watch.proofs.Parts.{no-room, room-word, room-both}
 use Rattle.fence_watch.proofs.guards.+make_room.Goals as goal
 
 pub returns-in_default-clause-room : goal.returns-in_default-clause-room

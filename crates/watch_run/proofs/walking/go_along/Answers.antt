@@ -1,20 +1,12 @@
 use Rattle.std.proofs.Common.{Err, ap, arith, length-append, ◌∷◌, []}
 use Rattle.run_ends.specs.Limits.{most_inspected}
 use Rattle.fence_watch.specs.declared.watch.WatchFault.{WatchFault}
-use Rattle.fence_watch.proofs.Following.{holds-next}
 use Rattle.watch_run.proofs.Stops.{calm-trans, refuses-fault}
 use Rattle.watch_run.proofs.Alongs.{calm-reads, fails-next, finds-all, followed-first, followed-more, reads-as, refused-later, stops-step}
 use Rattle.watch_run.proofs.walking.go_along.Goals as goal
 
 pub cells-init : goal.cells-init
 cells-init g c = λ w fences begun. followed-first w fences _ _ _ begun
-
-pub step-requires : goal.step-requires
-step-requires g c =
-    let have = c.cells.invariant c.requires.0 c.requires.1 c.requires.2 in
-    let told = rw c.in-Ok-Some.field-0-is at c.in-Ok-Some.ensures in
-    let tells = told.tells c.requires.0 most_inspected have.cells have.came in
-    record { holds = holds-next c.requires.0 have.cells c.requires.1 c.in-Ok-Some.walked c.cells.watch have.follows tells.1 }
 
 pub returns-in-Err-step : goal.returns-in-Err-step
 returns-in-Err-step g c =

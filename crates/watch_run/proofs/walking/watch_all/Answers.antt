@@ -1,18 +1,13 @@
-use Rattle.std.proofs.Common.{List, [], subst}
-use Rattle.fence_watch.specs.declared.fences.Fence.{Fence}
-use Rattle.fence_watch.specs.Watches.{FollowsCells}
 use Rattle.watch_run.proofs.Alongs.{passed-on}
 use Rattle.watch_run.proofs.walking.watch_all.Goals as goal
 
 pub returns-in_err-go_along : goal.returns-in_err-go_along
 returns-in_err-go_along g c =
-    let none = subst (λ (fs : List Fence). FollowsCells [] fs c.in_ok-watch.watch) c.in_ok-copy.ensures c.in_ok-watch.ensures in
     record {
       along = passed-on _ _ c.from_residual-in_err-go_along.result _ c.from_residual-in_err-go_along.ensures.1
-          (c.in_err-go_along.ensures.along c.requires.0 c.args.fences.now (record { started = c.requires.1; none = none }));
+          (c.in_err-go_along.ensures.along c.requires.0 c.args.fences.now (record { started = c.requires.1; none = c.in_ok-watch.ensures }));
     }
 
 pub returns : goal.returns
 returns g c =
-    let none = subst (λ (fs : List Fence). FollowsCells [] fs c.in_ok-watch.watch) c.in_ok-copy.ensures c.in_ok-watch.ensures in
-    record { along = c.in_ok-go_along.ensures.along c.requires.0 c.args.fences.now (record { started = c.requires.1; none = none }) }
+    record { along = c.in_ok-go_along.ensures.along c.requires.0 c.args.fences.now (record { started = c.requires.1; none = c.in_ok-watch.ensures }) }

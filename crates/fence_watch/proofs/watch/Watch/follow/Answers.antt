@@ -1,99 +1,69 @@
-use Rattle.std.proofs.Common.{◌∙◌, ◌≤◌, ◌<◌, ◌+◌, ◌++◌, List, length, length-append, take, drop, refl, sym, ap, subst, arith}
+use Rattle.std.proofs.Common.{◌≡◌, ◌∙◌, ◌++◌, List, length, map, take, drop, OnOk, OnErr, sym, ap, subst}
 use Rattle.recovery.specs.Walks.{object_of}
-use Rattle.fence_watch.specs.declared.fences.Event.{Event}
+use Rattle.fence_watch.specs.declared.fences.Fence.{Fence}
 use Rattle.fence_watch.specs.declared.guards.Guarded.{Guarded}
-use Rattle.fence_watch.specs.Guards.{AllRising, guards_of}
+use Rattle.fence_watch.specs.Guards.{AllRising, guards_of, guards_along}
 use Rattle.fence_watch.specs.Kept.{Keeps}
-use Rattle.fence_watch.specs.Passages.{turns_of, events_along}
-use Rattle.fence_watch.specs.Watches.{Guard, WatchView, fences_of, HoldsBefore, Steps, IsOver, most_events}
-use Rattle.fence_watch.proofs.Passing.{Counted, counted, stays, not-over, is-over, Passed, passed_by, keeps-behind, refilled}
+use Rattle.fence_watch.specs.Passages.{ShowsPassage, turns_of}
+use Rattle.fence_watch.specs.Tallies.{TallyView}
+use Rattle.fence_watch.specs.Watches.{Guard, WatchView, HoldsBefore, Steps, IsOver, guard_behind}
+use Rattle.fence_watch.proofs.Guarding.{past-over, over-past, steps-over, keeps-either, on-ok, on-both, on-err, on-neither}
+use Rattle.fence_watch.proofs.Passing.{guards-shown}
+use Rattle.fence_watch.proofs.Tallying.{rewritten}
 use Rattle.fence_watch.proofs.watch.Watch.follow.Goals as goal
-
-pub returns-then-crossed-eq0-clause-ok : goal.returns-then-crossed-eq0-clause-ok
-returns-then-crossed-eq0-clause-ok c =
-    let w = c.args.walked.now in
-    let p = c.passage-passage.result in
-    let guards : List Guard = guards_of c.self.inside.guards.items in
-    let v : WatchView = record { guards = guards; events = c.self.inside.events.items } in
-    let k : Counted w c.args.id guards p = counted w c.args.id guards p c.requires.is c.self.invariant.few (c.passage-passage.ensures (fences_of guards) c.self.invariant.charts) in
-    subst (λ (x : WatchView). Steps w x x) c.self.view_is (stays w c.args.id v p k (sym c.crossed-crossed.ensures.count ∙ c.if-crossed-eq0.true))
-
-pub returns-then-crossed-eq0-clause-too_many : goal.returns-then-crossed-eq0-clause-too_many
-returns-then-crossed-eq0-clause-too_many c =
-    let w = c.args.walked.now in
-    let p = c.passage-passage.result in
-    let guards : List Guard = guards_of c.self.inside.guards.items in
-    let v : WatchView = record { guards = guards; events = c.self.inside.events.items } in
-    let k : Counted w c.args.id guards p = counted w c.args.id guards p c.requires.is c.self.invariant.few (c.passage-passage.ensures (fences_of guards) c.self.invariant.charts) in
-    let few : length v.events + c.crossed-crossed.result ≤ most_events = omega (arith, c.self.invariant.events, c.if-crossed-eq0.true) in
-    ((λ e. absurd (cc e)), (λ over. absurd (not-over w c.args.id c.crossed-crossed.result v p k c.crossed-crossed.ensures.count few (subst (λ (x : WatchView). IsOver w x) (sym c.self.view_is) over))))
-
-pub returns-then-len-crossed-gt-MOST_EVENTS-clause-too_many :
-    goal.returns-then-len-crossed-gt-MOST_EVENTS-clause-too_many
-returns-then-len-crossed-gt-MOST_EVENTS-clause-too_many c =
-    let w = c.args.walked.now in
-    let p = c.passage-passage.result in
-    let guards : List Guard = guards_of c.self.inside.guards.items in
-    let v : WatchView = record { guards = guards; events = c.self.inside.events.items } in
-    let k : Counted w c.args.id guards p = counted w c.args.id guards p c.requires.is c.self.invariant.few (c.passage-passage.ensures (fences_of guards) c.self.invariant.charts) in
-    let past : most_events < length v.events + c.crossed-crossed.result = omega (arith, c.len.ensures, c.if-len-crossed-gt-MOST_EVENTS.true, c.self.inside.events.ok.0) in
-    ((λ e. subst (λ (x : WatchView). IsOver w x) c.self.view_is (is-over w c.args.id c.crossed-crossed.result v p k c.crossed-crossed.ensures.count past)), (λ over. refl))
-
-pub pass-requires-clause-count : goal.pass-requires-clause-count
-pass-requires-clause-count c =
-    let w = c.args.walked.now in
-    let p = c.passage-passage.result in
-    let guards : List Guard = guards_of c.self.inside.guards.items in
-    let k : Counted w c.args.id guards p = counted w c.args.id guards p c.requires.is c.self.invariant.few (c.passage-passage.ensures (fences_of guards) c.self.invariant.charts) in
-    c.crossed-crossed.ensures.count ∙ k.count ∙ ap length (sym k.told)
-    ∙ ap (λ (l : List Guarded). length (events_along w.at c.args.id (fences_of (guards_of l)) (turns_of p))) (sym c.deref_mut.ensures.value)
 
 pub pass-requires-clause-rising : goal.pass-requires-clause-rising
 pass-requires-clause-rising c = subst (λ (l : List Guarded). AllRising (guards_of l)) (sym c.deref_mut.ensures.value) c.self.invariant.rising
 
-pub returns-in_default-clause-too_many : goal.returns-in_default-clause-too_many
-returns-in_default-clause-too_many c =
+pub invariant_of-self : goal.invariant_of-self
+invariant_of-self c =
     let w = c.args.walked.now in
     let p = c.passage-passage.result in
     let guards : List Guard = guards_of c.self.inside.guards.items in
-    let v : WatchView = record { guards = guards; events = c.self.inside.events.items } in
-    let k : Counted w c.args.id guards p = counted w c.args.id guards p c.requires.is c.self.invariant.few (c.passage-passage.ensures (fences_of guards) c.self.invariant.charts) in
-    let fits : length v.events + c.crossed-crossed.result ≤ most_events = omega (arith, c.len.ensures, c.if-len-crossed-gt-MOST_EVENTS.false, c.self.inside.events.ok.0) in
-    ((λ e. absurd (cc e)), (λ over. absurd (not-over w c.args.id c.crossed-crossed.result v p k c.crossed-crossed.ensures.count fits (subst (λ (x : WatchView). IsOver w x) (sym c.self.view_is) over))))
-
-pub invariant_of-self-2 : goal.invariant_of-self-2
-invariant_of-self-2 c =
-    let w = c.args.walked.now in
-    let p = c.passage-passage.result in
-    let guards : List Guard = guards_of c.self.inside.guards.items in
-    let k : Counted w c.args.id guards p = counted w c.args.id guards p c.requires.is c.self.invariant.few (c.passage-passage.ensures (fences_of guards) c.self.invariant.charts) in
-    let kept = refilled c.self.inside.guards.len c.pass.new.guards c.self.inside.guards.items (c.pass.auto.guards ∙ c.deref_mut.ensures.len) in
-    let passed : Passed w guards c.self.inside.events.items c.pass.new.guards c.pass.new.events.items =
-    passed_by w c.args.id c.self.inside.guards.items c.deref_mut.result.now c.self.inside.events.items c.pass.new.guards c.pass.new.events.items p c.deref_mut.ensures.value k c.in-Ok.ensures.guards c.in-Ok.ensures.events in
-    let fits : length c.pass.new.events.items ≤ most_events =
-    omega (arith, ap length passed.events, length-append {A = Event}, k.count, c.crossed-crossed.ensures.count, c.len.ensures, c.if-len-crossed-gt-MOST_EVENTS.false, c.self.inside.events.ok.0) in
-    subst (λ (l : List Guarded). Keeps l c.self.inside.chart c.pass.new.events.items) (sym kept)
-    (keeps-behind w guards c.self.inside.chart c.self.inside.events.items c.pass.new.guards c.pass.new.events.items passed c.self.invariant.charts c.self.invariant.rising c.self.invariant.few
-    (subst (λ (x : WatchView). HoldsBefore (object_of w.cell) w.before x.guards) (sym c.self.view_is) c.requires.holds) fits)
+    let t : TallyView = c.self.inside.tally in
+    let keeps : Keeps guards t = c.self.invariant in
+    let r = c.pass.result in
+    let new : List Guard = guards_of (take c.self.inside.guards.len (c.pass.new.guards ++ drop (length c.pass.new.guards) c.self.inside.guards.items)) in
+    let kept : new ≡ guards_of c.pass.new.guards = ap guards_of (rewritten c.self.inside.guards.len c.pass.new.guards c.self.inside.guards.items (c.pass.auto.guards ∙ c.deref_mut.ensures.len)) in
+    let behind : OnOk r (new ≡ map (guard_behind (object_of w.cell) w.before w.after) guards) =
+    on-ok r c.pass.ensures.guards
+    (λ is. kept ∙ is ∙ ap (λ (l : List Guarded). guards_along c.args.id (guards_of l) (turns_of p)) c.deref_mut.ensures.value
+    ∙ guards-shown c.args.id (object_of w.cell) w.before w.after guards p c.requires.is keeps.few (subst (λ (fs : List Fence). ShowsPassage w.before w.after fs p) (sym keeps.fences) c.passage-passage.ensures)) in
+    let same : OnErr r (new ≡ guards) = on-err r c.pass.ensures.same_guards (λ is. kept ∙ is ∙ ap guards_of c.deref_mut.ensures.value) in
+    keeps-either r w guards new t c.pass.new.tally keeps (subst (λ (x : WatchView). HoldsBefore (object_of w.cell) w.before x.guards) (sym c.self.view_is) c.requires.holds) behind c.pass.ensures.tally same c.pass.ensures.same_tally
 
 pub returns-clause-ok : goal.returns-clause-ok
 returns-clause-ok c =
     let w = c.args.walked.now in
     let p = c.passage-passage.result in
     let guards : List Guard = guards_of c.self.inside.guards.items in
-    let k : Counted w c.args.id guards p = counted w c.args.id guards p c.requires.is c.self.invariant.few (c.passage-passage.ensures (fences_of guards) c.self.invariant.charts) in
-    let kept = refilled c.self.inside.guards.len c.pass.new.guards c.self.inside.guards.items (c.pass.auto.guards ∙ c.deref_mut.ensures.len) in
-    let passed : Passed w guards c.self.inside.events.items c.pass.new.guards c.pass.new.events.items =
-    passed_by w c.args.id c.self.inside.guards.items c.deref_mut.result.now c.self.inside.events.items c.pass.new.guards c.pass.new.events.items p c.deref_mut.ensures.value k c.in-Ok.ensures.guards c.in-Ok.ensures.events in
-    subst (λ (x : WatchView). Steps w x (record { guards = guards_of (take c.self.inside.guards.len (c.pass.new.guards ++ drop (length c.pass.new.guards) c.self.inside.guards.items)); events = c.pass.new.events.items })) c.self.view_is
-    (record { events = passed.events; guards = ap guards_of kept ∙ passed.guards })
+    let t : TallyView = c.self.inside.tally in
+    let keeps : Keeps guards t = c.self.invariant in
+    let r = c.pass.result in
+    let new : List Guard = guards_of (take c.self.inside.guards.len (c.pass.new.guards ++ drop (length c.pass.new.guards) c.self.inside.guards.items)) in
+    let kept : new ≡ guards_of c.pass.new.guards = ap guards_of (rewritten c.self.inside.guards.len c.pass.new.guards c.self.inside.guards.items (c.pass.auto.guards ∙ c.deref_mut.ensures.len)) in
+    let behind : OnOk r (new ≡ map (guard_behind (object_of w.cell) w.before w.after) guards) =
+    on-ok r c.pass.ensures.guards
+    (λ is. kept ∙ is ∙ ap (λ (l : List Guarded). guards_along c.args.id (guards_of l) (turns_of p)) c.deref_mut.ensures.value
+    ∙ guards-shown c.args.id (object_of w.cell) w.before w.after guards p c.requires.is keeps.few (subst (λ (fs : List Fence). ShowsPassage w.before w.after fs p) (sym keeps.fences) c.passage-passage.ensures)) in
+    on-both r behind c.pass.ensures.tally
+    (λ is tallies. subst (λ (x : WatchView). Steps w x (record { guards = new; events = c.pass.new.tally.events })) c.self.view_is (steps-over w guards t keeps.fences new c.pass.new.tally is tallies))
+
+pub returns-clause-err : goal.returns-clause-err
+returns-clause-err c =
+    let guards : List Guard = guards_of c.self.inside.guards.items in
+    let r = c.pass.result in
+    let new : List Guard = guards_of (take c.self.inside.guards.len (c.pass.new.guards ++ drop (length c.pass.new.guards) c.self.inside.guards.items)) in
+    let kept : new ≡ guards_of c.pass.new.guards = ap guards_of (rewritten c.self.inside.guards.len c.pass.new.guards c.self.inside.guards.items (c.pass.auto.guards ∙ c.deref_mut.ensures.len)) in
+    let same : OnErr r (new ≡ guards) = on-err r c.pass.ensures.same_guards (λ is. kept ∙ is ∙ ap guards_of c.deref_mut.ensures.value) in
+    on-neither r same c.pass.ensures.same_tally (λ is stays. (λ i. record { guards = is i; events = (stays i).events }) ∙ c.self.view_is)
 
 pub returns-clause-too_many : goal.returns-clause-too_many
 returns-clause-too_many c =
     let w = c.args.walked.now in
-    let p = c.passage-passage.result in
     let guards : List Guard = guards_of c.self.inside.guards.items in
-    let v : WatchView = record { guards = guards; events = c.self.inside.events.items } in
-    let k : Counted w c.args.id guards p = counted w c.args.id guards p c.requires.is c.self.invariant.few (c.passage-passage.ensures (fences_of guards) c.self.invariant.charts) in
-    let fits : length v.events + c.crossed-crossed.result ≤ most_events = omega (arith, c.len.ensures, c.if-len-crossed-gt-MOST_EVENTS.false, c.self.inside.events.ok.0) in
-    ((λ e. absurd (cc e)), (λ over. absurd (not-over w c.args.id c.crossed-crossed.result v p k c.crossed-crossed.ensures.count fits (subst (λ (x : WatchView). IsOver w x) (sym c.self.view_is) over))))
+    let t : TallyView = c.self.inside.tally in
+    let keeps : Keeps guards t = c.self.invariant in (
+      (λ e. subst (λ (x : WatchView). IsOver w x) c.self.view_is (over-past w guards t keeps.fences (c.pass.ensures.too_many.0 e))),
+      (λ over. c.pass.ensures.too_many.1 (past-over w guards t keeps.fences (subst (λ (x : WatchView). IsOver w x) (sym c.self.view_is) over))),
+    )

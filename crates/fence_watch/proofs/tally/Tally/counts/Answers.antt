@@ -1,0 +1,8 @@
+use Rattle.std.proofs.Common.{◌∙◌, ap}
+use Rattle.fence_watch.specs.Tallies.{TallyView}
+use Rattle.fence_watch.proofs.Tallying.{counts-told}
+use Rattle.fence_watch.proofs.tally.Tally.counts.Goals as goal
+
+pub returns-clause-follows : goal.returns-clause-follows
+returns-clause-follows c = λ w taken cells fences t.
+    c.as_slice.ensures.value ∙ ap (λ (v : TallyView). v.counts) c.self.view_is ∙ counts-told w taken cells fences c.args.self.now t
