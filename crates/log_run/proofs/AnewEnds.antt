@@ -10,6 +10,7 @@ use Rattle.recovery.specs.Widths.{IsWidth}
 use Rattle.log_run.specs.declared.reading.Found.{Found}
 use Rattle.recovery.specs.Found.{IsFound}
 use Rattle.recovery.specs.declared.seen.Seen.{Seen}
+use Rattle.recovery.proofs.CallLemmas.{well-none, well-then}
 use Rattle.recovery.proofs.OnlyReading.{stays-trans}
 use Rattle.recovery.proofs.OpeningLemmas.{leaves-trans, leaves-stays}
 use Rattle.log_compact.specs.Fresh.{ComesBySplits}
@@ -49,7 +50,7 @@ module _ (w : ℕ) (known : IsWidth w) (drive : Drive) (seen : Seen) (found : Is
 -- a file that was attached, and what was written to it
 module _ (w : ℕ) (fresh : List Cell) (a b c : Drive) (laws : KeepsLaws a) (stays : Stays a b) where
   pub compacted-after : b.faults ≡ a.faults → IsCompacted w fresh b c → IsCompacted w fresh a c
-  compacted-after calm is = record { log = λ bytes told. is.log bytes (stays.bytes ∙ told); same = is.same ∙ calm }
+  compacted-after calm is = record { log = λ bytes told. is.log bytes (stays.bytes ∙ told); same = is.same ∙ calm; calls = well-then a b c (well-none a b stays.calls) is.calls }
 
   pub leaves-attached : a.faults ≤ b.faults → LeavesNew w fresh a b
   leaves-attached later = record {
