@@ -4,7 +4,7 @@
 //! which words ask for it. `command_in` answers the one command that the words ask for, and none exactly where they ask
 //! for none.
 //!
-//! Not here: what a command does (`location_run`).
+//! Not here: which call does what a command asks for (`location_run`), and what it does (`log_run`, `watch_run`, `follow_run`, `play_run`).
 #![tactic(auto)]
 
 mod boxes;

@@ -10,7 +10,8 @@
 //! Rows of another type are seen as `rows_of_text` of a `Table`, which says what each record says behind the rows before it.
 //! `read_table` answers exactly that, or want of memory, for whatever implements `ReadsRow`.
 //!
-//! Not here: what an operation answers (`plain_list`), which refusal comes when (`location_run`).
+//! Not here: what an operation answers (`plain_list`), the status of a refusal (`run_ends`), and why a command answers one (`log_run` and
+//! its like).
 #![tactic(auto)]
 
 mod columns;

@@ -14,42 +14,42 @@ use Rattle.follower.specs.declared.turns.Turn.{Turn}
 use Rattle.follower.specs.TurnRows.{turns_of_text}
 use Rattle.run_ends.specs.Judged.{refusal_of}
 use Rattle.run_ends.specs.Limits.{most_bytes}
+use Rattle.run_ends.specs.Ends.{Targets}
 use Rattle.run_ends.specs.Status.{status_of}
 use Rattle.run_ends.specs.Tables.{or_refusal, IsTableCause, ReadsTable, HasBytes, IsBytesCause}
 use Rattle.run_ends.specs.Taking.{Refuses}
 use Rattle.run_ends.proofs.AttachFacts.{attaches-one, attaches-as}
-use Rattle.log_run.specs.Compacting.{BothTargets}
 use Rattle.follow_run.specs.Leading.{RecoversLeader, ReadsLeader, LosesLeader}
 use Rattle.follow_run.specs.Replica.{EndsReplica}
 use Rattle.follow_run.specs.Following.{judged_turns, AreDecided, EndsFollowing, GoesFollowing}
 
 -- the leader's cells aren't read
-pub ends-lost : {D : Type 0} (file name : List ℕ) (turns : List Turn) (old new : BothTargets D) (why : Refusal) (status : ℕ) → LosesLeader file old.to.drive new.to.drive why → new.other ≡ old.other
-    → Refuses why status old.to.output new.to.output → EndsFollowing file name turns old new status
+pub ends-lost : {D : Type 0} (file name : List ℕ) (turns : List Turn) (old new : Targets D) (why : Refusal) (status : ℕ) → LosesLeader file old.drive new.drive why → new.other ≡ old.other
+    → Refuses why status old.output new.output → EndsFollowing file name turns old new status
 ends-lost file name turns old new why status loses other refuses =
     let is = refuses.status_is in
-    let nine : (v : ℕ) (all : List Cell) → RecoversLeader v all old.to.drive → (Rose old.to.drive.faults new.to.drive.faults → ⊥) → status ≡ 9 = λ v all recovers calm. is ∙ ap status_of (loses.whole v all recovers calm) in
+    let nine : (v : ℕ) (all : List Cell) → RecoversLeader v all old.drive → (Rose old.drive.faults new.drive.faults → ⊥) → status ≡ 9 = λ v all recovers calm. is ∙ ap status_of (loses.whole v all recovers calm) in
     record {
       ends = inl (record { refused = (why, loses.cause, refuses); other = other });
       decided = record {
-        exact = λ bytes e told shown wrong calm. ⊎_elim (λ same. inl (subst (λ (r : Refusal). Refuses r status old.to.output new.to.output) same refuses)) (λ memory. inr (is ∙ ap status_of memory)) (loses.exact bytes e told shown wrong calm);
+        exact = λ bytes e told shown wrong calm. ⊎_elim (λ same. inl (subst (λ (r : Refusal). Refuses r status old.output new.output) same refuses)) (λ memory. inr (is ∙ ap status_of memory)) (loses.exact bytes e told shown wrong calm);
         replica = λ v all bytes e recovers told long shown wrong calm. inr (nine v all recovers calm.leader);
         strange = λ v all bytes cell recovers told wrong calm. inr (nine v all recovers calm.leader);
         whole = λ v all bytes first recovers told taken calm quiet. inr (nine v all recovers calm.leader);
       };
       stays = loses.stays;
       calm = λ seven. loses.read.calm (λ e. seven (is ∙ e));
-      attached = attaches-as file false old.to.drive new.to.drive status (status_of why) is loses.read.attached;
+      attached = attaches-as file false old.drive new.drive status (status_of why) is loses.read.attached;
     }
 
 -- they are, and were followed
-pub ends-read : {D : Type 0} (file name : List ℕ) (turns : List Turn) (old new : BothTargets D) (w : ℕ) (cells : List Cell) (status : ℕ) → ReadsLeader file w old.to.drive new.to.drive cells
-    → EndsReplica w cells turns name old.other_drive new.other_drive status old.to.output new.to.output → EndsFollowing file name turns old new status
+pub ends-read : {D : Type 0} (file name : List ℕ) (turns : List Turn) (old new : Targets D) (w : ℕ) (cells : List Cell) (status : ℕ) → ReadsLeader file w old.drive new.drive cells
+    → EndsReplica w cells turns name old.other_drive new.other_drive status old.output new.output → EndsFollowing file name turns old new status
 ends-read file name turns old new w cells status reads ends =
-    let by : (v : ℕ) (all : List Cell) → RecoversLeader v all old.to.drive → EndsReplica v all turns name old.other_drive new.other_drive status old.to.output new.to.output =
+    let by : (v : ℕ) (all : List Cell) → RecoversLeader v all old.drive → EndsReplica v all turns name old.other_drive new.other_drive status old.output new.output =
     λ v all recovers. let only = reads.has.only v all recovers in
-    subst (λ (u : ℕ). EndsReplica u all turns name old.other_drive new.other_drive status old.to.output new.to.output) only.0
-    (subst (λ (l : List Cell). EndsReplica w l turns name old.other_drive new.other_drive status old.to.output new.to.output) only.1 ends) in
+    subst (λ (u : ℕ). EndsReplica u all turns name old.other_drive new.other_drive status old.output new.output) only.0
+    (subst (λ (l : List Cell). EndsReplica w l turns name old.other_drive new.other_drive status old.output new.output) only.1 ends) in
     record {
       ends = inr (record { width = w; cells = cells; found = reads.has.found; read = reads.read; ends = ends });
       decided = record {
@@ -60,11 +60,11 @@ ends-read file name turns old new w cells status reads ends =
       };
       stays = reads.stays;
       calm = λ seven. reads.read.calm;
-      attached = attaches-one file false old.to.drive new.to.drive status reads.read.attached;
+      attached = attaches-one file false old.drive new.drive status reads.read.attached;
     }
 
 -- the status of want of memory says nothing of the files
-undecided : {D : Type 0} (old new : BothTargets D) (status : ℕ) → status ≡ 9 → AreDecided old new status
+undecided : {D : Type 0} (old new : Targets D) (status : ℕ) → status ≡ 9 → AreDecided old new status
 undecided old new status nine = record {
   exact = λ bytes e told shown wrong calm. inr nine;
   replica = λ v all bytes e recovers told long shown wrong calm. inr nine;
@@ -99,9 +99,9 @@ told-cause before after refusal.Memory bytes told is = inl (inr refl)
 told-cause before after (refusal.InUse len) bytes told is = absurd is
 
 -- the source gave no turns
-pub goes-unread : {D : Type 0} (file name : List ℕ) (before after : Input) (old new : BothTargets D) (why : Refusal) (status : ℕ) → IsTableCause turns_of_text before after why
-    → (why ≢ refusal.Source → after.faults ≡ before.faults) → ConsumesUpTo (most_bytes + 1) before.left after.left → new.to.disk ≡ old.to.disk → new.other ≡ old.other
-    → Refuses why status old.to.output new.to.output → GoesFollowing file name before after old new status
+pub goes-unread : {D : Type 0} (file name : List ℕ) (before after : Input) (old new : Targets D) (why : Refusal) (status : ℕ) → IsTableCause turns_of_text before after why
+    → (why ≢ refusal.Source → after.faults ≡ before.faults) → ConsumesUpTo (most_bytes + 1) before.left after.left → new.disk ≡ old.disk → new.other ≡ old.other
+    → Refuses why status old.output new.output → GoesFollowing file name before after old new status
 goes-unread file name before after old new why status cause calm taken disk other refuses =
     let is = refuses.status_is in
     record {
@@ -115,7 +115,7 @@ goes-unread file name before after old new why status cause calm taken disk othe
       decided = record {
         wrong = λ bytes e told judged quiet.
             ⊎_elim (λ free. ⊎_elim (λ rose. absurd (quiet rose)) (λ memory. inr (is ∙ ap status_of memory)) free)
-            (λ same. inl (subst (λ (r : Refusal). Refuses r status old.to.output new.to.output) (err-same {T = List Turn} why e (sym same ∙ judged)) refuses)) (told-cause before after why bytes told cause);
+            (λ same. inl (subst (λ (r : Refusal). Refuses r status old.output new.output) (err-same {T = List Turn} why e (sym same ∙ judged)) refuses)) (told-cause before after why bytes told cause);
         turns = λ bytes turns told judged quiet.
             undecided old new status
             (⊎_elim (λ free. ⊎_elim (λ rose. absurd (quiet rose)) (λ memory. is ∙ ap status_of memory) free) (λ same. absurd (ok-err turns why (sym judged ∙ same))) (told-cause before after why bytes told cause));
@@ -123,7 +123,7 @@ goes-unread file name before after old new why status cause calm taken disk othe
     }
 
 -- it did
-pub goes-read : {D : Type 0} (file name : List ℕ) (before after : Input) (old new : BothTargets D) (turns : List Turn) (status : ℕ) → ReadsTable turns_of_text before after turns
+pub goes-read : {D : Type 0} (file name : List ℕ) (before after : Input) (old new : Targets D) (turns : List Turn) (status : ℕ) → ReadsTable turns_of_text before after turns
     → EndsFollowing file name turns old new status → GoesFollowing file name before after old new status
 goes-read file name before after old new turns status read ends = record {
   goes = inr (record { turns = turns; read = read; ends = ends });

@@ -3,9 +3,7 @@ use Rattle.std.proofs.Common.{◌≡◌, ◌⊎◌, inl, inr, ⊎_elim, ◌∙�
 use Rattle.std.specs.Prelude.{IfOk, IfErr, MatchResult}
 use Rattle.std.specs.Result.{IsErrAnd}
 use Rattle.causes.specs.Causes.{Rose}
-use Rattle.disk_trait.specs.Drive.{Drive, Stays, AttachedOne, CountsAttach}
-use Rattle.disk_trait.specs.declared.disk.AttachFault.{AttachFault}
-use Rattle.disk_trait.specs.declared.disk.AttachFault.TheVariants as attach_fault
+use Rattle.disk_trait.specs.Drive.{Drive, Stays, AttachedOne}
 use Rattle.disk_trait.proofs.Calls.{attached-still}
 use Rattle.cell_format.specs.declared.cell.Cell.{Cell}
 use Rattle.log_state.specs.Recovers.{Recovers}
@@ -22,11 +20,13 @@ use Rattle.recovery.proofs.Exclusive.{one_fault, recovers_no_fault, recovers_wan
 use Rattle.recovery.proofs.OnlyReading.{stays-trans, rose-earlier}
 use Rattle.recovery.proofs.WidthLemmas.{recovers_width, same_width, fault_seen, fault_at}
 use Rattle.follower.specs.Holding.{most_followed}
-use Rattle.run_ends.specs.LogFaults.{attach_refusal, log_refusal}
+use Rattle.csv_rows.specs.declared.rows.Refusal.{Refusal}
+use Rattle.run_ends.specs.Attaching.{RefusesAttach}
+use Rattle.run_ends.specs.LogFaults.{log_refusal}
 use Rattle.run_ends.specs.Limits.{oldest_read}
-use Rattle.run_ends.proofs.AttachFacts.{attaches-one, attaches-none}
+use Rattle.run_ends.proofs.AttachFacts.{attaches-one, only-memory, reading-unattached}
 use Rattle.run_ends.proofs.LogFaults.{reading-after, calm-named, calm-free}
-use Rattle.log_run.proofs.DriveSteps.{calm-attached, calm-read, free-later}
+use Rattle.log_run.proofs.DriveSteps.{calm-read, free-later}
 use Rattle.follow_run.specs.declared.leader.Leader.{Leader}
 use Rattle.follow_run.specs.Leading.{FindsLeader, RecoversLeader, HasLeader, ReadsLeader, LosesLeader}
 
@@ -113,20 +113,13 @@ loses-leader {T = T} file a b c e stays same attached reads wrong exact whole =
     }
 
 -- a file that wasn't attached
-pub loses-attached : {T : Type 0} (file : List ℕ) (a b : Drive) (why : AttachFault) → Stays a b → CountsAttach {T = T} file false a b (Err why) → LosesLeader file a b (attach_refusal why)
-loses-attached file a b attach_fault.Disk stays counts = record {
-  cause = counts.failed refl;
-  exact = λ bytes f told shown is calm. absurd (calm (counts.failed refl));
-  whole = λ w cells is calm. absurd (calm (counts.failed refl));
-  read = record { attached = attaches-none file false a b attach_fault.Disk counts; calm = calm-attached file false a b attach_fault.Disk counts };
-  stays = stays;
-}
-loses-attached file a b attach_fault.Memory stays counts = record {
-  cause = tt;
-  exact = λ bytes f told shown is calm. inr refl;
-  whole = λ w cells is calm. refl;
-  read = record { attached = attaches-none file false a b attach_fault.Memory counts; calm = calm-attached file false a b attach_fault.Memory counts };
-  stays = stays;
+pub loses-attached : (file : List ℕ) (a b : Drive) (why : Refusal) → RefusesAttach file false a b why → LosesLeader file a b why
+loses-attached file a b why refuses = record {
+  cause = reading-unattached file false a b oldest_read most_followed why refuses;
+  exact = λ bytes f told shown is calm. inr (only-memory file false a b why refuses calm);
+  whole = λ w cells is calm. only-memory file false a b why refuses calm;
+  read = record { attached = refuses.attached; calm = refuses.calm };
+  stays = refuses.stays;
 }
 
 -- a fault of a call, where its answer has another type

@@ -4,9 +4,7 @@ use Rattle.std.specs.Prelude.{◌≢◌}
 use Rattle.causes.specs.Causes.{Rose, Counts}
 use Rattle.io_edge.specs.Puts.{Puts}
 use Rattle.io_edge.specs.Streams.{Output}
-use Rattle.disk_trait.specs.Drive.{Drive, KeepsLaws, Stays, AttachedOne, CountsAttach}
-use Rattle.disk_trait.specs.declared.disk.AttachFault.{AttachFault}
-use Rattle.disk_trait.specs.declared.disk.AttachFault.TheVariants as attach_fault
+use Rattle.disk_trait.specs.Drive.{Drive, KeepsLaws, Stays, AttachedOne}
 use Rattle.disk_trait.proofs.Calls.{attached-still}
 use Rattle.cell_format.specs.declared.cell.Cell.{Cell}
 use Rattle.cell_format.specs.Spelling.{newest}
@@ -30,12 +28,12 @@ use Rattle.follower.specs.Follow.{Following, opened_with, reports}
 use Rattle.follower.specs.Holding.{FollowerView, RecoversFirst, IsUntold}
 use Rattle.follower.specs.Opening.{IsStrange, IsTaken, IsOpenCause, Opens, RefusesOpen, KeepsTarget, most_held}
 use Rattle.follower.proofs.TurnLemmas.{told-before}
-use Rattle.run_ends.specs.LogFaults.{attach_refusal, log_refusal}
+use Rattle.run_ends.specs.Attaching.{RefusesAttach}
+use Rattle.run_ends.specs.LogFaults.{log_refusal}
 use Rattle.run_ends.specs.Status.{status_of, written_status}
 use Rattle.run_ends.specs.Taking.{Refuses}
-use Rattle.run_ends.proofs.AttachFacts.{attaches-one, attaches-none, attaches-as}
+use Rattle.run_ends.proofs.AttachFacts.{attaches-one, attaches-as, only-memory}
 use Rattle.log_run.proofs.MakingEnds.{ends-writing, whole-writing}
-use Rattle.log_run.proofs.DriveSteps.{calm-attached}
 use Rattle.follow_run.specs.Lines.{reports_text}
 use Rattle.follow_run.specs.Replica.{machine_at, IsReplicaCause, IsStop, OpensUntold, EndsTurns, EndsReplica, follow_refusal}
 use Rattle.follow_run.specs.Playing.{OpensReplica, LosesReplica, PlaysAll, StopsPlaying, EndsPlaying}
@@ -86,25 +84,21 @@ module _ (w : ℕ) (cells : List Cell) (a b : Drive) (laws : KeepsLaws a) (stays
   }
 
   -- it wasn't attached
-  pub lost-attached : {T : Type 0} (name : List ℕ) (why : AttachFault) → CountsAttach {T = T} name true a b (Err why) → LosesReplica w cells name a b (attach_refusal why)
-  lost-attached {T = T} name why counts = record {
-    cause = cause_of why counts;
+  pub lost-attached : (name : List ℕ) (why : Refusal) → RefusesAttach name true a b why → LosesReplica w cells name a b why
+  lost-attached name why refuses = record {
+    cause =
+        elim refuses.cause [
+          | inl disk ↦ subst (IsReplicaCause w cells a b) (sym disk.0) disk.1
+          | inr memory ↦ subst (IsReplicaCause w cells a b) (sym memory) tt
+        ];
     untouched = λ other bytes told. untouched-attached;
     keeps = keeps-attached;
-    exact = λ bytes what told long shown is calm. inr (memory_of why counts calm);
-    strange = λ bytes cell told is calm. inr (memory_of why counts calm);
-    whole = λ bytes first told taken calm. memory_of why counts calm;
-    calm = calm-attached name true a b why counts;
-    attached = attaches-none name true a b why counts;
+    exact = λ bytes what told long shown is calm. inr (only-memory name true a b why refuses calm);
+    strange = λ bytes cell told is calm. inr (only-memory name true a b why refuses calm);
+    whole = λ bytes first told taken calm. only-memory name true a b why refuses calm;
+    calm = refuses.calm;
+    attached = refuses.attached;
   }
-    where
-      cause_of : (e : AttachFault) → CountsAttach {T = T} name true a b (Err e) → IsReplicaCause w cells a b (attach_refusal e)
-      cause_of attach_fault.Disk counts = counts.failed refl
-      cause_of attach_fault.Memory counts = tt
-
-      memory_of : (e : AttachFault) → CountsAttach {T = T} name true a b (Err e) → (Rose a.faults b.faults → ⊥) → attach_refusal e ≡ refusal.Memory
-      memory_of attach_fault.Disk counts calm = absurd (calm (counts.failed refl))
-      memory_of attach_fault.Memory counts calm = refl
 
   module _ (name : List ℕ) (attached : AttachedOne name true a b) (same : b.faults ≡ a.faults) where
     -- a follower was opened

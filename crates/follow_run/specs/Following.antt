@@ -2,7 +2,6 @@
 use Rattle.std.specs.Prelude.{◌≡◌, ◌≢◌, ◌⊎◌, ◌+◌, ◌<◌, ℕ, false, List, [], length, Some, Result, Ok, Err}
 use Rattle.causes.specs.Causes.{Rose}
 use Rattle.disk_trait.specs.Drive.{Stays}
-use Rattle.plain_list.specs.declared.entries.Entry.{Entry}
 use Rattle.cell_format.specs.declared.cell.Cell.{Cell}
 use Rattle.cell_format.specs.Spelling.{newest}
 use Rattle.recovery.specs.Faults.{IsFault, IsInBytes}
@@ -18,13 +17,12 @@ use Rattle.io_edge.specs.Streams.{Input}
 use Rattle.io_edge.specs.Reads.{ConsumesUpTo}
 use Rattle.run_ends.specs.LogFaults.{log_refusal}
 use Rattle.run_ends.specs.Limits.{most_bytes, oldest_read}
-use Rattle.run_ends.specs.Ends.{Ends}
+use Rattle.run_ends.specs.Ends.{Ends, Done, Targets}
 use Rattle.run_ends.specs.Tables.{judged_by, IsTableCause, ReadsTable}
 use Rattle.run_ends.specs.Taking.{Refuses}
 use Rattle.run_ends.specs.Ending.{EndsRefused}
 use Rattle.run_ends.specs.Attaching.{AttachesOnce}
 use Rattle.log_run.specs.Checking.{HasRead}
-use Rattle.log_run.specs.Compacting.{BothTargets, both_of}
 use Rattle.follow_run.specs.Leading.{FindsLeader, RecoversLeader, IsLeaderCause}
 use Rattle.follow_run.specs.Replica.{EndsReplica}
 
@@ -33,83 +31,83 @@ abbrev pub judged_turns : List ℕ → Result (List Turn) Refusal
 judged_turns input = judged_by turns_of_text input
 
 -- the leader's cells aren't read, and nothing was done to the second drive
-pub record RefusesLeader {D : Type 0} (old new : BothTargets D) (status : ℕ) : Type 0 where
-  pub refused : EndsRefused (IsLeaderCause old.to.drive new.to.drive) status old.to.output new.to.output
+pub record RefusesLeader {D : Type 0} (old new : Targets D) (status : ℕ) : Type 0 where
+  pub refused : EndsRefused (IsLeaderCause old.drive new.drive) status old.output new.output
   pub other : new.other ≡ old.other
 
 -- they are read, and followed in the file of this name on the second drive, by the same width
-pub record FollowsLeader {D : Type 0} (file name : List ℕ) (turns : List Turn) (old new : BothTargets D) (status : ℕ) : Type 0 where
+pub record FollowsLeader {D : Type 0} (file name : List ℕ) (turns : List Turn) (old new : Targets D) (status : ℕ) : Type 0 where
   pub width : ℕ
   pub cells : List Cell
-  pub found : FindsLeader width old.to.drive cells
-  pub read : HasRead file old.to.drive new.to.drive
-  pub ends : EndsReplica width cells turns name old.other_drive new.other_drive status old.to.output new.to.output
+  pub found : FindsLeader width old.drive cells
+  pub read : HasRead file old.drive new.drive
+  pub ends : EndsReplica width cells turns name old.other_drive new.other_drive status old.output new.output
 
 -- no count of faults of either drive rose
-pub record AreCalm {D : Type 0} (old new : BothTargets D) : Type 0 where
-  pub leader : Rose old.to.drive.faults new.to.drive.faults → ⊥
+pub record AreCalm {D : Type 0} (old new : Targets D) : Type 0 where
+  pub leader : Rose old.drive.faults new.drive.faults → ⊥
   pub replica : Rose old.other_drive.faults new.other_drive.faults → ⊥
 
 -- What the bytes of both files decide, unless memory ran out or a count rose: a fault of the first one is told; where that one is read, a fault
 -- of the second one, and the first of its cells that isn't the leader's; and where a follower takes the second, the status is 0.
-pub record AreDecided {D : Type 0} (old new : BothTargets D) (status : ℕ) : Type 0 where
+pub record AreDecided {D : Type 0} (old new : Targets D) (status : ℕ) : Type 0 where
   pub exact :
-      (bytes : List ℕ) (fault : OpenFault) → old.to.drive.bytes ≡ Some bytes → IsInBytes fault
-      → IsLogFault oldest_read most_followed bytes fault → (Rose old.to.drive.faults new.to.drive.faults → ⊥)
-      → Refuses (log_refusal fault) status old.to.output new.to.output ⊎ (status ≡ 9)
+      (bytes : List ℕ) (fault : OpenFault) → old.drive.bytes ≡ Some bytes → IsInBytes fault
+      → IsLogFault oldest_read most_followed bytes fault → (Rose old.drive.faults new.drive.faults → ⊥)
+      → Refuses (log_refusal fault) status old.output new.output ⊎ (status ≡ 9)
   pub replica :
-      (w : ℕ) (cells : List Cell) (bytes : List ℕ) (fault : OpenFault) → RecoversLeader w cells old.to.drive
+      (w : ℕ) (cells : List Cell) (bytes : List ℕ) (fault : OpenFault) → RecoversLeader w cells old.drive
       → old.other_drive.bytes ≡ Some bytes → 17 < length bytes → IsInBytes fault
       → IsFault newest w most_held bytes fault → AreCalm old new
-      → Refuses (log_refusal fault) status old.to.output new.to.output ⊎ (status ≡ 9)
+      → Refuses (log_refusal fault) status old.output new.output ⊎ (status ≡ 9)
   pub strange :
-      (w : ℕ) (cells : List Cell) (bytes : List ℕ) (cell : ℕ) → RecoversLeader w cells old.to.drive → old.other_drive.bytes ≡ Some bytes
+      (w : ℕ) (cells : List Cell) (bytes : List ℕ) (cell : ℕ) → RecoversLeader w cells old.drive → old.other_drive.bytes ≡ Some bytes
       → IsStrange w cells bytes cell → AreCalm old new
-      → Refuses (refusal.Strange cell) status old.to.output new.to.output ⊎ (status ≡ 9)
+      → Refuses (refusal.Strange cell) status old.output new.output ⊎ (status ≡ 9)
   pub whole :
-      (w : ℕ) (cells : List Cell) (bytes : List ℕ) (first : ℕ) → RecoversLeader w cells old.to.drive → old.other_drive.bytes ≡ Some bytes
+      (w : ℕ) (cells : List Cell) (bytes : List ℕ) (first : ℕ) → RecoversLeader w cells old.drive → old.other_drive.bytes ≡ Some bytes
       → IsTaken w cells bytes first → AreCalm old new
-      → (Rose old.to.output.faults new.to.output.faults → ⊥) → (status ≡ 0) ⊎ (status ≡ 9)
+      → (Rose old.output.faults new.output.faults → ⊥) → (status ≡ 0) ⊎ (status ≡ 9)
 
 -- The first file is read, and its cells followed in the second along turns: the order is attach, width, walk, attach, open, turns, lines. Bytes and
 -- images of the first drive stay, whatever the status is.
-pub record EndsFollowing {D : Type 0} (file name : List ℕ) (turns : List Turn) (old new : BothTargets D) (status : ℕ) : Type 0 where
+pub record EndsFollowing {D : Type 0} (file name : List ℕ) (turns : List Turn) (old new : Targets D) (status : ℕ) : Type 0 where
   pub ends : RefusesLeader old new status ⊎ FollowsLeader file name turns old new status
   pub decided : AreDecided old new status
-  pub stays : Stays old.to.drive new.to.drive
+  pub stays : Stays old.drive new.drive
   -- the first drive's count is as it was, but where a drive is what is told to have failed
-  pub calm : status ≢ 7 → new.to.drive.faults ≡ old.to.drive.faults
+  pub calm : status ≢ 7 → new.drive.faults ≡ old.drive.faults
   -- the first file is attached, and none is made
-  pub attached : AttachesOnce file false old.to.drive new.to.drive status
+  pub attached : AttachesOnce file false old.drive new.drive status
 
 -- The source gave no turns: both drives are left as they were, and the source's count where it didn't fail. At most one byte behind the limit was taken.
-pub record GivesNoTurns {D : Type 0} (before after : Input) (old new : BothTargets D) (status : ℕ) : Type 0 where
-  pub disk : new.to.disk ≡ old.to.disk
+pub record GivesNoTurns {D : Type 0} (before after : Input) (old new : Targets D) (status : ℕ) : Type 0 where
+  pub disk : new.disk ≡ old.disk
   pub other : new.other ≡ old.other
   pub calm : status ≢ 5 → after.faults ≡ before.faults
-  pub refused : EndsRefused (IsTableCause turns_of_text before after) status old.to.output new.to.output
+  pub refused : EndsRefused (IsTableCause turns_of_text before after) status old.output new.output
   pub taken : ConsumesUpTo (most_bytes + 1) before.left after.left
 
 -- all that the source had was read, and the cells were followed along its turns
-pub record GivesTurns {D : Type 0} (file name : List ℕ) (before after : Input) (old new : BothTargets D) (status : ℕ) : Type 0 where
+pub record GivesTurns {D : Type 0} (file name : List ℕ) (before after : Input) (old new : Targets D) (status : ℕ) : Type 0 where
   pub turns : List Turn
   pub read : ReadsTable turns_of_text before after turns
   pub ends : EndsFollowing file name turns old new status
 
 -- What the bytes of a source decide, unless its count rose or memory ran out: what is wrong with them is told, and where they are turns, both files decide.
-pub record TurnsDecide {D : Type 0} (before after : Input) (old new : BothTargets D) (status : ℕ) : Type 0 where
+pub record TurnsDecide {D : Type 0} (before after : Input) (old new : Targets D) (status : ℕ) : Type 0 where
   pub wrong :
       (bytes : List ℕ) (why : Refusal) → before.left ≡ Some bytes → judged_turns bytes ≡ Err why → (Rose before.faults after.faults → ⊥)
-      → Refuses why status old.to.output new.to.output ⊎ (status ≡ 9)
+      → Refuses why status old.output new.output ⊎ (status ≡ 9)
   pub turns : (bytes : List ℕ) (turns : List Turn) → before.left ≡ Some bytes → judged_turns bytes ≡ Ok turns
       → (Rose before.faults after.faults → ⊥) → AreDecided old new status
 
 -- how a run of `follow` goes, of what its source gave and what it wrote to
-pub record GoesFollowing {D : Type 0} (file name : List ℕ) (before after : Input) (old new : BothTargets D) (status : ℕ) : Type 0 where
+pub record GoesFollowing {D : Type 0} (file name : List ℕ) (before after : Input) (old new : Targets D) (status : ℕ) : Type 0 where
   pub goes : GivesNoTurns before after old new status ⊎ GivesTurns file name before after old new status
   pub decided : TurnsDecide before after old new status
 
 -- What `follow` promises. No row is called.
-pub record Follows {S D : Type 0} (file name : List ℕ) (old new : Ends S D) (status : ℕ) (h : List Entry) : Type 0 where
-  pub goes : GoesFollowing file name old.input new.input (both_of old) (both_of new) status
-  pub none : h ≡ []
+pub record Follows {S D : Type 0} (file name : List ℕ) (done : Done (Ends S D)) : Type 0 where
+  pub goes : GoesFollowing file name done.old.input done.new.input done.old.to done.new.to done.status
+  pub none : done.history ≡ []

@@ -4,8 +4,7 @@ use Rattle.causes.specs.Causes.{Rose}
 use Rattle.disk_trait.specs.Drive.{Drive, Stays}
 use Rattle.cell_format.specs.declared.cell.Cell.{Cell}
 use Rattle.log_state.specs.Recovers.{Recovers}
-use Rattle.recovery.specs.Faults.{IsFault, IsInBytes}
-use Rattle.recovery.specs.Found.{IsFree}
+use Rattle.recovery.specs.Faults.{IsInBytes}
 use Rattle.recovery.specs.Widths.{IsWidth, IsLogFault}
 use Rattle.recovery.specs.declared.seen.OpenFault.{OpenFault}
 use Rattle.csv_rows.specs.declared.rows.Refusal.{Refusal}
@@ -32,34 +31,12 @@ pub record RecoversLeader (w : ℕ) (cells : List Cell) (drive : Drive) : Type 0
 abbrev pub IsLeaderCause : Drive → Drive → Refusal → Type 0
 IsLeaderCause old new why = IsReadingCause oldest_read most_followed old new why
 
--- All cells of a log of this width were walked. Where the bytes are known, they recover to no others, and nothing is at fault in them.
-pub record HasCells (w : ℕ) (old : Drive) (cells : List Cell) : Type 0 where
-  pub found : FindsLeader w old cells
-  pub only : (bytes : List ℕ) (all : List Cell) → old.bytes ≡ Some bytes → Recovers w all bytes → length all ≤ most_followed → cells ≡ all
-  pub sound : (bytes : List ℕ) (fault : OpenFault) → old.bytes ≡ Some bytes → IsInBytes fault
-      → IsFault oldest_read w most_followed bytes fault → ⊥
-
--- they weren't: what is at fault in a log of this width, or an answer that the bytes don't decide
-pub record LacksCells (w : ℕ) (old new : Drive) (why : OpenFault) : Type 0 where
-  pub fault : (bytes : List ℕ) → old.bytes ≡ Some bytes → IsFault oldest_read w most_followed bytes why
-  pub exact : (bytes : List ℕ) (fault : OpenFault) → old.bytes ≡ Some bytes → IsInBytes fault
-      → IsFault oldest_read w most_followed bytes fault → (why ≡ fault) ⊎ IsFree old new why
-  pub whole : (bytes : List ℕ) (all : List Cell) → old.bytes ≡ Some bytes → Recovers w all bytes → length all ≤ most_followed
-      → IsFree old new why
-
 -- The cells of a log of either width were read, and its width. Where the bytes are known, they recover to no others, and nothing is at fault in them.
 pub record HasLeader (w : ℕ) (old : Drive) (cells : List Cell) : Type 0 where
   pub found : FindsLeader w old cells
   pub only : (v : ℕ) (all : List Cell) → RecoversLeader v all old → (w ≡ v) × (cells ≡ all)
   pub sound : (bytes : List ℕ) (fault : OpenFault) → old.bytes ≡ Some bytes → IsInBytes fault
       → IsLogFault oldest_read most_followed bytes fault → ⊥
-
--- they weren't
-pub record LacksLeader (old new : Drive) (why : OpenFault) : Type 0 where
-  pub fault : (bytes : List ℕ) → old.bytes ≡ Some bytes → IsLogFault oldest_read most_followed bytes why
-  pub exact : (bytes : List ℕ) (fault : OpenFault) → old.bytes ≡ Some bytes → IsInBytes fault
-      → IsLogFault oldest_read most_followed bytes fault → (why ≡ fault) ⊎ IsFree old new why
-  pub whole : (w : ℕ) (cells : List Cell) → RecoversLeader w cells old → IsFree old new why
 
 -- the file was attached and its cells were read
 pub record ReadsLeader (file : List ℕ) (w : ℕ) (old new : Drive) (cells : List Cell) : Type 0 where

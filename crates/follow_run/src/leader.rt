@@ -15,7 +15,7 @@ ghost use Rattle.follow_run.specs.Leading.{FindsLeader, RecoversLeader, ReadsLea
 use cell_format::Cell;
 use disk_trait::LogDisk;
 use recovery::{OpenFault, OpenRefused, Walk, width_of};
-use run_ends::{Unmade, attach_refusal, log_refusal};
+use run_ends::{Unmade, attach, log_refusal};
 use std::alloc::Global;
 
 /// How many cells a log that is followed may have.
@@ -38,8 +38,7 @@ pub(crate) fn find_leader<D: LogDisk>(
     ensures read { IfOk result (λ l. ReadsLeader file.now l.width (D.drive disk) (D.drive l.disk) l.cells.items) }
     ensures lost { IfErr result (λ e. LosesLeader file.now (D.drive disk) (D.drive e.disk) e.why) }
 {
-    if let Err(fault) = disk.attach(alloc, file, false) {
-        let why = attach_refusal(fault);
+    if let Err(why) = attach(alloc, file, false, &mut disk) {
         return Err(Unmade { disk, why });
     }
     match read_leader(alloc, disk) {

@@ -12,4 +12,4 @@ mod leader;
 mod lines;
 mod replica;
 
-pub use following::{Drives, follow_log};
+pub use following::follow_log;

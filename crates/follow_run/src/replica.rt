@@ -12,7 +12,7 @@ use csv_rows::Refusal;
 use disk_trait::LogDisk;
 use follower::{FollowFault, FollowRefused, Follower, Report, Turn, Turned};
 use io_edge::Sink;
-use run_ends::{Ended, Unmade, attach_refusal, log_refusal, refuse_on, without_rows, written};
+use run_ends::{Drives, Ended, Unmade, attach, log_refusal, refuse_on, without_rows, written};
 use std::alloc::Global;
 
 /// Follows the leader's cells in the file of this name along turns, and tells their reports.
@@ -23,17 +23,19 @@ pub(crate) fn copy_to<K: Sink, D: LogDisk>(
     turns: &[Turn],
     name: &str,
     sink: &mut K,
-    other: D,
+    drives: Drives<D>,
 ) -> Ended<D>
     requires leading { AreLeading width cells.now }
     requires turns { AreTurns turns.now }
-    ensures ends { EndsReplica width cells.now turns.now name.now (D.drive other) (D.drive result.disk) result.status
+    ensures ends { EndsReplica width cells.now turns.now name.now (D.drive drives.other) (D.drive result.drives.other) result.status
         (K.output sink.old) (K.output sink.new) }
-    ensures none { result.events ≡ [] }
+    ensures none { result.history ≡ [] }
+    ensures disk { result.drives.disk ≡ drives.disk }
 {
+    let Drives { disk, other } = drives;
     match open_replica(alloc, cells, width, name, other) {
-        Ok(follower) => play_and_tell(alloc, follower, cells, turns, sink),
-        Err(Unmade { disk, why }) => refuse_on(alloc, &why, sink, disk),
+        Ok(follower) => turn_and_tell(alloc, follower, cells, turns, sink, disk),
+        Err(Unmade { disk: other, why }) => refuse_on(alloc, &why, sink, Drives { disk, other }),
     }
 }
 
@@ -49,8 +51,7 @@ fn open_replica<D: LogDisk>(
     ensures opened { IfOk result (OpensReplica D.drive width cells.now name.now (D.drive other)) }
     ensures refused { IfErr result (λ e. LosesReplica width cells.now name.now (D.drive other) (D.drive e.disk) e.why) }
 {
-    if let Err(fault) = other.attach(alloc, name, true) {
-        let why = attach_refusal(fault);
+    if let Err(why) = attach(alloc, name, true, &mut other) {
         return Err(Unmade { disk: other, why });
     }
     match Follower::open(alloc, other, cells, width) {
@@ -62,29 +63,36 @@ fn open_replica<D: LogDisk>(
     }
 }
 
-// Plays turns from an opened follower on, and tells their reports.
-fn play_and_tell<K: Sink, D: LogDisk>(
+// Makes turns from an opened follower on, and tells their reports. The first drive is passed on.
+fn turn_and_tell<K: Sink, D: LogDisk>(
     alloc: Global,
     follower: Follower<D>,
     cells: &[Cell],
     turns: &[Turn],
     sink: &mut K,
+    disk: D,
 ) -> Ended<D>
     requires opened { follower.state ≡ opened_with follower.state.held }
     requires holds { HoldsFirst D.drive cells.now follower }
     requires turns { AreTurns turns.now }
-    ensures ends { EndsPlaying follower.width cells.now follower.state.held turns.now (D.drive follower.disk) (D.drive result.disk)
+    ensures ends { EndsPlaying follower.width cells.now follower.state.held turns.now (D.drive follower.disk) (D.drive result.drives.other)
         result.status (K.output sink.old) (K.output sink.new) }
-    ensures none { result.events ≡ [] }
+    ensures none { result.history ≡ [] }
+    ensures disk { result.drives.disk ≡ disk }
 {
     match play_turns(alloc, follower, cells, turns) {
-        Ok(Played { disk, reports }) => {
+        Ok(
+            Played {
+                disk: other,
+                reports,
+            },
+        ) => {
             let status = written(write_reports(sink, reports.as_slice()));
-            without_rows(alloc, status, disk)
+            without_rows(alloc, status, Drives { disk, other })
         }
-        Err(FollowRefused { disk, fault }) => {
+        Err(FollowRefused { disk: other, fault }) => {
             let why = follow_refusal(fault);
-            refuse_on(alloc, &why, sink, disk)
+            refuse_on(alloc, &why, sink, Drives { disk, other })
         }
     }
 }

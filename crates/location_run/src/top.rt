@@ -1,18 +1,20 @@
 //! The top call.
-ghost use Rattle.std.specs.Prelude.{◌≡◌, map};
+ghost use Rattle.std.specs.Prelude.{◌≡◌, ℕ, List, map};
 ghost use Rattle.std.specs.String.{string_bytes};
-ghost use Rattle.run_ends.specs.Ends.{ends};
-ghost use Rattle.location_run.specs.Run.{KeepsAsked, AnswersUsage};
+ghost use Rattle.command_words.specs.Words.{AsksFor};
+ghost use Rattle.command_words.specs.Asked.{command_of};
+ghost use Rattle.run_ends.specs.Ends.{done_by};
+ghost use Rattle.location_run.specs.Run.{Keeps, KeepsAsked, AnswersUsage, run_by};
 
 use crate::outcome::Outcome;
 use command_words::{Command, command_in};
 use csv_rows::Refusal;
 use disk_trait::LogDisk;
-use follow_run::{Drives, follow_log};
+use follow_run::follow_log;
 use io_edge::{Gate, Sink, Source};
 use log_run::{check_log, compact_log, make_log, show_log};
 use play_run::{play, trial};
-use run_ends::{Ended, refuse_on};
+use run_ends::{Drives, Ended, refuse_on};
 use std::alloc::Global;
 use std::sync::Wait;
 use std::thread::Threads;
@@ -39,91 +41,58 @@ pub fn run<R: Threads + Wait + Sync, S: Source, K: Sink, D: LogDisk + Send, G: G
     gate: &G,
 ) -> Outcome<D>
     // Words that ask for no command get status 2, and no others do.
-    ensures usage { AnswersUsage (map string_bytes words.now) (ends S.input K.output D.drive source.old sink.old disk other)
-        (ends S.input K.output D.drive source.new sink.new result.disk result.other) result.status result.events }
+    ensures usage { AnswersUsage (map string_bytes words.now)
+        (run_by S.input K.output D.drive source.old sink.old disk other source.new sink.new result) }
 
     // The command that they ask for keeps its promise.
-    ensures keeps { KeepsAsked (map string_bytes words.now) (ends S.input K.output D.drive source.old sink.old disk other)
-        (ends S.input K.output D.drive source.new sink.new result.disk result.other) result.status result.events }
+    ensures keeps { KeepsAsked (map string_bytes words.now)
+        (run_by S.input K.output D.drive source.old sink.old disk other source.new sink.new result) }
 {
+    let drives = Drives { disk, other };
     match command_in(words) {
-        Some(Command::Init(file, width)) => {
-            let end = make_log(alloc, file, width, sink, disk);
-            outcome_of(end, other)
-        }
-        Some(Command::Check(file)) => {
-            let end = check_log(alloc, file, sink, disk);
-            outcome_of(end, other)
-        }
-        Some(Command::Show(file, region)) => {
-            let end = show_log(alloc, file, &region, sink, disk);
-            outcome_of(end, other)
-        }
-        Some(Command::Play(log, size)) => {
-            let end = play(rt, alloc, log, size, source, sink, disk, gate);
-            outcome_of(end, other)
-        }
-        Some(Command::Trial(log, made)) => {
-            let end = trial(rt, alloc, log, made, sink, disk, gate);
-            outcome_of(end, other)
-        }
-        Some(Command::Compact(file, name)) => {
-            let mut disk = disk;
-            let end = compact_log(alloc, file, name, sink, &mut disk, other);
-            outcome_of_other(end, disk)
-        }
-        Some(Command::Watch(file)) => {
-            let end = watch_log(alloc, file, source, sink, disk);
-            outcome_of(end, other)
-        }
-        Some(Command::Follow(file, name)) => {
-            let end = follow_log(alloc, file, name, source, sink, disk, other);
-            outcome_of_both(end)
-        }
-        None => {
-            let end = refuse_on(alloc, &Refusal::Usage, sink, disk);
-            outcome_of(end, other)
-        }
+        Some(command) => outcome_of(obey(rt, alloc, command, source, sink, drives, gate)),
+        None => outcome_of(refuse_on(alloc, &Refusal::Usage, sink, drives)),
     }
 }
 
-// What a run leaves whose command leaves the second drive alone.
-fn outcome_of<D: LogDisk>(end: Ended<D>, other: D) -> Outcome<D>
-    ensures { result ≡ record { status = end.status; disk = end.disk; other = other; events = end.events } }
+// Does what some words ask for.
+fn obey<R: Threads + Wait + Sync, S: Source, K: Sink, D: LogDisk + Send, G: Gate + Sync>(
+    rt: &R,
+    alloc: Global,
+    command: Command,
+    source: &mut S,
+    sink: &mut K,
+    drives: Drives<D>,
+    gate: &G,
+) -> Ended<D>
+    requires asked { (words : List (List ℕ)) × AsksFor words (command_of command) }
+    ensures { Keeps (command_of command.entry) (done_by S.input K.output D.drive source.old sink.old drives source.new sink.new result) }
 {
-    Outcome {
-        status: end.status,
-        disk: end.disk,
-        other,
-        events: end.events,
+    match command {
+        Command::Init(file, width) => make_log(alloc, file, width, sink, drives),
+        Command::Check(file) => check_log(alloc, file, sink, drives),
+        Command::Show(file, region) => show_log(alloc, file, &region, sink, drives),
+        Command::Play(log, size) => play(rt, alloc, log, size, source, sink, drives, gate),
+        Command::Trial(log, made) => trial(rt, alloc, log, made, sink, drives, gate),
+        Command::Compact(file, name) => compact_log(alloc, file, name, sink, drives),
+        Command::Watch(file) => watch_log(alloc, file, source, sink, drives),
+        Command::Follow(file, name) => follow_log(alloc, file, name, source, sink, drives),
     }
 }
 
-// What a run leaves whose command ends with the second drive.
-fn outcome_of_other<D: LogDisk>(end: Ended<D>, disk: D) -> Outcome<D>
-    ensures { result ≡ record { status = end.status; disk = disk; other = end.disk; events = end.events } }
-{
-    Outcome {
-        status: end.status,
-        disk,
-        other: end.disk,
-        events: end.events,
-    }
-}
-
-// What a run leaves whose command has both drives.
-fn outcome_of_both<D: LogDisk>(end: Ended<Drives<D>>) -> Outcome<D>
-    ensures { result ≡ record { status = end.status; disk = end.disk.disk; other = end.disk.other; events = end.events } }
+// What a run leaves, of what its command gave back.
+fn outcome_of<D: Drop>(end: Ended<D>) -> Outcome<D>
+    ensures { result ≡ record { status = end.status; disk = end.drives.disk; other = end.drives.other; events = end.history } }
 {
     let Ended {
         status,
-        events,
-        disk: Drives { disk, other },
+        history,
+        drives: Drives { disk, other },
     } = end;
     Outcome {
         status,
         disk,
         other,
-        events,
+        events: history,
     }
 }

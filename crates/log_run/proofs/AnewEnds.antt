@@ -10,6 +10,7 @@ use Rattle.recovery.specs.Widths.{IsWidth}
 use Rattle.log_run.specs.declared.reading.Found.{Found}
 use Rattle.recovery.specs.Found.{IsFound}
 use Rattle.recovery.specs.declared.seen.Seen.{Seen}
+use Rattle.recovery.proofs.CallLemmas.{well-none, well-then}
 use Rattle.recovery.proofs.OnlyReading.{stays-trans}
 use Rattle.recovery.proofs.OpeningLemmas.{leaves-trans, leaves-stays}
 use Rattle.log_compact.specs.Fresh.{ComesBySplits}
@@ -18,11 +19,12 @@ use Rattle.log_compact.proofs.Counting.{comes_by_splits, fresh_few}
 use Rattle.csv_rows.specs.declared.rows.Refusal.{Refusal}
 use Rattle.csv_rows.specs.declared.rows.Refusal.TheVariants as refusal
 use Rattle.run_ends.specs.Limits.{oldest_read, most_inspected}
+use Rattle.run_ends.specs.Ends.{Targets}
 use Rattle.run_ends.specs.Status.{status_of}
 use Rattle.run_ends.specs.Taking.{Refuses}
 use Rattle.run_ends.proofs.AttachFacts.{attaches-one, attaches-as}
 use Rattle.log_run.specs.Checking.{IsCheckingCause, IsDecidedBy, FindsCells, HasRead, HasReadUnless}
-use Rattle.log_run.specs.Compacting.{LeavesNew, EndsAnew, BothTargets, RecoversFew, EndsCompacting, anew}
+use Rattle.log_run.specs.Compacting.{LeavesNew, EndsAnew, RecoversFew, EndsCompacting, anew}
 use Rattle.log_run.proofs.CheckingFacts.{decided-refused}
 
 -- what was found may be written anew
@@ -48,7 +50,7 @@ module _ (w : ℕ) (known : IsWidth w) (drive : Drive) (seen : Seen) (found : Is
 -- a file that was attached, and what was written to it
 module _ (w : ℕ) (fresh : List Cell) (a b c : Drive) (laws : KeepsLaws a) (stays : Stays a b) where
   pub compacted-after : b.faults ≡ a.faults → IsCompacted w fresh b c → IsCompacted w fresh a c
-  compacted-after calm is = record { log = λ bytes told. is.log bytes (stays.bytes ∙ told); same = is.same ∙ calm }
+  compacted-after calm is = record { log = λ bytes told. is.log bytes (stays.bytes ∙ told); same = is.same ∙ calm; calls = well-then a b c (well-none a b stays.calls) is.calls }
 
   pub leaves-attached : a.faults ≤ b.faults → LeavesNew w fresh a b
   leaves-attached later = record {
@@ -65,16 +67,16 @@ module _ (w : ℕ) (fresh : List Cell) (a b c : Drive) (laws : KeepsLaws a) (sta
   }
 
 -- a log that was read
-pub compacts-found : {D : Type 0} (file name : List ℕ) (old new : BothTargets D) (log : Found) (status : ℕ) (known : IsWidth log.width) (found : IsFound oldest_read log.width most_inspected old.to.drive log.seen)
-    → IsDecidedBy most_inspected old.to.drive new.to.drive (Ok log) → HasRead file old.to.drive new.to.drive → Stays old.to.drive new.to.drive
-    → EndsAnew log.width log.seen.world log.seen.leaves name old.other_drive new.other_drive status old.to.output new.to.output → EndsCompacting file name old new status
+pub compacts-found : {D : Type 0} (file name : List ℕ) (old new : Targets D) (log : Found) (status : ℕ) (known : IsWidth log.width) (found : IsFound oldest_read log.width most_inspected old.drive log.seen)
+    → IsDecidedBy most_inspected old.drive new.drive (Ok log) → HasRead file old.drive new.drive → Stays old.drive new.drive
+    → EndsAnew log.width log.seen.world log.seen.leaves name old.other_drive new.other_drive status old.output new.output → EndsCompacting file name old new status
 compacts-found file name old new log status known found decided read stays ends = record {
   ends = inr (record {
     width = log.width;
     cells = found.cells;
-    found = cells-found log.width known old.to.drive log.seen found;
+    found = cells-found log.width known old.drive log.seen found;
     read = read;
-    ends = ends-found log.width known old.to.drive log.seen found name old.other_drive new.other_drive status old.to.output new.to.output ends;
+    ends = ends-found log.width known old.drive log.seen found name old.other_drive new.other_drive status old.output new.output ends;
   });
   decided = record {
     exact = λ bytes fault told shown wrong calm. absurd (decided.exact bytes fault told shown wrong calm);
@@ -85,7 +87,7 @@ compacts-found file name old new log status known found decided read stays ends 
   };
   stays = stays;
   calm = λ other. read.calm;
-  attached = attaches-one file false old.to.drive new.to.drive status read.attached;
+  attached = attaches-one file false old.drive new.drive status read.attached;
 }
 
 -- no log is in use that is only read
@@ -108,18 +110,18 @@ not-used old new (refusal.InUse len) cause ten = absurd cause
 not-used old new (refusal.Strange cell) cause ten = absurd cause
 
 -- a log that wasn't
-pub compacts-refused : {D : Type 0} (file name : List ℕ) (old new : BothTargets D) (why : Refusal) (status : ℕ) → IsCheckingCause old.to.drive new.to.drive why
-    → IsDecidedBy {T = Found} most_inspected old.to.drive new.to.drive (Err why) → HasReadUnless file old.to.drive new.to.drive why → Stays old.to.drive new.to.drive → Refuses why status old.to.output new.to.output
+pub compacts-refused : {D : Type 0} (file name : List ℕ) (old new : Targets D) (why : Refusal) (status : ℕ) → IsCheckingCause old.drive new.drive why
+    → IsDecidedBy {T = Found} most_inspected old.drive new.drive (Err why) → HasReadUnless file old.drive new.drive why → Stays old.drive new.drive → Refuses why status old.output new.output
     → new.other ≡ old.other → EndsCompacting file name old new status
 compacts-refused file name old new why status cause decided read stays refused other =
     let is = refused.status_is in
-    let never : status ≡ 10 → ⊥ = λ ten. not-used old.to.drive new.to.drive why cause (sym is ∙ ten) in
-    let memory : (cells : List Cell) → RecoversFew old.to.drive cells → (Rose old.to.drive.faults new.to.drive.faults → ⊥) → status ≡ 9 =
+    let never : status ≡ 10 → ⊥ = λ ten. not-used old.drive new.drive why cause (sym is ∙ ten) in
+    let memory : (cells : List Cell) → RecoversFew old.drive cells → (Rose old.drive.faults new.drive.faults → ⊥) → status ≡ 9 =
     λ cells few calm. is ∙ ap status_of (decided.whole few.bytes few.width cells few.told few.known few.recovers few.few calm) in
     record {
       ends = inl (record { refused = (why, cause, refused); other = other });
       decided = record {
-        exact = (decided-refused old.to.drive new.to.drive why status old.to.output new.to.output decided refused).exact;
+        exact = (decided-refused old.drive new.drive why status old.output new.output decided refused).exact;
         recovers = λ ten. absurd (never ten);
         long = λ ten. absurd (never ten);
         in_use = λ cells bytes few told long calm steady. inr (memory cells few calm);
@@ -127,5 +129,5 @@ compacts-refused file name old new why status cause decided read stays refused o
       };
       stays = stays;
       calm = λ seven. read.calm (λ e. seven (is ∙ e));
-      attached = attaches-as file false old.to.drive new.to.drive status (status_of why) is read.attached;
+      attached = attaches-as file false old.drive new.drive status (status_of why) is read.attached;
     }

@@ -1,10 +1,8 @@
 -- What an attach and what follows it come to.
-use Rattle.std.proofs.Common.{◌≡◌, ◌⊎◌, inl, inr, ◌∙◌, ℕ, ◌≤◌, Bool, true, List, [], ◌∷◌, length, Some, is_some, Result, Err, refl, ap, subst, arith}
+use Rattle.std.proofs.Common.{◌≡◌, ◌⊎◌, inl, inr, ◌∙◌, ℕ, ◌≤◌, Bool, true, List, [], ◌∷◌, length, Some, is_some, Result, Err, refl, sym, ap, subst, arith}
 use Rattle.std.specs.Prelude.{IfErr, ◌≢◌}
 use Rattle.std.specs.Result.{IsErrAnd}
-use Rattle.disk_trait.specs.declared.disk.AttachFault.{AttachFault}
-use Rattle.disk_trait.specs.declared.disk.AttachFault.TheVariants as attach_fault
-use Rattle.disk_trait.specs.Drive.{Drive, Stays, CountsAttach, KeepsLaws}
+use Rattle.disk_trait.specs.Drive.{Drive, Stays, KeepsLaws}
 use Rattle.cell_format.specs.declared.cell.Cell.{Cell}
 use Rattle.recovery.specs.Making.{Makes, IsSmall, KeepsSmall, RefusesInit}
 use Rattle.log_state.specs.Recovers.{Recovers}
@@ -22,7 +20,9 @@ use Rattle.disk_trait.proofs.Calls.{still-made}
 use Rattle.recovery.proofs.OnlyReading.{rose-earlier, stays-trans}
 use Rattle.recovery.proofs.OpeningLemmas.{leaves-trans, leaves-stays}
 use Rattle.run_ends.specs.Limits.{most_inspected}
-use Rattle.run_ends.specs.LogFaults.{attach_refusal, log_refusal}
+use Rattle.csv_rows.specs.declared.rows.Refusal.{Refusal}
+use Rattle.run_ends.specs.Attaching.{RefusesAttach}
+use Rattle.run_ends.specs.LogFaults.{log_refusal}
 use Rattle.log_run.specs.Checking.{IsCheckingCause, IsDecidedBy}
 use Rattle.log_run.specs.Making.{IsMakingCause, LeavesFile, making_refusal}
 use Rattle.run_ends.specs.Status.{status_of}
@@ -71,24 +71,19 @@ pub calm-made : (a b c : Drive) (cause : InitFault) → b.faults ≡ a.faults �
 calm-made a b c (init_fault.InUse len) same refuses other = refuses.3 ∙ same
 calm-made a b c init_fault.Disk same refuses other = absurd (other refl)
 
--- why a file isn't attached
-module _ {T : Type 0} (name : List ℕ) (make : Bool) (a b : Drive) where
-  pub cause-attached : (fault : AttachFault) → CountsAttach {T = T} name make a b (Err fault) → IsMakingCause a b (attach_refusal fault)
-  cause-attached attach_fault.Disk counts = counts.failed refl
-  cause-attached attach_fault.Memory counts = tt
+-- a file that isn't attached
+module _ (name : List ℕ) (make : Bool) (a b : Drive) (why : Refusal) (refuses : RefusesAttach name make a b why) where
+  pub cause-attached : IsMakingCause a b why
+  cause-attached = elim refuses.cause [
+    | inl disk ↦ subst (IsMakingCause a b) (sym disk.0) disk.1
+    | inr memory ↦ subst (IsMakingCause a b) (sym memory) tt
+  ]
 
-  pub calm-attached : (fault : AttachFault) → CountsAttach {T = T} name make a b (Err fault) → status_of (attach_refusal fault) ≢ 7 → b.faults ≡ a.faults
-  calm-attached attach_fault.Disk counts other = absurd (other refl)
-  calm-attached attach_fault.Memory counts other = counts.memory refl
-
-  pub checking-attached : (fault : AttachFault) → CountsAttach {T = T} name make a b (Err fault) → IsCheckingCause a b (attach_refusal fault)
-  checking-attached attach_fault.Disk counts = counts.failed refl
-  checking-attached attach_fault.Memory counts = tt
-
-  pub decided-attached : (fault : AttachFault) → CountsAttach {T = T} name make a b (Err fault) → IsDecidedBy {T = Found} most_inspected a b (Err (attach_refusal fault))
-  decided-attached attach_fault.Disk counts =
-      record { exact = λ bytes what told shown wrong calm. absurd (calm (counts.failed refl)); whole = λ bytes w cells told known text few calm. absurd (calm (counts.failed refl)) }
-  decided-attached attach_fault.Memory counts = record { exact = λ bytes what told shown wrong calm. inr refl; whole = λ bytes w cells told known text few calm. refl }
+  pub decided-attached : IsDecidedBy {T = Found} most_inspected a b (Err why)
+  decided-attached = elim refuses.cause [
+    | inl disk ↦ record { exact = λ bytes what told shown wrong calm. absurd (calm disk.1); whole = λ bytes w cells told known text few calm. absurd (calm disk.1) }
+    | inr memory ↦ record { exact = λ bytes what told shown wrong calm. inr memory; whole = λ bytes w cells told known text few calm. memory }
+  ]
 
 -- what was found behind an attach
 pub found-after : (w most : ℕ) (a b : Drive) (seen : Seen) → Stays a b → IsFound 1 w most b seen → IsFound 1 w most a seen

@@ -3,7 +3,6 @@ use Rattle.std.specs.Prelude.{◌≡◌, ◌≢◌, ◌⊎◌, ◌≤◌, ℕ, L
 use Rattle.std.specs.Result.{IsErrAnd}
 use Rattle.causes.specs.Causes.{Rose}
 use Rattle.disk_trait.specs.Drive.{Drive, AttachedOne, Stays}
-use Rattle.plain_list.specs.declared.entries.Entry.{Entry}
 use Rattle.cell_format.specs.declared.cell.Cell.{Cell}
 use Rattle.log_state.specs.Recovers.{IsLegalCells, Recovers, state_of}
 use Rattle.recovery.specs.Faults.{IsInBytes}
@@ -18,7 +17,7 @@ use Rattle.run_ends.specs.LogFaults.{IsReadingCause, log_refusal}
 use Rattle.run_ends.specs.Limits.{oldest_read, most_inspected}
 use Rattle.run_ends.specs.Status.{status_of}
 use Rattle.io_edge.specs.Streams.{Output}
-use Rattle.run_ends.specs.Ends.{Ends, Targets, IsQuiet}
+use Rattle.run_ends.specs.Ends.{Ends, Done, Targets, IsQuiet, IsUnread}
 use Rattle.run_ends.specs.Taking.{Refuses}
 use Rattle.run_ends.specs.Ending.{EndsWriting, EndsRefused}
 use Rattle.run_ends.specs.Attaching.{AttachesOnce}
@@ -79,20 +78,23 @@ pub record IsDecidedBy {T : Type 0} (most : ℕ) (old new : Drive) (result : Res
       → length cells ≤ most → (Rose old.faults new.faults → ⊥) → IfErr result (λ why. why ≡ refusal.Memory)
 
 -- the text of the cells or the line of a refusal; the drive's bytes and images stay
-pub record EndsTelling {D : Type 0} (text : ℕ → List Cell → List ℕ) (file : List ℕ) (old new : Targets D) (status : ℕ) : Type 0 where
-  pub ends : TellsCells text old.drive status old.output new.output
-      ⊎ EndsRefused (IsCheckingCause old.drive new.drive) status old.output new.output
-  pub decided : IsDecided old.drive new.drive status old.output new.output
-  pub stays : Stays old.drive new.drive
+pub record TellsLog (text : ℕ → List Cell → List ℕ) (file : List ℕ) (old new : Drive) (status : ℕ) (before after : Output) : Type 0 where
+  pub ends : TellsCells text old status before after ⊎ EndsRefused (IsCheckingCause old new) status before after
+  pub decided : IsDecided old new status before after
+  pub stays : Stays old new
   -- the drive's count is as it was, but where it is what is told to have failed
-  pub calm : status ≢ 7 → new.drive.faults ≡ old.drive.faults
+  pub calm : status ≢ 7 → new.faults ≡ old.faults
   -- this file is attached, and none is made
-  pub attached : AttachesOnce file false old.drive new.drive status
+  pub attached : AttachesOnce file false old new status
+
+-- the same of the log on the first drive
+abbrev pub EndsTelling : {D : Type 0} → (ℕ → List Cell → List ℕ) → List ℕ → Targets D → Targets D → ℕ → Type 0
+EndsTelling text file old new status = TellsLog text file old.drive new.drive status old.output new.output
 
 -- the four lines or the line of a refusal
-abbrev pub EndsChecking : {D : Type 0} → List ℕ → Targets D → Targets D → ℕ → Type 0
-EndsChecking file old new status = EndsTelling checked_text file old new status
+abbrev pub ChecksLog : {D : Type 0} → List ℕ → Done (Targets D) → Type 0
+ChecksLog file done = IsQuiet (EndsTelling checked_text file) done
 
 -- what `check` promises
-abbrev pub Checks : {S D : Type 0} → List ℕ → Ends S D → Ends S D → ℕ → List Entry → Type 0
-Checks file old new status h = IsQuiet (EndsChecking file) old new status h
+abbrev pub Checks : {S D : Type 0} → List ℕ → Done (Ends S D) → Type 0
+Checks file done = IsUnread (ChecksLog file) done

@@ -3,7 +3,6 @@ use Rattle.std.specs.Prelude.{◌≡◌, ◌≢◌, ◌⊎◌, ◌<◌, ◌≤�
 use Rattle.causes.specs.Causes.{Rose}
 use Rattle.disk_trait.specs.Drive.{Drive, Stays}
 use Rattle.disk_trait.specs.Moments.{LeavesNow, LeavesOnly}
-use Rattle.plain_list.specs.declared.entries.Entry.{Entry}
 use Rattle.plain_list.specs.World.{World}
 use Rattle.cell_format.specs.declared.cell.Cell.{Cell}
 use Rattle.log_state.specs.Recovers.{Recovers, state_of}
@@ -22,25 +21,12 @@ use Rattle.csv_rows.specs.LogLines.{compacted_line}
 use Rattle.io_edge.specs.Streams.{Output}
 use Rattle.run_ends.specs.LogFaults.{log_refusal}
 use Rattle.run_ends.specs.Limits.{oldest_read, most_inspected}
-use Rattle.run_ends.specs.Ends.{Ends, Targets, targets}
+use Rattle.run_ends.specs.Ends.{Ends, Done, Targets, IsUnread}
 use Rattle.run_ends.specs.Taking.{Refuses}
 use Rattle.run_ends.specs.Ending.{EndsWriting, EndsRefused}
 use Rattle.run_ends.specs.Attaching.{AttachesOnce}
 use Rattle.log_run.specs.Making.{IsMakingCause}
 use Rattle.log_run.specs.Checking.{IsCheckingCause, FindsCells, HasRead}
-
--- what a command writes to that has both drives
-pub record BothTargets (D : Type 0) : Type 1 where
-  pub to : Targets D
-  -- the second drive, as it was handed in and as contracts see it
-  pub other : D
-  pub other_drive : Drive
-
-abbrev pub both_targets : {K D : Type 0} → (K → Output) → (D → Drive) → K → D → D → BothTargets D
-both_targets output drive sink disk other = record { to = targets output drive sink disk; other = other; other_drive = drive other }
-
-abbrev pub both_of : {S D : Type 0} → Ends S D → BothTargets D
-both_of ends = record { to = ends.to; other = ends.other; other_drive = ends.other_drive }
 
 -- the refusal of a fault of writing anew
 abbrev pub compact_refusal : CompactFault → Refusal
@@ -84,17 +70,17 @@ pub record EndsAnew (w : ℕ) (world : World) (leaves : List (List Bool)) (name 
   pub attached : AttachesOnce name true old new status
 
 -- the log in the first file isn't read, and nothing was done to the second drive
-pub record RefusesFile {D : Type 0} (old new : BothTargets D) (status : ℕ) : Type 0 where
-  pub refused : EndsRefused (IsCheckingCause old.to.drive new.to.drive) status old.to.output new.to.output
+pub record RefusesFile {D : Type 0} (old new : Targets D) (status : ℕ) : Type 0 where
+  pub refused : EndsRefused (IsCheckingCause old.drive new.drive) status old.output new.output
   pub other : new.other ≡ old.other
 
 -- it was read, and what was found goes to the file of this name on the second drive, by the same width
-pub record WritesAnew {D : Type 0} (file name : List ℕ) (old new : BothTargets D) (status : ℕ) : Type 0 where
+pub record WritesAnew {D : Type 0} (file name : List ℕ) (old new : Targets D) (status : ℕ) : Type 0 where
   pub width : ℕ
   pub cells : List Cell
-  pub found : FindsCells width old.to.drive cells
-  pub read : HasRead file old.to.drive new.to.drive
-  pub ends : EndsAnew width (state_of width cells).world (state_of width cells).leaves name old.other_drive new.other_drive status old.to.output new.to.output
+  pub found : FindsCells width old.drive cells
+  pub read : HasRead file old.drive new.drive
+  pub ends : EndsAnew width (state_of width cells).world (state_of width cells).leaves name old.other_drive new.other_drive status old.output new.output
 
 -- the bytes of a log that is read, of either width, of few enough cells
 pub record RecoversFew (drive : Drive) (cells : List Cell) : Type 0 where
@@ -107,33 +93,36 @@ pub record RecoversFew (drive : Drive) (cells : List Cell) : Type 0 where
 
 -- What the bytes of both files decide, unless memory ran out or a count rose: a fault that the first one's show is told; where they recover to
 -- cells, status 10 comes exactly where the second file has more than 17 bytes, and else status 0.
-pub record IsDecidedAnew {D : Type 0} (old new : BothTargets D) (status : ℕ) : Type 0 where
-  pub exact : (bytes : List ℕ) (fault : OpenFault) → old.to.drive.bytes ≡ Some bytes → IsInBytes fault
-      → IsLogFault oldest_read most_inspected bytes fault → (Rose old.to.drive.faults new.to.drive.faults → ⊥)
-      → Refuses (log_refusal fault) status old.to.output new.to.output ⊎ (status ≡ 9)
-  pub recovers : status ≡ 10 → (bytes : List ℕ) → old.to.drive.bytes ≡ Some bytes → (cells : List Cell) × RecoversFew old.to.drive cells
+pub record IsDecidedAnew {D : Type 0} (old new : Targets D) (status : ℕ) : Type 0 where
+  pub exact : (bytes : List ℕ) (fault : OpenFault) → old.drive.bytes ≡ Some bytes → IsInBytes fault
+      → IsLogFault oldest_read most_inspected bytes fault → (Rose old.drive.faults new.drive.faults → ⊥)
+      → Refuses (log_refusal fault) status old.output new.output ⊎ (status ≡ 9)
+  pub recovers : status ≡ 10 → (bytes : List ℕ) → old.drive.bytes ≡ Some bytes → (cells : List Cell) × RecoversFew old.drive cells
   pub long : status ≡ 10 → (bytes : List ℕ) → old.other_drive.bytes ≡ Some bytes → 17 < length bytes
-  pub in_use : (cells : List Cell) (bytes : List ℕ) → RecoversFew old.to.drive cells → old.other_drive.bytes ≡ Some bytes
-      → 17 < length bytes → (Rose old.to.drive.faults new.to.drive.faults → ⊥)
+  pub in_use : (cells : List Cell) (bytes : List ℕ) → RecoversFew old.drive cells → old.other_drive.bytes ≡ Some bytes
+      → 17 < length bytes → (Rose old.drive.faults new.drive.faults → ⊥)
       → (Rose old.other_drive.faults new.other_drive.faults → ⊥) → (status ≡ 10) ⊎ (status ≡ 9)
-  pub whole : (cells : List Cell) (bytes : List ℕ) → RecoversFew old.to.drive cells → old.other_drive.bytes ≡ Some bytes
-      → length bytes ≤ 17 → (Rose old.to.drive.faults new.to.drive.faults → ⊥)
-      → (Rose old.other_drive.faults new.other_drive.faults → ⊥) → (Rose old.to.output.faults new.to.output.faults → ⊥)
+  pub whole : (cells : List Cell) (bytes : List ℕ) → RecoversFew old.drive cells → old.other_drive.bytes ≡ Some bytes
+      → length bytes ≤ 17 → (Rose old.drive.faults new.drive.faults → ⊥)
+      → (Rose old.other_drive.faults new.other_drive.faults → ⊥) → (Rose old.output.faults new.output.faults → ⊥)
       → (status ≡ 0) ⊎ (status ≡ 9)
 
 -- The first file is read, and what was found written to the second: the order is attach, inspect, attach, write, line. Bytes and images of the
 -- first drive stay, whatever the status is.
-pub record EndsCompacting {D : Type 0} (file name : List ℕ) (old new : BothTargets D) (status : ℕ) : Type 0 where
+pub record EndsCompacting {D : Type 0} (file name : List ℕ) (old new : Targets D) (status : ℕ) : Type 0 where
   pub ends : RefusesFile old new status ⊎ WritesAnew file name old new status
   pub decided : IsDecidedAnew old new status
-  pub stays : Stays old.to.drive new.to.drive
+  pub stays : Stays old.drive new.drive
   -- the first drive's count is as it was, but where a drive is what is told to have failed
-  pub calm : status ≢ 7 → new.to.drive.faults ≡ old.to.drive.faults
+  pub calm : status ≢ 7 → new.drive.faults ≡ old.drive.faults
   -- the first file is attached, and none is made
-  pub attached : AttachesOnce file false old.to.drive new.to.drive status
+  pub attached : AttachesOnce file false old.drive new.drive status
+
+-- the log on the first drive is written anew to the second; no row is called
+pub record CompactsLog {D : Type 0} (file name : List ℕ) (done : Done (Targets D)) : Type 0 where
+  pub ends : EndsCompacting file name done.old done.new done.status
+  pub none : done.history ≡ []
 
 -- what `compact` promises
-pub record Compacts {S D : Type 0} (file name : List ℕ) (old new : Ends S D) (status : ℕ) (h : List Entry) : Type 0 where
-  pub ends : EndsCompacting file name (both_of old) (both_of new) status
-  pub unread : new.source ≡ old.source
-  pub none : h ≡ []
+abbrev pub Compacts : {S D : Type 0} → List ℕ → List ℕ → Done (Ends S D) → Type 0
+Compacts file name done = IsUnread (CompactsLog file name) done

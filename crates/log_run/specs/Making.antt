@@ -2,7 +2,6 @@
 use Rattle.std.specs.Prelude.{◌≡◌, ◌≢◌, ◌⊎◌, ◌<◌, ◌≤◌, ℕ, List, length, Some, None, true, ⊤}
 use Rattle.causes.specs.Causes.{Rose}
 use Rattle.disk_trait.specs.Drive.{Drive, Stays}
-use Rattle.plain_list.specs.declared.entries.Entry.{Entry}
 use Rattle.disk_trait.specs.Moments.{LeavesNow, LeavesOnly}
 use Rattle.recovery.specs.Making.{Makes, IsSmall}
 use Rattle.recovery.specs.declared.seen.InitFault.{InitFault}
@@ -11,7 +10,7 @@ use Rattle.csv_rows.specs.declared.rows.Refusal.{Refusal}
 use Rattle.csv_rows.specs.declared.rows.Refusal.TheVariants as refusal
 use Rattle.csv_rows.specs.LogLines.{made_line}
 use Rattle.io_edge.specs.Streams.{Output}
-use Rattle.run_ends.specs.Ends.{Ends, Targets, IsQuiet}
+use Rattle.run_ends.specs.Ends.{Ends, Done, Targets, IsQuiet, IsUnread}
 use Rattle.run_ends.specs.Ending.{EndsWriting, EndsRefused}
 use Rattle.run_ends.specs.Attaching.{AttachesOnce}
 
@@ -53,6 +52,10 @@ pub record EndsMaking {D : Type 0} (file : List ℕ) (w : ℕ) (old new : Target
   -- this file is attached, and made where it isn't there
   pub attached : AttachesOnce file true old.drive new.drive status
 
+-- a log is made on the first drive
+abbrev pub MakesLog : {D : Type 0} → List ℕ → ℕ → Done (Targets D) → Type 0
+MakesLog file w done = IsQuiet (EndsMaking file w) done
+
 -- what `init` promises
-abbrev pub Inits : {S D : Type 0} → List ℕ → ℕ → Ends S D → Ends S D → ℕ → List Entry → Type 0
-Inits file w old new status h = IsQuiet (EndsMaking file w) old new status h
+abbrev pub Inits : {S D : Type 0} → List ℕ → ℕ → Done (Ends S D) → Type 0
+Inits file w done = IsUnread (MakesLog file w) done

@@ -1,34 +1,37 @@
 //! The command `check`: tells what the log in a file says, and reads alone.
-ghost use Rattle.std.specs.Prelude.{◌≡◌, ◌≤◌, [], IfOk, IfErr, MatchResult, length};
+ghost use Rattle.std.specs.Prelude.{◌≡◌, ◌≤◌, IfOk, IfErr, MatchResult, length};
 ghost use Rattle.disk_trait.specs.Drive.{Stays};
 ghost use Rattle.recovery.specs.Found.{IsFound};
 ghost use Rattle.recovery.specs.Widths.{IsWidth};
 ghost use Rattle.run_ends.specs.Limits.{oldest_read, most_inspected};
-ghost use Rattle.run_ends.specs.Ends.{targets};
-ghost use Rattle.log_run.specs.Checking.{HasRead, HasReadUnless, IsCheckingCause, IsDecidedBy, EndsChecking, counts_of};
+ghost use Rattle.run_ends.specs.Ends.{written_by};
+ghost use Rattle.log_run.specs.Checking.{HasRead, HasReadUnless, IsCheckingCause, IsDecidedBy, ChecksLog, TellsLog, checked_text, counts_of};
 
 use crate::reading::{Found, read_log};
 use csv_rows::{LogCounts, Refusal, write_counts};
 use disk_trait::LogDisk;
 use io_edge::Sink;
 use recovery::Seen;
-use run_ends::{Ended, attach_refusal, log_refusal, put_refusal, without_rows, written};
+use run_ends::{Drives, Ended, attach, log_refusal, put_refusal, without_rows, written};
 use std::alloc::Global;
 
 /// Tells what the log in a file of this name says, of version 1 or 2.
-pub fn check_log<K: Sink, D: LogDisk>(alloc: Global, file: &str, sink: &mut K, disk: D) -> Ended<D>
-    ensures ends { EndsChecking file.now (targets K.output D.drive sink.old disk)
-        (targets K.output D.drive sink.new result.disk) result.status }
-    ensures none { result.events ≡ [] }
+pub fn check_log<K: Sink, D: LogDisk>(
+    alloc: Global,
+    file: &str,
+    sink: &mut K,
+    drives: Drives<D>,
+) -> Ended<D>
+    ensures { ChecksLog file.now (written_by K.output D.drive sink.old drives sink.new result) }
 {
-    let mut disk = disk;
+    let Drives { mut disk, other } = drives;
     let status = tell_counts(alloc, file, sink, &mut disk);
-    without_rows(alloc, status, disk)
+    without_rows(alloc, status, Drives { disk, other })
 }
 
 // The same over a drive that stays where it is, and its status.
 fn tell_counts<K: Sink, D: LogDisk>(alloc: Global, file: &str, sink: &mut K, disk: &mut D) -> u8
-    ensures ends { EndsChecking file.now (targets K.output D.drive sink.old disk.old) (targets K.output D.drive sink.new disk.new) result }
+    ensures ends { TellsLog checked_text file.now (D.drive disk.old) (D.drive disk.new) result (K.output sink.old) (K.output sink.new) }
 {
     match find(alloc, file, disk) {
         Ok(found) => written(write_counts(sink, &counts_of(&found.seen))),
@@ -46,8 +49,8 @@ pub(crate) fn find<D: LogDisk>(alloc: Global, file: &str, disk: &mut D) -> Resul
     ensures stays { Stays (D.drive disk.old) (D.drive disk.new) }
     ensures later { (D.drive disk.old).faults ≤ (D.drive disk.new).faults }
 {
-    if let Err(fault) = disk.attach(alloc, file, false) {
-        return Err(attach_refusal(fault));
+    if let Err(why) = attach(alloc, file, false, disk) {
+        return Err(why);
     }
     match read_log(alloc, disk) {
         Ok(found) => Ok(found),

@@ -3,11 +3,12 @@ ghost use Rattle.std.specs.Prelude.{◌≡◌, ◌≢◌, ◌≤◌, [], true, I
 ghost use Rattle.disk_trait.specs.Drive.{AttachedOne};
 ghost use Rattle.log_compact.specs.Fresh.{ComesBySplits};
 ghost use Rattle.recovery.specs.Widths.{IsWidth};
+ghost use Rattle.run_ends.specs.Ends.{written_by};
 ghost use Rattle.run_ends.specs.Limits.{most_inspected};
 ghost use Rattle.run_ends.specs.Status.{status_of};
 ghost use Rattle.run_ends.specs.Attaching.{AttachesOnce};
 ghost use Rattle.log_run.specs.Making.{IsMakingCause};
-ghost use Rattle.log_run.specs.Compacting.{EndsCompacting, EndsAnew, MakesAnew, LeavesNew, both_targets, compact_refusal, anew};
+ghost use Rattle.log_run.specs.Compacting.{CompactsLog, EndsAnew, MakesAnew, LeavesNew, compact_refusal, anew};
 
 use crate::checking::find;
 use crate::reading::Found;
@@ -15,51 +16,50 @@ use csv_rows::{Refusal, write_compacted};
 use disk_trait::LogDisk;
 use io_edge::Sink;
 use log_compact::{CompactFault, CompactRefused, compact, count_fresh};
-use run_ends::{Ended, Unmade, attach_refusal, put_refusal, refuse_on, without_rows, written};
+use run_ends::{Drives, Ended, Unmade, attach, put_refusal, refuse_on, without_rows, written};
 use std::alloc::Global;
 
-/// Writes what the log in a file says anew into a file of this name on the other drive, which is the one that comes back. Of the first drive it
-/// only reads.
+/// Writes what the log in a file says anew into a file of this name on the other drive. Of the first drive it only reads.
 pub fn compact_log<K: Sink, D: LogDisk>(
     alloc: Global,
     file: &str,
     name: &str,
     sink: &mut K,
-    disk: &mut D,
-    other: D,
+    drives: Drives<D>,
 ) -> Ended<D>
-    ensures ends { EndsCompacting file.now name.now (both_targets K.output D.drive sink.old disk.old other)
-        (both_targets K.output D.drive sink.new disk.new result.disk) result.status }
-    ensures none { result.events ≡ [] }
+    ensures { CompactsLog file.now name.now (written_by K.output D.drive sink.old drives sink.new result) }
 {
-    match find(alloc, file, disk) {
-        Ok(found) => write_anew(alloc, &found, name, sink, other),
-        Err(why) => refuse_on(alloc, &why, sink, other),
+    let Drives { mut disk, other } = drives;
+    match find(alloc, file, &mut disk) {
+        Ok(found) => write_anew(alloc, &found, name, sink, Drives { disk, other }),
+        Err(why) => refuse_on(alloc, &why, sink, Drives { disk, other }),
     }
 }
 
-// Writes what was found in a log, and how many cells that took.
+// Writes what was found in a log to the other drive, and how many cells that took.
 fn write_anew<K: Sink, D: LogDisk>(
     alloc: Global,
     found: &Found,
     name: &str,
     sink: &mut K,
-    other: D,
+    drives: Drives<D>,
 ) -> Ended<D>
     requires width { IsWidth found.now.width }
     requires splits { ComesBySplits found.now.width found.now.seen.leaves }
     requires few { length (anew found.now.width found.now.seen.world found.now.seen.leaves) ≤ most_inspected }
-    ensures ends { EndsAnew found.now.width found.now.seen.world found.now.seen.leaves name.now (D.drive other) (D.drive result.disk)
-        result.status (K.output sink.old) (K.output sink.new) }
-    ensures none { result.events ≡ [] }
+    ensures ends { EndsAnew found.now.width found.now.seen.world found.now.seen.leaves name.now (D.drive drives.other)
+        (D.drive result.drives.other) result.status (K.output sink.old) (K.output sink.new) }
+    ensures none { result.history ≡ [] }
+    ensures disk { result.drives.disk ≡ drives.disk }
 {
+    let Drives { disk, other } = drives;
     match anew_in(alloc, found, name, other) {
         Ok(other) => {
             let count = count_fresh(&found.seen, found.width);
             let status = written(write_compacted(sink, count));
-            without_rows(alloc, status, other)
+            without_rows(alloc, status, Drives { disk, other })
         }
-        Err(Unmade { disk, why }) => refuse_on(alloc, &why, sink, disk),
+        Err(Unmade { disk: other, why }) => refuse_on(alloc, &why, sink, Drives { disk, other }),
     }
 }
 
@@ -81,8 +81,7 @@ fn anew_in<D: LogDisk>(
         MatchResult result (λ new. LeavesNew found.now.width fresh (D.drive other) (D.drive new))
         (λ e. LeavesNew found.now.width fresh (D.drive other) (D.drive e.disk)) }
 {
-    if let Err(fault) = other.attach(alloc, name, true) {
-        let why = attach_refusal(fault);
+    if let Err(why) = attach(alloc, name, true, &mut other) {
         return Err(Unmade { disk: other, why });
     }
     match compact(&found.seen, found.width, other) {

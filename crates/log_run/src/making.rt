@@ -1,18 +1,18 @@
 //! The command `init`: makes a log in a file.
-ghost use Rattle.std.specs.Prelude.{◌≡◌, ◌≢◌, [], true, IfOk, IfErr, MatchResult};
+ghost use Rattle.std.specs.Prelude.{◌≡◌, ◌≢◌, true, IfOk, IfErr, MatchResult};
 ghost use Rattle.disk_trait.specs.Drive.{AttachedOne};
 ghost use Rattle.recovery.specs.Making.{Makes};
 ghost use Rattle.recovery.specs.Widths.{IsWidth};
-ghost use Rattle.run_ends.specs.Ends.{targets};
+ghost use Rattle.run_ends.specs.Ends.{written_by};
 ghost use Rattle.run_ends.specs.Status.{status_of};
 ghost use Rattle.run_ends.specs.Attaching.{AttachesOnce};
-ghost use Rattle.log_run.specs.Making.{IsMakingCause, LeavesFile, EndsMaking, making_refusal};
+ghost use Rattle.log_run.specs.Making.{IsMakingCause, LeavesFile, MakesLog, making_refusal};
 
 use csv_rows::{Refusal, write_made};
 use disk_trait::LogDisk;
 use io_edge::Sink;
 use recovery::{InitFault, InitRefused, init};
-use run_ends::{Ended, Unmade, attach_refusal, refuse_on, without_rows, written};
+use run_ends::{Drives, Ended, Unmade, attach, refuse_on, without_rows, written};
 use std::alloc::Global;
 
 /// Makes a log of this width in a file of this name, and says so.
@@ -21,19 +21,18 @@ pub fn make_log<K: Sink, D: LogDisk>(
     file: &str,
     width: u8,
     sink: &mut K,
-    disk: D,
+    drives: Drives<D>,
 ) -> Ended<D>
     requires { IsWidth width }
-    ensures ends { EndsMaking file.now width (targets K.output D.drive sink.old disk)
-        (targets K.output D.drive sink.new result.disk) result.status }
-    ensures none { result.events ≡ [] }
+    ensures { MakesLog file.now width (written_by K.output D.drive sink.old drives sink.new result) }
 {
+    let Drives { disk, other } = drives;
     match make_in(alloc, file, width, disk) {
         Ok(disk) => {
             let status = written(write_made(sink));
-            without_rows(alloc, status, disk)
+            without_rows(alloc, status, Drives { disk, other })
         }
-        Err(Unmade { disk, why }) => refuse_on(alloc, &why, sink, disk),
+        Err(Unmade { disk, why }) => refuse_on(alloc, &why, sink, Drives { disk, other }),
     }
 }
 
@@ -46,8 +45,7 @@ fn make_in<D: LogDisk>(alloc: Global, file: &str, width: u8, mut disk: D) -> Res
     ensures calm { IfErr result (λ e. status_of e.why ≢ 7 → (D.drive e.disk).faults ≡ (D.drive disk).faults) }
     ensures leaves { MatchResult result (λ new. LeavesFile (D.drive disk) (D.drive new)) (λ e. LeavesFile (D.drive disk) (D.drive e.disk)) }
 {
-    if let Err(fault) = disk.attach(alloc, file, true) {
-        let why = attach_refusal(fault);
+    if let Err(why) = attach(alloc, file, true, &mut disk) {
         return Err(Unmade { disk, why });
     }
     match init(disk, width) {

@@ -1,13 +1,13 @@
 //! The command `show`: lists the objects in a box of the log in a file, and reads alone.
-ghost use Rattle.std.specs.Prelude.{◌≡◌, []};
-ghost use Rattle.run_ends.specs.Ends.{targets};
-ghost use Rattle.log_run.specs.Showing.{EndsShowing};
+ghost use Rattle.run_ends.specs.Ends.{written_by};
+ghost use Rattle.log_run.specs.Checking.{TellsLog};
+ghost use Rattle.log_run.specs.Showing.{ShowsLog, shown_text};
 
 use crate::checking::find;
 use csv_rows::write_objects;
 use disk_trait::LogDisk;
 use io_edge::Sink;
-use run_ends::{Ended, put_refusal, without_rows, written};
+use run_ends::{Drives, Ended, put_refusal, without_rows, written};
 use std::alloc::Global;
 use zorder::Region;
 
@@ -17,15 +17,13 @@ pub fn show_log<K: Sink, D: LogDisk>(
     file: &str,
     region: &Region,
     sink: &mut K,
-    disk: D,
+    drives: Drives<D>,
 ) -> Ended<D>
-    ensures ends { EndsShowing file.now region.now (targets K.output D.drive sink.old disk)
-        (targets K.output D.drive sink.new result.disk) result.status }
-    ensures none { result.events ≡ [] }
+    ensures { ShowsLog file.now region.now (written_by K.output D.drive sink.old drives sink.new result) }
 {
-    let mut disk = disk;
+    let Drives { mut disk, other } = drives;
     let status = tell_objects(alloc, file, region, sink, &mut disk);
-    without_rows(alloc, status, disk)
+    without_rows(alloc, status, Drives { disk, other })
 }
 
 // The same over a drive that stays where it is, and its status.
@@ -36,8 +34,7 @@ fn tell_objects<K: Sink, D: LogDisk>(
     sink: &mut K,
     disk: &mut D,
 ) -> u8
-    ensures ends { EndsShowing file.now region.now (targets K.output D.drive sink.old disk.old)
-        (targets K.output D.drive sink.new disk.new) result }
+    ensures ends { TellsLog (shown_text region.now) file.now (D.drive disk.old) (D.drive disk.new) result (K.output sink.old) (K.output sink.new) }
 {
     match find(alloc, file, disk) {
         Ok(found) => written(write_objects(sink, found.seen.world.as_slice(), region)),

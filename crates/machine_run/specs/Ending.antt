@@ -1,13 +1,13 @@
 -- How a program ends.
 use Rattle.std.specs.Prelude.{ℕ, List}
 use Rattle.plain_list.specs.declared.entries.Entry.{Entry}
+use Rattle.run_ends.specs.declared.ended.Drives.{Drives}
 use Rattle.run_ends.specs.Ends.{Ends}
 use Rattle.location_run.specs.Run.{AnswersUsage, KeepsAsked}
 
 -- A run over these words ended with this status: with some drives left and some history it kept what it promises of its ends.
-pub record EndsRun {S D : Type 0} (words : List (List ℕ)) (old : Ends S D) (new : D → D → Ends S D) (status : ℕ) : Type 0 where
-  pub disk : D
-  pub other : D
+pub record EndsRun {S D : Type 0} (words : List (List ℕ)) (old : Ends S D) (new : Drives D → Ends S D) (status : ℕ) : Type 0 where
+  pub drives : Drives D
   pub history : List Entry
-  pub usage : AnswersUsage words old (new disk other) status history
-  pub keeps : KeepsAsked words old (new disk other) status history
+  pub usage : AnswersUsage words (record { old = old; new = new drives; status = status; history = history })
+  pub keeps : KeepsAsked words (record { old = old; new = new drives; status = status; history = history })

@@ -52,8 +52,9 @@ pub fn run_over<R: Threads + Wait + Sync + AllocGlobal, S: Source, K: Sink, D: L
     disk: D,
     other: D,
 ) -> ExitCode
-    ensures run { EndsRun (map string_bytes words.now) (ends S.input K.output D.drive source.old sink.old disk other)
-        (λ (first second : D). ends S.input K.output D.drive source.new sink.new first second) (exit_status result) }
+    ensures run { EndsRun (map string_bytes words.now)
+        (ends S.input K.output D.drive source.old sink.old (record { disk = disk; other = other }))
+        (λ drives. ends S.input K.output D.drive source.new sink.new drives) (exit_status result) }
 {
     let outcome = run(rt, rt.alloc(), words, source, sink, disk, other, &OpenGate);
     exit_code(&outcome)

@@ -8,10 +8,11 @@ use Rattle.kept_log.specs.Counts.{first_in}
 use Rattle.kept_log.specs.Kept.{found_state}
 use Rattle.commit_book.specs.BookView.{BookView}
 use Rattle.play_run.specs.Origin.{origin_of}
-use Rattle.play_run.specs.inside.Books.{OpensLog, OpensBook}
+use Rattle.play_run.specs.inside.Books.{OpensFile, OpensBook}
+use Rattle.play_run.proofs.OpeningFacts.{named-newest}
 
 -- a book over what was found
-pub opens-book : {D : Type 0} (drive : D → Drive) (file : List ℕ) (old : Drive) (w size : ℕ) (b : BookView D) (log : KeptView D) (seen : Seen) (start : D) (now : Drive) → OpensLog file old (drive start) now w seen
+pub opens-book : {D : Type 0} (drive : D → Drive) (file : List ℕ) (old : Drive) (w size : ℕ) (b : BookView D) (log : KeptView D) (seen : Seen) (start : D) (now : Drive) → OpensFile file old (drive start) now w seen
     → log.first ≡ log.cells → log.start ≡ start → log.cells ≡ seen.cells → b.opening ≡ found_state seen → b.bucket ≡ size → b.log ≡ Some log → OpensBook drive file old w size b
 opens-book {D = D} drive file old w size b log seen start now opens first here count opening bucket log_is =
     let found = opens.found in
@@ -28,6 +29,7 @@ opens-book {D = D} drive file old w size b log seen start now opens first here c
         few = found.few;
         origin_is = refl;
         recovers = λ text told. found.recovers text (opens.stays.bytes ∙ told);
+        version = λ text told. named-newest w (drive start) seen text found (opens.stays.bytes ∙ told);
       };
       width = refl;
       state = opening ∙ (λ i. record { world = found.finds.world i; leaves = found.finds.leaves i; splits = []; begun = found.finds.begun i });

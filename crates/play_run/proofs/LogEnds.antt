@@ -15,11 +15,15 @@ use Rattle.kept_log.specs.Counts.{first_in, count_after}
 use Rattle.csv_rows.specs.declared.rows.InRow.{InRow}
 use Rattle.csv_rows.specs.declared.rows.Refusal.{Refusal}
 use Rattle.io_edge.specs.Streams.{Output}
+use Rattle.run_ends.specs.declared.ended.Drives.{Drives}
+use Rattle.run_ends.specs.Ends.{targets}
 use Rattle.run_ends.specs.Status.{status_of, WritesLines}
 use Rattle.play_run.specs.Origin.{Origin, new_origin}
 use Rattle.log_state.specs.Changes.{cells_of}
 use Rattle.lane_splits.specs.Settled.{SplitsAreDone, IsWithinLimits}
-use Rattle.play_run.specs.Crash.{KeepsPlayed}
+use Rattle.recovery.specs.Calls.{StopsAtFault}
+use Rattle.recovery.proofs.CallLemmas.{well-none}
+use Rattle.play_run.specs.Crash.{KeepsPlayed, KeepsText}
 use Rattle.plain_list.specs.declared.entries.Lost.{Lost}
 use Rattle.plain_list.specs.History.{failed_cell}
 use Rattle.plain_list.proofs.Histories.{failed_cell-last, has_failed-none}
@@ -29,7 +33,7 @@ use Rattle.play_run.specs.Answers.{AnswersAsOneList}
 use Rattle.play_run.specs.Playing.{IsStop, EndsRows, IsAnswered}
 use Rattle.play_run.specs.inside.Books.{IsLike, BeginsAs, StopsBook, LeavesLog, OpensBook}
 use Rattle.play_run.specs.inside.Ended.{EndsBook}
-use Rattle.play_run.proofs.CrashFacts.{keeps-opened}
+use Rattle.play_run.proofs.CrashFacts.{keeps-opened, text-opened, calls-opened}
 
 -- the log of a book, as it is left
 pub record KeptSince {D : Type 0} (drive : D → Drive) (w : ℕ) (s : State) (h : List Entry) (opened : KeptView D) (disk : D) : Type 0 where
@@ -115,6 +119,19 @@ keeps-book {D = D} drive file Step old w size b h disk status before after opens
     subst (λ (d : D). KeepsPlayed opens.from old (drive d) status h) kept.disk_is
     (keeps-opened drive old kept.now opens.from b.opening h status (stays-trans old (drive opens.log.start) (drive kept.now.start) opens.stays kept.like.stays) (subst (λ (v : ℕ). KeepsLog drive v b.opening h kept.now) (sym opens.width) kept.keeps) (unfailed Step h status before after ends going) opens.found opens.state)
 
+-- its text, and the device calls
+text-book : {D : Type 0} (drive : D → Drive) (file : List ℕ) (Step : List Entry → Lost → Type 0) (old : Drive) (w size : ℕ) (b : BookView D) (h : List Entry) (disk : D) (status : ℕ) (before after : Output) (opens : OpensBook drive file old w size b)
+    → LeavesLog drive w b.opening h b.log (Some disk) → EndsRows (StopsBook Step h) status before after → (WritesLines status → failed_cell h ≡ None) → KeepsText opens.from old (drive disk) status h × StopsAtFault old (drive disk)
+text-book {D = D} drive file Step old w size b h disk status before after opens leaves ends going =
+    let kept = kept-since drive w b.opening h opens.log disk b.log opens.log_is leaves in
+    let stays = stays-trans old (drive opens.log.start) (drive kept.now.start) opens.stays kept.like.stays in
+    let keeps = subst (λ (v : ℕ). KeepsLog drive v b.opening h kept.now) (sym opens.width) kept.keeps in
+    let calm = unfailed Step h status before after ends going in
+    subst (λ (d : D). KeepsText opens.from old (drive d) status h × StopsAtFault old (drive d)) kept.disk_is (
+      text-opened drive old kept.now opens.from b.opening h status stays keeps calm opens.found opens.state,
+      calls-opened drive old kept.now opens.from b.opening h status stays keeps calm opens.found opens.state,
+    )
+
 -- where no append failed no device call did
 calm-book : {D : Type 0} (drive : D → Drive) (file : List ℕ) (old : Drive) (w size : ℕ) (b : BookView D) (h : List Entry) (disk : D) → OpensBook drive file old w size b → LeavesLog drive w b.opening h b.log (Some disk)
     → failed_cell h ≡ None → (drive disk).faults ≡ old.faults
@@ -144,10 +161,10 @@ moved P w v bucket size s t first cells width sized state count holds =
     (subst (λ (o : State). P w size o cells) state (subst (λ (n : ℕ). P w n s cells) sized (subst (λ (c : Option ℕ). P w bucket s c) count holds)))
 
 -- rows that were answered over a log
-pub answered-over : {D : Type 0} (drive : D → Drive) (report : Report) (file : List ℕ) (w size : ℕ) (rows : List InRow) (b : BookView D) (was disk : D) (before after : Output) (status : ℕ) (h : List Entry) → OpensBook drive file (drive was) w size b
+pub answered-over : {D : Type 0} (drive : D → Drive) (report : Report) (file : List ℕ) (w size : ℕ) (rows : List InRow) (b : BookView D) (was disk other : D) (before after : Output) (status : ℕ) (h : List Entry) → OpensBook drive file (drive was) w size b
     → EndsBook drive w report rows b h status (Some disk) before after
-    → IsAnswered {D = D} report (Some file) size rows (record { output = before; disk = was; drive = drive was }) (record { output = after; disk = disk; drive = drive disk }) status h
-answered-over drive report file w size rows b was disk before after status h opens ended = record {
+    → IsAnswered {D = D} report (Some file) size rows (targets (λ o. o) drive before (record { disk = was; other = other })) (targets (λ o. o) drive after (record { disk = disk; other = other })) status h
+answered-over drive report file w size rows b was disk other before after status h opens ended = record {
   from = opens.from;
   begins = opens.found;
   book = opens.shows;
@@ -160,24 +177,28 @@ answered-over drive report file w size rows b was disk before after status h ope
       moved (λ v n s first. IsWithinLimits v n s first rows h) w opens.from.width b.bucket size b.opening opens.from.state (first_in b.log) (option_map length opens.from.first) (sym opens.width)
       opens.bucket opens.state opens.count ended.limits;
   crash = keeps-book drive file (IsNextStep w b.opening rows) (drive was) w size b h disk status before after opens ended.log ended.ends (λ writes. (ended.splits writes).going);
+  text = (text-book drive file (IsNextStep w b.opening rows) (drive was) w size b h disk status before after opens ended.log ended.ends (λ writes. (ended.splits writes).going)).0;
+  calls = (text-book drive file (IsNextStep w b.opening rows) (drive was) w size b h disk status before after opens ended.log ended.ends (λ writes. (ended.splits writes).going)).1;
   calm = λ other. calm-book drive file (drive was) w size b h disk opens ended.log (unfailed (IsNextStep w b.opening rows) h status before after ended.ends (λ writes. (ended.splits writes).going) other);
   attached = attached-book drive file (drive was) w size b h disk opens ended.log;
 }
 
 -- rows that were answered over no log
-pub answered-new : {D : Type 0} (drive : D → Drive) (report : Report) (size : ℕ) (rows : List InRow) (b : BookView D) (was : D) (left : Option D) (before after : Output) (status : ℕ) (h : List Entry) → b.opening ≡ empty_state → b.bucket ≡ size → b.log ≡ None
+pub answered-new : {D : Type 0} (drive : D → Drive) (report : Report) (size : ℕ) (rows : List InRow) (b : BookView D) (drives : Drives D) (left : Option D) (before after : Output) (status : ℕ) (h : List Entry) → b.opening ≡ empty_state → b.bucket ≡ size → b.log ≡ None
     → EndsBook drive 1 report rows b h status left before after
-    → IsAnswered {D = D} report None size rows (record { output = before; disk = was; drive = drive was }) (record { output = after; disk = was; drive = drive was }) status h
-answered-new {D = D} drive report size rows b was left before after status h opening bucket none ended = record {
+    → IsAnswered {D = D} report None size rows (targets (λ o. o) drive before drives) (targets (λ o. o) drive after drives) status h
+answered-new {D = D} drive report size rows b drives left before after status h opening bucket none ended = record {
   from = new_origin;
   begins = refl;
   book = refl;
   one_list = subst (λ (o : State). AnswersAsOneList report 1 o rows h status before after) opening ended.one_list;
-  ends = ends-weaker (StopsBook (IsNextStep 1 b.opening rows) h) (IsStop None new_origin rows (drive was) (drive was) h) status before after (new-stop drive 1 (IsNextStep 1 b.opening rows) new_origin rows (drive was) (drive was) b.opening h b.log left none ended.log) ended.ends;
+  ends = ends-weaker (StopsBook (IsNextStep 1 b.opening rows) h) (IsStop None new_origin rows (drive drives.disk) (drive drives.disk) h) status before after (new-stop drive 1 (IsNextStep 1 b.opening rows) new_origin rows (drive drives.disk) (drive drives.disk) b.opening h b.log left none ended.log) ended.ends;
   splits = λ writes.
       moved (λ v n s first. SplitsAreDone v n s first h) 1 1 b.bucket size b.opening empty_state (first_in b.log) None refl bucket opening (ap (λ (l : Option (KeptView D)). first_in l) none) (ended.splits writes);
   limits = moved (λ v n s first. IsWithinLimits v n s first rows h) 1 1 b.bucket size b.opening empty_state (first_in b.log) None refl bucket opening (ap (λ (l : Option (KeptView D)). first_in l) none) ended.limits;
   crash = λ bytes first told is settled. absurd (cc is);
+  text = λ bytes first told is whole. absurd (cc is);
+  calls = inl (well-none (drive drives.disk) (drive drives.disk) (λ all told. told));
   calm = λ other. refl;
   attached = tt;
 }

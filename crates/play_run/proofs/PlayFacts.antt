@@ -9,7 +9,7 @@ use Rattle.csv_rows.specs.declared.rows.Refusal.TheVariants as refusal
 use Rattle.io_edge.specs.Streams.{Input}
 use Rattle.play_run.specs.declared.reports.Report.{Report}
 use Rattle.play_run.specs.declared.reports.Report.TheVariants as reports
-use Rattle.run_ends.specs.Ends.{Ends, Targets}
+use Rattle.run_ends.specs.Ends.{Ends, Done, Targets}
 use Rattle.play_run.specs.Origin.{Origin}
 use Rattle.run_ends.specs.Judged.{judged}
 use Rattle.run_ends.specs.Status.{status_of}
@@ -126,19 +126,19 @@ nine-log None old new status nine = tt
 nine-log (Some file) old new status nine = λ bytes fault told shown at calm. inr nine
 
 -- what is promised of a play
-pub plays-of : {S D : Type 0} (log : Option (List ℕ)) (size : ℕ) (old new : Ends S D) (status : ℕ) (h : List Entry) → new.other ≡ old.other → Goes log size old.input new.input old.to new.to status h → Plays log size old new status h
-plays-of log size old new status h other goes = record {
+pub plays-of : {S D : Type 0} (log : Option (List ℕ)) (size : ℕ) (done : Done (Ends S D)) → done.new.to.other ≡ done.old.to.other → Goes log size done.old.input done.new.input done.old.to done.new.to done.status done.history → Plays log size done
+plays-of log size done other goes = record {
   goes = goes;
   other = other;
-  input = plays-input log size old new status h goes;
-  follows = λ bytes rows told good calm. followed (read-or-memory log size old new status h goes bytes rows told good calm);
-  complete = λ bytes rows told good calm quiet sound. done (read-or-memory log size old new status h goes bytes rows told good calm) quiet sound;
+  input = plays-input log size done.old done.new done.status done.history goes;
+  follows = λ bytes rows told good calm. followed (read-or-memory log size done.old done.new done.status done.history goes bytes rows told good calm);
+  complete = λ bytes rows told good calm quiet sound. all_lines (read-or-memory log size done.old done.new done.status done.history goes bytes rows told good calm) quiet sound;
 }
   where
-    followed : IsRead log size old.input new.input old.to new.to status h ⊎ (status ≡ 9) → FollowsLog log old.to.drive new.to.drive status
-    followed (inl read) = rows-log reports.Lines size read.rows old.to new.to status h log read.plays
-    followed (inr nine) = nine-log log old.to.drive new.to.drive status nine
+    followed : IsRead log size done.old.input done.new.input done.old.to done.new.to done.status done.history ⊎ (done.status ≡ 9) → FollowsLog log done.old.to.drive done.new.to.drive done.status
+    followed (inl read) = rows-log reports.Lines size read.rows done.old.to done.new.to done.status done.history log read.plays
+    followed (inr nine) = nine-log log done.old.to.drive done.new.to.drive done.status nine
 
-    done : IsRead log size old.input new.input old.to new.to status h ⊎ (status ≡ 9) → (Rose old.to.output.faults new.to.output.faults → ⊥) → IsGood log old.to.drive new.to.drive → (status ≡ 0) ⊎ (status ≡ 9)
-    done (inl read) quiet good = rows-done reports.Lines size read.rows old.to new.to status h log read.plays quiet good
-    done (inr nine) quiet good = inr nine
+    all_lines : IsRead log size done.old.input done.new.input done.old.to done.new.to done.status done.history ⊎ (done.status ≡ 9) → (Rose done.old.to.output.faults done.new.to.output.faults → ⊥) → IsGood log done.old.to.drive done.new.to.drive → (done.status ≡ 0) ⊎ (done.status ≡ 9)
+    all_lines (inl read) quiet good = rows-done reports.Lines size read.rows done.old.to done.new.to done.status done.history log read.plays quiet good
+    all_lines (inr nine) quiet good = inr nine

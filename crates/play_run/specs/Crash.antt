@@ -1,19 +1,22 @@
 -- What a crash leaves of the log of a run.
-use Rattle.std.specs.Prelude.{◌≡◌, ◌≢◌, ℕ, List, ◌++◌, take, Some}
+use Rattle.std.specs.Prelude.{◌≡◌, ◌≢◌, ℕ, List, ◌++◌, slice_index, take, Some}
 use Rattle.zorder.specs.Tile.{Tile}
 use Rattle.cell_format.specs.declared.cell.Cell.{Cell}
+use Rattle.cell_format.specs.Spelling.{newest}
 use Rattle.plain_list.specs.World.{World}
 use Rattle.plain_list.specs.declared.entries.Entry.{Entry}
 use Rattle.disk_trait.specs.Drive.{Drive, IsSynced}
 use Rattle.disk_trait.specs.Moments.{LeavesNow, LeavesSince}
+use Rattle.split_log.specs.LogText.{IsLog}
 use Rattle.log_state.specs.Recovers.{Recovers, state_of}
 use Rattle.log_state.specs.Changes.{cells_of, failed_cells, IsWhollyRecovered}
 use Rattle.play_run.specs.Origin.{Origin}
 
--- an image that recovers to these cells, whose leaves tile the key space
+-- an image of the newest version that recovers to these cells, whose leaves tile the key space
 pub record RecoversTo (w : ℕ) (cells : List Cell) (image : List ℕ) : Type 0 where
   pub recovers : Recovers w cells image
   pub tile : Tile (state_of w cells).leaves
+  pub version : slice_index image 8 ≡ newest
 
 -- An image that recovers to the cells that stood first and some of the history's, in order and none skipped. The cell of a failed append may
 -- stand after them.
@@ -31,3 +34,9 @@ pub record KeepsAll (w : ℕ) (first : List Cell) (world : World) (h : List Entr
 abbrev pub KeepsPlayed : Origin → Drive → Drive → ℕ → List Entry → Type 0
 KeepsPlayed from old new status h = (bytes : List ℕ) (first : List Cell) → old.bytes ≡ Some bytes → from.first ≡ Some first → IsSynced old
     → KeepsAll from.width first from.state.world h old new status
+
+-- Whatever was pending before, the file of a run that the drive didn't stop is the text of the cells that stood first and of the history's, and
+-- a crash leaves it.
+abbrev pub KeepsText : Origin → Drive → Drive → ℕ → List Entry → Type 0
+KeepsText from old new status h = (bytes : List ℕ) (first : List Cell) → old.bytes ≡ Some bytes → from.first ≡ Some first → status ≢ 7
+    → IsLog from.width (first ++ cells_of from.state.world h) new

@@ -1,6 +1,7 @@
 -- Where a play begins.
-use Rattle.std.specs.Prelude.{◌≡◌, ℕ, ◌≤◌, List, length, Option, Some, None}
+use Rattle.std.specs.Prelude.{◌≡◌, ℕ, ◌≤◌, List, length, slice_index, Option, Some, None}
 use Rattle.cell_format.specs.declared.cell.Cell.{Cell}
+use Rattle.cell_format.specs.Spelling.{newest}
 use Rattle.plain_list.specs.State.{State, empty_state, at_rest}
 use Rattle.disk_trait.specs.Drive.{Drive}
 use Rattle.log_state.specs.Recovers.{IsLegalCells, Recovers, state_of}
@@ -21,7 +22,8 @@ new_origin = record { width = 1; state = empty_state; first = None }
 abbrev pub origin_of : ℕ → List Cell → Origin
 origin_of w first = record { width = w; state = at_rest (state_of w first); first = Some first }
 
--- the origin is what legal cells leave, few enough, by the width of the log; where the drive's content is known, its bytes recover to them
+-- The origin is what legal cells leave, few enough, by the width of the log. Where the drive's content is known, its bytes recover to them, and are
+-- of the newest version.
 pub record IsFoundOrigin (drive : Drive) (o : Origin) : Type 0 where
   pub width : ℕ
   pub known : IsWidth width
@@ -30,6 +32,7 @@ pub record IsFoundOrigin (drive : Drive) (o : Origin) : Type 0 where
   pub few : length first ≤ most_played
   pub origin_is : o ≡ origin_of width first
   pub recovers : (bytes : List ℕ) → drive.bytes ≡ Some bytes → Recovers width first bytes
+  pub version : (bytes : List ℕ) → drive.bytes ≡ Some bytes → slice_index bytes 8 ≡ newest
 
 -- the origin of a play over no log, or over the log in a file
 abbrev pub IsOrigin : Option (List ℕ) → Drive → Origin → Type 0

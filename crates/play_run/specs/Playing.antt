@@ -11,6 +11,7 @@ use Rattle.recovery.specs.declared.seen.OpenFault.{OpenFault}
 use Rattle.log_state.specs.Recovers.{Recovers}
 use Rattle.recovery.specs.Faults.{IsInBytes}
 use Rattle.recovery.specs.Widths.{IsWidth, HasWidth, IsLogFault}
+use Rattle.recovery.specs.Calls.{StopsAtFault}
 use Rattle.recovery.specs.Opening.{KeepsCells, HasNoLog, IsUntouched}
 use Rattle.csv_rows.specs.declared.rows.InRow.{InRow}
 use Rattle.csv_rows.specs.declared.rows.Refusal.{Refusal}
@@ -18,7 +19,7 @@ use Rattle.csv_rows.specs.declared.rows.Refusal.TheVariants as refusal
 use Rattle.run_ends.specs.Limits.{most_bytes, oldest_played, most_played}
 use Rattle.io_edge.specs.Streams.{Input, Output}
 use Rattle.io_edge.specs.Reads.{ConsumesUpTo}
-use Rattle.run_ends.specs.Ends.{Ends, Targets}
+use Rattle.run_ends.specs.Ends.{Ends, Done, Targets}
 use Rattle.run_ends.specs.Judged.{judged}
 use Rattle.run_ends.specs.Status.{status_of, WritesLines}
 use Rattle.run_ends.specs.Ending.{EndsRefused}
@@ -32,7 +33,7 @@ use Rattle.play_run.specs.declared.reports.Report.TheVariants as reports
 use Rattle.play_run.specs.Answers.{AnswersAsOneList}
 use Rattle.kept_log.specs.Counts.{count_after}
 use Rattle.lane_splits.specs.Settled.{SplitsAreDone, IsWithinLimits}
-use Rattle.play_run.specs.Crash.{KeepsPlayed}
+use Rattle.play_run.specs.Crash.{KeepsPlayed, KeepsText}
 
 -- the drive's bytes recover to cells, few enough, by either width and the newest version, and its count didn't rise
 pub record IsGoodLog (old new : Drive) : Type 0 where
@@ -47,7 +48,8 @@ pub record IsGoodLog (old new : Drive) : Type 0 where
   pub calm : Rose old.faults new.faults → ⊥
 
 -- why no log is opened: what the bytes show is told, and a good log is opened, unless the count rose or memory ran out. A file that is no such
--- log, as one of an older version, is left as it was, at every moment. The count is as it was, unless the drive is what is told to have failed.
+-- log, as one of an older version, is left as it was, at every moment. The count is as it was, unless the drive is what is told to have failed,
+-- and no device call was made behind one that failed.
 pub record IsNotOpened (file : List ℕ) (old new : Drive) (why : Refusal) : Type 0 where
   pub cause : IsReadingCause oldest_played most_played old new why
   pub exact : (bytes : List ℕ) (fault : OpenFault) → old.bytes ≡ Some bytes → IsInBytes fault → IsLogFault oldest_played most_played bytes fault → (Rose old.faults new.faults → ⊥)
@@ -56,6 +58,7 @@ pub record IsNotOpened (file : List ℕ) (old new : Drive) (why : Refusal) : Typ
   pub keeps : (w : ℕ) (bytes : List ℕ) → old.bytes ≡ Some bytes → HasWidth w bytes → KeepsCells w old new
   pub untouched : (bytes : List ℕ) → old.bytes ≡ Some bytes → ((w : ℕ) → IsWidth w → HasNoLog w most_played bytes) → IsUntouched old new
   pub calm : why ≢ refusal.Disk None → new.faults ≡ old.faults
+  pub calls : StopsAtFault old new
   -- this file is attached, and none is made
   pub attached : AttachesOnce file false old new (status_of why)
 
@@ -101,7 +104,7 @@ abbrev pub IsAttached : Option (List ℕ) → Drive → Drive → Type 0
 IsAttached None old new = ⊤
 IsAttached (Some file) old new = AttachedOne file false old new
 
--- The rows are answered from one origin on. The drive's count rises with status 7 alone.
+-- The rows are answered from one origin on. The drive's count rises with status 7 alone, and no device call was made behind one that failed.
 pub record IsAnswered {D : Type 0} (report : Report) (log : Option (List ℕ)) (size : ℕ) (rows : List InRow) (old new : Targets D) (status : ℕ) (h : List Entry) : Type 0 where
   pub from : Origin
   pub begins : IsOrigin log old.drive from
@@ -111,6 +114,8 @@ pub record IsAnswered {D : Type 0} (report : Report) (log : Option (List ℕ)) (
   pub splits : WritesLines status → SplitsAreDone from.width size from.state (option_map length from.first) h
   pub limits : IsWithinLimits from.width size from.state (option_map length from.first) rows h
   pub crash : KeepsPlayed from old.drive new.drive status h
+  pub text : KeepsText from old.drive new.drive status h
+  pub calls : StopsAtFault old.drive new.drive
   pub calm : status ≢ 7 → new.drive.faults ≡ old.drive.faults
   pub attached : IsAttached log old.drive new.drive
 
@@ -150,11 +155,11 @@ IsGood (Some file) old new = IsGoodLog old new
 
 -- What `play` promises. The second drive is left as it was. Bad input gives its refusal's status, and good input over a bad log that log's, unless a count rose or memory ran out.
 -- Good input, a good log where there is one, and no fault give all lines, unless memory ran out.
-pub record Plays {S D : Type 0} (log : Option (List ℕ)) (size : ℕ) (old new : Ends S D) (status : ℕ) (h : List Entry) : Type 0 where
-  pub goes : Goes log size old.input new.input old.to new.to status h
-  pub other : new.other ≡ old.other
-  pub input : (bytes : List ℕ) (why : Refusal) → old.input.left ≡ Some bytes → judged bytes ≡ Err why → (status ≡ status_of why) ⊎ ((status ≡ 5) ⊎ (status ≡ 9))
-  pub follows : (bytes : List ℕ) (rows : List InRow) → old.input.left ≡ Some bytes → judged bytes ≡ Ok rows → (Rose old.input.faults new.input.faults → ⊥)
-      → FollowsLog log old.to.drive new.to.drive status
-  pub complete : (bytes : List ℕ) (rows : List InRow) → old.input.left ≡ Some bytes → judged bytes ≡ Ok rows → (Rose old.input.faults new.input.faults → ⊥)
-      → (Rose old.to.output.faults new.to.output.faults → ⊥) → IsGood log old.to.drive new.to.drive → (status ≡ 0) ⊎ (status ≡ 9)
+pub record Plays {S D : Type 0} (log : Option (List ℕ)) (size : ℕ) (done : Done (Ends S D)) : Type 0 where
+  pub goes : Goes log size done.old.input done.new.input done.old.to done.new.to done.status done.history
+  pub other : done.new.to.other ≡ done.old.to.other
+  pub input : (bytes : List ℕ) (why : Refusal) → done.old.input.left ≡ Some bytes → judged bytes ≡ Err why → (done.status ≡ status_of why) ⊎ ((done.status ≡ 5) ⊎ (done.status ≡ 9))
+  pub follows : (bytes : List ℕ) (rows : List InRow) → done.old.input.left ≡ Some bytes → judged bytes ≡ Ok rows → (Rose done.old.input.faults done.new.input.faults → ⊥)
+      → FollowsLog log done.old.to.drive done.new.to.drive done.status
+  pub complete : (bytes : List ℕ) (rows : List InRow) → done.old.input.left ≡ Some bytes → judged bytes ≡ Ok rows → (Rose done.old.input.faults done.new.input.faults → ⊥)
+      → (Rose done.old.to.output.faults done.new.to.output.faults → ⊥) → IsGood log done.old.to.drive done.new.to.drive → (done.status ≡ 0) ⊎ (done.status ≡ 9)

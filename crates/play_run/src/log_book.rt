@@ -3,7 +3,7 @@ ghost use Rattle.std.specs.Prelude.{◌≡◌, ◌≤◌, Some, None, IfOk, IfEr
 ghost use Rattle.kept_log.specs.Kept.{IsOpened, found_state};
 ghost use Rattle.recovery.specs.Found.{IsFound};
 ghost use Rattle.run_ends.specs.Limits.{oldest_played, most_played};
-ghost use Rattle.play_run.specs.inside.Books.{IsNewBook, OpensLog};
+ghost use Rattle.play_run.specs.inside.Books.{IsNewBook, OpensFile};
 ghost use Rattle.play_run.specs.Playing.{IsNotOpened};
 
 use commit_book::Book;
@@ -11,40 +11,25 @@ use csv_rows::Refusal;
 use disk_trait::LogDisk;
 use index_layer::Index;
 use plain_list::World;
-use recovery::{OpenRefused, Opened, open, width_of};
-use run_ends::{MOST_PLAYED, Unmade, attach_refusal, log_refusal};
+use recovery::{OpenRefused, Opened, OpenedLog, open_log};
+use run_ends::{MOST_PLAYED, Unmade, attach, log_refusal};
 use std::alloc::Global;
 
-/// A log that was opened, and its width.
-#[derive(Drop)]
-pub(crate) struct Wide<D: LogDisk> {
-    pub(crate) opened: Opened<D>,
-    pub(crate) width: u8,
-}
-
 /// The log of the newest version in a file of this name, opened by the width that it has.
-pub(crate) fn open_log<D: LogDisk>(
+pub(crate) fn open_file<D: LogDisk>(
     alloc: Global,
     file: &str,
     mut disk: D,
-) -> Result<Wide<D>, Unmade<D>>
-    ensures opened { IfOk result (λ l. OpensLog file.now (D.drive disk) (D.drive l.opened.start.value) (D.drive l.opened.log.disk) l.width l.opened.seen) }
+) -> Result<OpenedLog<D>, Unmade<D>>
+    ensures opened { IfOk result (λ l. OpensFile file.now (D.drive disk) (D.drive l.opened.start.value) (D.drive l.opened.log.disk) l.width l.opened.seen) }
     ensures log { IfOk result (λ l. (l.opened.log.cells ≡ l.opened.seen.cells) × (l.opened.log.failed ≡ None)) }
     ensures refused { IfErr result (λ e. IsNotOpened file.now (D.drive disk) (D.drive e.disk) e.why) }
 {
-    if let Err(fault) = disk.attach(alloc, file, false) {
-        let why = attach_refusal(fault);
+    if let Err(why) = attach(alloc, file, false, &mut disk) {
         return Err(Unmade { disk, why });
     }
-    let width = match width_of(&mut disk) {
-        Ok(width) => width,
-        Err(cause) => {
-            let why = log_refusal(cause);
-            return Err(Unmade { disk, why });
-        }
-    };
-    match open(alloc, disk, width, MOST_PLAYED) {
-        Ok(opened) => Ok(Wide { opened, width }),
+    match open_log(alloc, disk, MOST_PLAYED) {
+        Ok(log) => Ok(log),
         Err(OpenRefused { disk, cause }) => {
             let why = log_refusal(cause);
             Err(Unmade { disk, why })

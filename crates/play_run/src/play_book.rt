@@ -16,7 +16,8 @@ use csv_rows::{InRow, Refusal};
 use disk_trait::LogDisk;
 use index_layer::Index;
 use io_edge::{Gate, Sink};
-use run_ends::{Ended, put_refusal, written};
+use plain_list::Entries;
+use run_ends::{put_refusal, written};
 use std::alloc::Global;
 use std::marker::Brand;
 use std::sync::Wait;
@@ -24,6 +25,14 @@ use std::thread::Threads;
 
 // In buckets of 64 a split has its two steps after some 32 puts.
 const ROWS_A_STEP: usize = 16;
+
+/// What rows leave that were played over a book: the status that tells of them, their history, and the drive of the log where there is one.
+#[derive(Drop)]
+pub(crate) struct Told<D: LogDisk> {
+    pub(crate) status: u8,
+    pub(crate) history: Entries,
+    pub(crate) disk: Option<D>,
+}
 
 /// Plays rows over a book with no entries so far, and tells what a report tells of them.
 pub(crate) fn play_and_tell<
@@ -40,10 +49,10 @@ pub(crate) fn play_and_tell<
     book: Book<I, D>,
     sink: &mut K,
     gate: &G,
-) -> Ended<Option<D>>
+) -> Told<D>
     requires rows { AreInRows rows.now }
     requires new { IsNewBook book }
-    ensures { EndsBook D.drive I.WIDTH report rows.now book result.events result.status result.disk (K.output sink.old) (K.output sink.new) }
+    ensures { EndsBook D.drive I.WIDTH report rows.now book result.history result.status result.disk (K.output sink.old) (K.output sink.new) }
 {
     let mut book = book;
     book.make_room(rows.len() + rows.len() / ROWS_A_STEP);
@@ -57,12 +66,12 @@ fn tell_book<I: Index, K: Sink, D: LogDisk>(
     rows: &[InRow],
     played: Played<I, D>,
     sink: &mut K,
-) -> Ended<Option<D>>
+) -> Told<D>
     requires rows { AreInRows rows.now }
     requires numbers { IfSome played.ends (λ ends. HasNumbers rows.now ends.items) }
     ensures ends { EndsPlay report rows.now (failed_cell played.book.entries) played.book.leaves
         (option_map (λ ends. ends.items) played.ends) result.status (K.output sink.old) (K.output sink.new) }
-    ensures events { result.events ≡ played.book.entries }
+    ensures history { result.history ≡ played.book.entries }
     ensures disk { result.disk ≡ disk_in played.book.log }
 {
     let Played { book, ends } = played;
@@ -73,9 +82,9 @@ fn tell_book<I: Index, K: Sink, D: LogDisk>(
         entries,
     } = book.into_parts();
     let status = tell_end(report, rows, failed, &ends, &index, sink);
-    Ended {
+    Told {
         status,
-        events: entries,
+        history: entries,
         disk,
     }
 }

@@ -3,14 +3,14 @@ ghost use Rattle.std.specs.Prelude.{◌≡◌, ℕ, List, true, [], Some, None, 
 ghost use Rattle.csv_rows.specs.InRows.{AreInRows};
 ghost use Rattle.kept_log.specs.Kept.{IsOpened, found_state};
 ghost use Rattle.recovery.specs.Found.{IsFound};
-ghost use Rattle.run_ends.specs.Ends.{targets};
+ghost use Rattle.run_ends.specs.Ends.{done_by, targets};
 ghost use Rattle.run_ends.specs.Limits.{oldest_played, most_played};
 ghost use Rattle.command_words.specs.Asked.{file_of};
-ghost use Rattle.play_run.specs.Playing.{Goes, PlaysRows};
-ghost use Rattle.play_run.specs.inside.Books.{OpensLog};
+ghost use Rattle.play_run.specs.Playing.{Plays, PlaysRows};
+ghost use Rattle.play_run.specs.inside.Books.{OpensFile};
 
-use crate::log_book::{Wide, book_of, open_log};
-use crate::play_book::play_and_tell;
+use crate::log_book::{book_of, open_file};
+use crate::play_book::{Told, play_and_tell};
 use crate::reports::Report;
 use command_words::Command;
 use commit_book::Book;
@@ -20,8 +20,8 @@ use index_layer::Index;
 use io_edge::{Gate, Sink, Source};
 use kd_trie::KdTrie;
 use quad_trie::QuadTrie;
-use recovery::Opened;
-use run_ends::{Ended, Unmade, read_judged, refuse_on};
+use recovery::{Opened, OpenedLog};
+use run_ends::{Drives, Ended, Unmade, read_judged, refuse_on};
 use std::alloc::Global;
 use std::sync::Wait;
 use std::thread::Threads;
@@ -34,18 +34,28 @@ pub fn play<R: Threads + Wait + Sync, S: Source, K: Sink, D: LogDisk + Send, G: 
     size: u32,
     source: &mut S,
     sink: &mut K,
-    disk: D,
+    drives: Drives<D>,
     gate: &G,
 ) -> Ended<D>
-    ensures goes { Goes (file_of (Command.Play log.entry size)) size (S.input source.old) (S.input source.new)
-        (targets K.output D.drive sink.old disk) (targets K.output D.drive sink.new result.disk) result.status result.events }
+    ensures { Plays (file_of (Command.Play log.entry size)) size
+        (done_by S.input K.output D.drive source.old sink.old drives source.new sink.new result) }
 {
     match read_judged(alloc, source) {
         Ok(rows) => {
             let rows = rows.as_slice();
-            play_rows(rt, alloc, rows, Report::Lines, log, size, sink, disk, gate)
+            play_rows(
+                rt,
+                alloc,
+                rows,
+                Report::Lines,
+                log,
+                size,
+                sink,
+                drives,
+                gate,
+            )
         }
-        Err(why) => refuse_on(alloc, &why, sink, disk),
+        Err(why) => refuse_on(alloc, &why, sink, drives),
     }
 }
 
@@ -58,16 +68,17 @@ pub(crate) fn play_rows<R: Threads + Wait + Sync, K: Sink, D: LogDisk + Send, G:
     log: Option<&str>,
     size: u32,
     sink: &mut K,
-    disk: D,
+    drives: Drives<D>,
     gate: &G,
 ) -> Ended<D>
     requires { AreInRows rows.now }
-    ensures plays { PlaysRows report (file_of (Command.Play log.entry size)) size rows.now (targets K.output D.drive sink.old disk)
-        (targets K.output D.drive sink.new result.disk) result.status result.events }
+    ensures plays { PlaysRows report (file_of (Command.Play log.entry size)) size rows.now (targets K.output D.drive sink.old drives)
+        (targets K.output D.drive sink.new result.drives) result.status result.history }
+    ensures other { result.drives.other ≡ drives.other }
 {
     match log {
-        Some(file) => over_log(rt, alloc, rows, report, file, size, sink, disk, gate),
-        None => over_none(rt, alloc, rows, report, size, sink, disk, gate),
+        Some(file) => over_log(rt, alloc, rows, report, file, size, sink, drives, gate),
+        None => over_none(rt, alloc, rows, report, size, sink, drives, gate),
     }
 }
 
@@ -79,23 +90,24 @@ fn over_none<R: Threads + Wait + Sync, K: Sink, D: LogDisk + Send, G: Gate + Syn
     report: Report,
     size: u32,
     sink: &mut K,
-    disk: D,
+    drives: Drives<D>,
     gate: &G,
 ) -> Ended<D>
     requires { AreInRows rows.now }
-    ensures plays { PlaysRows report None size rows.now (targets K.output D.drive sink.old disk)
-        (targets K.output D.drive sink.new result.disk) result.status result.events }
+    ensures plays { PlaysRows report None size rows.now (targets K.output D.drive sink.old drives)
+        (targets K.output D.drive sink.new result.drives) result.status result.history }
+    ensures other { result.drives.other ≡ drives.other }
 {
     match Book::<KdTrie, D>::fresh(alloc, size) {
         Ok(book) => {
-            let end = play_and_tell(rt, alloc, rows, report, book, sink, gate);
+            let told = play_and_tell(rt, alloc, rows, report, book, sink, gate);
             Ended {
-                status: end.status,
-                events: end.events,
-                disk,
+                status: told.status,
+                history: told.history,
+                drives,
             }
         }
-        Err(_) => refuse_on(alloc, &Refusal::Memory, sink, disk),
+        Err(_) => refuse_on(alloc, &Refusal::Memory, sink, drives),
     }
 }
 
@@ -108,28 +120,32 @@ fn over_log<R: Threads + Wait + Sync, K: Sink, D: LogDisk + Send, G: Gate + Sync
     file: &str,
     size: u32,
     sink: &mut K,
-    disk: D,
+    drives: Drives<D>,
     gate: &G,
 ) -> Ended<D>
     requires { AreInRows rows.now }
-    ensures plays { PlaysRows report (Some file.now) size rows.now (targets K.output D.drive sink.old disk)
-        (targets K.output D.drive sink.new result.disk) result.status result.events }
+    ensures plays { PlaysRows report (Some file.now) size rows.now (targets K.output D.drive sink.old drives)
+        (targets K.output D.drive sink.new result.drives) result.status result.history }
+    ensures other { result.drives.other ≡ drives.other }
 {
-    match open_log(alloc, file, disk) {
-        Ok(Wide { opened, width }) => {
+    let Drives { disk, other } = drives;
+    match open_file(alloc, file, disk) {
+        Ok(OpenedLog { opened, width }) => {
             if width == 1 {
-                over_opened::<R, KdTrie, K, D, G>(rt, alloc, rows, report, opened, size, sink, gate)
+                over_opened::<R, KdTrie, K, D, G>(
+                    rt, alloc, rows, report, opened, size, sink, other, gate,
+                )
             } else {
                 over_opened::<R, QuadTrie, K, D, G>(
-                    rt, alloc, rows, report, opened, size, sink, gate,
+                    rt, alloc, rows, report, opened, size, sink, other, gate,
                 )
             }
         }
-        Err(Unmade { disk, why }) => refuse_on(alloc, &why, sink, disk),
+        Err(Unmade { disk, why }) => refuse_on(alloc, &why, sink, Drives { disk, other }),
     }
 }
 
-// Plays rows over a log as it was opened, with an index whose splits are as wide.
+// Plays rows over a log as it was opened, with an index whose splits are as wide. The other drive is passed on.
 fn over_opened<
     R: Threads + Wait + Sync,
     I: Index + Send,
@@ -144,40 +160,42 @@ fn over_opened<
     opened: Opened<D>,
     size: u32,
     sink: &mut K,
+    other: D,
     gate: &G,
 ) -> Ended<D>
     requires rows { AreInRows rows.now }
     requires log { (opened.log.cells ≡ opened.seen.cells) × (opened.log.failed ≡ None) }
     requires found { IsFound oldest_played I.WIDTH most_played (D.drive opened.start.value) opened.seen }
     requires ready { IsOpened I.WIDTH (found_state opened.seen) (D.drive opened.start.value) (D.drive opened.log.disk) }
-    ensures plays { (file : List ℕ) (disk : D) → OpensLog file (D.drive disk) (D.drive opened.start.value) (D.drive opened.log.disk) I.WIDTH opened.seen
-        → PlaysRows report (Some file) size rows.now (targets K.output D.drive sink.old disk) (targets K.output D.drive sink.new result.disk) result.status result.events }
+    ensures plays { (file : List ℕ) (disk : D) → OpensFile file (D.drive disk) (D.drive opened.start.value) (D.drive opened.log.disk) I.WIDTH opened.seen
+        → PlaysRows report (Some file) size rows.now (targets K.output D.drive sink.old (record { disk = disk; other = other }))
+        (targets K.output D.drive sink.new result.drives) result.status result.history }
+    ensures other { result.drives.other ≡ other }
 {
     match book_of::<I, D>(alloc, opened, size) {
         Ok(book) => {
-            let end = play_and_tell(rt, alloc, rows, report, book, sink, gate);
-            with_drive(end)
+            let told = play_and_tell(rt, alloc, rows, report, book, sink, gate);
+            with_drive(told, other)
         }
-        Err(Unmade { disk, why }) => refuse_on(alloc, &why, sink, disk),
+        Err(Unmade { disk, why }) => refuse_on(alloc, &why, sink, Drives { disk, other }),
     }
 }
 
-// The drive, which a book over a log has.
-fn with_drive<D: LogDisk>(end: Ended<Option<D>>) -> Ended<D>
-    requires { is_some end.disk ≡ true }
-    ensures { end ≡ record { status = result.status; events = result.events; disk = Some result.disk } }
+// What rows leave over a log, which has its drive.
+fn with_drive<D: LogDisk>(told: Told<D>, other: D) -> Ended<D>
+    requires { is_some told.disk ≡ true }
+    ensures told { told ≡ record { status = result.status; history = result.history; disk = Some result.drives.disk } }
+    ensures other { result.drives.other ≡ other }
 {
-    let Ended {
+    let Told {
         status,
-        events,
+        history,
         disk,
-    } = end;
-    match disk {
-        Some(disk) => Ended {
-            status,
-            events,
-            disk,
-        },
-        None => unreachable!(),
+    } = told;
+    let disk = disk.unwrap();
+    Ended {
+        status,
+        history,
+        drives: Drives { disk, other },
     }
 }

@@ -1,8 +1,8 @@
 //! The command `trial`: plays rows that are made, and tells what they come to.
 ghost use Rattle.std.specs.Prelude.{◌≤◌};
-ghost use Rattle.run_ends.specs.Ends.{targets};
+ghost use Rattle.run_ends.specs.Ends.{written_by};
 ghost use Rattle.command_words.specs.Asked.{file_of};
-ghost use Rattle.play_run.specs.Trying.{PlaysMade};
+ghost use Rattle.play_run.specs.Trying.{TriesRows};
 
 use crate::playing::play_rows;
 use crate::reports::Report;
@@ -11,7 +11,7 @@ use csv_rows::Refusal;
 use disk_trait::LogDisk;
 use io_edge::{Gate, Sink};
 use make_moves::make;
-use run_ends::{Ended, TRIAL_BUCKET, refuse_on};
+use run_ends::{Drives, Ended, TRIAL_BUCKET, refuse_on};
 use std::alloc::Global;
 use std::sync::Wait;
 use std::thread::Threads;
@@ -23,12 +23,11 @@ pub fn trial<R: Threads + Wait + Sync, K: Sink, D: LogDisk + Send, G: Gate + Syn
     log: Option<&str>,
     made: Made,
     sink: &mut K,
-    disk: D,
+    drives: Drives<D>,
     gate: &G,
 ) -> Ended<D>
     requires few { made.rows ≤ 65536 }
-    ensures goes { PlaysMade (file_of (Command.Trial log.entry made)) made (targets K.output D.drive sink.old disk)
-        (targets K.output D.drive sink.new result.disk) result.status result.events }
+    ensures { TriesRows (file_of (Command.Trial log.entry made)) made (written_by K.output D.drive sink.old drives sink.new result) }
 {
     match make(alloc, made.rows, made.seed) {
         Ok(rows) => {
@@ -41,10 +40,10 @@ pub fn trial<R: Threads + Wait + Sync, K: Sink, D: LogDisk + Send, G: Gate + Syn
                 log,
                 TRIAL_BUCKET,
                 sink,
-                disk,
+                drives,
                 gate,
             )
         }
-        Err(_) => refuse_on(alloc, &Refusal::Memory, sink, disk),
+        Err(_) => refuse_on(alloc, &Refusal::Memory, sink, drives),
     }
 }

@@ -1,10 +1,10 @@
 -- What goes wrong with a log: the refusal of each fault, and why a log isn't read.
-use Rattle.std.specs.Prelude.{◌≡◌, ℕ, List, Some, None, ⊤}
+use Rattle.std.specs.Prelude.{ℕ, None, ⊤}
 use Rattle.causes.specs.Causes.{Rose}
 use Rattle.disk_trait.specs.Drive.{Drive}
 use Rattle.disk_trait.specs.declared.disk.AttachFault.{AttachFault}
 use Rattle.disk_trait.specs.declared.disk.AttachFault.TheVariants as attach_fault
-use Rattle.recovery.specs.Widths.{IsLogFault}
+pub use Rattle.recovery.specs.Widths.{ShowsFault}
 use Rattle.recovery.specs.declared.seen.OpenFault.{OpenFault}
 use Rattle.recovery.specs.declared.seen.OpenFault.TheVariants as open_fault
 use Rattle.csv_rows.specs.declared.rows.Refusal.{Refusal}
@@ -23,10 +23,6 @@ log_refusal (open_fault.Damaged cell cause) = refusal.Damaged cell cause
 log_refusal open_fault.Disk = refusal.Disk None
 log_refusal open_fault.Memory = refusal.Memory
 log_refusal (open_fault.TooLong most) = refusal.LongLog
-
--- where the drive's content is known, this is at fault in its bytes, for whoever reads a log of this version or a later one, of at most so many cells
-abbrev pub ShowsFault : ℕ → ℕ → Drive → OpenFault → Type 0
-ShowsFault oldest most drive fault = (bytes : List ℕ) → drive.bytes ≡ Some bytes → IsLogFault oldest most bytes fault
 
 -- why such a log isn't read: what is first at fault in its bytes, the drive's count rose, or memory ran out
 abbrev pub IsReadingCause : ℕ → ℕ → Drive → Drive → Refusal → Type 0

@@ -1,45 +1,51 @@
-//! How a command ends.
+//! What a command gives back.
 ghost use Rattle.std.specs.Prelude.{◌≡◌, [], ◌≤◌};
 ghost use Rattle.run_ends.specs.Taking.{Refuses};
 
 use crate::refusals::put_refusal;
 use csv_rows::Refusal;
-use disk_trait::LogDisk;
 use io_edge::Sink;
 use plain_list::Entries;
 use std::alloc::Global;
 
-/// How a command ends: a status, a history, which is empty where no row was called, and the drive back.
+/// Both drives of a run. Most commands leave the other one alone.
 #[derive(Drop)]
-pub struct Ended<T: Drop> {
+pub struct Drives<D: Drop> {
+    pub disk: D,
+    pub other: D,
+}
+
+/// What a command gives back: its status, the history of the rows that it called, which is empty where it called none, and both drives.
+#[derive(Drop)]
+pub struct Ended<D: Drop> {
     pub status: u8,
-    pub events: Entries,
-    pub disk: T,
+    pub history: Entries,
+    pub drives: Drives<D>,
 }
 
 /// Ends a command with this status, where no row was called.
-pub fn without_rows<D: Drop>(alloc: Global, status: u8, disk: D) -> Ended<D>
-    ensures { result ≡ record { status = status; events = []; disk = disk } }
+pub fn without_rows<D: Drop>(alloc: Global, status: u8, drives: Drives<D>) -> Ended<D>
+    ensures { result ≡ record { status = status; history = []; drives = drives } }
 {
     Ended {
         status,
-        events: Entries::empty(alloc),
-        disk,
+        history: Entries::empty(alloc),
+        drives,
     }
 }
 
 /// Ends a command with a refusal, where no row was called.
-pub fn refuse_on<K: Sink, D: LogDisk>(
+pub fn refuse_on<K: Sink, D: Drop>(
     alloc: Global,
     why: &Refusal,
     sink: &mut K,
-    disk: D,
+    drives: Drives<D>,
 ) -> Ended<D>
-    ensures none { result.events ≡ [] }
-    ensures disk { result.disk ≡ disk }
+    ensures none { result.history ≡ [] }
+    ensures drives { result.drives ≡ drives }
     ensures refused { Refuses why.now result.status (K.output sink.old) (K.output sink.new) }
     ensures later { (K.output sink.old).faults ≤ (K.output sink.new).faults }
 {
     let status = put_refusal(why, sink);
-    without_rows(alloc, status, disk)
+    without_rows(alloc, status, drives)
 }

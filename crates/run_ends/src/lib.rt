@@ -1,10 +1,13 @@
-//! What the commands of a run share: its ends, the statuses and lines of refusals, what goes wrong with a log, and the rows of a source.
+//! What the commands of a run share: what they give back, the statuses and lines of refusals, the attach of a file, what goes wrong with a
+//! log, and the tables of a source.
 //!
-//! Contracts see a run's ends as one value (`Ends`: source, sink, two drives), before a command and after it. Each refusal has one status and
-//! one line, which `put_refusal` puts (`Refuses`). `read_judged` promises the rows of all bytes that a source had, or the first thing that
-//! is wrong with them; `read_bytes` hands out these bytes for tables of other kinds (`judged_by`).
+//! Contracts see a run's ends as one value (`Ends`: source, sink, two drives), and what a command did as another: its ends before and after,
+//! its status and its history (`Done`). Each refusal has one status and one line, which `put_refusal` puts (`Refuses`). `attach` says what
+//! it leaves, whatever it answers. `read_judged` promises the rows of all bytes that a source had, or the first thing that is wrong with
+//! them; `read_bytes` hands out these bytes for tables of other kinds (`judged_by`).
 //!
-//! Not here: what a command does (`log_run`, `play_run`), which command words ask for (`location_run`), the texts of lines (`csv_rows`).
+//! Not here: what a command does (`log_run`, `watch_run`, `follow_run`, `play_run`), which command words ask for (`command_words`), the
+//! texts of lines (`csv_rows`).
 #![tactic(auto)]
 
 mod attaching;
@@ -16,9 +19,9 @@ mod refusals;
 mod writing;
 
 pub use attaching::attach;
-pub use ended::{Ended, refuse_on, without_rows};
+pub use ended::{Drives, Ended, refuse_on, without_rows};
 pub use input::{read_bytes, read_judged, refusal_of};
 pub use limits::{MOST_INSPECTED, MOST_PLAYED, TRIAL_BUCKET};
-pub use log_faults::{Unmade, attach_refusal, log_refusal};
+pub use log_faults::{Unmade, log_refusal};
 pub use refusals::put_refusal;
 pub use writing::written;

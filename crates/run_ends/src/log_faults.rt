@@ -14,7 +14,7 @@ pub struct Unmade<D: Drop> {
 }
 
 /// The refusal where a file wasn't attached.
-pub fn attach_refusal(fault: AttachFault) -> Refusal
+pub(crate) fn attach_refusal(fault: AttachFault) -> Refusal
     ensures { result ≡ attach_refusal fault }
 {
     match fault {

@@ -3,14 +3,13 @@ use Rattle.std.proofs.Common.{◌≡◌, ◌⊎◌, inl, inr, ⊎_elim, ◌∙�
 use Rattle.causes.specs.Causes.{Rose, Counts}
 use Rattle.io_edge.specs.Puts.{Puts}
 use Rattle.io_edge.specs.Streams.{Input, Output}
-use Rattle.plain_list.specs.declared.entries.Entry.{Entry}
 use Rattle.recovery.proofs.Exclusive.{recovers_no_fault, recovers_wanted}
 use Rattle.recovery.proofs.WidthLemmas.{fault_at, recovers_width}
 use Rattle.csv_rows.specs.declared.rows.Refusal.{Refusal}
 use Rattle.csv_rows.specs.declared.rows.Refusal.TheVariants as refusal
 use Rattle.csv_rows.specs.declared.rows.RowsFault.{RowsFault}
 use Rattle.run_ends.specs.Limits.{most_inspected, oldest_read}
-use Rattle.run_ends.specs.Ends.{Ends, Targets}
+use Rattle.run_ends.specs.Ends.{Ends, Done, Targets}
 use Rattle.run_ends.specs.LogFaults.{log_refusal}
 use Rattle.run_ends.specs.Status.{status_of, written_status}
 use Rattle.run_ends.specs.Taking.{Refuses}
@@ -108,35 +107,35 @@ same-ok : {T E : Type 0} (x y : T) → ◌≡◌ {A = Result T E} (Ok x) (Ok y) 
 same-ok x y is = cc is
 
 -- how a watch goes is what it promises
-module _ {S D : Type 0} (file : List ℕ) (old new : Ends S D) (status : ℕ) where
-  bad-input : (bytes : List ℕ) (why : Refusal) → old.input.left ≡ Some bytes → judged_by fences_of_text bytes ≡ Err why → (Rose old.input.faults new.input.faults → ⊥) → GoesAlong file old.input new.input old.to new.to status
-      → Refuses why status old.to.output new.to.output ⊎ (status ≡ 9)
+module _ {S D : Type 0} (file : List ℕ) (done : Done (Ends S D)) where
+  bad-input : (bytes : List ℕ) (why : Refusal) → done.old.input.left ≡ Some bytes → judged_by fences_of_text bytes ≡ Err why → (Rose done.old.input.faults done.new.input.faults → ⊥) → GoesAlong file done.old.input done.new.input done.old.to done.new.to done.status
+      → Refuses why done.status done.old.to.output done.new.to.output ⊎ (done.status ≡ 9)
   bad-input bytes why told judged calm (inr fenced) = absurd (ok-err fenced.fences why (sym (fenced.read.items_are bytes told) ∙ judged))
   bad-input bytes why told judged calm (inl unfenced) =
       let other = unfenced.refused.0 in
-      named other why status old.to.output new.to.output unfenced.refused.2
-      (⊎_elim (λ e. inl (sym (same-err why other e))) inr (table-named fences_of_text old.input new.input calm bytes told (Err why) judged other unfenced.refused.1))
+      named other why done.status done.old.to.output done.new.to.output unfenced.refused.2
+      (⊎_elim (λ e. inl (sym (same-err why other e))) inr (table-named fences_of_text done.old.input done.new.input calm bytes told (Err why) judged other unfenced.refused.1))
 
-  good-input : (bytes : List ℕ) (fences : List Fence) → old.input.left ≡ Some bytes → judged_by fences_of_text bytes ≡ Ok fences → (Rose old.input.faults new.input.faults → ⊥) → GoesAlong file old.input new.input old.to new.to status
-      → IsDecidedAlong fences old.to.drive new.to.drive status old.to.output new.to.output
+  good-input : (bytes : List ℕ) (fences : List Fence) → done.old.input.left ≡ Some bytes → judged_by fences_of_text bytes ≡ Ok fences → (Rose done.old.input.faults done.new.input.faults → ⊥) → GoesAlong file done.old.input done.new.input done.old.to done.new.to done.status
+      → IsDecidedAlong fences done.old.to.drive done.new.to.drive done.status done.old.to.output done.new.to.output
   good-input bytes fences told judged calm (inr fenced) =
       let same : fenced.fences ≡ fences = same-ok fenced.fences fences (sym (fenced.read.items_are bytes told) ∙ judged) in
-      subst (λ (fs : List Fence). IsDecidedAlong fs old.to.drive new.to.drive status old.to.output new.to.output) same fenced.ends.decided
+      subst (λ (fs : List Fence). IsDecidedAlong fs done.old.to.drive done.new.to.drive done.status done.old.to.output done.new.to.output) same fenced.ends.decided
   good-input bytes fences told judged calm (inl unfenced) =
       let other = unfenced.refused.0 in
-      let memory : other ≡ refusal.Memory = ⊎_elim (λ e. absurd (ok-err fences other e)) (λ e. e) (table-named fences_of_text old.input new.input calm bytes told (Ok fences) judged other unfenced.refused.1) in
-      let nine : status ≡ 9 = unfenced.refused.2.status_is ∙ ap status_of memory in
+      let memory : other ≡ refusal.Memory = ⊎_elim (λ e. absurd (ok-err fences other e)) (λ e. e) (table-named fences_of_text done.old.input done.new.input calm bytes told (Ok fences) judged other unfenced.refused.1) in
+      let nine : done.status ≡ 9 = unfenced.refused.2.status_is ∙ ap status_of memory in
       record {
         over = λ bytes told crowd steady. inr nine;
         exact = λ bytes fault told shown is none steady. inr nine;
         whole = λ bytes w cells told known recovers few under steady quiet. inr nine;
       }
 
-  pub watches-of : (h : List Entry) → GoesAlong file old.input new.input old.to new.to status → h ≡ [] → new.other ≡ old.other → Watches file old new status h
-  watches-of h goes none other = record {
+  pub watches-of : GoesAlong file done.old.input done.new.input done.old.to done.new.to done.status → done.history ≡ [] → done.new.to.other ≡ done.old.to.other → Watches file done
+  watches-of goes none other = record {
     goes = goes;
     none = none;
     other = other;
     input = λ bytes why told judged calm. bad-input bytes why told judged calm goes;
-    follows = λ bytes fences told judged calm. good-input bytes fences told judged calm goes;
+    log = λ bytes fences told judged calm. good-input bytes fences told judged calm goes;
   }

@@ -2,7 +2,6 @@
 use Rattle.std.specs.Prelude.{◌≡◌, ◌≢◌, ◌⊎◌, ◌+◌, ◌<◌, ◌≤◌, ℕ, List, [], length, Some, Ok, Err, false}
 use Rattle.causes.specs.Causes.{Rose}
 use Rattle.disk_trait.specs.Drive.{Drive, Stays}
-use Rattle.plain_list.specs.declared.entries.Entry.{Entry}
 use Rattle.cell_format.specs.declared.cell.Cell.{Cell}
 use Rattle.log_state.specs.Recovers.{Recovers}
 use Rattle.recovery.specs.Faults.{BeginsWith, IsInBytes}
@@ -14,7 +13,7 @@ use Rattle.csv_rows.specs.declared.rows.Refusal.TheVariants as refusal
 use Rattle.io_edge.specs.Streams.{Input, Output}
 use Rattle.io_edge.specs.Reads.{ConsumesUpTo}
 use Rattle.run_ends.specs.Limits.{most_bytes, most_inspected, oldest_read}
-use Rattle.run_ends.specs.Ends.{Ends, Targets}
+use Rattle.run_ends.specs.Ends.{Ends, Done, Targets}
 use Rattle.run_ends.specs.Taking.{Refuses}
 use Rattle.run_ends.specs.Ending.{EndsRefused}
 use Rattle.run_ends.specs.Attaching.{AttachesOnce}
@@ -94,13 +93,13 @@ GoesAlong file before after old new status = IsUnfenced before after old new sta
 
 -- What `watch` promises. No row is called, and the second drive is left as it was. Bad fences have their refusal, whatever the log is, and with
 -- good ones the log's bytes decide, unless the source's count rose or memory ran out.
-pub record Watches {S D : Type 0} (file : List ℕ) (old new : Ends S D) (status : ℕ) (h : List Entry) : Type 0 where
-  pub goes : GoesAlong file old.input new.input old.to new.to status
-  pub none : h ≡ []
-  pub other : new.other ≡ old.other
-  pub input : (bytes : List ℕ) (why : Refusal) → old.input.left ≡ Some bytes → judged_by fences_of_text bytes ≡ Err why
-      → (Rose old.input.faults new.input.faults → ⊥)
-      → Refuses why status old.to.output new.to.output ⊎ (status ≡ 9)
-  pub follows : (bytes : List ℕ) (fences : List Fence) → old.input.left ≡ Some bytes → judged_by fences_of_text bytes ≡ Ok fences
-      → (Rose old.input.faults new.input.faults → ⊥)
-      → IsDecidedAlong fences old.to.drive new.to.drive status old.to.output new.to.output
+pub record Watches {S D : Type 0} (file : List ℕ) (done : Done (Ends S D)) : Type 0 where
+  pub goes : GoesAlong file done.old.input done.new.input done.old.to done.new.to done.status
+  pub none : done.history ≡ []
+  pub other : done.new.to.other ≡ done.old.to.other
+  pub input : (bytes : List ℕ) (why : Refusal) → done.old.input.left ≡ Some bytes → judged_by fences_of_text bytes ≡ Err why
+      → (Rose done.old.input.faults done.new.input.faults → ⊥)
+      → Refuses why done.status done.old.to.output done.new.to.output ⊎ (done.status ≡ 9)
+  pub log : (bytes : List ℕ) (fences : List Fence) → done.old.input.left ≡ Some bytes → judged_by fences_of_text bytes ≡ Ok fences
+      → (Rose done.old.input.faults done.new.input.faults → ⊥)
+      → IsDecidedAlong fences done.old.to.drive done.new.to.drive done.status done.old.to.output done.new.to.output

@@ -8,7 +8,7 @@ use csv_rows::Refusal;
 use disk_trait::LogDisk;
 use fence_watch::{Fences, Tally, WatchFault};
 use recovery::{OpenRefused, Walk, Walked, width_of};
-use run_ends::{MOST_INSPECTED, Unmade, attach_refusal, log_refusal};
+use run_ends::{MOST_INSPECTED, Unmade, attach, log_refusal};
 use std::alloc::Global;
 
 /// A watch along all cells of a log, and the drive of that log.
@@ -19,7 +19,7 @@ pub(crate) struct Along<D: LogDisk> {
 }
 
 /// Watches the fences along the log in a file of this name, of version 1 or 2.
-pub(crate) fn follow<D: LogDisk>(
+pub(crate) fn watch_file<D: LogDisk>(
     alloc: Global,
     file: &str,
     fences: &Fences,
@@ -29,15 +29,14 @@ pub(crate) fn follow<D: LogDisk>(
         (λ e. RefusesFile fences.now file.now (D.drive disk) (D.drive e.disk) e.why) }
 {
     let mut disk = disk;
-    if let Err(fault) = disk.attach(alloc, file, false) {
-        let why = attach_refusal(fault);
+    if let Err(why) = attach(alloc, file, false, &mut disk) {
         return Err(Unmade { disk, why });
     }
-    follow_attached(alloc, fences, disk)
+    watch_attached(alloc, fences, disk)
 }
 
 // Watches the fences along the log in the file that was attached, by the width that it has.
-fn follow_attached<D: LogDisk>(
+fn watch_attached<D: LogDisk>(
     alloc: Global,
     fences: &Fences,
     disk: D,
@@ -47,7 +46,7 @@ fn follow_attached<D: LogDisk>(
 {
     let mut disk = disk;
     match width_of(&mut disk) {
-        Ok(width) => follow_by(alloc, width, fences, disk),
+        Ok(width) => watch_by(alloc, width, fences, disk),
         Err(fault) => {
             let why = log_refusal(fault);
             Err(Unmade { disk, why })
@@ -56,7 +55,7 @@ fn follow_attached<D: LogDisk>(
 }
 
 // The same by this width.
-fn follow_by<D: LogDisk>(
+fn watch_by<D: LogDisk>(
     alloc: Global,
     width: u8,
     fences: &Fences,
@@ -68,7 +67,7 @@ fn follow_by<D: LogDisk>(
         (λ e. RefusesAttached fences.now (D.drive disk) (D.drive e.disk) e.why) }
 {
     match Walk::start(alloc, disk, width, MOST_INSPECTED) {
-        Ok(walk) => follow_walk(alloc, fences, walk),
+        Ok(walk) => watch_walk(alloc, fences, walk),
         Err(OpenRefused { disk, cause }) => {
             let why = log_refusal(cause);
             Err(Unmade { disk, why })
@@ -77,7 +76,7 @@ fn follow_by<D: LogDisk>(
 }
 
 // The same along a walk that has begun.
-fn follow_walk<D: LogDisk>(
+fn watch_walk<D: LogDisk>(
     alloc: Global,
     fences: &Fences,
     walk: Walk<D>,

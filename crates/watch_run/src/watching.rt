@@ -1,15 +1,15 @@
 //! The command `watch`.
 ghost use Rattle.std.specs.Prelude.{◌≡◌, []};
-ghost use Rattle.run_ends.specs.Ends.{targets};
-ghost use Rattle.watch_run.specs.Watching.{EndsWatching, GoesAlong};
+ghost use Rattle.run_ends.specs.Ends.{done_by, targets};
+ghost use Rattle.watch_run.specs.Watching.{EndsWatching, Watches};
 
 use crate::lines::write_watch;
 use crate::reading::read_watched;
-use crate::walking::{Along, follow};
+use crate::walking::{Along, watch_file};
 use disk_trait::LogDisk;
 use fence_watch::Fences;
 use io_edge::{Sink, Source};
-use run_ends::{Ended, Unmade, refuse_on, without_rows, written};
+use run_ends::{Drives, Ended, Unmade, refuse_on, without_rows, written};
 use std::alloc::Global;
 
 /// Tells who enters and leaves the fences of a source along the log in a file of this name, of version 1 or 2, and how many are inside each
@@ -22,15 +22,13 @@ pub fn watch_log<S: Source, K: Sink, D: LogDisk>(
     file: &str,
     source: &mut S,
     sink: &mut K,
-    disk: D,
+    drives: Drives<D>,
 ) -> Ended<D>
-    ensures goes { GoesAlong file.now (S.input source.old) (S.input source.new) (targets K.output D.drive sink.old disk)
-        (targets K.output D.drive sink.new result.disk) result.status }
-    ensures none { result.events ≡ [] }
+    ensures { Watches file.now (done_by S.input K.output D.drive source.old sink.old drives source.new sink.new result) }
 {
     match read_watched(alloc, source) {
-        Ok(fences) => tell_watch(alloc, file, &fences, sink, disk),
-        Err(why) => refuse_on(alloc, &why, sink, disk),
+        Ok(fences) => tell_watch(alloc, file, &fences, sink, drives),
+        Err(why) => refuse_on(alloc, &why, sink, drives),
     }
 }
 
@@ -40,17 +38,19 @@ fn tell_watch<K: Sink, D: LogDisk>(
     file: &str,
     fences: &Fences,
     sink: &mut K,
-    disk: D,
+    drives: Drives<D>,
 ) -> Ended<D>
-    ensures ends { EndsWatching fences.now file.now (targets K.output D.drive sink.old disk)
-        (targets K.output D.drive sink.new result.disk) result.status }
-    ensures none { result.events ≡ [] }
+    ensures ends { EndsWatching fences.now file.now (targets K.output D.drive sink.old drives)
+        (targets K.output D.drive sink.new result.drives) result.status }
+    ensures none { result.history ≡ [] }
+    ensures other { result.drives.other ≡ drives.other }
 {
-    match follow(alloc, file, fences, disk) {
+    let Drives { disk, other } = drives;
+    match watch_file(alloc, file, fences, disk) {
         Ok(Along { watch, disk }) => {
             let status = written(write_watch(sink, &watch));
-            without_rows(alloc, status, disk)
+            without_rows(alloc, status, Drives { disk, other })
         }
-        Err(Unmade { disk, why }) => refuse_on(alloc, &why, sink, disk),
+        Err(Unmade { disk, why }) => refuse_on(alloc, &why, sink, Drives { disk, other }),
     }
 }

@@ -63,7 +63,7 @@ pub record LeavesLog {D : Type 0} (drive : D → Drive) (w : ℕ) (s : State) (h
   pub disk_is : disk ≡ disk_in log
 
 -- a log of this width that stood on a drive was opened as it was after the attach, and what was found in it; its bytes show no fault
-pub record OpensLog (file : List ℕ) (old start now : Drive) (w : ℕ) (seen : Seen) : Type 0 where
+pub record OpensFile (file : List ℕ) (old start now : Drive) (w : ℕ) (seen : Seen) : Type 0 where
   pub known : IsWidth w
   pub found : IsFound oldest_played w most_played start seen
   pub ready : IsOpened w (found_state seen) start now

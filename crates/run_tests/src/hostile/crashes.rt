@@ -359,14 +359,14 @@ fn judge_whole<R: Abort + Threads + Wait + Sync>(
     judge_last(rt, alloc, start.width, &left);
 }
 
-// How many calls a play makes over the first so many records. The width is found by a length and a read of the head. An append has two
-// writes and two syncs, and there are eight of all records; opening has one sync, and cuts nothing where the log ends with its commit byte.
+// How many calls a play makes over the first so many records. The length is asked for once, and the head is read before the records. An append
+// has two writes and two syncs, and there are eight of all records; opening has one sync, and cuts nothing where the log ends with its commit byte.
 fn play_calls(first: usize) -> [(DiskCall, u64); 6] {
     let writes = 16_u64.saturating_sub(2_u64.saturating_mul(first as u64));
     [
         (DiskCall::Attach, 1),
-        (DiskCall::Len, 2),
-        (DiskCall::Read, 3),
+        (DiskCall::Len, 1),
+        (DiskCall::Read, 2),
         (DiskCall::Write, writes),
         (DiskCall::Cut, 0),
         (DiskCall::Sync, writes.saturating_add(1)),

@@ -30,6 +30,6 @@ returns g c =
     let answered = if-mapped (λ e. e.items) (λ (e : List LaneEnd). IsAnsweredBook g.I.Index.WIDTH rows old new e) c.play_sessions-played.result.ends by.answered in
     let begins = subst IsNewBook (sym moved) c.requires.new in
     let all = ends-book drive g.I.Index.WIDTH report rows old new ends end.status before after c.requires.rows begins by.played answered by.book told.ends by.starts in
-    subst (λ b. EndsBook drive g.I.Index.WIDTH report rows b end.events end.status end.disk before after) moved
-    (subst (λ d. EndsBook drive g.I.Index.WIDTH report rows old end.events end.status d before after) (sym told.disk)
-    (subst (λ h. EndsBook drive g.I.Index.WIDTH report rows old h end.status (disk_in new.log) before after) (sym told.events) all))
+    subst (λ b. EndsBook drive g.I.Index.WIDTH report rows b end.history end.status end.disk before after) moved
+    (subst (λ d. EndsBook drive g.I.Index.WIDTH report rows old end.history end.status d before after) (sym told.disk)
+    (subst (λ h. EndsBook drive g.I.Index.WIDTH report rows old h end.status (disk_in new.log) before after) (sym told.history) all))

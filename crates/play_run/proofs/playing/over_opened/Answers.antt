@@ -22,8 +22,8 @@ has-drive drive w s h old log disk is left = ap is_some left.disk_is ∙ drive-i
 pub with_drive-requires : goal.with_drive-requires
 with_drive-requires g c =
     let book = c.in-Ok.book in
-    let end = c.play_and_tell-end in
-    has-drive g.D.LogDisk.drive g.I.Index.WIDTH book.opening end.result.events book.log _ end.result.disk c.in-Ok.ensures.log end.ensures.log
+    let end = c.play_and_tell-told in
+    has-drive g.D.LogDisk.drive g.I.Index.WIDTH book.opening end.result.history book.log _ end.result.disk c.in-Ok.ensures.log end.ensures.log
 
 pub returns-in-Ok : goal.returns-in-Ok
 returns-in-Ok g c =
@@ -35,12 +35,14 @@ returns-in-Ok g c =
     let rows = c.args.rows.now in
     let report = c.args.report in
     let before = g.K.Sink.output c.args.sink.now in
-    let after = g.K.Sink.output c.play_and_tell-end.new.sink in
+    let after = g.K.Sink.output c.play_and_tell-told.new.sink in
     record {
       plays = λ file disk opens.
-          inr (answered-over drive report file w c.args.size rows book disk end.disk before after end.status end.events
+          rw c.with_drive.ensures.other
+          (inr (answered-over drive report file w c.args.size rows book disk end.drives.disk c.args.other before after end.status end.history
           (opens-book drive file (drive disk) w c.args.size book _ opened.seen opened.start.value (drive opened.log.disk) opens refl refl c.requires.log.0 c.in-Ok.ensures.opening.0 c.in-Ok.ensures.opening.1 c.in-Ok.ensures.log)
-          (subst (λ p. EndsBook drive w report rows book p.events p.status p.disk before after) c.with_drive.ensures c.play_and_tell-end.ensures));
+          (subst (λ p. EndsBook drive w report rows book p.history p.status p.disk before after) c.with_drive.ensures.told c.play_and_tell-told.ensures)));
+      other = c.with_drive.ensures.other;
     }
 
 pub returns-in-Err : goal.returns-in-Err
@@ -48,9 +50,11 @@ returns-in-Err g c =
     let drive = g.D.LogDisk.drive in
     let unmade = c.in-Err.field-0 in
     let opened = c.args.opened in
+    let told = c.refuse_on.ensures in
     record {
       plays = λ file disk opens.
-          let back = ap drive (c.refuse_on.ensures.disk ∙ c.in-Err.ensures.back.0) in
-          let not = memory-refused file (drive disk) (drive opened.start.value) (drive opened.log.disk) (drive c.refuse_on.result.disk) g.I.Index.WIDTH opened.seen unmade.why opens back c.in-Err.ensures.back.1 in
-          inl (record { none = c.refuse_on.ensures.none; refused = (unmade.why, not, c.refuse_on.ensures.refused) });
+          let back = ap drive c.in-Err.ensures.back.0 in
+          let not = memory-refused file (drive disk) (drive opened.start.value) (drive opened.log.disk) (drive unmade.disk) g.I.Index.WIDTH opened.seen unmade.why opens back c.in-Err.ensures.back.1 in
+          rw told.drives (inl (record { none = told.none; refused = (unmade.why, not, told.refused) }));
+      other = rw told.drives refl;
     }

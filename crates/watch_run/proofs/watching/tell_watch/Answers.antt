@@ -6,9 +6,10 @@ pub returns-in-Ok-clause-ends : goal.returns-in-Ok-clause-ends
 returns-in-Ok-clause-ends g c =
     let at = targets g.K.Sink.output g.D.LogDisk.drive in
     let along = c.in-Ok.field-0 in
+    let drives = c.args.drives in
     rw c.without_rows.ensures
     (rw c.written-status.ensures
-    (watched-all c.args.fences.now c.args.file.now (at c.args.sink.now c.args.disk) (at c.write_watch.new.sink along.disk) along.watch c.write_watch.result c.in-Ok.ensures.along
+    (watched-all c.args.fences.now c.args.file.now (at c.args.sink.now drives) (at c.write_watch.new.sink (record { disk = along.disk; other = drives.other })) along.watch c.write_watch.result c.in-Ok.ensures.along
     c.write_watch.ensures.bytes c.write_watch.ensures.cause))
 
 pub returns-in-Err-clause-ends : goal.returns-in-Err-clause-ends
@@ -16,5 +17,6 @@ returns-in-Err-clause-ends g c =
     let at = targets g.K.Sink.output g.D.LogDisk.drive in
     let unmade = c.in-Err.field-0 in
     let told = c.refuse_on.ensures in
-    rw told.disk
-    (watched-none c.args.fences.now c.args.file.now (at c.args.sink.now c.args.disk) (at c.refuse_on.new.sink unmade.disk) unmade.why c.refuse_on.result.status c.in-Err.ensures.along told.refused)
+    let drives = c.args.drives in
+    rw told.drives
+    (watched-none c.args.fences.now c.args.file.now (at c.args.sink.now drives) (at c.refuse_on.new.sink (record { disk = unmade.disk; other = drives.other })) unmade.why c.refuse_on.result.status c.in-Err.ensures.along told.refused)

@@ -1,11 +1,11 @@
 use Rattle.watch_run.proofs.Stops.{fails-start, refuses-fault}
 use Rattle.watch_run.proofs.Alongs.{calm-reads, match-as, refused-later, runs-later}
-use Rattle.watch_run.proofs.walking.follow_by.Goals as goal
+use Rattle.watch_run.proofs.walking.watch_by.Goals as goal
 
 pub returns-in-Ok : goal.returns-in-Ok
 returns-in-Ok g c =
     let calm = calm-reads _ _ _ c.in-Ok.ensures.reads in
-    record { along = match-as c.follow_walk.result (λ a runs. runs-later c.args.fences.now _ _ _ calm _ runs) (λ e refused. refused-later c.args.fences.now _ _ _ calm _ refused) c.follow_walk.ensures.along }
+    record { along = match-as c.watch_walk.result (λ a runs. runs-later c.args.fences.now _ _ _ calm _ runs) (λ e refused. refused-later c.args.fences.now _ _ _ calm _ refused) c.watch_walk.ensures.along }
 
 pub returns-in-Err : goal.returns-in-Err
 returns-in-Err g c =

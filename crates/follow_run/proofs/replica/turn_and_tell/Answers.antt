@@ -5,7 +5,7 @@ use Rattle.csv_rows.specs.declared.rows.Refusal.{Refusal}
 use Rattle.run_ends.specs.Taking.{Refuses}
 use Rattle.follow_run.specs.Lines.{reports_text}
 use Rattle.follow_run.proofs.ReplicaFacts.{plays-told, plays-stopped}
-use Rattle.follow_run.proofs.replica.play_and_tell.Goals as goal
+use Rattle.follow_run.proofs.replica.turn_and_tell.Goals as goal
 
 pub returns-in-Ok-clause-ends : goal.returns-in-Ok-clause-ends
 returns-in-Ok-clause-ends g c =
@@ -23,6 +23,6 @@ returns-in-Err-clause-ends g c =
     let before = g.K.Sink.output c.args.sink.now in
     let after = g.K.Sink.output c.refuse_on.new.sink in
     let stopped = c.in-Err.field-0 in
-    rw c.refuse_on.ensures.disk
+    rw c.refuse_on.ensures.drives
     (plays-stopped c.args.follower.width c.args.cells.now c.args.follower.state.held c.args.turns.now (g.D.LogDisk.drive c.args.follower.disk) (g.D.LogDisk.drive stopped.disk) before after stopped.fault c.refuse_on.result.status c.in-Err.ensures.stopped
     (subst (λ (r : Refusal). Refuses r c.refuse_on.result.status before after) c.follow_refusal-why.ensures c.refuse_on.ensures.refused))
