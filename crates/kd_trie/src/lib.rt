@@ -2,9 +2,8 @@
 //!
 //! Contracts see a `KdTrie` as the list of its leaves, as the trait says. `share` copies two pointers. A change in place goes
 //! down to its leaf by the bits of a key; what another trie shares on that path is copied, and no more. Then it takes its
-//! step, and writes. `replaced` and `split` are a share and the same change on it. Each pair of nodes keeps how many rows are
-//! below it, so `count_below` looks at one node. The first bits, along which a trie has no branch, are kept as one list (the
-//! stem) and not as nodes, so no change below it copies them. It is lengthened behind some changes in turn that could have.
+//! step, and writes. `replaced` and `split` are a share and the same change on it. The first bits, along which a trie has no
+//! branch, are kept as one list (the stem) and not as nodes, so no change below it copies them.
 //!
 //! Not here: which leaves there are to be (`index_build`, `commit_book`), the rows of a bucket (`bucket_versions`).
 #![tactic(auto)]
