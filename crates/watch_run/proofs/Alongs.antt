@@ -70,7 +70,7 @@ module _ {D : Type 0} (w : ℕ) (known : IsWidth w) (fences : List Fence) (first
     behind-free (fault.OldLog version width) rose behind bytes told is crowd = absurd behind
     behind-free (fault.Damaged n why) rose behind bytes told is crowd =
         let at = begins-there w have.cells now walk have.came bytes told in
-        absurd (never (crowd-damaged fences bytes crowd walk.reading.replay.version w have.cells at.0 n why at.1 behind is))
+        absurd (never (crowd-damaged fences bytes crowd walk.reading.replay.version w have.cells at.0 n why at.1 behind.0 is))
     behind-free (fault.TooLong limit) rose behind bytes told is crowd =
         let at = begins-there w have.cells now walk have.came bytes told in
         absurd (never (crowd-long fences bytes crowd walk.reading.replay.version w have.cells at.0 at.1 behind.1 is.1))
