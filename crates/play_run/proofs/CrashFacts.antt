@@ -9,7 +9,7 @@ use Rattle.plain_list.specs.State.{State}
 use Rattle.plain_list.specs.History.{failed_cell}
 use Rattle.disk_trait.specs.Drive.{Drive, HasNoMore, Stays, IsSynced}
 use Rattle.disk_trait.specs.Moments.{LeavesNow, LeavesSince}
-use Rattle.split_log.specs.LogText.{IsLog}
+use Rattle.recovery.specs.LogText.{IsLog}
 use Rattle.log_state.specs.Recovers.{Recovers}
 use Rattle.log_state.specs.Changes.{cells_of, failed_cells, IsPrefixRecovered}
 use Rattle.log_state.specs.Keeps.{KeepsHistory}

@@ -7,7 +7,7 @@ use Rattle.plain_list.specs.World.{World}
 use Rattle.plain_list.specs.declared.entries.Entry.{Entry}
 use Rattle.disk_trait.specs.Drive.{Drive, IsSynced}
 use Rattle.disk_trait.specs.Moments.{LeavesNow, LeavesSince}
-use Rattle.split_log.specs.LogText.{IsLog}
+use Rattle.recovery.specs.LogText.{IsLog}
 use Rattle.log_state.specs.Recovers.{Recovers, state_of}
 use Rattle.log_state.specs.Changes.{cells_of, failed_cells, IsWhollyRecovered}
 use Rattle.play_run.specs.Origin.{Origin}
