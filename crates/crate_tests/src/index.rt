@@ -6,7 +6,7 @@ mod buckets;
 mod builds;
 mod calls;
 mod changes;
-mod never;
+pub(crate) mod never;
 mod queries;
 mod spread;
 mod ties;
