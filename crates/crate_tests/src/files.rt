@@ -73,15 +73,15 @@ fn keeps_what_is_written<R: Abort + Files + AllocGlobal, D: LogDisk + Send>(
     is_read_back(rt, disk, name);
 }
 
-// Two drives read it. Neither changes it, until the other lets go of it; from then on no third one reads it.
+// Two drives read it. One that would change it is refused, and then holds nothing: so the other one changes it, and from then on no third one
+// reads it.
 fn has_one_writer<R: Abort + AllocGlobal, D: LogDisk>(rt: &R, drives: [D; 3], name: &str) {
     let [mut first, mut second, mut third] = drives;
     assert_is!(rt; attach(&mut first, rt.alloc(), name, true).is_ok());
     assert_is!(rt; attach(&mut second, rt.alloc(), name, false).is_ok());
     is_refused(rt, &mut first);
-    is_refused(rt, &mut second);
-    drop(second);
-    first.write(0, b"ab").expect(rt, "no write");
+    second.write(0, b"ab").expect(rt, "no write");
+    assert_is!(rt; first.sync().is_err());
     assert_is!(rt; matches!(attach(&mut third, rt.alloc(), name, false), Err(AttachFault::Disk)));
 }
 

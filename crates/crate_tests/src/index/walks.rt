@@ -9,7 +9,7 @@ use kd_trie::KdTrie;
 use quad_trie::QuadTrie;
 use std::alloc::Global;
 use std::process::Abort;
-use zorder::{Memory, Name, Placed, Point, child};
+use zorder::{Memory, Name, Placed, Point, begins, child};
 
 // The keys of the objects: their first bits are 000 and 001.
 const FIRST: u64 = 0;
@@ -105,7 +105,8 @@ fn begins_at<I: Index>(rt: &impl Abort, alloc: Global, both: Name, first: Name, 
     begins_between(rt, &index, both);
     begins_over_all(rt, &index, all);
     let (at_first, behind) = (index.reach(FIRST, FIRST).0, index.reach(SECOND, BESIDE).0);
-    assert_same!(rt; [at_first, behind], [first, Name::whole()]);
+    assert_same!(rt; at_first, first);
+    assert_is!(rt; begins(&behind, SECOND) && begins(&behind, BESIDE));
 }
 
 fn begins_between<I: Index>(rt: &impl Abort, index: &I, both: Name) {
