@@ -1,5 +1,5 @@
 -- Places in a trie whose pairs count their rows, and how many there are below a name.
-use Rattle.std.proofs.Common.{◌≡◌, ◌-◌, ◌^◌, ◌<◌, ◌⊎◌, inl, inr, ℕ, Bool, true, List, [], ◌∷◌, ◌++◌, length, min, Some, refl, sym, ◌∙◌, ap, arith}
+use Rattle.std.proofs.Common.{◌≡◌, ◌-◌, ◌^◌, ◌⊎◌, inl, inr, ℕ, Bool, true, List, [], ◌∷◌, ◌++◌, length, min, Some, refl, sym, ◌∙◌, ap, arith}
 use Rattle.std.specs.Cmp.{first_so, second_so}
 use mathlib.Core.Bool.{true≢false}
 use Rattle.index_layer.specs.Leaves.{all_rows}
@@ -12,17 +12,17 @@ use Rattle.kd_trie.specs.Nodes.{seen, is_counted, StandsFor}
 use Rattle.kd_trie.specs.Stems.{way_of, stem_over, GoesPast, Passing, all_bare}
 use Rattle.kd_trie.proofs.StemWalks.{parts_of, reach-way, bare-back}
 
-pub with-count : (name stem : List Bool) (w : Trie) (n : Node) → GoesPast name stem ⊎ (reach name w ≡ Some (seen n)) → is_counted n ≡ true → GoesPast name stem ⊎ StandsFor name w n
-with-count name stem w n (inl past) c = inl past
-with-count name stem w n (inr e) c = inr (record { at = e; counted = c })
+pub with-count : (hold : Bool) (name stem : List Bool) (w : Trie) (n : Node) → GoesPast name stem ⊎ (reach name w ≡ Some (seen n)) → (hold ≡ true → is_counted n ≡ true) → GoesPast name stem ⊎ StandsFor hold name w n
+with-count hold name stem w n (inl past) c = inl past
+with-count hold name stem w n (inr e) c = inr (record { at = e; counted = c })
 
-pub stands-at : (name stem : List Bool) (w : Trie) (n : Node) → GoesPast name stem ⊎ StandsFor name w n → GoesPast name stem ⊎ (reach name w ≡ Some (seen n))
-stands-at name stem w n (inl past) = inl past
-stands-at name stem w n (inr s) = inr s.at
+pub stands-at : (hold : Bool) (name stem : List Bool) (w : Trie) (n : Node) → GoesPast name stem ⊎ StandsFor hold name w n → GoesPast name stem ⊎ (reach name w ≡ Some (seen n))
+stands-at hold name stem w n (inl past) = inl past
+stands-at hold name stem w n (inr s) = inr s.at
 
-pub stands-for : (name stem : List Bool) (w : Trie) (n : Node) → (GoesPast name stem → ⊥) → GoesPast name stem ⊎ StandsFor name w n → StandsFor name w n
-stands-for name stem w n never (inl past) = absurd (never past)
-stands-for name stem w n never (inr s) = s
+pub stands-for : (hold : Bool) (name stem : List Bool) (w : Trie) (n : Node) → (GoesPast name stem → ⊥) → GoesPast name stem ⊎ StandsFor hold name w n → StandsFor hold name w n
+stands-for hold name stem w n never (inl past) = absurd (never past)
+stands-for hold name stem w n never (inr s) = s
 
 -- a leaf has no pair
 bare-counted : (n : Node) → is_bare (seen n) ≡ true → is_counted n ≡ true
@@ -49,6 +49,6 @@ rows-past name stem sides t named e past =
     let at : reach name (stem_over sides t) ≡ Some (stem_over p.back t) = (λ i. reach (p.named i) (stem_over (p.is i) t)) ∙ reach-way p.front p.back t in
     rows-reached name (stem_over sides t) (stem_over p.back t) at ∙ rows-stem p.back t (bare-back p.front p.back (ap all_bare (sym p.is) ∙ e))
 
--- a count that fits is not cut off
-pub uncut : (r n all : ℕ) → r < 2 ^ 64 → r ≡ n → all ≡ n → r ≡ min all (2 ^ 64 - 1)
-uncut r n all fits is same = omega arith
+-- a count of as many rows, cut off where it doesn't fit
+pub same-cut : (r n all : ℕ) → r ≡ min n (2 ^ 64 - 1) → all ≡ n → r ≡ min all (2 ^ 64 - 1)
+same-cut r n all is same = is ∙ ap (λ (m : ℕ). min m (2 ^ 64 - 1)) (sym same)

@@ -70,7 +70,7 @@ half-rows p true = omega arith
 half-rows p false = omega arith
 
 -- what is known of a pair on a way, and of the half that the way goes on with
-module _ (t u : Trie) (a p q : Pair) (bit : Bool) (n : Node) (was : t ≡ fork (seen a.zero) (seen a.one)) (counted : counts a ≡ true) (owned : (p ≡ a) ⊎ Copies a p) (half : u ≡ half_of p bit) (made : Made p bit n q) (below : is_counted n ≡ true) where
+module _ (t u : Trie) (a p q : Pair) (bit : Bool) (n : Node) (was : t ≡ fork (seen a.zero) (seen a.one)) (owned : (p ≡ a) ⊎ Copies a p) (half : u ≡ half_of p bit) (made : Made p bit n q) where
   same : t ≡ fork (seen p.zero) (seen p.one)
   same = was ∙ sym (go owned)
     where
@@ -78,27 +78,38 @@ module _ (t u : Trie) (a p q : Pair) (bit : Bool) (n : Node) (was : t ≡ fork (
       go (inl e) = λ i. fork (seen (e i).zero) (seen (e i).one)
       go (inr e) = λ i. fork (e.zero i) (e.one i)
 
-  here : counts p ≡ true
-  here = counts-owned owned counted
-
   some : rows_in u ≤ rows_in t
   some = omega (arith, ap rows_in half, half-rows p bit, ap rows_in same)
 
   sums : rows_in (fork (seen q.zero) (seen q.one)) + rows_in u ≡ rows_in t + rows_in (seen n)
   sums = omega (arith, rows-made p q bit n u half made, ap rows_in same)
 
-  pub counted-more : {A E : Type 0} (r : Result A E) → rows_in (seen n) ≡ rows_in u + once_if r → q.count ≡ p.count + once_if r
-      → (counts q ≡ true) × (rows_in (fork (seen q.zero) (seen q.one)) ≡ rows_in t + once_if r)
-  counted-more r more count = (counts-with p q bit n u here half made below (omega (arith, more, count)), omega (arith, sums, more))
+  pub rows-more : {A E : Type 0} (r : Result A E) → rows_in (seen n) ≡ rows_in u + once_if r → rows_in (fork (seen q.zero) (seen q.one)) ≡ rows_in t + once_if r
+  rows-more r more = omega (arith, sums, more)
 
-  pub counted-less : {A E : Type 0} (r : Result A E) → rows_in (seen n) + once_if r ≡ rows_in u → q.count ≡ p.count - once_if r
-      → (counts q ≡ true) × (rows_in (fork (seen q.zero) (seen q.one)) + once_if r ≡ rows_in t)
-  counted-less r less count =
-      let all : p.count ≡ rows_in (fork (seen p.zero) (seen p.one)) = (counts-parts p here).count in
-      (counts-with p q bit n u here half made below (omega (arith, less, count, some, all, ap rows_in same)), omega (arith, sums, less))
+  pub rows-less : {A E : Type 0} (r : Result A E) → rows_in (seen n) + once_if r ≡ rows_in u → rows_in (fork (seen q.zero) (seen q.one)) + once_if r ≡ rows_in t
+  rows-less r less = omega (arith, sums, less)
 
-  pub counted-same : rows_in (seen n) ≡ rows_in u → q.count ≡ p.count → (counts q ≡ true) × (rows_in (fork (seen q.zero) (seen q.one)) ≡ rows_in t)
-  counted-same even count = (counts-with p q bit n u here half made below (omega (arith, even, count)), omega (arith, sums, even))
+  pub rows-even : rows_in (seen n) ≡ rows_in u → rows_in (fork (seen q.zero) (seen q.one)) ≡ rows_in t
+  rows-even even = omega (arith, sums, even)
+
+  module _ (counted : counts a ≡ true) where
+    here : counts p ≡ true
+    here = counts-owned owned counted
+
+    pub counted-more : {A E : Type 0} (r : Result A E) → OnOk r (is_counted n ≡ true) → rows_in (seen n) ≡ rows_in u + once_if r → q.count ≡ p.count + 1 → OnOk r (counts q ≡ true)
+    counted-more (Err e) below more count = tt
+    counted-more (Ok x) below more count = counts-with p q bit n u here half made below (omega (arith, more, count))
+
+    pub counted-less : {A E : Type 0} (r : Result A E) → OnOk r (is_counted n ≡ true) → rows_in (seen n) + once_if r ≡ rows_in u → q.count ≡ p.count - 1 → OnOk r (counts q ≡ true)
+    counted-less (Err e) below less count = tt
+    counted-less (Ok x) below less count =
+        let all : p.count ≡ rows_in (fork (seen p.zero) (seen p.one)) = (counts-parts p here).count in
+        counts-with p q bit n u here half made below (omega (arith, less, count, some, all, ap rows_in same))
+
+    pub counted-even : {A E : Type 0} (r : Result A E) → OnOk r (is_counted n ≡ true) → rows_in (seen n) ≡ rows_in u → q.count ≡ p.count → OnOk r (counts q ≡ true)
+    counted-even (Err e) below even count = tt
+    counted-even (Ok x) below even count = counts-with p q bit n u here half made below (omega (arith, even, count))
 
 -- how many rows there may be where a trie takes the place of a leaf
 rows-graft : (path : List Bool) (s t : Trie) → rows_in (graft path s t) ≤ rows_in t + rows_in s

@@ -28,7 +28,7 @@ pub record Copies (pair copy : Pair) : Type 0 where
 abbrev pub twins : Rows → Rows → Trie
 twins a b = fork (tip a) (tip b)
 
--- a name leads to what a node holds, which counts its rows
-pub record StandsFor (name : List Bool) (t : Trie) (n : Node) : Type 0 where
+-- a name leads to what a node holds, which counts its rows where counts hold
+pub record StandsFor (hold : Bool) (name : List Bool) (t : Trie) (n : Node) : Type 0 where
   pub at : reach name t ≡ Some (seen n)
-  pub counted : is_counted n ≡ true
+  pub counted : hold ≡ true → is_counted n ≡ true

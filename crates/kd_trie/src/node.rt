@@ -1,5 +1,5 @@
 //! Nodes: a leaf's bucket, or two halves.
-ghost use Rattle.std.specs.Prelude.{◌≡◌, ◌≤◌, ◌+◌, Some, true, length, IfOk, OnOk, OnErr};
+ghost use Rattle.std.specs.Prelude.{◌≡◌, ◌≤◌, ◌+◌, ◌-◌, ◌^◌, min, Some, true, length, IfOk, IfSome, OnOk, OnErr};
 ghost use Rattle.std.specs.Arc.{arc_value};
 ghost use Rattle.std.specs.Borrow.{sem};
 ghost use Rattle.zorder.specs.Bits.{low_bits};
@@ -119,6 +119,53 @@ pub(crate) fn graft<C: Commit>(
     }
 }
 
+/// How many rows there are, at most what 64 bits hold, by the leaves alone.
+pub(crate) fn tally(node: &Node) -> u64
+    ensures { result ≡ min (rows_in (seen node.now)) (2 ^ 64 - 1) }
+{
+    match node {
+        Node::Leaf(bucket) => bucket.count(),
+        Node::Inner(pair) => tally(&pair.zero).saturating_add(tally(&pair.one)),
+    }
+}
+
+// How many rows there are, if the counts of all pairs are right.
+fn told(node: &Node) -> Option<u64>
+    ensures { IfSome result (λ n. (is_counted node.now ≡ true) × (n ≡ rows_in (seen node.now))) }
+{
+    match node {
+        Node::Leaf(bucket) => Some(bucket.count()),
+        Node::Inner(pair) => {
+            let zero = told(&pair.zero)?;
+            let one = told(&pair.one)?;
+            let count = zero.checked_add(one)?;
+            if count == pair.count {
+                Some(count)
+            } else {
+                None
+            }
+        }
+    }
+}
+
+/// An equal node whose counts are right. What is right below this one is shared.
+pub(crate) fn recounted(alloc: Global, node: &Node) -> Result<Node, AllocError>
+    ensures { IfOk result (λ n. (seen n ≡ seen node.now) × (is_counted n ≡ true)) }
+{
+    if told(node).is_some() {
+        return node.share();
+    }
+    match node {
+        Node::Leaf(_) => node.share(),
+        Node::Inner(pair) => {
+            let zero = recounted(alloc, &pair.zero)?;
+            let one = recounted(alloc, &pair.one)?;
+            let count = zero.count().checked_add(one.count()).ok_or(AllocError)?;
+            Ok(Node::Inner(Arc::new(alloc, Pair { zero, one, count })?))
+        }
+    }
+}
+
 /// Two leaves of these buckets.
 pub(crate) fn twins(alloc: Global, zero: Arc<Bucket>, one: Arc<Bucket>) -> Result<Node, AllocError>
     ensures { IfOk result (λ node. (seen node ≡ twins (arc_value zero) (arc_value one)) × (is_counted node ≡ true)) }
@@ -153,9 +200,8 @@ pub(crate) fn leaf_of(node: &Node, key: u64, left: u8) -> (u8, &Arc<Bucket>)
 /// Goes down while two keys go on with the same bit: how many of their bits are left there, and the node.
 pub(crate) fn agreed(node: &Node, from: u64, to: u64, left: u8) -> (u8, &Node)
     requires fits { Fits left (seen node.now) }
-    requires counted { is_counted node.now ≡ true }
     ensures agrees { Agrees from to left result.0 (seen node.now) (seen result.1.now) }
-    ensures counted { is_counted result.1.now ≡ true }
+    ensures counted { is_counted node.now ≡ true → is_counted result.1.now ≡ true }
     ensures rest { result.0 ≤ left }
 {
     let Node::Inner(pair) = node else {

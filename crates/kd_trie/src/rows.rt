@@ -1,5 +1,8 @@
 //! Rows that are put, taken and moved in a trie that is changed in place.
-ghost use Rattle.std.specs.Prelude.{◌≡◌, ◌+◌, ◌-◌, ◌<◌, ◌^◌, true, false, length, IfOk, OnOk, OnErr};
+//!
+//! Each pair's count is written on the way down, so that the way is a loop: a change that fails behind that leaves counts wrong, which
+//! who called it makes anew.
+ghost use Rattle.std.specs.Prelude.{◌≡◌, ◌+◌, true, false, length, IfOk, OnOk, OnErr};
 ghost use Rattle.std.specs.Arc.{arc_value};
 ghost use Rattle.bucket_versions.specs.Rows.{has_row, after_gone};
 ghost use Rattle.bucket_versions.specs.Told.{Told};
@@ -12,29 +15,6 @@ use bit_trie::{Coming, Going, next_bit, pass_there, put_there, shift_there, take
 use bucket_versions::{Bucket, Commit, RowChange, Undone, own};
 use std::sync::Arc;
 
-// A count of rows with one more, if a change has succeeded.
-#[inline(always)]
-fn with_more(count: u64, to: &Coming) -> u64
-    requires { count < 2 ^ 64 - 1 }
-    ensures { result ≡ count + once_if to.now.ended }
-{
-    match to.ended {
-        Ok(_) => count + 1,
-        Err(_) => count,
-    }
-}
-
-// A count of rows with one less, if a change has succeeded.
-#[inline(always)]
-fn with_less<T: Drop>(count: u64, ended: &Result<T, Undone>) -> u64
-    ensures { result ≡ count - once_if ended.now }
-{
-    match ended {
-        Ok(_) => count.saturating_sub(1),
-        Err(_) => count,
-    }
-}
-
 /// Adds a row to the leaf that the last `left` bits of its key lead to, once the step has succeeded.
 pub(crate) fn put_row<C: Commit>(node: &mut Node, to: &mut Coming, left: u8, commit: &mut C)
     requires can { C.can commit.old }
@@ -44,7 +24,8 @@ pub(crate) fn put_row<C: Commit>(node: &mut Node, to: &mut Coming, left: u8, com
     ensures ok { OnOk to.new.ended (seen node.new ≡ put_under left to.old.change (seen node.old)) }
     ensures count { IfOk to.new.ended (λ n. n ≡ count_under left to.old.change.row (seen node.new)) }
     ensures err { OnErr to.new.ended (seen node.new ≡ seen node.old) }
-    ensures counted { (is_counted node.new ≡ true) × (rows_in (seen node.new) ≡ rows_in (seen node.old) + once_if to.new.ended) }
+    ensures counted { OnOk to.new.ended (is_counted node.new ≡ true) }
+    ensures rows { rows_in (seen node.new) ≡ rows_in (seen node.old) + once_if to.new.ended }
     ensures told { Told C.done C.lost commit.old commit.new to.new.ended }
 {
     match node {
@@ -54,13 +35,13 @@ pub(crate) fn put_row<C: Commit>(node: &mut Node, to: &mut Coming, left: u8, com
                 to.ended = Err(Undone::Memory);
                 return;
             };
-            if pair.count == u64::MAX {
+            let Some(more) = pair.count.checked_add(1) else {
                 to.ended = Err(Undone::Memory);
                 return;
-            }
+            };
+            pair.count = more;
             let half = half(pair, next_bit(to.change.row.key, left));
             put_row(half, to, left - 1, commit);
-            pair.count = with_more(pair.count, to);
         }
     }
 }
@@ -73,7 +54,8 @@ pub(crate) fn take_row<C: Commit>(node: &mut Node, from: &mut Going, left: u8, c
     requires counted { is_counted node.old ≡ true }
     ensures ok { OnOk from.new.ended (seen node.new ≡ gone_under left from.old.change (seen node.old)) }
     ensures err { OnErr from.new.ended (seen node.new ≡ seen node.old) }
-    ensures counted { (is_counted node.new ≡ true) × (rows_in (seen node.new) + once_if from.new.ended ≡ rows_in (seen node.old)) }
+    ensures counted { OnOk from.new.ended (is_counted node.new ≡ true) }
+    ensures rows { rows_in (seen node.new) + once_if from.new.ended ≡ rows_in (seen node.old) }
     ensures told { Told C.done C.lost commit.old commit.new from.new.ended }
 {
     match node {
@@ -83,9 +65,9 @@ pub(crate) fn take_row<C: Commit>(node: &mut Node, from: &mut Going, left: u8, c
                 from.ended = Err(Undone::Memory);
                 return;
             };
+            pair.count = pair.count.saturating_sub(1);
             let half = half(pair, next_bit(from.change.row.key, left));
             take_row(half, from, left - 1, commit);
-            pair.count = with_less(pair.count, &from.ended);
         }
     }
 }
@@ -105,7 +87,8 @@ pub(crate) fn shift_row<C: Commit>(
     ensures ok { OnOk to.new.ended (seen node.new ≡ put_under left to.old.change (gone_under left from.now (seen node.old))) }
     ensures count { IfOk to.new.ended (λ n. n ≡ count_under left to.old.change.row (seen node.new)) }
     ensures err { OnErr to.new.ended (seen node.new ≡ seen node.old) }
-    ensures counted { (is_counted node.new ≡ true) × (rows_in (seen node.new) ≡ rows_in (seen node.old)) }
+    ensures counted { OnOk to.new.ended (is_counted node.new ≡ true) }
+    ensures rows { rows_in (seen node.new) ≡ rows_in (seen node.old) }
     ensures told { Told C.done C.lost commit.old commit.new to.new.ended }
 {
     match node {
@@ -147,8 +130,10 @@ fn pass_row<C: Commit>(
     ensures ok { OnOk to.new.ended ((seen node.new ≡ gone_under left from.now (seen node.old)) × (seen other.new ≡ put_under other_left to.old.change (seen other.old))) }
     ensures count { IfOk to.new.ended (λ n. n ≡ count_under other_left to.old.change.row (seen other.new)) }
     ensures err { OnErr to.new.ended ((seen node.new ≡ seen node.old) × (seen other.new ≡ seen other.old)) }
-    ensures counted { (is_counted node.new ≡ true) × (rows_in (seen node.new) + once_if to.new.ended ≡ rows_in (seen node.old)) }
-    ensures other { (is_counted other.new ≡ true) × (rows_in (seen other.new) ≡ rows_in (seen other.old) + once_if to.new.ended) }
+    ensures counted { OnOk to.new.ended (is_counted node.new ≡ true) }
+    ensures rows { rows_in (seen node.new) + once_if to.new.ended ≡ rows_in (seen node.old) }
+    ensures other_counted { OnOk to.new.ended (is_counted other.new ≡ true) }
+    ensures other_rows { rows_in (seen other.new) ≡ rows_in (seen other.old) + once_if to.new.ended }
     ensures told { Told C.done C.lost commit.old commit.new to.new.ended }
 {
     match node {
@@ -158,9 +143,9 @@ fn pass_row<C: Commit>(
                 to.ended = Err(Undone::Memory);
                 return;
             };
+            pair.count = pair.count.saturating_sub(1);
             let half = half(pair, next_bit(from.row.key, left));
             pass_row(half, from, left - 1, other, to, other_left, commit);
-            pair.count = with_less(pair.count, &to.ended);
         }
     }
 }
@@ -181,7 +166,8 @@ fn pass_on<C: Commit>(
     ensures ok { OnOk to.new.ended ((arc_value leaf.new ≡ after_gone from.now (arc_value leaf.old)) × (seen node.new ≡ put_under left to.old.change (seen node.old))) }
     ensures count { IfOk to.new.ended (λ n. n ≡ count_under left to.old.change.row (seen node.new)) }
     ensures err { OnErr to.new.ended ((arc_value leaf.new ≡ arc_value leaf.old) × (seen node.new ≡ seen node.old)) }
-    ensures counted { (is_counted node.new ≡ true) × (rows_in (seen node.new) ≡ rows_in (seen node.old) + once_if to.new.ended) }
+    ensures counted { OnOk to.new.ended (is_counted node.new ≡ true) }
+    ensures rows { rows_in (seen node.new) ≡ rows_in (seen node.old) + once_if to.new.ended }
     ensures leaf { length (arc_value leaf.new).rows + once_if to.new.ended ≡ length (arc_value leaf.old).rows }
     ensures told { Told C.done C.lost commit.old commit.new to.new.ended }
 {
@@ -192,13 +178,13 @@ fn pass_on<C: Commit>(
                 to.ended = Err(Undone::Memory);
                 return;
             };
-            if pair.count == u64::MAX {
+            let Some(more) = pair.count.checked_add(1) else {
                 to.ended = Err(Undone::Memory);
                 return;
-            }
+            };
+            pair.count = more;
             let half = half(pair, next_bit(to.change.row.key, left));
             pass_on(leaf, from, half, to, left - 1, commit);
-            pair.count = with_more(pair.count, to);
         }
     }
 }

@@ -44,7 +44,9 @@ pub(crate) struct Stemmed {
     pub(crate) root: Node,
     /// Of how many changes, of late, each could have lengthened the stem.
     pub(crate) waited: u8,
-    ghost counted: { is_counted root ≡ true },
+    /// Whether the counts of all pairs are right: not behind a change that failed on its way, if there was no memory to make them anew.
+    pub(crate) counts_hold: bool,
+    ghost counted: { counts_hold ≡ true → is_counted root ≡ true },
 }
 
 impl Stem {
@@ -204,9 +206,8 @@ pub(crate) fn stretch(
 
 /// Goes down while exactly one half is a leaf without rows.
 pub(crate) fn narrowed(name: Name, node: &Node) -> (Name, &Node)
-    requires { is_counted node.now ≡ true }
     ensures narrows { Narrows name result.0 (seen node.now) (seen result.1.now) }
-    ensures counted { is_counted result.1.now ≡ true }
+    ensures counted { is_counted node.now ≡ true → is_counted result.1.now ≡ true }
 {
     if name.len() == 64 {
         return (name, node);

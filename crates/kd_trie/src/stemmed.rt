@@ -1,16 +1,16 @@
 //! A trie with its stem, and its changes.
-ghost use Rattle.std.specs.Prelude.{◌≡◌, ◌≤◌, ◌+◌, ℕ, [], Some, length, true, false, IfOk, IfSome, OnOk, OnErr};
+ghost use Rattle.std.specs.Prelude.{◌≡◌, ◌≤◌, ◌+◌, ◌-◌, ◌^◌, min, ℕ, [], Some, length, true, false, IfOk, IfSome, OnOk, OnErr};
 ghost use Rattle.std.specs.Arc.{arc_value};
 ghost use Rattle.zorder.specs.Bits.{low_bits};
 ghost use Rattle.zorder.specs.Key.{is_under};
 ghost use Rattle.bucket_versions.specs.Told.{Told};
-ghost use Rattle.bit_trie.specs.Tries.{height, name_at, bucket_at, graft, tip};
+ghost use Rattle.bit_trie.specs.Tries.{height, name_at, bucket_at, graft, tip, rows_in};
 ghost use Rattle.bit_trie.specs.Ways.{has_under, put_under, gone_under, count_under, MayMove};
 ghost use Rattle.kd_trie.specs.Wholes.{whole};
 ghost use Rattle.kd_trie.specs.Nodes.{seen, is_counted, twins};
 ghost use Rattle.bit_trie.specs.Walks.{Agrees};
 
-use crate::node::{Node, agreed, graft, leaf_of, twins};
+use crate::node::{Node, agreed, graft, leaf_of, recounted, tally, twins};
 use crate::rows;
 use crate::stem::{Stem, Stemmed, has_leaf_half, leaf_past, step, stretch, unwound};
 use bit_trie::{Coming, Going};
@@ -33,6 +33,7 @@ impl Stemmed {
             stem,
             root: Node::Leaf(bucket),
             waited: 0,
+            counts_hold: true,
         })
     }
 
@@ -47,6 +48,7 @@ impl Stemmed {
             stem,
             root,
             waited: self.waited,
+            counts_hold: self.counts_hold,
         })
     }
 
@@ -68,7 +70,7 @@ impl Stemmed {
         requires { height (whole self.now) ≤ 64 }
         ensures agrees { IfSome result (λ p. Agrees from to 64 p.0 (whole self.now) (seen p.1.now)) }
         ensures rest { IfSome result (λ p. p.0 ≤ 64) }
-        ensures counted { IfSome result (λ p. is_counted p.1.now ≡ true) }
+        ensures counted { self.now.counts_hold ≡ true → IfSome result (λ p. is_counted p.1.now ≡ true) }
     {
         if begins(&self.stem.name, from) && begins(&self.stem.name, to) {
             Some(agreed(&self.root, from, to, 64 - self.stem.name.len()))
@@ -77,24 +79,67 @@ impl Stemmed {
         }
     }
 
-    // Makes a key one that is under the stem.
+    /// How many rows there are below a place, at most what 64 bits hold.
+    pub(crate) fn count_of(&self, node: &Node) -> u64
+        requires { self.now.counts_hold ≡ true → is_counted node.now ≡ true }
+        ensures { result ≡ min (rows_in (seen node.now)) (2 ^ 64 - 1) }
+    {
+        if self.counts_hold {
+            node.count()
+        } else {
+            tally(node)
+        }
+    }
+
+    // Makes a key one that is under the stem, and the counts right.
     #[inline(always)]
     fn open_to(&mut self, key: u64) -> Result<(), AllocError>
         ensures whole { whole self.new ≡ whole self.old }
+        ensures counts { OnOk result (self.new.counts_hold ≡ true) }
         ensures under { OnOk result (is_under self.new.stem.name key ≡ true) }
         ensures keeps { OnOk result ((k : ℕ) → is_under self.old.stem.name k ≡ true → is_under self.new.stem.name k ≡ true) }
     {
+        if begins(&self.stem.name, key) && self.counts_hold {
+            return Ok(());
+        }
+        self.open(key)
+    }
+
+    // The same where it isn't so yet. It stays out of the changes, which seldom need it.
+    #[inline(never)]
+    fn open(&mut self, key: u64) -> Result<(), AllocError>
+        ensures whole { whole self.new ≡ whole self.old }
+        ensures counts { OnOk result (self.new.counts_hold ≡ true) }
+        ensures under { OnOk result (is_under self.new.stem.name key ≡ true) }
+        ensures keeps { OnOk result ((k : ℕ) → is_under self.old.stem.name k ≡ true → is_under self.new.stem.name k ≡ true) }
+    {
+        if !self.counts_hold {
+            self.recount()?;
+        }
         if begins(&self.stem.name, key) {
             return Ok(());
         }
         self.unwind()
     }
 
-    // Puts pairs in the place of the stem. It stays out of the changes, which seldom need it.
-    #[inline(never)]
+    // Makes the counts right.
+    fn recount(&mut self) -> Result<(), AllocError>
+        ensures whole { whole self.new ≡ whole self.old }
+        ensures stem { self.new.stem ≡ self.old.stem }
+        ensures counts { OnOk result (self.new.counts_hold ≡ true) }
+    {
+        let root = recounted(self.alloc, &self.root)?;
+        self.root = root;
+        self.counts_hold = true;
+        Ok(())
+    }
+
+    // Puts pairs in the place of the stem.
     fn unwind(&mut self) -> Result<(), AllocError>
+        requires { self.old.counts_hold ≡ true }
         ensures whole { whole self.new ≡ whole self.old }
         ensures name { OnOk result (self.new.stem.name ≡ []) }
+        ensures counts { self.new.counts_hold ≡ true }
     {
         let stem = &self.stem;
         let root = unwound(self.alloc, &stem.aside, &self.root)?;
@@ -109,17 +154,20 @@ impl Stemmed {
     fn wind(&mut self)
         ensures { whole self.new ≡ whole self.old }
     {
-        if has_leaf_half(&self.root) {
+        if has_leaf_half(&self.root) || !self.counts_hold {
             self.rewind();
         }
     }
 
-    // The same where the root has a leaf for a half, which may be one without rows. A trie of many leaves seldom has.
+    // The same where the root has a leaf for a half, which may be one without rows, or where counts are wrong, which it makes right first.
+    // A trie of many leaves seldom has such a root, and a change that fails is as rare.
     #[inline(never)]
     fn rewind(&mut self)
         ensures { whole self.new ≡ whole self.old }
     {
-        if step(&self.root).is_none() {
+        if !self.counts_hold {
+            let _ = self.recount();
+        } else if step(&self.root).is_none() {
             self.waited = 0;
         } else if self.waited < CHANGES_WAITED {
             self.waited += 1;
@@ -130,6 +178,7 @@ impl Stemmed {
     }
 
     fn lengthen(&mut self) -> Result<(), AllocError>
+        requires { self.old.counts_hold ≡ true }
         ensures { whole self.new ≡ whole self.old }
     {
         let stem = &self.stem;
@@ -208,6 +257,7 @@ impl Stemmed {
             ended: Err(Undone::Memory),
         };
         rows::put_row(&mut self.root, &mut to, left, commit);
+        self.counts_hold = to.ended.is_ok();
         self.wind();
         to.ended
     }
@@ -232,6 +282,7 @@ impl Stemmed {
             ended: Err(Undone::Memory),
         };
         rows::take_row(&mut self.root, &mut from, left, commit);
+        self.counts_hold = from.ended.is_ok();
         self.wind();
         from.ended
     }
@@ -259,6 +310,7 @@ impl Stemmed {
             ended: Err(Undone::Memory),
         };
         rows::shift_row(&mut self.root, from, &mut to, left, commit);
+        self.counts_hold = to.ended.is_ok();
         self.wind();
         to.ended
     }

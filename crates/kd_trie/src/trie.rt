@@ -41,7 +41,7 @@ impl Index for KdTrie {
 
     ghost leaves = { λ s. leaves_under [] (whole s.tree) };
 
-    ghost is_at = { λ s place name. GoesPast name s.tree.stem.name ⊎ StandsFor name (whole s.tree) place };
+    ghost is_at = { λ s place name. GoesPast name s.tree.stem.name ⊎ StandsFor s.tree.counts_hold name (whole s.tree) place };
 
     ghost WIDTH = { 1 };
 
@@ -119,9 +119,9 @@ impl Index for KdTrie {
         let tree = &self.tree;
         // Beside a stem there are no rows.
         if goes_on(name, &tree.stem.name) {
-            tree.root.count()
+            tree.count_of(&tree.root)
         } else {
-            place.count()
+            tree.count_of(place)
         }
     }
 

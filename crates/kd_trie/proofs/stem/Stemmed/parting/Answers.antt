@@ -5,10 +5,10 @@ use Rattle.kd_trie.proofs.StemLemmas.{fits-under}
 use Rattle.kd_trie.proofs.StemWalks.{agrees-stem}
 use Rattle.kd_trie.proofs.stem.Stemmed.parting.Goals as goal
 
-pub agreed-requires-clause-fits : goal.agreed-requires-clause-fits
-agreed-requires-clause-fits c =
+pub agreed-requires : goal.agreed-requires
+agreed-requires c =
     let s = c.args.self.now in
-    fits-under s.stem.name (sides_of s.stem) (seen s.root) (64 - c.len.result) s.stem.named (ap (λ (n : ℕ). 64 - n) c.len.ensures.len) c.requires
+    record { fits = fits-under s.stem.name (sides_of s.stem) (seen s.root) (64 - c.len.result) s.stem.named (ap (λ (n : ℕ). 64 - n) c.len.ensures.len) c.requires }
 
 pub returns-then-begins-2-clause-agrees : goal.returns-then-begins-2-clause-agrees
 returns-then-begins-2-clause-agrees c =

@@ -16,22 +16,20 @@ along c =
 behind : (c : goal.After-narrowed-else-goes_on) → Narrowed c.args.name c.narrowed-else-goes_on.result.0 (whole c.args.self.now.tree) (seen c.narrowed-else-goes_on.result.1.now)
 behind c =
     let s = c.args.self.now.tree in
-    let here = not-past c.args.name s.stem.name (whole s) (seen c.args.place.now) (λ past. true≢false (sym (on-test c.args.name s.stem.name past) ∙ sym c.if-goes_on.ensures)) (stands-at c.args.name s.stem.name (whole s) c.args.place.now c.requires) in
+    let here = not-past c.args.name s.stem.name (whole s) (seen c.args.place.now) (λ past. true≢false (sym (on-test c.args.name s.stem.name past) ∙ sym c.if-goes_on.ensures)) (stands-at s.counts_hold c.args.name s.stem.name (whole s) c.args.place.now c.requires) in
     narrowed-place c.args.name c.narrowed-else-goes_on.result.0 (whole s) (seen c.args.place.now) (seen c.narrowed-else-goes_on.result.1.now) here c.narrowed-else-goes_on.ensures.narrows
 
 pub returns-then-goes_on-clause-at : goal.returns-then-goes_on-clause-at
-returns-then-goes_on-clause-at c = inr (record { at = (along c).at; counted = c.narrowed.ensures.counted })
+returns-then-goes_on-clause-at c = inr (record { at = (along c).at; counted = λ hold. c.narrowed.ensures.counted (c.args.self.now.tree.counted hold) })
 
 pub returns-then-goes_on-clause-passed : goal.returns-then-goes_on-clause-passed
 returns-then-goes_on-clause-passed c = (along c).passed
 
 pub returns-else-goes_on-clause-at : goal.returns-else-goes_on-clause-at
-returns-else-goes_on-clause-at c = inr (record { at = (behind c).at; counted = c.narrowed-else-goes_on.ensures.counted })
+returns-else-goes_on-clause-at c =
+    let s = c.args.self.now.tree in
+    let place = stands-for s.counts_hold c.args.name s.stem.name (whole s) c.args.place.now (λ past. true≢false (sym (on-test c.args.name s.stem.name past) ∙ sym c.if-goes_on.ensures)) c.requires in
+    inr (record { at = (behind c).at; counted = λ hold. c.narrowed-else-goes_on.ensures.counted (place.counted hold) })
 
 pub returns-else-goes_on-clause-passed : goal.returns-else-goes_on-clause-passed
 returns-else-goes_on-clause-passed c = (behind c).passed
-
-pub narrowed-requires-else-goes_on : goal.narrowed-requires-else-goes_on
-narrowed-requires-else-goes_on c =
-    let s = c.args.self.now.tree in
-    (stands-for c.args.name s.stem.name (whole s) c.args.place.now (λ past. true≢false (sym (on-test c.args.name s.stem.name past) ∙ sym c.if-goes_on.ensures)) c.requires).counted

@@ -17,8 +17,8 @@ named c = c.first_bits.ensures ∙ path-is c.args.from c.args.to c.in-Some.left 
 pub returns-in_default-clause-at : goal.returns-in_default-clause-at
 returns-in_default-clause-at c =
     let s = c.args.self.now.tree in
-    subst (λ (n : List Bool). GoesPast n s.stem.name ⊎ StandsFor n (whole s) s.root) (sym c.whole.ensures)
-    (with-count [] s.stem.name (whole s) s.root (top-at s.stem.name (sides_of s.stem) (seen s.root) s.stem.named) s.counted)
+    subst (λ (n : List Bool). GoesPast n s.stem.name ⊎ StandsFor s.counts_hold n (whole s) s.root) (sym c.whole.ensures)
+    (with-count s.counts_hold [] s.stem.name (whole s) s.root (top-at s.stem.name (sides_of s.stem) (seen s.root) s.stem.named) s.counted)
 
 pub returns-in_default-clause-over : goal.returns-in_default-clause-over
 returns-in_default-clause-over c =

@@ -8,4 +8,4 @@ use Rattle.kd_trie.proofs.trie.KdTrieIndex.top.Goals as goal
 pub returns : goal.returns
 returns c =
     let s = c.args.self.now.tree in
-    with-count [] s.stem.name (whole s) s.root (top-at s.stem.name (sides_of s.stem) (seen s.root) s.stem.named) s.counted
+    with-count s.counts_hold [] s.stem.name (whole s) s.root (top-at s.stem.name (sides_of s.stem) (seen s.root) s.stem.named) s.counted
