@@ -29,9 +29,13 @@ parts_of v = v.parts
 abbrev pub times_of : ℕ → View → ℕ
 times_of p v = times p v.own
 
+-- the parts of a lock: nobody else can add to the history while a pass has all of them
+abbrev pub all_parts : ℕ
+all_parts = 65536
+
 -- the view of the first seat
 abbrev pub newcomer : Origin → View
-newcomer origin = seat_view [] [] [] origin 65536 false
+newcomer origin = seat_view [] [] [] origin all_parts false
 
 -- of no value
 abbrev pub no_origin : Origin
@@ -64,7 +68,7 @@ pub record LockRule {V : Type 0} (entries : V → List Entry) (origin : V → Or
   pub counted : slice_index s.words 2 ≡ length log
   pub holding : total hold_of s.views ≡ slice_index s.words 1
   pub single : slice_index s.words 1 ≤ 1
-  pub parts : total parts_of s.views ≡ 65536
+  pub parts : total parts_of s.views ≡ all_parts
   pub owned : (p : ℕ) → total (times_of p) s.views ≡ once_below p (length log)
   pub each : (j : ℕ) (v : View) → get_elem? s.views j ≡ some v → Fits log start v
   pub home : slice_index s.words 1 ≡ 0 → (x : V) × (s.homes ≡ some (Some x) ∷ []) × (entries x ≡ log) × (origin x ≡ start)

@@ -7,7 +7,7 @@ use Rattle.book_lock.specs.Origin.{Origin}
 use Rattle.book_lock.specs.declared.view.View.{View}
 use Rattle.book_lock.specs.Own.{Rises, IsBelow}
 use Rattle.book_lock.specs.Ends.{OwnsEnds}
-use Rattle.book_lock.specs.Rule.{seat_view}
+use Rattle.book_lock.specs.Rule.{all_parts, seat_view}
 
 abbrev pub Sat : Type 0 → Type 0
 Sat V = Me (Option V) View
@@ -20,7 +20,7 @@ module _ {V : Type 0} where
   -- the lock was free, and is now the seat's, with the value, which has nothing new where the seat has all parts; or nothing changed
   abbrev pub taken : (V → List Entry) → (V → Origin) → Step (Option V) → Sat V → ℕ → Sat V → Type 0
   taken entries origin s me found now =
-      (found ≡ 0 → (x : V) × (now ≡ (holder me.0 (entries x), (0, Some x) ∷ [])) × (origin x ≡ me.0.origin) × IsPrefix me.0.seen (entries x) × OwnsEnds (entries x) me.0.own × Rises me.0.own × IsBelow (length (entries x)) me.0.own × (me.0.parts ≡ 65536 → entries x ≡ me.0.seen))
+      (found ≡ 0 → (x : V) × (now ≡ (holder me.0 (entries x), (0, Some x) ∷ [])) × (origin x ≡ me.0.origin) × IsPrefix me.0.seen (entries x) × OwnsEnds (entries x) me.0.own × Rises me.0.own × IsBelow (length (entries x)) me.0.own × (me.0.parts ≡ all_parts → entries x ≡ me.0.seen))
       × (found ≢ 0 → now ≡ me)
 
   -- the entry was put behind all that was seen, and its position is own

@@ -1,6 +1,7 @@
 //! The lock: how it is made and closed.
 ghost use Rattle.std.specs.Prelude.{◌≡◌, ℕ, false, [], ◌∷◌, length, IfOk, IfErr, MatchResult, Some};
 ghost use Rattle.book_lock.specs.Own.{times, once_below};
+ghost use Rattle.book_lock.specs.Rule.{all_parts};
 
 use crate::held::Held;
 use crate::kinds::Law;
@@ -79,7 +80,7 @@ impl<V: Held> BookLock<V> {
     /// value comes back.
     pub fn new(alloc: Global, value: V) -> Result<(BookLock<V>, Pass<V>), V>
         requires { V.entries value ≡ [] }
-        ensures lock { IfOk result (λ r. r.1 ≡ record { lock = r.0; seen = []; own = []; origin = V.origin value; parts = 65536; holds = false }) }
+        ensures lock { IfOk result (λ r. r.1 ≡ record { lock = r.0; seen = []; own = []; origin = V.origin value; parts = all_parts; holds = false }) }
         ensures back { IfErr result (λ v. v ≡ value) }
     {
         let is_slow = value.is_slow();
@@ -105,7 +106,7 @@ impl<V: Held> BookLock<V> {
     pub fn close(self, pass: Pass<V>) -> V
         requires lock { pass.lock ≡ self }
         requires off { pass.holds ≡ false }
-        requires parts { pass.parts ≡ 65536 }
+        requires parts { pass.parts ≡ all_parts }
         ensures value { (V.entries result ≡ pass.seen) × (V.origin result ≡ pass.origin) }
         ensures own { (p : ℕ) → times p pass.own ≡ once_below p (length pass.seen) }
     {

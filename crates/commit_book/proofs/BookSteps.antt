@@ -36,11 +36,3 @@ query_keeps (Within region) world is = within_keeps (members_in region (places_o
         both true world = refl
         both false world = refl
 query_keeps (Near at k) world is = refl
-
--- an index with the leaves of one that stands for a world stands for it too
-pub stands_again : (old new : List Leaf) (before after : World) (now : List (List Bool)) → new ≡ old → AreLeaves new → before ≡ after → AllByRecursion (HasRowsOf (places_of before)) old → names_of old ≡ now → Stands new (places_of after) now
-stands_again old new before after now same laws world rows are = record {
-  names_are = ap names_of same ∙ are;
-  are_leaves = laws;
-  rows = subst (λ (ls : List Leaf). AllByRecursion (HasRowsOf (places_of after)) ls) (sym same) (subst (λ (ms : World). AllByRecursion (HasRowsOf (places_of ms)) old) world rows);
-}

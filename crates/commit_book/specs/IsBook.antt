@@ -5,6 +5,7 @@ use Rattle.plain_list.specs.State.{State, IsLegal, state_after}
 use Rattle.plain_list.specs.History.{world_after, failed_cell}
 use Rattle.index_layer.specs.Stands.{Stands}
 use Rattle.disk_trait.specs.Drive.{Drive}
+use Rattle.split_log.specs.LogView.{most_cells}
 use Rattle.kept_log.specs.Journal.{cells_in, KeepsIn, IsSinceIn}
 use Rattle.kept_log.specs.Counts.{first_in}
 use Rattle.commit_book.specs.BookView.{BookView}
@@ -18,7 +19,7 @@ most_events = 4194304
 -- a state at which a book may begin: no split is open, and no more were begun than a log has cells
 pub record IsOpening (s : State) : Type 0 where
   pub rests : s.splits ≡ []
-  pub begun : s.begun ≤ 16777216
+  pub begun : s.begun ≤ most_cells
 
 -- The history is legal from the state at which the book began, the index stands for its world, with its leaves, and the base of each leaf
 -- whose split is open has exactly the rows that stood there when it was begun. Each split was begun where there was room. The log keeps the

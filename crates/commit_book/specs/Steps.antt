@@ -8,6 +8,7 @@ use Rattle.plain_list.specs.declared.entries.Lost.TheVariants as lost
 use Rattle.plain_list.specs.History.{world_after}
 use Rattle.plain_list.specs.State.{State, IsLegal}
 use Rattle.disk_trait.specs.Drive.{Drive}
+use Rattle.split_log.specs.LogView.{most_cells}
 use Rattle.log_state.specs.Changes.{cells_of, lost_cells}
 use Rattle.kept_log.specs.KeptView.{KeptView}
 use Rattle.kept_log.specs.Journal.{KeepsIn, RoseIn, IsSinceIn, LeavesEither, cells_in, failed_in}
@@ -35,7 +36,7 @@ pub record CanStep {D : Type 0} (step : Lost) (events : Events) (log : Option (K
   pub cell : Cell
   pub cell_is : lost_cells step ≡ cell ∷ []
   pub going : failed_in log ≡ None
-  pub room : cells_in log < 2 ^ 24
+  pub room : cells_in log < most_cells
   pub promised : 0 < events.room
   pub few : length events.entries < 2 ^ 63
 

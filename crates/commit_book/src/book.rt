@@ -14,7 +14,7 @@ ghost use Rattle.commit_book.specs.BookView.{first_log, StandsAfter};
 ghost use Rattle.commit_book.specs.Crash.{LeavesCells};
 ghost use Rattle.commit_book.specs.Events.{with_entry};
 ghost use Rattle.commit_book.specs.IsBook.{IsBook, AreBooks};
-ghost use Rattle.commit_book.specs.Refusals.{IsRefusedBy, IsMemory, IsMemoryOrDisk, IsNoFault, LeavesRefused, call_refusal, update_refusal};
+ghost use Rattle.commit_book.specs.Refusals.{IsRefusedBy, IsMemory, IsMemoryOrDisk, IsNoFault, LeavesRefused, call_refusal, most_cells, update_refusal};
 
 mod splits;
 
@@ -70,11 +70,15 @@ pub struct BookParts<I: Index, D: LogDisk> {
 /// The sequential core of the store. A change or a step of a split is done once its cell is in the log, where there is one.
 #[derive(Drop)]
 pub struct Book<I: Index, D: LogDisk> {
+    /// The objects as the whole history leaves them.
     table: PointTable<I>,
+    /// The splits that were begun and haven't ended.
     splits: OpenSplits,
+    /// The entries, in their order.
     history: History,
+    /// The log, where there is one.
     journal: Journal<D>,
-    /// For contracts alone.
+    /// The world and the leaves at which the book began, for contracts alone.
     opening: Opening<I>,
 }
 
@@ -109,7 +113,7 @@ impl<I: Index, D: LogDisk> Book<I, D> {
     /// 4,096. Where memory runs out, what was opened is handed back.
     pub fn opened(alloc: Global, opened: Opened<D>, bucket: u32) -> Result<Book<I, D>, Opened<D>>
         requires log { (opened.log.cells ≡ opened.seen.cells) × (opened.log.failed ≡ None) }
-        requires found { IsFound newest I.WIDTH (2 ^ 24) (D.drive opened.start.value) opened.seen }
+        requires found { IsFound newest I.WIDTH most_cells (D.drive opened.start.value) opened.seen }
         requires ready { IsOpened I.WIDTH (found_state opened.seen) (D.drive opened.start.value) (D.drive opened.log.disk) }
         ensures opening { IfOk result (λ b. (b.opening ≡ found_state opened.seen) × (b.entries ≡ []) × (b.bucket ≡ bucket)) }
         ensures log { IfOk result (λ b. b.log ≡ Some (first_log opened.log opened.start.value)) }

@@ -250,10 +250,6 @@ pub both-all : (xs ys : List Bool) → both (all_marks xs) (all_marks ys) ≡ al
 unfolding all_marks
 both-all xs ys = both-filled 256 xs ys
 
-no-bits : (n : ℕ) → marks_in n 0 ≡ filled false n []
-no-bits zero = refl
-no-bits (suc n) = ap (λ (l : List Bool). false ∷ l) (no-bits n)
-
 none-filled : (n : ℕ) (fences : List Fence) → filled false n [] ≡ filled false n (map (λ (f : Fence). false) fences)
 none-filled zero fences = refl
 none-filled (suc n) [] = refl

@@ -112,12 +112,6 @@ row-at list (x ∷ edges) [] i d e told lt = absurd (cc told)
 row-at list (x ∷ edges) (r ∷ rows) zero d e told lt = cc told
 row-at list (x ∷ edges) (r ∷ rows) (suc i) d e told lt = row-at list edges rows i d e (cc told) (omega (arith, lt))
 
-pub same-length : (list : List Span) (edges : List ℕ) (rows : List (List ℕ)) → map marks_of rows ≡ map (λ edge. all_marks (row_at edge list)) edges → length rows ≡ length edges
-same-length list [] [] told = refl
-same-length list [] (r ∷ rows) told = absurd (cc told)
-same-length list (x ∷ edges) [] told = absurd (cc told)
-same-length list (x ∷ edges) (r ∷ rows) told = ap suc (same-length list edges rows (cc told))
-
 to-le : (a b : ℕ) → a ≤ b → nat_le a b ≡ true
 to-le a b le = grind (arith, nat_tests)
 

@@ -277,11 +277,3 @@ split-stays walked v none = record {
 
 pub split-within : (walked : Walked) (v : TallyView) → object_of walked.cell ≡ None → length v.events ≤ most_events → IsPast walked v → ⊥
 split-within walked v none few past = omega (arith, past, few, ap length (nothing (object_of walked.cell) none walked.at walked.before walked.after (fences_counted v.counts)))
-
--- the events are taken out
-pub tallies-taken : (taken told : List Event) (cells : List Cell) (fences : List Fence) (old new : TallyView) → told ≡ old.events → new.events ≡ [] → new.counts ≡ old.counts
-    → TalliesCells taken cells fences old → TalliesCells (taken ++ told) cells fences new
-tallies-taken taken told cells fences old new is none same t = record {
-  events = (λ i. (taken ++ is i) ++ none i) ∙ append-nil (taken ++ old.events) ∙ t.events;
-  counts = same ∙ t.counts;
-}

@@ -1,5 +1,6 @@
 //! How many cells a fresh log has.
-ghost use Rattle.std.specs.Prelude.{◌≡◌, ◌⊎◌, ◌≤◌, ◌^◌, length};
+ghost use Rattle.std.specs.Prelude.{◌≡◌, ◌⊎◌, ◌≤◌, length};
+ghost use Rattle.split_log.specs.LogView.{most_cells};
 ghost use Rattle.log_compact.specs.Fresh.{fresh_cells, ComesBySplits};
 
 use crate::cells::FreshCells;
@@ -9,7 +10,7 @@ use recovery::Seen;
 pub fn count_fresh(seen: &Seen, width: u8) -> u64
     requires width { (width ≡ 1) ⊎ (width ≡ 2) }
     requires splits { ComesBySplits width seen.now.leaves }
-    requires few { length (fresh_cells width seen.now.world seen.now.leaves) ≤ 2 ^ 24 }
+    requires few { length (fresh_cells width seen.now.world seen.now.leaves) ≤ most_cells }
 
     ensures { result ≡ length (fresh_cells width seen.now.world seen.now.leaves) }
 {

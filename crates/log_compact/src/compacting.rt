@@ -1,5 +1,6 @@
 //! Writes the state of a log anew.
-ghost use Rattle.std.specs.Prelude.{◌≡◌, ◌⊎◌, ◌≤◌, ◌^◌, length, IfOk, IfErr, MatchResult};
+ghost use Rattle.std.specs.Prelude.{◌≡◌, ◌⊎◌, ◌≤◌, length, IfOk, IfErr, MatchResult};
+ghost use Rattle.split_log.specs.LogView.{most_cells};
 ghost use Rattle.log_compact.specs.Fresh.{fresh_cells, ComesBySplits};
 ghost use Rattle.log_compact.specs.State.{IsStateOf};
 ghost use Rattle.log_compact.specs.Compacting.{IsCompacted, RefusesCompact, KeepsOnWay};
@@ -45,7 +46,7 @@ impl From<InitFault> for CompactFault {
 pub fn compact<D: LogDisk>(seen: &Seen, width: u8, target: D) -> Result<D, CompactRefused<D>>
     requires width { (width ≡ 1) ⊎ (width ≡ 2) }
     requires splits { ComesBySplits width seen.now.leaves }
-    requires few { length (fresh_cells width seen.now.world seen.now.leaves) ≤ 2 ^ 24 }
+    requires few { length (fresh_cells width seen.now.world seen.now.leaves) ≤ most_cells }
 
     ensures ok { IfOk result (λ new. IsCompacted width (fresh_cells width seen.now.world seen.now.leaves) (D.drive target) (D.drive new)) }
     ensures refused { IfErr result (λ e. RefusesCompact (D.drive target) (D.drive e.disk) e.cause) }

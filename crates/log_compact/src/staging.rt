@@ -1,10 +1,11 @@
 //! Writes cells behind the clear commit byte of an empty log, and sets that byte at last.
-ghost use Rattle.std.specs.Prelude.{◌≡◌, ◌<◌, ◌≤◌, ◌^◌, ◌∷◌, [], ℕ, OnOk, OnErr, length};
+ghost use Rattle.std.specs.Prelude.{◌≡◌, ◌<◌, ◌≤◌, ◌∷◌, [], ℕ, OnOk, OnErr, length};
 ghost use Rattle.disk_trait.specs.Drive.{CountsFaults, IsWithin};
 ghost use Rattle.disk_trait.specs.Moments.{LeavesOnly};
 ghost use Rattle.cell_format.specs.Spelling.{newest};
 ghost use Rattle.split_log.specs.LogText.{IsLog, HoldsCells, HoldsAllOrNone};
 ghost use Rattle.split_log.specs.Commit.{IsUncommitted};
+ghost use Rattle.split_log.specs.LogView.{most_cells};
 ghost use Rattle.recovery.specs.Calls.{AllWentWell, EndsAtFault};
 ghost use Rattle.log_compact.specs.Staging.{IsEmpty};
 
@@ -20,7 +21,7 @@ const FIRST: u64 = 16;
 /// Writes cells over an empty log: a crash leaves none of them, or all.
 pub(crate) fn write_cells<D: LogDisk>(disk: &mut D, mut cells: FreshCells) -> Result<(), DiskFault>
     requires empty { IsEmpty (D.drive disk.old) }
-    requires few { length cells ≤ 2 ^ 24 }
+    requires few { length cells ≤ most_cells }
 
     ensures any_moment { (w : ℕ) → IsLog w [] (D.drive disk.old)
         → LeavesOnly (D.drive disk.old) (D.drive disk.new) (HoldsAllOrNone w [] cells.entry) }
@@ -39,7 +40,7 @@ pub(crate) fn write_cells<D: LogDisk>(disk: &mut D, mut cells: FreshCells) -> Re
 /// Writes a cell and those after it behind the first commit byte, which stays clear.
 fn stage<D: LogDisk>(disk: &mut D, first: Cell, mut cells: FreshCells) -> Result<(), DiskFault>
     requires empty { IsEmpty (D.drive disk.old) }
-    requires few { length cells < 2 ^ 24 }
+    requires few { length cells < most_cells }
 
     ensures alone { (w : ℕ) → IsLog w [] (D.drive disk.old)
         → LeavesOnly (D.drive disk.old) (D.drive disk.new) (HoldsCells newest w []) }

@@ -83,14 +83,6 @@ impl MemberMap {
         self.positions.remove(&id)
     }
 
-    /// The same objects as one list.
-    pub fn to_world(&self, alloc: Global) -> Result<World, AllocError>
-        ensures { IfOk result (λ world. world ≡ self.now) }
-    {
-        let room = Vec::with_capacity(alloc, self.positions.len())?;
-        Ok(self.world_in(room))
-    }
-
     /// The same objects as one list, in memory that was taken before.
     pub fn world_in(&self, mut room: Vec<Member>) -> World
         requires empty { vec_len room ≡ 0 }

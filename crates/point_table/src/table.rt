@@ -33,9 +33,13 @@ use zorder::{Memory, Name, begins, key};
 #[derive(Drop)]
 pub struct PointTable<I: Index> {
     alloc: Global,
+    /// The objects by their keys.
     index: I,
+    /// The objects by their ids, with their moments.
     members: MemberShards,
+    /// The leaves over the bucket size, of which the first is split next.
     crowded: Crowded,
+    /// The bucket size: so many rows a leaf may have before it is to be split.
     size: u32,
 }
 

@@ -40,10 +40,6 @@ module _ (w session : ℕ) where
     keeps = keeps-then w session old mid new one.front one.added two.front two.added one.keeps two.keeps;
   }
 
--- a row of a lane, whatever stands for one that is missing
-row-is : (rows : List (ℕ × Op)) (i : ℕ) (r d : ℕ × Op) → i < length rows → r ≡ slice_index_or rows i r → r ≡ slice_index_or rows i d
-row-is rows i r d within is = is ∙ get_or_default rows i r d within
-
 -- it is the first of those that are left
 pub row-next : (rows : List (ℕ × Op)) (i : ℕ) (r : ℕ × Op) → i < length rows → r ≡ slice_index_or rows i r → drop i rows ≡ r ∷ drop (i + 1) rows
 row-next rows i r within is = drop_more rows i r within ∙ ap (λ (x : ℕ × Op). x ∷ drop (i + 1) rows) (sym is)

@@ -46,9 +46,6 @@ looked-twice a b c one two = record {
   pass_is = two.pass_is ∙ ap (λ (k : Known). has_seen k c.seen) one.pass_is;
 }
 
-pub looked-none : (a : Known) → HasLooked a a
-looked-none a = record { later = ([], append-nil a.seen); alone = λ all. refl; pass_is = refl }
-
 -- a book that was taken is given back as it was
 pub looked-back : {D : Type 0} (drive : D → Drive) (b : BookView D) (old took back : Known) (entries : List Entry) → WasTaken drive b old took → back ≡ has_given took false entries → HasLooked old back
 looked-back drive b old took back entries was given =

@@ -13,12 +13,9 @@ use Rattle.commit_book.specs.declared.faults.BookFault.TheVariants.{Closed, Disk
 use Rattle.book_lock.specs.Pass.{Known}
 use Rattle.book_lock.specs.Own.{IsBelow}
 use Rattle.book_lock.specs.Ends.{MayNote, OwnsEnds}
+pub use Rattle.book_lock.specs.Rule.{all_parts}
 use Rattle.book_lock.specs.declared.origin.Origin.{Origin}
 use Rattle.sessions.specs.Shared.{first_cells, origin_of}
-
--- the parts of a lock: nobody else can add to the history while a pass has all of them
-abbrev pub all_parts : ℕ
-all_parts = 65536
 
 -- the pass has seen this history, and nothing else changed
 abbrev pub has_seen : Known → List Entry → Known

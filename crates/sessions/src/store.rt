@@ -2,7 +2,7 @@
 ghost use Rattle.std.specs.Prelude.{◌≡◌, [], true, false, IfOk, IfErr};
 ghost use Rattle.plain_list.specs.World.{IsWorld};
 ghost use Rattle.sessions.specs.Shared.{origin_of, StartsAs};
-ghost use Rattle.sessions.specs.Steps.{MayGive, WasTaken, has_entry, has_given};
+ghost use Rattle.sessions.specs.Steps.{all_parts, MayGive, WasTaken, has_entry, has_given};
 
 mod calls;
 mod lanes;
@@ -45,7 +45,7 @@ impl<I: Index, D: LogDisk, O: Start> Store<I, D, O> {
         requires entries { book.entries ≡ [] }
         requires world { IsWorld book.opening.world }
         requires start { StartsAs D.drive O.unlogged O.is book.log }
-        ensures store { IfOk result (λ r. r.1 ≡ record { lock = r.0; seen = []; own = []; origin = origin_of D.drive book; parts = 65536; holds = false }) }
+        ensures store { IfOk result (λ r. r.1 ≡ record { lock = r.0; seen = []; own = []; origin = origin_of D.drive book; parts = all_parts; holds = false }) }
         ensures back { IfErr result (λ b. b ≡ book) }
     {
         let shared = SharedBook::of(alloc, book)?;

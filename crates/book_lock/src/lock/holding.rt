@@ -4,6 +4,7 @@ ghost use mathlib.Core.List.{IsPrefix};
 ghost use Rattle.plain_list.specs.declared.entries.Entry.{Entry};
 ghost use Rattle.book_lock.specs.Own.{Rises, IsBelow};
 ghost use Rattle.book_lock.specs.Ends.{OwnsEnds, MayNote};
+ghost use Rattle.book_lock.specs.Rule.{all_parts};
 
 use super::BookLock;
 use crate::held::Held;
@@ -23,7 +24,7 @@ impl<V: Held> BookLock<V> {
         ensures pass { pass.new ≡ record pass.old { seen = pass.new.seen; holds = true } }
         ensures ends { OwnsEnds pass.new.seen pass.new.own }
         ensures rises { Rises pass.new.own × IsBelow (length pass.new.seen) pass.new.own }
-        ensures alone { pass.old.parts ≡ 65536 → pass.new.seen ≡ pass.old.seen }
+        ensures alone { pass.old.parts ≡ all_parts → pass.new.seen ≡ pass.old.seen }
     {
         let manner = self.give_way(pass.manner);
         let seat = &mut pass.seat;
