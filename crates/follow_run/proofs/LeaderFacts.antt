@@ -13,9 +13,9 @@ use Rattle.recovery.specs.declared.seen.OpenRefused.{OpenRefused}
 use Rattle.recovery.specs.Faults.{IsFault, IsInBytes}
 use Rattle.recovery.specs.Found.{IsFree}
 use Rattle.recovery.specs.Reading.{OnlyReads}
-use Rattle.recovery.specs.Walks.{WalkView, ComesTo, TellsWalked}
+use Rattle.recovery.specs.Walks.{WalkView, ComesTo, TellsWalked, IsOfHead}
 use Rattle.recovery.specs.declared.walked.Walked.{Walked}
-use Rattle.recovery.specs.Widths.{IsWidth, HasWidth, IsLogFault}
+use Rattle.recovery.specs.Widths.{IsWidth, IsWidthOf, HasWidth, IsLogFault}
 use Rattle.recovery.proofs.Exclusive.{one_fault, recovers_no_fault, recovers_wanted, one_recovery}
 use Rattle.recovery.proofs.OnlyReading.{stays-trans, rose-earlier}
 use Rattle.recovery.proofs.WidthLemmas.{recovers_width, same_width, fault_seen, fault_at}
@@ -143,6 +143,20 @@ module _ {D : Type 0} (w : ℕ) (cells : List Cell) (a b : Drive) (walk : WalkVi
       by_case : (o : Option Walked) → ((walked : Walked) → o ≡ Some walked → ⊥) → TellsWalked w most_followed cells a b walk (Ok o) → FindsLeader w a cells
       by_case None never is = record { leading = record { known = known; legal = is.0.legal; few = is.0.few }; recovers = is.1 }
       by_case (Some walked) never is = absurd (never walked refl)
+
+-- a walk that has begun along a log has its width
+pub along-width : (a b : Drive) (w : ℕ) → Stays a b → IsWidthOf b w → (bytes : List ℕ) → a.bytes ≡ Some bytes → HasWidth w bytes
+along-width a b w stays is bytes told = is.named bytes (stays.bytes ∙ told)
+
+-- and where none does, a fault behind the head isn't told
+pub along-exact : (bytes : List ℕ) (a b : Drive) (e f : OpenFault) → (IsOfHead f → (e ≡ f) ⊎ IsFree a b e) → ((w : ℕ) → HasWidth w bytes → IsFree a b e) → IsInBytes f → IsLogFault oldest_read most_followed bytes f
+    → (e ≡ f) ⊎ IsFree a b e
+along-exact bytes a b e open_fault.NotLog head whole shown is = head tt
+along-exact bytes a b e (open_fault.OldLog version width) head whole shown is = head tt
+along-exact bytes a b e (open_fault.Damaged number why) head whole shown is = inr (whole is.0 is.1)
+along-exact bytes a b e (open_fault.TooLong limit) head whole shown is = inr (whole is.0 is.1)
+along-exact bytes a b e open_fault.Disk head whole shown is = absurd shown
+along-exact bytes a b e open_fault.Memory head whole shown is = absurd shown
 
 -- a log whose width was read, and then its cells
 module _ {D T : Type 0} (drive : D → Drive) (a b : Drive) (x : T) (first : OnlyReads a b (Ok x)) (w : ℕ) (has : (bytes : List ℕ) → a.bytes ≡ Some bytes → HasWidth w bytes) (result : Result (Leader D) (OpenRefused D))

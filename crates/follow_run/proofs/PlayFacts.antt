@@ -1,31 +1,38 @@
 -- A follower along turns.
-use Rattle.std.proofs.Common.{◌≡◌, ◌⊎◌, inl, inr, ⊎_elim, ◌∙◌, ℕ, ◌+◌, ◌<◌, ◌≤◌, suc, List, [], ◌∷◌, ◌++◌, length, take, drop, Option, Some, is_some, Result, Ok, Err, refl, sym, ap, subst, arith, get_or, add-one, drop-cons}
-use Rattle.std.specs.Prelude.{IfErr}
+use Rattle.std.proofs.Common.{◌≡◌, ◌⊎◌, inl, inr, ⊎_elim, ◌∙◌, ℕ, ◌+◌, ◌<◌, ◌≤◌, suc, Bool, true, false, List, [], ◌∷◌, ◌++◌, length, replicate, take, drop, Option, Some, is_some, Result, Ok, Err, refl, sym, ap, subst, arith, get_or, add-one, drop-cons}
+use Rattle.std.specs.Prelude.{◌≢◌, IfErr, if◌then◌else◌, ◌==◌, ◌&&◌, nat_lt}
+use Rattle.std.specs.Cmp.Derive.{both_true}
 use Rattle.std.specs.Result.{IsErrAnd}
 use Rattle.std.proofs.Math.Nat.{le-suc_iff}
 use Rattle.std.proofs.Math.Seq.{take-length}
-use Rattle.std.proofs.lemmas.List.{take_more}
+use Rattle.std.proofs.lemmas.Bool.{true≢false, and_parts, eqb-true, ltb-true, eq-eqb, lt-ltb}
+use Rattle.std.proofs.lemmas.List.{take_more, append-nil, replicate-append-replicate}
 use Rattle.causes.specs.Causes.{Rose}
-use Rattle.disk_trait.specs.Drive.{Drive, KeepsLaws, SameFile}
+use Rattle.disk_trait.specs.Drive.{Drive, HasNoMore, Made, MadeWell, KeepsLaws, SameFile}
 use Rattle.disk_trait.specs.Moments.{LeavesNow, LeavesOnly}
+use Rattle.disk_trait.proofs.Calls.{made-none, made-then}
 use Rattle.disk_trait.proofs.Stretches.{started}
+use Rattle.split_log.specs.LogText.{IsLog}
 use Rattle.cell_format.specs.declared.cell.Cell.{Cell}
 use Rattle.split_log.proofs.Commits.{joined}
 use Rattle.log_state.specs.Recovers.{Recovers}
 use Rattle.recovery.specs.declared.seen.OpenFault.TheVariants as open_fault
+use Rattle.recovery.specs.Calls.{AllWentWell, StopsAtFault}
+use Rattle.recovery.proofs.CallLemmas.{well-none, well-then, stops-then, stops-refused}
 use Rattle.follower.specs.declared.faults.FollowFault.{FollowFault}
 use Rattle.follower.specs.declared.faults.FollowFault.TheVariants as fault
 use Rattle.follower.specs.declared.turns.Report.{Report}
 use Rattle.follower.specs.declared.turns.Turn.{Turn}
 use Rattle.follower.specs.declared.turns.Turn.TheVariants.{Send, Arrive, Ack, Restart}
-use Rattle.follower.specs.Faults.{IsFree, most_left}
+use Rattle.follower.specs.Faults.{IsFree, is_drives, most_left}
 use Rattle.follower.specs.Follow.{Following, after_turn, after_turns, cell_of, opened_with, reports, report_of, IsSound, AllNameSent, NamesSent, AreTurns, packets_after}
 use Rattle.follower.specs.Holding.{FollowerView, HoldsFirst, LeavesFirst, RecoversFirst, IsUntold}
-use Rattle.follower.specs.Turning.{IsTurnCause, MakesTurn, FailsTurn, BringsNext}
+use Rattle.follower.specs.Turning.{CallsOfRefused, IsTurnCause, MakesCalls, MakesTurn, FailsTurn, BringsNext}
 use Rattle.follower.proofs.Machine.{held-grows, packets-after, acks-after}
-use Rattle.follower.proofs.Prefixes.{log-recovers}
+use Rattle.follower.proofs.Prefixes.{log-recovers, first-log}
 use Rattle.follower.proofs.TurnLemmas.{told-before}
-use Rattle.follow_run.specs.Replica.{machine_at, IsStop, LeavesFrom, follow_refusal, most_behind}
+use Rattle.run_ends.specs.Status.{status_of}
+use Rattle.follow_run.specs.Replica.{machine_at, calls_at, calls_of, calls_of_turns, AreLast, IsStop, LeavesFrom, follow_refusal, most_behind}
 use Rattle.follow_run.specs.Playing.{PassesTurns, HasPlayed, LosesTurn, PlaysAll, StopsPlaying}
 
 -- a refusal, handed on
@@ -42,6 +49,66 @@ reports-append : (count : ℕ) (s : Following) (turns : List Turn) (t : Turn)
     → reports count s (turns ++ t ∷ []) ≡ reports count s turns ++ report_of (after_turn count (after_turns count s turns) t) ∷ []
 reports-append count s [] t = refl
 reports-append count s (u ∷ turns) t = ap (λ (l : List Report). report_of (after_turn count s u) ∷ l) (reports-append count (after_turn count s u) turns t)
+
+calls-append : (count : ℕ) (s : Following) (turns : List Turn) (t : Turn)
+    → calls_of_turns count s (turns ++ t ∷ []) ≡ calls_of_turns count s turns + calls_of count (after_turns count s turns) t
+calls-append count s [] t = omega arith
+calls-append count s (u ∷ turns) t = omega (arith, calls-append count (after_turn count s u) turns t)
+
+-- no call, and calls behind calls
+none-made : (old new : Drive) → HasNoMore old.calls new.calls → Made [] old new
+none-made old new none all told = (all, none all told, sym (append-nil all))
+
+-- so many calls, and none before them
+pub none-before : (n : ℕ) → n ≡ 0 + n
+none-before n = omega arith
+
+pub well-more : (n m : ℕ) (old mid new : Drive) → MadeWell n old mid → MadeWell m mid new → MadeWell (n + m) old new
+well-more n m old mid new first last =
+    subst (λ (l : List Bool). Made l old new) (replicate-append-replicate n m true) (made-then (replicate n true) (replicate m true) old mid new first last)
+
+-- which calls a turn makes
+module _ (count : ℕ) (s : Following) (a b : Drive) where
+  arrive-calls : (packet : ℕ) → MakesCalls count s (Arrive packet) a b → MadeWell (calls_of count s (Arrive packet)) a b
+  arrive-calls packet makes = of ((cell_of packet s == s.held) && nat_lt s.held count) refl
+    where
+      of : (brings : Bool) → ((cell_of packet s == s.held) && nat_lt s.held count) ≡ brings → MadeWell (if brings then 4 else 0) a b
+      of true is = let parts = and_parts (cell_of packet s == s.held) (nat_lt s.held count) is in makes.0 (eqb-true (cell_of packet s) s.held parts.0, ltb-true s.held count parts.1)
+      of false is =
+          none-made a b (makes.1 (λ brings. true≢false (sym (both_true (eq-eqb (cell_of packet s) s.held brings.0) (lt-ltb s.held count brings.1)) ∙ is)))
+
+  turn-calls : (t : Turn) (bytes : List ℕ) → a.bytes ≡ Some bytes → MakesCalls count s t a b → MadeWell (calls_of count s t) a b
+  turn-calls (Send cell) bytes told makes = none-made a b (makes.1 (λ brings. absurd brings))
+  turn-calls (Arrive packet) bytes told makes = arrive-calls packet makes
+  turn-calls (Ack number) bytes told makes = none-made a b (makes.1 (λ brings. absurd brings))
+  turn-calls Restart bytes told makes = ⊎_elim (λ one. one) (λ more. absurd (more.0 bytes told)) makes
+
+  turn-well : (t : Turn) → MakesCalls count s t a b → AllWentWell a b
+  turn-well (Send cell) makes = well-none a b (makes.1 (λ brings. absurd brings))
+  turn-well (Arrive packet) makes = record { count = calls_of count s (Arrive packet); calls = arrive-calls packet makes }
+  turn-well (Ack number) makes = well-none a b (makes.1 (λ brings. absurd brings))
+  turn-well Restart makes = ⊎_elim (λ one. record { count = 1; calls = one }) (λ more. record { count = 3; calls = more.1 }) makes
+
+-- a turn that wasn't made made no call behind one that failed
+refused-stops : (why : FollowFault) (a b : Drive) → CallsOfRefused why a b → StopsAtFault a b
+refused-stops (fault.Strange cell) a b made = ⊎_elim (λ one. inl (record { count = 1; calls = one })) (λ three. inl (record { count = 3; calls = three })) made
+refused-stops (fault.Log cause) a b made = stops-refused cause a b made
+refused-stops (fault.Append cell) a b made = inr (record { went_well = made.0; calls = made.1.calls })
+refused-stops fault.Disk a b made = absurd made
+refused-stops fault.Memory a b made = inl (well-none a b made)
+
+-- a fault whose refusal hasn't the status of drives isn't theirs
+pub drives-told : (why : FollowFault) → status_of (follow_refusal why) ≢ 7 → is_drives why ≡ false
+drives-told (fault.Strange cell) other = refl
+drives-told (fault.Log open_fault.NotLog) other = refl
+drives-told (fault.Log (open_fault.OldLog version width)) other = refl
+drives-told (fault.Log (open_fault.Damaged number cause)) other = refl
+drives-told (fault.Log open_fault.Disk) other = absurd (other refl)
+drives-told (fault.Log open_fault.Memory) other = refl
+drives-told (fault.Log (open_fault.TooLong limit)) other = refl
+drives-told (fault.Append cell) other = absurd (other refl)
+drives-told fault.Disk other = absurd (other refl)
+drives-told fault.Memory other = refl
 
 -- no turn loses a cell
 held-rises : (count : ℕ) (s : Following) (t : Turn) → s.held ≤ (after_turn count s t).held
@@ -78,6 +145,9 @@ module _ (count first : ℕ) (turns : List Turn) (made : ℕ) (d : Turn) (below 
   pub machine-more : machine_at count first turns (made + 1) ≡ after_turn count (machine_at count first turns made) (get_or turns made d)
   machine-more = ap (λ (l : List Turn). after_turns count (opened_with first) l) (take_more turns made d below) ∙ after-append count (opened_with first) (take made turns) (get_or turns made d)
 
+  calls-more : calls_at count first turns (made + 1) ≡ calls_at count first turns made + calls_of count (machine_at count first turns made) (get_or turns made d)
+  calls-more = ap (λ (l : List Turn). calls_of_turns count (opened_with first) l) (take_more turns made d below) ∙ calls-append count (opened_with first) (take made turns) (get_or turns made d)
+
   pub reports-more : reports count (opened_with first) (take (made + 1) turns)
       ≡ reports count (opened_with first) (take made turns) ++ report_of (machine_at count first turns (made + 1)) ∷ []
   reports-more =
@@ -96,11 +166,19 @@ module _ {D : Type 0} (drive : D → Drive) (w : ℕ) (cells : List Cell) (first
   pub exactly : (f : FollowerView D) → f.width ≡ w → HoldsFirst drive cells f → (bytes : List ℕ) → (drive f.disk).bytes ≡ Some bytes → LeavesNow (drive f.disk) (Recovers w (take f.state.held cells))
   exactly f width holds bytes told = subst (λ (v : ℕ). LeavesNow (drive f.disk) (Recovers v (take f.state.held cells))) width (log-recovers f.width cells holds.leading.legal f.state.held (drive f.disk) (holds.log bytes told))
 
-  first_of : (held least : ℕ) (c : List ℕ) → least ≤ held → held ≤ length cells → Recovers w (take held cells) c → RecoversFirst w cells least (length cells) c
-  first_of held least c le few recovers = record { count = held; least_is = le; most_is = few; recovers = recovers }
+  -- at least and at most so many of them, in the newest version
+  leaves-at : (f : FollowerView D) → f.width ≡ w → HoldsFirst drive cells f → (bytes : List ℕ) → (drive f.disk).bytes ≡ Some bytes → (least most : ℕ) → least ≤ f.state.held → f.state.held ≤ most
+      → LeavesNow (drive f.disk) (RecoversFirst w cells least most)
+  leaves-at f width holds bytes told least most low high =
+      subst (λ (v : ℕ). LeavesNow (drive f.disk) (RecoversFirst v cells least most)) width
+      (first-log f.width cells holds.leading.legal f.state.held least most low high (drive f.disk) (holds.log bytes told))
+
+  -- the text of them
+  log-at : (f : FollowerView D) → f.width ≡ w → HoldsFirst drive cells f → (bytes : List ℕ) → (drive f.disk).bytes ≡ Some bytes → IsLog w (take f.state.held cells) (drive f.disk)
+  log-at f width holds bytes told = subst (λ (v : ℕ). IsLog v (take f.state.held cells) (drive f.disk)) width (holds.log bytes told)
 
   wider : (low least most : ℕ) (c : List ℕ) → least ≤ low → most ≤ length cells → RecoversFirst w cells low most c → RecoversFirst w cells least (length cells) c
-  wider low least most c le few is = record { count = is.count; least_is = omega (arith, is.least_is, le); most_is = omega (arith, is.most_is, few); recovers = is.recovers }
+  wider low least most c le few is = record { count = is.count; least_is = omega (arith, is.least_is, le); most_is = omega (arith, is.most_is, few); recovers = is.recovers; version = is.version }
 
   -- a follower that was just opened
   pub played-none : (f : FollowerView D) → f.state ≡ opened_with first → f.width ≡ w → HoldsFirst drive cells f → AreTurns turns → start ≡ drive f.disk → KeepsLaws (drive f.disk) → HasPlayed drive w cells first turns 0 start f
@@ -117,16 +195,18 @@ module _ {D : Type 0} (drive : D → Drive) (w : ℕ) (cells : List Cell) (first
         sent = subst (λ (s : Following). AllNameSent (length s.packets) (length s.acks) turns) (sym state) are.each;
         told = ap (λ (e : Drive). is_some e.bytes) (sym here);
         calm = ap (λ (e : Drive). e.faults) (sym here);
+        well = subst (λ (e : Drive). AllWentWell e (drive f.disk)) (sym here) (well-none (drive f.disk) (drive f.disk) (λ all told. told));
+        calls = λ bytes told. subst (λ (e : Drive). MadeWell 0 e (drive f.disk)) (sym here) (made-none (drive f.disk));
         file = subst (λ (e : Drive). SameFile e (drive f.disk)) (sym here) (λ all told. told);
         passes = λ bytes told.
             let told_here : (drive f.disk).bytes ≡ Some bytes = subst (λ (e : Drive). e.bytes ≡ Some bytes) here told in
-            let now : LeavesNow (drive f.disk) (Recovers w (take f.state.held cells)) = exactly f width holds bytes told_here in
+            let now : LeavesNow (drive f.disk) (RecoversFirst w cells first (length cells)) = leaves-at f width holds bytes told_here first (length cells) (omega (arith, held)) holds.few in
             subst (λ (e : Drive). PassesTurns w cells first turns 0 e (drive f.disk)) (sym here) (record {
-              whole = started (drive f.disk) (RecoversFirst w cells first (length cells)) laws (λ c left. first_of f.state.held first c (omega (arith, held)) holds.few (now c left));
+              whole = started (drive f.disk) (RecoversFirst w cells first (length cells)) laws now;
               from = λ n le. subst (λ (k : ℕ). LeavesFrom w cells (machine_at (length cells) first turns k).held (drive f.disk)) (only n le) (record {
                 moment = (drive f.disk).clock;
                 ended = omega arith;
-                since = λ c left. first_of f.state.held first c (omega (arith, held)) holds.few (now c (laws.only_now c left));
+                since = λ c left. now c (laws.only_now c left);
               });
             });
       }
@@ -178,20 +258,27 @@ module _ {D : Type 0} (drive : D → Drive) (w : ℕ) (cells : List Cell) (first
               (subst (λ (a : ℕ). AllNameSent (packets_after (length f.state.packets) t) a (drop (made + 1) turns)) (sym (acks-after count f.state t)) sent.1));
           told = makes.turns.told ∙ has.told;
           calm = makes.turns.calm ∙ has.calm;
+          well = well-then start (drive f.disk) (drive g.disk) has.well (turn-well count f.state (drive f.disk) (drive g.disk) t makes.turns.calls);
+          calls = λ bytes told.
+              let before = told_now bytes told in
+              let of_turn : MadeWell (calls_of count (machine_at count first turns made) t) (drive f.disk) (drive g.disk) =
+              subst (λ (s : Following). MadeWell (calls_of count s t) (drive f.disk) (drive g.disk)) has.state (turn-calls count f.state (drive f.disk) (drive g.disk) t before.0 before.1 makes.turns.calls) in
+              subst (λ (n : ℕ). MadeWell n start (drive g.disk)) (sym (calls-more count first turns made d below))
+              (well-more (calls_at count first turns made) (calls_of count (machine_at count first turns made) t) start (drive f.disk) (drive g.disk) (has.calls bytes told) of_turn);
           file = λ all told. has.file all (makes.turns.file all told);
           passes = λ bytes told.
               let before = told_now bytes told in
               let here = told-after (drive f.disk).bytes (drive g.disk).bytes before.0 makes.turns.told before.1 in
               let on = passes-on (drive g.disk) g.state.held makes.turns.holds.few makes.any_moment bytes told in
-              let now : LeavesNow (drive g.disk) (Recovers w (take g.state.held cells)) = exactly g (makes.turns.width ∙ has.width) makes.turns.holds here.0 here.1 in
               let least_held : (machine_at count first turns (made + 1)).held ≤ g.state.held = subst (λ (s : Following). s.held ≤ g.state.held) state (omega arith) in
+              let now = leaves-at g (makes.turns.width ∙ has.width) makes.turns.holds here.0 here.1 (machine_at count first turns (made + 1)).held count least_held makes.turns.holds.few in
               record {
                 whole = on.whole;
                 from = λ n le. ⊎_elim (λ earlier. on.from n earlier)
                     (λ last. subst (λ (k : ℕ). LeavesFrom w cells (machine_at count first turns k).held (drive g.disk)) (sym last) (record {
                       moment = (drive g.disk).clock;
                       ended = omega arith;
-                      since = λ c left. first_of g.state.held (machine_at count first turns (made + 1)).held c least_held makes.turns.holds.few (now c (laws.only_now c left));
+                      since = λ c left. now c (laws.only_now c left);
                     }))
                     (up_to n made le);
               };
@@ -209,7 +296,13 @@ module _ {D : Type 0} (drive : D → Drive) (w : ℕ) (cells : List Cell) (first
               let here = told_now bytes told in
               subst (λ (k : ℕ). LeavesNow (drive f.disk) (Recovers w (take (machine_at count first turns k).held cells))) end
               (subst (λ (s : Following). LeavesNow (drive f.disk) (Recovers w (take s.held cells))) has.state (exactly f has.width has.holds here.0 here.1));
+          log = λ bytes told.
+              let here = told_now bytes told in
+              subst (λ (k : ℕ). IsLog w (take (machine_at count first turns k).held cells) (drive f.disk)) end
+              (subst (λ (s : Following). IsLog w (take s.held cells) (drive f.disk)) has.state (log-at f has.width has.holds here.0 here.1));
           calm = has.calm;
+          well = has.well;
+          calls = λ bytes told. subst (λ (k : ℕ). MadeWell (calls_at count first turns k) start (drive f.disk)) end (has.calls bytes told);
           file = has.file;
         }
 
@@ -251,6 +344,21 @@ module _ {D : Type 0} (drive : D → Drive) (w : ℕ) (cells : List Cell) (first
       free_since why (inr (inl memory)) = inr (inl memory)
       free_since why (inr (inr rose)) = inr (inr (rose_since rose))
 
+      -- what its calls answered, where the bytes are known
+      last-calls : (why : FollowFault) (bytes : List ℕ) → (drive f.disk).bytes ≡ Some bytes → IsTurnCause drive cells (get_or turns made d) f disk why → CallsOfRefused why (drive f.disk) (drive disk)
+          → (last : List Bool) × AreLast (follow_refusal why) last × Made last (drive f.disk) (drive disk)
+      last-calls (fault.Strange cell) bytes told is calls = absurd (is.1 bytes told)
+      last-calls (fault.Log open_fault.Disk) bytes told is calls =
+          ⊎_elim (λ one. (true ∷ [], inl refl, one)) (λ (k, stops). (replicate k true ++ false ∷ [], inr (k, stops.few, refl), stops.calls)) calls.disk
+      last-calls (fault.Log open_fault.Memory) bytes told is calls = (true ∷ [], inr refl, calls.other (λ e. cc e))
+      last-calls (fault.Log open_fault.NotLog) bytes told is calls = absurd (is.1 bytes told)
+      last-calls (fault.Log (open_fault.OldLog version width)) bytes told is calls = absurd (is.1 bytes told)
+      last-calls (fault.Log (open_fault.Damaged number cause)) bytes told is calls = absurd (is.1 bytes told)
+      last-calls (fault.Log (open_fault.TooLong limit)) bytes told is calls = absurd (is.1 bytes told)
+      last-calls (fault.Append cell) bytes told is calls = (replicate calls.0 true ++ false ∷ [], (calls.0, calls.1.few, refl), calls.1.calls)
+      last-calls fault.Disk bytes told is calls = absurd is
+      last-calls fault.Memory bytes told is calls = ([], inl refl, none-made (drive f.disk) (drive disk) calls)
+
       stopped : (why : FollowFault) → FailsTurn drive cells (get_or turns made d) f disk why → ((bytes : List ℕ) → (drive f.disk).bytes ≡ Some bytes → IsFree (drive f.disk) (drive disk) why)
           → StopsPlaying w cells first turns start (drive disk) why
       stopped why fails free =
@@ -266,12 +374,25 @@ module _ {D : Type 0} (drive : D → Drive) (w : ℕ) (cells : List Cell) (first
                   let is : RecoversFirst f.width cells f.state.held (most_left why f.state.held) c = leaves.each c (laws.counts_now (drive f.disk).clock c leaves.later left) in
                   subst (λ (s : Following). RecoversFirst w cells s.held (most_behind (follow_refusal why) s.held) c) has.state
                   (subst (λ (n : ℕ). RecoversFirst w cells f.state.held n c) (left-behind why f.state.held) (subst (λ (v : ℕ). RecoversFirst v cells f.state.held (most_left why f.state.held) c) has.width is));
+              log = λ bytes told other.
+                  let now = told_now bytes told in
+                  let log = fails.refused.log (drives-told why other) now.0 now.1 in
+                  subst (λ (s : Following). IsLog w (take s.held cells) (drive disk)) has.state (subst (λ (v : ℕ). IsLog v (take f.state.held cells) (drive disk)) has.width log);
+              calls = λ bytes told.
+                  let now = told_now bytes told in
+                  let (last, are, calls) = last-calls why now.0 now.1 fails.refused.cause fails.refused.calls in (
+                    last,
+                    are,
+                    subst (λ (n : ℕ). Made (replicate n true ++ last) start (drive disk)) (none-before (calls_at count first turns made))
+                        (made-then (replicate (calls_at count first turns made) true) last start (drive f.disk) (drive disk) (has.calls bytes told) calls),
+                  );
             };
             sound = has.sound;
             passes = λ bytes told. passes-on (drive disk) (most_left why f.state.held) (few-left why fails.refused.cause) fails.any_moment bytes told;
             calm = λ quiet. fails.refused.calm quiet ∙ has.calm;
             free = λ bytes told. let now = told_now bytes told in free_since why (free now.0 now.1);
             later = omega (arith, has.calm, fails.refused.later);
+            calls = stops-then start (drive f.disk) (drive disk) has.well (refused-stops why (drive f.disk) (drive disk) fails.refused.calls);
             file = λ all told. has.file all (fails.refused.file all told);
           }
 
@@ -286,14 +407,24 @@ module _ {D : Type 0} (drive : D → Drive) (w : ℕ) (cells : List Cell) (first
               cause = tt;
               leaves = λ bytes told c left.
                   let now = told-after start.bytes (drive g.disk).bytes bytes after.told told in
-                  let is : Recovers w (take g.state.held cells) c = exactly g after.width after.holds now.0 now.1 c left in
-                  subst (λ (s : Following). RecoversFirst w cells s.held s.held c) after.state (record { count = g.state.held; least_is = omega arith; most_is = omega arith; recovers = is });
+                  subst (λ (s : Following). RecoversFirst w cells s.held s.held c) after.state (leaves-at g after.width after.holds now.0 now.1 g.state.held g.state.held (omega arith) (omega arith) c left);
+              log = λ bytes told other.
+                  let now = told-after start.bytes (drive g.disk).bytes bytes after.told told in
+                  subst (λ (s : Following). IsLog w (take s.held cells) (drive g.disk)) after.state (log-at g after.width after.holds now.0 now.1);
+              calls = λ bytes told.
+                  let n : ℕ = calls_at count first turns (made + 1) in (
+                    [],
+                    inl refl,
+                    subst (λ (k : ℕ). Made (replicate k true ++ []) start (drive g.disk)) (none-before n)
+                        (subst (λ (l : List Bool). Made l start (drive g.disk)) (sym (append-nil (replicate n true))) (after.calls bytes told)),
+                  );
             };
             sound = after.sound;
             passes = after.passes;
             calm = λ quiet. after.calm;
             free = λ bytes told. inl refl;
             later = omega (arith, after.calm);
+            calls = inl after.well;
             file = after.file;
           })
 

@@ -1,11 +1,13 @@
 -- The second file: its attach, its opening, and the turns behind it.
-use Rattle.std.proofs.Common.{◌≡◌, ◌⊎◌, inl, inr, ⊎_elim, ◌∙◌, ℕ, ◌<◌, true, false, List, length, take, drop, Some, None, is_some, Result, Err, refl, sym, ap, subst, arith}
-use Rattle.std.specs.Prelude.{◌≢◌}
+use Rattle.std.proofs.Common.{◌≡◌, ◌⊎◌, inl, inr, ⊎_elim, ◌∙◌, ℕ, ◌+◌, ◌*◌, ◌<◌, Bool, true, List, ◌++◌, length, replicate, take, drop, Some, None, is_some, Result, refl, sym, ap, subst, arith, append_assoc}
+use Rattle.std.specs.Prelude.{if◌then◌else◌, nat_lt}
+use Rattle.std.proofs.lemmas.Bool.{lt-ltb, le-ltb}
+use Rattle.std.proofs.lemmas.List.{replicate-append-replicate}
 use Rattle.causes.specs.Causes.{Rose, Counts}
 use Rattle.io_edge.specs.Puts.{Puts}
 use Rattle.io_edge.specs.Streams.{Output}
-use Rattle.disk_trait.specs.Drive.{Drive, KeepsLaws, Stays, AttachedOne}
-use Rattle.disk_trait.proofs.Calls.{attached-still}
+use Rattle.disk_trait.specs.Drive.{Drive, Made, MadeWell, KeepsLaws, Stays, AttachedOne}
+use Rattle.disk_trait.proofs.Calls.{attached-still, made-then}
 use Rattle.cell_format.specs.declared.cell.Cell.{Cell}
 use Rattle.cell_format.specs.Spelling.{newest}
 use Rattle.split_log.proofs.Commits.{joined}
@@ -13,8 +15,10 @@ use Rattle.log_state.specs.Recovers.{Recovers}
 use Rattle.recovery.specs.declared.seen.OpenFault.{OpenFault}
 use Rattle.recovery.specs.declared.seen.OpenFault.TheVariants as open_fault
 use Rattle.recovery.specs.Faults.{IsFault, IsInBytes}
+use Rattle.recovery.specs.Found.{IsNewest}
 use Rattle.recovery.specs.Making.{IsSmall}
 use Rattle.recovery.specs.Opening.{IsUntouched}
+use Rattle.recovery.proofs.CallLemmas.{well-none, stops-then}
 use Rattle.recovery.proofs.OnlyReading.{rose-earlier}
 use Rattle.recovery.proofs.OpeningLemmas.{leaves-trans, leaves-stays}
 use Rattle.csv_rows.specs.declared.rows.Refusal.{Refusal}
@@ -26,7 +30,8 @@ use Rattle.follower.specs.declared.turns.Turn.{Turn}
 use Rattle.follower.specs.Faults.{IsFree, is_drives}
 use Rattle.follower.specs.Follow.{Following, opened_with, reports}
 use Rattle.follower.specs.Holding.{FollowerView, RecoversFirst, IsUntold}
-use Rattle.follower.specs.Opening.{IsStrange, IsTaken, IsOpenCause, Opens, RefusesOpen, KeepsTarget, most_held}
+use Rattle.follower.specs.Opening.{CallsToFollow, IsStrange, IsTaken, IsOpenCause, Opens, RefusesOpen, KeepsTarget, most_held}
+use Rattle.follower.proofs.OpenLemmas.{follow_before, stops_unfollowed}
 use Rattle.follower.proofs.TurnLemmas.{told-before}
 use Rattle.run_ends.specs.Attaching.{RefusesAttach}
 use Rattle.run_ends.specs.LogFaults.{log_refusal}
@@ -35,21 +40,9 @@ use Rattle.run_ends.specs.Taking.{Refuses}
 use Rattle.run_ends.proofs.AttachFacts.{attaches-one, attaches-as, only-memory}
 use Rattle.log_run.proofs.MakingEnds.{ends-writing, whole-writing}
 use Rattle.follow_run.specs.Lines.{reports_text}
-use Rattle.follow_run.specs.Replica.{machine_at, IsReplicaCause, IsStop, OpensUntold, EndsTurns, EndsReplica, follow_refusal}
+use Rattle.follow_run.specs.Replica.{machine_at, calls_at, calls_to_open, IsReplicaCause, IsStop, OpensUntold, EndsTurns, EndsReplica, follow_refusal}
 use Rattle.follow_run.specs.Playing.{OpensReplica, LosesReplica, PlaysAll, StopsPlaying, EndsPlaying}
-
--- a fault whose refusal hasn't the status of drives isn't theirs
-drives-told : (why : FollowFault) → status_of (follow_refusal why) ≢ 7 → is_drives why ≡ false
-drives-told (fault.Strange cell) other = refl
-drives-told (fault.Log open_fault.NotLog) other = refl
-drives-told (fault.Log (open_fault.OldLog version width)) other = refl
-drives-told (fault.Log (open_fault.Damaged number cause)) other = refl
-drives-told (fault.Log open_fault.Disk) other = absurd (other refl)
-drives-told (fault.Log open_fault.Memory) other = refl
-drives-told (fault.Log (open_fault.TooLong limit)) other = refl
-drives-told (fault.Append cell) other = absurd (other refl)
-drives-told fault.Disk other = absurd (other refl)
-drives-told fault.Memory other = refl
+use Rattle.follow_run.proofs.PlayFacts.{drives-told, none-before, well-more}
 
 -- an answer that the bytes don't decide is want of memory where the count didn't rise
 free-memory : (a b : Drive) (why : FollowFault) → IsFree a b why → (Rose a.faults b.faults → ⊥) → follow_refusal why ≡ refusal.Memory
@@ -73,6 +66,7 @@ module _ (w : ℕ) (cells : List Cell) (a b : Drive) (laws : KeepsLaws a) (stays
   keeps-after c keeps = record {
     small = λ bytes told now. leaves-trans a b c IsSmall (leaves-stays a b IsSmall laws now stays) (keeps.small bytes (stays.bytes ∙ told) (λ x is. now x (stays.images x is)));
     log = λ bytes own told long now. leaves-trans a b c (Recovers w own) (leaves-stays a b (Recovers w own) laws now stays) (keeps.log bytes own (stays.bytes ∙ told) long (λ x is. now x (stays.images x is)));
+    newest = λ bytes told long now. leaves-trans a b c IsNewest (leaves-stays a b IsNewest laws now stays) (keeps.newest bytes (stays.bytes ∙ told) long (λ x is. now x (stays.images x is)));
     other = λ bytes told none. untouched-after c (keeps.other bytes (stays.bytes ∙ told) none);
   }
 
@@ -80,6 +74,7 @@ module _ (w : ℕ) (cells : List Cell) (a b : Drive) (laws : KeepsLaws a) (stays
   keeps-attached = record {
     small = λ bytes told now. leaves-stays a b IsSmall laws now stays;
     log = λ bytes own told long now. leaves-stays a b (Recovers w own) laws now stays;
+    newest = λ bytes told long now. leaves-stays a b IsNewest laws now stays;
     other = λ bytes told none. untouched-attached;
   }
 
@@ -97,6 +92,7 @@ module _ (w : ℕ) (cells : List Cell) (a b : Drive) (laws : KeepsLaws a) (stays
     strange = λ bytes cell told is calm. inr (only-memory name true a b why refuses calm);
     whole = λ bytes first told taken calm. only-memory name true a b why refuses calm;
     calm = refuses.calm;
+    calls = inl (well-none a b stays.calls);
     attached = refuses.attached;
   }
 
@@ -112,6 +108,7 @@ module _ (w : ℕ) (cells : List Cell) (a b : Drive) (laws : KeepsLaws a) (stays
       found = λ bytes told. opens.found bytes (stays.bytes ∙ told);
       told = opens.told ∙ ap is_some stays.bytes;
       calm = opens.calm ∙ same;
+      calls = follow_before a b stays f.state.held (drive f.disk) opens.calls;
       keeps = keeps-after (drive f.disk) keeps;
       sound = λ bytes why told. sound bytes why (stays.bytes ∙ told);
       own = λ bytes cell told. own bytes cell (stays.bytes ∙ told);
@@ -122,8 +119,8 @@ module _ (w : ℕ) (cells : List Cell) (a b : Drive) (laws : KeepsLaws a) (stays
       rose_since : Rose b.faults c.faults → Rose a.faults c.faults
       rose_since rose = rose-earlier a.faults b.faults c.faults (omega (arith, same)) rose
 
-      open-cause : (e : FollowFault) → IsOpenCause w cells b e → (is_drives e ≡ true → Rose b.faults c.faults) → IsReplicaCause w cells a c (follow_refusal e)
-      open-cause (fault.Strange cell) is rose = λ bytes told. is bytes (stays.bytes ∙ told)
+      open-cause : (e : FollowFault) → IsOpenCause w cells b c e → (is_drives e ≡ true → Rose b.faults c.faults) → IsReplicaCause w cells a c (follow_refusal e)
+      open-cause (fault.Strange cell) is rose = λ bytes told. is.1 bytes (stays.bytes ∙ told)
       open-cause (fault.Log open_fault.NotLog) is rose = λ bytes told. is bytes (stays.bytes ∙ told)
       open-cause (fault.Log (open_fault.OldLog version width)) is rose = λ bytes told. is bytes (stays.bytes ∙ told)
       open-cause (fault.Log (open_fault.Damaged number cause)) is rose = λ bytes told. is bytes (stays.bytes ∙ told)
@@ -149,6 +146,7 @@ module _ (w : ℕ) (cells : List Cell) (a b : Drive) (laws : KeepsLaws a) (stays
         strange = λ bytes cell told is calm. ⊎_elim (λ same. inl (ap follow_refusal same)) (λ free. inr (memory calm free)) (strange bytes cell (stays.bytes ∙ told) is);
         whole = λ bytes first told taken calm. memory calm (whole bytes first (stays.bytes ∙ told) taken);
         calm = λ other. refuses.calm (drives-told why other) ∙ same;
+        calls = stops-then a b c (well-none a b stays.calls) (stops_unfollowed why b c refuses.calls);
         attached = attaches-one name true a c (status_of (follow_refusal why)) (attached-still name true a b c attached refuses.file);
       }
 
@@ -164,12 +162,15 @@ plays-told {T = T} {E = E} w cells first turns old new before after told wrote p
         all = refl;
         wrote = ends-writing text before after wrote (subst (λ (l : List Report). Puts before.taken after.taken (reports_text l) wrote) plays.reports_are puts) counts;
         exactly = plays.exactly;
+        log = plays.log;
+        calls = λ bytes told. subst (λ (n : ℕ). MadeWell n old new) (none-before (calls_at (length cells) first turns (length turns))) (plays.calls bytes told);
       });
       sound = plays.sound;
       passes = plays.passes;
       whole = λ bytes told calm quiet. inl (whole-writing before.faults after.faults wrote counts quiet);
       calm = λ other. plays.calm;
       later = omega (arith, plays.calm);
+      calls = inl plays.well;
       file = plays.file;
     }
 
@@ -185,6 +186,7 @@ plays-stopped w cells first turns old new before after why status stops refuses 
   whole = λ bytes told calm quiet. inr (refuses.status_is ∙ ap status_of (free-memory old new why (stops.free bytes told) calm));
   calm = λ other. stops.calm (drives-told why (λ e. other (refuses.status_is ∙ e)));
   later = stops.later;
+  calls = stops.calls;
   file = stops.file;
 }
 
@@ -203,6 +205,7 @@ ends-unopened w cells turns name old new before after why status loses refuses =
         whole = λ bytes first told taken calm quiet. inr (is ∙ ap status_of (loses.whole bytes first told taken calm));
       };
       calm = λ other. loses.calm (λ e. other (is ∙ e));
+      calls = loses.calls;
       attached = attaches-as name true old new status (status_of why) is loses.attached;
     }
 
@@ -233,6 +236,33 @@ module _ (count : ℕ) (s : Following) (rest : List Turn) (a b new : Drive) (sam
   stop-before refusal.Memory is = tt
   stop-before (refusal.InUse len) is = absurd is
 
+-- how many device calls opened the second file, as its bytes say where they are known
+opening : (held : ℕ) (old new : Drive) → CallsToFollow held old new → (n : ℕ) × MadeWell n old new × ((bytes : List ℕ) → old.bytes ≡ Some bytes → n ≡ calls_to_open bytes held)
+opening held old new (inl (short, none, made)) = (
+  2,
+  made,
+  λ bytes told.
+      let rest : ℕ = if nat_lt (17 + 32 * held) (length bytes) then 3 else 1 in
+      sym (ap (λ (b : Bool). if b then rest else 2) (le-ltb 17 (length bytes) (short bytes told))),
+)
+opening held old new (inr (long, inl (there, made))) = (
+  1,
+  made,
+  λ bytes told.
+      let n : ℕ = length bytes in
+      let rest : ℕ = if nat_lt (17 + 32 * held) n then 3 else 1 in
+      sym
+      (ap (λ (b : Bool). if b then rest else 2) (lt-ltb 17 n (long bytes told)) ∙ ap (λ (b : Bool). if b then 3 else 1) (le-ltb (17 + 32 * held) n (omega (arith, there bytes told)))),
+)
+opening held old new (inr (long, inr (beyond, made))) = (
+  3,
+  made,
+  λ bytes told.
+      let n : ℕ = length bytes in
+      let rest : ℕ = if nat_lt (17 + 32 * held) n then 3 else 1 in
+      sym (ap (λ (b : Bool). if b then rest else 2) (lt-ltb 17 n (long bytes told)) ∙ ap (λ (b : Bool). if b then 3 else 1) (lt-ltb (17 + 32 * held) n (beyond bytes told))),
+)
+
 -- a follower was opened, and turns played
 module _ {D : Type 0} (drive : D → Drive) (w : ℕ) (cells : List Cell) (turns : List Turn) (name : List ℕ) (old new : Drive) (before after : Output) (f : FollowerView D) (status : ℕ)
     (opens : OpensReplica drive w cells name old f) (plays : EndsPlaying w cells f.state.held turns (drive f.disk) new status before after) where
@@ -242,11 +272,34 @@ module _ {D : Type 0} (drive : D → Drive) (w : ℕ) (cells : List Cell) (turns
   untold-then : IsUntold (drive f.disk) → IsUntold old
   untold-then untold bytes told = let now = told_then bytes told in untold now.0 now.1
 
-  ends-then : EndsTurns w cells f.state.held turns plays.made (drive f.disk) new status before after → EndsTurns w cells f.state.held turns plays.made old new status before after
-  ends-then (inl tells) = inl (record { all = tells.all; wrote = tells.wrote; exactly = λ bytes told. let now = told_then bytes told in tells.exactly now.0 now.1 })
+  by : (n : ℕ) × MadeWell n old (drive f.disk) × ((bytes : List ℕ) → old.bytes ≡ Some bytes → n ≡ calls_to_open bytes f.state.held)
+  by = opening f.state.held old (drive f.disk) opens.calls
+
+  abbrev of_turns : ℕ
+  of_turns = calls_at (length cells) f.state.held turns plays.made
+
+  -- the calls of the turns, and what the last ones answered, behind those of the opening
+  calls-then : (last : List Bool) → Made (replicate (0 + of_turns) true ++ last) (drive f.disk) new → Made (replicate (by.0 + of_turns) true ++ last) old new
+  calls-then last calls =
+      subst (λ (l : List Bool). Made l old new) (sym (append_assoc (replicate by.0 true) (replicate of_turns true) last) ∙ ap (λ (l : List Bool). l ++ last) (replicate-append-replicate by.0 of_turns true))
+      (made-then (replicate by.0 true) (replicate of_turns true ++ last) old (drive f.disk) new by.1 (subst (λ (n : ℕ). Made (replicate n true ++ last) (drive f.disk) new) (sym (none-before of_turns)) calls))
+
+  ends-then : EndsTurns w cells f.state.held turns plays.made 0 (drive f.disk) new status before after → EndsTurns w cells f.state.held turns plays.made by.0 old new status before after
+  ends-then (inl tells) = inl (record {
+    all = tells.all;
+    wrote = tells.wrote;
+    exactly = λ bytes told. let now = told_then bytes told in tells.exactly now.0 now.1;
+    log = λ bytes told. let now = told_then bytes told in tells.log now.0 now.1;
+    calls = λ bytes told. let now = told_then bytes told in well-more by.0 of_turns old (drive f.disk) new by.1 (subst (λ (n : ℕ). MadeWell n (drive f.disk) new) (sym (none-before of_turns)) (tells.calls now.0 now.1));
+  })
   ends-then (inr (why, stops, refuses)) = inr (
     why,
-    record { cause = stop-before (length cells) (machine_at (length cells) f.state.held turns plays.made) (drop plays.made turns) old (drive f.disk) new opens.calm untold-then why stops.cause; leaves = λ bytes told. let now = told_then bytes told in stops.leaves now.0 now.1 },
+    record {
+      cause = stop-before (length cells) (machine_at (length cells) f.state.held turns plays.made) (drop plays.made turns) old (drive f.disk) new opens.calm untold-then why stops.cause;
+      leaves = λ bytes told. let now = told_then bytes told in stops.leaves now.0 now.1;
+      log = λ bytes told other. let now = told_then bytes told in stops.log now.0 now.1 other;
+      calls = λ bytes told. let now = told_then bytes told in let (last, are, calls) = stops.calls now.0 now.1 in (last, are, calls-then last calls);
+    },
     refuses,
   )
 
@@ -261,13 +314,17 @@ module _ {D : Type 0} (drive : D → Drive) (w : ℕ) (cells : List Cell) (turns
           found = opens.found;
           made = plays.made;
           part = plays.part;
+          opened = by.0;
+          opened_is = by.2;
           ends = ends-then plays.ends;
           keeps = record {
             small = λ bytes told now. let here = told_then bytes told in
                 joined old (drive f.disk) new IsSmall Prefix (λ image. IsSmall image ⊎ Prefix image) (λ c is. inl is) (λ c is. inr is) (opens.keeps.small bytes told now) (plays.passes here.0 here.1).whole;
             log = λ bytes told long now. let here = told_then bytes told in
-                joined old (drive f.disk) new (Recovers w (take first cells)) Prefix Prefix (λ c is. record { count = first; least_is = omega arith; most_is = opens.holds.few; recovers = is }) (λ c is. is)
+                joined old (drive f.disk) new (Recovers w (take first cells)) Prefix (λ image. Recovers w (take first cells) image ⊎ Prefix image) (λ c is. inl is) (λ c is. inr is)
                 (opens.keeps.log bytes (take first cells) told long now) (plays.passes here.0 here.1).whole;
+            newest = λ bytes told long now. let here = told_then bytes told in
+                joined old (drive f.disk) new IsNewest Prefix IsNewest (λ c is. is) (λ c is. is.version) (opens.keeps.newest bytes told long now) (plays.passes here.0 here.1).whole;
             from = λ bytes n told le. let here = told_then bytes told in (plays.passes here.0 here.1).from n le;
             sound = plays.sound;
           };
@@ -278,5 +335,6 @@ module _ {D : Type 0} (drive : D → Drive) (w : ℕ) (cells : List Cell) (turns
           whole = λ bytes n told taken calm quiet. let here = told_then bytes told in plays.whole here.0 here.1 (λ rose. calm (subst (λ (k : ℕ). Rose k new.faults) opens.calm rose)) quiet;
         };
         calm = λ other. plays.calm other ∙ opens.calm;
+        calls = stops-then old (drive f.disk) new (record { count = by.0; calls = by.1 }) plays.calls;
         attached = attaches-one name true old new status (attached-still name true old (drive f.disk) new opens.attached plays.file);
       }

@@ -12,14 +12,14 @@ use Rattle.follow_run.specs.Leading.{IsLeaderCause}
 use Rattle.follow_run.specs.Replica.{IsReplicaCause, IsUnopened, PlaysTurns, EndsTurns, StopsTurns}
 use Rattle.follow_run.specs.Following.{RefusesLeader, FollowsLeader, GivesNoTurns, GivesTurns, Follows}
 
-not-turned : (w : ℕ) (cells : List Cell) (first : ℕ) (turns : List Turn) (made : ℕ) (old new : Drive) (status : ℕ) (before after : Output) → EndsTurns w cells first turns made old new status before after → status ≡ 2 → ⊥
-not-turned w cells first turns made old new status before after (inl tells) two = not-written _ status before after tells.wrote two
-not-turned w cells first turns made old new status before after (inr refused) two = not-usage (StopsTurns w cells first turns made old new) status before after (λ c. c.cause) refused two
+not-turned : (w : ℕ) (cells : List Cell) (first : ℕ) (turns : List Turn) (made opened : ℕ) (old new : Drive) (status : ℕ) (before after : Output) → EndsTurns w cells first turns made opened old new status before after → status ≡ 2 → ⊥
+not-turned w cells first turns made opened old new status before after (inl tells) two = not-written _ status before after tells.wrote two
+not-turned w cells first turns made opened old new status before after (inr refused) two = not-usage (StopsTurns w cells first turns made opened old new) status before after (λ c. c.cause) refused two
 
 not-copied : (w : ℕ) (cells : List Cell) (turns : List Turn) (old new : Drive) (status : ℕ) (before after : Output)
     → IsUnopened w cells old new status before after ⊎ PlaysTurns w cells turns old new status before after → status ≡ 2 → ⊥
 not-copied w cells turns old new status before after (inl unopened) two = not-usage (IsReplicaCause w cells old new) status before after (λ c. c) unopened.refused two
-not-copied w cells turns old new status before after (inr plays) two = not-turned w cells plays.first turns plays.made old new status before after plays.ends two
+not-copied w cells turns old new status before after (inr plays) two = not-turned w cells plays.first turns plays.made plays.opened old new status before after plays.ends two
 
 not-led : {D : Type 0} (file name : List ℕ) (turns : List Turn) (old new : Targets D) (status : ℕ) → RefusesLeader old new status ⊎ FollowsLeader file name turns old new status → status ≡ 2 → ⊥
 not-led file name turns old new status (inl unread) two = not-usage (IsLeaderCause old.drive new.drive) status old.output new.output (λ c. c) unread.refused two

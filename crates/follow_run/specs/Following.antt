@@ -69,7 +69,7 @@ pub record AreDecided {D : Type 0} (old new : Targets D) (status : ℕ) : Type 0
       → IsTaken w cells bytes first → AreCalm old new
       → (Rose old.output.faults new.output.faults → ⊥) → (status ≡ 0) ⊎ (status ≡ 9)
 
--- The first file is read, and its cells followed in the second along turns: the order is attach, width, walk, attach, open, turns, lines. Bytes and
+-- The first file is read, and its cells followed in the second along turns: the order is attach, walk, attach, open, turns, lines. Bytes and
 -- images of the first drive stay, whatever the status is.
 pub record EndsFollowing {D : Type 0} (file name : List ℕ) (turns : List Turn) (old new : Targets D) (status : ℕ) : Type 0 where
   pub ends : RefusesLeader old new status ⊎ FollowsLeader file name turns old new status

@@ -1,14 +1,16 @@
 -- What `follow` does to the second file: it is opened over the leader's cells, and the turns are played.
-use Rattle.std.specs.Prelude.{◌≡◌, ◌≢◌, ◌⊎◌, ◌+◌, ◌<◌, ◌≤◌, ℕ, List, ◌∷◌, length, take, drop, Some, None, true, ⊤}
+use Rattle.std.specs.Prelude.{◌≡◌, ◌≢◌, ◌⊎◌, ◌+◌, ◌*◌, ◌<◌, ◌≤◌, nat_lt, ◌==◌, ◌&&◌, if◌then◌else◌, ℕ, Bool, List, [], ◌∷◌, ◌++◌, length, replicate, take, drop, Some, None, true, false, ⊤}
 use Rattle.causes.specs.Causes.{Rose}
-use Rattle.disk_trait.specs.Drive.{Drive}
+use Rattle.disk_trait.specs.Drive.{Drive, Made, MadeWell}
 use Rattle.disk_trait.specs.Moments.{LeavesNow, LeavesOnly, LeavesSince}
 use Rattle.cell_format.specs.declared.cell.Cell.{Cell}
 use Rattle.cell_format.specs.Spelling.{newest}
+use Rattle.split_log.specs.LogText.{IsLog}
 use Rattle.log_state.specs.Recovers.{Recovers}
+use Rattle.recovery.specs.Calls.{StopsAtFault}
 use Rattle.recovery.specs.Faults.{IsFault, IsInBytes}
 use Rattle.recovery.specs.Making.{IsSmall}
-use Rattle.recovery.specs.Opening.{IsUntouched}
+use Rattle.recovery.specs.Opening.{IsUntouched, KeepsNewest}
 use Rattle.recovery.specs.declared.seen.OpenFault.{OpenFault}
 use Rattle.recovery.specs.declared.seen.OpenFault.TheVariants as open_fault
 use Rattle.csv_rows.specs.declared.rows.Refusal.{Refusal}
@@ -16,13 +18,14 @@ use Rattle.csv_rows.specs.declared.rows.Refusal.TheVariants as refusal
 use Rattle.follower.specs.declared.faults.FollowFault.{FollowFault}
 use Rattle.follower.specs.declared.faults.FollowFault.TheVariants as follow_fault
 use Rattle.follower.specs.declared.turns.Turn.{Turn}
-use Rattle.follower.specs.declared.turns.Turn.TheVariants.{Restart}
-use Rattle.follower.specs.Follow.{Following, opened_with, after_turns, reports, IsSound}
+use Rattle.follower.specs.declared.turns.Turn.TheVariants.{Send, Arrive, Ack, Restart}
+use Rattle.follower.specs.Follow.{Following, opened_with, after_turn, after_turns, cell_of, reports, IsSound}
 use Rattle.follower.specs.Holding.{RecoversFirst, IsUntold}
 use Rattle.follower.specs.Opening.{IsStrange, IsTaken, KeepsTarget, most_held}
 use Rattle.follower.specs.Turning.{BringsNext}
 use Rattle.io_edge.specs.Streams.{Output}
 use Rattle.run_ends.specs.LogFaults.{log_refusal}
+use Rattle.run_ends.specs.Status.{status_of}
 use Rattle.run_ends.specs.Taking.{Refuses}
 use Rattle.run_ends.specs.Ending.{EndsWriting, EndsRefused}
 use Rattle.run_ends.specs.Attaching.{AttachesOnce}
@@ -63,6 +66,34 @@ pub record IsUnopened (w : ℕ) (cells : List Cell) (old new : Drive) (status : 
 abbrev pub machine_at : ℕ → ℕ → List Turn → ℕ → Following
 machine_at count first turns made = after_turns count (opened_with first) (take made turns)
 
+-- how many writes, cuts and syncs a turn makes, where the bytes are known: four that add the next cell, a sync that opens the log again, and else none
+abbrev pub calls_of : ℕ → Following → Turn → ℕ
+calls_of count s (Send cell) = 0
+calls_of count s (Arrive packet) = if (cell_of packet s == s.held) && nat_lt s.held count then 4 else 0
+calls_of count s (Ack number) = 0
+calls_of count s Restart = 1
+
+abbrev pub calls_of_turns : ℕ → Following → List Turn → ℕ
+calls_of_turns count s [] = 0
+calls_of_turns count s (t ∷ turns) = calls_of count s t + calls_of_turns count (after_turn count s t) turns
+
+-- how many the first of these turns make, so many, since so many cells were held
+abbrev pub calls_at : ℕ → ℕ → List Turn → ℕ → ℕ
+calls_at count first turns made = calls_of_turns count (opened_with first) (take made turns)
+
+-- how many open the second file, of these bytes and with so many of the leader's cells: a write and a sync make a log of a small one, a sync opens one
+-- that is longer, and a cut and a sync more do where something stands behind its cells
+abbrev pub calls_to_open : List ℕ → ℕ → ℕ
+calls_to_open bytes first = if nat_lt 17 (length bytes) then (if nat_lt (17 + 32 * first) (length bytes) then 3 else 1) else 2
+
+-- What the calls of the turn that wasn't made answered, where the bytes are known: some of the four of an append were answered Ok, and the next one
+-- failed; those that open the log again did so, or they were answered Ok and a read failed, or memory ran out; or there was none.
+abbrev pub AreLast : Refusal → List Bool → Type 0
+AreLast (refusal.Disk (Some cell)) answers = (n : ℕ) × (n ≤ 3) × (answers ≡ replicate n true ++ false ∷ [])
+AreLast (refusal.Disk None) answers = (answers ≡ true ∷ []) ⊎ ((n : ℕ) × (n ≤ 2) × (answers ≡ replicate n true ++ false ∷ []))
+AreLast refusal.Memory answers = (answers ≡ []) ⊎ (answers ≡ true ∷ [])
+AreLast _ answers = ⊥
+
 -- the next turn opens the log again, and the drive doesn't tell its bytes
 abbrev pub OpensUntold : List Turn → Drive → Type 0
 OpensUntold rest old = ((later : List Turn) × (rest ≡ Restart ∷ later)) × IsUntold old
@@ -86,25 +117,36 @@ abbrev pub most_behind : Refusal → ℕ → ℕ
 most_behind (refusal.Disk (Some cell)) held = held + 1
 most_behind _ held = held
 
--- All turns were made, and their reports told. A crash leaves the cells that are held, exactly.
-pub record TellsReports (w : ℕ) (cells : List Cell) (first : ℕ) (turns : List Turn) (made : ℕ) (old new : Drive) (status : ℕ) (before after : Output) : Type 0 where
+-- All turns were made, and their reports told. The file is the text of the cells that are held, and a crash leaves these, exactly. Behind so many
+-- device calls that opened it just those of the turns were made.
+pub record TellsReports (w : ℕ) (cells : List Cell) (first : ℕ) (turns : List Turn) (made opened : ℕ) (old new : Drive) (status : ℕ) (before after : Output) : Type 0 where
   pub all : made ≡ length turns
   pub wrote : EndsWriting (reports_text (reports (length cells) (opened_with first) turns)) status before after
   pub exactly : (bytes : List ℕ) → old.bytes ≡ Some bytes
       → LeavesNow new (Recovers w (take (machine_at (length cells) first turns made).held cells))
+  pub log : (bytes : List ℕ) → old.bytes ≡ Some bytes → IsLog w (take (machine_at (length cells) first turns made).held cells) new
+  pub calls : (bytes : List ℕ) → old.bytes ≡ Some bytes → MadeWell (opened + calls_at (length cells) first turns made) old new
 
 -- The turns stopped behind those that were made, for this reason. A crash leaves the cells that are held, exactly, or one more behind a failed
--- append.
-pub record StopsTurns (w : ℕ) (cells : List Cell) (first : ℕ) (turns : List Turn) (made : ℕ) (old new : Drive) (why : Refusal) : Type 0 where
+-- append; but where the drive failed, the file is their text. Behind so many device calls that opened it just those of the turns that were made were
+-- made, and those of the turn that wasn't, none behind one that failed.
+pub record StopsTurns (w : ℕ) (cells : List Cell) (first : ℕ) (turns : List Turn) (made opened : ℕ) (old new : Drive) (why : Refusal) : Type 0 where
   pub cause : IsStop (length cells) (machine_at (length cells) first turns made) (drop made turns) old new why
   pub leaves :
       (bytes : List ℕ) → old.bytes ≡ Some bytes
       → let held = (machine_at (length cells) first turns made).held in LeavesNow new (RecoversFirst w cells held (most_behind why held))
+  pub log :
+      (bytes : List ℕ) → old.bytes ≡ Some bytes → status_of why ≢ 7
+      → IsLog w (take (machine_at (length cells) first turns made).held cells) new
+  pub calls :
+      (bytes : List ℕ) → old.bytes ≡ Some bytes
+      → (last : List Bool) × AreLast why last × Made (replicate (opened + calls_at (length cells) first turns made) true ++ last) old new
 
 -- the reports of all turns were written, or the turns stopped and the refusal was
-abbrev pub EndsTurns : ℕ → List Cell → ℕ → List Turn → ℕ → Drive → Drive → ℕ → Output → Output → Type 0
-EndsTurns w cells first turns made old new status before after =
-    TellsReports w cells first turns made old new status before after ⊎ EndsRefused (StopsTurns w cells first turns made old new) status before after
+abbrev pub EndsTurns : ℕ → List Cell → ℕ → List Turn → ℕ → ℕ → Drive → Drive → ℕ → Output → Output → Type 0
+EndsTurns w cells first turns made opened old new status before after =
+    TellsReports w cells first turns made opened old new status before after
+    ⊎ EndsRefused (StopsTurns w cells first turns made opened old new) status before after
 
 -- a moment since which a crash leaves the first of the cells, at least so many
 pub record LeavesFrom (w : ℕ) (cells : List Cell) (least : ℕ) (new : Drive) : Type 0 where
@@ -113,26 +155,29 @@ pub record LeavesFrom (w : ℕ) (cells : List Cell) (least : ℕ) (new : Drive) 
   pub since : LeavesSince new moment (RecoversFirst w cells least (length cells))
 
 -- What a crash leaves of the second file, where its bytes are known. At each moment that is what a crash left before it was opened, small bytes or
--- the cells that it had, or the first of the leader's cells. From when it was opened and some turns were made, these are at least as many as
--- were held then, of which no more were known to be.
+-- the cells that it had, or the first of the leader's cells, in the newest version. From when it was opened and some turns were made, these are at
+-- least as many as were held then, of which no more were known to be.
 pub record KeepsFirst (w : ℕ) (cells : List Cell) (first : ℕ) (turns : List Turn) (made : ℕ) (old new : Drive) : Type 0 where
   pub small : (bytes : List ℕ) → old.bytes ≡ Some bytes → LeavesNow old IsSmall
       → LeavesOnly old new (λ image. IsSmall image ⊎ RecoversFirst w cells first (length cells) image)
   pub log :
       (bytes : List ℕ) → old.bytes ≡ Some bytes → 17 < length bytes → LeavesNow old (Recovers w (take first cells))
-      → LeavesOnly old new (RecoversFirst w cells first (length cells))
+      → LeavesOnly old new (λ image. Recovers w (take first cells) image ⊎ RecoversFirst w cells first (length cells) image)
+  pub newest : (bytes : List ℕ) → old.bytes ≡ Some bytes → 17 < length bytes → KeepsNewest old new
   pub from : (bytes : List ℕ) (n : ℕ) → old.bytes ≡ Some bytes → n ≤ made
       → LeavesFrom w cells (machine_at (length cells) first turns n).held new
   pub sound : (n : ℕ) → n ≤ made → IsSound (machine_at (length cells) first turns n)
 
--- The second file was opened, and had so many of the leader's cells then; so many turns were made.
+-- The second file was opened by so many device calls, and had so many of the leader's cells then; so many turns were made.
 pub record PlaysTurns (w : ℕ) (cells : List Cell) (turns : List Turn) (old new : Drive) (status : ℕ) (before after : Output) : Type 0 where
   pub first : ℕ
   pub few : first ≤ length cells
   pub found : (bytes : List ℕ) → old.bytes ≡ Some bytes → IsTaken w cells bytes first
   pub made : ℕ
   pub part : made ≤ length turns
-  pub ends : EndsTurns w cells first turns made old new status before after
+  pub opened : ℕ
+  pub opened_is : (bytes : List ℕ) → old.bytes ≡ Some bytes → opened ≡ calls_to_open bytes first
+  pub ends : EndsTurns w cells first turns made opened old new status before after
   pub keeps : KeepsFirst w cells first turns made old new
 
 -- What the bytes of the second file decide, unless its drive's count rose or memory ran out: a fault that they show is told, and the first cell that
@@ -154,7 +199,8 @@ pub record IsDecidedThere (w : ℕ) (cells : List Cell) (old new : Drive) (statu
 pub record EndsReplica (w : ℕ) (cells : List Cell) (turns : List Turn) (name : List ℕ) (old new : Drive) (status : ℕ) (before after : Output) : Type 0 where
   pub ends : IsUnopened w cells old new status before after ⊎ PlaysTurns w cells turns old new status before after
   pub decided : IsDecidedThere w cells old new status before after
-  -- the drive's count is as it was, but where a drive is what is told to have failed
+  -- the drive's count is as it was, but where a drive is what is told to have failed; no call was made behind one that failed
   pub calm : status ≢ 7 → new.faults ≡ old.faults
+  pub calls : StopsAtFault old new
   -- this file is attached, and made where it isn't there
   pub attached : AttachesOnce name true old new status

@@ -14,7 +14,7 @@ ghost use Rattle.follow_run.specs.Leading.{FindsLeader, RecoversLeader, ReadsLea
 
 use cell_format::Cell;
 use disk_trait::LogDisk;
-use recovery::{OpenFault, OpenRefused, Walk, width_of};
+use recovery::{OpenFault, OpenRefused, Walk};
 use run_ends::{Unmade, attach, log_refusal};
 use std::alloc::Global;
 
@@ -51,7 +51,7 @@ pub(crate) fn find_leader<D: LogDisk>(
 }
 
 // Reads the log on a drive by the width that it has.
-fn read_leader<D: LogDisk>(alloc: Global, mut disk: D) -> Result<Leader<D>, OpenRefused<D>>
+fn read_leader<D: LogDisk>(alloc: Global, disk: D) -> Result<Leader<D>, OpenRefused<D>>
     ensures found { IfOk result (λ l. FindsLeader l.width (D.drive disk) l.cells.items) }
     ensures fault { IfErr result (λ e. (bytes : List ℕ) → (D.drive disk).bytes ≡ Some bytes
         → IsLogFault oldest_read most_followed bytes e.cause) }
@@ -63,25 +63,23 @@ fn read_leader<D: LogDisk>(alloc: Global, mut disk: D) -> Result<Leader<D>, Open
     ensures reads { MatchResult result (λ l. OnlyReads {T = Unit {0}} (D.drive disk) (D.drive l.disk) (Ok tt))
         (λ e. OnlyReads {T = Unit {0}} (D.drive disk) (D.drive e.disk) (Err e.cause)) }
 {
-    match width_of(&mut disk) {
-        Ok(width) => walk_leader(alloc, disk, width),
-        Err(cause) => Err(OpenRefused { disk, cause }),
+    match Walk::along(alloc, disk, MOST_FOLLOWED) {
+        Ok(walk) => walk_leader(alloc, walk),
+        Err(refused) => Err(refused),
     }
 }
 
-// The same by this width.
-fn walk_leader<D: LogDisk>(alloc: Global, disk: D, width: u8) -> Result<Leader<D>, OpenRefused<D>>
-    requires width { IsWidth width }
-    ensures found { IfOk result (λ l. (l.width ≡ width) × FindsLeader width (D.drive disk) l.cells.items) }
-    ensures fault { IfErr result (λ e. (bytes : List ℕ) → (D.drive disk).bytes ≡ Some bytes
-        → IsFault oldest_read width most_followed bytes e.cause) }
-    ensures reads { MatchResult result (λ l. OnlyReads {T = Unit {0}} (D.drive disk) (D.drive l.disk) (Ok tt))
-        (λ e. OnlyReads {T = Unit {0}} (D.drive disk) (D.drive e.disk) (Err e.cause)) }
+// Goes along the log of a walk that has just begun.
+fn walk_leader<D: LogDisk>(alloc: Global, mut walk: Walk<D>) -> Result<Leader<D>, OpenRefused<D>>
+    requires begun { ComesTo walk.reading.replay.width most_followed [] (D.drive walk.disk) walk }
+    ensures found { IfOk result (λ l. (l.width ≡ walk.reading.replay.width)
+        × FindsLeader walk.reading.replay.width (D.drive walk.disk) l.cells.items) }
+    ensures fault { IfErr result (λ e. (bytes : List ℕ) → (D.drive walk.disk).bytes ≡ Some bytes
+        → IsFault oldest_read walk.reading.replay.width most_followed bytes e.cause) }
+    ensures reads { MatchResult result (λ l. OnlyReads {T = Unit {0}} (D.drive walk.disk) (D.drive l.disk) (Ok tt))
+        (λ e. OnlyReads {T = Unit {0}} (D.drive walk.disk) (D.drive e.disk) (Err e.cause)) }
 {
-    let mut walk = match Walk::start(alloc, disk, width, MOST_FOLLOWED) {
-        Ok(walk) => walk,
-        Err(refused) => return Err(refused),
-    };
+    let width = walk.width();
     match collect(alloc, &mut walk) {
         Ok(cells) => {
             let disk = walk.finish().disk;

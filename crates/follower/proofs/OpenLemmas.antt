@@ -1,5 +1,5 @@
 -- What the opening of a follower comes to.
-use Rattle.std.proofs.Common.{◌≡◌, ◌≢◌, ℕ, ◌+◌, ◌*◌, ◌<◌, ◌≤◌, ◌⊎◌, inl, inr, ⊎_elim, Bool, true, false, ltb, List, [], ◌∷◌, length, take, Some, None, is_some, refl, sym, ◌∙◌, ap, subst, lit≤, arith, length-append}
+use Rattle.std.proofs.Common.{◌≡◌, ◌≢◌, ℕ, ◌+◌, ◌*◌, ◌<◌, ◌≤◌, ◌⊎◌, inl, inr, ⊎_elim, Bool, true, false, ltb, List, [], ◌∷◌, length, replicate, take, Some, None, is_some, refl, sym, ◌∙◌, ap, subst, lit≤, arith, length-append}
 use Rattle.std.specs.Prelude.{slice_index}
 use Rattle.std.proofs.Math.Seq.{take-length}
 use Rattle.std.proofs.lemmas.Bool.{true≢false, ltb-true, ltb-false}
@@ -7,8 +7,9 @@ use Rattle.std.proofs.lemmas.List.{length-take-le, take-take}
 use Rattle.causes.specs.Causes.{Rose}
 use Rattle.cell_format.specs.declared.cell.Cell.{Cell}
 use Rattle.cell_format.specs.Spelling.{newest}
-use Rattle.disk_trait.specs.Drive.{Drive, KeepsLaws, Stays, SameFile, IsSynced}
+use Rattle.disk_trait.specs.Drive.{Drive, HasNoMore, MadeWell, StopsAfter, KeepsLaws, Stays, SameFile, IsSynced}
 use Rattle.disk_trait.specs.Moments.{LeavesNow, LeavesOnly}
+use Rattle.disk_trait.proofs.Calls.{still-made}
 use Rattle.split_log.specs.LogText.{front_of, HoldsCells, IsLog, IsLogOf, IsLogText}
 use Rattle.split_log.specs.LogView.{LogView}
 use Rattle.split_log.proofs.Cells.{length-front_of}
@@ -17,21 +18,23 @@ use Rattle.log_state.specs.Recovers.{Recovers}
 use Rattle.recovery.specs.declared.seen.OpenFault.{OpenFault}
 use Rattle.recovery.specs.declared.seen.OpenFault.TheVariants as open_fault
 use Rattle.recovery.specs.declared.seen.InitFault.{InitFault}
-use Rattle.recovery.specs.declared.seen.InitFault.TheVariants.{InUse}
+use Rattle.recovery.specs.declared.seen.InitFault.TheVariants as init_fault
 use Rattle.recovery.specs.Faults.{IsFault, IsInBytes}
-use Rattle.recovery.specs.Found.{IsWanted, IsFree as IsFreeFault}
+use Rattle.recovery.specs.Found.{IsNewest, IsWanted, IsFree as IsFreeFault}
 use Rattle.recovery.specs.Making.{IsSmall, Makes, RefusesInit, KeepsSmall}
-use Rattle.recovery.specs.Opening.{KeepsCells, IsUntouched}
+use Rattle.recovery.specs.Opening.{CallsToOpen, KeepsCells, KeepsNewest, IsUntouched}
 use Rattle.recovery.proofs.Exclusive.{recovers_no_fault, told_fault, told_free}
+use Rattle.recovery.specs.Calls.{StopsAtFault}
+use Rattle.recovery.proofs.CallLemmas.{stops-refused, well-none}
 use Rattle.recovery.proofs.OpeningLemmas.{leaves-trans, leaves-stays}
 use Rattle.follower.specs.declared.faults.FollowFault.{FollowFault}
 use Rattle.follower.specs.declared.faults.FollowFault.TheVariants.{Strange, Log, Append, Disk, Memory}
 use Rattle.follower.specs.Comparing.{IsOnlyRead, Compares, RefusesCompare}
 use Rattle.follower.specs.Faults.{is_drives, IsFree}
-use Rattle.follower.specs.Holding.{FollowerView, AreLeading}
-use Rattle.follower.specs.Opening.{most_held, IsOpenable, IsStrange, IsTaken, Opens, OpensLog, IsOpenCause, RefusesOpen, KeepsTarget}
-use Rattle.follower.specs.Reopening.{Reopens, RefusesReopen}
-use Rattle.follower.proofs.TurnLemmas.{told-before}
+use Rattle.follower.specs.Holding.{FollowerView, AreLeading, IsUntold}
+use Rattle.follower.specs.Opening.{most_held, IsOpenable, IsStrange, IsTaken, CallsToFollow, CallsNotToFollow, Opens, OpensLog, IsOpenCause, RefusesOpen, KeepsTarget}
+use Rattle.follower.specs.Reopening.{CallsUnopened, Reopens, RefusesReopen}
+use Rattle.follower.proofs.TurnLemmas.{told-before, quiet_log}
 
 some_same : (a b : List ℕ) → Some a ≡ Some b → a ≡ b
 some_same a b same = cc same
@@ -99,7 +102,7 @@ module _ (w : ℕ) (cells : List Cell) (bytes : List ℕ) where
     failed_log e refused is = refused.rose (ap (λ f. is_drives (Log f)) is)
 
     pub told_exact : (fault : FollowFault) (f : OpenFault) → RefusesOpen w cells old new fault → IsInBytes f → IsFault newest w most_held bytes f → (fault ≡ Log f) ⊎ IsFree old new fault
-    told_exact (Strange n) f refused shown is = let s = refused.cause bytes told in absurd (no_fault w bytes s.own s.openable f shown is)
+    told_exact (Strange n) f refused shown is = let s = refused.cause.1 bytes told in absurd (no_fault w bytes s.own s.openable f shown is)
     told_exact (Log e) f refused shown is =
         ⊎_elim (λ same. inl (ap (λ x. Log x) same)) (λ free. inr (free_log e free))
         (told_fault newest w most_held (lit≤ tt) bytes old new e f (refused.cause bytes told).1 (failed_log e refused) shown is)
@@ -113,14 +116,14 @@ module _ (w : ℕ) (cells : List Cell) (bytes : List ℕ) where
         free_log e (told_free newest w most_held (lit≤ tt) bytes old new e own (refused.cause bytes told).1 (failed_log e refused) log.recovers (wanted w bytes own log) log.few)
 
     pub told_strange : (fault : FollowFault) (n : ℕ) → RefusesOpen w cells old new fault → IsStrange w cells bytes n → (fault ≡ Strange n) ⊎ IsFree old new fault
-    told_strange (Strange m) n refused s = inl (ap (λ x. Strange x) (strange_once m n (refused.cause bytes told) s))
+    told_strange (Strange m) n refused s = inl (ap (λ x. Strange x) (strange_once m n (refused.cause.1 bytes told) s))
     told_strange (Log e) n refused s = inr (open_free e s.own refused s.openable)
     told_strange (Append m) n refused s = absurd refused.cause
     told_strange Disk n refused s = inr (inr (inr (refused.rose refl)))
     told_strange Memory n refused s = absurd refused.cause
 
     pub told_whole : (fault : FollowFault) (held : ℕ) → RefusesOpen w cells old new fault → IsTaken w cells bytes held → IsFree old new fault
-    told_whole (Strange m) held refused taken = absurd (strange_taken m held (refused.cause bytes told) taken)
+    told_whole (Strange m) held refused taken = absurd (strange_taken m held (refused.cause.1 bytes told) taken)
     told_whole (Log e) held refused (inl small) = absurd (omega (arith, small.0, (refused.cause bytes told).0))
     told_whole (Log e) held refused (inr log) = open_free e (take held cells) refused log.2
     told_whole (Append m) held refused taken = absurd refused.cause
@@ -143,6 +146,7 @@ opens {D = D} drive w cells old log packets acks leading is none_sent none_back 
       found = λ bytes told. (is.found bytes told).0;
       told = is.told;
       calm = is.calm;
+      calls = is.calls;
       file = is.file;
     }))
   where
@@ -163,6 +167,52 @@ untouched_before a b c stays un = record {
 leaves_before : (a b c : Drive) (P : List ℕ → Type 0) → KeepsLaws a → Stays a b → LeavesNow a P → (LeavesNow b P → LeavesOnly b c P) → LeavesOnly a c P
 leaves_before a b c P laws stays now later = leaves-trans a b c P (leaves-stays a b P laws now stays) (later (λ x left. now x (stays.images x left)))
 
+-- which calls were made since a drive was only read, since before that
+module _ (a b : Drive) (stays : Stays a b) where
+  none_before : (c : Drive) → HasNoMore b.calls c.calls → HasNoMore a.calls c.calls
+  none_before c none all told = stays.calls all (none all told)
+
+  well_before : (n : ℕ) (c : Drive) → MadeWell n b c → MadeWell n a c
+  well_before n c made = still-made (replicate n true) a b c stays.calls made
+
+  stops_before : (most k : ℕ) (c : Drive) → StopsAfter most k b c → StopsAfter most k a c
+  stops_before most k c stops = record { few = stops.few; calls = still-made _ a b c stays.calls stops.calls }
+
+  open_before : (n : ℕ) (c : Drive) → CallsToOpen n b c → CallsToOpen n a c
+  open_before n c (inl (there, made)) = inl (λ bytes told. there bytes (stays.bytes ∙ told), well_before 1 c made)
+  open_before n c (inr (beyond, made)) = inr (λ bytes told. beyond bytes (stays.bytes ∙ told), well_before 3 c made)
+
+  unopened_before : (fault : FollowFault) (c : Drive) → CallsUnopened fault b c → CallsUnopened fault a c
+  unopened_before (Strange n) c made = ⊎_elim (λ one. inl (well_before 1 c one)) (λ three. inr (well_before 3 c three)) made
+  unopened_before (Log e) c refused = record {
+    other = λ other. well_before 1 c (refused.other other);
+    disk = ⊎_elim (λ one. inl (well_before 1 c one)) (λ (k, stops). inr (k, stops_before 2 k c stops)) refused.disk;
+  }
+  unopened_before (Append n) c made = made
+  unopened_before Disk c made = made
+  unopened_before Memory c made = made
+
+  pub follow_before : (held : ℕ) (c : Drive) → CallsToFollow held b c → CallsToFollow held a c
+  follow_before held c (inl (short, none, made)) = inl (λ bytes told. short bytes (stays.bytes ∙ told), none, well_before 2 c made)
+  follow_before held c (inr (long, made)) = inr (λ bytes told. long bytes (stays.bytes ∙ told), open_before held c made)
+
+  not_before_read : (fault : FollowFault) (c : Drive) → CallsNotToFollow fault b c → CallsNotToFollow fault a c
+  not_before_read (Strange n) c made =
+      ⊎_elim (λ none. inl (none_before c none)) (λ (untold, more). inr (λ bytes told. untold bytes (stays.bytes ∙ told), unopened_before (Strange n) c more)) made
+  not_before_read (Log e) c made = ⊎_elim (λ none. inl (none_before c none)) (λ refused. inr (unopened_before (Log e) c refused)) made
+  not_before_read (Append n) c made = made
+  not_before_read Disk c made = ⊎_elim (λ none. inl (none_before c none)) (λ (k, stops). inr (k, stops_before 1 k c stops)) made
+  not_before_read Memory c made = made
+
+-- whatever is told of an opening that was refused, no call was made behind one that failed
+pub stops_unfollowed : (fault : FollowFault) (old new : Drive) → CallsNotToFollow fault old new → StopsAtFault old new
+stops_unfollowed (Strange n) old new made =
+    ⊎_elim (λ none. inl (well-none old new none)) (λ more. ⊎_elim (λ one. inl (record { count = 1; calls = one })) (λ three. inl (record { count = 3; calls = three })) more.1) made
+stops_unfollowed (Log e) old new made = ⊎_elim (λ none. inl (well-none old new none)) (λ refused. stops-refused e old new refused) made
+stops_unfollowed (Append n) old new made = absurd made
+stops_unfollowed Disk old new made = ⊎_elim (λ none. inl (well-none old new none)) (λ (k, stops). inr (record { went_well = k; calls = stops.calls })) made
+stops_unfollowed Memory old new made = absurd made
+
 module _ (w : ℕ) (cells : List Cell) (a b : Drive) (reads : IsOnlyRead a b) where
   pub opened_before : {D : Type 0} (drive : D → Drive) (log : LogView D) → OpensLog drive w cells b log → OpensLog drive w cells a log
   opened_before drive log is = record {
@@ -171,23 +221,25 @@ module _ (w : ℕ) (cells : List Cell) (a b : Drive) (reads : IsOnlyRead a b) wh
     found = λ bytes told. is.found bytes (reads.stays.bytes ∙ told);
     told = is.told ∙ ap is_some reads.stays.bytes;
     calm = is.calm ∙ reads.calm;
+    calls = follow_before a b reads.stays log.cells (drive log.disk) is.calls;
     file = λ all told. reads.file all (is.file all told);
   }
 
-  cause_before : (fault : FollowFault) → IsOpenCause w cells b fault → IsOpenCause w cells a fault
-  cause_before (Strange n) is = λ bytes told. is bytes (reads.stays.bytes ∙ told)
-  cause_before (Log e) is = λ bytes told. is bytes (reads.stays.bytes ∙ told)
-  cause_before (Append n) is = is
-  cause_before Disk is = is
-  cause_before Memory is = is
+  cause_before : (c : Drive) (fault : FollowFault) → IsOpenCause w cells b c fault → IsOpenCause w cells a c fault
+  cause_before c (Strange n) is = (is.0, λ bytes told. is.1 bytes (reads.stays.bytes ∙ told))
+  cause_before c (Log e) is = λ bytes told. is bytes (reads.stays.bytes ∙ told)
+  cause_before c (Append n) is = is
+  cause_before c Disk is = λ bytes told long. none_before a b reads.stays c (is bytes (reads.stays.bytes ∙ told) long)
+  cause_before c Memory is = is
 
   pub refused_before : (c : Drive) (fault : FollowFault) → RefusesOpen w cells b c fault → RefusesOpen w cells a c fault
   refused_before c fault is = record {
-    cause = cause_before fault is.cause;
+    cause = cause_before c fault is.cause;
     rose = λ failed. omega (arith, reads.calm, is.rose failed);
     calm = λ quiet. is.calm quiet ∙ reads.calm;
     untouched = λ quiet bytes told. untouched_before a b c reads.stays (is.untouched quiet bytes (reads.stays.bytes ∙ told));
     later = omega (arith, reads.calm, is.later);
+    calls = not_before_read a b reads.stays fault c is.calls;
     file = λ all told. reads.file all (is.file all told);
   }
 
@@ -195,6 +247,7 @@ module _ (w : ℕ) (cells : List Cell) (a b : Drive) (reads : IsOnlyRead a b) wh
   target_before c laws is = record {
     small = λ bytes told now. leaves_before a b c IsSmall laws reads.stays now (is.small bytes (reads.stays.bytes ∙ told));
     log = λ bytes own told long now. leaves_before a b c (Recovers w own) laws reads.stays now (is.log bytes own (reads.stays.bytes ∙ told) long);
+    newest = λ bytes told long now. leaves_before a b c IsNewest laws reads.stays now (is.newest bytes (reads.stays.bytes ∙ told) long);
     other = λ bytes told none. untouched_before a b c reads.stays (is.other bytes (reads.stays.bytes ∙ told) none);
   }
 
@@ -218,18 +271,34 @@ module _ {D : Type 0} (drive : D → Drive) (w : ℕ) (cells : List Cell) (old :
     found = λ bytes told. let made = makes.log bytes told in (inl (made.0, refl), made.1);
     told = makes.told;
     calm = makes.same;
+    calls = inl (λ bytes told. (makes.log bytes told).0, refl, makes.calls);
     file = file;
   }
 
 -- a file that is longer was only read
-pub read_in_use : (a b : Drive) (cause : InitFault) (len : ℕ) → RefusesInit a b cause → cause ≡ InUse len → SameFile a b → IsOnlyRead a b
+pub read_in_use : (a b : Drive) (cause : InitFault) (len : ℕ) → RefusesInit a b cause → cause ≡ init_fault.InUse len → SameFile a b → IsOnlyRead a b
 read_in_use a b cause len refused is file = let found = subst (RefusesInit a b) is refused in record { stays = found.2; calm = found.3; file = file }
+
+-- a log wasn't made, since the drive failed
+pub not_made : (w : ℕ) (cells : List Cell) (a b : Drive) (cause : InitFault) → RefusesInit a b cause → cause ≡ init_fault.Disk → KeepsSmall a b → RefusesOpen w cells a b Disk
+not_made w cells a b cause refused is keeps =
+    let fails = subst (RefusesInit a b) is refused in
+    record {
+      cause = λ bytes told long. (keeps.in_use bytes told long).calls;
+      rose = λ failed. fails.rose;
+      calm = λ quiet. absurd (true≢false quiet);
+      untouched = λ quiet. absurd (true≢false quiet);
+      later = keeps.later;
+      calls = fails.calls;
+      file = keeps.file;
+    }
 
 -- a file of which a log was made, or not for the drive
 pub target_made : (w : ℕ) (cells : List Cell) (a b : Drive) → KeepsLaws a → KeepsSmall a b → KeepsTarget w cells a b
 target_made w cells a b laws keeps = record {
   small = λ bytes told now. keeps.small now;
   log = λ bytes own told long now. leaves-stays a b (Recovers w own) laws now (keeps.in_use bytes told long);
+  newest = λ bytes told long now. leaves-stays a b IsNewest laws now (keeps.in_use bytes told long);
   other = λ bytes told none.
       ⊎_elim (λ long. untouched_read a b (keeps.in_use bytes told long)) (λ short. absurd (none 0 (inl (short, refl)))) (apart 17 (length bytes));
 }
@@ -244,9 +313,6 @@ module _ (w : ℕ) (cells : List Cell) (a b : Drive) (long : (bytes : List ℕ) 
   drives_log (open_fault.Damaged number why) is = absurd (true≢false (sym is))
   drives_log (open_fault.TooLong limit) is = absurd (true≢false (sym is))
 
-  quiet_log : (e : OpenFault) → is_drives (Log e) ≡ false → e ≢ open_fault.Disk
-  quiet_log e quiet is = true≢false (sym (ap (λ f. is_drives (Log f)) is) ∙ quiet)
-
   pub not_compared : (e : OpenFault) → RefusesCompare w a b e → RefusesOpen w cells a b (Log e)
   not_compared e is = record {
     cause = λ bytes told. (long bytes told, is.cause bytes told);
@@ -254,19 +320,24 @@ module _ (w : ℕ) (cells : List Cell) (a b : Drive) (long : (bytes : List ℕ) 
     calm = λ quiet. is.calm (quiet_log e quiet);
     untouched = λ quiet bytes told. untouched_read a b is.stays;
     later = is.later;
+    calls = inl is.stays.calls;
     file = is.file;
   }
 
   module _ (count same : ℕ) (is : Compares w cells a b count same) where
     pub strange_found : same < count → RefusesOpen w cells a b (Strange same)
     strange_found less = record {
-      cause = λ bytes told.
-          let found = is.found bytes told in
-          record { own = found.own; openable = found.openable; there = omega (arith, less, found.count_is); same = found.same_is; other = found.other less };
+      cause = (
+        is.within,
+        λ bytes told.
+            let found = is.found bytes told in
+            record { own = found.own; openable = found.openable; there = omega (arith, less, found.count_is); same = found.same_is; other = found.other less },
+      );
       rose = λ failed. absurd (true≢false (sym failed));
       calm = λ quiet. is.reads.calm;
       untouched = λ quiet bytes told. untouched_read a b is.reads.stays;
       later = omega (arith, is.reads.calm);
+      calls = inl is.reads.stays.calls;
       file = is.reads.file;
     }
 
@@ -301,23 +372,34 @@ module _ (w : ℕ) (cells : List Cell) (a b : Drive) (long : (bytes : List ℕ) 
             );
         told = re.told ∙ ap is_some is.reads.stays.bytes;
         calm = re.calm ∙ is.reads.calm;
+        calls = inr (long, open_before a b is.reads.stays log.cells (drive log.disk) (subst (λ (n : ℕ). CallsToOpen n b (drive log.disk)) (sym re.cells) re.calls));
         file = λ names told. is.reads.file names (re.file names told);
       }
 
-      again_cause : (c : Drive) (fault : FollowFault) → RefusesReopen w count b c fault → IsOpenCause w cells a fault
-      again_cause c (Strange n) re = λ bytes told. let found = is.found bytes told in absurd (re.cause.1 bytes found.own (is.reads.stays.bytes ∙ told) found.openable.recovers found.count_is)
+      -- a log whose bytes are known has as many cells as were counted
+      other_untold : (c : Drive) (n : ℕ) → RefusesReopen w count b c (Strange n) → IsUntold a
+      other_untold c n re bytes told = let found = is.found bytes told in re.cause.1 bytes found.own (is.reads.stays.bytes ∙ told) found.openable.recovers found.count_is
+
+      again_cause : (c : Drive) (fault : FollowFault) → RefusesReopen w count b c fault → IsOpenCause w cells a c fault
+      again_cause c (Strange n) re = (omega (arith, re.cause.0, few_cells), λ bytes told. absurd (other_untold c n re bytes told))
       again_cause c (Log e) re = λ bytes told. (long bytes told, re.cause bytes (is.reads.stays.bytes ∙ told))
       again_cause c (Append n) re = re.cause
-      again_cause c Disk re = tt
+      again_cause c Disk re = absurd re.cause
       again_cause c Memory re = re.cause
 
       again_untouched : (c : Drive) (fault : FollowFault) → RefusesReopen w count b c fault → is_drives fault ≡ false → (bytes : List ℕ) → a.bytes ≡ Some bytes → IsUntouched a c
-      again_untouched c (Strange n) re quiet bytes told =
-          let found = is.found bytes told in absurd (re.cause.1 bytes found.own (is.reads.stays.bytes ∙ told) found.openable.recovers found.count_is)
+      again_untouched c (Strange n) re quiet bytes told = absurd (other_untold c n re bytes told)
       again_untouched c (Log e) re quiet bytes told = untouched_before a b c is.reads.stays (re.untouched e refl (quiet_log e quiet))
       again_untouched c (Append n) re quiet bytes told = absurd re.cause
       again_untouched c Disk re quiet bytes told = absurd re.cause
       again_untouched c Memory re quiet bytes told = absurd re.cause
+
+      again_calls : (c : Drive) (fault : FollowFault) → RefusesReopen w count b c fault → CallsNotToFollow fault a c
+      again_calls c (Strange n) re = inr (other_untold c n re, unopened_before a b is.reads.stays (Strange n) c re.calls)
+      again_calls c (Log e) re = inr (unopened_before a b is.reads.stays (Log e) c re.calls)
+      again_calls c (Append n) re = re.cause
+      again_calls c Disk re = absurd re.cause
+      again_calls c Memory re = re.cause
 
       pub refused_again : (c : Drive) (fault : FollowFault) → RefusesReopen w count b c fault → RefusesOpen w cells a c fault
       refused_again c fault re = record {
@@ -326,12 +408,14 @@ module _ (w : ℕ) (cells : List Cell) (a b : Drive) (long : (bytes : List ℕ) 
         calm = λ quiet. re.calm quiet ∙ is.reads.calm;
         untouched = again_untouched c fault re;
         later = omega (arith, is.reads.calm, re.later);
+        calls = again_calls c fault re;
         file = λ names told. is.reads.file names (re.file names told);
       }
 
-      pub target_again : (c : Drive) → KeepsLaws a → KeepsCells w b c → KeepsTarget w cells a c
-      target_again c laws keeps = record {
+      pub target_again : (c : Drive) → KeepsLaws a → KeepsCells w b c → KeepsNewest b c → KeepsTarget w cells a c
+      target_again c laws keeps version = record {
         small = λ bytes told now. absurd (omega (arith, long bytes told, now bytes (laws.held bytes told)));
         log = λ bytes own told over now. leaves_before a b c (Recovers w own) laws is.reads.stays now (keeps bytes own (is.reads.stays.bytes ∙ told));
+        newest = λ bytes told over now. leaves_before a b c IsNewest laws is.reads.stays now version;
         other = λ bytes told none. absurd (none count (taken bytes told));
       }

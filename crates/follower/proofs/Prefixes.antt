@@ -1,5 +1,5 @@
 -- The first cells of a leader, in a log.
-use Rattle.std.proofs.Common.{◌≡◌, ℕ, inr, true, List, [], take, drop, Some, refl, sym, ◌∙◌, subst}
+use Rattle.std.proofs.Common.{◌≡◌, ℕ, ◌≤◌, inr, true, List, [], take, drop, Some, refl, sym, ◌∙◌, subst}
 use Rattle.std.specs.Prelude.{slice_index}
 use Rattle.std.proofs.lemmas.List.{append-nil, take-append-drop}
 use Rattle.cell_format.specs.declared.cell.Cell.{Cell}
@@ -12,6 +12,7 @@ use Rattle.split_log.proofs.Cells.{holds_front}
 use Rattle.log_state.specs.Recovers.{Recovers, IsLegalCells, is_legal_cells}
 use Rattle.log_state.proofs.LegalCells.{legal-front}
 use Rattle.recovery.proofs.HeadLemmas.{index_version}
+use Rattle.follower.specs.Holding.{RecoversFirst}
 
 -- a crash leaves a log's cells
 pub log-leaves : (w : ℕ) (cells : List Cell) (drive : Drive) → IsLog w cells drive → LeavesNow drive (HoldsCells newest w cells)
@@ -40,3 +41,11 @@ module _ (w : ℕ) (cells : List Cell) (legal : IsLegalCells w cells) where
 
   pub bytes-recover : (n : ℕ) (drive : Drive) (bytes : List ℕ) → IsLog w (take n cells) drive → drive.bytes ≡ Some bytes → Recovers w (take n cells) bytes
   bytes-recover n drive bytes log told = recovers-held n bytes (log-holds w (take n cells) drive bytes log told)
+
+  -- at least and at most so many of them
+  module _ (n least most : ℕ) (low : least ≤ n) (high : n ≤ most) where
+    pub first-held : (c : List ℕ) → HoldsCells newest w (take n cells) c → RecoversFirst w cells least most c
+    first-held c holds = record { count = n; least_is = low; most_is = high; recovers = recovers-held n c holds; version = index_version newest w (take n cells) c holds }
+
+    pub first-log : (drive : Drive) → IsLog w (take n cells) drive → LeavesNow drive (RecoversFirst w cells least most)
+    first-log drive log c left = first-held c (log-leaves w (take n cells) drive log c left)

@@ -1,5 +1,5 @@
 -- The opening of a log with another number of cells than it had.
-use Rattle.std.proofs.Common.{◌≡◌, ◌≢◌, ℕ, ◌≤◌, None, length, sym, ◌∙◌, ap, subst, arith}
+use Rattle.std.proofs.Common.{◌≡◌, ◌≢◌, inl, inr, ⊎_elim, ℕ, ◌≤◌, None, length, sym, ◌∙◌, ap, subst, arith}
 use Rattle.std.proofs.lemmas.Bool.{true≢false}
 use Rattle.disk_trait.specs.Drive.{Drive}
 use Rattle.split_log.specs.LogView.{LogView}
@@ -23,8 +23,10 @@ other_count drive w count number seen a b c back ready kept other least = subst 
   calm = λ quiet. ready.same;
   untouched = λ why is. absurd (cc is);
   later = omega (arith, ready.same);
+  calls = ⊎_elim (λ whole. inl whole.1) (λ longer. inr longer.1) ready.calls;
   file = ready.file;
   any_moment = kept;
+  newest = ready.newest;
 })
 
 pub same_count : {D : Type 0} (drive : D → Drive) (w count : ℕ) (seen : Seen) (a : Drive) (log : LogView D) → IsReady w seen a (drive log.disk) → KeepsCells w a (drive log.disk)
@@ -38,4 +40,5 @@ same_count drive w count seen a log ready kept is same = record {
   calls = subst (λ (n : ℕ). CallsToOpen n a (drive log.disk)) same ready.calls;
   file = ready.file;
   any_moment = kept;
+  newest = ready.newest;
 }

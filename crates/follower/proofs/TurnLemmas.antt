@@ -1,34 +1,38 @@
 -- What a turn comes to.
-use Rattle.std.proofs.Common.{◌≡◌, ℕ, ◌+◌, ◌≤◌, inl, inr, ⊎_elim, List, length, take, Option, Some, None, is_some, refl, sym, ◌∙◌, ap, subst, lit≤, arith}
+use Rattle.std.proofs.Common.{◌≡◌, ℕ, ◌+◌, ◌*◌, ◌<◌, ◌≤◌, false, inl, inr, ⊎_elim, List, length, take, Option, Some, None, is_some, refl, sym, ◌∙◌, ap, subst, lit≤, arith}
+use Rattle.std.specs.Prelude.{◌≢◌}
 use Rattle.std.proofs.lemmas.Bool.{true≢false}
 use Rattle.std.proofs.lemmas.List.{length-take-le}
 use Rattle.cell_format.specs.declared.cell.Cell.{Cell}
 use Rattle.cell_format.specs.Spelling.{newest}
 use Rattle.disk_trait.specs.Drive.{Drive, KeepsLaws}
+use Rattle.disk_trait.specs.Moments.{LeavesOnly}
 use Rattle.disk_trait.proofs.Stretches.{started}
-use Rattle.split_log.specs.LogText.{IsLog, HoldsCells, HoldsEither}
+use Rattle.split_log.specs.LogText.{IsLog, IsLogText, HoldsCells, HoldsEither}
 use Rattle.split_log.specs.LogView.{LogView, most_cells}
+use Rattle.split_log.proofs.Cells.{length-log}
 use Rattle.split_log.proofs.Commits.{widened}
 use Rattle.split_log.proofs.Unique.{holds-same}
 use Rattle.log_state.specs.Recovers.{Recovers}
 use Rattle.recovery.specs.declared.seen.OpenFault.{OpenFault}
 use Rattle.recovery.specs.declared.seen.OpenFault.TheVariants as open_fault
 use Rattle.recovery.specs.Faults.{IsFault, IsInBytes}
-use Rattle.recovery.specs.Found.{IsWanted}
-use Rattle.recovery.specs.Opening.{KeepsCells}
+use Rattle.recovery.specs.Found.{IsNewest, IsWanted}
+use Rattle.recovery.specs.Opening.{KeepsCells, KeepsNewest, IsUntouched}
 use Rattle.recovery.proofs.Exclusive.{recovers_no_fault}
+use Rattle.recovery.proofs.HeadLemmas.{index_version}
 use Rattle.follower.specs.declared.faults.FollowFault.{FollowFault}
 use Rattle.follower.specs.declared.faults.FollowFault.TheVariants.{Strange, Log, Append, Disk, Memory}
 use Rattle.follower.specs.declared.turns.Turn.{Turn}
 use Rattle.follower.specs.declared.turns.Turn.TheVariants.{Arrive, Restart}
 use Rattle.follower.specs.Adding.{IsNext, IsAdded, IsLost}
-use Rattle.follower.specs.Faults.{IsFree, most_left}
+use Rattle.follower.specs.Faults.{IsFree, is_drives, most_left}
 use Rattle.follower.specs.Follow.{Following, IsSound, after_turn, acknowledging, cell_of, held_after}
 use Rattle.follower.specs.Holding.{FollowerView, HoldsFirst, LeavesFirst, RecoversFirst, AreLeading, with_state}
 use Rattle.follower.specs.Reopening.{Reopens, RefusesReopen}
-use Rattle.follower.specs.Turning.{MakesCalls, TakesRoom, IsTurnCause, MakesTurn, FailsTurn}
+use Rattle.follower.specs.Turning.{CallsOfRefused, MakesCalls, TakesRoom, IsTurnCause, MakesTurn, FailsTurn}
 use Rattle.follower.proofs.Machine.{held-next, sound-after}
-use Rattle.follower.proofs.Prefixes.{log-recovers, bytes-recover, log-version, recovers-held}
+use Rattle.follower.proofs.Prefixes.{log-recovers, log-leaves, bytes-recover, log-version, first-held, first-log}
 
 -- a drive that tells its bytes told them before
 pub told-before : (a b : Option (List ℕ)) (bytes : List ℕ) → is_some b ≡ is_some a → b ≡ Some bytes → (old : List ℕ) × (a ≡ Some old)
@@ -43,19 +47,34 @@ held-left (Append cell) held = omega arith
 held-left Disk held = omega arith
 held-left Memory held = omega arith
 
+-- a fault of a log that doesn't say that the drive failed
+pub quiet_log : (e : OpenFault) → is_drives (Log e) ≡ false → e ≢ open_fault.Disk
+quiet_log e quiet is = true≢false (sym (ap (λ f. is_drives (Log f)) is) ∙ quiet)
+
+-- a stretch that leaves the one leaves the other
+leaves-both : (old new : Drive) (P Q : List ℕ → Type 0) → LeavesOnly old new P → LeavesOnly old new Q → LeavesOnly old new (λ c. P c × Q c)
+leaves-both old new P Q first second = record {
+  later = first.later;
+  each = λ c left. (first.each c left, second.each c left);
+  before = λ t c le left. ⊎_elim (λ was. inl was) (λ one. ⊎_elim (λ was. inl was) (λ other. inr (one, other)) (second.before t c le left)) (first.before t c le left);
+}
+
+-- a log that is left as it was
+log-untouched : (w : ℕ) (own : List Cell) (old new : Drive) → IsUntouched old new → IsLog w own old → IsLog w own new
+log-untouched w own old new un log = record { bytes = log.bytes; told = un.bytes ∙ log.told; text = log.text; durable = λ c left. log.durable c (un.images c left) }
+
+some_same : (a b : List ℕ) → Some a ≡ Some b → a ≡ b
+some_same a b same = cc same
+
 newest_wanted : IsWanted newest newest
 newest_wanted = record { least = lit≤ tt; most = lit≤ tt }
 
 module _ {D : Type 0} (drive : D → Drive) (cells : List Cell) (old : FollowerView D) (laws : KeepsLaws (drive old.disk)) (holds : HoldsFirst drive cells old) where
-  -- an image that recovers to the cells that are held
-  exactly : (most : ℕ) → old.state.held ≤ most → (c : List ℕ) → Recovers old.width (take old.state.held cells) c → RecoversFirst old.width cells old.state.held most c
-  exactly most le c recovers = record { count = old.state.held; least_is = omega arith; most_is = le; recovers = recovers }
-
   -- where nothing is done, a crash leaves them
   stands : LeavesFirst old.width cells old.state.held old.state.held (drive old.disk) (drive old.disk)
   stands bytes told =
       started (drive old.disk) (RecoversFirst old.width cells old.state.held old.state.held) laws
-      (λ c left. exactly old.state.held (omega arith) c (log-recovers old.width cells holds.leading.legal old.state.held (drive old.disk) (holds.log bytes told) c left))
+      (first-log old.width cells holds.leading.legal old.state.held old.state.held old.state.held (omega arith) (omega arith) (drive old.disk) (holds.log bytes told))
 
   -- a turn that leaves the drive, and as many cells
   pub quiet : (turn : Turn) (new : FollowerView D) → new ≡ with_state (after_turn (length cells) old.state turn) old → (after_turn (length cells) old.state turn).held ≡ old.state.held
@@ -83,7 +102,7 @@ module _ {D : Type 0} (drive : D → Drive) (cells : List Cell) (old : FollowerV
   no_room turn disk fault same is room =
       subst (FailsTurn drive cells turn old disk) (sym is)
       (subst (λ (d : D). FailsTurn drive cells turn old d Memory) (sym same) (record {
-        refused = record { cause = (room, refl); calm = λ quiet. refl; later = omega arith; file = λ all told. told };
+        refused = record { cause = (room, refl); calm = λ quiet. refl; later = omega arith; calls = λ all told. told; log = λ quiet. holds.log; file = λ all told. told };
         any_moment = stands;
       }))
 
@@ -98,13 +117,10 @@ module _ {D : Type 0} (drive : D → Drive) (cells : List Cell) (old : FollowerV
   module _ (packet : ℕ) (cell : Cell) (next : IsNext cells packet old.state cell) where
     -- with the next cell, or without
     either : (c : List ℕ) → HoldsEither old.width (take old.state.held cells) cell c → RecoversFirst old.width cells old.state.held (old.state.held + 1) c
-    either c (inl alone) = exactly (old.state.held + 1) (omega arith) c (recovers-held old.width cells holds.leading.legal old.state.held c alone)
-    either c (inr more) = record {
-      count = old.state.held + 1;
-      least_is = omega arith;
-      most_is = omega arith;
-      recovers = recovers-held old.width cells holds.leading.legal (old.state.held + 1) c (subst (λ (l : List Cell). HoldsCells newest old.width l c) (sym next.more) more);
-    }
+    either c (inl alone) = first-held old.width cells holds.leading.legal old.state.held old.state.held (old.state.held + 1) (omega arith) (omega arith) c alone
+    either c (inr more) =
+        first-held old.width cells holds.leading.legal (old.state.held + 1) old.state.held (old.state.held + 1) (omega arith) (omega arith) c
+        (subst (λ (l : List Cell). HoldsCells newest old.width l c) (sym next.more) more)
 
     after_next : acknowledging (old.state.held + 1) old.state ≡ after_turn (length cells) old.state (Arrive packet)
     after_next = ap (λ (n : ℕ). acknowledging n old.state) (sym (held-next (length cells) (cell_of packet old.state) old.state.held next.brings next.below))
@@ -144,6 +160,8 @@ module _ {D : Type 0} (drive : D → Drive) (cells : List Cell) (old : FollowerV
         cause = ((next.brings, next.below), is.named, is.rose, λ bytes told c left. either c (is.now old.width (take old.state.held cells) (holds.log bytes told) c left));
         calm = λ quiet. absurd (true≢false quiet);
         later = is.later;
+        calls = is.calls;
+        log = λ quiet. absurd (true≢false quiet);
         file = is.file;
       };
       any_moment = λ bytes told. widened (drive old.disk) (drive disk) (HoldsEither old.width (take old.state.held cells) cell) (RecoversFirst old.width cells old.state.held (old.state.held + 1)) either
@@ -161,11 +179,30 @@ module _ {D : Type 0} (drive : D → Drive) (cells : List Cell) (old : FollowerV
       recovers_no_fault newest old.width most_cells (lit≤ tt) bytes (take old.state.held cells) why (bytes-recover old.width cells holds.leading.legal old.state.held (drive old.disk) bytes (holds.log bytes told) told)
       (subst (IsWanted newest) (sym (log-version old.width (take old.state.held cells) (drive old.disk) bytes (holds.log bytes told) told)) newest_wanted) held_few shown (is bytes told)
 
-  module _ (d : Drive) (any_moment : KeepsCells old.width (drive old.disk) d) where
+  -- nothing stands behind the cells
+  not_beyond : (bytes : List ℕ) → (drive old.disk).bytes ≡ Some bytes → 17 + 32 * old.state.held < length bytes → ⊥
+  not_beyond bytes told beyond =
+      let log = holds.log bytes told in
+      omega (
+        arith,
+        beyond,
+        length-log old.state.held bytes (record {
+          width = old.width;
+          cells = take old.state.held cells;
+          count_is = length-take-le old.state.held cells holds.few;
+          text = subst (λ (l : List ℕ). IsLogText newest old.width (take old.state.held cells) l) (some_same log.bytes bytes (sym log.told ∙ told)) log.text;
+        }),
+      )
+
+  module _ (d : Drive) (any_moment : KeepsCells old.width (drive old.disk) d) (version : KeepsNewest (drive old.disk) d) where
     kept : (most : ℕ) → old.state.held ≤ most → LeavesFirst old.width cells old.state.held most (drive old.disk) d
     kept most le bytes told =
-        widened (drive old.disk) d (Recovers old.width (take old.state.held cells)) (RecoversFirst old.width cells old.state.held most) (exactly most le)
-        (any_moment bytes (take old.state.held cells) told (log-recovers old.width cells holds.leading.legal old.state.held (drive old.disk) (holds.log bytes told)))
+        let log = holds.log bytes told in
+        let same : List ℕ → Type 0 = Recovers old.width (take old.state.held cells) in
+        widened (drive old.disk) d (λ c. same c × IsNewest c) (RecoversFirst old.width cells old.state.held most)
+        (λ c both. record { count = old.state.held; least_is = omega arith; most_is = le; recovers = both.0; version = both.1 })
+        (leaves-both (drive old.disk) d same IsNewest (any_moment bytes (take old.state.held cells) told (log-recovers old.width cells holds.leading.legal old.state.held (drive old.disk) log))
+        (version (λ c left. index_version newest old.width (take old.state.held cells) c (log-leaves old.width (take old.state.held cells) (drive old.disk) log c left))))
 
   again : (new : FollowerView D) (log : LogView D) → Reopens drive old.width old.state.held (drive old.disk) log
       → new ≡ record { disk = log.disk; width = old.width; state = record old.state { held = log.cells } } → MakesTurn drive cells Restart old new
@@ -186,10 +223,10 @@ module _ {D : Type 0} (drive : D → Drive) (cells : List Cell) (old : FollowerV
       };
       told = is.told;
       calm = is.calm;
-      calls = ⊎_elim (λ whole. inl whole.1) (λ longer. inr longer.1) is.calls;
+      calls = ⊎_elim (λ whole. inl whole.1) (λ longer. inr (λ bytes told. not_beyond bytes told (longer.0 bytes told), longer.1)) is.calls;
       file = is.file;
     };
-    any_moment = kept (drive log.disk) is.any_moment log.cells (omega (arith, is.cells));
+    any_moment = kept (drive log.disk) is.any_moment is.newest log.cells (omega (arith, is.cells));
   })
     where
       state : record old.state { held = log.cells } ≡ old.state
@@ -212,10 +249,26 @@ module _ {D : Type 0} (drive : D → Drive) (cells : List Cell) (old : FollowerV
   restart_cause disk Disk is = absurd is.cause
   restart_cause disk Memory is = absurd is.cause
 
+  restart_calls : (disk : D) (fault : FollowFault) → RefusesReopen old.width old.state.held (drive old.disk) (drive disk) fault → CallsOfRefused fault (drive old.disk) (drive disk)
+  restart_calls disk (Strange number) is = is.calls
+  restart_calls disk (Log why) is = is.calls
+  restart_calls disk (Append number) is = absurd is.cause
+  restart_calls disk Disk is = absurd is.cause
+  restart_calls disk Memory is = absurd is.cause
+
+  restart_log : (disk : D) (fault : FollowFault) → RefusesReopen old.width old.state.held (drive old.disk) (drive disk) fault → is_drives fault ≡ false → (bytes : List ℕ) → (drive old.disk).bytes ≡ Some bytes
+      → IsLog old.width (take old.state.held cells) (drive disk)
+  restart_log disk (Strange number) is quiet bytes told = absurd ((restart_cause disk (Strange number) is).1 bytes told)
+  restart_log disk (Log why) is quiet bytes told =
+      log-untouched old.width (take old.state.held cells) (drive old.disk) (drive disk) (is.untouched why refl (quiet_log why quiet)) (holds.log bytes told)
+  restart_log disk (Append number) is quiet bytes told = absurd is.cause
+  restart_log disk Disk is quiet bytes told = absurd is.cause
+  restart_log disk Memory is quiet bytes told = absurd is.cause
+
   not_again : (disk : D) (fault : FollowFault) → RefusesReopen old.width old.state.held (drive old.disk) (drive disk) fault → FailsTurn drive cells Restart old disk fault
   not_again disk fault is = record {
-    refused = record { cause = restart_cause disk fault is; calm = is.calm; later = is.later; file = is.file };
-    any_moment = kept (drive disk) is.any_moment (most_left fault old.state.held) (held-left fault old.state.held);
+    refused = record { cause = restart_cause disk fault is; calm = is.calm; later = is.later; calls = restart_calls disk fault is; log = restart_log disk fault is; file = is.file };
+    any_moment = kept (drive disk) is.any_moment is.newest (most_left fault old.state.held) (held-left fault old.state.held);
   }
 
   -- as the call of `reopen` finds its drive, width and count

@@ -2,7 +2,7 @@
 use Rattle.std.specs.Prelude.{◌≡◌, ℕ, ◌+◌, ◌≤◌, ◌<◌, List, [], ◌∷◌, ◌++◌, length, take, is_some}
 use Rattle.causes.specs.Causes.{Rose}
 use Rattle.cell_format.specs.declared.cell.Cell.{Cell}
-use Rattle.disk_trait.specs.Drive.{Drive, MadeWell, SameFile}
+use Rattle.disk_trait.specs.Drive.{Drive, MadeWell, StopsAfter, SameFile}
 use Rattle.disk_trait.specs.Moments.{LeavesOnly, LeavesNow}
 use Rattle.split_log.specs.LogText.{IsLog, HoldsEither}
 use Rattle.follower.specs.declared.faults.FollowFault.{FollowFault}
@@ -31,11 +31,12 @@ pub record IsAdded {D : Type 0} (drive : D → Drive) (cell : Cell) (old new : F
   pub file : SameFile (drive old.disk) (drive new.disk)
   pub any_moment : LeavesEither cell (drive old.disk) (drive new.disk)
 
--- a device call failed while the cell of this number was added
+-- a device call failed while the cell of this number was added, and none was made behind it
 pub record FailsToAdd (cell : Cell) (number held : ℕ) (old new : Drive) : Type 0 where
   pub named : number ≡ held
   pub rose : Rose old.faults new.faults
   pub later : old.faults ≤ new.faults
+  pub calls : (went_well : ℕ) × StopsAfter 3 went_well old new
   pub file : SameFile old new
   pub now : (w : ℕ) (cells : List Cell) → IsLog w cells old → LeavesNow new (HoldsEither w cells cell)
   pub any_moment : LeavesEither cell old new

@@ -5,6 +5,7 @@ use Rattle.disk_trait.specs.Drive.{Drive}
 use Rattle.disk_trait.specs.Moments.{LeavesOnly}
 use Rattle.split_log.specs.LogText.{IsLog}
 use Rattle.log_state.specs.Recovers.{Recovers, IsLegalCells}
+use Rattle.recovery.specs.Found.{IsNewest}
 use Rattle.follower.specs.Follow.{Following, IsSound}
 
 -- how many cells a log that is followed may have
@@ -21,12 +22,13 @@ pub record FollowerView (D : Type 0) : Type 0 where
 abbrev pub with_state : {D : Type 0} → Following → FollowerView D → FollowerView D
 with_state {D = D} s f = record { disk = f.disk; width = f.width; state = s }
 
--- an image that recovers to the first of these cells, at least and at most so many
+-- an image of the newest version that recovers to the first of these cells, at least and at most so many
 pub record RecoversFirst (w : ℕ) (cells : List Cell) (least most : ℕ) (image : List ℕ) : Type 0 where
   pub count : ℕ
   pub least_is : least ≤ count
   pub most_is : count ≤ most
   pub recovers : Recovers w (take count cells) image
+  pub version : IsNewest image
 
 -- a leader's cells: legal, and not too many
 pub record AreLeading (w : ℕ) (cells : List Cell) : Type 0 where

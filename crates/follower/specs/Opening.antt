@@ -1,21 +1,22 @@
 -- The opening of a follower, and why it is refused.
-use Rattle.std.specs.Prelude.{◌≡◌, ◌≢◌, ◌⊎◌, ℕ, ◌+◌, ◌≤◌, ◌<◌, true, false, List, length, take, slice_index, Some, None, is_some, ⊤}
+use Rattle.std.specs.Prelude.{◌≡◌, ◌≢◌, ◌⊎◌, ℕ, ◌+◌, ◌≤◌, ◌<◌, true, false, List, length, take, slice_index, Some, None, is_some}
 use Rattle.causes.specs.Causes.{Rose}
 use Rattle.cell_format.specs.declared.cell.Cell.{Cell}
 use Rattle.cell_format.specs.Spelling.{newest}
-use Rattle.disk_trait.specs.Drive.{Drive, SameFile}
+use Rattle.disk_trait.specs.Drive.{Drive, HasNoMore, MadeWell, StopsAfter, SameFile}
 use Rattle.disk_trait.specs.Moments.{LeavesNow, LeavesOnly}
 use Rattle.split_log.specs.LogText.{IsLog}
 use Rattle.split_log.specs.LogView.{LogView, most_cells}
 use Rattle.log_state.specs.Recovers.{Recovers}
 use Rattle.recovery.specs.Faults.{IsFault}
 use Rattle.recovery.specs.Making.{IsSmall}
-use Rattle.recovery.specs.Opening.{IsUntouched}
+use Rattle.recovery.specs.Opening.{CallsToOpen, KeepsNewest, IsUntouched}
 use Rattle.follower.specs.declared.faults.FollowFault.{FollowFault}
 use Rattle.follower.specs.declared.faults.FollowFault.TheVariants.{Strange, Log, Append, Disk, Memory}
 use Rattle.follower.specs.Follow.{opened_with}
-use Rattle.follower.specs.Holding.{FollowerView, HoldsFirst}
+use Rattle.follower.specs.Holding.{FollowerView, HoldsFirst, IsUntold}
 use Rattle.follower.specs.Faults.{is_drives}
+use Rattle.follower.specs.Reopening.{CallsUnopened}
 
 -- how many cells a log may have that a follower opens: as many as any log
 abbrev pub most_held : ℕ
@@ -39,6 +40,17 @@ pub record IsStrange (w : ℕ) (cells : List Cell) (bytes : List ℕ) (number : 
 abbrev pub IsTaken : ℕ → List Cell → List ℕ → ℕ → Type 0
 IsTaken w cells bytes held = (IsSmall bytes × (held ≡ 0)) ⊎ ((17 < length bytes) × (held ≤ length cells) × IsOpenable w (take held cells) bytes)
 
+-- where the bytes are known, they are small, or more than that
+abbrev pub IsShort : Drive → Type 0
+IsShort drive = (bytes : List ℕ) → drive.bytes ≡ Some bytes → IsSmall bytes
+
+abbrev pub IsLong : Drive → Type 0
+IsLong drive = (bytes : List ℕ) → drive.bytes ≡ Some bytes → 17 < length bytes
+
+-- which calls open a follower that holds so many cells then: a write and a sync that make a log, and over a longer file those that open a log
+abbrev pub CallsToFollow : ℕ → Drive → Drive → Type 0
+CallsToFollow held old new = (IsShort old × (held ≡ 0) × MadeWell 2 old new) ⊎ (IsLong old × CallsToOpen held old new)
+
 -- a follower was opened over a drive: it holds what it found there, or nothing where it made the log
 pub record Opens {D : Type 0} (drive : D → Drive) (w : ℕ) (cells : List Cell) (old : Drive) (new : FollowerView D) : Type 0 where
   pub state : new.state ≡ opened_with new.state.held
@@ -47,31 +59,45 @@ pub record Opens {D : Type 0} (drive : D → Drive) (w : ℕ) (cells : List Cell
   pub found : (bytes : List ℕ) → old.bytes ≡ Some bytes → IsTaken w cells bytes new.state.held
   pub told : is_some (drive new.disk).bytes ≡ is_some old.bytes
   pub calm : (drive new.disk).faults ≡ old.faults
+  pub calls : CallsToFollow new.state.held old (drive new.disk)
   pub file : SameFile old (drive new.disk)
 
--- why no follower was opened
-abbrev pub IsOpenCause : ℕ → List Cell → Drive → FollowFault → Type 0
-IsOpenCause w cells old (Strange number) = (bytes : List ℕ) → old.bytes ≡ Some bytes → IsStrange w cells bytes number
-IsOpenCause w cells old (Log fault) = (bytes : List ℕ) → old.bytes ≡ Some bytes → (17 < length bytes) × IsFault newest w most_held bytes fault
-IsOpenCause w cells old (Append cell) = ⊥
-IsOpenCause w cells old Disk = ⊤
-IsOpenCause w cells old Memory = ⊥
+-- Why no follower was opened. The drive that failed before the length was known, or while a log was made, isn't one that failed at a log.
+abbrev pub IsOpenCause : ℕ → List Cell → Drive → Drive → FollowFault → Type 0
+IsOpenCause w cells old new (Strange number) =
+    (number ≤ length cells) × ((bytes : List ℕ) → old.bytes ≡ Some bytes → IsStrange w cells bytes number)
+IsOpenCause w cells old new (Log fault) = (bytes : List ℕ) → old.bytes ≡ Some bytes → (17 < length bytes) × IsFault newest w most_held bytes fault
+IsOpenCause w cells old new (Append cell) = ⊥
+IsOpenCause w cells old new Disk = (bytes : List ℕ) → old.bytes ≡ Some bytes → 17 < length bytes → HasNoMore old.calls new.calls
+IsOpenCause w cells old new Memory = ⊥
 
--- No follower was opened: why, and where the drive didn't fail, its count of faults stays, and what stood there where its bytes are known.
+-- Which calls such an opening made: none over a log that was only walked, those of the opening of a log that was refused, and those of making one
+-- up to the one that failed. Where the bytes are known, a log of other cells is only walked.
+abbrev pub CallsNotToFollow : FollowFault → Drive → Drive → Type 0
+CallsNotToFollow (Strange number) old new = HasNoMore old.calls new.calls ⊎ (IsUntold old × CallsUnopened (Strange number) old new)
+CallsNotToFollow (Log fault) old new = HasNoMore old.calls new.calls ⊎ CallsUnopened (Log fault) old new
+CallsNotToFollow (Append cell) old new = ⊥
+CallsNotToFollow Disk old new = HasNoMore old.calls new.calls ⊎ ((went_well : ℕ) × StopsAfter 1 went_well old new)
+CallsNotToFollow Memory old new = ⊥
+
+-- No follower was opened: why, and where the drive didn't fail, its count of faults stays, and what stood there where its bytes are known. No call was
+-- made behind one that failed.
 pub record RefusesOpen (w : ℕ) (cells : List Cell) (old new : Drive) (fault : FollowFault) : Type 0 where
-  pub cause : IsOpenCause w cells old fault
+  pub cause : IsOpenCause w cells old new fault
   pub rose : is_drives fault ≡ true → Rose old.faults new.faults
   pub calm : is_drives fault ≡ false → new.faults ≡ old.faults
   pub untouched : is_drives fault ≡ false → (bytes : List ℕ) → old.bytes ≡ Some bytes → IsUntouched old new
   pub later : old.faults ≤ new.faults
+  pub calls : CallsNotToFollow fault old new
   pub file : SameFile old new
 
 -- What a crash leaves at each moment of an opening, where the bytes are known, whatever the answer is: a small file where a crash left one before,
--- the cells that it left before where the file is longer, and what stood there where a follower doesn't take it.
+-- the cells and the version that it left before where the file is longer, and what stood there where a follower doesn't take it.
 pub record KeepsTarget (w : ℕ) (cells : List Cell) (old new : Drive) : Type 0 where
   pub small : (bytes : List ℕ) → old.bytes ≡ Some bytes → LeavesNow old IsSmall → LeavesOnly old new IsSmall
   pub log : (bytes : List ℕ) (own : List Cell) → old.bytes ≡ Some bytes → 17 < length bytes → LeavesNow old (Recovers w own)
       → LeavesOnly old new (Recovers w own)
+  pub newest : (bytes : List ℕ) → old.bytes ≡ Some bytes → 17 < length bytes → KeepsNewest old new
   pub other : (bytes : List ℕ) → old.bytes ≡ Some bytes → ((held : ℕ) → IsTaken w cells bytes held → ⊥) → IsUntouched old new
 
 -- the log of a follower was opened, or made: its first cells are the leader's, and no device call failed
@@ -81,4 +107,5 @@ pub record OpensLog {D : Type 0} (drive : D → Drive) (w : ℕ) (cells : List C
   pub found : (bytes : List ℕ) → old.bytes ≡ Some bytes → IsTaken w cells bytes log.cells × IsLog w (take log.cells cells) (drive log.disk)
   pub told : is_some (drive log.disk).bytes ≡ is_some old.bytes
   pub calm : (drive log.disk).faults ≡ old.faults
+  pub calls : CallsToFollow log.cells old (drive log.disk)
   pub file : SameFile old (drive log.disk)

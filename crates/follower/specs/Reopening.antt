@@ -1,16 +1,16 @@
 -- The opening of a log of which it's known how many cells it has.
-use Rattle.std.specs.Prelude.{◌≡◌, ◌≢◌, ℕ, ◌≤◌, true, false, List, length, Some, None, is_some}
+use Rattle.std.specs.Prelude.{◌≡◌, ◌≢◌, ◌⊎◌, ℕ, ◌≤◌, true, false, List, length, Some, None, is_some}
 use Rattle.causes.specs.Causes.{Rose}
 use Rattle.cell_format.specs.declared.cell.Cell.{Cell}
 use Rattle.cell_format.specs.Spelling.{newest}
-use Rattle.disk_trait.specs.Drive.{Drive, SameFile}
+use Rattle.disk_trait.specs.Drive.{Drive, MadeWell, SameFile}
 use Rattle.split_log.specs.LogText.{IsLog}
 use Rattle.split_log.specs.LogView.{LogView, most_cells}
 use Rattle.log_state.specs.Recovers.{Recovers}
 use Rattle.recovery.specs.declared.seen.OpenFault.{OpenFault}
 use Rattle.recovery.specs.declared.seen.OpenFault.TheVariants as open_fault
 use Rattle.recovery.specs.Faults.{IsFault}
-use Rattle.recovery.specs.Opening.{CallsToOpen, KeepsCells, IsUntouched}
+use Rattle.recovery.specs.Opening.{CallsRefused, CallsToOpen, KeepsCells, KeepsNewest, IsUntouched}
 use Rattle.follower.specs.declared.faults.FollowFault.{FollowFault}
 use Rattle.follower.specs.declared.faults.FollowFault.TheVariants.{Strange, Log}
 use Rattle.follower.specs.Faults.{is_drives}
@@ -26,6 +26,7 @@ pub record Reopens {D : Type 0} (drive : D → Drive) (w count : ℕ) (old : Dri
   pub calls : CallsToOpen count old (drive log.disk)
   pub file : SameFile old (drive log.disk)
   pub any_moment : KeepsCells w old (drive log.disk)
+  pub newest : KeepsNewest old (drive log.disk)
 
 -- why it wasn't: it has another number of cells, which no bytes do that recover to so many; or it was refused as it stands
 abbrev pub IsReopenCause : ℕ → ℕ → Drive → FollowFault → Type 0
@@ -34,11 +35,19 @@ IsReopenCause w count old (Strange number) =
 IsReopenCause w count old (Log fault) = (bytes : List ℕ) → old.bytes ≡ Some bytes → IsFault newest w most_cells bytes fault
 IsReopenCause w count old _ = ⊥
 
+-- which calls such an opening made: none behind one that failed
+abbrev pub CallsUnopened : FollowFault → Drive → Drive → Type 0
+CallsUnopened (Strange number) old new = MadeWell 1 old new ⊎ MadeWell 3 old new
+CallsUnopened (Log fault) old new = CallsRefused fault old new
+CallsUnopened _ old new = ⊥
+
 pub record RefusesReopen (w count : ℕ) (old new : Drive) (fault : FollowFault) : Type 0 where
   pub cause : IsReopenCause w count old fault
   pub rose : is_drives fault ≡ true → Rose old.faults new.faults
   pub calm : is_drives fault ≡ false → new.faults ≡ old.faults
   pub untouched : (why : OpenFault) → fault ≡ Log why → why ≢ open_fault.Disk → IsUntouched old new
   pub later : old.faults ≤ new.faults
+  pub calls : CallsUnopened fault old new
   pub file : SameFile old new
   pub any_moment : KeepsCells w old new
+  pub newest : KeepsNewest old new

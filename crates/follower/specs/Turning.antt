@@ -1,9 +1,10 @@
 -- What a turn of a follower does, and why it is refused.
-use Rattle.std.specs.Prelude.{◌≡◌, ◌⊎◌, ℕ, ◌+◌, ◌≤◌, ◌<◌, false, List, length, Some, is_some, ⊤}
+use Rattle.std.specs.Prelude.{◌≡◌, ◌⊎◌, ℕ, ◌+◌, ◌≤◌, ◌<◌, false, List, length, take, Some, is_some, ⊤}
 use Rattle.causes.specs.Causes.{Rose}
 use Rattle.cell_format.specs.declared.cell.Cell.{Cell}
-use Rattle.disk_trait.specs.Drive.{Drive, HasNoMore, MadeWell, SameFile}
+use Rattle.disk_trait.specs.Drive.{Drive, HasNoMore, MadeWell, StopsAfter, SameFile}
 use Rattle.disk_trait.specs.Moments.{LeavesNow}
+use Rattle.split_log.specs.LogText.{IsLog}
 use Rattle.recovery.specs.declared.seen.OpenFault.TheVariants as open_fault
 use Rattle.follower.specs.declared.faults.FollowFault.{FollowFault}
 use Rattle.follower.specs.declared.faults.FollowFault.TheVariants.{Strange, Log, Append, Disk, Memory}
@@ -12,15 +13,17 @@ use Rattle.follower.specs.declared.turns.Turn.TheVariants.{Send, Arrive, Restart
 use Rattle.follower.specs.Follow.{Following, after_turn, cell_of}
 use Rattle.follower.specs.Holding.{FollowerView, HoldsFirst, RecoversFirst, LeavesFirst, IsUntold}
 use Rattle.follower.specs.Faults.{is_drives, most_left}
+use Rattle.follower.specs.Reopening.{CallsUnopened}
 
 -- a packet that brings the next cell of so many
 abbrev pub BringsNext : ℕ → Following → Turn → Type 0
 BringsNext count s (Arrive packet) = (cell_of packet s ≡ s.held) × (s.held < count)
 BringsNext count s _ = ⊥
 
--- the writes, cuts and syncs of a turn: four that add the next cell; a sync that opens the log again, or that, a cut and a sync; and else none
+-- the writes, cuts and syncs of a turn: four that add the next cell; a sync that opens the log again, where the bytes aren't known maybe a cut and a
+-- sync behind it; and else none
 abbrev pub MakesCalls : ℕ → Following → Turn → Drive → Drive → Type 0
-MakesCalls count s Restart old new = MadeWell 1 old new ⊎ MadeWell 3 old new
+MakesCalls count s Restart old new = MadeWell 1 old new ⊎ (IsUntold old × MadeWell 3 old new)
 MakesCalls count s turn old new = (BringsNext count s turn → MadeWell 4 old new) × ((BringsNext count s turn → ⊥) → HasNoMore old.calls new.calls)
 
 -- a turn was made: the state after it, and the follower goes on holding the first of the cells; no device call failed
@@ -54,11 +57,20 @@ IsTurnCause drive cells turn old disk (Append cell) =
 IsTurnCause drive cells turn old disk Disk = ⊥
 IsTurnCause drive cells turn old disk Memory = TakesRoom turn × (disk ≡ old.disk)
 
--- a turn was refused: why, and the count of faults stays but where the drive failed
+-- which calls a turn that wasn't made has made: some of those of an append, and then one that failed; those of an opening that was refused; or none
+abbrev pub CallsOfRefused : FollowFault → Drive → Drive → Type 0
+CallsOfRefused (Append cell) old new = (went_well : ℕ) × StopsAfter 3 went_well old new
+CallsOfRefused Memory old new = HasNoMore old.calls new.calls
+CallsOfRefused fault old new = CallsUnopened fault old new
+
+-- A turn was refused: why, and the count of faults stays but where the drive failed, and so does what the follower holds, where the bytes are known.
+-- No call was made behind one that failed.
 pub record RefusesTurn {D : Type 0} (drive : D → Drive) (cells : List Cell) (turn : Turn) (old : FollowerView D) (disk : D) (fault : FollowFault) : Type 0 where
   pub cause : IsTurnCause drive cells turn old disk fault
   pub calm : is_drives fault ≡ false → (drive disk).faults ≡ (drive old.disk).faults
   pub later : (drive old.disk).faults ≤ (drive disk).faults
+  pub calls : CallsOfRefused fault (drive old.disk) (drive disk)
+  pub log : is_drives fault ≡ false → (bytes : List ℕ) → (drive old.disk).bytes ≡ Some bytes → IsLog old.width (take old.state.held cells) (drive disk)
   pub file : SameFile (drive old.disk) (drive disk)
 
 -- the turn was made, and at each moment of it a crash left as many cells as were held before it, or as after it

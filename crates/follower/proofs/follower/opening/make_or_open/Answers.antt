@@ -1,5 +1,5 @@
 use Rattle.std.proofs.lemmas.Result.{IfOk-weaker, IfErr-weaker, MatchResult-weaker}
-use Rattle.follower.proofs.OpenLemmas.{made_text, made_synced, made_opened, read_in_use, target_made, opened_before, refused_before, target_before}
+use Rattle.follower.proofs.OpenLemmas.{made_text, made_synced, made_opened, not_made, read_in_use, target_made, opened_before, refused_before, target_before}
 use Rattle.follower.proofs.follower.opening.make_or_open.Goals as goal
 
 pub adopt-requires-clause-text : goal.adopt-requires-clause-text
@@ -36,6 +36,10 @@ returns-in-InUse-clause-any_moment g c =
     MatchResult-weaker c.open_found.result c.open_found.ensures.any_moment
     (λ log is. target_before c.args.width c.args.cells.now (drive c.args.disk) (drive c.in-Err.refused.disk) reads (drive log.disk) laws is)
     (λ e is. target_before c.args.width c.args.cells.now (drive c.args.disk) (drive c.in-Err.refused.disk) reads (drive e.disk) laws is)
+
+pub returns-in-Disk-clause-refused : goal.returns-in-Disk-clause-refused
+returns-in-Disk-clause-refused g c =
+    not_made c.args.width c.args.cells.now (g.D.LogDisk.drive c.args.disk) (g.D.LogDisk.drive c.in-Err.refused.disk) c.in-Err.refused.cause c.in-Err.ensures.refused c.in-Disk.is c.in-Err.ensures.small
 
 pub returns-in-Disk-clause-any_moment : goal.returns-in-Disk-clause-any_moment
 returns-in-Disk-clause-any_moment g c =

@@ -27,6 +27,6 @@ returns-clause-any_moment g c =
     let laws = g.met.D.LogDisk.keeps_laws c.args.disk in
     MatchResult-from_both c.reopen.result _ _
     (IfOk-weaker c.reopen.result _ _
-    (λ log is. target_again c.args.width c.args.cells.now (drive c.args.disk) (drive found.disk) c.requires.long found.count found.same c.in-Ok.ensures.compared c.if-found.false (drive log.disk) laws is.any_moment) c.reopen.ensures.opened)
+    (λ log is. target_again c.args.width c.args.cells.now (drive c.args.disk) (drive found.disk) c.requires.long found.count found.same c.in-Ok.ensures.compared c.if-found.false (drive log.disk) laws is.any_moment is.newest) c.reopen.ensures.opened)
     (IfErr-weaker c.reopen.result _ _
-    (λ e is. target_again c.args.width c.args.cells.now (drive c.args.disk) (drive found.disk) c.requires.long found.count found.same c.in-Ok.ensures.compared c.if-found.false (drive e.disk) laws is.any_moment) c.reopen.ensures.refused)
+    (λ e is. target_again c.args.width c.args.cells.now (drive c.args.disk) (drive found.disk) c.requires.long found.count found.same c.in-Ok.ensures.compared c.if-found.false (drive e.disk) laws is.any_moment is.newest) c.reopen.ensures.refused)
