@@ -1,6 +1,6 @@
 -- What a candidate more makes of what is kept.
-use Rattle.std.proofs.Common.{◌≡◌, ◌==◌, ◌&&◌, ◌||◌, ℕ, ◌<◌, ◌≤◌, Bool, true, false, List, [], ◌∷◌, length, map, get_or, refl, sym, ap, subst, ◌∙◌, arith, lit<}
-use Rattle.std.specs.Prelude.{nat_le, nat_lt}
+use Rattle.std.proofs.Common.{◌≡◌, ◌==◌, ◌&&◌, ◌||◌, ℕ, ◌*◌, ◌^◌, ◌<◌, ◌≤◌, Bool, true, false, List, [], ◌∷◌, length, map, get_or, refl, sym, ap, subst, ◌∙◌, arith, lit<}
+use Rattle.std.specs.Prelude.{nat_le, nat_lt, Option, Some, None, IfSome}
 use Rattle.std.specs.List.{All}
 use Rattle.std.specs.Ordering.{is_lt}
 use Rattle.std.specs.BinaryHeap.{heap_items, IsHeap, IsUpperBound}
@@ -10,15 +10,20 @@ use Rattle.std.proofs.lemmas.List.Elements.{All-nil, All-cons, All-head, All-tai
 use Rattle.std.proofs.lemmas.List.Sorted.{All-permutation, length_permutation}
 use Rattle.zorder.specs.declared.points.Point.{Point}
 use Rattle.zorder.specs.declared.points.Placed.{Placed}
-use Rattle.zorder.specs.Distance.{distance}
+use Rattle.zorder.specs.declared.points.Region.{Region}
+use Rattle.zorder.specs.Distance.{distance, gap}
+use Rattle.zorder.specs.Key.{point_of, IsPoint}
+use Rattle.zorder.specs.Region.{has_point}
+use Rattle.prefix_names.specs.Regions.{box_of}
 use Rattle.prefix_names.specs.declared.key_boxes.KeyBox.{KeyBox}
 use Rattle.knn_query.specs.Passes.{IsPass}
 use Rattle.plain_list.proofs.Ranking.{is_before-cmp}
 use Rattle.knn_query.specs.Ahead.{number_nearer}
 use Rattle.knn_query.specs.Candidates.{object_of, candidate_cmp, IsBehind, IsInPlace, IsMeasured}
-use Rattle.knn_query.specs.Passes.{held, IsBeyond, IsHeld, IsOut, HasReach, Passes}
+use Rattle.knn_query.specs.Passes.{held, IsBeyond, IsHeld, IsOut, IsOutOf, LeavesOut, HasReach, Passes}
 use Rattle.knn_query.specs.declared.candidate.Candidate.{Candidate}
 use Rattle.knn_query.specs.declared.kept.Kept.{Kept}
+use Rattle.knn_query.specs.declared.reach.Reach.{Reach}
 use Rattle.knn_query.proofs.Cuts.{pass_skips}
 use Rattle.knn_query.proofs.Candidates.{Bounds, bounds-map, pass_replaces}
 use Rattle.knn_query.proofs.Searching.{all_as_near, first_farther}
@@ -174,5 +179,34 @@ module _ (m : Placed) (one : Candidate) (old new : Kept) (is_m : object_of one �
       }
 
 -- the reach of what is kept has what passes keep in it
-pub reach-kept : (box : KeyBox) (ms : List Placed) (old new : Kept) → Passes ms old new → HasReach box old → HasReach box new
-reach-kept box ms old new passes reach m at outside = passes.out m (reach m at outside)
+pub outside-kept : (box : Option KeyBox) (ms : List Placed) (old new : Kept) → Passes ms old new → IfSome box (IsOutOf old) → IfSome box (IsOutOf new)
+outside-kept None ms old new passes outside = tt
+outside-kept (Some corners) ms old new passes outside = λ m at out. passes.out m (outside m at out)
+
+pub reach-kept : (reach : Reach) (ms : List Placed) (old new : Kept) → Passes ms old new → HasReach reach old → HasReach reach new
+reach-kept reach ms old new passes has = record {
+  outside = outside-kept reach.corners ms old new passes has.outside;
+  farther = λ m at far. passes.out m (has.farther m at (subst (λ q. reach.farthest < distance m.at q) passes.from far));
+}
+
+-- where a box is that region
+pub boxed : (kept : Kept) (box : Option KeyBox) (region : Region) → IfSome box (λ corners. box_of corners ≡ region) → ((m : Placed) → IsPoint m.at → has_point region m.at ≡ false → IsOut kept m) → IfSome box (IsOutOf kept)
+boxed kept None region is outside = tt
+boxed kept (Some corners) region is outside = λ m at out. outside m at (ap (λ r. has_point r m.at) (sym is) ∙ out)
+
+-- an object that a box leaves out
+pub left-out : (reach : Reach) (key : ℕ) (m : Placed) (kept : Kept) → HasReach reach kept → LeavesOut reach key → IsPoint m.at → m.at ≡ point_of key → IsOut kept m
+left-out reach key m kept has leaves at is =
+    let outside : IsOutOf kept leaves.corners = subst (λ b. IfSome b (IsOutOf kept)) leaves.is has.outside in
+    outside m at (ap (has_point (box_of leaves.corners)) is ∙ leaves.out)
+
+-- no distance is as great as a number of 128 bits may be
+square-fits : (a : ℕ) → a < 2 ^ 32 → a * a < 2 ^ 64
+square-fits a h = omega (arith, square-less a (2 ^ 32) h)
+  where
+    square-less : (a b : ℕ) → a < b → a * a < b * b
+    square-less a b h = grind arith
+
+pub distance-fits : (p q : Point) → IsPoint p → IsPoint q → distance p q < 2 ^ 65
+distance-fits p q at_p at_q =
+    omega (arith, square-fits (gap p.x q.x) (omega (arith, at_p.x, at_q.x)), square-fits (gap p.y q.y) (omega (arith, at_p.y, at_q.y)))

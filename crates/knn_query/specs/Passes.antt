@@ -1,11 +1,11 @@
 -- What is kept of objects that come one after the other.
-use Rattle.std.specs.Prelude.{◌≡◌, ◌≤◌, ◌<◌, false, ℕ, ⊤, List, [], ◌++◌, length, map, take}
+use Rattle.std.specs.Prelude.{◌≡◌, ◌≤◌, ◌<◌, false, ℕ, ⊤, List, [], ◌++◌, length, map, take, Some, IfSome}
 use Rattle.std.specs.List.{All, fold}
 use Rattle.std.specs.BinaryHeap.{heap_items, IsHeap}
 use Rattle.zorder.specs.declared.points.Point.{Point}
 use Rattle.zorder.specs.declared.points.Placed.{Placed}
 use Rattle.zorder.specs.Distance.{distance}
-use Rattle.zorder.specs.Key.{IsPoint}
+use Rattle.zorder.specs.Key.{IsPoint, point_of}
 use Rattle.zorder.specs.Region.{has_point}
 use Rattle.prefix_names.specs.Regions.{box_of}
 use Rattle.prefix_names.specs.declared.key_boxes.KeyBox.{KeyBox}
@@ -14,6 +14,7 @@ use Rattle.plain_list.specs.Queries.{is_before, with_ranked, ranked}
 use Rattle.knn_query.specs.Candidates.{object_of, candidate_cmp, IsMeasured}
 use Rattle.knn_query.specs.declared.candidate.Candidate.{Candidate}
 use Rattle.knn_query.specs.declared.kept.Kept.{Kept}
+use Rattle.knn_query.specs.declared.reach.Reach.{Reach}
 use Rattle.knn_query.specs.declared.kept.Came.{Came}
 use Rattle.knn_query.specs.declared.kept.Came.TheVariants.{More, Instead, Beyond}
 
@@ -64,8 +65,19 @@ Tells kept m Instead = ⊤
 Tells kept m Beyond = IsBeyond kept m
 
 -- each object outside of the box has k that are nearer
-abbrev pub HasReach : KeyBox → Kept → Type 0
-HasReach box kept = (m : Placed) → IsPoint m.at → has_point (box_of box) m.at ≡ false → IsOut kept m
+abbrev pub IsOutOf : Kept → KeyBox → Type 0
+IsOutOf kept corners = (m : Placed) → IsPoint m.at → has_point (box_of corners) m.at ≡ false → IsOut kept m
+
+-- the box of a reach leaves the point of a key out
+pub record LeavesOut (reach : Reach) (key : ℕ) : Type 0 where
+  pub corners : KeyBox
+  pub is : reach.corners ≡ Some corners
+  pub out : has_point (box_of corners) (point_of key) ≡ false
+
+-- each object outside of the box has k that are nearer, and so has each that is farther
+pub record HasReach (reach : Reach) (kept : Kept) : Type 0 where
+  pub outside : IfSome reach.corners (IsOutOf kept)
+  pub farther : (m : Placed) → IsPoint m.at → reach.farthest < distance m.at kept.from → IsOut kept m
 
 -- these objects came, and nothing that belongs to the nearest was lost
 pub record Passes (ms : List Placed) (old new : Kept) : Type 0 where

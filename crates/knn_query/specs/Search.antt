@@ -6,6 +6,7 @@ use denote.Ref.{Bor}
 use Rattle.std.specs.List.{All, sum_by}
 use Rattle.std.specs.List.Sorted.{IsPermutation}
 use Rattle.zorder.specs.declared.points.Point.{Point}
+use Rattle.zorder.specs.declared.points.Region.{Region}
 use Rattle.bucket_versions.specs.Rows.{Rows}
 use Rattle.index_layer.specs.Leaves.{Leaf, leaf_named}
 use Rattle.table_share.specs.Subtree.{leaves_of}
@@ -65,9 +66,9 @@ pub record LeadsNowhere (leaves : List Leaf) (kept : Kept) (old new : List Ahead
   pub state : (p : Point) (k before now : ℕ) → State p k leaves before now old kept → State p k leaves before now new kept
 
 -- the bucket of a leaf, or none
-abbrev pub Leads : {Z : Type 0} → List Leaf → Kept → List Ahead → List Ahead → Option (Bor (Arc Rows Z)) → Type 0
+abbrev pub Leads : {Z : Type 0} → List Leaf → Kept → List Ahead → List Ahead → Option (Region × Bor (Arc Rows Z)) → Type 0
 Leads leaves kept old new None = LeadsNowhere leaves kept old new
-Leads leaves kept old new (Some bucket) = LeadsTo leaves (arc_value bucket.now) kept old new
+Leads leaves kept old new (Some found) = LeadsTo leaves (arc_value found.1.now) kept old new
 
 -- two halves at these places, the nearer first, which is as near as both
 pub record AreHalves {P : Type 0} (p : Point) (a : Ahead) (zero one : P) (near far : Waiting P) : Type 0 where

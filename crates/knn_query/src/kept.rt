@@ -1,20 +1,22 @@
 //! The nearest of the objects that were seen so far.
-ghost use Rattle.std.specs.Prelude.{◌≡◌, ◌≤◌, ◌∷◌, nat_le, List, [], map, take, IfOk, OnOk};
+ghost use Rattle.std.specs.Prelude.{◌≡◌, ◌≤◌, ◌<◌, ◌∷◌, nat_le, List, [], map, take, IfOk, OnOk, IfSome};
 ghost use Rattle.std.specs.BinaryHeap.{heap_items, IsHeap};
 ghost use Rattle.zorder.specs.declared.points.Placed.{Placed};
+ghost use Rattle.zorder.specs.Distance.{distance};
+ghost use Rattle.zorder.specs.Key.{IsPoint};
 ghost use Rattle.plain_list.specs.Queries.{ranked};
 ghost use Rattle.plain_list.specs.AtPlaces.{AreOf};
 ghost use Rattle.knn_query.specs.Ahead.{number_nearer};
-ghost use Rattle.knn_query.specs.Candidates.{candidate_cmp, object_of, Replaces};
-ghost use Rattle.knn_query.specs.Passes.{held, HasReach, IsEmpty, IsHeld, Passes, Tells};
+ghost use Rattle.knn_query.specs.Candidates.{candidate_cmp, object_of, IsMeasured, Replaces};
+ghost use Rattle.knn_query.specs.Passes.{held, HasReach, IsEmpty, IsHeld, IsOut, IsOutOf, Passes, Tells};
 
 use crate::candidate::Candidate;
-use crate::reach::{box_within, whole_box};
+use crate::reach::{Reach, box_within, cutting};
 use plain_list::PlacedList;
 use prefix_names::KeyBox;
 use std::alloc::{AllocError, Global};
 use std::collections::BinaryHeap;
-use zorder::{Placed, Point};
+use zorder::{Placed, Point, Region, coordinates_fit};
 
 /// What became of an object.
 pub(crate) enum Came {
@@ -46,12 +48,12 @@ impl Kept {
     }
 
     /// Adds an object, where it belongs to the nearest.
-    pub(crate) fn add(&mut self, m: Placed) -> Result<Came, AllocError>
-        requires { IsHeld self.old }
-        ensures passes { OnOk result (Passes (m ∷ []) self.old self.new) }
-        ensures came { IfOk result (Tells self.new m) }
+    pub(crate) fn add(&mut self, one: Candidate) -> Result<Came, AllocError>
+        requires held { IsHeld self.old }
+        requires measured { IsMeasured self.old.from one }
+        ensures passes { OnOk result (Passes (object_of one ∷ []) self.old self.new) }
+        ensures came { IfOk result (Tells self.new (object_of one)) }
     {
-        let one = Candidate::new(m, self.from);
         if self.heap.len() < self.k {
             self.heap.push(one)?;
             return Ok(Came::More);
@@ -63,14 +65,39 @@ impl Kept {
         }
     }
 
-    /// A box that has each object which may still belong to the nearest.
-    pub(crate) fn reach(&self) -> KeyBox
+    /// What objects of an area may still belong to the nearest.
+    pub(crate) fn reach(&self, area: &Region) -> Reach
         requires { IsHeld self.now }
         ensures { HasReach result self.now }
     {
+        Reach {
+            corners: self.corners(area),
+            farthest: self.farthest(),
+        }
+    }
+
+    /// A distance that no object is beyond which may still belong to the nearest.
+    pub(crate) fn farthest(&self) -> u128
+        requires { IsHeld self.now }
+        ensures { (m : Placed) → IsPoint m.at → result < distance m.at self.now.from → IsOut self.now m }
+    {
+        coordinates_fit(self.from);
         match self.heap.peek() {
-            Some(farthest) if self.k <= self.heap.len() => box_within(self.from, farthest.at),
-            _ => whole_box(),
+            Some(farthest) if self.k <= self.heap.len() => farthest.distance,
+            _ => u128::MAX,
+        }
+    }
+
+    // A box that each such object of an area is in, where it leaves some of the area out.
+    fn corners(&self, area: &Region) -> Option<KeyBox>
+        requires { IsHeld self.now }
+        ensures { IfSome result (IsOutOf self.now) }
+    {
+        match self.heap.peek() {
+            Some(farthest) if self.k <= self.heap.len() => {
+                cutting(box_within(self.from, farthest.at), area)
+            }
+            _ => None,
         }
     }
 

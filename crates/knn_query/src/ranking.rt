@@ -11,18 +11,19 @@ ghost use Rattle.knn_query.specs.Search.{AreHalves, IsPutOrOut, IsWanted, Leads}
 ghost use Rattle.knn_query.specs.Passes.{held, HasReach, IsBeyond, IsEmpty, IsHeld, Keeps, Passes};
 
 use crate::ahead::{Ahead, Waiting, by_distance, take_nearest};
+use crate::candidate::Candidate;
 use crate::kept::{Came, Kept};
+use crate::reach::Reach;
 use bucket_versions::{Bucket, Row};
 use index_layer::{Below, Index};
 use plain_list::PlacedList;
-use prefix_names::KeyBox;
 use std::alloc::{AllocError, Global};
 use std::collections::BinaryHeap;
 use std::sync::Arc;
 use std::sync::ledger::Ledger;
 use step_count::Steps;
 use table_share::placed;
-use zorder::{Memory, Name, Point};
+use zorder::{Memory, Name, Point, Region};
 
 // As many subtrees as are mostly ahead at once.
 const MANY_AHEAD: usize = 20;
@@ -73,10 +74,10 @@ fn keep_nearest<I: Index, L: Ledger>(
             return Ok(kept);
         }
         let found = nearest_leaf(index, next.ahead, next.place, &kept, &mut waiting)?;
-        let Some(bucket) = found else {
+        let Some((area, bucket)) = found else {
             continue;
         };
-        add_rows(&mut kept, bucket, steps)?;
+        add_rows(&mut kept, bucket, &area, steps)?;
     }
     Ok(kept)
 }
@@ -94,14 +95,14 @@ fn first_of_many<P: Drop>(
     Ok(all)
 }
 
-// Goes down to a leaf that is as near as the subtree, unless nothing is there. Of two halves one is so; the other one waits.
+// Goes down to a leaf that is as near as the subtree, unless nothing is there, and gives its region too. Of two halves one is so; the other one waits.
 fn nearest_leaf<'a, I: Index>(
     index: &'a I,
     first: Ahead,
     at: &'a I::Place,
     kept: &Kept,
     waiting: &mut BinaryHeap<Waiting<&'a I::Place>>,
-) -> Result<Option<&'a Arc<Bucket>>, AllocError>
+) -> Result<Option<(Region, &'a Arc<Bucket>)>, AllocError>
     requires wanted { IsWanted kept.now first (ahead_of (heap_items waiting.old)) }
     requires place { I.is_at index.now at.now first.name }
     requires places { AreAt (I.is_at index.now) (heap_items waiting.old) }
@@ -114,7 +115,7 @@ fn nearest_leaf<'a, I: Index>(
     let mut place = at;
     'down: while index.count_below(&ahead.name, place) > 0 {
         match index.below(&ahead.name, place) {
-            Below::Leaf(bucket) => return Ok(Some(bucket)),
+            Below::Leaf(bucket) => return Ok(Some((ahead.region, bucket))),
             Below::Halves { zero, one } => {
                 let (near, far) = halves_at(&ahead, kept.from, zero, one);
                 put_far(waiting, kept, far)?;
@@ -164,44 +165,58 @@ fn put_far<P: Drop>(
     Ok(())
 }
 
-// Adds the objects of a bucket. Where one comes too late, so do those at its point that follow.
+// Adds the objects of a bucket, whose points are in an area. Where one comes too late, so do those at its point that follow.
 fn add_rows<L: Ledger>(
     kept: &mut Kept,
     bucket: &Bucket,
+    area: &Region,
     steps: &mut Steps<L>,
 ) -> Result<(), AllocError>
     requires { IsHeld kept.old }
     ensures passes { OnOk result (Passes (objects_of bucket.now.rows) kept.old kept.new) }
     ensures opened { steps.new ≡ steps.old + 1 }
 {
-    let mut within = kept.reach();
+    let mut within = kept.reach(area);
     let mut rows = bucket.rows(steps);
     while let Some(row) = rows.next() {
-        if !add_row(kept, &mut within, row)? {
+        if !add_row(kept, &mut within, area, row)? {
             rows.pass_key(row.key);
         }
     }
     Ok(())
 }
 
-// Adds the object of a row, unless its key tells that it is too far, and answers whether it was kept. Once there are enough
-// the others need be near.
-fn add_row(kept: &mut Kept, within: &mut KeyBox, row: &Row) -> Result<bool, AllocError>
+// Adds the object of a row, unless it is too far, and answers whether it was kept. Once there are enough the others need be near:
+// most that aren't so are known by their key alone.
+#[inline(always)]
+fn add_row(
+    kept: &mut Kept,
+    within: &mut Reach,
+    area: &Region,
+    row: &Row,
+) -> Result<bool, AllocError>
     requires held { IsHeld kept.old }
     requires reach { HasReach within.old kept.old }
     ensures passes { OnOk result (Passes (placed_of row.now ∷ []) kept.old kept.new) }
     ensures reach { OnOk result (HasReach within.new kept.new) }
     ensures beyond { IfOk result (λ goes. goes ≡ false → IsBeyond kept.new (placed_of row.now)) }
 {
-    if !within.has(row.key) {
+    if within.leaves_out(row.key) {
         return Ok(false);
     }
-    match kept.add(placed(row))? {
+    let one = Candidate::new(placed(row), kept.from);
+    if within.farthest < one.distance {
+        return Ok(false);
+    }
+    match kept.add(one)? {
         Came::More => {
-            *within = kept.reach();
+            *within = kept.reach(area);
             Ok(true)
         }
-        Came::Instead => Ok(true),
+        Came::Instead => {
+            within.farthest = kept.farthest();
+            Ok(true)
+        }
         Came::Beyond => Ok(false),
     }
 }

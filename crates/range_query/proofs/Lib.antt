@@ -1,3 +1,4 @@
+pub mod Axes
 pub mod BoxCounts
 pub mod BoxLeaves
 pub mod InOrder

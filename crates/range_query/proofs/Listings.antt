@@ -2,6 +2,7 @@
 use Rattle.std.proofs.Common.{◌≡◌, ℕ, ◌+◌, ◌<◌, ◌≤◌, ◌^◌, true, false, cond, List, [], ◌∷◌, ◌++◌, length, sym, ap, ◌∙◌, arith, length-append, append_assoc, Result, Ok, Err, OnOk}
 use Rattle.std.specs.Prelude.{nat_le}
 use Rattle.std.specs.List.Sorted.{IsPermutation}
+use Rattle.std.proofs.lemmas.List.{append-nil, nil_from_length}
 use Rattle.std.proofs.lemmas.List.Sorted.{length_permutation}
 use Rattle.std.proofs.lemmas.Bool.Decides.{nat_tests}
 use Rattle.zorder.specs.declared.points.Placed.{Placed}
@@ -60,6 +61,15 @@ passed-by region ms all rows left r listing first away p = record {
   rest = ap (λ b. p.done ++ cond b (placed_of r ∷ members_in region (objects_of left)) (members_in region (objects_of left))) (sym away)
       ∙ ap (λ (rs : List Row). p.done ++ members_in region (objects_of rs)) (sym first) ∙ p.rest;
 }
+
+-- objects that are only counted, where no more can be listed
+pub counted-on : (ms more : List Placed) (old new : Listing) → new.list.items ≡ old.list.items → 2048 ≤ old.count → new.count ≡ old.count + length more → IsListing ms old → IsListing (ms ++ more) new
+counted-on ms more old new same full count is = (
+  omega (arith, count, is.0, length-append ms more),
+  λ few.
+      let none : more ≡ [] = nil_from_length more (omega (arith, few, full, is.0, length-append ms more)) in
+      same ∙ is.1 (omega (arith, few, length-append ms more)) ∙ sym (append-nil ms) ∙ ap (λ xs. ms ++ xs) (sym none),
+)
 
 -- the answer that a list of the objects is
 pub listed-many : (ms found : List Placed) (n : ℕ) → IsPermutation ms found → n ≡ length found → 2048 < n → Many n ≡ listed ms

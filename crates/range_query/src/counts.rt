@@ -4,12 +4,12 @@ ghost use Rattle.zorder.specs.Region.{IsBox};
 ghost use Rattle.plain_list.specs.Queries.{members_in};
 ghost use Rattle.table_share.specs.Subtree.{subtree};
 ghost use Rattle.table_share.specs.Standing.{OfPlaces};
-ghost use Rattle.range_query.specs.Cut.{IsAreaOf, is_met, is_cut, leaves_cut, IsNumberIn, IsNumberBelow};
-ghost use Rattle.table_share.specs.KeysUnder.{AreKeysUnder, AreAllKeysUnder};
+ghost use Rattle.range_query.specs.Cut.{IsAreaOf, is_met, is_cut, leaves_cut, IsNumberBelow};
+ghost use Rattle.table_share.specs.KeysUnder.{AreAllKeysUnder};
 
-use bucket_versions::Bucket;
+use crate::counted::count_rows;
 use index_layer::{Below, Index};
-use prefix_names::{KeyBox, halves, inside, meets};
+use prefix_names::{halves, inside, meets};
 use std::sync::ledger::Ledger;
 use step_count::Steps;
 use zorder::{Name, Region, child, key};
@@ -48,7 +48,7 @@ fn number_below<I: Index, L: Ledger>(
         return index.count_below(name, place);
     }
     match index.below(name, place) {
-        Below::Leaf(bucket) => count_rows(bucket, region, steps),
+        Below::Leaf(bucket) => count_rows(bucket, name, area, region, steps),
         Below::Halves { zero, one } => {
             let (low, high) = halves(name, area);
             let first = number_below(index, &child(name, false), zero, &low, region, steps);
@@ -56,18 +56,4 @@ fn number_below<I: Index, L: Ledger>(
             first.saturating_add(second)
         }
     }
-}
-
-fn count_rows<L: Ledger>(bucket: &Bucket, region: &Region, steps: &mut Steps<L>) -> u64
-    ensures number { IsNumberIn region.now bucket.now.rows result }
-    ensures opened { steps.new ≡ steps.old + 1 }
-{
-    let corners = KeyBox::of(region);
-    let mut count = 0u64;
-    for row in bucket.rows(steps) {
-        if corners.has(row.key) {
-            count = count.saturating_add(1);
-        }
-    }
-    count
 }

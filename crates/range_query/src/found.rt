@@ -5,12 +5,13 @@ ghost use Rattle.zorder.specs.Region.{IsBox};
 ghost use Rattle.plain_list.specs.Queries.{members_in, listed};
 ghost use Rattle.index_layer.specs.Leaves.{all_rows};
 ghost use Rattle.index_layer.specs.Subtree.{subtree};
-ghost use Rattle.table_share.specs.KeysUnder.{AreAllKeysUnder};
+ghost use Rattle.table_share.specs.KeysUnder.{AreKeysUnder, AreAllKeysUnder};
 ghost use Rattle.table_share.specs.Objects.{objects_of};
 ghost use Rattle.table_share.specs.Standing.{OfPlaces};
 ghost use Rattle.range_query.specs.Cut.{IsAreaOf, leaves_met, below_met, held_below};
 ghost use Rattle.range_query.specs.Listing.{Adds, AddsAll, IsListing, OnFound};
 
+use crate::counted::count_rows;
 use crate::ranges::push_whole;
 use bucket_versions::Bucket;
 use index_layer::{Below, Index};
@@ -110,7 +111,7 @@ fn list_below<I: Index, L: Ledger>(
         return list_whole(found, index, name, place, steps);
     }
     match index.below(name, place) {
-        Below::Leaf(bucket) => list_rows(found, bucket, region, steps),
+        Below::Leaf(bucket) => list_leaf(found, bucket, name, area, region, steps),
         Below::Halves { zero, one } => {
             let (low, high) = halves(name, area);
             list_below(found, index, &child(name, false), zero, &low, region, steps)?;
@@ -138,6 +139,29 @@ fn list_whole<I: Index, L: Ledger>(
         push_whole(&mut found.list, index, name, place, steps)?;
     }
     found.count = count;
+    Ok(())
+}
+
+// The objects of a leaf in the box. Once no more can be listed they are only counted.
+fn list_leaf<L: Ledger>(
+    found: &mut Listing,
+    bucket: &Bucket,
+    name: &Name,
+    area: &Region,
+    region: &Region,
+    steps: &mut Steps<L>,
+) -> Result<(), Memory>
+    requires is_box { IsBox region.now }
+    requires area { IsAreaOf name.now area.now }
+    ensures lists { AreKeysUnder name.now bucket.now.rows → Adds result (members_in region.now (objects_of bucket.now.rows)) found.old found.new }
+    ensures grows { found.old.count ≤ found.new.count }
+    ensures opened { steps.new ≡ steps.old + 1 }
+{
+    if found.count < MOST_LISTED {
+        return list_rows(found, bucket, region, steps);
+    }
+    let count = count_rows(bucket, name, area, region, steps);
+    found.count = found.count.saturating_add(count);
     Ok(())
 }
 

@@ -10,6 +10,7 @@
 //! Not here: what the answer to a box is (`plain_list`).
 #![tactic(auto)]
 
+mod counted;
 mod counts;
 mod found;
 mod ranges;

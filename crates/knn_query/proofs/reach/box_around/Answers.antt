@@ -1,5 +1,3 @@
-use Rattle.std.proofs.Common.{sym, ap, ◌∙◌}
-use Rattle.zorder.specs.Region.{has_point}
 use Rattle.zorder.specs.declared.points.Region.{Region}
 use Rattle.knn_query.proofs.Reaches.{outside-far}
 use Rattle.knn_query.proofs.reach.box_around.Goals as goal
@@ -12,4 +10,4 @@ returns c p at out =
     } in
     outside-far c.args.middle p c.args.side b
     (record { left = c.saturating_sub.ensures; low = c.saturating_sub-2.ensures; right = c.saturating_add.ensures; high = c.saturating_add-2.ensures })
-    c.coordinates_fit.ensures at (ap (λ r. has_point r p) (sym c.of.ensures) ∙ out)
+    c.coordinates_fit.ensures at out

@@ -5,11 +5,12 @@ use Rattle.std.specs.Cmp.Derive.{both_true}
 use Rattle.zorder.specs.declared.points.Region.{Region}
 use Rattle.prefix_names.specs.Regions.{lies_in, region_of}
 use Rattle.index_layer.specs.Leaves.{Leaf, all_rows}
+use Rattle.table_share.specs.KeysUnder.{AreKeysUnder}
 use Rattle.table_share.specs.Subtree.{subtree}
 use Rattle.table_share.proofs.Subtrees.{inner-room, passing-both, passing-leaf, subtree-failing, subtree-leaf}
 use Rattle.range_query.specs.Cut.{IsAreaOf, is_met, is_cut, leaves_met, leaves_cut, number_in}
 use Rattle.range_query.proofs.BoxCounts.{count_one, count_two, cut_one}
-use Rattle.range_query.proofs.BoxLeaves.{met-is, is_met-narrows, is_cut-narrows}
+use Rattle.range_query.proofs.BoxLeaves.{keys_of_leaf, met-is, is_met-narrows, is_cut-narrows}
 use Rattle.range_query.proofs.Reaches.{area-box}
 use Rattle.range_query.proofs.Wholes.{number-whole, uncut-whole, within-name}
 use Rattle.range_query.proofs.counts.+number_below.Goals as goal
@@ -66,7 +67,8 @@ returns-in-Leaf-clause-number g t c under fits =
     let met : is_met region name ≡ true = met-is region c.args.area.now c.args.name.now c.meets.result true c.meets.ensures.test c.requires.area.is c.if-not-meets.false in
     let one = passing-leaf (is_met region) leaves (g.met.I.Index.are_leaves c.args.index.now).tile name b c.in-Leaf.ensures met in
     let same = count_one region c.deref.result.now.rows (leaves_met region (subtree name leaves)) name b (ap (λ b. b.rows) c.deref.ensures) one in
-    c.count_rows.ensures.number (subst (λ n. n < 2 ^ 64) same fits) ∙ sym same
+    let keys : AreKeysUnder name c.deref.result.now.rows = subst (λ b. AreKeysUnder name b.rows) (sym c.deref.ensures) (keys_of_leaf name b leaves c.in-Leaf.ensures under) in
+    c.count_rows.ensures.number keys (subst (λ n. n < 2 ^ 64) same fits) ∙ sym same
 
 pub returns-in-Leaf-clause-opened : goal.returns-in-Leaf-clause-opened
 returns-in-Leaf-clause-opened g t c =

@@ -4,12 +4,13 @@ use Rattle.std.proofs.lemmas.List.{length-map}
 use Rattle.zorder.specs.declared.points.Placed.{Placed}
 use Rattle.prefix_names.specs.Regions.{region_of}
 use Rattle.index_layer.specs.Leaves.{Leaf, all_rows}
+use Rattle.table_share.specs.KeysUnder.{AreKeysUnder}
 use Rattle.table_share.specs.Objects.{placed_of}
 use Rattle.table_share.specs.Subtree.{subtree, leaves_of}
 use Rattle.table_share.proofs.Subtrees.{whenever, inner-room, passing-both, passing-leaf, subtree-failing}
 use Rattle.range_query.specs.Cut.{IsAreaOf, is_met, leaves_met, objects_held}
 use Rattle.range_query.specs.Listing.{IsListing}
-use Rattle.range_query.proofs.BoxLeaves.{met-is, is_met-narrows, found_one, found_two, found_none, held-append}
+use Rattle.range_query.proofs.BoxLeaves.{keys_of_leaf, met-is, is_met-narrows, found_one, found_two, found_none, held-append}
 use Rattle.range_query.proofs.Listings.{on_ok}
 use Rattle.range_query.proofs.Reaches.{area-box}
 use Rattle.range_query.proofs.Wholes.{met-whole, held-whole, within-name}
@@ -85,22 +86,22 @@ returns-in-Leaf-clause-lists g t c under ms fits is =
     let ls : List Leaf = leaves_of passes (subtree name leaves) in
     let one = passing-leaf passes leaves (g.met.I.Index.are_leaves c.args.index.now).tile name b c.in-Leaf.ensures (met-is region c.args.area.now c.args.name.now c.meets.result true c.meets.ensures.test c.requires.area.is c.if-not-meets.false) in
     let count = ap length (found_one region c.requires.is_box [] rows ls name b (ap (λ r. r.rows) c.deref.ensures) one) in
-    subst (λ (xs : List Placed). OnOk c.list_rows.result (IsListing xs c.list_rows.new.found)) (found_one region c.requires.is_box ms rows ls name b (ap (λ r. r.rows) c.deref.ensures) one)
-    (c.list_rows.ensures.lists ms (omega (arith, fits, count)) is)
+    subst (λ (xs : List Placed). OnOk c.list_leaf.result (IsListing xs c.list_leaf.new.found)) (found_one region c.requires.is_box ms rows ls name b (ap (λ r. r.rows) c.deref.ensures) one)
+    (c.list_leaf.ensures.lists (subst (λ r. AreKeysUnder name r.rows) (sym c.deref.ensures) (keys_of_leaf name b leaves c.in-Leaf.ensures under)) ms (omega (arith, fits, count)) is)
 
 pub returns-in-Leaf-clause-opened : goal.returns-in-Leaf-clause-opened
 returns-in-Leaf-clause-opened g t c =
     let leaves : List Leaf = g.I.Index.leaves c.args.index.now in
     let passes : List Bool → Bool = is_met c.args.region.now in
     let one = passing-leaf passes leaves (g.met.I.Index.are_leaves c.args.index.now).tile c.args.name.now (arc_value c.in-Leaf.bucket.now) c.in-Leaf.ensures (met-is c.args.region.now c.args.area.now c.args.name.now c.meets.result true c.meets.ensures.test c.requires.area.is c.if-not-meets.false) in
-    omega (arith, c.list_rows.ensures.opened, ap length one)
+    omega (arith, c.list_leaf.ensures.opened, ap length one)
 
 pub returns-in-Leaf-clause-exact : goal.returns-in-Leaf-clause-exact
 returns-in-Leaf-clause-exact g t c =
     let leaves : List Leaf = g.I.Index.leaves c.args.index.now in
     let passes : List Bool → Bool = is_met c.args.region.now in
     let one = passing-leaf passes leaves (g.met.I.Index.are_leaves c.args.index.now).tile c.args.name.now (arc_value c.in-Leaf.bucket.now) c.in-Leaf.ensures (met-is c.args.region.now c.args.area.now c.args.name.now c.meets.result true c.meets.ensures.test c.requires.area.is c.if-not-meets.false) in
-    whenever c.list_rows.result (λ few. omega (arith, c.list_rows.ensures.opened, ap length one))
+    whenever c.list_leaf.result (λ few. omega (arith, c.list_leaf.ensures.opened, ap length one))
 
 pub returns-in_ok-list_below-in-Halves-clause-lists : goal.returns-in_ok-list_below-in-Halves-clause-lists
 returns-in_ok-list_below-in-Halves-clause-lists g t c under ms fits is =
