@@ -7,7 +7,7 @@ use Rattle.cell_format.specs.declared.cell.Cell.{Cell}
 use Rattle.plain_list.specs.World.{World}
 use Rattle.log_state.specs.Recovers.{state_of}
 use Rattle.recovery.specs.Widths.{IsWidth}
-use Rattle.log_run.specs.declared.reading.Found.{Found}
+use Rattle.recovery.specs.declared.seen.SeenLog.{SeenLog}
 use Rattle.recovery.specs.Found.{IsFound}
 use Rattle.recovery.specs.declared.seen.Seen.{Seen}
 use Rattle.recovery.proofs.CallLemmas.{well-none, well-then}
@@ -67,7 +67,7 @@ module _ (w : ℕ) (fresh : List Cell) (a b c : Drive) (laws : KeepsLaws a) (sta
   }
 
 -- a log that was read
-pub compacts-found : {D : Type 0} (file name : List ℕ) (old new : Targets D) (log : Found) (status : ℕ) (known : IsWidth log.width) (found : IsFound oldest_read log.width most_inspected old.drive log.seen)
+pub compacts-found : {D : Type 0} (file name : List ℕ) (old new : Targets D) (log : SeenLog) (status : ℕ) (known : IsWidth log.width) (found : IsFound oldest_read log.width most_inspected old.drive log.seen)
     → IsDecidedBy most_inspected old.drive new.drive (Ok log) → HasRead file old.drive new.drive → Stays old.drive new.drive
     → EndsAnew log.width log.seen.world log.seen.leaves name old.other_drive new.other_drive status old.output new.output → EndsCompacting file name old new status
 compacts-found file name old new log status known found decided read stays ends = record {
@@ -111,7 +111,7 @@ not-used old new (refusal.Strange cell) cause ten = absurd cause
 
 -- a log that wasn't
 pub compacts-refused : {D : Type 0} (file name : List ℕ) (old new : Targets D) (why : Refusal) (status : ℕ) → IsCheckingCause old.drive new.drive why
-    → IsDecidedBy {T = Found} most_inspected old.drive new.drive (Err why) → HasReadUnless file old.drive new.drive why → Stays old.drive new.drive → Refuses why status old.output new.output
+    → IsDecidedBy {T = SeenLog} most_inspected old.drive new.drive (Err why) → HasReadUnless file old.drive new.drive why → Stays old.drive new.drive → Refuses why status old.output new.output
     → new.other ≡ old.other → EndsCompacting file name old new status
 compacts-refused file name old new why status cause decided read stays refused other =
     let is = refused.status_is in

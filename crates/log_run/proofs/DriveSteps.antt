@@ -8,7 +8,7 @@ use Rattle.recovery.specs.Making.{Makes, IsSmall, KeepsSmall, RefusesInit}
 use Rattle.log_state.specs.Recovers.{Recovers}
 use Rattle.recovery.specs.Faults.{IsInBytes}
 use Rattle.recovery.specs.Widths.{IsWidth, IsLogFault}
-use Rattle.log_run.specs.declared.reading.Found.{Found}
+use Rattle.recovery.specs.declared.seen.SeenLog.{SeenLog}
 use Rattle.recovery.specs.Found.{IsFree, IsFound}
 use Rattle.recovery.specs.Reading.{OnlyReads}
 use Rattle.recovery.specs.declared.seen.Seen.{Seen}
@@ -38,17 +38,17 @@ free-later a b c fault later (inl memory) = inl memory
 free-later a b c fault later (inr rose) = inr (rose-earlier a.faults b.faults c.faults later rose)
 
 -- a log in which something is at fault
-pub checking-after : (a b c : Drive) (result : Result Found OpenFault) (fault : OpenFault) → result ≡ Err fault → Stays a b → a.faults ≤ b.faults
+pub checking-after : (a b c : Drive) (result : Result SeenLog OpenFault) (fault : OpenFault) → result ≡ Err fault → Stays a b → a.faults ≤ b.faults
     → ((bytes : List ℕ) → b.bytes ≡ Some bytes → IsLogFault 1 most_inspected bytes fault) → OnlyReads b c result → IsCheckingCause a c (log_refusal fault)
 checking-after a b c result fault is stays later wrong reads = reading-after 1 most_inspected a b c fault stays later wrong (λ disk. reads.failed (is ∙ ap (λ (e : OpenFault). Err e) disk))
 
-pub decided-err : (a b c : Drive) (why : OpenFault) (result : Result Found OpenFault) → result ≡ Err why → Stays a b → a.faults ≤ b.faults
+pub decided-err : (a b c : Drive) (why : OpenFault) (result : Result SeenLog OpenFault) → result ≡ Err why → Stays a b → a.faults ≤ b.faults
     → ((bytes : List ℕ) (fault : OpenFault) → b.bytes ≡ Some bytes → IsInBytes fault → IsLogFault 1 most_inspected bytes fault → IsErrAnd result (λ e. (e ≡ fault) ⊎ IsFree b c e))
-    → ((bytes : List ℕ) (w : ℕ) (cells : List Cell) → b.bytes ≡ Some bytes → IsWidth w → Recovers w cells bytes → length cells ≤ most_inspected → IfErr result (IsFree b c)) → IsDecidedBy {T = Found} most_inspected a c (Err (log_refusal why))
+    → ((w : ℕ) (bytes : List ℕ) (cells : List Cell) → IsWidth w → b.bytes ≡ Some bytes → Recovers w cells bytes → length cells ≤ most_inspected → IfErr result (IsFree b c)) → IsDecidedBy {T = SeenLog} most_inspected a c (Err (log_refusal why))
 decided-err a b c why result is stays later exact whole = record {
   exact = λ bytes fault told shown wrong calm.
-      calm-named a b c why fault later calm (subst (λ (r : Result Found OpenFault). IsErrAnd r (λ e. (e ≡ fault) ⊎ IsFree b c e)) is (exact bytes fault (stays.bytes ∙ told) shown wrong));
-  whole = λ bytes w cells told known text few calm. calm-free a b c why later calm (subst (λ (r : Result Found OpenFault). IfErr r (IsFree b c)) is (whole bytes w cells (stays.bytes ∙ told) known text few));
+      calm-named a b c why fault later calm (subst (λ (r : Result SeenLog OpenFault). IsErrAnd r (λ e. (e ≡ fault) ⊎ IsFree b c e)) is (exact bytes fault (stays.bytes ∙ told) shown wrong));
+  whole = λ bytes w cells told known text few calm. calm-free a b c why later calm (subst (λ (r : Result SeenLog OpenFault). IfErr r (IsFree b c)) is (whole w bytes cells known (stays.bytes ∙ told) text few));
 }
 
 -- what an attach leaves of a file, and what the making behind it does
@@ -79,7 +79,7 @@ module _ (name : List ℕ) (make : Bool) (a b : Drive) (why : Refusal) (refuses 
     | inr memory ↦ subst (IsMakingCause a b) (sym memory) tt
   ]
 
-  pub decided-attached : IsDecidedBy {T = Found} most_inspected a b (Err why)
+  pub decided-attached : IsDecidedBy {T = SeenLog} most_inspected a b (Err why)
   decided-attached = elim refuses.cause [
     | inl disk ↦ record { exact = λ bytes what told shown wrong calm. absurd (calm disk.1); whole = λ bytes w cells told known text few calm. absurd (calm disk.1) }
     | inr memory ↦ record { exact = λ bytes what told shown wrong calm. inr memory; whole = λ bytes w cells told known text few calm. memory }
