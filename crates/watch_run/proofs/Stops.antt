@@ -6,13 +6,13 @@ use Rattle.cell_format.specs.declared.cell.Cell.{Cell}
 use Rattle.log_state.specs.Recovers.{Recovers}
 use Rattle.recovery.specs.declared.seen.OpenFault.{OpenFault}
 use Rattle.recovery.specs.declared.seen.OpenFault.TheVariants as fault
-use Rattle.recovery.specs.Faults.{IsFault, IsInBytes}
-use Rattle.recovery.specs.Found.{IsFree, IsWanted}
+use Rattle.recovery.specs.Faults.{IsInBytes}
+use Rattle.recovery.specs.Found.{IsFree}
 use Rattle.recovery.specs.Reading.{OnlyReads}
 use Rattle.recovery.specs.Walks.{IsOfHead}
-use Rattle.recovery.specs.Widths.{IsWidth, HasWidth, IsHeadFault, IsLogFault}
+use Rattle.recovery.specs.Widths.{IsWidth, HasWidth, IsLogFault, ShowsFault}
 use Rattle.recovery.proofs.OnlyReading.{stays-trans}
-use Rattle.recovery.proofs.WidthLemmas.{recovers_width, fault_seen, head_seen, head_told}
+use Rattle.recovery.proofs.WidthLemmas.{recovers_width}
 use Rattle.csv_rows.specs.declared.rows.Refusal.{Refusal}
 use Rattle.csv_rows.specs.declared.rows.Refusal.TheVariants as refusal
 use Rattle.run_ends.specs.Limits.{most_inspected, oldest_read}
@@ -115,40 +115,21 @@ module _ (a b c : Drive) (stays : Stays a b) (same : b.faults ≡ a.faults) wher
   }
 
 -- a head that isn't read
-module _ (fences : List Fence) (old new : Drive) (e : OpenFault) (reads : OnlyReads {T = Unit {0}} old new (Err e)) where
-  rose-told : e ≡ fault.Disk → Rose old.faults new.faults
-  rose-told disk = reads.failed (ap (λ (f : OpenFault). Err f) disk)
-
-  -- of a log whose width is asked for
-  pub fails-width : ((bytes : List ℕ) → old.bytes ≡ Some bytes → IsHeadFault bytes e) → ((bytes : List ℕ) (w : ℕ) → old.bytes ≡ Some bytes → HasWidth w bytes → Rose old.faults new.faults) → FailsAlong fences old new e
-  fails-width wrong whole = record {
-    wrong = λ bytes told. head_seen oldest_read most_inspected bytes (omega arith) e (wrong bytes told);
-    crowd = λ bytes told crowd. inr (whole bytes crowd.width told (crowd-width fences bytes crowd));
-    exact = λ bytes f told shown is. ⊎_elim inl (λ rose. inr (inr rose)) (head_told oldest_read most_inspected bytes old.faults new.faults e f (wrong bytes told) rose-told shown is);
-    whole = λ bytes w cells told known recovers few. inr (whole bytes w told (recovers_width w cells bytes known recovers));
-    reads = reads;
-  }
-
-  -- of a log whose width is known already
-  module _ (w : ℕ) (has : (bytes : List ℕ) → old.bytes ≡ Some bytes → HasWidth w bytes) (wrong : (bytes : List ℕ) → old.bytes ≡ Some bytes → IsFault oldest_read w most_inspected bytes e) where
-    -- where it is told before the first cell, the bytes don't show it
-    head-free : (f : OpenFault) → (f ≡ fault.Disk → Rose old.faults new.faults) → IsOfHead f → (bytes : List ℕ) → HasWidth w bytes → IsFault oldest_read w most_inspected bytes f → IsFree old new f
-    head-free fault.NotLog rose head bytes has is = absurd (has.is_log is)
-    head-free (fault.OldLog version width) rose head bytes has is = ⊎_elim
-        (λ other. absurd (other (subst (IsWanted oldest_read) (sym is.version_is) has.version)))
-        (λ other. absurd (other (is.width_is ∙ sym has.named))) is.other
-    head-free (fault.Damaged n why) rose head bytes has is = absurd head
-    head-free (fault.TooLong limit) rose head bytes has is = absurd head
-    head-free fault.Disk rose head bytes has is = inr (rose refl)
-    head-free fault.Memory rose head bytes has is = inl refl
-
-    pub fails-start : IsOfHead e → FailsAlong fences old new e
-    fails-start head =
-        let free : (bytes : List ℕ) → old.bytes ≡ Some bytes → IsFree old new e = λ bytes told. head-free e rose-told head bytes (has bytes told) (wrong bytes told) in
-        record {
-          wrong = λ bytes told. fault_seen oldest_read most_inspected bytes w (has bytes told) e (wrong bytes told);
-          crowd = λ bytes told crowd. free bytes told;
-          exact = λ bytes f told shown is. inr (free bytes told);
-          whole = λ bytes u cells told known recovers few. free bytes told;
-          reads = reads;
-        }
+pub fails-head : (fences : List Fence) (old new : Drive) (e : OpenFault) → OnlyReads {T = Unit {0}} old new (Err e) → ShowsFault oldest_read most_inspected old e
+    → ((bytes : List ℕ) (f : OpenFault) → old.bytes ≡ Some bytes → IsInBytes f → IsOfHead f → IsLogFault oldest_read most_inspected bytes f → (e ≡ f) ⊎ IsFree old new e)
+    → ((bytes : List ℕ) (w : ℕ) → old.bytes ≡ Some bytes → HasWidth w bytes → IsFree old new e) → FailsAlong fences old new e
+fails-head fences old new e reads wrong exact whole = record {
+  wrong = wrong;
+  crowd = λ bytes told crowd. whole bytes crowd.width told (crowd-width fences bytes crowd);
+  exact = named;
+  whole = λ bytes w cells told known recovers few. whole bytes w told (recovers_width w cells bytes known recovers);
+  reads = reads;
+}
+  where
+    named : (bytes : List ℕ) (f : OpenFault) → old.bytes ≡ Some bytes → IsInBytes f → IsLogFault oldest_read most_inspected bytes f → (e ≡ f) ⊎ IsFree old new e
+    named bytes fault.NotLog told shown is = exact bytes fault.NotLog told tt tt is
+    named bytes (fault.OldLog version width) told shown is = exact bytes (fault.OldLog version width) told tt tt is
+    named bytes (fault.Damaged n why) told shown (w, has, damaged) = inr (whole bytes w told has)
+    named bytes (fault.TooLong limit) told shown (w, has, same, long) = inr (whole bytes w told has)
+    named bytes fault.Disk told shown is = absurd shown
+    named bytes fault.Memory told shown is = absurd shown
