@@ -17,8 +17,11 @@ use Rattle.recovery.specs.declared.seen.InitFault.TheVariants as init_fault
 use Rattle.recovery.specs.declared.seen.OpenFault.{OpenFault}
 use Rattle.recovery.specs.declared.seen.OpenFault.TheVariants as open_fault
 use Rattle.disk_trait.proofs.Calls.{still-made}
+use Rattle.recovery.specs.Calls.{StopsAtFault}
+use Rattle.recovery.proofs.CallLemmas.{stops-then, well-none}
 use Rattle.recovery.proofs.OnlyReading.{rose-earlier, stays-trans}
 use Rattle.recovery.proofs.OpeningLemmas.{leaves-trans, leaves-stays}
+use Rattle.log_compact.proofs.OnWay.{failed-making}
 use Rattle.run_ends.specs.Limits.{most_inspected}
 use Rattle.csv_rows.specs.declared.rows.Refusal.{Refusal}
 use Rattle.run_ends.specs.Attaching.{RefusesAttach}
@@ -53,14 +56,20 @@ decided-err a b c why result is stays later exact whole = record {
 
 -- what an attach leaves of a file, and what the making behind it does
 pub leaves-attached : (a b : Drive) → KeepsLaws a → Stays a b → a.faults ≤ b.faults → LeavesFile a b
-leaves-attached a b laws stays later = record { small = λ now. leaves-stays a b IsSmall laws now stays; in_use = λ bytes told long. stays; later = later }
+leaves-attached a b laws stays later = record { small = λ now. leaves-stays a b IsSmall laws now stays; in_use = λ bytes told long. stays; later = later; calls = inl (well-none a b stays.calls) }
 
-pub leaves-made : (a b c : Drive) → KeepsLaws a → Stays a b → a.faults ≤ b.faults → KeepsSmall b c → LeavesFile a c
-leaves-made a b c laws stays later keeps = record {
+pub leaves-made : (a b c : Drive) → KeepsLaws a → Stays a b → a.faults ≤ b.faults → KeepsSmall b c → StopsAtFault b c → LeavesFile a c
+leaves-made a b c laws stays later keeps calls = record {
   small = λ now. leaves-trans a b c IsSmall (leaves-stays a b IsSmall laws now stays) (keeps.small (λ bytes is. now bytes (stays.images bytes is)));
   in_use = λ bytes told long. stays-trans a b c stays (keeps.in_use bytes (stays.bytes ∙ told) long);
   later = omega (arith, later, keeps.later);
+  calls = stops-then a b c (well-none a b stays.calls) calls;
 }
+
+-- the calls of a making that was refused
+pub calls-unmade : (old new : Drive) (cause : InitFault) → RefusesInit old new cause → StopsAtFault old new
+calls-unmade old new (init_fault.InUse len) refuses = inl (well-none old new refuses.2.calls)
+calls-unmade old new init_fault.Disk fails = (failed-making old new fails).calls
 
 -- why no log is made of the attached file
 pub cause-made : (a b c : Drive) (cause : InitFault) → Stays a b → a.faults ≤ b.faults → RefusesInit b c cause → IsMakingCause a c (making_refusal cause)
