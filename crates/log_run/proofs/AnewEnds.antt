@@ -1,30 +1,36 @@
 -- How a writing anew ends.
-use Rattle.std.proofs.Common.{◌≡◌, inl, inr, ◌∙◌, ℕ, ◌≤◌, Bool, false, List, length, Ok, Err, sym, ap, subst, arith}
-use Rattle.causes.specs.Causes.{Rose}
+use Rattle.std.proofs.Common.{◌≡◌, inl, inr, ◌∙◌, ℕ, ◌≤◌, Bool, true, false, List, length, Result, Ok, Err, sym, ap, subst, arith}
+use Rattle.causes.specs.Causes.{Rose, Counts}
+use Rattle.io_edge.specs.Puts.{Puts}
 use Rattle.io_edge.specs.Streams.{Output}
-use Rattle.disk_trait.specs.Drive.{Drive, KeepsLaws, Stays}
+use Rattle.disk_trait.specs.Drive.{AttachedOne, Drive, KeepsLaws, Stays}
 use Rattle.cell_format.specs.declared.cell.Cell.{Cell}
 use Rattle.plain_list.specs.World.{World}
 use Rattle.log_state.specs.Recovers.{state_of}
 use Rattle.recovery.specs.Widths.{IsWidth}
-use Rattle.log_run.specs.declared.reading.Found.{Found}
+use Rattle.recovery.specs.declared.seen.SeenLog.{SeenLog}
 use Rattle.recovery.specs.Found.{IsFound}
 use Rattle.recovery.specs.declared.seen.Seen.{Seen}
-use Rattle.recovery.proofs.CallLemmas.{well-none, well-then}
+use Rattle.recovery.specs.Calls.{StopsAtFault}
+use Rattle.recovery.proofs.CallLemmas.{stops-then, well-none, well-then}
 use Rattle.recovery.proofs.OnlyReading.{stays-trans}
 use Rattle.recovery.proofs.OpeningLemmas.{leaves-trans, leaves-stays}
 use Rattle.log_compact.specs.Fresh.{ComesBySplits}
-use Rattle.log_compact.specs.Compacting.{IsCompacted, IsOnWay, KeepsOnWay}
+use Rattle.log_compact.specs.Compacting.{IsCompacted, IsOnWay, KeepsOnWay, RefusesCompact}
+use Rattle.log_compact.specs.declared.compacting.CompactFault.{CompactFault}
+use Rattle.log_compact.specs.declared.compacting.CompactFault.TheVariants as compact_fault
 use Rattle.log_compact.proofs.Counting.{comes_by_splits, fresh_few}
+use Rattle.csv_rows.specs.LogLines.{compacted_line}
 use Rattle.csv_rows.specs.declared.rows.Refusal.{Refusal}
 use Rattle.csv_rows.specs.declared.rows.Refusal.TheVariants as refusal
 use Rattle.run_ends.specs.Limits.{oldest_read, most_inspected}
 use Rattle.run_ends.specs.Ends.{Targets}
-use Rattle.run_ends.specs.Status.{status_of}
+use Rattle.run_ends.specs.Status.{status_of, written_status}
 use Rattle.run_ends.specs.Taking.{Refuses}
 use Rattle.run_ends.proofs.AttachFacts.{attaches-one, attaches-as}
 use Rattle.log_run.specs.Checking.{IsCheckingCause, IsDecidedBy, FindsCells, HasRead, HasReadUnless}
-use Rattle.log_run.specs.Compacting.{LeavesNew, EndsAnew, RecoversFew, EndsCompacting, anew}
+use Rattle.log_run.specs.Compacting.{LeavesNew, EndsAnew, MakesAnew, RecoversFew, EndsCompacting, anew}
+use Rattle.log_run.proofs.MakingEnds.{ends-writing, not-ten, whole-writing}
 use Rattle.log_run.proofs.CheckingFacts.{decided-refused}
 
 -- what was found may be written anew
@@ -57,17 +63,39 @@ module _ (w : ℕ) (fresh : List Cell) (a b c : Drive) (laws : KeepsLaws a) (sta
     on_way = λ bytes told now. leaves-stays a b (IsOnWay w fresh) laws (λ bytes is. inl (now bytes is)) stays;
     in_use = λ bytes told long. stays;
     later = later;
+    calls = inl (well-none a b stays.calls);
   }
 
-  pub leaves-written : a.faults ≤ b.faults → KeepsOnWay w fresh b c → LeavesNew w fresh a c
-  leaves-written later keeps = record {
+  pub leaves-written : a.faults ≤ b.faults → KeepsOnWay w fresh b c → StopsAtFault b c → LeavesNew w fresh a c
+  leaves-written later keeps calls = record {
     on_way = λ xs told now. leaves-trans a b c (IsOnWay w fresh) (leaves-stays a b (IsOnWay w fresh) laws (λ bytes is. inl (now bytes is)) stays) (keeps.on_way xs (stays.bytes ∙ told) (λ bytes is. now bytes (stays.images bytes is)));
     in_use = λ bytes told long. stays-trans a b c stays (keeps.in_use bytes (stays.bytes ∙ told) long);
     later = omega (arith, later, keeps.later);
+    calls = stops-then a b c (well-none a b stays.calls) calls;
   }
 
+-- the calls of a writing that was refused
+pub calls-refused : (old new : Drive) (cause : CompactFault) → RefusesCompact old new cause → StopsAtFault old new
+calls-refused old new (compact_fault.InUse len) refuses = inl (well-none old new refuses.2.calls)
+calls-refused old new compact_fault.Disk fails = fails.calls
+
+-- a log was written, and the number of its cells put, or not all of that
+pub ends-written : {T E : Type 0} (w : ℕ) (world : World) (leaves : List (List Bool)) (name : List ℕ) (old new : Drive) (before after : Output) (wrote : Result T E)
+    → Puts before.taken after.taken (compacted_line (length (anew w world leaves))) wrote → Counts before.faults after.faults wrote → MakesAnew w world leaves old new → AttachedOne name true old new → LeavesNew w (anew w world leaves) old new
+    → EndsAnew w world leaves name old new (written_status wrote) before after
+ends-written w world leaves name old new before after wrote puts counts made attached keeps = record {
+  ends = inl (made, ends-writing (compacted_line (length (anew w world leaves))) before after wrote puts counts);
+  in_use = λ ten. absurd (not-ten wrote ten);
+  exact = λ bytes told long calm. let small = (made.made.log bytes told).0 in absurd (omega (arith, small, long));
+  whole = λ bytes told small calm quiet. inl (whole-writing before.faults after.faults wrote counts quiet);
+  keeps = keeps;
+  text = λ bytes told lines. (made.made.log bytes told).1;
+  calm = λ other. made.made.same;
+  attached = attaches-one name true old new (written_status wrote) attached;
+}
+
 -- a log that was read
-pub compacts-found : {D : Type 0} (file name : List ℕ) (old new : Targets D) (log : Found) (status : ℕ) (known : IsWidth log.width) (found : IsFound oldest_read log.width most_inspected old.drive log.seen)
+pub compacts-found : {D : Type 0} (file name : List ℕ) (old new : Targets D) (log : SeenLog) (status : ℕ) (known : IsWidth log.width) (found : IsFound oldest_read log.width most_inspected old.drive log.seen)
     → IsDecidedBy most_inspected old.drive new.drive (Ok log) → HasRead file old.drive new.drive → Stays old.drive new.drive
     → EndsAnew log.width log.seen.world log.seen.leaves name old.other_drive new.other_drive status old.output new.output → EndsCompacting file name old new status
 compacts-found file name old new log status known found decided read stays ends = record {
@@ -111,7 +139,7 @@ not-used old new (refusal.Strange cell) cause ten = absurd cause
 
 -- a log that wasn't
 pub compacts-refused : {D : Type 0} (file name : List ℕ) (old new : Targets D) (why : Refusal) (status : ℕ) → IsCheckingCause old.drive new.drive why
-    → IsDecidedBy {T = Found} most_inspected old.drive new.drive (Err why) → HasReadUnless file old.drive new.drive why → Stays old.drive new.drive → Refuses why status old.output new.output
+    → IsDecidedBy {T = SeenLog} most_inspected old.drive new.drive (Err why) → HasReadUnless file old.drive new.drive why → Stays old.drive new.drive → Refuses why status old.output new.output
     → new.other ≡ old.other → EndsCompacting file name old new status
 compacts-refused file name old new why status cause decided read stays refused other =
     let is = refused.status_is in

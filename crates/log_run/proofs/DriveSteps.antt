@@ -8,7 +8,7 @@ use Rattle.recovery.specs.Making.{Makes, IsSmall, KeepsSmall, RefusesInit}
 use Rattle.log_state.specs.Recovers.{Recovers}
 use Rattle.recovery.specs.Faults.{IsInBytes}
 use Rattle.recovery.specs.Widths.{IsWidth, IsLogFault}
-use Rattle.log_run.specs.declared.reading.Found.{Found}
+use Rattle.recovery.specs.declared.seen.SeenLog.{SeenLog}
 use Rattle.recovery.specs.Found.{IsFree, IsFound}
 use Rattle.recovery.specs.Reading.{OnlyReads}
 use Rattle.recovery.specs.declared.seen.Seen.{Seen}
@@ -17,12 +17,15 @@ use Rattle.recovery.specs.declared.seen.InitFault.TheVariants as init_fault
 use Rattle.recovery.specs.declared.seen.OpenFault.{OpenFault}
 use Rattle.recovery.specs.declared.seen.OpenFault.TheVariants as open_fault
 use Rattle.disk_trait.proofs.Calls.{still-made}
+use Rattle.recovery.specs.Calls.{StopsAtFault}
+use Rattle.recovery.proofs.CallLemmas.{stops-then, well-none}
 use Rattle.recovery.proofs.OnlyReading.{rose-earlier, stays-trans}
 use Rattle.recovery.proofs.OpeningLemmas.{leaves-trans, leaves-stays}
+use Rattle.log_compact.proofs.OnWay.{failed-making}
 use Rattle.run_ends.specs.Limits.{most_inspected}
 use Rattle.csv_rows.specs.declared.rows.Refusal.{Refusal}
 use Rattle.run_ends.specs.Attaching.{RefusesAttach}
-use Rattle.run_ends.specs.LogFaults.{log_refusal}
+use Rattle.run_ends.specs.LogFaults.{MayTellLog, log_refusal}
 use Rattle.log_run.specs.Checking.{IsCheckingCause, IsDecidedBy}
 use Rattle.log_run.specs.Making.{IsMakingCause, LeavesFile, making_refusal}
 use Rattle.run_ends.specs.Status.{status_of}
@@ -38,29 +41,35 @@ free-later a b c fault later (inl memory) = inl memory
 free-later a b c fault later (inr rose) = inr (rose-earlier a.faults b.faults c.faults later rose)
 
 -- a log in which something is at fault
-pub checking-after : (a b c : Drive) (result : Result Found OpenFault) (fault : OpenFault) → result ≡ Err fault → Stays a b → a.faults ≤ b.faults
-    → ((bytes : List ℕ) → b.bytes ≡ Some bytes → IsLogFault 1 most_inspected bytes fault) → OnlyReads b c result → IsCheckingCause a c (log_refusal fault)
-checking-after a b c result fault is stays later wrong reads = reading-after 1 most_inspected a b c fault stays later wrong (λ disk. reads.failed (is ∙ ap (λ (e : OpenFault). Err e) disk))
+pub checking-after : (a b c : Drive) (result : Result SeenLog OpenFault) (fault : OpenFault) → result ≡ Err fault → Stays a b → a.faults ≤ b.faults
+    → ((bytes : List ℕ) → b.bytes ≡ Some bytes → IsLogFault 1 most_inspected bytes fault) → MayTellLog 1 most_inspected fault → OnlyReads b c result → IsCheckingCause a c (log_refusal fault)
+checking-after a b c result fault is stays later wrong may reads = reading-after 1 most_inspected a b c fault stays later wrong may (λ disk. reads.failed (is ∙ ap (λ (e : OpenFault). Err e) disk))
 
-pub decided-err : (a b c : Drive) (why : OpenFault) (result : Result Found OpenFault) → result ≡ Err why → Stays a b → a.faults ≤ b.faults
+pub decided-err : (a b c : Drive) (why : OpenFault) (result : Result SeenLog OpenFault) → result ≡ Err why → Stays a b → a.faults ≤ b.faults
     → ((bytes : List ℕ) (fault : OpenFault) → b.bytes ≡ Some bytes → IsInBytes fault → IsLogFault 1 most_inspected bytes fault → IsErrAnd result (λ e. (e ≡ fault) ⊎ IsFree b c e))
-    → ((bytes : List ℕ) (w : ℕ) (cells : List Cell) → b.bytes ≡ Some bytes → IsWidth w → Recovers w cells bytes → length cells ≤ most_inspected → IfErr result (IsFree b c)) → IsDecidedBy {T = Found} most_inspected a c (Err (log_refusal why))
+    → ((w : ℕ) (bytes : List ℕ) (cells : List Cell) → IsWidth w → b.bytes ≡ Some bytes → Recovers w cells bytes → length cells ≤ most_inspected → IfErr result (IsFree b c)) → IsDecidedBy {T = SeenLog} most_inspected a c (Err (log_refusal why))
 decided-err a b c why result is stays later exact whole = record {
   exact = λ bytes fault told shown wrong calm.
-      calm-named a b c why fault later calm (subst (λ (r : Result Found OpenFault). IsErrAnd r (λ e. (e ≡ fault) ⊎ IsFree b c e)) is (exact bytes fault (stays.bytes ∙ told) shown wrong));
-  whole = λ bytes w cells told known text few calm. calm-free a b c why later calm (subst (λ (r : Result Found OpenFault). IfErr r (IsFree b c)) is (whole bytes w cells (stays.bytes ∙ told) known text few));
+      calm-named a b c why fault later calm (subst (λ (r : Result SeenLog OpenFault). IsErrAnd r (λ e. (e ≡ fault) ⊎ IsFree b c e)) is (exact bytes fault (stays.bytes ∙ told) shown wrong));
+  whole = λ bytes w cells told known text few calm. calm-free a b c why later calm (subst (λ (r : Result SeenLog OpenFault). IfErr r (IsFree b c)) is (whole w bytes cells known (stays.bytes ∙ told) text few));
 }
 
 -- what an attach leaves of a file, and what the making behind it does
 pub leaves-attached : (a b : Drive) → KeepsLaws a → Stays a b → a.faults ≤ b.faults → LeavesFile a b
-leaves-attached a b laws stays later = record { small = λ now. leaves-stays a b IsSmall laws now stays; in_use = λ bytes told long. stays; later = later }
+leaves-attached a b laws stays later = record { small = λ now. leaves-stays a b IsSmall laws now stays; in_use = λ bytes told long. stays; later = later; calls = inl (well-none a b stays.calls) }
 
-pub leaves-made : (a b c : Drive) → KeepsLaws a → Stays a b → a.faults ≤ b.faults → KeepsSmall b c → LeavesFile a c
-leaves-made a b c laws stays later keeps = record {
+pub leaves-made : (a b c : Drive) → KeepsLaws a → Stays a b → a.faults ≤ b.faults → KeepsSmall b c → StopsAtFault b c → LeavesFile a c
+leaves-made a b c laws stays later keeps calls = record {
   small = λ now. leaves-trans a b c IsSmall (leaves-stays a b IsSmall laws now stays) (keeps.small (λ bytes is. now bytes (stays.images bytes is)));
   in_use = λ bytes told long. stays-trans a b c stays (keeps.in_use bytes (stays.bytes ∙ told) long);
   later = omega (arith, later, keeps.later);
+  calls = stops-then a b c (well-none a b stays.calls) calls;
 }
+
+-- the calls of a making that was refused
+pub calls-unmade : (old new : Drive) (cause : InitFault) → RefusesInit old new cause → StopsAtFault old new
+calls-unmade old new (init_fault.InUse len) refuses = inl (well-none old new refuses.2.calls)
+calls-unmade old new init_fault.Disk fails = (failed-making old new fails).calls
 
 -- why no log is made of the attached file
 pub cause-made : (a b c : Drive) (cause : InitFault) → Stays a b → a.faults ≤ b.faults → RefusesInit b c cause → IsMakingCause a c (making_refusal cause)
@@ -79,7 +88,7 @@ module _ (name : List ℕ) (make : Bool) (a b : Drive) (why : Refusal) (refuses 
     | inr memory ↦ subst (IsMakingCause a b) (sym memory) tt
   ]
 
-  pub decided-attached : IsDecidedBy {T = Found} most_inspected a b (Err why)
+  pub decided-attached : IsDecidedBy {T = SeenLog} most_inspected a b (Err why)
   decided-attached = elim refuses.cause [
     | inl disk ↦ record { exact = λ bytes what told shown wrong calm. absurd (calm disk.1); whole = λ bytes w cells told known text few calm. absurd (calm disk.1) }
     | inr memory ↦ record { exact = λ bytes what told shown wrong calm. inr memory; whole = λ bytes w cells told known text few calm. memory }

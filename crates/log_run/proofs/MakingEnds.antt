@@ -13,6 +13,7 @@ use Rattle.run_ends.specs.Ends.{Targets}
 use Rattle.run_ends.specs.Ending.{EndsWriting}
 use Rattle.run_ends.specs.Attaching.{AttachesOnce}
 use Rattle.run_ends.proofs.AttachFacts.{attaches-one, attaches-as}
+use Rattle.run_ends.proofs.Ends.{no-lines}
 use Rattle.run_ends.specs.Status.{status_of, written_status}
 use Rattle.run_ends.specs.Taking.{Refuses}
 use Rattle.log_run.specs.Making.{IsMakingCause, LeavesFile, EndsMaking}
@@ -39,6 +40,7 @@ ends-made file w old new wrote puts counts made attached leaves = record {
   exact = λ bytes told long calm. let small = (made.log bytes told).0 in absurd (omega (arith, small, long));
   whole = λ bytes told small calm quiet. inl (whole-writing old.output.faults new.output.faults wrote counts quiet);
   leaves = leaves;
+  text = λ bytes told lines. (made.log bytes told).1;
   calm = λ other. made.same;
   attached = attaches-one file true old.drive new.drive (written_status wrote) attached;
 }
@@ -84,6 +86,7 @@ ends-unmade file w old new why status refuses cause attached calm leaves =
       exact = λ bytes told long steady. rw is (it.exact bytes told long steady);
       whole = λ bytes told small steady quiet. rw is (it.whole bytes told small steady);
       leaves = leaves;
+      text = λ bytes told lines. absurd (no-lines why status is lines);
       calm = λ other. calm (λ e. other (is ∙ e));
       attached = attaches-as file true old.drive new.drive status (status_of why) is attached;
     }

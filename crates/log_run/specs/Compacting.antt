@@ -6,8 +6,10 @@ use Rattle.disk_trait.specs.Moments.{LeavesNow, LeavesOnly}
 use Rattle.plain_list.specs.World.{World}
 use Rattle.cell_format.specs.declared.cell.Cell.{Cell}
 use Rattle.log_state.specs.Recovers.{Recovers, state_of}
+use Rattle.recovery.specs.LogText.{IsLog}
 use Rattle.recovery.specs.Faults.{IsInBytes}
 use Rattle.recovery.specs.Widths.{IsWidth, IsLogFault}
+use Rattle.recovery.specs.Calls.{StopsAtFault}
 use Rattle.recovery.specs.Making.{IsSmall}
 use Rattle.recovery.specs.declared.seen.OpenFault.{OpenFault}
 use Rattle.log_compact.specs.Fresh.{fresh_cells}
@@ -24,6 +26,7 @@ use Rattle.run_ends.specs.Limits.{oldest_read, most_inspected}
 use Rattle.run_ends.specs.Ends.{Ends, Done, Targets, IsUnread}
 use Rattle.run_ends.specs.Taking.{Refuses}
 use Rattle.run_ends.specs.Ending.{EndsWriting, EndsRefused}
+use Rattle.run_ends.specs.Status.{WritesLines}
 use Rattle.run_ends.specs.Attaching.{AttachesOnce}
 use Rattle.log_run.specs.Making.{IsMakingCause}
 use Rattle.log_run.specs.Checking.{IsCheckingCause, FindsCells, HasRead}
@@ -48,11 +51,12 @@ WritesOrRefuses w world leaves old new status before after =
     (MakesAnew w world leaves old new × EndsWriting (compacted_line (length (anew w world leaves))) status before after) ⊎ EndsRefused (IsMakingCause old new) status before after
 
 -- Where the file's content was known and a crash left a small one, it leaves a small file at each moment, a log of no cells, or one of all of these.
--- A file that isn't small is left as it was.
+-- A file that isn't small is left as it was. No device call was made behind one that failed.
 pub record LeavesNew (w : ℕ) (fresh : List Cell) (old new : Drive) : Type 0 where
   pub on_way : (bytes : List ℕ) → old.bytes ≡ Some bytes → LeavesNow old IsSmall → LeavesOnly old new (IsOnWay w fresh)
   pub in_use : (bytes : List ℕ) → old.bytes ≡ Some bytes → 17 < length bytes → Stays old new
   pub later : old.faults ≤ new.faults
+  pub calls : StopsAtFault old new
 
 -- A world and leaves were written to the file of this name and the number of cells put, or the line of a refusal. Status 10 comes exactly where
 -- the file has more than 17 bytes, and a smaller one is made such a log, unless a count rose or memory ran out.
@@ -64,6 +68,8 @@ pub record EndsAnew (w : ℕ) (world : World) (leaves : List (List Bool)) (name 
   pub whole : (bytes : List ℕ) → old.bytes ≡ Some bytes → length bytes ≤ 17 → (Rose old.faults new.faults → ⊥)
       → (Rose before.faults after.faults → ⊥) → (status ≡ 0) ⊎ (status ≡ 9)
   pub keeps : LeavesNew w (anew w world leaves) old new
+  -- where the line was written, or a front of it, the file is the text of that log, and a crash leaves it
+  pub text : (bytes : List ℕ) → old.bytes ≡ Some bytes → WritesLines status → IsLog w (anew w world leaves) new
   -- the drive's count is as it was, but where a drive is what is told to have failed
   pub calm : status ≢ 7 → new.faults ≡ old.faults
   -- this file is attached, and made where it isn't there

@@ -1,8 +1,10 @@
 -- The command `init`.
-use Rattle.std.specs.Prelude.{◌≡◌, ◌≢◌, ◌⊎◌, ◌<◌, ◌≤◌, ℕ, List, length, Some, None, true, ⊤}
+use Rattle.std.specs.Prelude.{◌≡◌, ◌≢◌, ◌⊎◌, ◌<◌, ◌≤◌, ℕ, List, [], length, Some, None, true, ⊤}
 use Rattle.causes.specs.Causes.{Rose}
 use Rattle.disk_trait.specs.Drive.{Drive, Stays}
 use Rattle.disk_trait.specs.Moments.{LeavesNow, LeavesOnly}
+use Rattle.recovery.specs.LogText.{IsLog}
+use Rattle.recovery.specs.Calls.{StopsAtFault}
 use Rattle.recovery.specs.Making.{Makes, IsSmall}
 use Rattle.recovery.specs.declared.seen.InitFault.{InitFault}
 use Rattle.recovery.specs.declared.seen.InitFault.TheVariants as init_fault
@@ -12,6 +14,7 @@ use Rattle.csv_rows.specs.LogLines.{made_line}
 use Rattle.io_edge.specs.Streams.{Output}
 use Rattle.run_ends.specs.Ends.{Ends, Done, Targets, IsQuiet, IsUnread}
 use Rattle.run_ends.specs.Ending.{EndsWriting, EndsRefused}
+use Rattle.run_ends.specs.Status.{WritesLines}
 use Rattle.run_ends.specs.Attaching.{AttachesOnce}
 
 -- the refusal of a fault of making
@@ -30,11 +33,13 @@ IsMakingCause old new _ = ⊥
 abbrev pub MakesOrRefuses : ℕ → Drive → Drive → ℕ → Output → Output → Type 0
 MakesOrRefuses w old new status before after = (Makes w old new × EndsWriting made_line status before after) ⊎ EndsRefused (IsMakingCause old new) status before after
 
--- At each moment a crash leaves a small file, if it did before, and a file that isn't small is left as it was.
+-- At each moment a crash leaves a small file, if it did before, and a file that isn't small is left as it was. No device call was made behind one
+-- that failed.
 pub record LeavesFile (old new : Drive) : Type 0 where
   pub small : LeavesNow old IsSmall → LeavesOnly old new IsSmall
   pub in_use : (bytes : List ℕ) → old.bytes ≡ Some bytes → 17 < length bytes → Stays old new
   pub later : old.faults ≤ new.faults
+  pub calls : StopsAtFault old new
 
 -- A log of no cells and of this width was made and the line put, or the line of a refusal. Status 10 comes exactly where the file has more than 17 bytes, and a
 -- smaller one is made a log, unless a count rose or memory ran out. A file in use is left as it was, whatever the answer is.
@@ -47,6 +52,8 @@ pub record EndsMaking {D : Type 0} (file : List ℕ) (w : ℕ) (old new : Target
       → (Rose old.output.faults new.output.faults → ⊥)
       → (status ≡ 0) ⊎ (status ≡ 9)
   pub leaves : LeavesFile old.drive new.drive
+  -- where lines were written, the file is the text of that log, and a crash leaves it
+  pub text : (bytes : List ℕ) → old.drive.bytes ≡ Some bytes → WritesLines status → IsLog w [] new.drive
   -- the drive's count is as it was, but where it is what is told to have failed
   pub calm : status ≢ 7 → new.drive.faults ≡ old.drive.faults
   -- this file is attached, and made where it isn't there

@@ -7,12 +7,13 @@ ghost use Rattle.run_ends.specs.Limits.{oldest_read, most_inspected};
 ghost use Rattle.run_ends.specs.Ends.{written_by};
 ghost use Rattle.log_run.specs.Checking.{HasRead, HasReadUnless, IsCheckingCause, IsDecidedBy, ChecksLog, TellsLog, checked_text, counts_of};
 
-use crate::reading::{Found, read_log};
 use csv_rows::{LogCounts, Refusal, write_counts};
 use disk_trait::LogDisk;
 use io_edge::Sink;
-use recovery::Seen;
-use run_ends::{Drives, Ended, attach, log_refusal, put_refusal, without_rows, written};
+use recovery::{Seen, SeenLog, inspect_log};
+use run_ends::{
+    Drives, Ended, MOST_INSPECTED, attach, log_refusal, put_refusal, without_rows, written,
+};
 use std::alloc::Global;
 
 /// Tells what the log in a file of this name says, of version 1 or 2.
@@ -40,7 +41,7 @@ fn tell_counts<K: Sink, D: LogDisk>(alloc: Global, file: &str, sink: &mut K, dis
 }
 
 /// What the log in a file of this name says, and its width.
-pub(crate) fn find<D: LogDisk>(alloc: Global, file: &str, disk: &mut D) -> Result<Found, Refusal>
+pub(crate) fn find<D: LogDisk>(alloc: Global, file: &str, disk: &mut D) -> Result<SeenLog, Refusal>
     ensures found { IfOk result (λ f. IsWidth f.width × IsFound oldest_read f.width most_inspected (D.drive disk.old) f.seen) }
     ensures cause { IfErr result (IsCheckingCause (D.drive disk.old) (D.drive disk.new)) }
     ensures decided { IsDecidedBy most_inspected (D.drive disk.old) (D.drive disk.new) result }
@@ -52,7 +53,7 @@ pub(crate) fn find<D: LogDisk>(alloc: Global, file: &str, disk: &mut D) -> Resul
     if let Err(why) = attach(alloc, file, false, disk) {
         return Err(why);
     }
-    match read_log(alloc, disk) {
+    match inspect_log(alloc, disk, MOST_INSPECTED) {
         Ok(found) => Ok(found),
         Err(fault) => Err(log_refusal(fault)),
     }

@@ -11,11 +11,11 @@ ghost use Rattle.log_run.specs.Making.{IsMakingCause};
 ghost use Rattle.log_run.specs.Compacting.{CompactsLog, EndsAnew, MakesAnew, LeavesNew, compact_refusal, anew};
 
 use crate::checking::find;
-use crate::reading::Found;
 use csv_rows::{Refusal, write_compacted};
 use disk_trait::LogDisk;
 use io_edge::Sink;
 use log_compact::{CompactFault, CompactRefused, compact, count_fresh};
+use recovery::SeenLog;
 use run_ends::{Drives, Ended, Unmade, attach, put_refusal, refuse_on, without_rows, written};
 use std::alloc::Global;
 
@@ -39,7 +39,7 @@ pub fn compact_log<K: Sink, D: LogDisk>(
 // Writes what was found in a log to the other drive, and how many cells that took.
 fn write_anew<K: Sink, D: LogDisk>(
     alloc: Global,
-    found: &Found,
+    found: &SeenLog,
     name: &str,
     sink: &mut K,
     drives: Drives<D>,
@@ -65,7 +65,7 @@ fn write_anew<K: Sink, D: LogDisk>(
 
 fn anew_in<D: LogDisk>(
     alloc: Global,
-    found: &Found,
+    found: &SeenLog,
     name: &str,
     mut other: D,
 ) -> Result<D, Unmade<D>>

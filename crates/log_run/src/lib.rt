@@ -12,7 +12,6 @@
 mod checking;
 mod compacting;
 mod making;
-mod reading;
 mod showing;
 
 pub use checking::check_log;

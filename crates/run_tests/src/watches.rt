@@ -358,18 +358,13 @@ const ENDS: &[Case<'static>] = &[
         ..NO_DRIVE
     },
     Case {
-        name: "watch where the second length fails",
-        calls: nth!(DiskCall::Len, 2),
-        ..NO_DRIVE
-    },
-    Case {
         name: "watch where the head can't be read",
         calls: nth!(DiskCall::Read, 1),
         ..NO_DRIVE
     },
     Case {
         name: "watch where the cells can't be read",
-        calls: nth!(DiskCall::Read, 3),
+        calls: nth!(DiskCall::Read, 2),
         ..NO_DRIVE
     },
 ];

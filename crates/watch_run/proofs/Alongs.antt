@@ -16,13 +16,14 @@ use Rattle.recovery.specs.Found.{IsFree}
 use Rattle.recovery.specs.Reading.{IsBehind, OnlyReads}
 use Rattle.recovery.specs.Walks.{ComesTo, TellsWalked, WalkView}
 use Rattle.recovery.specs.Walked.{object_of}
-use Rattle.recovery.specs.Widths.{IsWidth, HasWidth}
+use Rattle.recovery.specs.Widths.{HasWidth, IsWidthOf}
 use Rattle.recovery.proofs.ReadingLemmas.{behind_cells}
 use Rattle.recovery.proofs.Exclusive.{recovers_wanted, told_fault, told_free}
 use Rattle.recovery.proofs.WidthLemmas.{fault_at, fault_seen, recovers_width, same_width}
 use Rattle.recovery.proofs.OnlyReading.{stays-trans}
 use Rattle.csv_rows.specs.declared.rows.Refusal.{Refusal}
 use Rattle.run_ends.specs.Limits.{most_inspected, oldest_read}
+use Rattle.run_ends.specs.LogFaults.{MayTellLog}
 use Rattle.run_ends.specs.Status.{status_of}
 use Rattle.run_ends.proofs.AttachFacts.{attaches-one}
 use Rattle.fence_watch.specs.declared.fences.Fence.{Fence}
@@ -33,13 +34,13 @@ use Rattle.fence_watch.proofs.Tallying.{tallies-step}
 use Rattle.fence_watch.specs.declared.watch.WatchFault.{WatchFault}
 use Rattle.fence_watch.specs.declared.watch.WatchFault.TheVariants as watch_fault
 use Rattle.watch_run.specs.Watching.{IsCrowded, ShowsCrowd}
-use Rattle.watch_run.specs.inside.Along.{FindsAlong, HaveFollowed, IsBegun, IsCalm, RefusesAttached, RefusesFile, RunsAlong, RunsFile, watch_refusal}
+use Rattle.watch_run.specs.inside.Along.{FindsAlong, HaveGone, IsBegun, IsCalm, RefusesAttached, RefusesFile, RunsAlong, RunsFile, watch_refusal}
 use Rattle.watch_run.proofs.Crowds.{crowd-damaged, crowd-long}
 use Rattle.watch_run.proofs.Stops.{FailsAlong, calm-still, calm-trans, refuses-crowd, refuses-later, refuses-memory}
 
 -- before the first cell
-pub followed-first : {D : Type 0} (w : ℕ) (fences : List Fence) (drive : Drive) (walk : WalkView D) (v : TallyView) → IsBegun w fences drive walk v → HaveFollowed w fences drive drive walk v
-followed-first w fences drive walk v begun = record { cells = []; came = begun.started.came; follows = begun.none; under = omega (arith, ap length begun.none.events); calm = calm-still drive }
+pub gone-first : {D : Type 0} (fences : List Fence) (drive : Drive) (walk : WalkView D) (v : TallyView) → IsBegun fences drive walk v → HaveGone walk.reading.replay.width fences drive drive walk v
+gone-first fences drive walk v begun = record { cells = []; came = begun.started.comes; tallies = begun.none; under = omega (arith, ap length begun.none.events); calm = calm-still drive }
 
 -- a call that went well
 pub calm-reads : {T : Type 0} (old new : Drive) (x : T) → OnlyReads old new (Ok x) → IsCalm old new
@@ -54,14 +55,23 @@ module _ {D : Type 0} (w : ℕ) (cells : List Cell) (drive : Drive) (walk : Walk
       let some : 1 ≤ length (walk.reading.rest ++ at.1) = omega (arith, at.0, came.room, (behind_cells walk.reading.replay.version w cells (walk.reading.rest ++ at.1) bytes begins).1) in
       (walk.reading.rest ++ at.1, begins, some)
 
+-- what is told behind so many cells may be
+may-behind : (number : ℕ) (e : OpenFault) → IsBehind most_inspected number e → MayTellLog oldest_read most_inspected e
+may-behind number fault.NotLog behind = absurd behind
+may-behind number (fault.OldLog version width) behind = absurd behind
+may-behind number (fault.Damaged n why) behind = omega (arith, behind.0, behind.1)
+may-behind number (fault.TooLong limit) behind = behind.0
+may-behind number fault.Disk behind = tt
+may-behind number fault.Memory behind = tt
+
 -- a walk and a watch behind the same cells, and the drive as it was at first, before a call and after it
-module _ {D : Type 0} (w : ℕ) (known : IsWidth w) (fences : List Fence) (first now after : Drive) (walk : WalkView D) (v : TallyView) (has : (bytes : List ℕ) → first.bytes ≡ Some bytes → HasWidth w bytes) (have : HaveFollowed w fences first now walk v) where
+module _ {D : Type 0} (w : ℕ) (fences : List Fence) (first now after : Drive) (walk : WalkView D) (v : TallyView) (width : IsWidthOf first w) (have : HaveGone w fences first now walk v) where
   has-now : (bytes : List ℕ) → now.bytes ≡ Some bytes → HasWidth w bytes
-  has-now bytes told = has bytes (sym have.calm.stays.bytes ∙ told)
+  has-now bytes told = width.named bytes (sym have.calm.stays.bytes ∙ told)
 
   -- the cells have no more crossings than are kept
   never : most_events < length (crossings have.cells fences) → ⊥
-  never over = omega (arith, have.under, over, ap length have.follows.events)
+  never over = omega (arith, have.under, over, ap length have.tallies.events)
 
   -- a fault there
   module _ (new : WalkView D) where
@@ -81,11 +91,12 @@ module _ {D : Type 0} (w : ℕ) (known : IsWidth w) (fences : List Fence) (first
     fails-next e tells reads =
         let rose : e ≡ fault.Disk → Rose now.faults after.faults = λ disk. reads.failed (ap (λ (f : OpenFault). Err f) disk) in
         record {
+          may = may-behind (length have.cells) e tells.1;
           wrong = λ bytes told. fault_seen oldest_read most_inspected bytes w (has-now bytes told) e (tells.2 bytes told);
           crowd = λ bytes told crowd. behind-free e rose tells.1 bytes told (tells.2 bytes told) crowd;
           exact = λ bytes f told shown is. told_fault oldest_read w most_inspected (omega arith) bytes now after e f (tells.2 bytes told) rose shown (fault_at oldest_read most_inspected bytes w (has-now bytes told) f is);
-          whole = λ bytes u cells told width recovers short.
-              let same : u ≡ w = same_width u w bytes (recovers_width u cells bytes width recovers) (has-now bytes told) in
+          whole = λ bytes u cells told known recovers short.
+              let same : u ≡ w = same_width u w bytes (recovers_width u cells bytes known recovers) (has-now bytes told) in
               told_free oldest_read w most_inspected (omega arith) bytes now after e cells (tells.2 bytes told) rose (subst (λ n. Recovers n cells bytes) same recovers) (recovers_wanted u cells bytes recovers) short;
           reads = reads;
         }
@@ -95,18 +106,18 @@ module _ {D : Type 0} (w : ℕ) (known : IsWidth w) (fences : List Fence) (first
   finds-all new tells = record {
     width = w;
     cells = have.cells;
-    found = record { known = known; legal = have.came.legal; few = have.came.few; recovers = λ bytes told. tells.1 bytes (have.calm.stays.bytes ∙ told) };
-    follows = have.follows;
+    found = record { known = width.known; legal = have.came.legal; few = have.came.few; recovers = λ bytes told. tells.1 bytes (have.calm.stays.bytes ∙ told) };
+    tallies = have.tallies;
     under = have.under;
   }
 
   -- one cell more
   module _ (new : WalkView D) (walked : Walked) (tells : TellsWalked w most_inspected have.cells now after new (Ok (Some walked))) (calm : IsCalm now after) where
-    pub followed-more : (next : TallyView) → Tallies walked v next → (IsPast walked v → ⊥) → HaveFollowed w fences first after new next
-    followed-more next steps within = record {
+    pub gone-further : (next : TallyView) → Tallies walked v next → (IsPast walked v → ⊥) → HaveGone w fences first after new next
+    gone-further next steps within = record {
       cells = have.cells ++ walked.cell ∷ [];
       came = tells.0;
-      follows = tallies-step w [] have.cells fences walked v next have.follows tells.1 steps;
+      tallies = tallies-step w [] have.cells fences walked v next have.tallies tells.1 steps;
       under = elim (cases_lt most_events (length v.events + length (events_told walked v.counts))) [
         | inl over ↦ absurd (within over)
         | inr under ↦ omega (arith, under, ap length steps.events, length-append v.events (events_told walked v.counts))
@@ -119,18 +130,18 @@ module _ {D : Type 0} (w : ℕ) (known : IsWidth w) (fences : List Fence) (first
     crowd-now over bytes told =
         let at = begins-there w (have.cells ++ walked.cell ∷ []) after new tells.0 bytes (calm.stays.bytes ∙ have.calm.stays.bytes ∙ told) in
         let next : TallyView = record { counts = map (count_behind (object_of walked.cell) walked.before walked.after) v.counts; events = v.events ++ events_told walked v.counts } in
-        let follows : TalliesCells [] (have.cells ++ walked.cell ∷ []) fences next = tallies-step w [] have.cells fences walked v next have.follows tells.1 (record { events = refl; counts = refl }) in
+        let tallies : TalliesCells [] (have.cells ++ walked.cell ∷ []) fences next = tallies-step w [] have.cells fences walked v next have.tallies tells.1 (record { events = refl; counts = refl }) in
         record {
           version = new.reading.replay.version;
           wanted = tells.0.wanted;
           width = w;
-          known = known;
+          known = width.known;
           cells = have.cells ++ walked.cell ∷ [];
           tail = at.0;
           begins = at.1;
           some = at.2;
           few = tells.0.few;
-          over = omega (arith, over, ap length follows.events, length-append v.events (events_told walked v.counts));
+          over = omega (arith, over, ap length tallies.events, length-append v.events (events_told walked v.counts));
         }
 
     -- whatever stops the watch there
@@ -149,7 +160,7 @@ module _ (fences : List Fence) (a b c : Drive) (calm : IsCalm a b) where
     width = finds.width;
     cells = finds.cells;
     found = record { known = finds.found.known; legal = finds.found.legal; few = finds.found.few; recovers = λ bytes told. finds.found.recovers bytes (calm.stays.bytes ∙ told) };
-    follows = finds.follows;
+    tallies = finds.tallies;
     under = finds.under;
   }
 
@@ -169,7 +180,7 @@ module _ (fences : List Fence) (file : List ℕ) (a b c : Drive) (stays : Stays 
           width = finds.width;
           cells = finds.cells;
           found = record { known = finds.found.known; legal = finds.found.legal; few = finds.found.few; recovers = λ bytes told. finds.found.recovers bytes (stays.bytes ∙ told) };
-          follows = finds.follows;
+          tallies = finds.tallies;
           under = finds.under;
         };
         read = record { attached = attached-still file false a b c attached runs.calm.file; calm = runs.calm.same ∙ same };

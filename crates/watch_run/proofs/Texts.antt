@@ -1,5 +1,5 @@
 -- What a tally keeps, as text.
-use Rattle.std.proofs.Common.{◌≡◌, ℕ, List, [], ◌∷◌, ◌++◌, map, refl, ◌∙◌, ap, sym}
+use Rattle.std.proofs.Common.{◌≡◌, ℕ, List, [], ◌∷◌, ◌++◌, map, refl, ◌∙◌, ap}
 use Rattle.std.specs.List.{flat_map}
 use Rattle.cell_format.specs.declared.cell.Cell.{Cell}
 use Rattle.plain_list.specs.World.{World}
@@ -15,10 +15,10 @@ lines-counted : (world : World) (fences : List Fence) → flat_map counted_line 
 lines-counted world [] = refl
 lines-counted world (f ∷ fences) = ap (λ (l : List ℕ). end_line world f ++ l) (lines-counted world fences)
 
--- the lines of a tally that followed all cells are those of the cells
-pub text-followed : (w : ℕ) (cells : List Cell) (fences : List Fence) (v : TallyView) → TalliesCells [] cells fences v → view_text v ≡ watched_text fences w cells
+-- the lines of a tally of all cells are those of the cells
+pub text-tallied : (w : ℕ) (cells : List Cell) (fences : List Fence) (v : TallyView) → TalliesCells [] cells fences v → view_text v ≡ watched_text fences w cells
 unfolding watched_text
-text-followed w cells fences v follows =
+text-tallied w cells fences v tallies =
     let ends : flat_map counted_line v.counts ≡ flat_map (end_line (state_of w cells).world) fences =
-    ap (λ (counts : List FenceCount). flat_map counted_line counts) (counts-told w [] cells fences v follows) ∙ lines-counted (state_of w cells).world fences in
-    λ i. watch_title ++ flat_map event_line (follows.events i) ++ ends i
+    ap (λ (counts : List FenceCount). flat_map counted_line counts) (counts-told w [] cells fences v tallies) ∙ lines-counted (state_of w cells).world fences in
+    λ i. watch_title ++ flat_map event_line (tallies.events i) ++ ends i

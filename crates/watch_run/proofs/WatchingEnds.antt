@@ -24,19 +24,19 @@ use Rattle.watch_run.specs.Watching.{EndsWatching, GoesAlong, IsDecidedAlong, Wa
 use Rattle.watch_run.specs.inside.Along.{RefusesFile, RunsFile}
 use Rattle.watch_run.specs.inside.Lines.{view_text}
 use Rattle.watch_run.proofs.Crowds.{crowd-recovers}
-use Rattle.watch_run.proofs.Texts.{text-followed}
+use Rattle.watch_run.proofs.Texts.{text-tallied}
 
 -- the lines were written, or not all of them
 pub watched-all : {D T E : Type 0} (fences : List Fence) (file : List ℕ) (old new : Targets D) (v : TallyView) (wrote : Result T E) → RunsFile fences file old.drive new.drive v
     → Puts old.output.taken new.output.taken (view_text v) wrote → Counts old.output.faults new.output.faults wrote → EndsWatching fences file old new (written_status wrote)
 watched-all {T = T} {E = E} fences file old new v wrote runs puts counts =
     let finds = runs.finds in
-    let text : view_text v ≡ watched_text fences finds.width finds.cells = text-followed finds.width finds.cells fences v finds.follows in
+    let text : view_text v ≡ watched_text fences finds.width finds.cells = text-tallied finds.width finds.cells fences v finds.tallies in
     let told : Puts old.output.taken new.output.taken (watched_text fences finds.width finds.cells) wrote = subst (λ (l : List ℕ). Puts old.output.taken new.output.taken l wrote) text puts in
     record {
       ends = inl (finds.width, finds.cells, finds.found, ends-writing (watched_text fences finds.width finds.cells) old.output new.output wrote told counts);
       decided = record {
-        over = λ bytes known crowd calm. absurd (omega (arith, finds.under, ap length finds.follows.events, crowd-recovers fences bytes crowd finds.width finds.cells (finds.found.recovers bytes known) finds.found.few));
+        over = λ bytes known crowd calm. absurd (omega (arith, finds.under, ap length finds.tallies.events, crowd-recovers fences bytes crowd finds.width finds.cells (finds.found.recovers bytes known) finds.found.few));
         exact = λ bytes fault known shown is none calm.
             let recovers = finds.found.recovers bytes known in
             absurd

@@ -1,13 +1,12 @@
 //! A watch along the log in a file.
-ghost use Rattle.std.specs.Prelude.{◌≡◌, ℕ, List, Some, MatchResult};
-ghost use Rattle.recovery.specs.Widths.{IsWidth, HasWidth};
+ghost use Rattle.std.specs.Prelude.{◌≡◌, List, MatchResult};
 ghost use Rattle.fence_watch.specs.declared.fences.Fence.{Fence};
 ghost use Rattle.watch_run.specs.inside.Along.{IsBegun, IsStarted, RefusesAttached, RefusesFile, RunsAlong, RunsFile, watch_refusal};
 
 use csv_rows::Refusal;
 use disk_trait::LogDisk;
 use fence_watch::{Fences, Tally, WatchFault};
-use recovery::{OpenRefused, Walk, Walked, width_of};
+use recovery::{OpenRefused, Walk, Walked};
 use run_ends::{MOST_INSPECTED, Unmade, attach, log_refusal};
 use std::alloc::Global;
 
@@ -23,19 +22,18 @@ pub(crate) fn watch_file<D: LogDisk>(
     alloc: Global,
     file: &str,
     fences: &Fences,
-    disk: D,
+    mut disk: D,
 ) -> Result<Along<D>, Unmade<D>>
     ensures along { MatchResult result (λ a. RunsFile fences.now file.now (D.drive disk) (D.drive a.disk) a.watch)
         (λ e. RefusesFile fences.now file.now (D.drive disk) (D.drive e.disk) e.why) }
 {
-    let mut disk = disk;
     if let Err(why) = attach(alloc, file, false, &mut disk) {
         return Err(Unmade { disk, why });
     }
     watch_attached(alloc, fences, disk)
 }
 
-// Watches the fences along the log in the file that was attached, by the width that it has.
+// Watches the fences along the log in the file that was attached.
 fn watch_attached<D: LogDisk>(
     alloc: Global,
     fences: &Fences,
@@ -44,29 +42,7 @@ fn watch_attached<D: LogDisk>(
     ensures along { MatchResult result (λ a. RunsAlong fences.now (D.drive disk) (D.drive a.disk) a.watch)
         (λ e. RefusesAttached fences.now (D.drive disk) (D.drive e.disk) e.why) }
 {
-    let mut disk = disk;
-    match width_of(&mut disk) {
-        Ok(width) => watch_by(alloc, width, fences, disk),
-        Err(fault) => {
-            let why = log_refusal(fault);
-            Err(Unmade { disk, why })
-        }
-    }
-}
-
-// The same by this width.
-fn watch_by<D: LogDisk>(
-    alloc: Global,
-    width: u8,
-    fences: &Fences,
-    disk: D,
-) -> Result<Along<D>, Unmade<D>>
-    requires known { IsWidth width }
-    requires told { (bytes : List ℕ) → (D.drive disk).bytes ≡ Some bytes → HasWidth width bytes }
-    ensures along { MatchResult result (λ a. RunsAlong fences.now (D.drive disk) (D.drive a.disk) a.watch)
-        (λ e. RefusesAttached fences.now (D.drive disk) (D.drive e.disk) e.why) }
-{
-    match Walk::start(alloc, disk, width, MOST_INSPECTED) {
+    match Walk::along(alloc, disk, MOST_INSPECTED) {
         Ok(walk) => watch_walk(alloc, fences, walk),
         Err(OpenRefused { disk, cause }) => {
             let why = log_refusal(cause);
@@ -79,13 +55,12 @@ fn watch_by<D: LogDisk>(
 fn watch_walk<D: LogDisk>(
     alloc: Global,
     fences: &Fences,
-    walk: Walk<D>,
+    mut walk: Walk<D>,
 ) -> Result<Along<D>, Unmade<D>>
-    requires { (w : ℕ) × IsStarted w (D.drive walk.disk) walk }
+    requires { IsStarted (D.drive walk.disk) walk }
     ensures along { MatchResult result (λ a. RunsAlong fences.now (D.drive walk.disk) (D.drive a.disk) a.watch)
         (λ e. RefusesAttached fences.now (D.drive walk.disk) (D.drive e.disk) e.why) }
 {
-    let mut walk = walk;
     match watch_all(alloc, fences, &mut walk) {
         Ok(watch) => Ok(Along {
             watch,
@@ -104,7 +79,7 @@ fn watch_all<D: LogDisk>(
     fences: &Fences,
     walk: &mut Walk<D>,
 ) -> Result<Tally, Refusal>
-    requires { (w : ℕ) × IsStarted w (D.drive walk.old.disk) walk.old }
+    requires { IsStarted (D.drive walk.old.disk) walk.old }
     ensures along { MatchResult result (λ watch. RunsAlong fences.now (D.drive walk.old.disk) (D.drive walk.new.disk) watch)
         (λ why. RefusesAttached fences.now (D.drive walk.old.disk) (D.drive walk.new.disk) why) }
 {
@@ -115,8 +90,8 @@ fn watch_all<D: LogDisk>(
 
 // Goes with a watch along all cells of a walk that has begun.
 fn go_along<D: LogDisk>(walk: &mut Walk<D>, watch: &mut Tally) -> Result<(), Refusal>
-    requires { (w : ℕ) × (fences : List Fence) × IsBegun w fences (D.drive walk.old.disk) walk.old watch.old }
-    ensures along { (w : ℕ) (fences : List Fence) → IsBegun w fences (D.drive walk.old.disk) walk.old watch.old
+    requires { (fences : List Fence) × IsBegun fences (D.drive walk.old.disk) walk.old watch.old }
+    ensures along { (fences : List Fence) → IsBegun fences (D.drive walk.old.disk) walk.old watch.old
         → MatchResult result (λ _. RunsAlong fences (D.drive walk.old.disk) (D.drive walk.new.disk) watch.new)
         (λ why. RefusesAttached fences (D.drive walk.old.disk) (D.drive walk.new.disk) why) }
 {

@@ -15,7 +15,7 @@ use std::alloc::Global;
 /// Tells who enters and leaves the fences of a source along the log in a file of this name, of version 1 or 2, and how many are inside each
 /// behind its last cell.
 ///
-/// The order of work, and of refusals: source, length of the input, fences, attach, width of the log, its cells, lines. The first line is
+/// The order of work, and of refusals: source, length of the input, fences, attach, head of the log, its cells, lines. The first line is
 /// written once all cells were walked.
 pub fn watch_log<S: Source, K: Sink, D: LogDisk>(
     alloc: Global,

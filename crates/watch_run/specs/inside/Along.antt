@@ -5,8 +5,8 @@ use Rattle.disk_trait.specs.Drive.{Drive, SameFile, Stays}
 use Rattle.cell_format.specs.declared.cell.Cell.{Cell}
 use Rattle.log_state.specs.Recovers.{Recovers}
 use Rattle.recovery.specs.Faults.{IsInBytes}
-use Rattle.recovery.specs.Walks.{ComesTo, WalkView}
-use Rattle.recovery.specs.Widths.{IsWidth, HasWidth, IsLogFault}
+use Rattle.recovery.specs.Walks.{ComesAlong, ComesTo, WalkView}
+use Rattle.recovery.specs.Widths.{IsWidth, IsLogFault}
 use Rattle.recovery.specs.declared.seen.OpenFault.{OpenFault}
 use Rattle.csv_rows.specs.declared.rows.Refusal.{Refusal}
 use Rattle.csv_rows.specs.declared.rows.Refusal.TheVariants as refusal
@@ -34,7 +34,7 @@ pub record FindsAlong (fences : List Fence) (old : Drive) (v : TallyView) : Type
   pub width : ℕ
   pub cells : List Cell
   pub found : FindsCells width old cells
-  pub follows : TalliesCells [] cells fences v
+  pub tallies : TalliesCells [] cells fences v
   pub under : length v.events ≤ most_events
 
 -- of one that was attached already
@@ -72,22 +72,20 @@ pub record RefusesAttached (fences : List Fence) (old new : Drive) (why : Refusa
   pub refuses : RefusesAlong fences old new why
   pub file : SameFile old new
 
--- a walk before the first cell of a log of this width
-pub record IsStarted {D : Type 0} (w : ℕ) (drive : Drive) (walk : WalkView D) : Type 0 where
-  pub known : IsWidth w
-  pub told : (bytes : List ℕ) → drive.bytes ≡ Some bytes → HasWidth w bytes
-  pub came : ComesTo w most_inspected [] drive walk
+-- a walk before the first cell of a log, by the width that it has
+abbrev pub IsStarted : {D : Type 0} → Drive → WalkView D → Type 0
+IsStarted drive walk = ComesAlong walk.reading.replay.width most_inspected [] drive walk
 
 -- with a watch of these fences
-pub record IsBegun {D : Type 0} (w : ℕ) (fences : List Fence) (drive : Drive) (walk : WalkView D) (v : TallyView) : Type 0 where
-  pub started : IsStarted w drive walk
+pub record IsBegun {D : Type 0} (fences : List Fence) (drive : Drive) (walk : WalkView D) (v : TallyView) : Type 0 where
+  pub started : IsStarted drive walk
   pub none : TalliesCells [] [] fences v
 
 -- both behind the same cells
-pub record HaveFollowed {D : Type 0} (w : ℕ) (fences : List Fence) (first now : Drive) (walk : WalkView D) (v : TallyView) : Type 0 where
+pub record HaveGone {D : Type 0} (w : ℕ) (fences : List Fence) (first now : Drive) (walk : WalkView D) (v : TallyView) : Type 0 where
   pub cells : List Cell
   pub came : ComesTo w most_inspected cells now walk
-  pub follows : TalliesCells [] cells fences v
+  pub tallies : TalliesCells [] cells fences v
   pub under : length v.events ≤ most_events
   pub calm : IsCalm first now
 

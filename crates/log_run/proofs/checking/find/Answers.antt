@@ -1,5 +1,5 @@
 use Rattle.std.proofs.Common.{Err, false, ◌∙◌, sym, subst, arith}
-use Rattle.log_run.specs.declared.reading.Found.{Found}
+use Rattle.recovery.specs.declared.seen.SeenLog.{SeenLog}
 use Rattle.disk_trait.proofs.Calls.{attached-still}
 use Rattle.recovery.proofs.OnlyReading.{stays-trans}
 use Rattle.csv_rows.specs.declared.rows.Refusal.{Refusal}
@@ -9,48 +9,48 @@ use Rattle.log_run.specs.Checking.{IsCheckingCause, IsDecidedBy}
 use Rattle.log_run.proofs.DriveSteps.{checking-after, decided-err, decided-attached, found-after, calm-read}
 use Rattle.log_run.proofs.checking.find.Goals as goal
 
-pub returns-in-Err-read_log-clause-cause : goal.returns-in-Err-read_log-clause-cause
-returns-in-Err-read_log-clause-cause g c =
+pub returns-in-Err-inspect_log-clause-cause : goal.returns-in-Err-inspect_log-clause-cause
+returns-in-Err-inspect_log-clause-cause g c =
     let old = g.D.LogDisk.drive c.args.disk.now in
-    let new = g.D.LogDisk.drive c.read_log.new.disk in
+    let new = g.D.LogDisk.drive c.inspect_log.new.disk in
     subst (λ (why : Refusal). IsCheckingCause old new why) (sym c.log_refusal.ensures)
-    (checking-after old (g.D.LogDisk.drive c.attach.new.disk) new c.read_log.result c.in-Err-read_log.fault c.in-Err-read_log.is c.in_default.ensures.attached.stays (omega (arith, c.in_default.ensures.attached.calm)) c.in-Err-read_log.ensures.fault c.read_log.ensures.reads)
+    (checking-after old (g.D.LogDisk.drive c.attach.new.disk) new c.inspect_log.result c.in-Err-inspect_log.fault c.in-Err-inspect_log.is c.in_default.ensures.attached.stays (omega (arith, c.in_default.ensures.attached.calm)) c.in-Err-inspect_log.ensures.fault.0 c.in-Err-inspect_log.ensures.fault.1 c.inspect_log.ensures.reads)
 
-pub returns-in-Err-read_log-clause-decided : goal.returns-in-Err-read_log-clause-decided
-returns-in-Err-read_log-clause-decided g c =
+pub returns-in-Err-inspect_log-clause-decided : goal.returns-in-Err-inspect_log-clause-decided
+returns-in-Err-inspect_log-clause-decided g c =
     let old = g.D.LogDisk.drive c.args.disk.now in
-    let new = g.D.LogDisk.drive c.read_log.new.disk in
-    subst (λ (why : Refusal). IsDecidedBy {T = Found} most_inspected old new (Err why)) (sym c.log_refusal.ensures)
-    (decided-err old (g.D.LogDisk.drive c.attach.new.disk) new c.in-Err-read_log.fault c.read_log.result c.in-Err-read_log.is c.in_default.ensures.attached.stays (omega (arith, c.in_default.ensures.attached.calm)) c.read_log.ensures.exact c.read_log.ensures.whole)
+    let new = g.D.LogDisk.drive c.inspect_log.new.disk in
+    subst (λ (why : Refusal). IsDecidedBy {T = SeenLog} most_inspected old new (Err why)) (sym c.log_refusal.ensures)
+    (decided-err old (g.D.LogDisk.drive c.attach.new.disk) new c.in-Err-inspect_log.fault c.inspect_log.result c.in-Err-inspect_log.is c.in_default.ensures.attached.stays (omega (arith, c.in_default.ensures.attached.calm)) c.inspect_log.ensures.exact c.inspect_log.ensures.whole)
 
 pub returns-in-Ok-clause-stays : goal.returns-in-Ok-clause-stays
-returns-in-Ok-clause-stays g c = stays-trans (g.D.LogDisk.drive c.args.disk.now) (g.D.LogDisk.drive c.attach.new.disk) (g.D.LogDisk.drive c.read_log.new.disk) c.in_default.ensures.attached.stays c.read_log.ensures.reads.stays
+returns-in-Ok-clause-stays g c = stays-trans (g.D.LogDisk.drive c.args.disk.now) (g.D.LogDisk.drive c.attach.new.disk) (g.D.LogDisk.drive c.inspect_log.new.disk) c.in_default.ensures.attached.stays c.inspect_log.ensures.reads.stays
 
 pub returns-in-Ok-clause-read : goal.returns-in-Ok-clause-read
-returns-in-Ok-clause-read g c = record { attached = attached-still c.args.file.now false (g.D.LogDisk.drive c.args.disk.now) (g.D.LogDisk.drive c.attach.new.disk) (g.D.LogDisk.drive c.read_log.new.disk) c.in_default.ensures.attached.named c.read_log.ensures.reads.file; calm = c.in-Ok.ensures.reads.same ∙ c.in_default.ensures.attached.calm }
+returns-in-Ok-clause-read g c = record { attached = attached-still c.args.file.now false (g.D.LogDisk.drive c.args.disk.now) (g.D.LogDisk.drive c.attach.new.disk) (g.D.LogDisk.drive c.inspect_log.new.disk) c.in_default.ensures.attached.named c.inspect_log.ensures.reads.file; calm = c.in-Ok.ensures.reads.same ∙ c.in_default.ensures.attached.calm }
 
-pub returns-in-Err-read_log-clause-stays : goal.returns-in-Err-read_log-clause-stays
-returns-in-Err-read_log-clause-stays g c = stays-trans (g.D.LogDisk.drive c.args.disk.now) (g.D.LogDisk.drive c.attach.new.disk) (g.D.LogDisk.drive c.read_log.new.disk) c.in_default.ensures.attached.stays c.read_log.ensures.reads.stays
+pub returns-in-Err-inspect_log-clause-stays : goal.returns-in-Err-inspect_log-clause-stays
+returns-in-Err-inspect_log-clause-stays g c = stays-trans (g.D.LogDisk.drive c.args.disk.now) (g.D.LogDisk.drive c.attach.new.disk) (g.D.LogDisk.drive c.inspect_log.new.disk) c.in_default.ensures.attached.stays c.inspect_log.ensures.reads.stays
 
-pub returns-in-Err-read_log-clause-read : goal.returns-in-Err-read_log-clause-read
-returns-in-Err-read_log-clause-read g c =
+pub returns-in-Err-inspect_log-clause-read : goal.returns-in-Err-inspect_log-clause-read
+returns-in-Err-inspect_log-clause-read g c =
     rw c.log_refusal.ensures (record {
-      attached = attaches-one c.args.file.now false _ _ _ (attached-still c.args.file.now false (g.D.LogDisk.drive c.args.disk.now) (g.D.LogDisk.drive c.attach.new.disk) (g.D.LogDisk.drive c.read_log.new.disk) c.in_default.ensures.attached.named c.read_log.ensures.reads.file);
-      calm = calm-read _ _ _ c.in-Err-read_log.fault c.in_default.ensures.attached.calm c.in-Err-read_log.ensures.reads.same;
+      attached = attaches-one c.args.file.now false _ _ _ (attached-still c.args.file.now false (g.D.LogDisk.drive c.args.disk.now) (g.D.LogDisk.drive c.attach.new.disk) (g.D.LogDisk.drive c.inspect_log.new.disk) c.in_default.ensures.attached.named c.inspect_log.ensures.reads.file);
+      calm = calm-read _ _ _ c.in-Err-inspect_log.fault c.in_default.ensures.attached.calm c.in-Err-inspect_log.ensures.reads.same;
     })
 
-pub returns-in-Err-read_log-clause-later : goal.returns-in-Err-read_log-clause-later
-returns-in-Err-read_log-clause-later g c = omega (arith, c.in_default.ensures.attached.calm, c.read_log.ensures.reads.later)
+pub returns-in-Err-inspect_log-clause-later : goal.returns-in-Err-inspect_log-clause-later
+returns-in-Err-inspect_log-clause-later g c = omega (arith, c.in_default.ensures.attached.calm, c.inspect_log.ensures.reads.later)
 
 pub returns-in-Ok-clause-found : goal.returns-in-Ok-clause-found
-returns-in-Ok-clause-found g c = (c.in-Ok.ensures.found.0, found-after c.in-Ok.found.width most_inspected _ _ c.in-Ok.found.seen c.in_default.ensures.attached.stays c.in-Ok.ensures.found.1)
+returns-in-Ok-clause-found g c = (c.in-Ok.ensures.found.0.known, found-after c.in-Ok.found.width most_inspected _ _ c.in-Ok.found.seen c.in_default.ensures.attached.stays c.in-Ok.ensures.found.1)
 
 pub returns-in-Ok-clause-decided : goal.returns-in-Ok-clause-decided
 returns-in-Ok-clause-decided g c =
     record { exact = λ bytes fault told shown wrong calm. absurd (c.in-Ok.ensures.exact bytes fault (c.in_default.ensures.attached.stays.bytes ∙ told) shown wrong); whole = λ bytes w cells told known text few calm. tt }
 
 pub returns-in-Ok-clause-later : goal.returns-in-Ok-clause-later
-returns-in-Ok-clause-later g c = omega (arith, c.in_default.ensures.attached.calm, c.read_log.ensures.reads.later)
+returns-in-Ok-clause-later g c = omega (arith, c.in_default.ensures.attached.calm, c.inspect_log.ensures.reads.later)
 
 pub returns-in-Err-clause-cause : goal.returns-in-Err-clause-cause
 returns-in-Err-clause-cause g c = reading-unattached c.args.file.now false _ _ oldest_read most_inspected c.in-Err.why c.in-Err.ensures.refused

@@ -1,7 +1,7 @@
-use Rattle.std.proofs.Common.{true, arith}
+use Rattle.std.proofs.Common.{inl, true, arith}
 use Rattle.disk_trait.proofs.Calls.{attached-still}
 use Rattle.run_ends.proofs.AttachFacts.{attaches-one}
-use Rattle.log_run.proofs.DriveSteps.{makes-after, leaves-attached, leaves-made, cause-attached, cause-made, calm-made}
+use Rattle.log_run.proofs.DriveSteps.{makes-after, leaves-attached, leaves-made, cause-attached, cause-made, calls-unmade, calm-made}
 use Rattle.log_run.proofs.making.make_in.Goals as goal
 
 pub returns-in-Ok-clause-made : goal.returns-in-Ok-clause-made
@@ -27,7 +27,7 @@ pub returns-in-Err-clause-leaves : goal.returns-in-Err-clause-leaves
 returns-in-Err-clause-leaves g c = leaves-attached _ _ (g.met.D.LogDisk.keeps_laws c.args.disk) c.in-Err.ensures.refused.stays c.in-Err.ensures.refused.later
 
 pub returns-in-Ok-clause-leaves : goal.returns-in-Ok-clause-leaves
-returns-in-Ok-clause-leaves g c = leaves-made _ _ _ (g.met.D.LogDisk.keeps_laws c.args.disk) c.in_default.ensures.attached.stays (omega (arith, c.in_default.ensures.attached.calm)) c.in-Ok.ensures.small
+returns-in-Ok-clause-leaves g c = leaves-made _ _ _ (g.met.D.LogDisk.keeps_laws c.args.disk) c.in_default.ensures.attached.stays (omega (arith, c.in_default.ensures.attached.calm)) c.in-Ok.ensures.small (inl (record { count = 2; calls = c.in-Ok.ensures.made.calls }))
 
 pub returns-in-Err-init-clause-cause : goal.returns-in-Err-init-clause-cause
 returns-in-Err-init-clause-cause g c =
@@ -37,4 +37,4 @@ pub returns-in-Err-init-clause-calm : goal.returns-in-Err-init-clause-calm
 returns-in-Err-init-clause-calm g c = rw c.making_refusal-why.ensures (calm-made (g.D.LogDisk.drive c.args.disk) (g.D.LogDisk.drive c.attach.new.disk) (g.D.LogDisk.drive c.in-Err-init.field-0.disk) c.in-Err-init.field-0.cause c.in_default.ensures.attached.calm c.in-Err-init.ensures.refused)
 
 pub returns-in-Err-init-clause-leaves : goal.returns-in-Err-init-clause-leaves
-returns-in-Err-init-clause-leaves g c = leaves-made _ _ _ (g.met.D.LogDisk.keeps_laws c.args.disk) c.in_default.ensures.attached.stays (omega (arith, c.in_default.ensures.attached.calm)) c.in-Err-init.ensures.small
+returns-in-Err-init-clause-leaves g c = leaves-made _ _ _ (g.met.D.LogDisk.keeps_laws c.args.disk) c.in_default.ensures.attached.stays (omega (arith, c.in_default.ensures.attached.calm)) c.in-Err-init.ensures.small (calls-unmade _ _ c.in-Err-init.field-0.cause c.in-Err-init.ensures.refused)
