@@ -13,10 +13,14 @@ use Rattle.disk_trait.specs.Moments.{LeavesNow, LeavesOnly}
 use Rattle.disk_trait.proofs.Calls.{made-none, made-then}
 use Rattle.disk_trait.proofs.Stretches.{started}
 use Rattle.split_log.specs.LogText.{IsLog}
+use Rattle.split_log.specs.LogView.{most_cells}
+use Rattle.cell_format.specs.Spelling.{newest}
 use Rattle.cell_format.specs.declared.cell.Cell.{Cell}
 use Rattle.split_log.proofs.Commits.{joined}
 use Rattle.log_state.specs.Recovers.{Recovers}
+use Rattle.recovery.specs.declared.seen.OpenFault.{OpenFault}
 use Rattle.recovery.specs.declared.seen.OpenFault.TheVariants as open_fault
+use Rattle.recovery.specs.Wanted.{MayTell}
 use Rattle.recovery.specs.Calls.{AllWentWell, StopsAtFault}
 use Rattle.recovery.proofs.CallLemmas.{well-none, well-then, stops-then, stops-refused}
 use Rattle.follower.specs.declared.faults.FollowFault.{FollowFault}
@@ -320,17 +324,18 @@ module _ {D : Type 0} (drive : D → Drive) (w : ℕ) (cells : List Cell) (first
       opens_again : get_or turns made d ≡ Restart → (later : List Turn) × (drop made turns ≡ Restart ∷ later)
       opens_again is = (drop (made + 1) turns, at_now ∙ ap (λ (u : Turn). u ∷ drop (made + 1) turns) is)
 
-      stop-cause : (why : FollowFault) → IsTurnCause drive cells (get_or turns made d) f disk why → IsStop (length cells) f.state (drop made turns) start (drive disk) (follow_refusal why)
-      stop-cause (fault.Strange cell) is = ((opens_again is.0, untold_since is.1), is.2)
-      stop-cause (fault.Log open_fault.Disk) is = (opens_again is.0, rose_since is.1)
-      stop-cause (fault.Log open_fault.Memory) is = tt
-      stop-cause (fault.Log open_fault.NotLog) is = (opens_again is.0, untold_since is.1)
-      stop-cause (fault.Log (open_fault.OldLog version width)) is = (opens_again is.0, untold_since is.1)
-      stop-cause (fault.Log (open_fault.Damaged number cause)) is = (opens_again is.0, untold_since is.1)
-      stop-cause (fault.Log (open_fault.TooLong limit)) is = (opens_again is.0, untold_since is.1)
-      stop-cause (fault.Append cell) is = ((get_or turns made d, drop (made + 1) turns, at_now, is.0), is.1, rose_since is.2)
-      stop-cause fault.Disk is = absurd is
-      stop-cause fault.Memory is = tt
+      stop-cause : (why : FollowFault) → IsTurnCause drive cells (get_or turns made d) f disk why → ((e : OpenFault) → why ≡ fault.Log e → MayTell newest w most_cells e)
+          → IsStop w (length cells) f.state (drop made turns) start (drive disk) (follow_refusal why)
+      stop-cause (fault.Strange cell) is may = ((opens_again is.0, untold_since is.1), is.2)
+      stop-cause (fault.Log open_fault.Disk) is may = (opens_again is.0, rose_since is.1)
+      stop-cause (fault.Log open_fault.Memory) is may = tt
+      stop-cause (fault.Log open_fault.NotLog) is may = (opens_again is.0, untold_since is.1)
+      stop-cause (fault.Log (open_fault.OldLog version width)) is may = ((opens_again is.0, untold_since is.1), may (open_fault.OldLog version width) refl)
+      stop-cause (fault.Log (open_fault.Damaged number cause)) is may = ((opens_again is.0, untold_since is.1), may (open_fault.Damaged number cause) refl)
+      stop-cause (fault.Log (open_fault.TooLong limit)) is may = (opens_again is.0, untold_since is.1)
+      stop-cause (fault.Append cell) is may = ((get_or turns made d, drop (made + 1) turns, at_now, is.0), is.1, rose_since is.2)
+      stop-cause fault.Disk is may = absurd is
+      stop-cause fault.Memory is may = tt
 
       few-left : (why : FollowFault) → IsTurnCause drive cells (get_or turns made d) f disk why → most_left why f.state.held ≤ length cells
       few-left (fault.Strange cell) is = has.holds.few
@@ -367,7 +372,8 @@ module _ {D : Type 0} (drive : D → Drive) (w : ℕ) (cells : List Cell) (first
             made = made;
             part = omega arith;
             stops = record {
-              cause = subst (λ (s : Following). IsStop count s (drop made turns) start (drive disk) (follow_refusal why)) has.state (stop-cause why fails.refused.cause);
+              cause = subst (λ (s : Following). IsStop w count s (drop made turns) start (drive disk) (follow_refusal why)) has.state
+                  (stop-cause why fails.refused.cause (λ e is. subst (λ (v : ℕ). MayTell newest v most_cells e) has.width (fails.refused.may e is)));
               leaves = λ bytes told c left.
                   let now = told_now bytes told in
                   let leaves = fails.any_moment now.0 now.1 in

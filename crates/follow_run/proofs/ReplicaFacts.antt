@@ -16,6 +16,7 @@ use Rattle.recovery.specs.declared.seen.OpenFault.{OpenFault}
 use Rattle.recovery.specs.declared.seen.OpenFault.TheVariants as open_fault
 use Rattle.recovery.specs.Faults.{IsFault, IsInBytes}
 use Rattle.recovery.specs.Found.{IsNewest}
+use Rattle.recovery.specs.Wanted.{MayTell}
 use Rattle.recovery.specs.Making.{IsSmall}
 use Rattle.recovery.specs.Opening.{IsUntouched}
 use Rattle.recovery.proofs.CallLemmas.{well-none, stops-then}
@@ -119,17 +120,17 @@ module _ (w : ℕ) (cells : List Cell) (a b : Drive) (laws : KeepsLaws a) (stays
       rose_since : Rose b.faults c.faults → Rose a.faults c.faults
       rose_since rose = rose-earlier a.faults b.faults c.faults (omega (arith, same)) rose
 
-      open-cause : (e : FollowFault) → IsOpenCause w cells b c e → (is_drives e ≡ true → Rose b.faults c.faults) → IsReplicaCause w cells a c (follow_refusal e)
-      open-cause (fault.Strange cell) is rose = λ bytes told. is.1 bytes (stays.bytes ∙ told)
-      open-cause (fault.Log open_fault.NotLog) is rose = λ bytes told. is bytes (stays.bytes ∙ told)
-      open-cause (fault.Log (open_fault.OldLog version width)) is rose = λ bytes told. is bytes (stays.bytes ∙ told)
-      open-cause (fault.Log (open_fault.Damaged number cause)) is rose = λ bytes told. is bytes (stays.bytes ∙ told)
-      open-cause (fault.Log open_fault.Disk) is rose = rose_since (rose refl)
-      open-cause (fault.Log open_fault.Memory) is rose = tt
-      open-cause (fault.Log (open_fault.TooLong limit)) is rose = λ bytes told. let it = is bytes (stays.bytes ∙ told) in (it.0, (refl, it.1.1))
-      open-cause (fault.Append cell) is rose = absurd is
-      open-cause fault.Disk is rose = rose_since (rose refl)
-      open-cause fault.Memory is rose = tt
+      open-cause : (e : FollowFault) → IsOpenCause w cells b c e → (is_drives e ≡ true → Rose b.faults c.faults) → ((f : OpenFault) → e ≡ fault.Log f → MayTell newest w most_held f) → IsReplicaCause w cells a c (follow_refusal e)
+      open-cause (fault.Strange cell) is rose may = (is.0, λ bytes told. is.1 bytes (stays.bytes ∙ told))
+      open-cause (fault.Log open_fault.NotLog) is rose may = λ bytes told. is bytes (stays.bytes ∙ told)
+      open-cause (fault.Log (open_fault.OldLog version width)) is rose may = (may (open_fault.OldLog version width) refl, λ bytes told. is bytes (stays.bytes ∙ told))
+      open-cause (fault.Log (open_fault.Damaged number cause)) is rose may = (may (open_fault.Damaged number cause) refl, λ bytes told. is bytes (stays.bytes ∙ told))
+      open-cause (fault.Log open_fault.Disk) is rose may = rose_since (rose refl)
+      open-cause (fault.Log open_fault.Memory) is rose may = tt
+      open-cause (fault.Log (open_fault.TooLong limit)) is rose may = λ bytes told. let it = is bytes (stays.bytes ∙ told) in (it.0, (refl, it.1.1))
+      open-cause (fault.Append cell) is rose may = absurd is
+      open-cause fault.Disk is rose may = rose_since (rose refl)
+      open-cause fault.Memory is rose may = tt
 
       memory : (Rose a.faults c.faults → ⊥) → IsFree b c why → follow_refusal why ≡ refusal.Memory
       memory calm free = free-memory b c why free (λ rose. calm (rose_since rose))
@@ -139,7 +140,7 @@ module _ (w : ℕ) (cells : List Cell) (a b : Drive) (laws : KeepsLaws a) (stays
           → ((bytes : List ℕ) (cell : ℕ) → b.bytes ≡ Some bytes → IsStrange w cells bytes cell → (why ≡ fault.Strange cell) ⊎ IsFree b c why)
           → ((bytes : List ℕ) (first : ℕ) → b.bytes ≡ Some bytes → IsTaken w cells bytes first → IsFree b c why) → KeepsTarget w cells b c → LosesReplica w cells name a c (follow_refusal why)
       lost exact strange whole keeps = record {
-        cause = open-cause why refuses.cause refuses.rose;
+        cause = open-cause why refuses.cause refuses.rose refuses.may;
         untouched = λ other bytes told. untouched-after c (refuses.untouched (drives-told why other) bytes (stays.bytes ∙ told));
         keeps = keeps-after c keeps;
         exact = λ bytes e told long shown is calm. ⊎_elim (λ same. inl (ap follow_refusal same)) (λ free. inr (memory calm free)) (exact bytes e (stays.bytes ∙ told) long shown is);
@@ -210,21 +211,21 @@ ends-unopened w cells turns name old new before after why status loses refuses =
     }
 
 -- why turns stop, told of the drive as it was before
-module _ (count : ℕ) (s : Following) (rest : List Turn) (a b new : Drive) (same : b.faults ≡ a.faults) (untold : IsUntold b → IsUntold a) where
+module _ (w count : ℕ) (s : Following) (rest : List Turn) (a b new : Drive) (same : b.faults ≡ a.faults) (untold : IsUntold b → IsUntold a) where
   opens-before : OpensUntold rest b → OpensUntold rest a
   opens-before is = (is.0, untold is.1)
 
   rose-before : Rose b.faults new.faults → Rose a.faults new.faults
   rose-before rose = subst (λ (n : ℕ). Rose n new.faults) same rose
 
-  stop-before : (why : Refusal) → IsStop count s rest b new why → IsStop count s rest a new why
+  stop-before : (why : Refusal) → IsStop w count s rest b new why → IsStop w count s rest a new why
   stop-before refusal.Usage is = absurd is
   stop-before refusal.Header is = absurd is
   stop-before (refusal.Csv row) is = absurd is
   stop-before (refusal.Field row column) is = absurd is
   stop-before refusal.NotLog is = opens-before is
-  stop-before (refusal.OldLog version width) is = opens-before is
-  stop-before (refusal.Damaged cell cause) is = opens-before is
+  stop-before (refusal.OldLog version width) is = (opens-before is.0, is.1)
+  stop-before (refusal.Damaged cell cause) is = (opens-before is.0, is.1)
   stop-before (refusal.Strange cell) is = (opens-before is.0, is.1)
   stop-before refusal.Source is = absurd is
   stop-before (refusal.Disk (Some cell)) is = (is.0, is.1, rose-before is.2)
@@ -295,7 +296,7 @@ module _ {D : Type 0} (drive : D → Drive) (w : ℕ) (cells : List Cell) (turns
   ends-then (inr (why, stops, refuses)) = inr (
     why,
     record {
-      cause = stop-before (length cells) (machine_at (length cells) f.state.held turns plays.made) (drop plays.made turns) old (drive f.disk) new opens.calm untold-then why stops.cause;
+      cause = stop-before w (length cells) (machine_at (length cells) f.state.held turns plays.made) (drop plays.made turns) old (drive f.disk) new opens.calm untold-then why stops.cause;
       leaves = λ bytes told. let now = told_then bytes told in stops.leaves now.0 now.1;
       log = λ bytes told other. let now = told_then bytes told in stops.log now.0 now.1 other;
       calls = λ bytes told. let now = told_then bytes told in let (last, are, calls) = stops.calls now.0 now.1 in (last, are, calls-then last calls);

@@ -10,6 +10,7 @@ use Rattle.log_state.specs.Recovers.{Recovers}
 use Rattle.recovery.specs.Calls.{StopsAtFault}
 use Rattle.recovery.specs.Faults.{IsFault, IsInBytes}
 use Rattle.recovery.specs.Making.{IsSmall}
+use Rattle.recovery.specs.Wanted.{IsOtherFor}
 use Rattle.recovery.specs.Opening.{IsUntouched, KeepsNewest}
 use Rattle.recovery.specs.declared.seen.OpenFault.{OpenFault}
 use Rattle.recovery.specs.declared.seen.OpenFault.TheVariants as open_fault
@@ -43,13 +44,15 @@ follow_refusal follow_fault.Memory = refusal.Memory
 abbrev pub ShowsLogFault : ℕ → Drive → OpenFault → Type 0
 ShowsLogFault w old fault = (bytes : List ℕ) → old.bytes ≡ Some bytes → (17 < length bytes) × IsFault newest w most_held bytes fault
 
--- why the second file isn't opened: the first of its cells that isn't the leader's, what is first at fault in its bytes, the drive's count rose, or
--- memory ran out
+-- Why the second file isn't opened: the first of its cells that isn't the leader's, what is first at fault in its bytes, the drive's count rose, or
+-- memory ran out. Whether its bytes are known or not, no version and width of a log that is opened is told, and no cell that can't be.
 abbrev pub IsReplicaCause : ℕ → List Cell → Drive → Drive → Refusal → Type 0
-IsReplicaCause w cells old new (refusal.Strange cell) = (bytes : List ℕ) → old.bytes ≡ Some bytes → IsStrange w cells bytes cell
+IsReplicaCause w cells old new (refusal.Strange cell) =
+    (cell ≤ length cells) × ((bytes : List ℕ) → old.bytes ≡ Some bytes → IsStrange w cells bytes cell)
 IsReplicaCause w cells old new refusal.NotLog = ShowsLogFault w old open_fault.NotLog
-IsReplicaCause w cells old new (refusal.OldLog version width) = ShowsLogFault w old (open_fault.OldLog version width)
-IsReplicaCause w cells old new (refusal.Damaged cell cause) = ShowsLogFault w old (open_fault.Damaged cell cause)
+IsReplicaCause w cells old new (refusal.OldLog version width) =
+    IsOtherFor newest (Some w) version width × ShowsLogFault w old (open_fault.OldLog version width)
+IsReplicaCause w cells old new (refusal.Damaged cell cause) = (cell < most_held) × ShowsLogFault w old (open_fault.Damaged cell cause)
 IsReplicaCause w cells old new refusal.LongLog = ShowsLogFault w old (open_fault.TooLong most_held)
 IsReplicaCause w cells old new (refusal.Disk None) = Rose old.faults new.faults
 IsReplicaCause w cells old new refusal.Memory = ⊤
@@ -99,18 +102,18 @@ abbrev pub OpensUntold : List Turn → Drive → Type 0
 OpensUntold rest old = ((later : List Turn) × (rest ≡ Restart ∷ later)) × IsUntold old
 
 -- Why the turns stop before these, at a state of the machine: the append of the next cell failed, or the drive did where the log was opened
--- again, or memory ran out. Only over a drive that doesn't tell its bytes a log that is opened again may be found to be another.
-abbrev pub IsStop : ℕ → Following → List Turn → Drive → Drive → Refusal → Type 0
-IsStop count s rest old new (refusal.Disk (Some cell)) =
+-- again, or memory ran out. Only over a drive that doesn't tell its bytes a log that is opened again, of this width, may be found to be another.
+abbrev pub IsStop : ℕ → ℕ → Following → List Turn → Drive → Drive → Refusal → Type 0
+IsStop w count s rest old new (refusal.Disk (Some cell)) =
     ((turn : Turn) × (later : List Turn) × (rest ≡ turn ∷ later) × BringsNext count s turn) × (cell ≡ s.held) × Rose old.faults new.faults
-IsStop count s rest old new (refusal.Disk None) = ((later : List Turn) × (rest ≡ Restart ∷ later)) × Rose old.faults new.faults
-IsStop count s rest old new refusal.Memory = ⊤
-IsStop count s rest old new (refusal.Strange cell) = OpensUntold rest old × (cell ≤ s.held)
-IsStop count s rest old new refusal.NotLog = OpensUntold rest old
-IsStop count s rest old new (refusal.OldLog version width) = OpensUntold rest old
-IsStop count s rest old new (refusal.Damaged cell cause) = OpensUntold rest old
-IsStop count s rest old new refusal.LongLog = OpensUntold rest old
-IsStop count s rest old new _ = ⊥
+IsStop w count s rest old new (refusal.Disk None) = ((later : List Turn) × (rest ≡ Restart ∷ later)) × Rose old.faults new.faults
+IsStop w count s rest old new refusal.Memory = ⊤
+IsStop w count s rest old new (refusal.Strange cell) = OpensUntold rest old × (cell ≤ s.held)
+IsStop w count s rest old new refusal.NotLog = OpensUntold rest old
+IsStop w count s rest old new (refusal.OldLog version width) = OpensUntold rest old × IsOtherFor newest (Some w) version width
+IsStop w count s rest old new (refusal.Damaged cell cause) = OpensUntold rest old × (cell < most_held)
+IsStop w count s rest old new refusal.LongLog = OpensUntold rest old
+IsStop w count s rest old new _ = ⊥
 
 -- how many cells a crash leaves at most, where so many are held: one more behind an append that failed
 abbrev pub most_behind : Refusal → ℕ → ℕ
@@ -131,7 +134,7 @@ pub record TellsReports (w : ℕ) (cells : List Cell) (first : ℕ) (turns : Lis
 -- append; but where the drive failed, the file is their text. Behind so many device calls that opened it just those of the turns that were made were
 -- made, and those of the turn that wasn't, none behind one that failed.
 pub record StopsTurns (w : ℕ) (cells : List Cell) (first : ℕ) (turns : List Turn) (made opened : ℕ) (old new : Drive) (why : Refusal) : Type 0 where
-  pub cause : IsStop (length cells) (machine_at (length cells) first turns made) (drop made turns) old new why
+  pub cause : IsStop w (length cells) (machine_at (length cells) first turns made) (drop made turns) old new why
   pub leaves :
       (bytes : List ℕ) → old.bytes ≡ Some bytes
       → let held = (machine_at (length cells) first turns made).held in LeavesNow new (RecoversFirst w cells held (most_behind why held))

@@ -13,7 +13,8 @@ use Rattle.recovery.specs.declared.walked.Walked.{Walked}
 use Rattle.recovery.specs.Faults.{IsFault, IsOldLog}
 use Rattle.recovery.specs.Found.{IsWanted}
 use Rattle.recovery.specs.Headers.{HasHeader}
-use Rattle.recovery.specs.Reading.{OnlyReads}
+use Rattle.recovery.specs.Reading.{OnlyReads, IsBehind}
+use Rattle.recovery.specs.Wanted.{MayTell}
 use Rattle.recovery.specs.Walks.{WalkView, ComesTo, TellsWalked, IsOfHead}
 use Rattle.recovery.proofs.Exclusive.{named_version}
 use Rattle.recovery.proofs.HeadLemmas.{header_bytes, header_is_log}
@@ -29,12 +30,31 @@ only_read-trans a b c first second = record {
   file = λ all told. first.file all (second.file all told);
 }
 
+-- what a walk tells behind its head may be told of a log of the newest version
+behind_may : (w number : ℕ) (e : OpenFault) → IsBehind most_held number e → MayTell newest w most_held e
+behind_may w number open_fault.NotLog is = absurd is
+behind_may w number (open_fault.OldLog version width) is = absurd is
+behind_may w number (open_fault.Damaged n why) is = omega (arith, is.0, is.1)
+behind_may w number open_fault.Disk is = tt
+behind_may w number open_fault.Memory is = tt
+behind_may w number (open_fault.TooLong limit) is = is.0
+
+-- and what may be told of a log of either version
+newest_may : (w : ℕ) (e : OpenFault) → MayTell 1 w most_held e → MayTell newest w most_held e
+newest_may w open_fault.NotLog is = tt
+newest_may w (open_fault.OldLog version width) is =
+    ⊎_elim (λ old. inl (λ (wanted : IsWanted newest version). old (record { least = omega (arith, wanted.least); most = wanted.most }))) (λ other. inr other) is
+newest_may w (open_fault.Damaged n why) is = is
+newest_may w open_fault.Disk is = tt
+newest_may w open_fault.Memory is = tt
+newest_may w (open_fault.TooLong limit) is = is
+
 -- one call of `next`
 module _ {D : Type 0} (w : ℕ) (cells : List Cell) (start now next : Drive) (walk new : WalkView D) (tally : Tally) (counting : IsCounting w cells start now walk tally) where
   pub stopped : (e : OpenFault) → ((v most : ℕ) (own : List Cell) → ComesTo v most own now walk → TellsWalked v most own now next new (Err e)) → StopsCounting w start next new e
   stopped e tells =
       let told = tells w most_held counting.own counting.came in
-      record { own = counting.own; came = told.0; cause = λ bytes is. told.2 bytes (counting.reads.stays.bytes ∙ is) }
+      record { own = counting.own; came = told.0; cause = λ bytes is. told.2 bytes (counting.reads.stays.bytes ∙ is); may = behind_may w (length counting.own) e told.1 }
 
   pub counted : (o : Option Walked) → ((x : Walked) → o ≡ Some x → ⊥) → ((v most : ℕ) (own : List Cell) → ComesTo v most own now walk → TellsWalked v most own now next new (Ok o)) → Counts w cells start next new tally
   counted None ends tells =
@@ -109,9 +129,10 @@ head_fault w bytes (open_fault.TooLong limit) head is = absurd head
 head_fault w bytes open_fault.Disk head is = tt
 head_fault w bytes open_fault.Memory head is = tt
 
-pub not_started : (w : ℕ) (a b : Drive) (e : OpenFault) → ((bytes : List ℕ) → a.bytes ≡ Some bytes → IsFault 1 w most_held bytes e) → IsOfHead e → OnlyReads {T = Unit {0}} a b (Err e) → RefusesCompare w a b e
-not_started w a b e fault head reads = record {
+pub not_started : (w : ℕ) (a b : Drive) (e : OpenFault) → ((bytes : List ℕ) → a.bytes ≡ Some bytes → IsFault 1 w most_held bytes e) → IsOfHead e → MayTell 1 w most_held e → OnlyReads {T = Unit {0}} a b (Err e) → RefusesCompare w a b e
+not_started w a b e fault head may reads = record {
   cause = λ bytes told. head_fault w bytes e head (fault bytes told);
+  may = newest_may w e may;
   rose = λ is. reads.failed (ap (λ f. Err f) is);
   calm = reads.same;
   stays = reads.stays;
@@ -193,6 +214,12 @@ module _ {D : Type 0} (drive : D → Drive) (w : ℕ) (cells : List Cell) (a : D
       let (own, came) = came_at result done failed in
       subst (IsFault newest w most_held bytes) (sym old.0) (old_log w version own (drive walk.disk) walk bytes came (now_told bytes told) (long bytes told) (version_is bytes told) old.1)
 
+  told_may : (e : OpenFault) → IsJudged version w result (Err e) → MayTell newest w most_held e
+  told_may e (inl passed) =
+      subst (λ (v : ℕ). MayTell newest v most_held e) begins.width
+      (subst (λ (r : Result Tally OpenFault). IfErr r (StopsCounting first.reading.replay.width (drive first.disk) (drive walk.disk) walk)) passed.0 failed).may
+  told_may e (inr old) = subst (MayTell newest w most_held) (sym old.0) (inl (λ (wanted : IsWanted newest version). omega (arith, wanted.least, old.1)))
+
   told_rose : (e : OpenFault) → IsJudged version w result (Err e) → e ≡ open_fault.Disk → Rose a.faults (drive walk.disk).faults
   told_rose e (inl passed) is = omega (arith, start.same, reads.failed (passed.0 ∙ ap (λ f. Err f) is))
   told_rose e (inr old) is = absurd (cc (is, old.0))
@@ -207,6 +234,7 @@ module _ {D : Type 0} (drive : D → Drive) (w : ℕ) (cells : List Cell) (a : D
   pub not_counted : (e : OpenFault) → IsJudged version w result (Err e) → RefusesCompare w a (drive disk) e
   not_counted e is = subst (λ (d : D). RefusesCompare w a (drive d) e) (sym same_disk) (record {
     cause = told_cause e is;
+    may = told_may e is;
     rose = told_rose e is;
     calm = told_calm e is;
     stays = stays-trans a (drive first.disk) (drive walk.disk) start.stays reads.stays;

@@ -1,5 +1,5 @@
 -- What the opening of a follower comes to.
-use Rattle.std.proofs.Common.{◌≡◌, ◌≢◌, ℕ, ◌+◌, ◌*◌, ◌<◌, ◌≤◌, ◌⊎◌, inl, inr, ⊎_elim, Bool, true, false, ltb, List, [], ◌∷◌, length, replicate, take, Some, None, is_some, refl, sym, ◌∙◌, ap, subst, lit≤, arith, length-append}
+use Rattle.std.proofs.Common.{◌≡◌, ℕ, ◌+◌, ◌*◌, ◌<◌, ◌≤◌, ◌⊎◌, inl, inr, ⊎_elim, Bool, true, false, ltb, List, [], ◌∷◌, length, replicate, take, Some, None, is_some, refl, sym, ◌∙◌, ap, subst, lit≤, arith, length-append}
 use Rattle.std.specs.Prelude.{slice_index}
 use Rattle.std.proofs.Math.Seq.{take-length}
 use Rattle.std.proofs.lemmas.Bool.{true≢false, ltb-true, ltb-false}
@@ -25,6 +25,7 @@ use Rattle.recovery.specs.Making.{IsSmall, Makes, RefusesInit, KeepsSmall}
 use Rattle.recovery.specs.Opening.{CallsToOpen, KeepsCells, KeepsNewest, IsUntouched}
 use Rattle.recovery.proofs.Exclusive.{recovers_no_fault, told_fault, told_free}
 use Rattle.recovery.specs.Calls.{StopsAtFault}
+use Rattle.recovery.specs.Wanted.{MayTell}
 use Rattle.recovery.proofs.CallLemmas.{stops-refused, well-none}
 use Rattle.recovery.proofs.OpeningLemmas.{leaves-trans, leaves-stays}
 use Rattle.follower.specs.declared.faults.FollowFault.{FollowFault}
@@ -235,6 +236,7 @@ module _ (w : ℕ) (cells : List Cell) (a b : Drive) (reads : IsOnlyRead a b) wh
   pub refused_before : (c : Drive) (fault : FollowFault) → RefusesOpen w cells b c fault → RefusesOpen w cells a c fault
   refused_before c fault is = record {
     cause = cause_before c fault is.cause;
+    may = is.may;
     rose = λ failed. omega (arith, reads.calm, is.rose failed);
     calm = λ quiet. is.calm quiet ∙ reads.calm;
     untouched = λ quiet bytes told. untouched_before a b c reads.stays (is.untouched quiet bytes (reads.stays.bytes ∙ told));
@@ -285,6 +287,7 @@ not_made w cells a b cause refused is keeps =
     let fails = subst (RefusesInit a b) is refused in
     record {
       cause = λ bytes told long. (keeps.in_use bytes told long).calls;
+      may = λ why told. absurd (cc told);
       rose = λ failed. fails.rose;
       calm = λ quiet. absurd (true≢false quiet);
       untouched = λ quiet. absurd (true≢false quiet);
@@ -316,6 +319,7 @@ module _ (w : ℕ) (cells : List Cell) (a b : Drive) (long : (bytes : List ℕ) 
   pub not_compared : (e : OpenFault) → RefusesCompare w a b e → RefusesOpen w cells a b (Log e)
   not_compared e is = record {
     cause = λ bytes told. (long bytes told, is.cause bytes told);
+    may = λ why told. let same : e ≡ why = cc told in subst (MayTell newest w most_held) same is.may;
     rose = λ failed. is.rose (drives_log e failed);
     calm = λ quiet. is.calm (quiet_log e quiet);
     untouched = λ quiet bytes told. untouched_read a b is.stays;
@@ -333,6 +337,7 @@ module _ (w : ℕ) (cells : List Cell) (a b : Drive) (long : (bytes : List ℕ) 
             let found = is.found bytes told in
             record { own = found.own; openable = found.openable; there = omega (arith, less, found.count_is); same = found.same_is; other = found.other less },
       );
+      may = λ why told. absurd (cc told);
       rose = λ failed. absurd (true≢false (sym failed));
       calm = λ quiet. is.reads.calm;
       untouched = λ quiet bytes told. untouched_read a b is.reads.stays;
@@ -404,6 +409,7 @@ module _ (w : ℕ) (cells : List Cell) (a b : Drive) (long : (bytes : List ℕ) 
       pub refused_again : (c : Drive) (fault : FollowFault) → RefusesReopen w count b c fault → RefusesOpen w cells a c fault
       refused_again c fault re = record {
         cause = again_cause c fault re;
+        may = re.may;
         rose = λ failed. omega (arith, is.reads.calm, re.rose failed);
         calm = λ quiet. re.calm quiet ∙ is.reads.calm;
         untouched = again_untouched c fault re;

@@ -19,6 +19,7 @@ other_count drive w count number seen a b c back ready kept other least = subst 
         let one : found ≡ own = holds-same there.version recovers.version w found own bytes there.holds recovers.holds in
         other (sym found_count ∙ ap length one ∙ count_is),
   );
+  may = λ why is. absurd (cc is);
   rose = λ failed. absurd (true≢false (sym failed));
   calm = λ quiet. ready.same;
   untouched = λ why is. absurd (cc is);

@@ -9,6 +9,7 @@ use Rattle.recovery.specs.declared.seen.OpenFault.{OpenFault}
 use Rattle.recovery.specs.declared.seen.OpenFault.TheVariants as open_fault
 use Rattle.recovery.specs.Faults.{IsFault}
 use Rattle.recovery.specs.Walks.{WalkView, ComesTo}
+use Rattle.recovery.specs.Wanted.{MayTell}
 use Rattle.follower.specs.declared.comparing.Tally.{Tally}
 use Rattle.follower.specs.Opening.{IsOpenable, most_held}
 
@@ -45,6 +46,7 @@ pub record StopsCounting {D : Type 0} (w : ℕ) (old new : Drive) (walk : WalkVi
   pub own : List Cell
   pub came : ComesTo w most_held own new walk
   pub cause : (bytes : List ℕ) → old.bytes ≡ Some bytes → IsFault 1 w most_held bytes fault
+  pub may : MayTell newest w most_held fault
 
 -- what is told of a log of this version, which is opened in the newest one alone: a drive that failed comes first
 abbrev pub IsJudged : ℕ → ℕ → Result Tally OpenFault → Result Tally OpenFault → Type 0
@@ -71,6 +73,7 @@ pub record Compares (w : ℕ) (cells : List Cell) (old new : Drive) (count same 
 -- it wasn't: no log that may be opened stands there, the drive failed, or memory ran out
 pub record RefusesCompare (w : ℕ) (old new : Drive) (fault : OpenFault) : Type 0 where
   pub cause : (bytes : List ℕ) → old.bytes ≡ Some bytes → IsFault newest w most_held bytes fault
+  pub may : MayTell newest w most_held fault
   pub rose : fault ≡ open_fault.Disk → Rose old.faults new.faults
   pub calm : fault ≢ open_fault.Disk → new.faults ≡ old.faults
   pub stays : Stays old new

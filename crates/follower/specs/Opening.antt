@@ -8,7 +8,9 @@ use Rattle.disk_trait.specs.Moments.{LeavesNow, LeavesOnly}
 use Rattle.split_log.specs.LogText.{IsLog}
 use Rattle.split_log.specs.LogView.{LogView, most_cells}
 use Rattle.log_state.specs.Recovers.{Recovers}
+use Rattle.recovery.specs.declared.seen.OpenFault.{OpenFault}
 use Rattle.recovery.specs.Faults.{IsFault}
+use Rattle.recovery.specs.Wanted.{MayTell}
 use Rattle.recovery.specs.Making.{IsSmall}
 use Rattle.recovery.specs.Opening.{CallsToOpen, KeepsNewest, IsUntouched}
 use Rattle.follower.specs.declared.faults.FollowFault.{FollowFault}
@@ -84,6 +86,8 @@ CallsNotToFollow Memory old new = ⊥
 -- made behind one that failed.
 pub record RefusesOpen (w : ℕ) (cells : List Cell) (old new : Drive) (fault : FollowFault) : Type 0 where
   pub cause : IsOpenCause w cells old new fault
+  -- whether the bytes are known or not
+  pub may : (why : OpenFault) → fault ≡ Log why → MayTell newest w most_held why
   pub rose : is_drives fault ≡ true → Rose old.faults new.faults
   pub calm : is_drives fault ≡ false → new.faults ≡ old.faults
   pub untouched : is_drives fault ≡ false → (bytes : List ℕ) → old.bytes ≡ Some bytes → IsUntouched old new

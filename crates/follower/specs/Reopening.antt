@@ -10,6 +10,7 @@ use Rattle.log_state.specs.Recovers.{Recovers}
 use Rattle.recovery.specs.declared.seen.OpenFault.{OpenFault}
 use Rattle.recovery.specs.declared.seen.OpenFault.TheVariants as open_fault
 use Rattle.recovery.specs.Faults.{IsFault}
+use Rattle.recovery.specs.Wanted.{MayTell}
 use Rattle.recovery.specs.Opening.{CallsRefused, CallsToOpen, KeepsCells, KeepsNewest, IsUntouched}
 use Rattle.follower.specs.declared.faults.FollowFault.{FollowFault}
 use Rattle.follower.specs.declared.faults.FollowFault.TheVariants.{Strange, Log}
@@ -43,6 +44,7 @@ CallsUnopened _ old new = ⊥
 
 pub record RefusesReopen (w count : ℕ) (old new : Drive) (fault : FollowFault) : Type 0 where
   pub cause : IsReopenCause w count old fault
+  pub may : (why : OpenFault) → fault ≡ Log why → MayTell newest w most_cells why
   pub rose : is_drives fault ≡ true → Rose old.faults new.faults
   pub calm : is_drives fault ≡ false → new.faults ≡ old.faults
   pub untouched : (why : OpenFault) → fault ≡ Log why → why ≢ open_fault.Disk → IsUntouched old new

@@ -2,9 +2,13 @@
 use Rattle.std.specs.Prelude.{◌≡◌, ◌⊎◌, ℕ, ◌+◌, ◌≤◌, ◌<◌, false, List, length, take, Some, is_some, ⊤}
 use Rattle.causes.specs.Causes.{Rose}
 use Rattle.cell_format.specs.declared.cell.Cell.{Cell}
+use Rattle.cell_format.specs.Spelling.{newest}
 use Rattle.disk_trait.specs.Drive.{Drive, HasNoMore, MadeWell, StopsAfter, SameFile}
 use Rattle.disk_trait.specs.Moments.{LeavesNow}
 use Rattle.split_log.specs.LogText.{IsLog}
+use Rattle.split_log.specs.LogView.{most_cells}
+use Rattle.recovery.specs.Wanted.{MayTell}
+use Rattle.recovery.specs.declared.seen.OpenFault.{OpenFault}
 use Rattle.recovery.specs.declared.seen.OpenFault.TheVariants as open_fault
 use Rattle.follower.specs.declared.faults.FollowFault.{FollowFault}
 use Rattle.follower.specs.declared.faults.FollowFault.TheVariants.{Strange, Log, Append, Disk, Memory}
@@ -67,6 +71,7 @@ CallsOfRefused fault old new = CallsUnopened fault old new
 -- No call was made behind one that failed.
 pub record RefusesTurn {D : Type 0} (drive : D → Drive) (cells : List Cell) (turn : Turn) (old : FollowerView D) (disk : D) (fault : FollowFault) : Type 0 where
   pub cause : IsTurnCause drive cells turn old disk fault
+  pub may : (why : OpenFault) → fault ≡ Log why → MayTell newest old.width most_cells why
   pub calm : is_drives fault ≡ false → (drive disk).faults ≡ (drive old.disk).faults
   pub later : (drive old.disk).faults ≤ (drive disk).faults
   pub calls : CallsOfRefused fault (drive old.disk) (drive disk)

@@ -3,7 +3,7 @@ use Rattle.follower.proofs.comparing.compare.Goals as goal
 
 pub returns-in-Err-clause-refused : goal.returns-in-Err-clause-refused
 returns-in-Err-clause-refused g c =
-    not_started c.args.width (g.D.LogDisk.drive c.args.disk) (g.D.LogDisk.drive c.in-Err.refused.disk) c.in-Err.refused.cause c.in-Err.ensures.fault c.in-Err.ensures.head c.in-Err.ensures.reads
+    not_started c.args.width (g.D.LogDisk.drive c.args.disk) (g.D.LogDisk.drive c.in-Err.refused.disk) c.in-Err.refused.cause c.in-Err.ensures.fault c.in-Err.ensures.head c.in-Err.ensures.may c.in-Err.ensures.reads
 
 pub returns-in-Ok-judged-clause-compared : goal.returns-in-Ok-judged-clause-compared
 returns-in-Ok-judged-clause-compared g c =
