@@ -1,2 +1,3 @@
 pub mod WordsFacts
 pub mod StatusFacts
+pub mod ChainFacts

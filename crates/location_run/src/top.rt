@@ -1,10 +1,12 @@
 //! The top call.
 ghost use Rattle.std.specs.Prelude.{◌≡◌, ℕ, List, map};
 ghost use Rattle.std.specs.String.{string_bytes};
+ghost use Rattle.disk_trait.specs.Drive.{KeepsLaws};
 ghost use Rattle.command_words.specs.Words.{AsksFor};
 ghost use Rattle.command_words.specs.Asked.{command_of};
 ghost use Rattle.run_ends.specs.Ends.{done_by};
 ghost use Rattle.location_run.specs.Run.{Keeps, KeepsAsked, AnswersUsage, run_by};
+ghost use Rattle.location_run.specs.Chain.{ChainsAsked};
 
 use crate::outcome::Outcome;
 use command_words::{Command, command_in};
@@ -47,6 +49,10 @@ pub fn run<R: Threads + Wait + Sync, S: Source, K: Sink, D: LogDisk + Send, G: G
     // The command that they ask for keeps its promise.
     ensures keeps { KeepsAsked (map string_bytes words.now)
         (run_by S.input K.output D.drive source.old sink.old disk other source.new sink.new result) }
+
+    // Over a log that stands it leaves one that stands, and so does a crash: what the next run asks for.
+    ensures chain { ChainsAsked (map string_bytes words.now)
+        (run_by S.input K.output D.drive source.old sink.old disk other source.new sink.new result) }
 {
     let drives = Drives { disk, other };
     match command_in(words) {
@@ -81,8 +87,9 @@ fn obey<R: Threads + Wait + Sync, S: Source, K: Sink, D: LogDisk + Send, G: Gate
 }
 
 // What a run leaves, of what its command gave back.
-fn outcome_of<D: Drop>(end: Ended<D>) -> Outcome<D>
-    ensures { result ≡ record { status = end.status; disk = end.drives.disk; other = end.drives.other; events = end.history } }
+fn outcome_of<D: LogDisk>(end: Ended<D>) -> Outcome<D>
+    ensures outcome { result ≡ record { status = end.status; disk = end.drives.disk; other = end.drives.other; events = end.history } }
+    ensures laws { KeepsLaws (D.drive end.drives.disk) }
 {
     let Ended {
         status,

@@ -1,3 +1,4 @@
+pub mod StandingFacts
 pub mod OpeningFacts
 pub mod CrashFacts
 pub mod BookEnds

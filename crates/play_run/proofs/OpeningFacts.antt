@@ -7,9 +7,10 @@ use Rattle.cell_format.specs.declared.cell.Cell.{Cell}
 use Rattle.cell_format.specs.Spelling.{newest}
 use Rattle.log_state.specs.Recovers.{Recovers}
 use Rattle.recovery.specs.Faults.{IsInBytes}
-use Rattle.recovery.specs.Found.{IsFound, IsFree}
+use Rattle.recovery.specs.Found.{IsFound, IsFree, IsNewest}
 use Rattle.recovery.specs.Widths.{IsWidth, HasWidth, IsLogFault}
-use Rattle.recovery.specs.Opening.{KeepsCells, HasNoLog, IsUntouched, KeepsStanding, RefusesLog}
+use Rattle.recovery.specs.Opening.{KeepsCells, KeepsNewest, HasNoLog, IsUntouched, KeepsStanding, RefusesLog}
+use Rattle.recovery.specs.LogText.{IsLog}
 use Rattle.recovery.specs.declared.seen.Seen.{Seen}
 use Rattle.recovery.specs.declared.seen.OpenFault.{OpenFault}
 use Rattle.recovery.proofs.CallLemmas.{well-none, well-then, stops-then, stops-refused}
@@ -25,12 +26,18 @@ use Rattle.run_ends.specs.Status.{status_of}
 use Rattle.run_ends.proofs.AttachFacts.{attaches-one, reading-unattached}
 use Rattle.run_ends.proofs.LogFaults.{calm-free, calm-named, reading-after}
 use Rattle.play_run.specs.Playing.{IsNotOpened}
+use Rattle.play_run.specs.Standing.{HoldsLog}
 use Rattle.play_run.specs.inside.Books.{OpensFile}
+use Rattle.play_run.proofs.StandingFacts.{holds-same, holds-text, one-width, one-list}
 
 pub keeps-cells-after : (w : ℕ) (a b c : Drive) → KeepsLaws a → Stays a b → KeepsCells w b c → KeepsCells w a c
 keeps-cells-after w a b c laws stays keeps bytes cells told now =
     leaves-trans a b c (Recovers w cells) (leaves-stays a b (Recovers w cells) laws now stays)
     (keeps bytes cells (stays.bytes ∙ told) (λ x left. now x (stays.images x left)))
+
+keeps-newest-after : (a b c : Drive) → KeepsLaws a → Stays a b → KeepsNewest b c → KeepsNewest a c
+keeps-newest-after a b c laws stays keeps now =
+    leaves-trans a b c IsNewest (leaves-stays a b IsNewest laws now stays) (keeps (λ x left. now x (stays.images x left)))
 
 untouched-after : (a b c : Drive) → Stays a b → IsUntouched b c → IsUntouched a c
 untouched-after a b c stays left = record {
@@ -64,6 +71,8 @@ log-refused file a b c why laws at refused keeps exact whole =
       whole = λ good. calm-free a b c why later good.calm (whole good.width good.bytes good.first good.known (stays.bytes ∙ good.told) good.recovers good.version good.few);
       keeps = λ w bytes told has. keeps-cells-after w a b c laws stays (keeps.cells w);
       untouched = λ bytes told none. untouched-after a b c stays (leaves.no_log bytes (stays.bytes ∙ told) none);
+      stands = λ other w cells. let left = untouched-after a b c stays (leaves.unfailed (λ disk. other (ap log_refusal disk))) in holds-same w cells a c left.bytes left.images;
+      newest = keeps-newest-after a b c laws stays leaves.newest;
       calm = λ other. leaves.calm (λ disk. other (ap log_refusal disk)) ∙ at.calm;
       calls = stops-then a b c (well-none a b stays.calls) (stops-refused why b c leaves.calls);
       attached = attaches-one file false a c (status_of (log_refusal why)) (attached-still file false a b c at.named leaves.file);
@@ -80,14 +89,24 @@ attach-refused file a b why laws refused = record {
   whole = λ good. ⊎_elim (λ disk. absurd (good.calm disk.1)) (λ memory. memory) refused.cause;
   keeps = λ w bytes told has text cells known now. leaves-stays a b (Recovers w cells) laws now refused.stays;
   untouched = λ bytes told none. untouched-stays a b refused.stays;
+  stands = λ other w cells. holds-same w cells a b refused.stays.bytes refused.stays.images;
+  newest = λ now. leaves-stays a b IsNewest laws now refused.stays;
   calm = λ other. ⊎_elim (λ disk. absurd (other disk.0)) (λ memory. refused.calm (λ seven. omega (arith, seven, ap status_of memory))) refused.cause;
   calls = inl (well-none a b refused.stays.calls);
   attached = refused.attached;
 }
 
+-- a log that stood there is the one that was opened
+stands-opened : (file : List ℕ) (a start now : Drive) (w : ℕ) (seen : Seen) → OpensFile file a start now w seen → (v : ℕ) (cells : List Cell) → HoldsLog v cells a → HoldsLog v cells now
+stands-opened file a start now w seen opens v cells holds =
+    let (own, recovers, log) = opens.ready.log holds.bytes (opens.stays.bytes ∙ holds.told) in
+    let width : w ≡ v = one-width w v own cells holds.bytes opens.known recovers holds.standing in
+    let same : own ≡ cells = one-list w v own cells holds.bytes opens.known recovers holds.standing in
+    holds-text v cells now holds.standing.known holds.standing.recovers.legal (subst (λ u. IsLog u cells now) width (subst (λ (l : List Cell). IsLog w l now) same log))
+
 -- memory ran out once the log was open
-pub memory-refused : (file : List ℕ) (a start now c : Drive) (w : ℕ) (seen : Seen) (why : Refusal) → OpensFile file a start now w seen → c ≡ now → why ≡ refusal.Memory → IsNotOpened file a c why
-memory-refused file a start now c w seen why opens back memory =
+pub memory-refused : (file : List ℕ) (a start now c : Drive) (w : ℕ) (seen : Seen) (why : Refusal) → KeepsLaws a → OpensFile file a start now w seen → c ≡ now → why ≡ refusal.Memory → IsNotOpened file a c why
+memory-refused file a start now c w seen why laws opens back memory =
     let file_still : AttachedOne file false a now = attached-still file false a start now opens.attached opens.ready.file in
     let found = opens.found in
     let has : (bytes : List ℕ) → a.bytes ≡ Some bytes → HasWidth w bytes = λ bytes told. recovers_width w found.cells bytes opens.known (found.recovers bytes (opens.stays.bytes ∙ told)) in
@@ -99,6 +118,8 @@ memory-refused file a start now c w seen why opens back memory =
       whole = λ good. refl;
       keeps = λ v bytes told also. subst (λ u. KeepsCells u a now) (same_width w v bytes (has bytes told) also) opens.keeps;
       untouched = λ bytes told none. absurd (log bytes told (none w opens.known));
+      stands = λ other. stands-opened file a start now w seen opens;
+      newest = keeps-newest-after a start now laws opens.stays opens.ready.newest;
       calm = λ other. opens.ready.same ∙ opens.calm;
       calls = inl (well-then a start now (well-none a start opens.stays.calls) opens.ready.calls);
       attached = attaches-one file false a now 9 file_still;

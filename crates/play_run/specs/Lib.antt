@@ -2,6 +2,7 @@ pub mod Lines
 pub mod Origin
 pub mod Answers
 pub mod Crash
+pub mod Standing
 pub mod Playing
 pub mod Trying
 pub mod Examples

@@ -12,7 +12,7 @@ use Rattle.log_state.specs.Recovers.{Recovers}
 use Rattle.recovery.specs.Faults.{IsInBytes}
 use Rattle.recovery.specs.Widths.{IsWidth, HasWidth, IsLogFault}
 use Rattle.recovery.specs.Calls.{StopsAtFault}
-use Rattle.recovery.specs.Opening.{KeepsCells, HasNoLog, IsUntouched}
+use Rattle.recovery.specs.Opening.{KeepsCells, KeepsNewest, HasNoLog, IsUntouched}
 use Rattle.csv_rows.specs.declared.rows.InRow.{InRow}
 use Rattle.csv_rows.specs.declared.rows.Refusal.{Refusal}
 use Rattle.csv_rows.specs.declared.rows.Refusal.TheVariants as refusal
@@ -34,6 +34,7 @@ use Rattle.play_run.specs.Answers.{AnswersAsOneList}
 use Rattle.kept_log.specs.Counts.{count_after}
 use Rattle.lane_splits.specs.Settled.{SplitsAreDone, IsWithinLimits}
 use Rattle.play_run.specs.Crash.{KeepsPlayed, KeepsText}
+use Rattle.play_run.specs.Standing.{HoldsLog}
 
 -- the drive's bytes recover to cells, few enough, by either width and the newest version, and its count didn't rise
 pub record IsGoodLog (old new : Drive) : Type 0 where
@@ -57,6 +58,9 @@ pub record IsNotOpened (file : List ℕ) (old new : Drive) (why : Refusal) : Typ
   pub whole : IsGoodLog old new → why ≡ refusal.Memory
   pub keeps : (w : ℕ) (bytes : List ℕ) → old.bytes ≡ Some bytes → HasWidth w bytes → KeepsCells w old new
   pub untouched : (bytes : List ℕ) → old.bytes ≡ Some bytes → ((w : ℕ) → IsWidth w → HasNoLog w most_played bytes) → IsUntouched old new
+  -- a log that stood there still does, unless the drive failed, and a crash leaves its version
+  pub stands : why ≢ refusal.Disk None → (w : ℕ) (cells : List Cell) → HoldsLog w cells old → HoldsLog w cells new
+  pub newest : KeepsNewest old new
   pub calm : why ≢ refusal.Disk None → new.faults ≡ old.faults
   pub calls : StopsAtFault old new
   -- this file is attached, and none is made

@@ -1,6 +1,7 @@
-use Rattle.std.proofs.Common.{map, refl}
+use Rattle.std.proofs.Common.{map, refl, ap}
 use Rattle.std.specs.String.{string_bytes}
 use Rattle.command_words.specs.Asked.{command_of}
+use Rattle.location_run.proofs.ChainFacts.{chains-asked}
 use Rattle.location_run.proofs.WordsFacts.{keeps-asked}
 use Rattle.location_run.proofs.StatusFacts.{usage-accepted}
 use Rattle.location_run.proofs.top.run.Goals as goal
@@ -13,12 +14,17 @@ returns-in-Some g c =
     let words = map string_bytes c.args.words.now in
     let command = command_of c.in-Some.command in
     let asks = c.in-Some.ensures in
-    rw c.outcome_of.ensures (record { usage = usage-accepted words command _ asks c.obey.ensures; keeps = keeps-asked words command _ asks c.obey.ensures })
+    let drive = g.D.LogDisk.drive in
+    rw c.outcome_of.ensures.outcome (record {
+      usage = usage-accepted words command _ asks c.obey.ensures;
+      keeps = keeps-asked words command _ asks c.obey.ensures;
+      chain = chains-asked words command _ (ap drive) c.outcome_of.ensures.laws asks c.obey.ensures;
+    })
 
 pub returns-in-None : goal.returns-in-None
 returns-in-None g c =
     let told = c.refuse_on.ensures in
-    rw c.outcome_of-in-None.ensures
+    rw c.outcome_of-in-None.ensures.outcome
     (rw told.drives
     (record {
       usage = record {
@@ -26,4 +32,5 @@ returns-in-None g c =
         refused = λ two. record { did = record { ends = record { refused = told.refused; disk = refl }; none = told.none; other = refl }; unread = refl };
       };
       keeps = λ command asks. absurd (c.in-None.ensures (command, asks));
+      chain = λ command asks. absurd (c.in-None.ensures (command, asks));
     }))

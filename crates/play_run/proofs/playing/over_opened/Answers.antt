@@ -51,10 +51,12 @@ returns-in-Err g c =
     let unmade = c.in-Err.field-0 in
     let opened = c.args.opened in
     let told = c.refuse_on.ensures in
+    -- the laws of a drive, where threads run
+    let laws = (g.met.D.LogDisk g.world.𝓛 g.world.𝓜 g.world.𝓡 ((λ s x. x), (λ x. x), (λ x. x), λ x. x)).keeps_laws in
     record {
       plays = λ file disk opens.
           let back = ap drive c.in-Err.ensures.back.0 in
-          let not = memory-refused file (drive disk) (drive opened.start.value) (drive opened.log.disk) (drive unmade.disk) g.I.Index.WIDTH opened.seen unmade.why opens back c.in-Err.ensures.back.1 in
+          let not = memory-refused file (drive disk) (drive opened.start.value) (drive opened.log.disk) (drive unmade.disk) g.I.Index.WIDTH opened.seen unmade.why (laws disk) opens back c.in-Err.ensures.back.1 in
           rw told.drives (inl (record { none = told.none; refused = (unmade.why, not, told.refused) }));
       other = rw told.drives refl;
     }

@@ -1,0 +1,226 @@
+-- What a run leaves is what the next one asks for.
+use Rattle.std.proofs.Common.{◌≡◌, ◌≢◌, ◌⊎◌, inl, inr, ◌∙◌, ℕ, List, [], ◌++◌, Option, Some, None, refl, sym, ap, subst}
+use Rattle.std.specs.Prelude.{slice_index}
+use Rattle.std.proofs.lemmas.List.{append-nil}
+use Rattle.std.proofs.lemmas.Option.{same_Some}
+use Rattle.cell_format.specs.declared.cell.Cell.{Cell}
+use Rattle.cell_format.specs.Spelling.{newest}
+use Rattle.plain_list.specs.declared.entries.Entry.{Entry}
+use Rattle.disk_trait.specs.Drive.{Drive, KeepsLaws, Stays, IsSynced}
+use Rattle.disk_trait.specs.Moments.{LeavesNow}
+use Rattle.log_state.specs.Recovers.{Recovers, state_of}
+use Rattle.log_state.specs.Changes.{cells_of}
+use Rattle.recovery.specs.LogText.{IsLog}
+use Rattle.recovery.specs.Found.{IsNewest}
+use Rattle.recovery.specs.Widths.{IsWidth}
+use Rattle.recovery.proofs.WidthLemmas.{recovers_width}
+use Rattle.command_words.specs.Words.{Command, Init, Check, Play, Show, Trial, Compact, Watch, Follow, AsksFor}
+use Rattle.command_words.proofs.WordsFacts.{init-width, one-command}
+use Rattle.csv_rows.specs.declared.rows.InRow.{InRow}
+use Rattle.make_moves.specs.Moves.{made_rows}
+use Rattle.command_words.specs.declared.trials.Made.{Made}
+use Rattle.run_ends.specs.Ends.{Ends, Done, Targets}
+use Rattle.run_ends.specs.Limits.{trial_bucket}
+use Rattle.run_ends.specs.Status.{status_of, WritesLines}
+use Rattle.run_ends.proofs.Ends.{no-lines}
+use Rattle.log_run.specs.Making.{MakesOrRefuses}
+use Rattle.log_run.specs.Checking.{FindsCells}
+use Rattle.log_run.specs.Compacting.{RefusesFile, WritesAnew, WritesOrRefuses, anew}
+use Rattle.play_run.specs.Crash.{KeepsAll}
+use Rattle.play_run.specs.Origin.{Origin, IsFoundOrigin, origin_of}
+use Rattle.play_run.specs.Playing.{IsAnswered, IsUnopened, PlaysRows, Goes}
+use Rattle.play_run.specs.Trying.{PlaysMade}
+use Rattle.play_run.specs.Standing.{IsStanding, HoldsLog}
+use Rattle.play_run.proofs.StandingFacts.{holds-same, holds-text, one-width, one-list}
+use Rattle.follower.specs.Opening.{IsOpenable}
+use Rattle.follow_run.specs.Following.{GivesNoTurns, GivesTurns}
+use Rattle.watch_run.specs.Watching.{GoesAlong}
+use Rattle.location_run.specs.Run.{Keeps}
+use Rattle.location_run.specs.Chain.{GoesOn, StandsStill, OnlyReads, PlaysOn, WritesNew, Leaves, MeetsNext, Chains, ChainsAsked}
+
+-- a drive that was only read
+stands-still : (a b : Drive) → KeepsLaws b → Stays a b → OnlyReads a b
+stands-still a b laws stays w cells holds = record {
+  any_moment = λ c left.
+      let now = laws.only_now c (subst (λ (t : ℕ). b.since t c) (sym stays.clock) left) in
+      subst (IsStanding w cells) (sym (holds.durable c (stays.images c now))) holds.standing;
+  stands = holds-same w cells a b stays.bytes stays.images holds;
+}
+
+-- one that is the value that it was
+same-still : (a b : Drive) → KeepsLaws b → b ≡ a → OnlyReads a b
+same-still a b laws same w cells holds = subst (λ (d : Drive). StandsStill w cells a d) (sym same) (record {
+  any_moment = λ c left. subst (IsStanding w cells) (sym (holds.durable c ((subst KeepsLaws same laws).only_now c left))) holds.standing;
+  stands = holds;
+})
+
+-- a run without a history
+goes-still : (a b : Drive) (status : ℕ) (h : List Entry) (w : ℕ) (cells : List Cell) → h ≡ []
+    → ((image : List ℕ) → b.since a.clock image → IsStanding w cells image) → (status ≢ 7 → HoldsLog w cells b) → GoesOn w cells a b status h
+goes-still a b status h w cells none moments stands =
+    let same : cells ++ [] ≡ cells = append-nil cells in
+    subst (λ (l : List Entry). GoesOn w cells a b status l) (sym none) (record {
+      any_moment = λ c left. (0, subst (λ (l : List Cell). IsStanding w l c) (sym same) (moments c left));
+      stands = λ other. subst (λ (l : List Cell). HoldsLog w l b) (sym same) (stands other);
+    })
+
+-- there was no book for the rows
+goes-unopened : {D : Type 0} (file : List ℕ) (old new : Targets D) (status : ℕ) (h : List Entry) → IsUnopened (Some file) old new status h → PlaysOn old.drive new.drive status h
+goes-unopened file old new status h unopened w cells holds =
+    let (why, unread, refuses) = unopened.refused in
+    let now : LeavesNow old.drive (Recovers w cells) = λ c left. subst (Recovers w cells) (sym (holds.durable c left)) holds.standing.recovers in
+    let version : LeavesNow old.drive IsNewest = λ c left. subst IsNewest (sym (holds.durable c left)) holds.standing.version in
+    let has = recovers_width w cells holds.bytes holds.standing.known holds.standing.recovers in
+    goes-still old.drive new.drive status h w cells unopened.none
+    (λ c left. record {
+      known = holds.standing.known;
+      recovers = (unread.keeps w holds.bytes holds.told has holds.bytes cells holds.told now).each c left;
+      version = (unread.newest version).each c left;
+    })
+    (λ other. unread.stands (λ disk. other (refuses.status_is ∙ ap status_of disk)) w cells holds)
+
+-- the origin of rows over a log that stands
+begins-there : (a : Drive) (w : ℕ) (cells : List Cell) → HoldsLog w cells a → (from : Origin) → IsFoundOrigin a from → from ≡ origin_of w cells
+begins-there a w cells holds from found =
+    let recovers = found.recovers holds.bytes holds.told in
+    found.origin_is
+    ∙ ap (λ (v : ℕ). origin_of v found.first) (one-width found.width w found.first cells holds.bytes found.known recovers holds.standing)
+    ∙ ap (origin_of w) (one-list found.width w found.first cells holds.bytes found.known recovers holds.standing)
+
+-- rows were answered
+goes-answered : {D : Type 0} (report : _) (file : List ℕ) (size : ℕ) (rows : List InRow) (old new : Targets D) (status : ℕ) (h : List Entry) → KeepsLaws new.drive
+    → IsAnswered report (Some file) size rows old new status h → PlaysOn old.drive new.drive status h
+goes-answered report file size rows old new status h laws answered w cells holds =
+    let from : answered.from ≡ origin_of w cells = begins-there old.drive w cells holds answered.from answered.begins in
+    let first : answered.from.first ≡ Some cells = ap (λ (o : Origin). o.first) from in
+    let settled : IsSynced old.drive = λ xs told c left. holds.durable c left ∙ same_Some holds.bytes xs (sym holds.told ∙ told) in
+    let kept : KeepsAll w cells (state_of w cells).world h old.drive new.drive status =
+    subst (λ (o : Origin). KeepsAll o.width cells o.state.world h old.drive new.drive status) from (answered.crash holds.bytes cells holds.told first settled) in
+    let text : status ≢ 7 → IsLog w (cells ++ cells_of (state_of w cells).world h) new.drive =
+    λ other. subst (λ (o : Origin). IsLog o.width (cells ++ cells_of o.state.world h) new.drive) from (answered.text holds.bytes cells holds.told first other) in
+    record {
+      any_moment = λ c left. let (m, to) = kept.any_moment c left in (m, record { known = holds.standing.known; recovers = to.recovers; version = to.version });
+      stands = λ other.
+          let log = text other in
+          holds-text w (cells ++ cells_of (state_of w cells).world h) new.drive holds.standing.known
+          (kept.all other log.bytes (laws.held log.bytes log.told)).legal log;
+    }
+
+goes-rows : {D : Type 0} (report : _) (file : List ℕ) (size : ℕ) (rows : List InRow) (old new : Targets D) (status : ℕ) (h : List Entry) → KeepsLaws new.drive
+    → PlaysRows report (Some file) size rows old new status h → PlaysOn old.drive new.drive status h
+goes-rows report file size rows old new status h laws (inl unopened) = goes-unopened file old new status h unopened
+goes-rows report file size rows old new status h laws (inr answered) = goes-answered report file size rows old new status h laws answered
+
+-- a command's ends, where a drive that is the value that it was is seen as it was
+module _ {S D : Type 0} (done : Done (Ends S D)) (same : done.new.to.disk ≡ done.old.to.disk → done.new.to.drive ≡ done.old.to.drive)
+    (laws : KeepsLaws done.new.to.drive) where
+  abbrev old : Targets D
+  old = done.old.to
+
+  abbrev new : Targets D
+  new = done.new.to
+
+  back-still : new.disk ≡ old.disk → OnlyReads old.drive new.drive
+  back-still back = same-still old.drive new.drive laws (same back)
+
+  back-goes : done.history ≡ [] → new.disk ≡ old.disk → PlaysOn old.drive new.drive done.status done.history
+  back-goes none back w cells holds =
+      let still = back-still back w cells holds in
+      goes-still old.drive new.drive done.status done.history w cells none still.any_moment (λ other. still.stands)
+
+  none-rows : (report : _) (size : ℕ) (rows : List InRow) → PlaysRows report None size rows old new done.status done.history → OnlyReads old.drive new.drive
+  none-rows report size rows (inl unopened) = let (why, (memory, back), refuses) = unopened.refused in back-still back
+  none-rows report size rows (inr answered) = back-still answered.book
+
+  none-played : (size : ℕ) → Goes None size done.old.input done.new.input old new done.status done.history → OnlyReads old.drive new.drive
+  none-played size (inl unread) = back-still unread.disk
+  none-played size (inr read) = none-rows _ size read.rows read.plays
+
+  log-played : (file : List ℕ) (size : ℕ) → Goes (Some file) size done.old.input done.new.input old new done.status done.history → PlaysOn old.drive new.drive done.status done.history
+  log-played file size (inl unread) = back-goes unread.none unread.disk
+  log-played file size (inr read) = goes-rows _ file size read.rows old new done.status done.history laws read.plays
+
+  none-tried : (made : Made) → PlaysMade None made old new done.status done.history → OnlyReads old.drive new.drive
+  none-tried made (inl unmade) = back-still unmade.disk
+  none-tried made (inr plays) = none-rows _ trial_bucket (made_rows made.rows made.seed) plays
+
+  log-tried : (file : List ℕ) (made : Made) → PlaysMade (Some file) made old new done.status done.history → PlaysOn old.drive new.drive done.status done.history
+  log-tried file made (inl unmade) = back-goes unmade.none unmade.disk
+  log-tried file made (inr plays) = goes-rows _ file trial_bucket (made_rows made.rows made.seed) old new done.status done.history laws plays
+
+  log-watched : (file : List ℕ) → GoesAlong file done.old.input done.new.input old new done.status → OnlyReads old.drive new.drive
+  log-watched file (inl unfenced) = back-still unfenced.disk
+  log-watched file (inr fenced) = stands-still old.drive new.drive laws fenced.ends.stays
+
+  log-followed : (file name : List ℕ) → GivesNoTurns done.old.input done.new.input old new done.status ⊎ GivesTurns file name done.old.input done.new.input old new done.status → OnlyReads old.drive new.drive
+  log-followed file name (inl none) = back-still none.disk
+  log-followed file name (inr turns) = stands-still old.drive new.drive laws turns.ends.stays
+
+  log-made : (w : ℕ) → IsWidth w → MakesOrRefuses w old.drive new.drive done.status old.output new.output → WritesLines done.status → (bytes : List ℕ) → old.drive.bytes ≡ Some bytes → HoldsLog w [] new.drive
+  log-made w known (inl (made, wrote)) writes bytes told = holds-text w [] new.drive known refl (made.log bytes told).1
+  log-made w known (inr (why, cause, refuses)) writes bytes told = absurd (no-lines why done.status refuses.status_is writes)
+
+  written-new : (w : ℕ) (cells own : List Cell) (bytes : List ℕ) (v : ℕ) → HoldsLog w cells old.drive → FindsCells v old.drive own → old.other_drive.bytes ≡ Some bytes → WritesLines done.status
+      → WritesOrRefuses v (state_of v own).world (state_of v own).leaves old.other_drive new.other_drive done.status old.output new.output
+      → HoldsLog w (anew w (state_of w cells).world (state_of w cells).leaves) new.other_drive
+  written-new w cells own bytes v holds found told writes (inl (made, wrote)) =
+      let recovers = found.recovers holds.bytes holds.told in
+      let fresh : ℕ → List Cell → List Cell = λ u l. anew u (state_of u l).world (state_of u l).leaves in
+      let there : HoldsLog v (fresh v own) new.other_drive = holds-text v (fresh v own) new.other_drive found.known made.state.legal (made.made.log bytes told).1 in
+      subst (λ (l : List Cell). HoldsLog w (fresh w l) new.other_drive) (one-list v w own cells holds.bytes found.known recovers holds.standing)
+      (subst (λ (u : ℕ). HoldsLog u (fresh u own) new.other_drive) (one-width v w own cells holds.bytes found.known recovers holds.standing) there)
+  written-new w cells own bytes v holds found told writes (inr (why, cause, refuses)) = absurd (no-lines why done.status refuses.status_is writes)
+
+  log-compacted : (file name : List ℕ) → RefusesFile old new done.status ⊎ WritesAnew file name old new done.status → WritesNew old new done.status
+  log-compacted file name (inl refuses) w cells bytes holds told writes = let (why, cause, line) = refuses.refused in absurd (no-lines why done.status line.status_is writes)
+  log-compacted file name (inr wrote) w cells bytes holds told writes = written-new w cells wrote.cells bytes wrote.width holds wrote.found told writes wrote.ends.ends
+
+  leaves-next : (words : List (List ℕ)) (c : Command) → AsksFor words c → Keeps c done → Leaves c old new done.status done.history
+  leaves-next words (Init file width) asks keeps =
+      let makes = keeps.did.ends in
+      record { any_moment = λ small. (makes.leaves.small small).each; stands = log-made width (init-width words file width asks) makes.ends }
+  leaves-next words (Check file) asks keeps = stands-still old.drive new.drive laws keeps.did.ends.stays
+  leaves-next words (Show file region) asks keeps = stands-still old.drive new.drive laws keeps.did.ends.stays
+  leaves-next words (Play None size) asks keeps = none-played size keeps.goes
+  leaves-next words (Play (Some file) size) asks keeps = log-played file size keeps.goes
+  leaves-next words (Trial None made) asks keeps = none-tried made keeps.did.goes
+  leaves-next words (Trial (Some file) made) asks keeps = log-tried file made keeps.did.goes
+  leaves-next words (Compact file name) asks keeps = (stands-still old.drive new.drive laws keeps.did.ends.stays, log-compacted file name keeps.did.ends.ends)
+  leaves-next words (Watch file) asks keeps = log-watched file keeps.goes
+  leaves-next words (Follow file name) asks keeps = log-followed file name keeps.goes.goes
+
+-- where a log stands, the clauses of a run speak of its cells
+pub meets-next : (a b : Drive) → MeetsNext a b
+meets-next a b w cells holds =
+    let stands = holds.standing in
+    let is : (xs : List ℕ) → a.bytes ≡ Some xs → holds.bytes ≡ xs = λ xs told. same_Some holds.bytes xs (sym holds.told ∙ told) in
+    record {
+      settled = λ xs told c left. holds.durable c left ∙ is xs told;
+      begins = begins-there a w cells holds;
+      good = λ few calm. record { bytes = holds.bytes; told = holds.told; width = w; known = stands.known; first = cells; recovers = stands.recovers; version = stands.version; few = few; calm = calm };
+      finds = λ v own found.
+          let recovers = found.recovers holds.bytes holds.told in
+          (one-width v w own cells holds.bytes found.known recovers stands, one-list v w own cells holds.bytes found.known recovers stands);
+      few = λ few. record { width = w; known = stands.known; bytes = holds.bytes; told = holds.told; recovers = stands.recovers; few = few };
+      leads = λ v own found.
+          let recovers = found.recovers holds.bytes holds.told in
+          (one-width v w own cells holds.bytes found.leading.known recovers stands, one-list v w own cells holds.bytes found.leading.known recovers stands);
+      leading = λ few. record { known = stands.known; bytes = holds.bytes; told = holds.told; recovers = stands.recovers; few = few };
+      taken = λ all xs told long few within same. inr (
+        long,
+        within,
+        subst (λ (l : List Cell). IsOpenable w l xs) same (record {
+          recovers = subst (Recovers w cells) (is xs told) stands.recovers;
+          version = subst (λ (l : List ℕ). slice_index l 8 ≡ newest) (is xs told) stands.version;
+          few = few;
+        }),
+      );
+    }
+
+pub chains-asked : {S D : Type 0} (words : List (List ℕ)) (a : Command) (done : Done (Ends S D)) → (done.new.to.disk ≡ done.old.to.disk → done.new.to.drive ≡ done.old.to.drive)
+    → KeepsLaws done.new.to.drive → AsksFor words a → Keeps a done → ChainsAsked words done
+chains-asked words a done same laws asks keeps c asked = subst (λ (k : Command). Chains k done.old.to done.new.to done.status done.history) (one-command words a c asks asked) (record {
+  leaves = leaves-next done same laws words a asks keeps;
+  meets = meets-next done.old.to.drive done.new.to.drive;
+  meets_other = meets-next done.old.to.other_drive done.new.to.other_drive;
+})

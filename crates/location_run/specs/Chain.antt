@@ -1,0 +1,93 @@
+-- Runs one after the other: what a run leaves, or a crash in it, is a log over which the clauses of the next run say all.
+use Rattle.std.specs.Prelude.{◌≡◌, ◌≢◌, ℕ, ◌<◌, ◌≤◌, List, [], ◌++◌, length, take, Option, Some, None, ⊤}
+use Rattle.causes.specs.Causes.{Rose}
+use Rattle.cell_format.specs.declared.cell.Cell.{Cell}
+use Rattle.plain_list.specs.declared.entries.Entry.{Entry}
+use Rattle.disk_trait.specs.Drive.{Drive, IsSynced}
+use Rattle.disk_trait.specs.Moments.{LeavesNow, LeavesSince}
+use Rattle.log_state.specs.Recovers.{state_of}
+use Rattle.log_state.specs.Changes.{cells_of, failed_cells}
+use Rattle.recovery.specs.Making.{IsSmall}
+use Rattle.command_words.specs.Words.{Command, Init, Check, Play, Show, Trial, Compact, Watch, Follow, AsksFor}
+use Rattle.run_ends.specs.Ends.{Ends, Done, Targets}
+use Rattle.run_ends.specs.Limits.{most_inspected, most_played}
+use Rattle.run_ends.specs.Status.{WritesLines}
+use Rattle.log_run.specs.Checking.{FindsCells}
+use Rattle.log_run.specs.Compacting.{RecoversFew, anew}
+use Rattle.play_run.specs.Origin.{Origin, IsFoundOrigin, origin_of}
+use Rattle.play_run.specs.Playing.{IsGoodLog}
+use Rattle.play_run.specs.Standing.{IsStanding, HoldsLog}
+use Rattle.follower.specs.Holding.{most_followed}
+use Rattle.follower.specs.Opening.{IsTaken, most_held}
+use Rattle.follow_run.specs.Leading.{FindsLeader, RecoversLeader}
+
+-- Rows were played over a log that stood. A crash at any moment leaves the log of its cells and some of the history's, in order and none skipped,
+-- where the cell of a failed append may stand behind them all; with any status but 7 the run leaves the log of its cells and all of the history's.
+pub record GoesOn (w : ℕ) (cells : List Cell) (old new : Drive) (status : ℕ) (h : List Entry) : Type 0 where
+  pub any_moment : (image : List ℕ) → new.since old.clock image
+      → (m : ℕ) × IsStanding w (cells ++ take m (cells_of (state_of w cells).world h ++ failed_cells h)) image
+  pub stands : status ≢ 7 → HoldsLog w (cells ++ cells_of (state_of w cells).world h) new
+
+-- a log that stood was only read: it still stands, with any status, and so it did at any moment
+pub record StandsStill (w : ℕ) (cells : List Cell) (old new : Drive) : Type 0 where
+  pub any_moment : LeavesSince new old.clock (IsStanding w cells)
+  pub stands : HoldsLog w cells new
+
+-- A log of no cells was made where the bytes were known. A crash at any moment leaves a small file where it did before, which is what making a
+-- log asks for.
+pub record StartsLog (w : ℕ) (old new : Drive) (status : ℕ) : Type 0 where
+  pub any_moment : LeavesNow old IsSmall → LeavesSince new old.clock IsSmall
+  pub stands : WritesLines status → (bytes : List ℕ) → old.bytes ≡ Some bytes → HoldsLog w [] new
+
+-- over whatever log stands on the drive
+abbrev pub PlaysOn : Drive → Drive → ℕ → List Entry → Type 0
+PlaysOn old new status h = (w : ℕ) (cells : List Cell) → HoldsLog w cells old → GoesOn w cells old new status h
+
+abbrev pub OnlyReads : Drive → Drive → Type 0
+OnlyReads old new = (w : ℕ) (cells : List Cell) → HoldsLog w cells old → StandsStill w cells old new
+
+-- where one stands on the first drive, what is left of its cells stands on the second, whose bytes were known
+abbrev pub WritesNew : {D : Type 0} → Targets D → Targets D → ℕ → Type 0
+WritesNew old new status = (w : ℕ) (cells : List Cell) (bytes : List ℕ) → HoldsLog w cells old.drive → old.other_drive.bytes ≡ Some bytes
+    → WritesLines status → HoldsLog w (anew w (state_of w cells).world (state_of w cells).leaves) new.other_drive
+
+-- what each command leaves for the next
+abbrev pub Leaves : {D : Type 0} → Command → Targets D → Targets D → ℕ → List Entry → Type 0
+Leaves (Init file width) old new status h = StartsLog width old.drive new.drive status
+Leaves (Check file) old new status h = OnlyReads old.drive new.drive
+Leaves (Play None size) old new status h = OnlyReads old.drive new.drive
+Leaves (Play (Some file) size) old new status h = PlaysOn old.drive new.drive status h
+Leaves (Show file region) old new status h = OnlyReads old.drive new.drive
+Leaves (Trial None made) old new status h = OnlyReads old.drive new.drive
+Leaves (Trial (Some file) made) old new status h = PlaysOn old.drive new.drive status h
+Leaves (Compact file name) old new status h = OnlyReads old.drive new.drive × WritesNew old new status
+Leaves (Watch file) old new status h = OnlyReads old.drive new.drive
+Leaves (Follow file name) old new status h = OnlyReads old.drive new.drive
+
+-- What the records of the commands ask of a log on its drive. Where one stands it is so, and so each of their sentences speaks of its cells.
+pub record Meets (w : ℕ) (cells : List Cell) (old new : Drive) : Type 0 where
+  -- `play` and `trial`: nothing is pending, rows go on from these cells, and it is a good log
+  pub settled : IsSynced old
+  pub begins : (from : Origin) → IsFoundOrigin old from → from ≡ origin_of w cells
+  pub good : length cells ≤ most_played → (Rose old.faults new.faults → ⊥) → IsGoodLog old new
+  -- `check`, `show`, `watch` and `compact`: these cells are found, and no others
+  pub finds : (v : ℕ) (own : List Cell) → FindsCells v old own → (v ≡ w) × (own ≡ cells)
+  pub few : length cells ≤ most_inspected → RecoversFew old cells
+  -- `follow` of these cells, and `follow` that goes on with them in a copy
+  pub leads : (v : ℕ) (own : List Cell) → FindsLeader v old own → (v ≡ w) × (own ≡ cells)
+  pub leading : length cells ≤ most_followed → RecoversLeader w cells old
+  pub taken : (all : List Cell) (bytes : List ℕ) → old.bytes ≡ Some bytes → 17 < length bytes → length cells ≤ most_held
+      → length cells ≤ length all → cells ≡ take (length cells) all → IsTaken w all bytes (length cells)
+
+abbrev pub MeetsNext : Drive → Drive → Type 0
+MeetsNext old new = (w : ℕ) (cells : List Cell) → HoldsLog w cells old → Meets w cells old new
+
+-- a run in a chain: what it leaves for the next one, and what it finds of the one before
+pub record Chains {D : Type 0} (c : Command) (old new : Targets D) (status : ℕ) (h : List Entry) : Type 0 where
+  pub leaves : Leaves c old new status h
+  pub meets : MeetsNext old.drive new.drive
+  pub meets_other : MeetsNext old.other_drive new.other_drive
+
+-- of the command that the words ask for
+abbrev pub ChainsAsked : {S D : Type 0} → List (List ℕ) → Done (Ends S D) → Type 0
+ChainsAsked words done = (c : Command) → AsksFor words c → Chains c done.old.to done.new.to done.status done.history
