@@ -17,7 +17,7 @@ use Rattle.plain_list.specs.declared.entries.Entry.{Entry}
 use Rattle.book_lock.specs.Origin.{Origin}
 use Rattle.book_lock.specs.declared.view.View.{View}
 use Rattle.book_lock.specs.Own.{times, once_below, Owns, IsBelow}
-use Rattle.book_lock.specs.Ends.{IsEnd, Ends, OwnsEnds, MayNote}
+use Rattle.book_lock.specs.Ends.{IsEnd, EndsSplit, OwnsEnds, MayNote}
 use Rattle.book_lock.specs.Rule.{seat_view, total, hold_of, parts_of, times_of, newcomer, Fits, HasEnder, LockRule, without_part, part_of, note_of, both, spent, untold}
 use Rattle.book_lock.specs.Steps.{Sat, holder, taken, noted, released, compared}
 use Rattle.book_lock.proofs.Positions.{once_below-one, once_below-in, once_below-suc, times-append, times-merge, Rises-snoc, IsBelow-snoc, Rises-merge, one_if, one_same}
@@ -337,7 +337,7 @@ module _ {V : Type 0} (entries : V → List Entry) (origin : V → Origin) (star
             ender_stays s.views log p m id v w at inside own_more
             (ender.0, ender.1, ender.2, ender.3, ender.4, ender.5, ender.6, (ender.7.0, get_prefix k.log log ender.1 _ (e ∷ [], refl) ender.7.1)))
             (λ (new : (p ≡ length k.log) × (e ≡ h.0)).
-            let mine = may m (subst (λ (x : Entry). Ends x m) (sym new.1) h.2) in
+            let mine = may m (subst (λ (x : Entry). EndsSplit x m) (sym new.1) h.2) in
             let q : ℕ = mine.0 in
             let below = get_below v.seen q _ mine.2.1 in
             let a = times-append p v.own (n ∷ []) in

@@ -9,12 +9,12 @@ abbrev pub IsBegin : List Entry → ℕ → ℕ → Type 0
 IsBegin log at n = (name : List Bool) × (slice_get log at ≡ Some (Begin n name))
 
 -- the entry ends the split of this number
-abbrev pub Ends : Entry → ℕ → Type 0
-Ends e n = (e ≡ Install n) ⊎ (e ≡ Abandon n)
+abbrev pub EndsSplit : Entry → ℕ → Type 0
+EndsSplit e n = (e ≡ Install n) ⊎ (e ≡ Abandon n)
 
 -- the entry at this position ends the split of this number
 abbrev pub IsEnd : List Entry → ℕ → ℕ → Type 0
-IsEnd log at n = (e : Entry) × (slice_get log at ≡ Some e) × Ends e n
+IsEnd log at n = (e : Entry) × (slice_get log at ≡ Some e) × EndsSplit e n
 
 -- where just one Begin of a number was seen and that one is own, each end of this number that was seen is own
 abbrev pub OwnsEnds : List Entry → List ℕ → Type 0
@@ -22,7 +22,7 @@ OwnsEnds seen own = (n q : ℕ) → IsBegin seen q n → ((r : ℕ) → IsBegin 
 
 -- an end of a split may be noted by whoever owns a Begin of its number
 abbrev pub MayNote : List Entry → List ℕ → Entry → Type 0
-MayNote seen own e = (n : ℕ) → Ends e n → (q : ℕ) × Owns own q × IsBegin seen q n
+MayNote seen own e = (n : ℕ) → EndsSplit e n → (q : ℕ) × Owns own q × IsBegin seen q n
 
 -- of two beginnings of one history the longer
 abbrev pub longer : List Entry → List Entry → List Entry

@@ -4,7 +4,7 @@ use Rattle.std.proofs.Common.{refl, inl, inr}
 use Rattle.plain_list.specs.declared.entries.Entry.TheVariants.{Begin, Install, Abandon, Call}
 use Rattle.plain_list.specs.declared.ops.Op.TheVariants.{Find}
 use Rattle.book_lock.specs.Own.{times, once_below, merge}
-use Rattle.book_lock.specs.Ends.{IsBegin, IsEnd, Ends, longer, last_of}
+use Rattle.book_lock.specs.Ends.{IsBegin, IsEnd, EndsSplit, longer, last_of}
 
 two_lists : merge (1 ∷ 4 ∷ []) (0 ∷ 3 ∷ 5 ∷ []) ≡ 0 ∷ 1 ∷ 3 ∷ 4 ∷ 5 ∷ []
 two_lists = refl
@@ -24,7 +24,7 @@ begun = ([], refl)
 ended : IsEnd (Begin 1 [] ∷ Install 1 ∷ []) 1 1
 ended = (Install 1, refl, inl refl)
 
-given_up : Ends (Abandon 2) 2
+given_up : EndsSplit (Abandon 2) 2
 given_up = inr refl
 
 more : longer (Install 1 ∷ []) (Install 1 ∷ Install 2 ∷ []) ≡ Install 1 ∷ Install 2 ∷ []

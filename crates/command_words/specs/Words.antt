@@ -58,8 +58,8 @@ abbrev pub SpellsNoSize : List ℕ → List ℕ → Type 0
 SpellsNoSize option number = option ≡ codes "--bucket" → (size : ℕ) → number_in 4 4096 number ≡ Some size → ⊥
 
 -- what some words spell, or nothing where they spell nothing
-abbrev pub Reads : {T : Type 0} → (T → Type 0) → Option T → Type 0
-Reads {T = T} Spells result = MatchOption result ((value : T) → Spells value → ⊥) Spells
+abbrev pub ReadsWord : {T : Type 0} → (T → Type 0) → Option T → Type 0
+ReadsWord {T = T} Spells result = MatchOption result ((value : T) → Spells value → ⊥) Spells
 
 -- four words are the corners of a box, the lower one first: each number has at most 32 bits, and the upper corner's are at least the lower one's
 pub record SpellsBox (x y a b : List ℕ) (region : Region) : Type 0 where

@@ -2,7 +2,7 @@
 ghost use Rattle.std.specs.Prelude.{◌≡◌, map, MatchOption};
 ghost use Rattle.std.specs.String.{string_bytes};
 ghost use Rattle.csv_rows.specs.Numbers.{number_in};
-ghost use Rattle.command_words.specs.Words.{Reads, SpellsBox, SpellsNoShow, SpellsShow};
+ghost use Rattle.command_words.specs.Words.{ReadsWord, SpellsBox, SpellsNoShow, SpellsShow};
 
 use crate::files::is_word;
 use csv_rows::number_in;
@@ -36,7 +36,7 @@ pub(crate) fn show_words(words: &[String]) -> Option<ShowWords<'_>>
 }
 
 fn box_in(x: &str, y: &str, a: &str, b: &str) -> Option<Region>
-    ensures { Reads (SpellsBox x.now y.now a.now b.now) result }
+    ensures { ReadsWord (SpellsBox x.now y.now a.now b.now) result }
 {
     let x = coordinate_in(x, 0)?;
     let y = coordinate_in(y, 0)?;

@@ -1,7 +1,7 @@
 //! The words that ask for made rows to be played.
 ghost use Rattle.std.specs.Prelude.{◌≡◌, map, MatchOption};
 ghost use Rattle.std.specs.String.{string_bytes};
-ghost use Rattle.command_words.specs.Words.{Reads, SpellsMade, SpellsNoTrial, SpellsTrial};
+ghost use Rattle.command_words.specs.Words.{ReadsWord, SpellsMade, SpellsNoTrial, SpellsTrial};
 
 use crate::files::is_word;
 use csv_rows::number_in;
@@ -41,7 +41,7 @@ pub(crate) fn trial_words(words: &[String]) -> Option<TrialWords<'_>>
 }
 
 fn made_in(rows: &str, seed: &str) -> Option<Made>
-    ensures { Reads (SpellsMade rows.now seed.now) result }
+    ensures { ReadsWord (SpellsMade rows.now seed.now) result }
 {
     let rows = number_in(rows.as_bytes(), 1, 65_536)?;
     let seed = number_in(seed.as_bytes(), 0, u64::MAX)?;

@@ -28,7 +28,7 @@ use Rattle.commit_book.specs.IsBook.{most_events}
 use Rattle.commit_book.specs.Refusals.{WouldChange, LeavesRefused, IsRefusedBy, IsMemoryOrDisk, most_cells}
 use Rattle.commit_book.specs.declared.faults.BookFault.{BookFault}
 use Rattle.commit_book.specs.SplitsView.{SplitsView}
-use Rattle.commit_book.specs.Steps.{entry_of, fault_of, IsStep, CanStep, Ends, Takes, Loses}
+use Rattle.commit_book.specs.Steps.{entry_of, fault_of, IsStep, CanStep, EndsStep, Takes, Loses}
 use Rattle.commit_book.specs.declared.book.Book.TheInside.{Inside}
 use Rattle.commit_book.specs.declared.steps.Step.{Step}
 use Rattle.commit_book.proofs.BookStates.{inside-fail}
@@ -77,8 +77,8 @@ module _ {I D P : Type 0} (drive : D → Drive) (w : ℕ) (o : State) (old : Ins
       → table ≡ old.table → splits.splits ≡ old.splits.splits → splits.begun ≡ old.splits.begun
       → Told {A = A} (Takes drive) (Loses drive) a b (Err why) → IsInside {I = I} {P = P} drive w o (record { table = table; splits = splits; history = b.history.now; journal = b.journal.now; opening = opening })
   inside-undone A table splits opening n undone.Lost a b few step events log room same opens begun told =
-      let ends : Ends drive a.lost (Fail (cells_in a.journal.now) a.lost) (record { entries = h; room = n }) b.history.now a.journal.now b.journal.now =
-      subst (λ (v : Events). Ends drive a.lost (Fail (cells_in a.journal.now) a.lost) v b.history.now a.journal.now b.journal.now) events told.ends in
+      let ends : EndsStep drive a.lost (Fail (cells_in a.journal.now) a.lost) (record { entries = h; room = n }) b.history.now a.journal.now b.journal.now =
+      subst (λ (v : Events). EndsStep drive a.lost (Fail (cells_in a.journal.now) a.lost) v b.history.now a.journal.now b.journal.now) events told.ends in
       let entries : b.history.now.entries ≡ h ++ Fail (cells_in a.journal.now) a.lost ∷ [] = ap (λ (v : Events). v.entries) ends.events in
       let kept = ends.keeps w o step (subst (λ (l : Option (KeptView D)). KeepsIn drive w o h l) (sym log) inside.on_log) in
       inside-fail drive w o old _ inside going (subst (λ (g : List Entry). KeepsIn drive w o g b.journal.now) (sym entries) kept) (subst (λ (l : Option (KeptView D)). IsSinceIn l b.journal.now) log ends.since) (cells_in a.journal.now) a.lost few entries
@@ -105,8 +105,8 @@ module _ {I D P : Type 0} (drive : D → Drive) (w : ℕ) (o : State) (old : Ins
   pub moments-undone : (A : Type 0) → ((d : D) → KeepsLaws (drive d)) → (n : ℕ) (why : Undone) (a b : Step D) → IsStep w o h a.lost → a.history.now ≡ record { entries = h; room = n } → a.journal.now ≡ old.journal
       → Told {A = A} (Takes drive) (Loses drive) a b (Err why) → LeavesEither drive w o h (entry_of a.lost) old.journal b.journal.now
   moments-undone A laws n undone.Lost a b step events log told =
-      let ends : Ends drive a.lost (Fail (cells_in a.journal.now) a.lost) (record { entries = h; room = n }) b.history.now a.journal.now b.journal.now =
-      subst (λ (v : Events). Ends drive a.lost (Fail (cells_in a.journal.now) a.lost) v b.history.now a.journal.now b.journal.now) events told.ends in
+      let ends : EndsStep drive a.lost (Fail (cells_in a.journal.now) a.lost) (record { entries = h; room = n }) b.history.now a.journal.now b.journal.now =
+      subst (λ (v : Events). EndsStep drive a.lost (Fail (cells_in a.journal.now) a.lost) v b.history.now a.journal.now b.journal.now) events told.ends in
       subst (λ (l : Option (KeptView D)). LeavesEither drive w o h (entry_of a.lost) l b.journal.now) log
       (ends.any_moment w o step (subst (λ (l : Option (KeptView D)). KeepsIn drive w o h l) (sym log) inside.on_log))
   moments-undone A laws n undone.Memory a b step events log told =
@@ -143,8 +143,8 @@ module _ {I D P : Type 0} (drive : D → Drive) (w : ℕ) (o : State) (old : Ins
 
   pub taken : (n : ℕ) (a b : Step D) → IsStep w o h a.lost → a.history.now ≡ record { entries = h; room = n } → a.journal.now ≡ old.journal → Takes drive a b → Taken a.lost n b.history.now b.journal.now
   taken n a b step events log told =
-      let ends : Ends drive a.lost (entry_of a.lost) (record { entries = h; room = n }) b.history.now a.journal.now b.journal.now =
-      subst (λ (v : Events). Ends drive a.lost (entry_of a.lost) v b.history.now a.journal.now b.journal.now) events told.ends in
+      let ends : EndsStep drive a.lost (entry_of a.lost) (record { entries = h; room = n }) b.history.now a.journal.now b.journal.now =
+      subst (λ (v : Events). EndsStep drive a.lost (entry_of a.lost) v b.history.now a.journal.now b.journal.now) events told.ends in
       let entries : b.history.now.entries ≡ h ++ entry_of a.lost ∷ [] = ap (λ (v : Events). v.entries) ends.events in
       let kept = subst (λ (l : Option (KeptView D)). KeepsIn drive w o h l) (sym log) inside.on_log in
       record {

@@ -42,7 +42,7 @@ pub record CanStep {D : Type 0} (step : Lost) (events : Events) (log : Option (K
 
 -- A step was tried, and this entry ends the history, which the log keeps. At every moment of it a crash leaves the cells that stood there,
 -- or these and the step's own.
-pub record Ends {D : Type 0} (drive : D → Drive) (step : Lost) (last : Entry) (before after : Events) (old new : Option (KeptView D)) : Type 0 where
+pub record EndsStep {D : Type 0} (drive : D → Drive) (step : Lost) (last : Entry) (before after : Events) (old new : Option (KeptView D)) : Type 0 where
   pub events : after ≡ record { entries = before.entries ++ last ∷ []; room = before.room - 1 }
   pub keeps : (w : ℕ) (s : State) → IsStep w s before.entries step → KeepsIn drive w s before.entries old → KeepsIn drive w s (before.entries ++ last ∷ []) new
   pub any_moment : (w : ℕ) (s : State) → IsStep w s before.entries step → KeepsIn drive w s before.entries old → LeavesEither drive w s before.entries (entry_of step) old new
@@ -56,12 +56,12 @@ pub record SameStep {D : Type 0} (old new : Step D) : Type 0 where
 -- the step's entry ends the history
 pub record Takes {D : Type 0} (drive : D → Drive) (old new : Step D) : Type 0 where
   pub same : SameStep old new
-  pub ends : Ends drive old.lost (entry_of old.lost) old.history.now new.history.now old.journal.now new.journal.now
+  pub ends : EndsStep drive old.lost (entry_of old.lost) old.history.now new.history.now old.journal.now new.journal.now
 
 -- the step was lost at the log's next cell, since the drive failed
 pub record Loses {D : Type 0} (drive : D → Drive) (old new : Step D) : Type 0 where
   pub same : SameStep old new
-  pub ends : Ends drive old.lost (Fail (cells_in old.journal.now) old.lost) old.history.now new.history.now old.journal.now new.journal.now
+  pub ends : EndsStep drive old.lost (Fail (cells_in old.journal.now) old.lost) old.history.now new.history.now old.journal.now new.journal.now
   pub count : cells_in new.journal.now ≡ cells_in old.journal.now
   pub rose : RoseIn drive old.journal.now new.journal.now
 

@@ -22,7 +22,7 @@ use Rattle.run_ends.specs.Tables.{judged_by, IsTableCause, ReadsTable}
 use Rattle.run_ends.specs.Taking.{Refuses}
 use Rattle.run_ends.specs.Ending.{EndsRefused}
 use Rattle.run_ends.specs.Attaching.{AttachesOnce}
-use Rattle.log_run.specs.Checking.{HasRead}
+use Rattle.log_run.specs.Checking.{HasReadLog}
 use Rattle.follow_run.specs.Leading.{FindsLeader, RecoversLeader, IsLeaderCause}
 use Rattle.follow_run.specs.Replica.{EndsReplica}
 
@@ -40,7 +40,7 @@ pub record FollowsLeader {D : Type 0} (file name : List ℕ) (turns : List Turn)
   pub width : ℕ
   pub cells : List Cell
   pub found : FindsLeader width old.drive cells
-  pub read : HasRead file old.drive new.drive
+  pub read : HasReadLog file old.drive new.drive
   pub ends : EndsReplica width cells turns name old.other_drive new.other_drive status old.output new.output
 
 -- no count of faults of either drive rose

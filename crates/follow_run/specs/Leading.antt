@@ -12,7 +12,7 @@ use Rattle.csv_rows.specs.declared.rows.Refusal.TheVariants as refusal
 use Rattle.follower.specs.Holding.{AreLeading, most_followed}
 use Rattle.run_ends.specs.LogFaults.{IsReadingCause, log_refusal}
 use Rattle.run_ends.specs.Limits.{oldest_read}
-use Rattle.log_run.specs.Checking.{HasRead, HasReadUnless}
+use Rattle.log_run.specs.Checking.{HasReadLog, HasReadUnless}
 
 -- a leader's cells, to which the drive's bytes recover where they are known
 pub record FindsLeader (w : ℕ) (old : Drive) (cells : List Cell) : Type 0 where
@@ -41,7 +41,7 @@ pub record HasLeader (w : ℕ) (old : Drive) (cells : List Cell) : Type 0 where
 -- the file was attached and its cells were read
 pub record ReadsLeader (file : List ℕ) (w : ℕ) (old new : Drive) (cells : List Cell) : Type 0 where
   pub has : HasLeader w old cells
-  pub read : HasRead file old new
+  pub read : HasReadLog file old new
   pub stays : Stays old new
 
 -- it wasn't, or they weren't

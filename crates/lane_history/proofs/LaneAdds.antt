@@ -17,12 +17,12 @@ use Rattle.book_lock.proofs.Histories.{prefix_trans}
 use Rattle.commit_book.specs.declared.book.Done.{Done}
 use Rattle.sessions.specs.Shared.{start_of}
 use Rattle.sessions.specs.Calls.{Called}
-use Rattle.sessions.specs.Lanes.{Keeps, KeepsAll, Stops}
+use Rattle.sessions.specs.Lanes.{KeepsRow, KeepsAll, Stops}
 use Rattle.sessions.specs.declared.faults.CallFault.{CallFault}
 use Rattle.sessions.specs.declared.faults.CallFault.TheVariants.{Closed, Disk, HistoryFull, LogFull, Memory}
 use Rattle.sessions.specs.declared.store.lanes.Lane.{Lane}
 use Rattle.sessions.specs.declared.store.lanes.KeptRow.{KeptRow}
-use Rattle.lane_history.specs.Lanes.{HasPlayed}
+use Rattle.lane_history.specs.Lanes.{HasPlayedLane}
 use Rattle.lane_history.specs.LostSteps.{IsSplitStep}
 use Rattle.lane_history.proofs.OwnEntries.{own_entries}
 use Rattle.lane_history.proofs.CallsOf.{calls-one, calls-other}
@@ -40,7 +40,7 @@ call-adds w s row op old mid done c = record {
   others = λ t apart. calls-other s t row op apart;
 }
 
-keeps-adds : (w s : ℕ) (old new : Known) (r : ℕ × Op) (k : KeptRow) → Keeps w s old new r k → AddsOf (SplitLost w old) s (r ∷ []) old new
+keeps-adds : (w s : ℕ) (old new : Known) (r : ℕ × Op) (k : KeptRow) → KeepsRow w s old new r k → AddsOf (SplitLost w old) s (r ∷ []) old new
 keeps-adds w s old new r k keeps =
     calls-then w s (r ∷ []) [] old keeps.mid new (call-adds w s r.0 r.1 old keeps.mid keeps.done keeps.called) (quiet-of (SplitLost w keeps.mid) s keeps.mid new (tries-quiet w keeps.done.full keeps.mid new k.split keeps.tries))
 
@@ -122,7 +122,7 @@ pub record IsLane {I D O P : Type 0} (w : ℕ) (origin : Origin) (s : ℕ) (rows
   pub others : (t : ℕ) → t ≢ s → calls_of t (own_of lane.pass) ≡ []
   pub added : (p : ℕ) → Owns lane.pass.own p → IsAdded (LaneLost w origin s rows calls) lane.pass.seen p
 
-module _ {I D O P : Type 0} (w : ℕ) (origin : Origin) (s : ℕ) (rows : List (ℕ × Op)) (lane : Lane I D O P) (played : HasPlayed w origin s rows lane) where
+module _ {I D O P : Type 0} (w : ℕ) (origin : Origin) (s : ℕ) (rows : List (ℕ × Op)) (lane : Lane I D O P) (played : HasPlayedLane w origin s rows lane) where
   abbrev Old : Known
   Old = played.old.pass
 
@@ -189,7 +189,7 @@ HaveStood origin s h [] (k ∷ kept) = ⊥
 HaveStood origin s h (r ∷ rows) [] = ⊥
 HaveStood origin s h (r ∷ rows) (k ∷ kept) = StoodAt origin s h r k × HaveStood origin s h rows kept
 
-keeps-stood : (w s : ℕ) (origin : Origin) (h : List Entry) (old new : Known) (r : ℕ × Op) (k : KeptRow) → old.origin ≡ origin → IsPrefix new.seen h → Keeps w s old new r k → StoodAt origin s h r k
+keeps-stood : (w s : ℕ) (origin : Origin) (h : List Entry) (old new : Known) (r : ℕ × Op) (k : KeptRow) → old.origin ≡ origin → IsPrefix new.seen h → KeepsRow w s old new r k → StoodAt origin s h r k
 keeps-stood w s origin h old new r k same later keeps =
     let c = keeps.called in
     let seen : keeps.mid.seen ≡ c.before ++ Call s r.0 r.1 ∷ [] = ap (λ (p : Known). p.seen) c.leaves.0 in
@@ -215,7 +215,7 @@ all-stood w s origin h old new (r ∷ rows) (k ∷ kept) same later (mid, one, r
     )
 
 -- each kept row of a lane stands in what its pass has seen
-pub lane-stood : {I D O P : Type 0} (w : ℕ) (origin : Origin) (s : ℕ) (rows : List (ℕ × Op)) (lane : Lane I D O P) (played : HasPlayed w origin s rows lane) (h : List Entry) → IsPrefix lane.pass.seen h → HaveStood origin s h played.plays.front lane.kept.items
+pub lane-stood : {I D O P : Type 0} (w : ℕ) (origin : Origin) (s : ℕ) (rows : List (ℕ × Op)) (lane : Lane I D O P) (played : HasPlayedLane w origin s rows lane) (h : List Entry) → IsPrefix lane.pass.seen h → HaveStood origin s h played.plays.front lane.kept.items
 lane-stood w origin s rows lane played h later =
     let stop = stopped w origin s rows lane played in
     all-stood w s origin h played.old.pass played.plays.mid played.plays.front lane.kept.items played.begins

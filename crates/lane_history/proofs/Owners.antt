@@ -12,7 +12,7 @@ use Rattle.book_lock.specs.declared.origin.Origin.{Origin}
 use Rattle.book_lock.proofs.Positions.{one_same, one_other}
 use Rattle.sessions.specs.declared.store.lanes.Lane.{Lane}
 use Rattle.lane_history.specs.SessionRows.{session_rows}
-use Rattle.lane_history.specs.Lanes.{HasPlayed, HaveAllPlayed, RiseFrom, HaveSeen, owned_by}
+use Rattle.lane_history.specs.Lanes.{HasPlayedLane, HaveAllPlayed, RiseFrom, HaveSeen, owned_by}
 use Rattle.lane_history.proofs.OwnEntries.{own_entries, own-seen, own-none, owns-or-not, OwnsOrNot}
 use Rattle.lane_history.proofs.CallsOf.{quiet-at, Covers, calls-covered}
 use Rattle.lane_history.proofs.Adds.{own_of}
@@ -31,7 +31,7 @@ rise-none s least (t ∷ sessions) rise le = let a = rise-none s t sessions rise
 
 module _ {I D O P : Type 0} (w : ℕ) (origin : Origin) (rows : List InRow) (pass : Known) where
   -- an entry of a lane's own is no call of another session
-  lane-quiet : (s t : ℕ) (lane : Lane I D O P) → HasPlayed w origin t (session_rows rows t) lane → IsPrefix lane.pass.seen pass.seen → s ≢ t → (p : ℕ) (e : Entry) → slice_get pass.seen p ≡ Some e → Owns lane.pass.own p → calls_of s (e ∷ []) ≡ []
+  lane-quiet : (s t : ℕ) (lane : Lane I D O P) → HasPlayedLane w origin t (session_rows rows t) lane → IsPrefix lane.pass.seen pass.seen → s ≢ t → (p : ℕ) (e : Entry) → slice_get pass.seen p ≡ Some e → Owns lane.pass.own p → calls_of s (e ∷ []) ≡ []
   lane-quiet s t lane played seen apart p e at owns =
       let is : IsLane w origin t (session_rows rows t) lane = is-lane w origin t (session_rows rows t) lane played in
       let none : calls_of s (own_entries 0 lane.pass.own pass.seen) ≡ [] = ap (calls_of s) (own-seen lane.pass.own lane.pass.seen pass.seen is.below seen) ∙ is.others s apart in
@@ -91,14 +91,14 @@ module _ {I D O P : Type 0} (w : ℕ) (origin : Origin) (rows : List InRow) (pas
 
   -- a lane of these sessions was played, and its pass taken in
   pub record IsJoined (s : ℕ) (lane : Lane I D O P) : Type 0 where
-    pub played : HasPlayed w origin s (session_rows rows s) lane
+    pub played : HasPlayedLane w origin s (session_rows rows s) lane
     pub seen : IsPrefix lane.pass.seen pass.seen
 
   pub joined-of : (s : ℕ) (lane : Lane I D O P) (sessions : List ℕ) (lanes : List (Lane I D O P)) → HaveAllPlayed w origin rows sessions lanes → HaveSeen lanes pass → IsOf s lane sessions lanes → IsJoined s lane
   joined-of s lane [] lanes played seen of = absurd of
   joined-of s lane (t ∷ sessions) [] played seen of = absurd of
   joined-of s lane (t ∷ sessions) (l ∷ lanes) played seen (inl (same, is)) = record {
-    played = subst (λ (k : Lane I D O P). HasPlayed w origin s (session_rows rows s) k) is (subst (λ (r : ℕ). HasPlayed w origin r (session_rows rows r) l) same played.0);
+    played = subst (λ (k : Lane I D O P). HasPlayedLane w origin s (session_rows rows s) k) is (subst (λ (r : ℕ). HasPlayedLane w origin r (session_rows rows r) l) same played.0);
     seen = subst (λ (k : Lane I D O P). IsPrefix k.pass.seen pass.seen) is seen.0;
   }
   joined-of s lane (t ∷ sessions) (l ∷ lanes) played seen (inr of) = joined-of s lane sessions lanes played.1 seen.1 of

@@ -21,7 +21,7 @@ use Rattle.sessions.specs.declared.store.lanes.KeptRow.{KeptRow}
 use Rattle.lane_history.specs.SessionRows.{session_rows, row_place}
 use Rattle.lane_history.specs.LostSteps.{IsSplitStep, IsNextStep, LosesStep}
 use Rattle.lane_history.specs.Kept.{IsRight, AreRight, AllRight}
-use Rattle.lane_history.specs.Lanes.{HaveAllPlayed, HaveSeen, IsPlayedOut, AreCalm}
+use Rattle.lane_history.specs.Lanes.{HaveAllPlayed, HaveSeen, IsPlayedOut, AreCalmLanes}
 use Rattle.lane_history.proofs.OwnEntries.{own-whole, owns-or-not, OwnsOrNot}
 use Rattle.lane_history.proofs.CallsOf.{calls-append}
 use Rattle.lane_history.proofs.Adds.{AddsQuiet, IsAdded, LostSo, own_of, adds-own, adds-later, adds-at}
@@ -31,7 +31,7 @@ use Rattle.lane_history.proofs.Owners.{IsOf, joined-of, calls-of-lane, calls-of-
 use Rattle.lane_history.proofs.Places.{place-of, reply-of}
 use Rattle.lane_history.proofs.Fails.{fails-at, fail-last, same-place}
 
-calm-of : {I D O P : Type 0} (s : ℕ) (lane : Lane I D O P) (sessions : List ℕ) (lanes : List (Lane I D O P)) → AreCalm lanes → IsOf s lane sessions lanes → lane.fault ≡ None
+calm-of : {I D O P : Type 0} (s : ℕ) (lane : Lane I D O P) (sessions : List ℕ) (lanes : List (Lane I D O P)) → AreCalmLanes lanes → IsOf s lane sessions lanes → lane.fault ≡ None
 calm-of s lane [] lanes calm of = absurd of
 calm-of s lane (t ∷ sessions) [] calm of = absurd of
 calm-of s lane (t ∷ sessions) (l ∷ lanes) calm (inl (same, is)) = ap (λ (k : Lane _ _ _ _). k.fault) (sym is) ∙ calm.0
@@ -111,7 +111,7 @@ module _ {I D O P : Type 0} (w : ℕ) (origin : Origin) (rows : List InRow) (ses
           subst (λ (l : List (ℕ × Op)). IsPrefix l (session_rows rows s)) (sym (calls-last s ∙ calls-of-none w origin rows Pass s sessions lanes out.played out.joined.seen none out.joined.owned)) (session_rows rows s, refl)
 
   -- and all of them where no lane met a fault
-  pub whole : AreCalm lanes → IsPlayedWhole (session_rows rows) last.seen
+  pub whole : AreCalmLanes lanes → IsPlayedWhole (session_rows rows) last.seen
   whole calm s = by_session (owns-or-not s sessions)
     where
       no-rows : (l : List (ℕ × Op)) → session_rows rows s ≡ l → times s sessions ≡ 0 → [] ≡ l

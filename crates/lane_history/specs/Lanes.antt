@@ -9,27 +9,27 @@ use Rattle.book_lock.specs.declared.origin.Origin.{Origin}
 use Rattle.commit_book.specs.declared.faults.BookFault.{BookFault}
 use Rattle.sessions.specs.declared.faults.Settled.{Settled}
 use Rattle.sessions.specs.declared.store.lanes.Lane.{Lane}
-use Rattle.sessions.specs.Lanes.{Plays}
+use Rattle.sessions.specs.Lanes.{PlaysLane}
 use Rattle.sessions.specs.Settles.{Settles}
 use Rattle.sessions.specs.Steps.{all_parts}
 use Rattle.lane_history.specs.SessionRows.{session_rows}
 
 -- a lane with the rows of a session was played, from a pass of this origin that had seen nothing and owned nothing
-pub record HasPlayed {I D O P : Type 0} (w : ℕ) (origin : Origin) (session : ℕ) (rows : List (ℕ × Op)) (lane : Lane I D O P) : Type 0 where
+pub record HasPlayedLane {I D O P : Type 0} (w : ℕ) (origin : Origin) (session : ℕ) (rows : List (ℕ × Op)) (lane : Lane I D O P) : Type 0 where
   pub old : Lane I D O P
   pub session_is : old.session ≡ session
   pub rows_are : old.rows.items ≡ rows
   pub seen : old.pass.seen ≡ []
   pub own : old.pass.own ≡ []
   pub begins : old.pass.origin ≡ origin
-  pub plays : Plays w old lane
+  pub plays : PlaysLane w old lane
 
 -- a lane of each of these sessions was played, in their order
 abbrev pub HaveAllPlayed : {I D O P : Type 0} → ℕ → Origin → List InRow → List ℕ → List (Lane I D O P) → Type 0
 HaveAllPlayed w origin rows [] [] = ⊤
 HaveAllPlayed w origin rows [] (lane ∷ lanes) = ⊥
 HaveAllPlayed w origin rows (s ∷ sessions) [] = ⊥
-HaveAllPlayed w origin rows (s ∷ sessions) (lane ∷ lanes) = HasPlayed w origin s (session_rows rows s) lane × HaveAllPlayed w origin rows sessions lanes
+HaveAllPlayed w origin rows (s ∷ sessions) (lane ∷ lanes) = HasPlayedLane w origin s (session_rows rows s) lane × HaveAllPlayed w origin rows sessions lanes
 
 -- the numbers are above this one and rise
 abbrev pub RiseFrom : ℕ → List ℕ → Type 0
@@ -58,13 +58,13 @@ pub record TakesIn {I D O P : Type 0} (origin : Origin) (lanes : List (Lane I D 
   pub owned : (p : ℕ) → times p pass.own ≡ owned_by p lanes
 
 -- no lane met a fault
-abbrev pub AreCalm : {I D O P : Type 0} → List (Lane I D O P) → Type 0
-AreCalm [] = ⊤
-AreCalm (lane ∷ lanes) = (lane.fault ≡ None) × AreCalm lanes
+abbrev pub AreCalmLanes : {I D O P : Type 0} → List (Lane I D O P) → Type 0
+AreCalmLanes [] = ⊤
+AreCalmLanes (lane ∷ lanes) = (lane.fault ≡ None) × AreCalmLanes lanes
 
 -- no lane met a fault, and the splits at the end were settled by who had all parts again, as far as it went
 pub record SettlesAfter {I D O P : Type 0} (w : ℕ) (lanes : List (Lane I D O P)) (pass last : Known) : Type 0 where
-  pub calm : AreCalm lanes
+  pub calm : AreCalmLanes lanes
   pub all : pass.parts ≡ all_parts
   pub result : Result Settled BookFault
   pub settles : Settles w pass last result

@@ -13,9 +13,9 @@ use Rattle.sessions.specs.declared.faults.CallFault.TheVariants.{Closed, Disk, H
 use Rattle.sessions.specs.declared.store.lanes.Lane.{Lane}
 use Rattle.sessions.specs.declared.store.lanes.KeptRow.{KeptRow}
 use Rattle.sessions.specs.Calls.{CallLeaves}
-use Rattle.sessions.specs.Lanes.{Keeps, KeepsAll, Stops}
+use Rattle.sessions.specs.Lanes.{KeepsRow, KeepsAll, Stops}
 use Rattle.sessions.proofs.LanePasses.{tries-same, keeps-same, all-same, stops-same}
-use Rattle.lane_history.specs.Lanes.{HasPlayed}
+use Rattle.lane_history.specs.Lanes.{HasPlayedLane}
 use Rattle.lane_splits.proofs.Gains.{HasTried, Gains, gains-none, gains-fail, gains-call, gains-later}
 use Rattle.lane_splits.proofs.Rounds.{gains-called}
 use Rattle.lane_splits.proofs.Steps.{bad, IsCalm, length-added, puts-added}
@@ -29,7 +29,7 @@ gains-most : (origin : Origin) (h : List Entry) (own new : List ℕ) (a b : ℕ)
 gains-most origin h own new a b le gains = record { fair = gains.fair; room = gains.room; few = let few = gains.few in omega arith; even = gains.even }
 
 -- a row that is kept
-keeps-gains : (w session : ℕ) (origin : Origin) (h : List Entry) (old new : Known) (row : ℕ × Op) (kept : KeptRow) → old.origin ≡ origin → Keeps w session old new row kept → IsPrefix new.seen h
+keeps-gains : (w session : ℕ) (origin : Origin) (h : List Entry) (old new : Known) (row : ℕ × Op) (kept : KeptRow) → old.origin ≡ origin → KeepsRow w session old new row kept → IsPrefix new.seen h
     → LaneGains origin h old.own new.own 1
 keeps-gains w session origin h old new row kept from keeps pre =
     let called = keeps.called in
@@ -87,7 +87,7 @@ stops-gains w session origin h mid new (r ∷ rest) (Some fault) called pre =
     gains-most origin h mid.own new.own 1 (length (r ∷ rest)) (omega arith) (refused-gains w session r.0 r.1 origin h mid new called.before fault called.leaves pre)
 
 -- a lane that was played
-pub lane-gains : {I D O P : Type 0} (w : ℕ) (origin : Origin) (h : List Entry) (session : ℕ) (rows : List (ℕ × Op)) (lane : Lane I D O P) → HasPlayed w origin session rows lane → IsPrefix lane.pass.seen h
+pub lane-gains : {I D O P : Type 0} (w : ℕ) (origin : Origin) (h : List Entry) (session : ℕ) (rows : List (ℕ × Op)) (lane : Lane I D O P) → HasPlayedLane w origin session rows lane → IsPrefix lane.pass.seen h
     → LaneGains origin h [] lane.pass.own (length rows)
 lane-gains w origin h session rows lane played pre =
     let plays = played.plays in

@@ -28,7 +28,7 @@ use Rattle.log_run.specs.Checking.{FindsCells}
 use Rattle.log_run.specs.Compacting.{RefusesFile, WritesAnew, WritesOrRefuses, anew}
 use Rattle.play_run.specs.Crash.{KeepsAll}
 use Rattle.play_run.specs.Origin.{Origin, IsFoundOrigin, origin_of}
-use Rattle.play_run.specs.Playing.{IsAnswered, IsUnopened, PlaysRows, Goes}
+use Rattle.play_run.specs.Playing.{IsAnswered, IsLogUnopened, PlaysRows, Goes}
 use Rattle.play_run.specs.Trying.{PlaysMade}
 use Rattle.play_run.specs.Standing.{IsStanding, HoldsLog}
 use Rattle.play_run.proofs.StandingFacts.{holds-same, holds-text, one-width, one-list}
@@ -65,7 +65,7 @@ goes-still a b status h w cells none moments stands =
     })
 
 -- there was no book for the rows
-goes-unopened : {D : Type 0} (file : List ℕ) (old new : Targets D) (status : ℕ) (h : List Entry) → IsUnopened (Some file) old new status h → PlaysOn old.drive new.drive status h
+goes-unopened : {D : Type 0} (file : List ℕ) (old new : Targets D) (status : ℕ) (h : List Entry) → IsLogUnopened (Some file) old new status h → PlaysOn old.drive new.drive status h
 goes-unopened file old new status h unopened w cells holds =
     let (why, unread, refuses) = unopened.refused in
     let now : LeavesNow old.drive (Recovers w cells) = λ c left. subst (Recovers w cells) (sym (holds.durable c left)) holds.standing.recovers in

@@ -28,7 +28,7 @@ use Rattle.run_ends.specs.Ends.{Targets}
 use Rattle.run_ends.specs.Status.{status_of, written_status}
 use Rattle.run_ends.specs.Taking.{Refuses}
 use Rattle.run_ends.proofs.AttachFacts.{attaches-one, attaches-as}
-use Rattle.log_run.specs.Checking.{IsCheckingCause, IsDecidedBy, FindsCells, HasRead, HasReadUnless}
+use Rattle.log_run.specs.Checking.{IsCheckingCause, IsDecidedBy, FindsCells, HasReadLog, HasReadUnless}
 use Rattle.log_run.specs.Compacting.{LeavesNew, EndsAnew, MakesAnew, RecoversFew, EndsCompacting, anew}
 use Rattle.log_run.proofs.MakingEnds.{ends-writing, not-ten, whole-writing}
 use Rattle.log_run.proofs.CheckingFacts.{decided-refused}
@@ -96,7 +96,7 @@ ends-written w world leaves name old new before after wrote puts counts made att
 
 -- a log that was read
 pub compacts-found : {D : Type 0} (file name : List ℕ) (old new : Targets D) (log : SeenLog) (status : ℕ) (known : IsWidth log.width) (found : IsFound oldest_read log.width most_inspected old.drive log.seen)
-    → IsDecidedBy most_inspected old.drive new.drive (Ok log) → HasRead file old.drive new.drive → Stays old.drive new.drive
+    → IsDecidedBy most_inspected old.drive new.drive (Ok log) → HasReadLog file old.drive new.drive → Stays old.drive new.drive
     → EndsAnew log.width log.seen.world log.seen.leaves name old.other_drive new.other_drive status old.output new.output → EndsCompacting file name old new status
 compacts-found file name old new log status known found decided read stays ends = record {
   ends = inr (record {

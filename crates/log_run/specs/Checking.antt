@@ -47,7 +47,7 @@ abbrev pub checked_text : ℕ → List Cell → List ℕ
 checked_text w cells = counts_text (counts_after w cells)
 
 -- a log was read: this file was attached, and no call of its drive has failed
-pub record HasRead (file : List ℕ) (old new : Drive) : Type 0 where
+pub record HasReadLog (file : List ℕ) (old new : Drive) : Type 0 where
   pub attached : AttachedOne file false old new
   pub calm : new.faults ≡ old.faults
 

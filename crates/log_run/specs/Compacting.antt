@@ -29,7 +29,7 @@ use Rattle.run_ends.specs.Ending.{EndsWriting, EndsRefused}
 use Rattle.run_ends.specs.Status.{WritesLines}
 use Rattle.run_ends.specs.Attaching.{AttachesOnce}
 use Rattle.log_run.specs.Making.{IsMakingCause}
-use Rattle.log_run.specs.Checking.{IsCheckingCause, FindsCells, HasRead}
+use Rattle.log_run.specs.Checking.{IsCheckingCause, FindsCells, HasReadLog}
 
 -- the refusal of a fault of writing anew
 abbrev pub compact_refusal : CompactFault → Refusal
@@ -85,7 +85,7 @@ pub record WritesAnew {D : Type 0} (file name : List ℕ) (old new : Targets D) 
   pub width : ℕ
   pub cells : List Cell
   pub found : FindsCells width old.drive cells
-  pub read : HasRead file old.drive new.drive
+  pub read : HasReadLog file old.drive new.drive
   pub ends : EndsAnew width (state_of width cells).world (state_of width cells).leaves name old.other_drive new.other_drive status old.output new.output
 
 -- the bytes of a log that is read, of either width, of few enough cells

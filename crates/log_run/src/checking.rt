@@ -5,7 +5,7 @@ ghost use Rattle.recovery.specs.Found.{IsFound};
 ghost use Rattle.recovery.specs.Widths.{IsWidth};
 ghost use Rattle.run_ends.specs.Limits.{oldest_read, most_inspected};
 ghost use Rattle.run_ends.specs.Ends.{written_by};
-ghost use Rattle.log_run.specs.Checking.{HasRead, HasReadUnless, IsCheckingCause, IsDecidedBy, ChecksLog, TellsLog, checked_text, counts_of};
+ghost use Rattle.log_run.specs.Checking.{HasReadLog, HasReadUnless, IsCheckingCause, IsDecidedBy, ChecksLog, TellsLog, checked_text, counts_of};
 
 use csv_rows::{LogCounts, Refusal, write_counts};
 use disk_trait::LogDisk;
@@ -45,7 +45,7 @@ pub(crate) fn find<D: LogDisk>(alloc: Global, file: &str, disk: &mut D) -> Resul
     ensures found { IfOk result (λ f. IsWidth f.width × IsFound oldest_read f.width most_inspected (D.drive disk.old) f.seen) }
     ensures cause { IfErr result (IsCheckingCause (D.drive disk.old) (D.drive disk.new)) }
     ensures decided { IsDecidedBy most_inspected (D.drive disk.old) (D.drive disk.new) result }
-    ensures read { MatchResult result (λ _. HasRead file.now (D.drive disk.old) (D.drive disk.new))
+    ensures read { MatchResult result (λ _. HasReadLog file.now (D.drive disk.old) (D.drive disk.new))
         (HasReadUnless file.now (D.drive disk.old) (D.drive disk.new)) }
     ensures stays { Stays (D.drive disk.old) (D.drive disk.new) }
     ensures later { (D.drive disk.old).faults ≤ (D.drive disk.new).faults }

@@ -15,7 +15,7 @@ use Rattle.sessions.specs.declared.store.lanes.Lane.{Lane}
 use Rattle.sessions.specs.declared.store.lanes.KeptRow.{KeptRow}
 use Rattle.sessions.specs.Lanes.{KeepsAll, Stops}
 use Rattle.lane_history.specs.SessionRows.{session_rows}
-use Rattle.lane_history.specs.Lanes.{HasPlayed, HaveAllPlayed, AreCalm, AreSessions}
+use Rattle.lane_history.specs.Lanes.{HasPlayedLane, HaveAllPlayed, AreCalmLanes, AreSessions}
 use Rattle.lane_history.specs.Kept.{AllRight}
 use Rattle.play_run.specs.declared.lanes.LaneEnd.{LaneEnd}
 use Rattle.play_run.specs.inside.Joined.{end_of, ends_of}
@@ -35,7 +35,7 @@ none-left w session mid new [] fault calm stops = refl
 none-left w session mid new (r ∷ rest) None calm stops = absurd stops
 none-left w session mid new (r ∷ rest) (Some fault) calm stops = absurd (cc calm)
 
-played-numbers : {I D O P : Type 0} (w s : ℕ) (origin : Origin) (rows : List (ℕ × Op)) (lane : Lane I D O P) → HasPlayed w origin s rows lane → lane.fault ≡ None
+played-numbers : {I D O P : Type 0} (w s : ℕ) (origin : Origin) (rows : List (ℕ × Op)) (lane : Lane I D O P) → HasPlayedLane w origin s rows lane → lane.fault ≡ None
     → map (λ (k : KeptRow). k.row) lane.kept.items ≡ map (λ (r : ℕ × Op). r.0) rows
 played-numbers w s origin rows lane played calm =
     let plays = played.plays in
@@ -58,7 +58,7 @@ module _ (world : World) (h : List Entry) (rows : List InRow) where
   answer-last [] end all one = (one, tt)
   answer-last (x ∷ ends) end (first, all) one = (first, answer-last ends end all one)
 
-  all-answer : {I D O P : Type 0} (w : ℕ) (origin : Origin) (sessions : List ℕ) (lanes : List (Lane I D O P)) → HaveAllPlayed w origin rows sessions lanes → AreCalm lanes → AllRight world h lanes → AllAnswer world h rows (ends_of lanes)
+  all-answer : {I D O P : Type 0} (w : ℕ) (origin : Origin) (sessions : List ℕ) (lanes : List (Lane I D O P)) → HaveAllPlayed w origin rows sessions lanes → AreCalmLanes lanes → AllRight world h lanes → AllAnswer world h rows (ends_of lanes)
   all-answer w origin [] [] played calm right = tt
   all-answer w origin [] (lane ∷ lanes) played calm right = absurd played
   all-answer w origin (s ∷ sessions) [] played calm right = absurd played
@@ -97,6 +97,6 @@ count-times w origin rows s (x ∷ sessions) (lane ∷ lanes) (first, played) =
 
 -- what calm lanes leave answers all rows
 pub has-answers : {I D O P : Type 0} (w : ℕ) (origin : Origin) (world : World) (h : List Entry) (rows : List InRow) (sessions : List ℕ) (lanes : List (Lane I D O P)) → AreSessions rows sessions → HaveAllPlayed w origin rows sessions lanes
-    → AreCalm lanes → AllRight world h lanes → HasAnswers world h rows (ends_of lanes)
+    → AreCalmLanes lanes → AllRight world h lanes → HasAnswers world h rows (ends_of lanes)
 has-answers w origin world h rows sessions lanes are played calm right s =
     found world h rows s (ends_of lanes) (all-answer world h rows w origin sessions lanes played calm right) (λ some. omega (arith, count-times w origin rows s sessions lanes played, are.all s some))

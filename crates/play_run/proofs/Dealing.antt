@@ -15,10 +15,10 @@ use Rattle.book_lock.specs.Own.{times}
 use Rattle.book_lock.specs.declared.origin.Origin.{Origin}
 use Rattle.book_lock.proofs.Positions.{times-append}
 use Rattle.sessions.specs.declared.store.lanes.Lane.{Lane}
-use Rattle.sessions.specs.Lanes.{IsReady, Plays}
+use Rattle.sessions.specs.Lanes.{IsReadyLane, PlaysLane}
 use Rattle.sessions.proofs.LanePasses.{plays-same}
 use Rattle.lane_history.specs.SessionRows.{session_rows, session_rows_from}
-use Rattle.lane_history.specs.Lanes.{HasPlayed, HaveAllPlayed, RiseFrom, AreSessions}
+use Rattle.lane_history.specs.Lanes.{HasPlayedLane, HaveAllPlayed, RiseFrom, AreSessions}
 use Rattle.play_run.specs.inside.Dealt.{one_if, sessions_to, fresh_pass, IsDealt, AreDealt, AddsLane, HasDealt}
 use Rattle.play_run.specs.inside.Joined.{IsIdle, AreIdle}
 
@@ -57,7 +57,7 @@ module _ {I D O P : Type 0} (lock : TableId) (origin : Origin) (rows : List InRo
     idle-dealt sessions lanes all,
   )
 
-  is-ready : (s : ℕ) (lane : Lane I D O P) → AreInRows rows → IsDealt lock origin s (session_rows rows s) lane → IsReady lock lane
+  is-ready : (s : ℕ) (lane : Lane I D O P) → AreInRows rows → IsDealt lock origin s (session_rows rows s) lane → IsReadyLane lock lane
   is-ready s lane are dealt = record {
     lock_is = ap (λ (k : Known). k.lock) dealt.pass_is;
     off = ap (λ (k : Known). k.holds) dealt.pass_is;
@@ -67,14 +67,14 @@ module _ {I D O P : Type 0} (lock : TableId) (origin : Origin) (rows : List InRo
     fault = dealt.fault;
   }
 
-  ready-dealt : (sessions : List ℕ) (lanes : List (Lane I D O P)) → AreInRows rows → AreDealt lock origin rows sessions lanes → (i : ℕ) (d : Lane I D O P) → i < length lanes → IsReady lock (slice_index_or lanes i d)
+  ready-dealt : (sessions : List ℕ) (lanes : List (Lane I D O P)) → AreInRows rows → AreDealt lock origin rows sessions lanes → (i : ℕ) (d : Lane I D O P) → i < length lanes → IsReadyLane lock (slice_index_or lanes i d)
   ready-dealt [] [] are all i d lt = absurd (omega (arith, lt))
   ready-dealt [] (x ∷ lanes) are all i d lt = absurd all
   ready-dealt (x ∷ sessions) [] are all i d lt = absurd all
   ready-dealt (x ∷ sessions) (y ∷ lanes) are (first, all) zero d lt = is-ready x y are first
   ready-dealt (x ∷ sessions) (y ∷ lanes) are (first, all) (suc i) d lt = ready-dealt sessions lanes are all i d (omega (arith, lt))
 
-  has-played : (w s : ℕ) (old new : Lane I D O P) → IsDealt lock origin s (session_rows rows s) old → Plays w old new → HasPlayed w origin s (session_rows rows s) new
+  has-played : (w s : ℕ) (old new : Lane I D O P) → IsDealt lock origin s (session_rows rows s) old → PlaysLane w old new → HasPlayedLane w origin s (session_rows rows s) new
   has-played w s old new dealt plays = record {
     old = old;
     session_is = dealt.session_is;
@@ -85,7 +85,7 @@ module _ {I D O P : Type 0} (lock : TableId) (origin : Origin) (rows : List InRo
     plays = plays;
   }
 
-  idle-played : (w s : ℕ) (old new : Lane I D O P) → IsDealt lock origin s (session_rows rows s) old → Plays w old new → IsIdle lock new
+  idle-played : (w s : ℕ) (old new : Lane I D O P) → IsDealt lock origin s (session_rows rows s) old → PlaysLane w old new → IsIdle lock new
   idle-played w s old new dealt plays =
       let same = (plays-same w old new plays).1 in
       record {
@@ -95,14 +95,14 @@ module _ {I D O P : Type 0} (lock : TableId) (origin : Origin) (rows : List InRo
       }
 
   pub all-played : (w : ℕ) (sessions : List ℕ) (old new : List (Lane I D O P)) → AreDealt lock origin rows sessions old → length new ≡ length old
-      → ((i : ℕ) (d : Lane I D O P) → i < length old → Plays w (slice_index_or old i d) (slice_index_or new i d)) → HaveAllPlayed w origin rows sessions new × AreIdle lock new
+      → ((i : ℕ) (d : Lane I D O P) → i < length old → PlaysLane w (slice_index_or old i d) (slice_index_or new i d)) → HaveAllPlayed w origin rows sessions new × AreIdle lock new
   all-played w [] [] [] all same plays = (tt, tt)
   all-played w [] [] (y ∷ new) all same plays = absurd (omega (arith, same))
   all-played w [] (x ∷ old) new all same plays = absurd all
   all-played w (s ∷ sessions) [] new all same plays = absurd all
   all-played w (s ∷ sessions) (x ∷ old) [] all same plays = absurd (omega (arith, same))
   all-played w (s ∷ sessions) (x ∷ old) (y ∷ new) (first, all) same plays =
-      let one : Plays w x y = plays zero x (omega arith) in
+      let one : PlaysLane w x y = plays zero x (omega arith) in
       let rest = all-played w sessions old new all (omega (arith, same)) (λ i d lt. plays (suc i) d (omega (arith, lt))) in
       ((has-played w s x y first one, rest.0), (idle-played w s x y first one, rest.1))
 
@@ -130,7 +130,7 @@ module _ {I D O P : Type 0} (lock : TableId) (rows : List InRow) where
   pub lanes-idle : (n : ℕ) (lanes : List (Lane I D O P)) (pass : Known) → HasDealt lock rows n lanes pass → AreIdle lock lanes
   lanes-idle n lanes pass has = idle-dealt lock pass.origin rows (sessions_to n rows) lanes has.dealt
 
-  pub lanes-ready : (n : ℕ) (lanes : List (Lane I D O P)) (pass : Known) → AreInRows rows → HasDealt lock rows n lanes pass → (i : ℕ) (d : Lane I D O P) → i < length lanes → IsReady lock (slice_index_or lanes i d)
+  pub lanes-ready : (n : ℕ) (lanes : List (Lane I D O P)) (pass : Known) → AreInRows rows → HasDealt lock rows n lanes pass → (i : ℕ) (d : Lane I D O P) → i < length lanes → IsReadyLane lock (slice_index_or lanes i d)
   lanes-ready n lanes pass are has = ready-dealt lock pass.origin rows (sessions_to n rows) lanes are has.dealt
 
   -- a session without rows has no lane

@@ -14,9 +14,9 @@ use Rattle.sessions.specs.declared.faults.Settled.{Settled}
 use Rattle.sessions.specs.declared.store.lanes.Lane.{Lane}
 use Rattle.sessions.specs.Settles.{Settles}
 use Rattle.sessions.proofs.StepLemmas.{prefix-later}
-use Rattle.lane_history.specs.Lanes.{HaveAllPlayed, TakesIn, HaveSeen, owned_by, AreCalm}
+use Rattle.lane_history.specs.Lanes.{HaveAllPlayed, TakesIn, HaveSeen, owned_by, AreCalmLanes}
 use Rattle.play_run.specs.declared.lanes.LaneEnd.{LaneEnd}
-use Rattle.sessions.specs.Lanes.{Plays}
+use Rattle.sessions.specs.Lanes.{PlaysLane}
 use Rattle.sessions.specs.Splits.{SamePass}
 use Rattle.play_run.specs.inside.Dealt.{sessions_to, AreDealt, HasDealt}
 use Rattle.play_run.specs.inside.Joined.{IsIdle, AreIdle, end_of, ends_of, Takes, IsDone, HasRun, HasNotRun, HasAllParts}
@@ -77,7 +77,7 @@ module _ {I D O P : Type 0} (lock : TableId) (old : Known) (all : List (Lane I D
       (subst (λ (l : List (Lane I D O P)). Takes old pass l) (sym now.whole) now.takes, now.ends_are ∙ ap (λ (l : List (Lane I D O P)). before ++ ends_of l) (sym now.whole))
 
 -- the splits at the end were settled, or not
-pub settled-done : {I D O P : Type 0} (w : ℕ) (lanes : List (Lane I D O P)) (pass last : Known) (result : Result Settled BookFault) → AreCalm lanes → pass.parts ≡ 65536 → Settles w pass last result → IsDone w lanes pass last (is_ok result)
+pub settled-done : {I D O P : Type 0} (w : ℕ) (lanes : List (Lane I D O P)) (pass last : Known) (result : Result Settled BookFault) → AreCalmLanes lanes → pass.parts ≡ 65536 → Settles w pass last result → IsDone w lanes pass last (is_ok result)
 settled-done w lanes pass last (Ok s) calm parts settles = (calm, (s, parts, settles))
 settled-done w lanes pass last (Err fault) calm parts settles = tt
 
@@ -128,11 +128,11 @@ run-back lock rows dealt before after items n value has same count = record {
 }
 
 pub run-idle : {I D O P : Type 0} (w : ℕ) (lock : TableId) (rows : List InRow) (dealt : Known) (before after : List (Lane I D O P)) → HasDealt lock rows 16 before dealt → length after ≡ length before
-    → ((i : ℕ) (d : Lane I D O P) → i < length before → Plays w (slice_index_or before i d) (slice_index_or after i d)) → AreIdle lock after
+    → ((i : ℕ) (d : Lane I D O P) → i < length before → PlaysLane w (slice_index_or before i d) (slice_index_or after i d)) → AreIdle lock after
 run-idle w lock rows dealt before after has same plays = (all-played lock dealt.origin rows w (sessions_to 16 rows) before after has.dealt same plays).1
 
 module _ {I D O P : Type 0} (w : ℕ) (lock : TableId) (rows : List InRow) (old dealt pass : Known) (before after : List (Lane I D O P)) (ends : List LaneEnd) (has : HasDealt lock rows 16 before dealt) (lock_is : old.lock ≡ lock)
-    (origin : dealt.origin ≡ old.origin) (same : length after ≡ length before) (plays : (i : ℕ) (d : Lane I D O P) → i < length before → Plays w (slice_index_or before i d) (slice_index_or after i d)) (takes : Takes dealt pass after)
+    (origin : dealt.origin ≡ old.origin) (same : length after ≡ length before) (plays : (i : ℕ) (d : Lane I D O P) → i < length before → PlaysLane w (slice_index_or before i d) (slice_index_or after i d)) (takes : Takes dealt pass after)
     (ends_are : ends ≡ ends_of after) where
   runs : HaveAllPlayed w old.origin rows (sessions_to 16 rows) after
   runs = subst (λ (o : Origin). HaveAllPlayed w o rows (sessions_to 16 rows) after) origin (all-played lock dealt.origin rows w (sessions_to 16 rows) before after has.dealt same plays).0
@@ -148,7 +148,7 @@ module _ {I D O P : Type 0} (w : ℕ) (lock : TableId) (rows : List InRow) (old 
   parts-not = joined-parts lock rows 16 old dealt pass before after has lock_is origin same takes
 
   -- none did, and the splits at the end were settled, or not
-  pub run-settled : (last : Known) (result : Result Settled BookFault) → AreCalm after → Settles w pass last result → HasRun I D O P w old.origin rows ends last (is_ok result)
+  pub run-settled : (last : Known) (result : Result Settled BookFault) → AreCalmLanes after → Settles w pass last result → HasRun I D O P w old.origin rows ends last (is_ok result)
   run-settled last result calm settles = record {
     lanes = after;
     played = runs;

@@ -25,7 +25,7 @@ use Rattle.run_ends.specs.Status.{status_of, WritesLines}
 use Rattle.run_ends.specs.Ending.{EndsRefused}
 use Rattle.run_ends.specs.Attaching.{AttachesOnce}
 use Rattle.run_ends.specs.LogFaults.{IsReadingCause, log_refusal}
-use Rattle.run_ends.specs.Inputs.{IsInputCause, Reads}
+use Rattle.run_ends.specs.Inputs.{IsInputCause, ReadsInput}
 use Rattle.play_run.specs.Origin.{Origin, IsOrigin}
 use Rattle.lane_history.specs.LostSteps.{IsNextStep, LosesStep}
 use Rattle.play_run.specs.declared.reports.Report.{Report}
@@ -72,7 +72,7 @@ HasNoBook None old new why = (why ≡ refusal.Memory) × (new.disk ≡ old.disk)
 HasNoBook (Some file) old new why = IsNotOpened file old.drive new.drive why
 
 -- there is no book for the rows: none is called
-pub record IsUnopened {D : Type 0} (log : Option (List ℕ)) (old new : Targets D) (status : ℕ) (h : List Entry) : Type 0 where
+pub record IsLogUnopened {D : Type 0} (log : Option (List ℕ)) (old new : Targets D) (status : ℕ) (h : List Entry) : Type 0 where
   pub none : h ≡ []
   pub refused : EndsRefused (HasNoBook log old new) status old.output new.output
 
@@ -125,11 +125,11 @@ pub record IsAnswered {D : Type 0} (report : Report) (log : Option (List ℕ)) (
 
 -- how rows go that were read: there is no book for them, or they are answered
 abbrev pub PlaysRows : {D : Type 0} → Report → Option (List ℕ) → ℕ → List InRow → Targets D → Targets D → ℕ → List Entry → Type 0
-PlaysRows report log size rows old new status h = IsUnopened log old new status h ⊎ IsAnswered report log size rows old new status h
+PlaysRows report log size rows old new status h = IsLogUnopened log old new status h ⊎ IsAnswered report log size rows old new status h
 
 -- The source gave no rows: none is called, the drive is left as it was, and the source's count where it didn't fail. However much it has, at
 -- most one byte behind the limit was taken of it.
-pub record IsUnread {D : Type 0} (before after : Input) (old new : Targets D) (status : ℕ) (h : List Entry) : Type 0 where
+pub record IsInputUnread {D : Type 0} (before after : Input) (old new : Targets D) (status : ℕ) (h : List Entry) : Type 0 where
   pub none : h ≡ []
   pub disk : new.disk ≡ old.disk
   pub calm : status ≢ 5 → after.faults ≡ before.faults
@@ -139,12 +139,12 @@ pub record IsUnread {D : Type 0} (before after : Input) (old new : Targets D) (s
 -- all that the source had was read, and its rows were played
 pub record IsRead {D : Type 0} (log : Option (List ℕ)) (size : ℕ) (before after : Input) (old new : Targets D) (status : ℕ) (h : List Entry) : Type 0 where
   pub rows : List InRow
-  pub read : Reads before after rows
+  pub read : ReadsInput before after rows
   pub plays : PlaysRows reports.Lines log size rows old new status h
 
 -- how a play goes, of what its source gave and what it wrote to
 abbrev pub Goes : {D : Type 0} → Option (List ℕ) → ℕ → Input → Input → Targets D → Targets D → ℕ → List Entry → Type 0
-Goes log size before after old new status h = IsUnread before after old new status h ⊎ IsRead log size before after old new status h
+Goes log size before after old new status h = IsInputUnread before after old new status h ⊎ IsRead log size before after old new status h
 
 -- over a log a fault that its bytes show gives its refusal's status, unless the drive's count rose or memory ran out
 abbrev pub FollowsLog : Option (List ℕ) → Drive → Drive → ℕ → Type 0

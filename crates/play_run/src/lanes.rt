@@ -1,6 +1,6 @@
 //! A lane for each session that has a row, and what lanes leave once their passes are joined.
 ghost use Rattle.std.specs.Prelude.{◌≡◌, ℕ, List, ◌+◌, ◌<◌, ◌≤◌, ◌++◌, [], length, vec_len, vec_capacity, false, IsTrue, IfOk, OnOk, OnErr};
-ghost use Rattle.lane_history.specs.Lanes.{AreCalm};
+ghost use Rattle.lane_history.specs.Lanes.{AreCalmLanes};
 ghost use Rattle.play_run.specs.inside.Dealt.{HasDealt, AddsLane, AreParted};
 ghost use Rattle.csv_rows.specs.InRows.{AreInRows};
 ghost use Rattle.csv_rows.specs.declared.rows.InRow.{InRow};
@@ -147,7 +147,7 @@ pub(crate) fn gather<I: Index, D: LogDisk, O: Start>(
 
 /// Whether no lane met a fault.
 pub(crate) fn are_calm<I: Index, D: LogDisk, O: Start>(lanes: &[Lane<I, D, O>]) -> bool
-    ensures { IsTrue result → AreCalm lanes.now }
+    ensures { IsTrue result → AreCalmLanes lanes.now }
 {
     for lane in lanes.iter() {
         if lane.fault.is_some() {

@@ -23,7 +23,7 @@ IsInputCause old new refusal.ManyRows = Gives old refusal.ManyRows
 IsInputCause old new _ = ⊥
 
 -- all bytes that the source had were read; where they are known, these are their rows
-pub record Reads (old new : Input) (rows : List InRow) : Type 0 where
+pub record ReadsInput (old new : Input) (rows : List InRow) : Type 0 where
   pub rows_are : (bytes : List ℕ) → old.left ≡ Some bytes → judged bytes ≡ Ok rows
   pub all : (bytes : List ℕ) → old.left ≡ Some bytes → new.left ≡ Some []
   pub calm : new.faults ≡ old.faults

@@ -3,7 +3,7 @@ ghost use Rattle.std.specs.Prelude.{◌≡◌, ◌≢◌, ◌≤◌, ◌+◌, Li
 ghost use Rattle.io_edge.specs.Reads.{ConsumesUpTo};
 ghost use Rattle.run_ends.specs.Limits.{most_bytes};
 ghost use Rattle.run_ends.specs.Judged.{judged, refusal_of};
-ghost use Rattle.run_ends.specs.Inputs.{IsInputCause, Reads};
+ghost use Rattle.run_ends.specs.Inputs.{IsInputCause, ReadsInput};
 ghost use Rattle.run_ends.specs.Tables.{HasBytes, IsBytesCause};
 
 use crate::limits::MOST_BYTES;
@@ -28,7 +28,7 @@ pub fn read_bytes<S: Source>(alloc: Global, source: &mut S) -> Result<Vec<u8>, R
 
 /// The rows of the source. The order of refusals: source, length of the input, rows.
 pub fn read_judged<S: Source>(alloc: Global, source: &mut S) -> Result<Rows, Refusal>
-    ensures rows { IfOk result (Reads (S.input source.old) (S.input source.new)) }
+    ensures rows { IfOk result (ReadsInput (S.input source.old) (S.input source.new)) }
     ensures cause { IfErr result (IsInputCause (S.input source.old) (S.input source.new)) }
     ensures calm { IfErr result (λ why. why ≢ Refusal.Source → (S.input source.new).faults ≡ (S.input source.old).faults) }
     ensures taken { ConsumesUpTo (most_bytes + 1) (S.input source.old).left (S.input source.new).left }

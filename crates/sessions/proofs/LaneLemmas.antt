@@ -12,7 +12,7 @@ use Rattle.sessions.specs.declared.store.lanes.Lane.{Lane}
 use Rattle.sessions.specs.declared.store.lanes.KeptRow.{KeptRow}
 use Rattle.sessions.specs.Calls.{Called}
 use Rattle.sessions.specs.Splits.{SamePass}
-use Rattle.sessions.specs.Lanes.{IsReady, Tries, Keeps, KeepsAll, Stops, Plays, PlaysRows, PlaysOn, StopsOn}
+use Rattle.sessions.specs.Lanes.{IsReadyLane, Tries, KeepsRow, KeepsAll, Stops, PlaysLane, PlaysRows, PlaysOn, StopsOn}
 use Rattle.sessions.proofs.LanePasses.{all-same}
 
 -- rows behind those that were kept
@@ -27,7 +27,7 @@ module _ (w session : ℕ) where
   pub rows-none : (pass : Known) (kept : List KeptRow) (rows : List (ℕ × Op)) → PlaysRows w session pass pass kept kept rows rows
   rows-none pass kept rows = record { front = []; added = []; rows_are = refl; kept_are = sym (append-nil kept); keeps = refl }
 
-  pub rows-one : (old new : Known) (kept : List KeptRow) (r : ℕ × Op) (rest : List (ℕ × Op)) (k : KeptRow) → Keeps w session old new r k → PlaysRows w session old new kept (kept ++ k ∷ []) (r ∷ rest) rest
+  pub rows-one : (old new : Known) (kept : List KeptRow) (r : ℕ × Op) (rest : List (ℕ × Op)) (k : KeptRow) → KeepsRow w session old new r k → PlaysRows w session old new kept (kept ++ k ∷ []) (r ∷ rest) rest
   rows-one old new kept r rest k one = record { front = r ∷ []; added = k ∷ []; rows_are = refl; kept_are = refl; keeps = (new, one, refl) }
 
   pub rows-then : (old mid new : Known) (before between after : List KeptRow) (rows others rest : List (ℕ × Op))
@@ -51,7 +51,7 @@ module _ {I D O P : Type 0} (w : ℕ) where
       → PlaysRows w old.session old.pass new old.kept.items after (drop i old.rows.items) (drop (i + 1) old.rows.items)
   row-plays i old mid new after r done split within is called tries after_is =
       let k : KeptRow = record { row = r.0; place = done.place; answer = done.answer; split = split } in
-      let one : Keeps w old.session old.pass new r k = record { mid = mid; done = done; called = called; row_is = refl; place_is = refl; answer_is = refl; tries = tries } in
+      let one : KeepsRow w old.session old.pass new r k = record { mid = mid; done = done; called = called; row_is = refl; place_is = refl; answer_is = refl; tries = tries } in
       subst (λ (l : List KeptRow). PlaysRows w old.session old.pass new old.kept.items l (drop i old.rows.items) (drop (i + 1) old.rows.items)) (sym after_is)
       (subst (λ (l : List (ℕ × Op)). PlaysRows w old.session old.pass new old.kept.items (old.kept.items ++ k ∷ []) l (drop (i + 1) old.rows.items)) (sym (row-next old.rows.items i r within is))
       (rows-one w old.session old.pass new old.kept.items r (drop (i + 1) old.rows.items) k one))
@@ -108,7 +108,7 @@ module _ {I D O P : Type 0} (w : ℕ) where
   }
 
   -- so a lane was played from its first row on
-  pub stopped : (lock : TableId) (old new : Lane I D O P) → IsReady lock old → StopsOn w 0 old new → Plays w old new
+  pub stopped : (lock : TableId) (old new : Lane I D O P) → IsReadyLane lock old → StopsOn w 0 old new → PlaysLane w old new
   stopped lock old new ready stop = record {
     session = stop.session;
     rows = stop.rows;

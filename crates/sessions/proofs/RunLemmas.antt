@@ -26,7 +26,7 @@ use Rattle.commit_book.proofs.StillWorlds.{world_after-since}
 use Rattle.book_lock.specs.Pass.{Known}
 use Rattle.sessions.specs.Steps.{cells_at, has_added, has_seen, has_given, Leaves, WasTaken}
 use Rattle.sessions.specs.Calls.{Called, CallLeaves, call_fault}
-use Rattle.sessions.specs.Lanes.{Keeps, KeepsAll, Stops, PlaysRows, PlaysOn, StopsOn}
+use Rattle.sessions.specs.Lanes.{KeepsRow, KeepsAll, Stops, PlaysRows, PlaysOn, StopsOn}
 use Rattle.sessions.specs.Runs.{AreQueries, Answers, AnswersIn, EndsNoting, HasLooked, IsLeft, IsOut, Noting, NotesRows, Sees, Stood, freed, unplaced}
 use Rattle.sessions.specs.Standing.{OfWorld}
 use Rattle.sessions.specs.declared.faults.CallFault.{CallFault}
@@ -246,8 +246,8 @@ module _ {I D O P : Type 0} (w i k end base : ℕ) (world : World) (old mid : La
         → world_after new.pass.origin.world new.pass.seen ≡ world → Noting w i (k + 1) end base world old new
     noting-more new at place at_is session rows fault lock_is count room kept called world_is =
         let kept_row : KeptRow = record (unplaced world r) { place = place } in
-        let one : Keeps w old.session (freed mid.pass) (freed new.pass) r kept_row =
-        subst (λ (session : ℕ). Keeps w session (freed mid.pass) (freed new.pass) r kept_row) so_far.session
+        let one : KeepsRow w old.session (freed mid.pass) (freed new.pass) r kept_row =
+        subst (λ (session : ℕ). KeepsRow w session (freed mid.pass) (freed new.pass) r kept_row) so_far.session
         (record { mid = freed new.pass; done = record { place = place; answer = answer_of world r.1; full = None }; called = called; row_is = refl; place_is = refl; answer_is = refl; tries = (refl, refl) }) in
         let left = drop (k + 1) old.rows.items in
         let next : drop k old.rows.items ≡ r ∷ left = row-next old.rows.items k r (omega (arith, less, most)) (subst (λ (rows : List (ℕ × Op)). r ≡ slice_index_or rows k r) so_far.rows is) in

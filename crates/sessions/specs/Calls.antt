@@ -91,13 +91,13 @@ told_full w (Within region) pass = None
 told_full w (Near at k) pass = None
 
 -- the place of the last call that was seen, and the answer of one list there
-pub record Replies (old new : Known) (op : Op) (before : List Entry) (place : ℕ) (answer : Answer) : Type 0 where
+pub record RepliesAt (old new : Known) (op : Op) (before : List Entry) (place : ℕ) (answer : Answer) : Type 0 where
   pub place_is : place ≡ call_count new.seen
   pub answer_is : answer ≡ answer_of (world_after old.origin.world before) op
 
 -- the reply, and the leaf that is told
 pub record HasDone (w : ℕ) (old new : Known) (op : Op) (before : List Entry) (done : Done) : Type 0 where
-  pub replies : Replies old new op before done.place done.answer
+  pub replies : RepliesAt old new op before done.place done.answer
   pub full_is : done.full ≡ told_full w op new
 
 -- what a call leaves: its entry, or the failure of its append, is the last that was seen, and own; only the append of a change fails

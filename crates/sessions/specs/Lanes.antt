@@ -13,7 +13,7 @@ use Rattle.sessions.specs.Calls.{Called}
 use Rattle.sessions.specs.Splits.{SplitEnds}
 
 -- the lane has a pass of this lock, and rows that may be asked, none of them kept yet, and room for all of them
-pub record IsReady {I D O P : Type 0} (lock : TableId) (lane : Lane I D O P) : Type 0 where
+pub record IsReadyLane {I D O P : Type 0} (lock : TableId) (lane : Lane I D O P) : Type 0 where
   pub lock_is : lane.pass.lock ≡ lock
   pub off : lane.pass.holds ≡ false
   pub valid : (i : ℕ) (d : ℕ × Op) → i < length lane.rows.items → IsValid (slice_index_or lane.rows.items i d).1
@@ -27,7 +27,7 @@ Tries w None mid new split = (split ≡ None) × (new ≡ mid)
 Tries w (Some name) mid new split = (s : Split) × (split ≡ Some s) × SplitEnds w name mid new s
 
 -- A row was called, and a split tried where its answer tells a leaf; both answers are kept.
-pub record Keeps (w session : ℕ) (old new : Known) (row : ℕ × Op) (kept : KeptRow) : Type 0 where
+pub record KeepsRow (w session : ℕ) (old new : Known) (row : ℕ × Op) (kept : KeptRow) : Type 0 where
   pub mid : Known
   pub done : Done
   pub called : Called w session row.0 row.1 old mid (Ok done)
@@ -41,7 +41,7 @@ abbrev pub KeepsAll : ℕ → ℕ → Known → List (ℕ × Op) → List KeptRo
 KeepsAll w session old [] [] new = new ≡ old
 KeepsAll w session old [] (k ∷ kept) new = ⊥
 KeepsAll w session old (r ∷ rows) [] new = ⊥
-KeepsAll w session old (r ∷ rows) (k ∷ kept) new = (mid : Known) × Keeps w session old mid r k × KeepsAll w session mid rows kept new
+KeepsAll w session old (r ∷ rows) (k ∷ kept) new = (mid : Known) × KeepsRow w session old mid r k × KeepsAll w session mid rows kept new
 
 -- no row is left, or the next one was refused
 abbrev pub Stops : ℕ → ℕ → Known → Known → List (ℕ × Op) → Option CallFault → Type 0
@@ -51,7 +51,7 @@ Stops w session mid new (r ∷ rest) None = ⊥
 Stops w session mid new (r ∷ rest) (Some fault) = Called w session r.0 r.1 mid new (Err fault)
 
 -- A lane was played: its rows from the first on are kept, one after another, and it stopped at the first that was refused, or at the end.
-pub record Plays {I D O P : Type 0} (w : ℕ) (old new : Lane I D O P) : Type 0 where
+pub record PlaysLane {I D O P : Type 0} (w : ℕ) (old new : Lane I D O P) : Type 0 where
   pub session : new.session ≡ old.session
   pub rows : new.rows.items ≡ old.rows.items
   pub front : List (ℕ × Op)

@@ -1,6 +1,6 @@
 //! Lanes that a store runs by itself: a split that is held while another lane puts, and what is kept of it.
 ghost use Rattle.std.specs.Prelude.{◌≡◌, ℕ, ◌+◌, ◌<◌, length, slice_index_or, false};
-ghost use Rattle.sessions.specs.Lanes.{IsReady};
+ghost use Rattle.sessions.specs.Lanes.{IsReadyLane};
 ghost use Rattle.thread_tests.specs.Passes.{IsFree, KeepsPass, AreValid};
 
 use crate::checks::holds;
@@ -60,7 +60,7 @@ fn lane<I: Index, D: LogDisk>(
 ) -> Lane<I, D, Brand>
     requires off { pass.holds ≡ false }
     requires valid { AreValid rows.items }
-    ensures ready { IsReady pass.lock result }
+    ensures ready { IsReadyLane pass.lock result }
     ensures parts { result.pass.parts ≡ pass.parts }
 {
     let kept = Vec::with_capacity(alloc, rows.len()).expect(rt, "no memory");
@@ -93,7 +93,7 @@ fn run_lanes<I: Index + Send, D: LogDisk + Send, R: Threads + Wait + Sync, G: Ga
     lanes: &mut [Lane<I, D, Brand>],
     gate: &G,
 )
-    requires { (i : ℕ) (d : Lane I D Brand I.Place) → i < length lanes.old → IsReady store.now (slice_index_or lanes.old i d) }
+    requires { (i : ℕ) (d : Lane I D Brand I.Place) → i < length lanes.old → IsReadyLane store.now (slice_index_or lanes.old i d) }
     ensures { (i : ℕ) (d : Lane I D Brand I.Place) → i < length lanes.old → KeepsPass (slice_index_or lanes.old i d).pass (slice_index_or lanes.new i d).pass }
 {
     store.run_lanes(rt, alloc, lanes, gate);

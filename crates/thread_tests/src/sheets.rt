@@ -3,7 +3,7 @@
 ghost use Rattle.std.specs.Prelude.{◌≡◌, ℕ, ◌+◌, ◌<◌, ◌≤◌, ◌++◌, [], ◌∷◌, false, MatchBool};
 ghost use Rattle.std.specs.Thread.{IsSync};
 ghost use Rattle.plain_list.specs.declared.entries.Entry.{Entry};
-ghost use Rattle.book_lock.specs.Ends.{Ends};
+ghost use Rattle.book_lock.specs.Ends.{EndsSplit};
 ghost use Rattle.thread_tests.specs.Passes.{HasAdded, IsFree, KeepsPass};
 
 use book_lock::{BookLock, Held, Pass};
@@ -76,7 +76,7 @@ fn new_lock(rt: &impl Abort, alloc: Global, is_slow: bool) -> (BookLock<Sheet>, 
 }
 
 fn find(session: u8, row: u32) -> Entry
-    ensures { (n : ℕ) → ¬ Ends result n }
+    ensures { (n : ℕ) → ¬ EndsSplit result n }
 {
     Entry::Call {
         session,
@@ -86,7 +86,7 @@ fn find(session: u8, row: u32) -> Entry
 }
 
 fn failed() -> Entry
-    ensures { (n : ℕ) → ¬ Ends result n }
+    ensures { (n : ℕ) → ¬ EndsSplit result n }
 {
     Entry::Fail {
         cell: 0,
@@ -110,7 +110,7 @@ fn add<R: Wait + Clock>(
     asleep: Duration,
 ) -> bool
     requires pass { IsFree lock.now pass.old }
-    requires plain { (n : ℕ) → ¬ Ends entry n }
+    requires plain { (n : ℕ) → ¬ EndsSplit entry n }
     ensures same { KeepsPass pass.old pass.new }
     ensures added { MatchBool result (HasAdded entry pass.old pass.new) (pass.new.own ≡ pass.old.own) }
 {

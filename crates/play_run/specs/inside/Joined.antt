@@ -8,7 +8,7 @@ use Rattle.book_lock.specs.declared.origin.Origin.{Origin}
 use Rattle.sessions.specs.declared.faults.Settled.{Settled}
 use Rattle.sessions.specs.declared.store.lanes.Lane.{Lane}
 use Rattle.sessions.specs.Settles.{Settles}
-use Rattle.lane_history.specs.Lanes.{HaveAllPlayed, TakesIn, GoesOn, AreCalm}
+use Rattle.lane_history.specs.Lanes.{HaveAllPlayed, TakesIn, GoesOn, AreCalmLanes}
 use Rattle.play_run.specs.declared.lanes.LaneEnd.{LaneEnd}
 use Rattle.play_run.specs.inside.Dealt.{sessions_to}
 
@@ -39,7 +39,7 @@ pub record Takes {I D O P : Type 0} (old new : Known) (lanes : List (Lane I D O 
 
 -- whether no lane met a fault and the splits at the end were settled
 abbrev pub IsDone : {I D O P : Type 0} → ℕ → List (Lane I D O P) → Known → Known → Bool → Type 0
-IsDone w lanes pass last true = AreCalm lanes × ((settled : Settled) × (pass.parts ≡ 65536) × Settles w pass last (Ok settled))
+IsDone w lanes pass last true = AreCalmLanes lanes × ((settled : Settled) × (pass.parts ≡ 65536) × Settles w pass last (Ok settled))
 IsDone w lanes pass last false = ⊤
 
 -- lanes of all sessions ran, their passes were joined, and the splits at the end maybe settled

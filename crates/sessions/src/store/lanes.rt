@@ -1,7 +1,7 @@
 //! Rows of several sessions at once, each session in a thread.
 ghost use Rattle.std.specs.Prelude.{◌≡◌, ℕ, ◌+◌, ◌<◌, ◌≤◌, ◌∷◌, ◌++◌, [], length, slice_index_or, vec_len, vec_capacity, None, false};
 ghost use Rattle.plain_list.specs.Answer.{IsValid};
-ghost use Rattle.sessions.specs.Lanes.{IsReady, Tries, Plays, Advances, GoesOn};
+ghost use Rattle.sessions.specs.Lanes.{IsReadyLane, Tries, PlaysLane, Advances, GoesOn};
 ghost use Rattle.sessions.specs.Splits.{SamePass};
 
 use super::Store;
@@ -156,8 +156,8 @@ impl<I: Index, D: LogDisk, O: Start> Store<I, D, O> {
         requires name { blank.name ≡ L.name }
         requires parts { blank.parts ≡ L.parts }
         requires one_part { blank.parts ≡ 1 }
-        requires ready { IsReady self.now lane.old }
-        ensures { Plays I.WIDTH lane.old lane.new }
+        requires ready { IsReadyLane self.now lane.old }
+        ensures { PlaysLane I.WIDTH lane.old lane.new }
     {
         let mut steps = Steps::<L>::new(blank);
         let mut pace = Pace::new();
@@ -172,8 +172,8 @@ impl<I: Index, D: LogDisk, O: Start> Store<I, D, O> {
 
     // Plays one lane, and lets another one go on.
     fn play_lane<R: Wait, G: Gate>(&self, rt: &R, alloc: Global, lane: &mut Lane<I, D, O>, gate: &G)
-        requires ready { IsReady self.now lane.old }
-        ensures { Plays I.WIDTH lane.old lane.new }
+        requires ready { IsReadyLane self.now lane.old }
+        ensures { PlaysLane I.WIDTH lane.old lane.new }
     {
         lane.pass.in_batch(true);
         self.play_rows::<R, G, Brand>(rt, alloc, lane, gate, Blank::new(1));
@@ -191,8 +191,8 @@ impl<I: Index + Send, D: LogDisk + Send, O: Start + Send> Store<I, D, O> {
         lanes: &mut [Lane<I, D, O>],
         gate: &G,
     )
-        requires ready { (i : ℕ) (d : Lane I D O I.Place) → i < length lanes.old → IsReady self.now (slice_index_or lanes.old i d) }
-        ensures { (i : ℕ) (d : Lane I D O I.Place) → i < length lanes.old → Plays I.WIDTH (slice_index_or lanes.old i d) (slice_index_or lanes.new i d) }
+        requires ready { (i : ℕ) (d : Lane I D O I.Place) → i < length lanes.old → IsReadyLane self.now (slice_index_or lanes.old i d) }
+        ensures { (i : ℕ) (d : Lane I D O I.Place) → i < length lanes.old → PlaysLane I.WIDTH (slice_index_or lanes.old i d) (slice_index_or lanes.new i d) }
     {
         let threads = lanes.len().max(1);
         thread::for_each_mut(
@@ -200,8 +200,8 @@ impl<I: Index + Send, D: LogDisk + Send, O: Start + Send> Store<I, D, O> {
             lanes,
             threads,
             &|_, lane|
-                requires { IsReady self.now lane.now }
-                ensures { Plays I.WIDTH lane.entry.now lane.exit.now }
+                requires { IsReadyLane self.now lane.now }
+                ensures { PlaysLane I.WIDTH lane.entry.now lane.exit.now }
             { self.play_lane(rt, alloc, lane, gate) },
         );
     }

@@ -14,7 +14,7 @@ use Rattle.run_ends.specs.Limits.{most_inspected, oldest_read}
 use Rattle.run_ends.specs.LogFaults.{log_refusal}
 use Rattle.run_ends.specs.Status.{status_of}
 use Rattle.run_ends.specs.Attaching.{AttachesOnce}
-use Rattle.log_run.specs.Checking.{FindsCells, HasRead}
+use Rattle.log_run.specs.Checking.{FindsCells, HasReadLog}
 use Rattle.fence_watch.specs.declared.fences.Fence.{Fence}
 use Rattle.fence_watch.specs.Crossings.{crossings}
 use Rattle.fence_watch.specs.Tallies.{TalliesCells, TallyView}
@@ -45,7 +45,7 @@ pub record RunsAlong (fences : List Fence) (old new : Drive) (v : TallyView) : T
 -- of the one in a file of this name
 pub record RunsFile (fences : List Fence) (file : List ℕ) (old new : Drive) (v : TallyView) : Type 0 where
   pub finds : FindsAlong fences old v
-  pub read : HasRead file old new
+  pub read : HasReadLog file old new
   pub stays : Stays old new
 
 -- why a watch doesn't come to the log's end, and what the bytes say of that

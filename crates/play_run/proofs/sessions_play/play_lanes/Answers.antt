@@ -1,8 +1,8 @@
 use Rattle.std.proofs.Common.{refl, ◌≡◌, ◌∙◌, inl, inr, ◌<◌, ◌++◌, length, sym, ap, subst, arith}
 use Rattle.std.specs.Prelude.{slice_index_or}
 use Rattle.book_lock.specs.Pass.{Known}
-use Rattle.sessions.specs.Lanes.{IsReady}
-use Rattle.lane_history.specs.Lanes.{AreCalm}
+use Rattle.sessions.specs.Lanes.{IsReadyLane}
+use Rattle.lane_history.specs.Lanes.{AreCalmLanes}
 use Rattle.play_run.specs.inside.Joined.{AreIdle, Takes, HasRun, ends_of}
 use Rattle.play_run.proofs.Dealing.{lanes-few, lanes-idle, lanes-ready}
 use Rattle.play_run.proofs.Joining.{dealt-not, run-back, run-idle, run-not, parts-not, run-settled, parts-settled}
@@ -27,7 +27,7 @@ returns-in_default-deal-clause-ran g c =
 pub run_lanes-requires-clause-ready : goal.run_lanes-requires-clause-ready
 run_lanes-requires-clause-ready g c κs within = λ i d lt.
     let has = c.in-Ok-deal.ensures.all in
-    subst (λ l. i < length l → IsReady {I = g.row.I.Denot} {D = g.row.D.Denot} {O = g.row.O.Denot} {P = g.row.I-Place.Denot} c.args.store.now (slice_index_or l i d)) (sym c.as_mut_slice.ensures.value)
+    subst (λ l. i < length l → IsReadyLane {I = g.row.I.Denot} {D = g.row.D.Denot} {O = g.row.O.Denot} {P = g.row.I-Place.Denot} c.args.store.now (slice_index_or l i d)) (sym c.as_mut_slice.ensures.value)
     (lanes-ready c.args.store.now c.args.rows.now 16 c.deal.new.lanes.items c.deal.new.pass c.requires.rows has i d) lt
 
 pub gather-requires-2-clause-idle : goal.gather-requires-2-clause-idle
@@ -61,7 +61,7 @@ returns-clause-ran g c =
     let ran = run-back c.args.store.now c.args.rows.now c.deal.new.pass before after c.deal.new.lanes.items c.deal.new.lanes.len c.as_mut_slice.ensures.value c.in-Ok-deal.ensures.all c.run_lanes.auto.lanes c.deal.new.lanes.ok.0 in
     let takes = subst (λ l. Takes c.deal.new.pass c.gather-2.new.pass l) ran.back c.gather-2.ensures.takes in
     let ends_are : c.gather-2.new.ends.items ≡ ends_of after = c.gather-2.ensures.ends ∙ (λ j. (c.reserve.ensures.items ∙ c.requires.none) j ++ ends_of (ran.back j)) in
-    let calm = subst (λ l. AreCalm l) (c.as_slice.ensures.value ∙ ran.back) (c.are_calm-calm.ensures c.if-not-calm.false) in
+    let calm = subst (λ l. AreCalmLanes l) (c.as_slice.ensures.value ∙ ran.back) (c.are_calm-calm.ensures c.if-not-calm.false) in
     inl (subst (λ b. HasRun g.row.I.Denot g.row.D.Denot g.row.O.Denot g.row.I-Place.Denot g.I.Index.WIDTH c.args.pass.now.origin c.args.rows.now c.gather-2.new.ends.items c.settle.new.pass b) (sym c.is_ok.ensures.value)
     (run-settled g.I.Index.WIDTH c.args.store.now c.args.rows.now c.args.pass.now c.deal.new.pass c.gather-2.new.pass before after c.gather-2.new.ends.items ran.has (ap (λ (k : Known). k.lock) c.requires.pass) c.deal.ensures.origin ran.same c.run_lanes.ensures takes ends_are c.settle.new.pass c.settle.result calm c.settle.ensures.settles))
 

@@ -6,7 +6,7 @@ use Rattle.std.proofs.alloc.Global.TheSendSync as global
 use Rattle.sessions.specs.contracts.store.Store as Store
 use Rattle.std.specs.Prelude.{slice_index_or}
 use Rattle.sessions.specs.declared.store.lanes.Lane.{Lane}
-use Rattle.sessions.specs.Lanes.{Plays}
+use Rattle.sessions.specs.Lanes.{PlaysLane}
 use Rattle.sessions.proofs.Sent.{crossing, store_sync, closure_sync}
 use Rattle.sessions.proofs.store.Store.run_lanes.Goals as goal
 
@@ -23,4 +23,4 @@ pub returns : goal.returns
 returns g c i d lt =
     let h = (c.for_each_mut.ensures i d lt).1 in
     let w = g.I.Index.WIDTH in
-    subst (λ (x : Lane g.row.I.Denot g.row.D.Denot g.row.O.Denot g.row.I-Place.Denot). Plays w x (slice_index_or c.for_each_mut.new.s i d)) {y = slice_index_or c.args.lanes.now i d} h.argument_is (subst (λ (y : Lane g.row.I.Denot g.row.D.Denot g.row.O.Denot g.row.I-Place.Denot). Plays w h.argument.now y) {y = slice_index_or c.for_each_mut.new.s i d} h.left h.call)
+    subst (λ (x : Lane g.row.I.Denot g.row.D.Denot g.row.O.Denot g.row.I-Place.Denot). PlaysLane w x (slice_index_or c.for_each_mut.new.s i d)) {y = slice_index_or c.args.lanes.now i d} h.argument_is (subst (λ (y : Lane g.row.I.Denot g.row.D.Denot g.row.O.Denot g.row.I-Place.Denot). PlaysLane w h.argument.now y) {y = slice_index_or c.for_each_mut.new.s i d} h.left h.call)
