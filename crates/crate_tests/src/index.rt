@@ -2,12 +2,14 @@
 //!
 //! A function over the bound `Index` makes the calls, and each form is handed to it.
 mod asks;
+mod below;
 mod buckets;
 mod builds;
 mod calls;
 mod changes;
 pub(crate) mod never;
 mod queries;
+mod spots;
 mod spread;
 mod ties;
 mod walks;

@@ -67,6 +67,8 @@ mod streams;
 #[cfg(test)]
 mod tables;
 #[cfg(test)]
+mod tallies;
+#[cfg(test)]
 mod words;
 #[cfg(test)]
 mod worlds;

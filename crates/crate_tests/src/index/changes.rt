@@ -15,7 +15,7 @@ const OBJECTS: u64 = 64;
 
 const CHANGES: u64 = 10_000;
 
-fn holds<I: Index>(index: &I, row: &Row) -> bool
+pub(crate) fn holds<I: Index>(index: &I, row: &Row) -> bool
     ensures there { IsTrue result → Holds row.now (I.leaves index.now) true }
     ensures absent { IsFalse result → Holds row.now (I.leaves index.now) false }
 {
@@ -23,7 +23,7 @@ fn holds<I: Index>(index: &I, row: &Row) -> bool
     bucket.holds(row)
 }
 
-fn put<I: Index>(index: &mut I, put: RowChange) -> Result<bool, Undone> {
+pub(crate) fn put<I: Index>(index: &mut I, put: RowChange) -> Result<bool, Undone> {
     if holds(index, &put.row) {
         return Ok(false);
     }
@@ -33,7 +33,11 @@ fn put<I: Index>(index: &mut I, put: RowChange) -> Result<bool, Undone> {
     }
 }
 
-fn shift<I: Index>(index: &mut I, from: RowChange, to: RowChange) -> Result<bool, Undone> {
+pub(crate) fn shift<I: Index>(
+    index: &mut I,
+    from: RowChange,
+    to: RowChange,
+) -> Result<bool, Undone> {
     if !holds(index, &from.row) || holds(index, &to.row) {
         return Ok(false);
     }
@@ -43,7 +47,7 @@ fn shift<I: Index>(index: &mut I, from: RowChange, to: RowChange) -> Result<bool
     }
 }
 
-fn take<I: Index>(index: &mut I, gone: RowChange) -> Result<bool, Undone> {
+pub(crate) fn take<I: Index>(index: &mut I, gone: RowChange) -> Result<bool, Undone> {
     if !holds(index, &gone.row) {
         return Ok(false);
     }
@@ -109,7 +113,7 @@ fn keeps_a_base_where_it_is_asked_to<I: Index>(rt: &impl Abort, alloc: Global) {
 }
 
 // A linear congruential generator (Knuth's MMIX).
-fn drawn(seed: u64) -> u64 {
+pub(crate) fn drawn(seed: u64) -> u64 {
     seed.wrapping_mul(6_364_136_223_846_793_005)
         .wrapping_add(1_442_695_040_888_963_407)
 }
