@@ -107,9 +107,6 @@ without_split-other number name (s ∷ splits) rising other = elim (cases_eq s.n
       grind (arith, nat_tests, common_steps)
 ]
 
-pub none_found : (name : List Bool) (o : Option (List Bool)) → o ≡ None → o ≡ Some name → ⊥
-none_found name o none some = let e : ◌≡◌ {A = Option (List Bool)} None (Some name) = sym none ∙ some in cc e
-
 pub found_same : (a b : List Bool) (o : Option (List Bool)) → o ≡ Some a → o ≡ Some b → a ≡ b
 found_same a b o first second = let e : ◌≡◌ {A = Option (List Bool)} (Some a) (Some b) = sym first ∙ second in cc e
 

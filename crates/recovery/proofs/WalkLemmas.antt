@@ -125,15 +125,6 @@ module _ {D : Type 0} (w most : ℕ) (cells : List Cell) (old new : Drive) (walk
         λ xs is. subst (λ m. IsFault 1 w m xs e) come.most_is (subst (λ n. IsFault 1 n walk.reading.most xs e) come.width (told.2 xs is 1 come.wanted)),
       )
 
-  -- room that wasn't there
-  pub tells_memory : next.reading ≡ walk.reading → (result : Result (Option Walked) OpenFault) → IsErrAnd result (λ e. e ≡ fault.Memory) → TellsWalked w most cells old new next result
-  tells_memory same (Ok x) is = absurd is
-  tells_memory same (Err e) is = subst (λ f. TellsWalked w most cells old new next (Err f)) (sym is) (
-    comes_on cells (subst (HasRead cells old) (sym same) come.read) (same_log-refl walk.reading next.reading same) come.few,
-    tt,
-    λ xs told. tt,
-  )
-
 -- what the bytes show is what is told
 module _ {D : Type 0} (w most : ℕ) (cells : List Cell) (old new : Drive) (next : WalkView D) (bytes : List ℕ) (known : old.bytes ≡ Some bytes) where
   pub tells_fault : (f : OpenFault) (result : Result (Option Walked) OpenFault) → length cells ≤ most → IsInBytes f → IsFault 1 w most bytes f → OnlyReads old new result → TellsWalked w most cells old new next result → TellsFault f old new result

@@ -186,36 +186,3 @@ module _ (oldest most : ℕ) (bytes : List ℕ) where
   fault_at w has (fault.TooLong limit) (v, also, same, is) = (same, subst (λ u. IsTooLong oldest u most bytes) (same_width v w bytes also has) is)
   fault_at w has fault.Disk is = tt
   fault_at w has fault.Memory is = tt
-
-  -- what is at fault in the head is at fault in the log
-  pub head_seen : 1 ≤ oldest → (e : OpenFault) → IsHeadFault bytes e → IsLogFault oldest most bytes e
-  head_seen least fault.NotLog is = is
-  head_seen least (fault.OldLog version width) is = record {
-    is_log = is.is_log;
-    version_is = is.version_is;
-    width_is = is.width_is;
-    other = ⊎_elim (λ other. inl (λ wanted. other (record { least = omega (arith, least, wanted.least); most = wanted.most }))) inr is.other;
-  }
-  head_seen least (fault.Damaged n why) is = absurd is
-  head_seen least (fault.TooLong limit) is = absurd is
-  head_seen least fault.Disk is = tt
-  head_seen least fault.Memory is = tt
-
-  -- and it is the one fault of it
-  pub head_told : (before after : ℕ) (e f : OpenFault) → IsHeadFault bytes e → (e ≡ fault.Disk → Rose before after) → IsInBytes f → IsLogFault oldest most bytes f → (e ≡ f) ⊎ Rose before after
-  head_told before after fault.Disk f holds rose shown is = inr (rose refl)
-  head_told before after fault.Memory f holds rose shown is = absurd holds
-  head_told before after (fault.Damaged n why) f holds rose shown is = absurd holds
-  head_told before after (fault.TooLong limit) f holds rose shown is = absurd holds
-  head_told before after fault.NotLog fault.NotLog holds rose shown is = inl refl
-  head_told before after fault.NotLog (fault.OldLog version width) holds rose shown is = absurd (is.is_log holds)
-  head_told before after fault.NotLog (fault.Damaged n why) holds rose shown (w, has, is) = absurd (has.is_log holds)
-  head_told before after fault.NotLog (fault.TooLong limit) holds rose shown (w, has, same, is) = absurd (has.is_log holds)
-  head_told before after fault.NotLog fault.Disk holds rose shown is = absurd shown
-  head_told before after fault.NotLog fault.Memory holds rose shown is = absurd shown
-  head_told before after (fault.OldLog v u) fault.NotLog holds rose shown is = absurd (holds.is_log is)
-  head_told before after (fault.OldLog v u) (fault.OldLog version width) holds rose shown is = inl (λ i. fault.OldLog ((holds.version_is ∙ sym is.version_is) i) ((holds.width_is ∙ sym is.width_is) i))
-  head_told before after (fault.OldLog v u) (fault.Damaged n why) holds rose shown (w, has, is) = absurd (no_head_fault bytes w (fault.OldLog v u) has tt holds)
-  head_told before after (fault.OldLog v u) (fault.TooLong limit) holds rose shown (w, has, same, is) = absurd (no_head_fault bytes w (fault.OldLog v u) has tt holds)
-  head_told before after (fault.OldLog v u) fault.Disk holds rose shown is = absurd shown
-  head_told before after (fault.OldLog v u) fault.Memory holds rose shown is = absurd shown

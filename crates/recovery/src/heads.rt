@@ -26,7 +26,8 @@ pub(crate) struct Head {
     pub(crate) width: u8,
 }
 
-/// The width that the head of a log of version 1 or 2 names: `inspect` and `open` ask for it.
+/// The width that the head of a log of version 1 or 2 names, for who wants it before `inspect`, `open` or `Walk::start`. `inspect_log`,
+/// `open_log` and `Walk::along` find it by themselves, so of this project tests alone call this.
 pub fn width_of<D: LogDisk>(disk: &mut D) -> Result<u8, OpenFault>
     ensures known { IfOk result IsWidth }
     ensures told { IfOk result (λ w. (bytes : List ℕ) → (D.drive disk.old).bytes ≡ Some bytes → HasWidth w bytes) }
