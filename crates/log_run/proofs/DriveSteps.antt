@@ -25,7 +25,7 @@ use Rattle.log_compact.proofs.OnWay.{failed-making}
 use Rattle.run_ends.specs.Limits.{most_inspected}
 use Rattle.csv_rows.specs.declared.rows.Refusal.{Refusal}
 use Rattle.run_ends.specs.Attaching.{RefusesAttach}
-use Rattle.run_ends.specs.LogFaults.{log_refusal}
+use Rattle.run_ends.specs.LogFaults.{MayTellLog, log_refusal}
 use Rattle.log_run.specs.Checking.{IsCheckingCause, IsDecidedBy}
 use Rattle.log_run.specs.Making.{IsMakingCause, LeavesFile, making_refusal}
 use Rattle.run_ends.specs.Status.{status_of}
@@ -42,8 +42,8 @@ free-later a b c fault later (inr rose) = inr (rose-earlier a.faults b.faults c.
 
 -- a log in which something is at fault
 pub checking-after : (a b c : Drive) (result : Result SeenLog OpenFault) (fault : OpenFault) → result ≡ Err fault → Stays a b → a.faults ≤ b.faults
-    → ((bytes : List ℕ) → b.bytes ≡ Some bytes → IsLogFault 1 most_inspected bytes fault) → OnlyReads b c result → IsCheckingCause a c (log_refusal fault)
-checking-after a b c result fault is stays later wrong reads = reading-after 1 most_inspected a b c fault stays later wrong (λ disk. reads.failed (is ∙ ap (λ (e : OpenFault). Err e) disk))
+    → ((bytes : List ℕ) → b.bytes ≡ Some bytes → IsLogFault 1 most_inspected bytes fault) → MayTellLog 1 most_inspected fault → OnlyReads b c result → IsCheckingCause a c (log_refusal fault)
+checking-after a b c result fault is stays later wrong may reads = reading-after 1 most_inspected a b c fault stays later wrong may (λ disk. reads.failed (is ∙ ap (λ (e : OpenFault). Err e) disk))
 
 pub decided-err : (a b c : Drive) (why : OpenFault) (result : Result SeenLog OpenFault) → result ≡ Err why → Stays a b → a.faults ≤ b.faults
     → ((bytes : List ℕ) (fault : OpenFault) → b.bytes ≡ Some bytes → IsInBytes fault → IsLogFault 1 most_inspected bytes fault → IsErrAnd result (λ e. (e ≡ fault) ⊎ IsFree b c e))

@@ -1,5 +1,5 @@
 -- Which file was attached, by the answer of the attach, and what that says of a log.
-use Rattle.std.proofs.Common.{◌≡◌, inl, inr, ℕ, Bool, List, None, Err, refl, sym, subst}
+use Rattle.std.proofs.Common.{◌≡◌, inl, inr, ℕ, Bool, List, Err, refl, sym, subst}
 use Rattle.causes.specs.Causes.{Rose}
 use Rattle.disk_trait.specs.declared.disk.AttachFault.{AttachFault}
 use Rattle.disk_trait.specs.declared.disk.AttachFault.TheVariants as attach_fault

@@ -1,5 +1,5 @@
 -- Why a log isn't read that was attached first.
-use Rattle.std.proofs.Common.{◌≡◌, ◌⊎◌, inl, inr, ◌∙◌, ℕ, ◌≤◌, List, Some, refl, ap}
+use Rattle.std.proofs.Common.{◌≡◌, ◌⊎◌, inl, inr, ◌∙◌, ℕ, ◌≤◌, List, Some, refl, ap, subst}
 use Rattle.causes.specs.Causes.{Rose}
 use Rattle.disk_trait.specs.Drive.{Drive, Stays}
 use Rattle.recovery.specs.Widths.{IsLogFault}
@@ -8,20 +8,18 @@ use Rattle.recovery.specs.declared.seen.OpenFault.{OpenFault}
 use Rattle.recovery.specs.declared.seen.OpenFault.TheVariants as open_fault
 use Rattle.recovery.proofs.OnlyReading.{rose-earlier}
 use Rattle.csv_rows.specs.declared.rows.Refusal.TheVariants as refusal
-use Rattle.run_ends.specs.LogFaults.{IsReadingCause, log_refusal}
+use Rattle.run_ends.specs.LogFaults.{HasFault, IsReadingCause, MayTellLog, log_refusal}
 
 -- why a log isn't read
 pub reading-after : (oldest most : ℕ) (a b c : Drive) (cause : OpenFault) → Stays a b → a.faults ≤ b.faults → ((bytes : List ℕ) → b.bytes ≡ Some bytes → IsLogFault oldest most bytes cause)
-    → (cause ≡ open_fault.Disk → Rose b.faults c.faults) → IsReadingCause oldest most a c (log_refusal cause)
-reading-after oldest most a b c open_fault.NotLog stays later wrong rose = λ bytes told. wrong bytes (stays.bytes ∙ told)
-reading-after oldest most a b c (open_fault.OldLog version width) stays later wrong rose = λ bytes told. wrong bytes (stays.bytes ∙ told)
-reading-after oldest most a b c (open_fault.Damaged cell cause) stays later wrong rose = λ bytes told. wrong bytes (stays.bytes ∙ told)
-reading-after oldest most a b c open_fault.Disk stays later wrong rose = rose-earlier a.faults b.faults c.faults later (rose refl)
-reading-after oldest most a b c open_fault.Memory stays later wrong rose = tt
-reading-after oldest most a b c (open_fault.TooLong limit) stays later wrong rose = λ bytes told. too-long bytes (wrong bytes (stays.bytes ∙ told))
-  where
-    too-long : (bytes : List ℕ) → IsLogFault oldest most bytes (open_fault.TooLong limit) → IsLogFault oldest most bytes (open_fault.TooLong most)
-    too-long bytes (w, has, same, long) = (w, has, refl, long)
+    → MayTellLog oldest most cause → (cause ≡ open_fault.Disk → Rose b.faults c.faults) → IsReadingCause oldest most a c (log_refusal cause)
+reading-after oldest most a b c open_fault.NotLog stays later wrong may rose = ((λ bytes told. wrong bytes (stays.bytes ∙ told)), may)
+reading-after oldest most a b c (open_fault.OldLog version width) stays later wrong may rose = ((λ bytes told. wrong bytes (stays.bytes ∙ told)), may)
+reading-after oldest most a b c (open_fault.Damaged cell cause) stays later wrong may rose = ((λ bytes told. wrong bytes (stays.bytes ∙ told)), may)
+reading-after oldest most a b c open_fault.Disk stays later wrong may rose = rose-earlier a.faults b.faults c.faults later (rose refl)
+reading-after oldest most a b c open_fault.Memory stays later wrong may rose = tt
+reading-after oldest most a b c (open_fault.TooLong limit) stays later wrong may rose =
+    subst (λ n. HasFault oldest most a (open_fault.TooLong n)) may ((λ bytes told. wrong bytes (stays.bytes ∙ told)), may)
 
 -- an answer that the bytes don't decide is want of memory where the count didn't rise
 pub calm-free : (a b c : Drive) (fault : OpenFault) → a.faults ≤ b.faults → (Rose a.faults c.faults → ⊥) → IsFree b c fault → log_refusal fault ≡ refusal.Memory

@@ -5,6 +5,7 @@ use Rattle.disk_trait.specs.Drive.{Drive}
 use Rattle.disk_trait.specs.declared.disk.AttachFault.{AttachFault}
 use Rattle.disk_trait.specs.declared.disk.AttachFault.TheVariants as attach_fault
 pub use Rattle.recovery.specs.Widths.{ShowsFault}
+pub use Rattle.recovery.specs.Wanted.{MayTellLog}
 use Rattle.recovery.specs.declared.seen.OpenFault.{OpenFault}
 use Rattle.recovery.specs.declared.seen.OpenFault.TheVariants as open_fault
 use Rattle.csv_rows.specs.declared.rows.Refusal.{Refusal}
@@ -24,12 +25,16 @@ log_refusal open_fault.Disk = refusal.Disk None
 log_refusal open_fault.Memory = refusal.Memory
 log_refusal (open_fault.TooLong most) = refusal.LongLog
 
+-- this is at fault in the drive's bytes, where they are known, and where they aren't, it may be
+abbrev pub HasFault : ℕ → ℕ → Drive → OpenFault → Type 0
+HasFault oldest most drive e = ShowsFault oldest most drive e × MayTellLog oldest most e
+
 -- why such a log isn't read: what is first at fault in its bytes, the drive's count rose, or memory ran out
 abbrev pub IsReadingCause : ℕ → ℕ → Drive → Drive → Refusal → Type 0
-IsReadingCause oldest most old new refusal.NotLog = ShowsFault oldest most old open_fault.NotLog
-IsReadingCause oldest most old new (refusal.OldLog version width) = ShowsFault oldest most old (open_fault.OldLog version width)
-IsReadingCause oldest most old new (refusal.Damaged cell cause) = ShowsFault oldest most old (open_fault.Damaged cell cause)
+IsReadingCause oldest most old new refusal.NotLog = HasFault oldest most old open_fault.NotLog
+IsReadingCause oldest most old new (refusal.OldLog version width) = HasFault oldest most old (open_fault.OldLog version width)
+IsReadingCause oldest most old new (refusal.Damaged cell cause) = HasFault oldest most old (open_fault.Damaged cell cause)
 IsReadingCause oldest most old new (refusal.Disk None) = Rose old.faults new.faults
-IsReadingCause oldest most old new refusal.LongLog = ShowsFault oldest most old (open_fault.TooLong most)
+IsReadingCause oldest most old new refusal.LongLog = HasFault oldest most old (open_fault.TooLong most)
 IsReadingCause oldest most old new refusal.Memory = ⊤
 IsReadingCause oldest most old new _ = ⊥

@@ -1,5 +1,5 @@
 -- Why a watch stops before the end of a log.
-use Rattle.std.proofs.Common.{◌≡◌, ◌⊎◌, inl, inr, ⊎_elim, ℕ, ◌≤◌, List, length, Some, None, Err, refl, sym, ◌∙◌, ap, subst, arith}
+use Rattle.std.proofs.Common.{◌≡◌, ◌⊎◌, inl, inr, ⊎_elim, ℕ, ◌≤◌, List, length, Some, None, Err, refl, ◌∙◌, ap, subst, arith}
 use Rattle.causes.specs.Causes.{Rose}
 use Rattle.disk_trait.specs.Drive.{Drive, Stays}
 use Rattle.cell_format.specs.declared.cell.Cell.{Cell}
@@ -10,13 +10,13 @@ use Rattle.recovery.specs.Faults.{IsInBytes}
 use Rattle.recovery.specs.Found.{IsFree}
 use Rattle.recovery.specs.Reading.{OnlyReads}
 use Rattle.recovery.specs.Walks.{IsOfHead}
-use Rattle.recovery.specs.Widths.{IsWidth, HasWidth, IsLogFault, ShowsFault}
+use Rattle.recovery.specs.Widths.{IsWidth, HasWidth, IsLogFault}
 use Rattle.recovery.proofs.OnlyReading.{stays-trans}
 use Rattle.recovery.proofs.WidthLemmas.{recovers_width}
 use Rattle.csv_rows.specs.declared.rows.Refusal.{Refusal}
 use Rattle.csv_rows.specs.declared.rows.Refusal.TheVariants as refusal
 use Rattle.run_ends.specs.Limits.{most_inspected, oldest_read}
-use Rattle.run_ends.specs.LogFaults.{log_refusal}
+use Rattle.run_ends.specs.LogFaults.{HasFault, MayTellLog, ShowsFault, log_refusal}
 use Rattle.run_ends.proofs.LogFaults.{reading-after, calm-free, calm-named}
 use Rattle.log_run.specs.Checking.{IsCheckingCause}
 use Rattle.log_run.proofs.DriveSteps.{calm-read}
@@ -36,7 +36,8 @@ calm-trans a b c first second = record { stays = stays-trans a b c first.stays s
 
 -- a fault that a call tells which only reads, and what the bytes say of it
 pub record FailsAlong (fences : List Fence) (old new : Drive) (e : OpenFault) : Type 0 where
-  pub wrong : (bytes : List ℕ) → old.bytes ≡ Some bytes → IsLogFault oldest_read most_inspected bytes e
+  pub wrong : ShowsFault oldest_read most_inspected old e
+  pub may : MayTellLog oldest_read most_inspected e
   pub crowd : (bytes : List ℕ) → old.bytes ≡ Some bytes → IsCrowded fences bytes → IsFree old new e
   pub exact : (bytes : List ℕ) (f : OpenFault) → old.bytes ≡ Some bytes → IsInBytes f → IsLogFault oldest_read most_inspected bytes f → (e ≡ f) ⊎ IsFree old new e
   pub whole : (bytes : List ℕ) (w : ℕ) (cells : List Cell) → old.bytes ≡ Some bytes → IsWidth w → Recovers w cells bytes → length cells ≤ most_inspected → IsFree old new e
@@ -47,7 +48,7 @@ pub refuses-fault : (fences : List Fence) (old new : Drive) (e : OpenFault) → 
 refuses-fault fences old new e fails =
     let rose : e ≡ fault.Disk → Rose old.faults new.faults = λ disk. fails.reads.failed (ap (λ (f : OpenFault). Err f) disk) in
     record {
-      cause = inl (reading-after oldest_read most_inspected old old new e (stays-still old) (omega arith) fails.wrong rose);
+      cause = inl (reading-after oldest_read most_inspected old old new e (stays-still old) (omega arith) fails.wrong fails.may rose);
       over = λ bytes told crowd calm. inr (calm-free old old new e (omega arith) calm (fails.crowd bytes told crowd));
       exact = λ bytes f told shown is none calm. calm-named old old new e f (omega arith) calm (fails.exact bytes f told shown is);
       whole = λ bytes w cells told known recovers few under calm. calm-free old old new e (omega arith) calm (fails.whole bytes w cells told known recovers few);
@@ -82,15 +83,15 @@ module _ (a b c : Drive) (stays : Stays a b) (same : b.faults ≡ a.faults) wher
   rose-first : Rose b.faults c.faults → Rose a.faults c.faults
   rose-first rose = subst (λ n. Rose n c.faults) same rose
 
-  rose-then : Rose a.faults c.faults → Rose b.faults c.faults
-  rose-then rose = subst (λ n. Rose n c.faults) (sym same) rose
+  fault-later : (e : OpenFault) → HasFault oldest_read most_inspected b e → HasFault oldest_read most_inspected a e
+  fault-later e has = ((λ bytes told. has.0 bytes (stays.bytes ∙ told)), has.1)
 
   cause-later : (why : Refusal) → IsCheckingCause b c why → IsCheckingCause a c why
-  cause-later refusal.NotLog cause = λ bytes told. cause bytes (stays.bytes ∙ told)
-  cause-later (refusal.OldLog version width) cause = λ bytes told. cause bytes (stays.bytes ∙ told)
-  cause-later (refusal.Damaged cell what) cause = λ bytes told. cause bytes (stays.bytes ∙ told)
+  cause-later refusal.NotLog cause = fault-later fault.NotLog cause
+  cause-later (refusal.OldLog version width) cause = fault-later (fault.OldLog version width) cause
+  cause-later (refusal.Damaged cell what) cause = fault-later (fault.Damaged cell what) cause
   cause-later (refusal.Disk None) cause = rose-first cause
-  cause-later refusal.LongLog cause = λ bytes told. cause bytes (stays.bytes ∙ told)
+  cause-later refusal.LongLog cause = fault-later (fault.TooLong most_inspected) cause
   cause-later refusal.Memory cause = tt
   cause-later (refusal.Disk (Some cell)) cause = absurd cause
   cause-later refusal.Usage cause = absurd cause
@@ -115,11 +116,12 @@ module _ (a b c : Drive) (stays : Stays a b) (same : b.faults ≡ a.faults) wher
   }
 
 -- a head that isn't read
-pub fails-head : (fences : List Fence) (old new : Drive) (e : OpenFault) → OnlyReads {T = Unit {0}} old new (Err e) → ShowsFault oldest_read most_inspected old e
+pub fails-head : (fences : List Fence) (old new : Drive) (e : OpenFault) → OnlyReads {T = Unit {0}} old new (Err e) → ShowsFault oldest_read most_inspected old e → MayTellLog oldest_read most_inspected e
     → ((bytes : List ℕ) (f : OpenFault) → old.bytes ≡ Some bytes → IsInBytes f → IsOfHead f → IsLogFault oldest_read most_inspected bytes f → (e ≡ f) ⊎ IsFree old new e)
     → ((bytes : List ℕ) (w : ℕ) → old.bytes ≡ Some bytes → HasWidth w bytes → IsFree old new e) → FailsAlong fences old new e
-fails-head fences old new e reads wrong exact whole = record {
+fails-head fences old new e reads wrong may exact whole = record {
   wrong = wrong;
+  may = may;
   crowd = λ bytes told crowd. whole bytes crowd.width told (crowd-width fences bytes crowd);
   exact = named;
   whole = λ bytes w cells told known recovers few. whole bytes w told (recovers_width w cells bytes known recovers);

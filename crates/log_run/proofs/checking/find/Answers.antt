@@ -14,7 +14,7 @@ returns-in-Err-inspect_log-clause-cause g c =
     let old = g.D.LogDisk.drive c.args.disk.now in
     let new = g.D.LogDisk.drive c.inspect_log.new.disk in
     subst (λ (why : Refusal). IsCheckingCause old new why) (sym c.log_refusal.ensures)
-    (checking-after old (g.D.LogDisk.drive c.attach.new.disk) new c.inspect_log.result c.in-Err-inspect_log.fault c.in-Err-inspect_log.is c.in_default.ensures.attached.stays (omega (arith, c.in_default.ensures.attached.calm)) c.in-Err-inspect_log.ensures.fault.0 c.inspect_log.ensures.reads)
+    (checking-after old (g.D.LogDisk.drive c.attach.new.disk) new c.inspect_log.result c.in-Err-inspect_log.fault c.in-Err-inspect_log.is c.in_default.ensures.attached.stays (omega (arith, c.in_default.ensures.attached.calm)) c.in-Err-inspect_log.ensures.fault.0 c.in-Err-inspect_log.ensures.fault.1 c.inspect_log.ensures.reads)
 
 pub returns-in-Err-inspect_log-clause-decided : goal.returns-in-Err-inspect_log-clause-decided
 returns-in-Err-inspect_log-clause-decided g c =
