@@ -26,7 +26,7 @@ use Rattle.recovery.specs.Replay.{ReplayView}
 use Rattle.recovery.specs.Room.{HasRoomAfter}
 use Rattle.recovery.specs.Walked.{object_of, place_in, IsNextWalked}
 use Rattle.recovery.specs.Pieces.{FailsAt}
-use Rattle.recovery.specs.Reading.{ReadingView, HasRead, FailsIn, IsBehind, Stops, StartsFor, SameLog, NeedsNoPiece, HasAllThatIsLeft, IsFilled, IsEmptied, PassesOn, WalksOn, Advances, ReadsPiece}
+use Rattle.recovery.specs.Reading.{ReadingView, HasRead, FailsIn, IsBehind, Stops, StartsFor, SameLog, HasAllThatIsLeft, IsFilled, IsEmptied, PassesOn, WalksOn, Advances, ReadsPiece}
 use Rattle.recovery.specs.Headers.{HasHeader}
 use Rattle.recovery.specs.Widths.{IsWidth}
 use Rattle.recovery.specs.Wanted.{IsWidthFor, MayTellCells}
@@ -332,22 +332,6 @@ filled_by drive old buffer got reads long some room =
       ready = λ xs told whole short set few. omega (arith, (reads.1 xs told).0, size, whole, short, room);
       keeps = λ cells read. refilled cells drive old read (take got buffer) (λ xs told. (reads.1 xs told).1 ∙ ap (λ n. take n (drop (16 + 32 * old.number) xs)) (sym size));
     }
-
-pub filled_before : (drive : Drive) (old new : ReadingView) → new ≡ old → NeedsNoPiece old → IsFilled drive old new
-filled_before drive old new is needs = subst (IsFilled drive old) (sym is) (record {
-  same = refl;
-  some = needs.some;
-  ready = λ xs told whole short set few. absurd (needs.told short set few);
-  keeps = λ cells read. read;
-})
-
--- a file with room for a commit byte isn't read empty
-pub never_empty : (drive : Drive) (old : ReadingView) (buffer : List ℕ) (got : ℕ) (e : OpenFault) → ReadsPiece drive (16 + 32 * old.number) (min 65537 (old.len - (16 + 32 * old.number))) buffer got → got ≡ 0 → 17 + 32 * old.number ≤ old.len
-    → IsBehind old.most old.number e → Stops drive old e
-never_empty drive old buffer got e reads none room behind = (
-  behind,
-  λ cells read xs told oldest wanted. absurd (omega (arith, (reads.1 xs told).0, (read.begins xs told).0, none, room)),
-)
 
 -- a read into the front of a buffer
 pub piece_read : (drive : Drive) (at room most : ℕ) (buffer into rest : List ℕ) (result : Result ℕ DiskFault) → most ≡ room → length (take room buffer) ≡ room → length into ≡ length (take room buffer) → Reads drive at (take room buffer) into result

@@ -1,5 +1,5 @@
 -- A map from the numbers of splits to their names, and the list of open splits that it stands for.
-use Rattle.std.proofs.Common.{◌≡◌, ℕ, ◌<◌, ◌≤◌, Bool, true, false, cond, inl, inr, Option, List, [], ◌∷◌, ◌++◌, Some, None, refl, sym, ap, ◌∙◌, arith}
+use Rattle.std.proofs.Common.{◌≡◌, ℕ, ◌<◌, ◌≤◌, Bool, true, false, cond, inl, inr, Option, List, [], ◌∷◌, ◌++◌, Some, refl, sym, ap, ◌∙◌, arith}
 use Rattle.std.specs.Prelude.{◌==◌}
 use Rattle.std.specs.Ordering.{nat_cmp}
 use Rattle.std.specs.BTreeMap.{insert_entry, is_at}
@@ -106,9 +106,6 @@ without_split-other number name (s ∷ splits) rising other = elim (cases_eq s.n
       let rest : without_split number name splits ≡ splits = without_split-other number name splits rising.1 (λ f. other (ap (λ b. cond b (Some s.name) (split_name splits number)) skip ∙ f)) in
       grind (arith, nat_tests, common_steps)
 ]
-
-pub none_found : (name : List Bool) (o : Option (List Bool)) → o ≡ None → o ≡ Some name → ⊥
-none_found name o none some = let e : ◌≡◌ {A = Option (List Bool)} None (Some name) = sym none ∙ some in cc e
 
 pub found_same : (a b : List Bool) (o : Option (List Bool)) → o ≡ Some a → o ≡ Some b → a ≡ b
 found_same a b o first second = let e : ◌≡◌ {A = Option (List Bool)} (Some a) (Some b) = sym first ∙ second in cc e

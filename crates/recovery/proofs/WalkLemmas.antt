@@ -1,7 +1,6 @@
 -- What calls on a reading say of the log: of the next cell, and of all.
 use Rattle.std.proofs.Common.{◌≡◌, ◌⊎◌, ℕ, ◌≤◌, List, [], ◌∷◌, ◌++◌, length, Option, Some, None, sym, ◌∙◌, ap, subst, arith, length-append, lit≤}
 use Rattle.std.specs.Prelude.{Result, Ok, Err}
-use Rattle.std.specs.Result.{IsErrAnd}
 use Rattle.cell_format.specs.declared.cell.Cell.{Cell}
 use Rattle.disk_trait.specs.Drive.{Drive, SameFile, Stays}
 use Rattle.split_log.specs.LogText.{HoldsCells}
@@ -20,7 +19,7 @@ use Rattle.recovery.specs.Walks.{WalkView, ComesTo, TellsWalked, TellsFault, Tel
 use Rattle.recovery.proofs.Exclusive.{known_version, behind_header, header_is_new, recovers_no_fault, recovers_wanted, told_fault, told_free, one_recovery}
 use Rattle.recovery.proofs.HeadLemmas.{index_version, header_is_log}
 use Rattle.recovery.proofs.OnlyReading.{stays-trans}
-use Rattle.recovery.proofs.ReadingLemmas.{behind_may, has_read-stays, same_log-trans, same_log-refl}
+use Rattle.recovery.proofs.ReadingLemmas.{behind_may, has_read-stays, same_log-trans}
 
 -- all cells of a log, one after the other
 module _ (before now after : Drive) (first r new : ReadingView) (way : IsOnWay before now first r) (stays : Stays now after) (file : SameFile now after) where
@@ -124,15 +123,6 @@ module _ {D : Type 0} (w most : ℕ) (cells : List Cell) (old new : Drive) (walk
         subst (λ m. IsBehind m (length cells) e) come.most_is told.1,
         λ xs is. subst (λ m. IsFault 1 w m xs e) come.most_is (subst (λ n. IsFault 1 n walk.reading.most xs e) come.width (told.2 xs is 1 come.wanted)),
       )
-
-  -- room that wasn't there
-  pub tells_memory : next.reading ≡ walk.reading → (result : Result (Option Walked) OpenFault) → IsErrAnd result (λ e. e ≡ fault.Memory) → TellsWalked w most cells old new next result
-  tells_memory same (Ok x) is = absurd is
-  tells_memory same (Err e) is = subst (λ f. TellsWalked w most cells old new next (Err f)) (sym is) (
-    comes_on cells (subst (HasRead cells old) (sym same) come.read) (same_log-refl walk.reading next.reading same) come.few,
-    tt,
-    λ xs told. tt,
-  )
 
 -- what the bytes show is what is told
 module _ {D : Type 0} (w most : ℕ) (cells : List Cell) (old new : Drive) (next : WalkView D) (bytes : List ℕ) (known : old.bytes ≡ Some bytes) where
