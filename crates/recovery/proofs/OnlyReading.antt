@@ -1,16 +1,14 @@
 -- Calls that only read, one after the other.
-use Rattle.std.proofs.Common.{◌≡◌, ◌≢◌, ℕ, ◌≤◌, sym, ◌∙◌, ap, subst, arith}
-use Rattle.std.specs.Prelude.{Result, Ok, Err, IfErr, MatchResult, IsErrOf}
-use Rattle.std.specs.Result.{IsErrAnd}
+use Rattle.std.proofs.Common.{◌≡◌, ◌≢◌, ℕ, ◌≤◌, ◌∙◌, subst, arith}
+use Rattle.std.specs.Prelude.{Result, Ok, Err, IfErr}
 use Rattle.causes.specs.Causes.{Rose}
 use Rattle.disk_trait.specs.Drive.{Drive, SameFile, Stays}
-use Rattle.cell_format.specs.declared.cell.Cause.{Cause}
 use Rattle.recovery.specs.declared.seen.OpenFault.{OpenFault}
-use Rattle.recovery.specs.declared.seen.OpenFault.TheVariants.{Damaged, Disk, Memory}
+use Rattle.recovery.specs.declared.seen.OpenFault.TheVariants.{Disk}
 use Rattle.recovery.specs.declared.seen.Seen.{Seen}
 use Rattle.recovery.specs.Faults.{IsInBytes}
 use Rattle.recovery.specs.Found.{IsFound}
-use Rattle.recovery.specs.Reading.{OnlyReads, IsFoundIn}
+use Rattle.recovery.specs.Reading.{OnlyReads}
 
 pub stays-trans : (a b c : Drive) → Stays a b → Stays b c → Stays a c
 stays-trans a b c first second = record {
@@ -24,10 +22,6 @@ stays-trans a b c first second = record {
 
 pub rose-earlier : (a b c : ℕ) → a ≤ b → Rose b c → Rose a c
 rose-earlier a b c le rose = omega (arith, le, rose)
-
-err_same : {T : Type 0} (result : Result T OpenFault) (fault : OpenFault) → IsErrAnd result (λ e. e ≡ fault) → IsErrOf result Disk → Disk ≡ fault
-err_same (Ok x) fault same is = cc is
-err_same (Err e) fault same is = let e_is : e ≡ Disk = cc is in sym e_is ∙ same
 
 -- what was found is said of the drive before calls that left its bytes
 pub found_before : (oldest w most : ℕ) (a b : Drive) (seen : Seen) → b.bytes ≡ a.bytes → IsFound oldest w most b seen → IsFound oldest w most a seen

@@ -26,7 +26,7 @@ use Rattle.recovery.specs.Replay.{ReplayView}
 use Rattle.recovery.specs.Room.{HasRoomAfter}
 use Rattle.recovery.specs.Walked.{object_of, place_in, IsNextWalked}
 use Rattle.recovery.specs.Pieces.{FailsAt}
-use Rattle.recovery.specs.Reading.{ReadingView, HasRead, FailsIn, IsBehind, Stops, StartsFor, SameLog, NeedsNoPiece, HasAllThatIsLeft, IsFilled, IsEmptied, PassesOn, WalksOn, Advances, ReadsPiece}
+use Rattle.recovery.specs.Reading.{ReadingView, HasRead, FailsIn, IsBehind, Stops, StartsFor, SameLog, HasAllThatIsLeft, IsFilled, IsEmptied, PassesOn, WalksOn, Advances, ReadsPiece}
 use Rattle.recovery.specs.Headers.{HasHeader}
 use Rattle.recovery.specs.Widths.{IsWidth}
 use Rattle.recovery.specs.Wanted.{IsWidthFor, MayTellCells}

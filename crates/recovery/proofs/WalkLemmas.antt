@@ -1,7 +1,6 @@
 -- What calls on a reading say of the log: of the next cell, and of all.
 use Rattle.std.proofs.Common.{◌≡◌, ◌⊎◌, ℕ, ◌≤◌, List, [], ◌∷◌, ◌++◌, length, Option, Some, None, sym, ◌∙◌, ap, subst, arith, length-append, lit≤}
 use Rattle.std.specs.Prelude.{Result, Ok, Err}
-use Rattle.std.specs.Result.{IsErrAnd}
 use Rattle.cell_format.specs.declared.cell.Cell.{Cell}
 use Rattle.disk_trait.specs.Drive.{Drive, SameFile, Stays}
 use Rattle.split_log.specs.LogText.{HoldsCells}
@@ -20,7 +19,7 @@ use Rattle.recovery.specs.Walks.{WalkView, ComesTo, TellsWalked, TellsFault, Tel
 use Rattle.recovery.proofs.Exclusive.{known_version, behind_header, header_is_new, recovers_no_fault, recovers_wanted, told_fault, told_free, one_recovery}
 use Rattle.recovery.proofs.HeadLemmas.{index_version, header_is_log}
 use Rattle.recovery.proofs.OnlyReading.{stays-trans}
-use Rattle.recovery.proofs.ReadingLemmas.{behind_may, has_read-stays, same_log-trans, same_log-refl}
+use Rattle.recovery.proofs.ReadingLemmas.{behind_may, has_read-stays, same_log-trans}
 
 -- all cells of a log, one after the other
 module _ (before now after : Drive) (first r new : ReadingView) (way : IsOnWay before now first r) (stays : Stays now after) (file : SameFile now after) where
