@@ -12,8 +12,9 @@ use Rattle.recovery.specs.declared.seen.OpenFault.TheVariants as open_fault
 use Rattle.recovery.specs.declared.seen.OpenRefused.{OpenRefused}
 use Rattle.recovery.specs.Faults.{IsFault, IsInBytes}
 use Rattle.recovery.specs.Found.{IsFree}
-use Rattle.recovery.specs.Reading.{OnlyReads}
+use Rattle.recovery.specs.Reading.{IsBehind, OnlyReads}
 use Rattle.recovery.specs.Walks.{WalkView, ComesTo, TellsWalked, IsOfHead}
+use Rattle.recovery.specs.Wanted.{MayTellLog}
 use Rattle.recovery.specs.declared.walked.Walked.{Walked}
 use Rattle.recovery.specs.Widths.{IsWidth, IsWidthOf, HasWidth, IsLogFault}
 use Rattle.recovery.proofs.Exclusive.{one_fault, recovers_no_fault, recovers_wanted, one_recovery}
@@ -96,13 +97,13 @@ reads-leader file w a b c cells x stays same attached reads found = record {
 
 -- a file that was attached, and whose log wasn't read
 pub loses-leader : {T : Type 0} (file : List ℕ) (a b c : Drive) (e : OpenFault) → Stays a b → b.faults ≡ a.faults → AttachedOne file false a b → OnlyReads {T = T} b c (Err e)
-    → ((bytes : List ℕ) → b.bytes ≡ Some bytes → IsLogFault oldest_read most_followed bytes e)
+    → ((bytes : List ℕ) → b.bytes ≡ Some bytes → IsLogFault oldest_read most_followed bytes e) → MayTellLog oldest_read most_followed e
     → ((bytes : List ℕ) (f : OpenFault) → b.bytes ≡ Some bytes → IsInBytes f → IsLogFault oldest_read most_followed bytes f → (e ≡ f) ⊎ IsFree b c e)
     → ((w : ℕ) (cells : List Cell) → RecoversLeader w cells b → IsFree b c e) → LosesLeader file a c (log_refusal e)
-loses-leader {T = T} file a b c e stays same attached reads wrong exact whole =
+loses-leader {T = T} file a b c e stays same attached reads wrong may exact whole =
     let later : a.faults ≤ b.faults = omega (arith, same) in
     record {
-      cause = reading-after oldest_read most_followed a b c e stays later wrong (λ disk. reads.failed (ap (λ (f : OpenFault). Err f) disk));
+      cause = reading-after oldest_read most_followed a b c e stays later wrong may (λ disk. reads.failed (ap (λ (f : OpenFault). Err f) disk));
       exact = λ bytes f told shown is calm. calm-named a b c e f later calm (exact bytes f (stays.bytes ∙ told) shown is);
       whole = λ w cells is calm. calm-free a b c e later calm (whole w cells (record { known = is.known; bytes = is.bytes; told = stays.bytes ∙ is.told; recovers = is.recovers; few = is.few }));
       read = record {
@@ -157,6 +158,15 @@ along-exact bytes a b e (open_fault.Damaged number why) head whole shown is = in
 along-exact bytes a b e (open_fault.TooLong limit) head whole shown is = inr (whole is.0 is.1)
 along-exact bytes a b e open_fault.Disk head whole shown is = absurd shown
 along-exact bytes a b e open_fault.Memory head whole shown is = absurd shown
+
+-- what is told behind so many cells may be
+pub may-behind : (number : ℕ) (e : OpenFault) → IsBehind most_followed number e → MayTellLog oldest_read most_followed e
+may-behind number open_fault.NotLog behind = absurd behind
+may-behind number (open_fault.OldLog version width) behind = absurd behind
+may-behind number (open_fault.Damaged n why) behind = omega (arith, behind.0, behind.1)
+may-behind number (open_fault.TooLong limit) behind = behind.0
+may-behind number open_fault.Disk behind = tt
+may-behind number open_fault.Memory behind = tt
 
 -- a log whose width was read, and then its cells
 module _ {D T : Type 0} (drive : D → Drive) (a b : Drive) (x : T) (first : OnlyReads a b (Ok x)) (w : ℕ) (has : (bytes : List ℕ) → a.bytes ≡ Some bytes → HasWidth w bytes) (result : Result (Leader D) (OpenRefused D))

@@ -7,6 +7,7 @@ ghost use Rattle.recovery.specs.Faults.{IsFault, IsInBytes};
 ghost use Rattle.recovery.specs.Found.{IsFree};
 ghost use Rattle.recovery.specs.Reading.{OnlyReads};
 ghost use Rattle.recovery.specs.Walks.{ComesTo};
+ghost use Rattle.recovery.specs.Wanted.{MayTellLog};
 ghost use Rattle.recovery.specs.Widths.{IsWidth, IsLogFault};
 ghost use Rattle.follower.specs.Holding.{most_followed};
 ghost use Rattle.run_ends.specs.Limits.{oldest_read};
@@ -55,6 +56,7 @@ fn read_leader<D: LogDisk>(alloc: Global, disk: D) -> Result<Leader<D>, OpenRefu
     ensures found { IfOk result (λ l. FindsLeader l.width (D.drive disk) l.cells.items) }
     ensures fault { IfErr result (λ e. (bytes : List ℕ) → (D.drive disk).bytes ≡ Some bytes
         → IsLogFault oldest_read most_followed bytes e.cause) }
+    ensures may { IfErr result (λ e. MayTellLog oldest_read most_followed e.cause) }
     ensures exact { (bytes : List ℕ) (fault : OpenFault) → (D.drive disk).bytes ≡ Some bytes → IsInBytes fault
         → IsLogFault oldest_read most_followed bytes fault
         → IsErrAnd result (λ e. (e.cause ≡ fault) ⊎ IsFree (D.drive disk) (D.drive e.disk) e.cause) }
@@ -76,6 +78,7 @@ fn walk_leader<D: LogDisk>(alloc: Global, mut walk: Walk<D>) -> Result<Leader<D>
         × FindsLeader walk.reading.replay.width (D.drive walk.disk) l.cells.items) }
     ensures fault { IfErr result (λ e. (bytes : List ℕ) → (D.drive walk.disk).bytes ≡ Some bytes
         → IsFault oldest_read walk.reading.replay.width most_followed bytes e.cause) }
+    ensures may { IfErr result (λ e. MayTellLog oldest_read most_followed e.cause) }
     ensures reads { MatchResult result (λ l. OnlyReads {T = Unit {0}} (D.drive walk.disk) (D.drive l.disk) (Ok tt))
         (λ e. OnlyReads {T = Unit {0}} (D.drive walk.disk) (D.drive e.disk) (Err e.cause)) }
 {
@@ -99,6 +102,7 @@ fn collect<D: LogDisk>(alloc: Global, walk: &mut Walk<D>) -> Result<Vec<Cell>, O
     ensures found { IfOk result (λ cells. FindsLeader walk.old.reading.replay.width (D.drive walk.old.disk) cells.items) }
     ensures fault { IfErr result (λ e. (bytes : List ℕ) → (D.drive walk.old.disk).bytes ≡ Some bytes
         → IsFault oldest_read walk.old.reading.replay.width most_followed bytes e) }
+    ensures may { IfErr result (MayTellLog oldest_read most_followed) }
     ensures reads { OnlyReads (D.drive walk.old.disk) (D.drive walk.new.disk) result }
 {
     let mut cells = Vec::new(alloc);

@@ -66,7 +66,7 @@ log-refused file a b c why laws at refused keeps exact whole =
     let later : a.faults ≤ b.faults = omega (arith, at.calm) in
     let leaves = refused.leaves in
     record {
-      cause = reading-after oldest_played most_played a b c why stays later refused.shows refused.rose;
+      cause = reading-after oldest_played most_played a b c why stays later refused.shows refused.may refused.rose;
       exact = λ bytes fault told shown is calm. calm-named a b c why fault later calm (exact bytes fault (stays.bytes ∙ told) shown is);
       whole = λ good. calm-free a b c why later good.calm (whole good.width good.bytes good.first good.known (stays.bytes ∙ good.told) good.recovers good.version good.few);
       keeps = λ w bytes told has. keeps-cells-after w a b c laws stays (keeps.cells w);

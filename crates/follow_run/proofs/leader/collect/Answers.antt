@@ -1,9 +1,9 @@
-use Rattle.std.proofs.Common.{◌∙◌, List, sym, subst}
+use Rattle.std.proofs.Common.{◌∙◌, List, length, sym, subst}
 use Rattle.cell_format.specs.declared.cell.Cell.{Cell}
 use Rattle.recovery.specs.Walks.{ComesTo}
 use Rattle.follower.specs.Holding.{most_followed}
 use Rattle.follow_run.proofs.PlayFacts.{passed-on}
-use Rattle.follow_run.proofs.LeaderFacts.{next-told, end-told, found-before, reads-on}
+use Rattle.follow_run.proofs.LeaderFacts.{next-told, end-told, found-before, may-behind, reads-on}
 use Rattle.follow_run.proofs.leader.collect.Goals as goal
 
 pub returns-in_err-walked-clause-fault : goal.returns-in_err-walked-clause-fault
@@ -11,6 +11,12 @@ returns-in_err-walked-clause-fault g c =
     let w = c.args.walk.now.reading.replay.width in
     passed-on c.from_residual.result _ _ c.from_residual.ensures.1
     (λ bytes told. (c.in_err-walked.ensures.tells w most_followed c.loop-cells.cells.items c.loop-cells.invariant.0).2 bytes (c.loop-cells.invariant.1.stays.bytes ∙ told))
+
+pub returns-in_err-walked-clause-may : goal.returns-in_err-walked-clause-may
+returns-in_err-walked-clause-may g c =
+    let w = c.args.walk.now.reading.replay.width in
+    passed-on c.from_residual.result _ _ c.from_residual.ensures.1
+    (may-behind (length c.loop-cells.cells.items) _ (c.in_err-walked.ensures.tells w most_followed c.loop-cells.cells.items c.loop-cells.invariant.0).1)
 
 pub loop-cells-preserved : goal.loop-cells-preserved
 loop-cells-preserved g c =

@@ -21,4 +21,4 @@ returns-in-Err-read_leader-clause-lost g c =
     let refused = c.in-Err-read_leader.field-0 in
     let is = c.in-Err-read_leader.ensures in
     subst (λ (why : Refusal). LosesLeader c.args.file.now a (g.D.LogDisk.drive refused.disk) why) (sym c.log_refusal-why.ensures)
-    (loses-leader c.args.file.now a b (g.D.LogDisk.drive refused.disk) refused.cause c.in_default.ensures.attached.stays c.in_default.ensures.attached.calm c.in_default.ensures.attached.named is.reads is.fault is.exact is.whole)
+    (loses-leader c.args.file.now a b (g.D.LogDisk.drive refused.disk) refused.cause c.in_default.ensures.attached.stays c.in_default.ensures.attached.calm c.in_default.ensures.attached.named is.reads is.fault is.may is.exact is.whole)

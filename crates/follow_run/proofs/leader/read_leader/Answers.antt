@@ -50,6 +50,9 @@ returns-in-Ok-clause-reads g c =
 pub returns-in-Err-clause-fault : goal.returns-in-Err-clause-fault
 returns-in-Err-clause-fault g c = c.in-Err.ensures.fault.0
 
+pub returns-in-Err-clause-may : goal.returns-in-Err-clause-may
+returns-in-Err-clause-may g c = c.in-Err.ensures.fault.2
+
 pub returns-in-Err-clause-exact : goal.returns-in-Err-clause-exact
 returns-in-Err-clause-exact g c = λ bytes fault told shown is.
     along-exact bytes (g.D.LogDisk.drive c.args.disk) (g.D.LogDisk.drive c.in-Err.refused.disk) c.in-Err.refused.cause fault (λ head. c.in-Err.ensures.exact bytes fault told shown head is)
