@@ -1,8 +1,9 @@
 //! What each verb may be answered.
 ghost use Rattle.std.specs.Prelude.{◌≡◌};
-ghost use Rattle.store_client.specs.Verbs.{put_answer, move_answer, gone_answer, at_answer, listed_answer, nearest_answer, IsOfPut, IsOfMove, IsOfRemove, IsOfFind, IsOfWithin, IsOfNear};
+ghost use Rattle.store_client.specs.Verbs.{put_answer, move_answer, gone_answer, at_answer, listed_answer, nearest_answer, IsOfPut, IsOfMove, IsOfRemove, IsOfFind, IsOfWithin, IsOfNear, put_report};
 
 use plain_list::{Answer, PlacedList, Stamped};
+use sessions::CallFault;
 
 /// The answers to a put.
 #[derive(Clone, Copy, Debug, PartialEq, Eq)]
@@ -32,6 +33,19 @@ pub enum Listed {
     All(PlacedList),
     /// There are too many for a list: so many.
     Many(u64),
+}
+
+/// The answers to a report.
+#[derive(Clone, Copy, Debug, PartialEq, Eq)]
+pub enum Report {
+    /// The object is new.
+    New,
+    /// It was moved from here.
+    From(Stamped),
+    /// It has a later moment, and stays where it was.
+    Stale(Stamped),
+    /// It is new, and there are as many objects as there may be.
+    Full,
 }
 
 pub(crate) fn put_reply(answer: Answer) -> PutReply
@@ -98,5 +112,17 @@ pub(crate) fn nearest_reply(answer: Answer) -> PlacedList
     match answer {
         Answer::Found(objects) => objects,
         _ => unreachable!(),
+    }
+}
+
+/// What a report is told by its put: nothing where that was too late.
+pub(crate) fn put_report(told: Result<PutReply, CallFault>) -> Result<Option<Report>, CallFault>
+    ensures { result ≡ put_report told }
+{
+    match told {
+        Ok(PutReply::Done) => Ok(Some(Report::New)),
+        Ok(PutReply::Full) => Ok(Some(Report::Full)),
+        Ok(PutReply::Present(_)) => Ok(None),
+        Err(fault) => Err(fault),
     }
 }

@@ -2,13 +2,13 @@
 ghost use Rattle.std.specs.Prelude.{◌≡◌, ◌≤◌};
 ghost use Rattle.zorder.specs.Region.{IsBox};
 ghost use Rattle.store_client.specs.Caller.{Keeps};
-ghost use Rattle.store_client.specs.Verbs.{put_answer, move_answer, gone_answer, at_answer, listed_answer, nearest_answer, AskedAs};
+ghost use Rattle.store_client.specs.Verbs.{put_answer, move_answer, gone_answer, at_answer, listed_answer, nearest_answer, AskedAs, TriesOnce, Reports};
 
 use crate::answers::{
-    Listed, MoveReply, PutReply, at_reply, gone_reply, listed_reply, move_reply, nearest_reply,
-    put_reply,
+    Listed, MoveReply, PutReply, Report, at_reply, gone_reply, listed_reply, move_reply,
+    nearest_reply, put_reply, put_report,
 };
-use crate::client::{Client, Reply};
+use crate::client::Client;
 use disk_trait::LogDisk;
 use index_layer::Index;
 use plain_list::{Op, PlacedList, Stamped};
@@ -84,5 +84,47 @@ impl<'s, I: Index, D: LogDisk, O: Start> Client<'s, I, D, O> {
     {
         let reply = self.ask(rt, &Op::Near { at, k })?;
         Ok(nearest_reply(reply.answer))
+    }
+
+    // Tries to say where an object is. Where another caller has put it between the move and the put, nothing is told.
+    fn try_report<R: Wait>(
+        &mut self,
+        rt: &R,
+        id: u64,
+        at: Point,
+        moment: u64,
+    ) -> Result<Option<Report>, CallFault>
+        ensures tries { TriesOnce I.WIDTH id at moment self.old self.new result }
+        ensures client { Keeps self.old self.new }
+    {
+        match self.move_to(rt, id, at, moment) {
+            Ok(MoveReply::From(from)) => return Ok(Some(Report::From(from))),
+            Ok(MoveReply::Stale(kept)) => return Ok(Some(Report::Stale(kept))),
+            Ok(MoveReply::Absent) => {}
+            Err(fault) => return Err(fault),
+        }
+        let told = self.put(rt, id, at, moment);
+        put_report(told)
+    }
+
+    /// Says where an object is now: a move, and where there is no such object, a put. Where another caller has put it meanwhile, again.
+    pub fn report<R: Wait>(
+        &mut self,
+        rt: &R,
+        id: u64,
+        at: Point,
+        moment: u64,
+    ) -> Result<Report, CallFault>
+        ensures reports { Reports I.WIDTH id at moment self.old self.new result }
+        ensures client { Keeps self.old self.new }
+    {
+        for _ in rt.forever() {
+            match self.try_report(rt, id, at, moment) {
+                Ok(Some(told)) => return Ok(told),
+                Ok(None) => {}
+                Err(fault) => return Err(fault),
+            }
+        }
+        unreachable!()
     }
 }
