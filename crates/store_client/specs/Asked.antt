@@ -1,0 +1,34 @@
+-- What a client promises of a call.
+use Rattle.std.specs.Prelude.{◌≡◌, ℕ, Result, Ok, Err, IfErr}
+use Rattle.plain_list.specs.declared.ops.Op.{Op}
+use Rattle.commit_book.specs.declared.book.Done.{Done}
+use Rattle.book_lock.specs.Pass.{Known}
+use Rattle.sessions.specs.declared.faults.CallFault.{CallFault}
+use Rattle.sessions.specs.Calls.{Called}
+use Rattle.sessions.specs.Lanes.{Tries}
+use Rattle.sessions.specs.Opens.{leaves_seen, places_seen, listed_by, Opens, OpensRefused}
+use Rattle.sessions.specs.Splits.{SamePass}
+use Rattle.store_client.specs.Caller.{Caller, has_asked}
+use Rattle.store_client.specs.declared.client.Reply.{Reply}
+
+-- what stands behind a call: the split of the leaf that it told, where it was answered, and nothing where it was refused
+abbrev pub Follows : ℕ → Known → Known → Result Done CallFault → Result Reply CallFault → Type 0
+Follows w mid new (Ok done) (Ok reply) = (reply.place ≡ done.place) × (reply.answer ≡ done.answer) × Tries w done.full mid new reply.split
+Follows w mid new (Err fault) (Err told) = (told ≡ fault) × (new ≡ mid)
+Follows w mid new (Ok done) (Err told) = ⊥
+Follows w mid new (Err fault) (Ok reply) = ⊥
+
+-- What a client promises of a call: what the store told, and the pass after that; the split behind it; and nothing else changed.
+pub record Asked (w : ℕ) (op : Op) (old new : Caller) (result : Result Reply CallFault) : Type 0 where
+  pub mid : Known
+  pub told : Result Done CallFault
+  pub called : Called w old.session old.row op old.pass mid told
+  pub follows : Follows w mid new.pass told result
+  pub client : new ≡ has_asked old new.pass
+  pub same : SamePass old.pass new.pass
+
+-- the same, and how often a bucket was opened for it
+pub record AskedCounted (w : ℕ) (op : Op) (old new : Caller) (before now : ℕ) (result : Result Reply CallFault) : Type 0 where
+  pub asked : Asked w op old new result
+  pub opened : Opens op (leaves_seen w asked.mid) (places_seen asked.mid) (listed_by (λ (reply : Reply). reply.answer) result) before now
+  pub refused : IfErr result (λ fault. OpensRefused fault before now)

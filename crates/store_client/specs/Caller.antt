@@ -1,0 +1,34 @@
+-- What a client is to contracts.
+use Rattle.std.specs.Prelude.{◌≡◌, ℕ, ◌+◌, ◌-◌, ◌^◌, min, false, []}
+use Rattle.atomic_table.specs.Seated.{TableId}
+use Rattle.book_lock.specs.Pass.{Known}
+
+-- the pass is of this lock, and doesn't hold it
+abbrev pub IsFree : TableId → Known → Type 0
+IsFree lock pass = (pass.lock ≡ lock) × (pass.holds ≡ false)
+
+-- a client: its pass, its session, and the number of its next row
+pub record Caller : Type 0 where
+  pub pass : Known
+  pub session : ℕ
+  pub row : ℕ
+
+-- a client of the same store with as many parts and the same session: what no call changes
+abbrev pub Keeps : Caller → Caller → Type 0
+Keeps old new = (new.pass.lock ≡ old.pass.lock) × (new.pass.parts ≡ old.pass.parts) × (new.session ≡ old.session)
+
+-- the number behind a row's
+abbrev pub next_row : ℕ → ℕ
+next_row row = min (row + 1) (2 ^ 32 - 1)
+
+-- a client that has asked once more, and whose pass is this then
+abbrev pub has_asked : Caller → Known → Caller
+has_asked old pass = record { pass = pass; session = old.session; row = next_row old.row }
+
+-- a client that has given one of its parts away
+abbrev pub without_part : Caller → Caller
+without_part old = record old { pass = record old.pass { parts = old.pass.parts - 1 } }
+
+-- the one that got it: it has seen the same, and has asked nothing yet
+abbrev pub with_part_of : Caller → ℕ → Caller
+with_part_of old session = record { pass = record old.pass { own = []; parts = 1 }; session = session; row = 0 }

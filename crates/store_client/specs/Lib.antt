@@ -1,0 +1,3 @@
+pub mod Caller
+pub mod Asked
+pub mod Verbs

@@ -1,0 +1,160 @@
+//! A caller of a store, and its calls.
+ghost use Rattle.std.specs.Prelude.{◌≡◌, false};
+ghost use Rattle.plain_list.specs.Answer.{IsValid};
+ghost use Rattle.sessions.specs.Lanes.{Tries};
+ghost use Rattle.sessions.specs.Splits.{SamePass};
+ghost use Rattle.store_client.specs.Caller.{IsFree, Keeps};
+ghost use Rattle.store_client.specs.Asked.{Asked, AskedCounted};
+
+use book_lock::Pass;
+use disk_trait::LogDisk;
+use index_layer::Index;
+use io_edge::OpenGate;
+use plain_list::{Answer, Op};
+use sessions::{CallFault, SharedBook, Split, Start, Store};
+use std::alloc::Global;
+use std::marker::{Brand, Model};
+use std::sync::Wait;
+use std::sync::ledger::{Blank, Ledger};
+use step_count::Steps;
+use zorder::Name;
+
+/// A caller of a store. It has a pass, and keeps its session and the number of its next row, which stand beside each of its calls in the
+/// history: they tell calls apart for who reads that, and mean nothing else. A session may be any number, 0 too, and several clients may
+/// have the same one. Rows count all calls from 0, refused ones too; behind the last number that fits they stay there.
+pub struct Client<'s, I: Index, D: LogDisk, O: Start> {
+    pub(crate) store: &'s Store<I, D, O>,
+    pub(crate) pass: Pass<SharedBook<I, D, O>>,
+    pub(crate) alloc: Global,
+    pub(crate) session: u8,
+    pub(crate) row: u32,
+}
+
+impl<'s, I: Index, D: LogDisk, O: Start> Model for Client<'s, I, D, O> {
+    ghost use Rattle.store_client.specs.Caller.{Caller, IsFree};
+
+    ghost Value = { Caller };
+
+    ghost view = { λ c. record { pass = c.pass; session = c.session; row = c.row } };
+
+    ghost invariant = { λ c. IsFree c.store.now c.pass };
+}
+
+/// An answer, its place, and how the split ended that was tried behind it.
+#[derive(Drop)]
+pub struct Reply {
+    /// The number of the call among the calls of the history, from 1.
+    pub place: u64,
+    pub answer: Answer,
+    /// Where the call told that a leaf is full.
+    pub split: Option<Split>,
+}
+
+// Tries the split of the leaf that a call has told.
+fn try_split<I: Index, D: LogDisk, O: Start, R: Wait>(
+    rt: &R,
+    alloc: Global,
+    store: &Store<I, D, O>,
+    pass: &mut Pass<SharedBook<I, D, O>>,
+    session: u8,
+    full: Option<Name>,
+) -> Option<Split>
+    requires { IsFree store.now pass.old }
+    ensures tries { Tries I.WIDTH full pass.old pass.new result }
+    ensures pass { SamePass pass.old pass.new }
+{
+    match full {
+        Some(name) => Some(store.split_once(rt, alloc, pass, session, &name, &OpenGate)),
+        None => None,
+    }
+}
+
+impl<'s, I: Index, D: LogDisk, O: Start> Client<'s, I, D, O> {
+    /// A client of a store, with a pass of it. The first one has the pass with all parts; the others come from it by `another`.
+    pub fn new(
+        store: &'s Store<I, D, O>,
+        alloc: Global,
+        pass: Pass<SharedBook<I, D, O>>,
+        session: u8,
+    ) -> Client<'s, I, D, O>
+        requires { IsFree store.now pass }
+        ensures { result ≡ record { pass = pass; session = session; row = 0 } }
+    {
+        Client {
+            store,
+            pass,
+            alloc,
+            session,
+            row: 0,
+        }
+    }
+
+    /// The pass of a client that asks no more. Once it has all parts, `Store::close` takes it.
+    pub fn into_pass(self) -> Pass<SharedBook<I, D, O>>
+        ensures pass { result ≡ self.entry.pass }
+        ensures off { result.holds ≡ false }
+    {
+        let Client {
+            store: _,
+            pass,
+            alloc: _,
+            session: _,
+            row: _,
+        } = self;
+        pass
+    }
+
+    /// As `ask`, and counts how many buckets are opened for the answer.
+    pub fn ask_counted<R: Wait, L: Ledger>(
+        &mut self,
+        rt: &R,
+        op: &Op,
+        steps: &mut Steps<L>,
+    ) -> Result<Reply, CallFault>
+        requires { IsValid op.now }
+        ensures asked { AskedCounted I.WIDTH op.now self.old self.new steps.old steps.new result }
+        ensures client { Keeps self.old self.new }
+    {
+        let (store, alloc, session, row) = (self.store, self.alloc, self.session, self.row);
+        self.row = row.saturating_add(1);
+        let pass = &mut self.pass;
+        let done = match store.call(rt, alloc, pass, session, row, op, &OpenGate, steps) {
+            Ok(done) => done,
+            Err(fault) => return Err(fault),
+        };
+        let split = try_split(rt, alloc, store, pass, session, done.full);
+        Ok(Reply {
+            place: done.place,
+            answer: done.answer,
+            split,
+        })
+    }
+
+    // With a count that nobody asks for.
+    fn ask_over<R: Wait, L: Ledger>(
+        &mut self,
+        rt: &R,
+        op: &Op,
+        blank: Blank,
+    ) -> Result<Reply, CallFault>
+        requires name { blank.name ≡ L.name }
+        requires parts { blank.parts ≡ L.parts }
+        requires one_part { blank.parts ≡ 1 }
+        requires valid { IsValid op.now }
+        ensures asked { Asked I.WIDTH op.now self.old self.new result }
+        ensures client { Keeps self.old self.new }
+    {
+        let mut steps = Steps::<L>::new(blank);
+        self.ask_counted(rt, op, &mut steps)
+    }
+
+    /// Answers a call, and notes it in the one history. Where the call tells that a leaf is full, that leaf is split, unless somebody else
+    /// is about to.
+    pub fn ask<R: Wait>(&mut self, rt: &R, op: &Op) -> Result<Reply, CallFault>
+        requires { IsValid op.now }
+        ensures asked { Asked I.WIDTH op.now self.old self.new result }
+        ensures client { Keeps self.old self.new }
+    {
+        self.ask_over::<R, Brand>(rt, op, Blank::new(1))
+    }
+}

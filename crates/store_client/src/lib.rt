@@ -1,0 +1,19 @@
+//! Short calls on a store: a client is one caller, with all that it needs to ask.
+//!
+//! Contracts see a `Client` as its pass, its session and the number of its next row. `Client::ask` is a call of the store, and behind it
+//! the split of the leaf that the call tells to be full: `Asked` says what both leave. The verbs (`put`, `move_to`, `remove`, `find`,
+//! `within`, `nearest`) are the same call, each with just the answers that it may have, and `report` is a move or a put, as it takes.
+//! `at_once` lets each client of a team work in a thread of its own.
+//!
+//! Not here: what a store is, and how it is made and closed (`sessions`).
+#![tactic(auto)]
+
+mod answers;
+mod client;
+mod crowd;
+mod shares;
+mod verbs;
+
+pub use answers::{Listed, MoveReply, PutReply, Report};
+pub use client::{Client, Reply};
+pub use crowd::{Work, Worker, at_once};
