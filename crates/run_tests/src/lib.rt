@@ -24,6 +24,8 @@ macro_rules! lines {
 }
 
 #[cfg(test)]
+mod chains;
+#[cfg(test)]
 mod checks;
 #[cfg(test)]
 mod compacts;

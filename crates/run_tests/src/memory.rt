@@ -13,4 +13,4 @@ pub use inputs::repeated;
 pub use left::Left;
 pub use logs::{EMPTY_LOG, EMPTY_QUAD_LOG, PUT_LOG, TWO_LEAVES_LOG};
 pub use plan::Plan;
-pub use runs::{run_both, run_gated, run_over, run_plan};
+pub use runs::{held_disk, run_both, run_drives, run_gated, run_over, run_plan};

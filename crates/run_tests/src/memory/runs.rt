@@ -44,8 +44,8 @@ fn disk_of(alloc: Global, plan: &Plan<'_>) -> Result<MemDisk, Memory> {
     }
 }
 
-// A drive that holds these bytes, of which these calls fail.
-fn held_disk(alloc: Global, file: &[u8], failing: &[Fail]) -> Result<MemDisk, Memory> {
+/// A drive that holds these bytes, of which these calls fail.
+pub fn held_disk(alloc: Global, file: &[u8], failing: &[Fail]) -> Result<MemDisk, Memory> {
     let calls = failing.to_vec(alloc)?;
     MemDisk::new(alloc, file.to_vec(alloc)?, ROOM, CALLS, calls)
 }
@@ -80,7 +80,8 @@ pub fn run_both<R: Abort + Threads + Wait + Sync>(
     run_drives(rt, alloc, plan, disk, other, &OpenGate)
 }
 
-fn run_drives<R: Abort + Threads + Wait + Sync, G: Gate + Sync>(
+/// The same over both these drives, with this hook.
+pub fn run_drives<R: Abort + Threads + Wait + Sync, G: Gate + Sync>(
     rt: &R,
     alloc: Global,
     plan: &Plan<'_>,
