@@ -13,6 +13,7 @@ use Rattle.log_state.specs.Recovers.{Recovers, IsLegalCells}
 use Rattle.recovery.specs.Calls.{AllWentWell, EndsAtFault, StopsAtFault}
 use Rattle.recovery.specs.Making.{IsSmall, Makes, KeepsSmall, FailsToMake}
 use Rattle.recovery.proofs.CallLemmas.{well-none, well-then, ends-then}
+use Rattle.recovery.proofs.HeadLemmas.{index_version}
 use Rattle.log_compact.specs.Staging.{IsEmpty}
 use Rattle.log_compact.specs.Compacting.{IsCompacted, FailsToCompact, IsOnWay, KeepsOnWay}
 
@@ -20,8 +21,8 @@ recovers : (w : ℕ) (cells : List Cell) (c : List ℕ) → HoldsCells newest w 
 recovers w cells c holds legal = record { version = 2; known = inr refl; holds = holds; legal = legal }
 
 by_holding : (w : ℕ) (cells : List Cell) → IsLegalCells w cells → (c : List ℕ) → HoldsAllOrNone w [] cells c → IsOnWay w cells c
-by_holding w cells legal c (inl none) = inr (inl (recovers w [] c none refl))
-by_holding w cells legal c (inr all) = inr (inr (recovers w cells c all legal))
+by_holding w cells legal c (inl none) = inr (inl (recovers w [] c none refl, index_version newest w [] c none))
+by_holding w cells legal c (inr all) = inr (inr (recovers w cells c all legal, index_version newest w cells c all))
 
 -- small at first, and then a log of none of the cells, or of all
 module _ (w : ℕ) (cells : List Cell) (legal : IsLegalCells w cells) (old mid new : Drive) where

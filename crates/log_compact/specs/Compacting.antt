@@ -7,6 +7,7 @@ use Rattle.cell_format.specs.declared.cell.Cell.{Cell}
 use Rattle.split_log.specs.LogText.{IsLog}
 use Rattle.log_state.specs.Recovers.{Recovers}
 use Rattle.recovery.specs.Calls.{AllWentWell, StopsAtFault}
+use Rattle.recovery.specs.Found.{IsNewest}
 use Rattle.recovery.specs.Making.{IsSmall}
 use Rattle.recovery.specs.declared.seen.InitFault.{InitFault}
 use Rattle.recovery.specs.declared.seen.InitFault.TheVariants as init
@@ -35,9 +36,9 @@ RefusesCompact old new (InUse len) =
     (17 < len) × ((bytes : List ℕ) → old.bytes ≡ Some bytes → len ≡ length bytes) × Stays old new × (new.faults ≡ old.faults)
 RefusesCompact old new Disk = FailsToCompact old new
 
--- an image on the way: small, or a log of no cell, or of all of them
+-- an image on the way: small, or a log of no cell, or of all of them, in the newest version
 abbrev pub IsOnWay : ℕ → List Cell → List ℕ → Type 0
-IsOnWay w cells image = IsSmall image ⊎ Recovers w [] image ⊎ Recovers w cells image
+IsOnWay w cells image = IsSmall image ⊎ (Recovers w [] image × IsNewest image) ⊎ (Recovers w cells image × IsNewest image)
 
 -- Where the file's content was known and a crash left a small one, it leaves an image on the way at each moment, and a file that isn't small is left
 -- as it was, whatever the answer is. The count of faults doesn't fall.

@@ -50,8 +50,8 @@ abbrev pub WritesOrRefuses : ℕ → World → List (List Bool) → Drive → Dr
 WritesOrRefuses w world leaves old new status before after =
     (MakesAnew w world leaves old new × EndsWriting (compacted_line (length (anew w world leaves))) status before after) ⊎ EndsRefused (IsMakingCause old new) status before after
 
--- Where the file's content was known and a crash left a small one, it leaves a small file at each moment, a log of no cells, or one of all of these.
--- A file that isn't small is left as it was. No device call was made behind one that failed.
+-- Where the file's content was known and a crash left a small one, it leaves a small file at each moment, or a log of no cells, or one of all of these,
+-- in the newest version. A file that isn't small is left as it was. No device call was made behind one that failed.
 pub record LeavesNew (w : ℕ) (fresh : List Cell) (old new : Drive) : Type 0 where
   pub on_way : (bytes : List ℕ) → old.bytes ≡ Some bytes → LeavesNow old IsSmall → LeavesOnly old new (IsOnWay w fresh)
   pub in_use : (bytes : List ℕ) → old.bytes ≡ Some bytes → 17 < length bytes → Stays old new
