@@ -54,6 +54,14 @@ module _ (w : ℕ) (cells : List Cell) (legal : IsLegalCells w cells) (old mid n
     calls = inr (ends-then old mid new (record { count = 2; calls = made.calls }) ended);
   }
 
+-- the drive failed while the log of no cells was made
+pub failed-making : (old new : Drive) → FailsToMake old new → FailsToCompact old new
+failed-making old new fails = record { rose = fails.rose; calls = by_case fails.calls }
+  where
+    by_case : HasNoMore old.calls new.calls ⊎ ((went_well : ℕ) × StopsAfter 1 went_well old new) → StopsAtFault old new
+    by_case (inl none) = inl (well-none old new none)
+    by_case (inr (k, stops)) = inr (record { went_well = k; calls = stops.calls })
+
 some_same : (a b : List ℕ) → ◌≡◌ {A = Option (List ℕ)} (Some a) (Some b) → a ≡ b
 some_same a b e = cc e
 
