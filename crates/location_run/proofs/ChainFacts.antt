@@ -1,5 +1,5 @@
 -- What a run leaves is what the next one asks for.
-use Rattle.std.proofs.Common.{◌≡◌, ◌≢◌, ◌⊎◌, inl, inr, ◌∙◌, ℕ, List, [], ◌++◌, Option, Some, None, refl, sym, ap, subst}
+use Rattle.std.proofs.Common.{◌≡◌, ◌≢◌, ◌⊎◌, inl, inr, ⊎_elim, ◌∙◌, ℕ, ◌<◌, List, [], ◌++◌, length, take, Some, None, refl, sym, ap, subst, arith}
 use Rattle.std.specs.Prelude.{slice_index}
 use Rattle.std.proofs.lemmas.List.{append-nil}
 use Rattle.std.proofs.lemmas.Option.{same_Some}
@@ -8,15 +8,18 @@ use Rattle.cell_format.specs.Spelling.{newest}
 use Rattle.plain_list.specs.declared.entries.Entry.{Entry}
 use Rattle.disk_trait.specs.Drive.{Drive, KeepsLaws, Stays, IsSynced}
 use Rattle.disk_trait.specs.Moments.{LeavesNow}
-use Rattle.log_state.specs.Recovers.{Recovers, state_of}
+use Rattle.io_edge.specs.Streams.{Output}
+use Rattle.log_state.specs.Recovers.{IsLegalCells, Recovers, state_of}
 use Rattle.log_state.specs.Changes.{cells_of}
 use Rattle.recovery.specs.LogText.{IsLog}
 use Rattle.recovery.specs.Found.{IsNewest}
+use Rattle.recovery.specs.Making.{IsSmall}
 use Rattle.recovery.specs.Widths.{IsWidth}
 use Rattle.recovery.proofs.WidthLemmas.{recovers_width}
 use Rattle.command_words.specs.Words.{Command, Init, Check, Play, Show, Trial, Compact, Watch, Follow, AsksFor}
 use Rattle.command_words.proofs.WordsFacts.{init-width, one-command}
 use Rattle.csv_rows.specs.declared.rows.InRow.{InRow}
+use Rattle.csv_rows.specs.declared.rows.Refusal.TheVariants as refusal
 use Rattle.make_moves.specs.Moves.{made_rows}
 use Rattle.command_words.specs.declared.trials.Made.{Made}
 use Rattle.run_ends.specs.Ends.{Ends, Done, Targets}
@@ -24,19 +27,22 @@ use Rattle.run_ends.specs.Limits.{trial_bucket}
 use Rattle.run_ends.specs.Status.{status_of, WritesLines}
 use Rattle.run_ends.proofs.Ends.{no-lines}
 use Rattle.log_run.specs.Making.{MakesOrRefuses}
-use Rattle.log_run.specs.Checking.{FindsCells}
-use Rattle.log_run.specs.Compacting.{RefusesFile, WritesAnew, WritesOrRefuses, anew}
+use Rattle.log_run.specs.Compacting.{EndsAnew, RefusesFile, WritesAnew, WritesOrRefuses, anew}
 use Rattle.play_run.specs.Crash.{KeepsAll}
 use Rattle.play_run.specs.Origin.{Origin, IsFoundOrigin, origin_of}
 use Rattle.play_run.specs.Playing.{IsAnswered, IsLogUnopened, PlaysRows, Goes}
 use Rattle.play_run.specs.Trying.{PlaysMade}
 use Rattle.play_run.specs.Standing.{IsStanding, HoldsLog}
 use Rattle.play_run.proofs.StandingFacts.{holds-same, holds-text, one-width, one-list}
-use Rattle.follower.specs.Opening.{IsOpenable}
-use Rattle.follow_run.specs.Following.{GivesNoTurns, GivesTurns}
+use Rattle.follower.specs.Holding.{RecoversFirst}
+use Rattle.follower.specs.Opening.{IsOpenable, IsTaken}
+use Rattle.follower.specs.declared.turns.Turn.{Turn}
+use Rattle.follower.proofs.Prefixes.{legal-take}
+use Rattle.follow_run.specs.Replica.{EndsTurns, IsUnopened, PlaysTurns, machine_at}
+use Rattle.follow_run.specs.Following.{GivesNoTurns, GivesTurns, RefusesLeader, FollowsLeader}
 use Rattle.watch_run.specs.Watching.{GoesAlong}
 use Rattle.location_run.specs.Run.{Keeps}
-use Rattle.location_run.specs.Chain.{GoesOn, StandsStill, OnlyReads, PlaysOn, WritesNew, Leaves, MeetsNext, Chains, ChainsAsked}
+use Rattle.location_run.specs.Chain.{GoesOn, StandsStill, CopiesFirst, OnlyReads, PlaysOn, WritesFresh, WritesNew, FollowsNew, Leaves, MeetsNext, Chains, ChainsAsked}
 
 -- a drive that was only read
 stands-still : (a b : Drive) → KeepsLaws b → Stays a b → OnlyReads a b
@@ -111,9 +117,91 @@ goes-rows : {D : Type 0} (report : _) (file : List ℕ) (size : ℕ) (rows : Lis
 goes-rows report file size rows old new status h laws (inl unopened) = goes-unopened file old new status h unopened
 goes-rows report file size rows old new status h laws (inr answered) = goes-answered report file size rows old new status h laws answered
 
+-- nothing was done to the second file, and no lines were written
+copies-none : (w : ℕ) (cells : List Cell) (a b : Drive) (status : ℕ) → KeepsLaws b → b ≡ a → (WritesLines status → ⊥) → CopiesFirst w cells a b status
+copies-none w cells a b status laws same none =
+    let now = (subst KeepsLaws same laws).only_now in
+    subst (λ (d : Drive). CopiesFirst w cells a d status) (sym same) (record {
+      small = λ small c left. inl (small c (now c left));
+      stood = λ own there long c left. inl (subst (IsStanding w own) (sym (there.durable c (now c left))) there.standing);
+      stands = λ writes. absurd (none writes);
+      stays = λ other. inr (record { bytes = refl; images = λ c left. left; since = λ t c le left. inl left });
+    })
+
+-- a leader's cells, and the second file, whose bytes were known
+module _ (w : ℕ) (cells : List Cell) (known : IsWidth w) (legal : IsLegalCells w cells) (a b : Drive) (status : ℕ) (before after : Output)
+    (bytes : List ℕ) (told : a.bytes ≡ Some bytes) where
+  first-stands : (c : List ℕ) (least most : ℕ) → RecoversFirst w cells least most c → (m : ℕ) × IsStanding w (take m cells) c
+  first-stands c least most first = (first.count, record { known = known; recovers = first.recovers; version = first.version })
+
+  text-stands : (n : ℕ) → IsLog w (take n cells) b → HoldsLog w (take n cells) b
+  text-stands n log = holds-text w (take n cells) b known (legal-take w cells legal n) log
+
+  turns-stand : (turns : List Turn) (first made opened : ℕ) → EndsTurns w cells first turns made opened a b status before after → status ≢ 7
+      → (m : ℕ) × HoldsLog w (take m cells) b
+  turns-stand turns first made opened (inl all) other =
+      let held = (machine_at (length cells) first turns made).held in
+      (held, text-stands held (all.log bytes told))
+  turns-stand turns first made opened (inr (why, stops, refuses)) other =
+      let held = (machine_at (length cells) first turns made).held in
+      (held, text-stands held (stops.log bytes told (λ disk. other (refuses.status_is ∙ disk))))
+
+  -- what stood there were its first cells
+  took-first : (turns : List Turn) (plays : PlaysTurns w cells turns a b status before after) (own : List Cell) (there : HoldsLog w own a) → 17 < length there.bytes
+      → IsTaken w cells there.bytes plays.first → (c : List ℕ) → b.since a.clock c → (m : ℕ) × IsStanding w (take m cells) c
+  took-first turns plays own there long (inl (small, none)) c left = absurd (omega (arith, long, small))
+  took-first turns plays own there long (inr (more, within, openable)) c left =
+      let now : LeavesNow a (Recovers w (take plays.first cells)) = λ d is. subst (Recovers w (take plays.first cells)) (sym (there.durable d is)) openable.recovers in
+      let version : LeavesNow a IsNewest = λ d is. subst IsNewest (sym (there.durable d is)) there.standing.version in
+      ⊎_elim
+      (λ recovers. (plays.first, record { known = known; recovers = recovers; version = (plays.keeps.newest there.bytes there.told long version).each c left }))
+      (first-stands c plays.first (length cells))
+      ((plays.keeps.log there.bytes there.told long now).each c left)
+
+  copies-turns : (turns : List Turn) → PlaysTurns w cells turns a b status before after → CopiesFirst w cells a b status
+  copies-turns turns plays = record {
+    small = λ small c left. ⊎_elim (λ is. inl is) (λ first. inr (first-stands c plays.first (length cells) first)) ((plays.keeps.small bytes told small).each c left);
+    stood = λ own there long c left. inr (took-first turns plays own there long (plays.found there.bytes there.told) c left);
+    stands = λ writes. turns-stand turns plays.first plays.made plays.opened plays.ends (λ disk. no-lines (refusal.Disk None) status disk writes);
+    stays = λ other. inl (turns-stand turns plays.first plays.made plays.opened plays.ends other);
+  }
+
+  copies-unopened : IsUnopened w cells a b status before after → CopiesFirst w cells a b status
+  copies-unopened unopened =
+      let (why, cause, refuses) = unopened.refused in
+      record {
+        small = λ small c left. inl ((unopened.keeps.small bytes told small).each c left);
+        stood = λ own there long c left.
+            let now : LeavesNow a (Recovers w own) = λ d is. subst (Recovers w own) (sym (there.durable d is)) there.standing.recovers in
+            let version : LeavesNow a IsNewest = λ d is. subst IsNewest (sym (there.durable d is)) there.standing.version in
+            inl (record {
+              known = known;
+              recovers = (unopened.keeps.log there.bytes own there.told long now).each c left;
+              version = (unopened.keeps.newest there.bytes there.told long version).each c left;
+            });
+        stands = λ writes. absurd (no-lines why status refuses.status_is writes);
+        stays = λ other. inr (unopened.untouched other bytes told);
+      }
+
+  copies-ends : (turns : List Turn) → IsUnopened w cells a b status before after ⊎ PlaysTurns w cells turns a b status before after → CopiesFirst w cells a b status
+  copies-ends turns (inl unopened) = copies-unopened unopened
+  copies-ends turns (inr plays) = copies-turns turns plays
+
+-- what is left of cells, written anew
+abbrev fresh-of : ℕ → List Cell → List Cell
+fresh-of w cells = anew w (state_of w cells).world (state_of w cells).leaves
+
+-- an image on the way
+way-stands : (w : ℕ) (fresh : List Cell) → IsWidth w → (c : List ℕ)
+    → IsSmall c ⊎ (Recovers w [] c × IsNewest c) ⊎ (Recovers w fresh c × IsNewest c) → IsSmall c ⊎ IsStanding w [] c ⊎ IsStanding w fresh c
+way-stands w fresh known c (inl small) = inl small
+way-stands w fresh known c (inr (inl (recovers, version))) = inr (inl (record { known = known; recovers = recovers; version = version }))
+way-stands w fresh known c (inr (inr (recovers, version))) = inr (inr (record { known = known; recovers = recovers; version = version }))
+
 -- a command's ends, where a drive that is the value that it was is seen as it was
 module _ {S D : Type 0} (done : Done (Ends S D)) (same : done.new.to.disk ≡ done.old.to.disk → done.new.to.drive ≡ done.old.to.drive)
-    (laws : KeepsLaws done.new.to.drive) where
+    (same-other : done.new.to.other ≡ done.old.to.other → done.new.to.other_drive ≡ done.old.to.other_drive)
+    (laws : KeepsLaws done.new.to.drive) (laws-other : KeepsLaws done.new.to.other_drive) where
   abbrev old : Targets D
   old = done.old.to
 
@@ -156,24 +244,64 @@ module _ {S D : Type 0} (done : Done (Ends S D)) (same : done.new.to.disk ≡ do
   log-followed file name (inl none) = back-still none.disk
   log-followed file name (inr turns) = stands-still old.drive new.drive laws turns.ends.stays
 
+  other-still : (why : _) → done.status ≡ status_of why → new.other ≡ old.other → FollowsNew old new done.status
+  other-still why is back w cells bytes holds told =
+      copies-none w cells old.other_drive new.other_drive done.status laws-other (same-other back) (no-lines why done.status is)
+
+  new-followed : (file name : List ℕ) (turns : List Turn) → RefusesLeader old new done.status ⊎ FollowsLeader file name turns old new done.status → FollowsNew old new done.status
+  new-followed file name turns (inl refuses) w cells bytes holds told =
+      let (why, cause, line) = refuses.refused in
+      other-still why line.status_is refuses.other w cells bytes holds told
+  new-followed file name turns (inr follows) w cells bytes holds told =
+      let v : ℕ = follows.width in
+      let own : List Cell = follows.cells in
+      let leading = follows.found.leading in
+      let recovers = follows.found.recovers holds.bytes holds.told in
+      subst (λ (l : List Cell). CopiesFirst w l old.other_drive new.other_drive done.status) (one-list v w own cells holds.bytes leading.known recovers holds.standing)
+      (subst (λ (u : ℕ). CopiesFirst u own old.other_drive new.other_drive done.status) (one-width v w own cells holds.bytes leading.known recovers holds.standing)
+      (copies-ends v own leading.known leading.legal old.other_drive new.other_drive done.status old.output new.output bytes told turns follows.ends.ends))
+
+  turns-followed : (file name : List ℕ) → GivesNoTurns done.old.input done.new.input old new done.status ⊎ GivesTurns file name done.old.input done.new.input old new done.status → FollowsNew old new done.status
+  turns-followed file name (inl none) = let (why, cause, line) = none.refused in other-still why line.status_is none.other
+  turns-followed file name (inr turns) = new-followed file name turns.turns turns.ends.ends
+
   log-made : (w : ℕ) → IsWidth w → MakesOrRefuses w old.drive new.drive done.status old.output new.output → WritesLines done.status → (bytes : List ℕ) → old.drive.bytes ≡ Some bytes → HoldsLog w [] new.drive
   log-made w known (inl (made, wrote)) writes bytes told = holds-text w [] new.drive known refl (made.log bytes told).1
   log-made w known (inr (why, cause, refuses)) writes bytes told = absurd (no-lines why done.status refuses.status_is writes)
 
-  written-new : (w : ℕ) (cells own : List Cell) (bytes : List ℕ) (v : ℕ) → HoldsLog w cells old.drive → FindsCells v old.drive own → old.other_drive.bytes ≡ Some bytes → WritesLines done.status
+  fresh-stands : (v : ℕ) (own : List Cell) (bytes : List ℕ) → IsWidth v → old.other_drive.bytes ≡ Some bytes
       → WritesOrRefuses v (state_of v own).world (state_of v own).leaves old.other_drive new.other_drive done.status old.output new.output
-      → HoldsLog w (anew w (state_of w cells).world (state_of w cells).leaves) new.other_drive
-  written-new w cells own bytes v holds found told writes (inl (made, wrote)) =
-      let recovers = found.recovers holds.bytes holds.told in
-      let fresh : ℕ → List Cell → List Cell = λ u l. anew u (state_of u l).world (state_of u l).leaves in
-      let there : HoldsLog v (fresh v own) new.other_drive = holds-text v (fresh v own) new.other_drive found.known made.state.legal (made.made.log bytes told).1 in
-      subst (λ (l : List Cell). HoldsLog w (fresh w l) new.other_drive) (one-list v w own cells holds.bytes found.known recovers holds.standing)
-      (subst (λ (u : ℕ). HoldsLog u (fresh u own) new.other_drive) (one-width v w own cells holds.bytes found.known recovers holds.standing) there)
-  written-new w cells own bytes v holds found told writes (inr (why, cause, refuses)) = absurd (no-lines why done.status refuses.status_is writes)
+      → WritesLines done.status → HoldsLog v (fresh-of v own) new.other_drive
+  fresh-stands v own bytes known told (inl (made, wrote)) writes =
+      holds-text v (fresh-of v own) new.other_drive known made.state.legal (made.made.log bytes told).1
+  fresh-stands v own bytes known told (inr (why, cause, refuses)) writes = absurd (no-lines why done.status refuses.status_is writes)
+
+  fresh-ends : (name : List ℕ) (v : ℕ) (own : List Cell) (bytes : List ℕ) → IsWidth v → old.other_drive.bytes ≡ Some bytes
+      → EndsAnew v (state_of v own).world (state_of v own).leaves name old.other_drive new.other_drive done.status old.output new.output
+      → WritesFresh v (fresh-of v own) old.other_drive new.other_drive done.status
+  fresh-ends name v own bytes known told ends = record {
+    small = λ small c left. way-stands v (fresh-of v own) known c ((ends.keeps.on_way bytes told small).each c left);
+    in_use = λ xs is long. stands-still old.other_drive new.other_drive laws-other (ends.keeps.in_use xs is long);
+    stands = fresh-stands v own bytes known told ends.ends;
+  }
 
   log-compacted : (file name : List ℕ) → RefusesFile old new done.status ⊎ WritesAnew file name old new done.status → WritesNew old new done.status
-  log-compacted file name (inl refuses) w cells bytes holds told writes = let (why, cause, line) = refuses.refused in absurd (no-lines why done.status line.status_is writes)
-  log-compacted file name (inr wrote) w cells bytes holds told writes = written-new w cells wrote.cells bytes wrote.width holds wrote.found told writes wrote.ends.ends
+  log-compacted file name (inl refuses) w cells bytes holds told =
+      let (why, cause, line) = refuses.refused in
+      let back : new.other_drive ≡ old.other_drive = same-other refuses.other in
+      record {
+        small = λ small c left. inl (small c ((subst KeepsLaws back laws-other).only_now c (subst (λ (d : Drive). d.since old.other_drive.clock c) back left)));
+        in_use = λ xs is long. same-still old.other_drive new.other_drive laws-other back;
+        stands = λ writes. absurd (no-lines why done.status line.status_is writes);
+      }
+  log-compacted file name (inr wrote) w cells bytes holds told =
+      let v : ℕ = wrote.width in
+      let own : List Cell = wrote.cells in
+      let known = wrote.found.known in
+      let recovers = wrote.found.recovers holds.bytes holds.told in
+      subst (λ (l : List Cell). WritesFresh w (fresh-of w l) old.other_drive new.other_drive done.status) (one-list v w own cells holds.bytes known recovers holds.standing)
+      (subst (λ (u : ℕ). WritesFresh u (fresh-of u own) old.other_drive new.other_drive done.status) (one-width v w own cells holds.bytes known recovers holds.standing)
+      (fresh-ends name v own bytes known told wrote.ends))
 
   leaves-next : (words : List (List ℕ)) (c : Command) → AsksFor words c → Keeps c done → Leaves c old new done.status done.history
   leaves-next words (Init file width) asks keeps =
@@ -187,7 +315,7 @@ module _ {S D : Type 0} (done : Done (Ends S D)) (same : done.new.to.disk ≡ do
   leaves-next words (Trial (Some file) made) asks keeps = log-tried file made keeps.did.goes
   leaves-next words (Compact file name) asks keeps = (stands-still old.drive new.drive laws keeps.did.ends.stays, log-compacted file name keeps.did.ends.ends)
   leaves-next words (Watch file) asks keeps = log-watched file keeps.goes
-  leaves-next words (Follow file name) asks keeps = log-followed file name keeps.goes.goes
+  leaves-next words (Follow file name) asks keeps = (log-followed file name keeps.goes.goes, turns-followed file name keeps.goes.goes)
 
 -- where a log stands, the clauses of a run speak of its cells
 pub meets-next : (a b : Drive) → MeetsNext a b
@@ -218,9 +346,10 @@ meets-next a b w cells holds =
     }
 
 pub chains-asked : {S D : Type 0} (words : List (List ℕ)) (a : Command) (done : Done (Ends S D)) → (done.new.to.disk ≡ done.old.to.disk → done.new.to.drive ≡ done.old.to.drive)
-    → KeepsLaws done.new.to.drive → AsksFor words a → Keeps a done → ChainsAsked words done
-chains-asked words a done same laws asks keeps c asked = subst (λ (k : Command). Chains k done.old.to done.new.to done.status done.history) (one-command words a c asks asked) (record {
-  leaves = leaves-next done same laws words a asks keeps;
+    → (done.new.to.other ≡ done.old.to.other → done.new.to.other_drive ≡ done.old.to.other_drive) → KeepsLaws done.new.to.drive → KeepsLaws done.new.to.other_drive
+    → AsksFor words a → Keeps a done → ChainsAsked words done
+chains-asked words a done same same-other laws laws-other asks keeps c asked = subst (λ (k : Command). Chains k done.old.to done.new.to done.status done.history) (one-command words a c asks asked) (record {
+  leaves = leaves-next done same same-other laws laws-other words a asks keeps;
   meets = meets-next done.old.to.drive done.new.to.drive;
   meets_other = meets-next done.old.to.other_drive done.new.to.other_drive;
 })

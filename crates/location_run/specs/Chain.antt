@@ -1,5 +1,5 @@
 -- Runs one after the other: what a run leaves, or a crash in it, is a log over which the clauses of the next run say all.
-use Rattle.std.specs.Prelude.{◌≡◌, ◌≢◌, ℕ, ◌<◌, ◌≤◌, List, [], ◌++◌, length, take, Option, Some, None, ⊤}
+use Rattle.std.specs.Prelude.{◌≡◌, ◌≢◌, ◌⊎◌, ℕ, ◌<◌, ◌≤◌, List, [], ◌++◌, length, take, Some, None}
 use Rattle.causes.specs.Causes.{Rose}
 use Rattle.cell_format.specs.declared.cell.Cell.{Cell}
 use Rattle.plain_list.specs.declared.entries.Entry.{Entry}
@@ -8,6 +8,7 @@ use Rattle.disk_trait.specs.Moments.{LeavesNow, LeavesSince}
 use Rattle.log_state.specs.Recovers.{state_of}
 use Rattle.log_state.specs.Changes.{cells_of, failed_cells}
 use Rattle.recovery.specs.Making.{IsSmall}
+use Rattle.recovery.specs.Opening.{IsUntouched}
 use Rattle.command_words.specs.Words.{Command, Init, Check, Play, Show, Trial, Compact, Watch, Follow, AsksFor}
 use Rattle.run_ends.specs.Ends.{Ends, Done, Targets}
 use Rattle.run_ends.specs.Limits.{most_inspected, most_played}
@@ -39,6 +40,16 @@ pub record StartsLog (w : ℕ) (old new : Drive) (status : ℕ) : Type 0 where
   pub any_moment : LeavesNow old IsSmall → LeavesSince new old.clock IsSmall
   pub stands : WritesLines status → (bytes : List ℕ) → old.bytes ≡ Some bytes → HoldsLog w [] new
 
+-- First cells of a leader were copied to a file whose bytes were known. With 0 and 6 such ones stand there, and with any other status but 7 they do,
+-- or it is as it was. A crash at any moment leaves small bytes where it did before, or first cells of the leader standing, or, in a file that wasn't
+-- small, what stood there.
+pub record CopiesFirst (w : ℕ) (cells : List Cell) (old new : Drive) (status : ℕ) : Type 0 where
+  pub small : LeavesNow old IsSmall → LeavesSince new old.clock (λ image. IsSmall image ⊎ ((m : ℕ) × IsStanding w (take m cells) image))
+  pub stood : (own : List Cell) (there : HoldsLog w own old) → 17 < length there.bytes
+      → LeavesSince new old.clock (λ image. IsStanding w own image ⊎ ((m : ℕ) × IsStanding w (take m cells) image))
+  pub stands : WritesLines status → (m : ℕ) × HoldsLog w (take m cells) new
+  pub stays : status ≢ 7 → ((m : ℕ) × HoldsLog w (take m cells) new) ⊎ IsUntouched old new
+
 -- over whatever log stands on the drive
 abbrev pub PlaysOn : Drive → Drive → ℕ → List Entry → Type 0
 PlaysOn old new status h = (w : ℕ) (cells : List Cell) → HoldsLog w cells old → GoesOn w cells old new status h
@@ -46,10 +57,22 @@ PlaysOn old new status h = (w : ℕ) (cells : List Cell) → HoldsLog w cells ol
 abbrev pub OnlyReads : Drive → Drive → Type 0
 OnlyReads old new = (w : ℕ) (cells : List Cell) → HoldsLog w cells old → StandsStill w cells old new
 
--- where one stands on the first drive, what is left of its cells stands on the second, whose bytes were known
+-- These cells were written anew to a file whose bytes were known. With 0 and 6 they stand there, and a log that stood in a file that wasn't small
+-- still does, with any status, and did at any moment. A crash at any moment leaves small bytes where it did before, or no cells standing, or all.
+pub record WritesFresh (w : ℕ) (fresh : List Cell) (old new : Drive) (status : ℕ) : Type 0 where
+  pub small : LeavesNow old IsSmall → LeavesSince new old.clock (λ image. IsSmall image ⊎ IsStanding w [] image ⊎ IsStanding w fresh image)
+  pub in_use : (bytes : List ℕ) → old.bytes ≡ Some bytes → 17 < length bytes → OnlyReads old new
+  pub stands : WritesLines status → HoldsLog w fresh new
+
+-- where one stands on the first drive, what is left of its cells goes to the second, whose bytes were known
 abbrev pub WritesNew : {D : Type 0} → Targets D → Targets D → ℕ → Type 0
 WritesNew old new status = (w : ℕ) (cells : List Cell) (bytes : List ℕ) → HoldsLog w cells old.drive → old.other_drive.bytes ≡ Some bytes
-    → WritesLines status → HoldsLog w (anew w (state_of w cells).world (state_of w cells).leaves) new.other_drive
+    → WritesFresh w (anew w (state_of w cells).world (state_of w cells).leaves) old.other_drive new.other_drive status
+
+-- and its first cells are copied there
+abbrev pub FollowsNew : {D : Type 0} → Targets D → Targets D → ℕ → Type 0
+FollowsNew old new status = (w : ℕ) (cells : List Cell) (bytes : List ℕ) → HoldsLog w cells old.drive → old.other_drive.bytes ≡ Some bytes
+    → CopiesFirst w cells old.other_drive new.other_drive status
 
 -- what each command leaves for the next
 abbrev pub Leaves : {D : Type 0} → Command → Targets D → Targets D → ℕ → List Entry → Type 0
@@ -62,7 +85,7 @@ Leaves (Trial None made) old new status h = OnlyReads old.drive new.drive
 Leaves (Trial (Some file) made) old new status h = PlaysOn old.drive new.drive status h
 Leaves (Compact file name) old new status h = OnlyReads old.drive new.drive × WritesNew old new status
 Leaves (Watch file) old new status h = OnlyReads old.drive new.drive
-Leaves (Follow file name) old new status h = OnlyReads old.drive new.drive
+Leaves (Follow file name) old new status h = OnlyReads old.drive new.drive × FollowsNew old new status
 
 -- What the records of the commands ask of a log on its drive. Where one stands it is so, and so each of their sentences speaks of its cells.
 pub record Meets (w : ℕ) (cells : List Cell) (old new : Drive) : Type 0 where

@@ -89,7 +89,7 @@ fn obey<R: Threads + Wait + Sync, S: Source, K: Sink, D: LogDisk + Send, G: Gate
 // What a run leaves, of what its command gave back.
 fn outcome_of<D: LogDisk>(end: Ended<D>) -> Outcome<D>
     ensures outcome { result ≡ record { status = end.status; disk = end.drives.disk; other = end.drives.other; events = end.history } }
-    ensures laws { KeepsLaws (D.drive end.drives.disk) }
+    ensures laws { KeepsLaws (D.drive end.drives.disk) × KeepsLaws (D.drive end.drives.other) }
 {
     let Ended {
         status,

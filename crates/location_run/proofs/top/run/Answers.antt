@@ -18,7 +18,7 @@ returns-in-Some g c =
     rw c.outcome_of.ensures.outcome (record {
       usage = usage-accepted words command _ asks c.obey.ensures;
       keeps = keeps-asked words command _ asks c.obey.ensures;
-      chain = chains-asked words command _ (ap drive) c.outcome_of.ensures.laws asks c.obey.ensures;
+      chain = chains-asked words command _ (ap drive) (ap drive) c.outcome_of.ensures.laws.0 c.outcome_of.ensures.laws.1 asks c.obey.ensures;
     })
 
 pub returns-in-None : goal.returns-in-None
