@@ -123,14 +123,21 @@ copies-none w cells a b status laws same none =
     let now = (subst KeepsLaws same laws).only_now in
     subst (λ (d : Drive). CopiesFirst w cells a d status) (sym same) (record {
       small = λ small c left. inl (small c (now c left));
-      stood = λ own there long c left. inl (subst (IsStanding w own) (sym (there.durable c (now c left))) there.standing);
+      stood = λ v own there long c left. inl (subst (IsStanding v own) (sym (there.durable c (now c left))) there.standing);
       stands = λ writes. absurd (none writes);
       stays = λ other. inr (record { bytes = refl; images = λ c left. left; since = λ t c le left. inl left });
     })
 
+-- two widths are the same, or they aren't
+same-width-or : (v w : ℕ) → IsWidth v → IsWidth w → (v ≡ w) ⊎ (v ≢ w)
+same-width-or v w (inl a) (inl b) = inl (a ∙ sym b)
+same-width-or v w (inl a) (inr b) = inr (λ e. omega (arith, a, b, e))
+same-width-or v w (inr a) (inl b) = inr (λ e. omega (arith, a, b, e))
+same-width-or v w (inr a) (inr b) = inl (a ∙ sym b)
+
 -- a leader's cells, and the second file, whose bytes were known
 module _ (w : ℕ) (cells : List Cell) (known : IsWidth w) (legal : IsLegalCells w cells) (a b : Drive) (status : ℕ) (before after : Output)
-    (bytes : List ℕ) (told : a.bytes ≡ Some bytes) where
+    (bytes : List ℕ) (told : a.bytes ≡ Some bytes) (laws : KeepsLaws a) where
   first-stands : (c : List ℕ) (least most : ℕ) → RecoversFirst w cells least most c → (m : ℕ) × IsStanding w (take m cells) c
   first-stands c least most first = (first.count, record { known = known; recovers = first.recovers; version = first.version })
 
@@ -147,10 +154,10 @@ module _ (w : ℕ) (cells : List Cell) (known : IsWidth w) (legal : IsLegalCells
       (held, text-stands held (stops.log bytes told (λ disk. other (refuses.status_is ∙ disk))))
 
   -- what stood there were its first cells
-  took-first : (turns : List Turn) (plays : PlaysTurns w cells turns a b status before after) (own : List Cell) (there : HoldsLog w own a) → 17 < length there.bytes
+  took-first : (turns : List Turn) (plays : PlaysTurns w cells turns a b status before after) (v : ℕ) (own : List Cell) (there : HoldsLog v own a) → 17 < length there.bytes
       → IsTaken w cells there.bytes plays.first → (c : List ℕ) → b.since a.clock c → (m : ℕ) × IsStanding w (take m cells) c
-  took-first turns plays own there long (inl (small, none)) c left = absurd (omega (arith, long, small))
-  took-first turns plays own there long (inr (more, within, openable)) c left =
+  took-first turns plays v own there long (inl (small, none)) c left = absurd (omega (arith, long, small))
+  took-first turns plays v own there long (inr (more, within, openable)) c left =
       let now : LeavesNow a (Recovers w (take plays.first cells)) = λ d is. subst (Recovers w (take plays.first cells)) (sym (there.durable d is)) openable.recovers in
       let version : LeavesNow a IsNewest = λ d is. subst IsNewest (sym (there.durable d is)) there.standing.version in
       ⊎_elim
@@ -161,27 +168,48 @@ module _ (w : ℕ) (cells : List Cell) (known : IsWidth w) (legal : IsLegalCells
   copies-turns : (turns : List Turn) → PlaysTurns w cells turns a b status before after → CopiesFirst w cells a b status
   copies-turns turns plays = record {
     small = λ small c left. ⊎_elim (λ is. inl is) (λ first. inr (first-stands c plays.first (length cells) first)) ((plays.keeps.small bytes told small).each c left);
-    stood = λ own there long c left. inr (took-first turns plays own there long (plays.found there.bytes there.told) c left);
+    stood = λ v own there long c left. inr (took-first turns plays v own there long (plays.found there.bytes there.told) c left);
     stands = λ writes. turns-stand turns plays.first plays.made plays.opened plays.ends (λ disk. no-lines (refusal.Disk None) status disk writes);
     stays = λ other. inl (turns-stand turns plays.first plays.made plays.opened plays.ends other);
   }
 
-  copies-unopened : IsUnopened w cells a b status before after → CopiesFirst w cells a b status
-  copies-unopened unopened =
-      let (why, cause, refuses) = unopened.refused in
-      record {
-        small = λ small c left. inl ((unopened.keeps.small bytes told small).each c left);
-        stood = λ own there long c left.
-            let now : LeavesNow a (Recovers w own) = λ d is. subst (Recovers w own) (sym (there.durable d is)) there.standing.recovers in
-            let version : LeavesNow a IsNewest = λ d is. subst IsNewest (sym (there.durable d is)) there.standing.version in
-            inl (record {
-              known = known;
-              recovers = (unopened.keeps.log there.bytes own there.told long now).each c left;
-              version = (unopened.keeps.newest there.bytes there.told long version).each c left;
-            });
-        stands = λ writes. absurd (no-lines why status refuses.status_is writes);
-        stays = λ other. inr (unopened.untouched other bytes told);
-      }
+  module _ (unopened : IsUnopened w cells a b status before after) where
+    -- a log of the leader's width
+    left-same : (own : List Cell) (there : HoldsLog w own a) → 17 < length there.bytes → (c : List ℕ) → b.since a.clock c → IsStanding w own c
+    left-same own there long c left =
+        let now : LeavesNow a (Recovers w own) = λ d is. subst (Recovers w own) (sym (there.durable d is)) there.standing.recovers in
+        let version : LeavesNow a IsNewest = λ d is. subst IsNewest (sym (there.durable d is)) there.standing.version in
+        record {
+          known = known;
+          recovers = (unopened.keeps.log there.bytes own there.told long now).each c left;
+          version = (unopened.keeps.newest there.bytes there.told long version).each c left;
+        }
+
+    -- one of the other width, which no follower takes
+    not-taken : (v : ℕ) (own : List Cell) (xs : List ℕ) → IsStanding v own xs → 17 < length xs → v ≢ w → (held : ℕ) → IsTaken w cells xs held → ⊥
+    not-taken v own xs stands long other held (inl (small, none)) = omega (arith, long, small)
+    not-taken v own xs stands long other held (inr (more, within, openable)) = other (sym (one-width w v (take held cells) own xs known openable.recovers stands))
+
+    left-other : (v : ℕ) (own : List Cell) (there : HoldsLog v own a) → 17 < length there.bytes → v ≢ w → (c : List ℕ) → b.since a.clock c → IsStanding v own c
+    left-other v own there long other c left =
+        let untouched = unopened.keeps.other there.bytes there.told (not-taken v own there.bytes there.standing long other) in
+        let now : a.images c = ⊎_elim (laws.only_now c) (λ is. is) (untouched.since a.clock c (omega arith) left) in
+        subst (IsStanding v own) (sym (there.durable c now)) there.standing
+
+    left-standing : (v : ℕ) (own : List Cell) (there : HoldsLog v own a) → 17 < length there.bytes → (v ≡ w) ⊎ (v ≢ w) → (c : List ℕ) → b.since a.clock c → IsStanding v own c
+    left-standing v own there long (inl same) =
+        subst (λ (u : ℕ). (holds : HoldsLog u own a) → 17 < length holds.bytes → (c : List ℕ) → b.since a.clock c → IsStanding u own c) (sym same) (left-same own) there long
+    left-standing v own there long (inr other) = left-other v own there long other
+
+    copies-unopened : CopiesFirst w cells a b status
+    copies-unopened =
+        let (why, cause, refuses) = unopened.refused in
+        record {
+          small = λ small c left. inl ((unopened.keeps.small bytes told small).each c left);
+          stood = λ v own there long c left. inl (left-standing v own there long (same-width-or v w there.standing.known known) c left);
+          stands = λ writes. absurd (no-lines why status refuses.status_is writes);
+          stays = λ other. inr (unopened.untouched other bytes told);
+        }
 
   copies-ends : (turns : List Turn) → IsUnopened w cells a b status before after ⊎ PlaysTurns w cells turns a b status before after → CopiesFirst w cells a b status
   copies-ends turns (inl unopened) = copies-unopened unopened
@@ -201,7 +229,7 @@ way-stands w fresh known c (inr (inr (recovers, version))) = inr (inr (record { 
 -- a command's ends, where a drive that is the value that it was is seen as it was
 module _ {S D : Type 0} (done : Done (Ends S D)) (same : done.new.to.disk ≡ done.old.to.disk → done.new.to.drive ≡ done.old.to.drive)
     (same-other : done.new.to.other ≡ done.old.to.other → done.new.to.other_drive ≡ done.old.to.other_drive)
-    (laws : KeepsLaws done.new.to.drive) (laws-other : KeepsLaws done.new.to.other_drive) where
+    (laws : KeepsLaws done.new.to.drive) (laws-other : KeepsLaws done.new.to.other_drive) (laws-before : KeepsLaws done.old.to.other_drive) where
   abbrev old : Targets D
   old = done.old.to
 
@@ -259,7 +287,7 @@ module _ {S D : Type 0} (done : Done (Ends S D)) (same : done.new.to.disk ≡ do
       let recovers = follows.found.recovers holds.bytes holds.told in
       subst (λ (l : List Cell). CopiesFirst w l old.other_drive new.other_drive done.status) (one-list v w own cells holds.bytes leading.known recovers holds.standing)
       (subst (λ (u : ℕ). CopiesFirst u own old.other_drive new.other_drive done.status) (one-width v w own cells holds.bytes leading.known recovers holds.standing)
-      (copies-ends v own leading.known leading.legal old.other_drive new.other_drive done.status old.output new.output bytes told turns follows.ends.ends))
+      (copies-ends v own leading.known leading.legal old.other_drive new.other_drive done.status old.output new.output bytes told laws-before turns follows.ends.ends))
 
   turns-followed : (file name : List ℕ) → GivesNoTurns done.old.input done.new.input old new done.status ⊎ GivesTurns file name done.old.input done.new.input old new done.status → FollowsNew old new done.status
   turns-followed file name (inl none) = let (why, cause, line) = none.refused in other-still why line.status_is none.other
@@ -347,9 +375,9 @@ meets-next a b w cells holds =
 
 pub chains-asked : {S D : Type 0} (words : List (List ℕ)) (a : Command) (done : Done (Ends S D)) → (done.new.to.disk ≡ done.old.to.disk → done.new.to.drive ≡ done.old.to.drive)
     → (done.new.to.other ≡ done.old.to.other → done.new.to.other_drive ≡ done.old.to.other_drive) → KeepsLaws done.new.to.drive → KeepsLaws done.new.to.other_drive
-    → AsksFor words a → Keeps a done → ChainsAsked words done
-chains-asked words a done same same-other laws laws-other asks keeps c asked = subst (λ (k : Command). Chains k done.old.to done.new.to done.status done.history) (one-command words a c asks asked) (record {
-  leaves = leaves-next done same same-other laws laws-other words a asks keeps;
+    → KeepsLaws done.old.to.other_drive → AsksFor words a → Keeps a done → ChainsAsked words done
+chains-asked words a done same same-other laws laws-other laws-before asks keeps c asked = subst (λ (k : Command). Chains k done.old.to done.new.to done.status done.history) (one-command words a c asks asked) (record {
+  leaves = leaves-next done same same-other laws laws-other laws-before words a asks keeps;
   meets = meets-next done.old.to.drive done.new.to.drive;
   meets_other = meets-next done.old.to.other_drive done.new.to.other_drive;
 })

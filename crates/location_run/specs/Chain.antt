@@ -45,8 +45,8 @@ pub record StartsLog (w : ℕ) (old new : Drive) (status : ℕ) : Type 0 where
 -- small, what stood there.
 pub record CopiesFirst (w : ℕ) (cells : List Cell) (old new : Drive) (status : ℕ) : Type 0 where
   pub small : LeavesNow old IsSmall → LeavesSince new old.clock (λ image. IsSmall image ⊎ ((m : ℕ) × IsStanding w (take m cells) image))
-  pub stood : (own : List Cell) (there : HoldsLog w own old) → 17 < length there.bytes
-      → LeavesSince new old.clock (λ image. IsStanding w own image ⊎ ((m : ℕ) × IsStanding w (take m cells) image))
+  pub stood : (v : ℕ) (own : List Cell) (there : HoldsLog v own old) → 17 < length there.bytes
+      → LeavesSince new old.clock (λ image. IsStanding v own image ⊎ ((m : ℕ) × IsStanding w (take m cells) image))
   pub stands : WritesLines status → (m : ℕ) × HoldsLog w (take m cells) new
   pub stays : status ≢ 7 → ((m : ℕ) × HoldsLog w (take m cells) new) ⊎ IsUntouched old new
 

@@ -15,10 +15,11 @@ returns-in-Some g c =
     let command = command_of c.in-Some.command in
     let asks = c.in-Some.ensures in
     let drive = g.D.LogDisk.drive in
+    let laws = (g.met.D.LogDisk g.world.𝓛 g.world.𝓜 g.world.𝓡 ((λ s x. x), (λ x. x), (λ x. x), λ x. x)).keeps_laws in
     rw c.outcome_of.ensures.outcome (record {
       usage = usage-accepted words command _ asks c.obey.ensures;
       keeps = keeps-asked words command _ asks c.obey.ensures;
-      chain = chains-asked words command _ (ap drive) (ap drive) c.outcome_of.ensures.laws.0 c.outcome_of.ensures.laws.1 asks c.obey.ensures;
+      chain = chains-asked words command _ (ap drive) (ap drive) c.outcome_of.ensures.laws.0 c.outcome_of.ensures.laws.1 (laws c.args.other) asks c.obey.ensures;
     })
 
 pub returns-in-None : goal.returns-in-None
