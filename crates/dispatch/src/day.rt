@@ -1,30 +1,30 @@
 //! A day of the company.
-ghost use Rattle.std.specs.Prelude.{◌≡◌, ℕ, ◌+◌, ◌<◌, ◌≤◌, [], false, length, slice_index_or, IfSome};
+ghost use Rattle.std.specs.Prelude.{◌≡◌, ◌+◌, ◌≤◌, [], ◌∷◌, IfSome, vec_len, vec_capacity};
 ghost use Rattle.plain_list.specs.World.{IsWorld};
 ghost use Rattle.sessions.specs.Steps.{all_parts};
-ghost use Rattle.dispatch.specs.Callers.{IsFree, KeepsPass};
+ghost use Rattle.store_client.specs.Caller.{IsFree};
+ghost use Rattle.dispatch.specs.Teams.{IsHired};
 
-use crate::callers::{Caller, TaxiPass, Taxis, call, work};
+use crate::callers::{Caller, Told};
 use crate::town::{DISPATCHER, STATION, WAITING};
+use book_lock::Pass;
 use commit_book::Book;
 use disk_trait::LogDisk;
 use index_layer::Index;
 use io_edge::OpenGate;
-use plain_list::{Answer, Entries, Entry, Op, PlacedList};
-use sessions::{CallFault, Store};
+use plain_list::{Entries, Entry, PlacedList};
+use sessions::{SharedBook, Store};
 use std::alloc::Global;
 use std::marker::Brand;
 use std::sync::Wait;
-use std::sync::ledger::{Blank, Ledger};
-use std::thread::{self, Threads};
-use step_count::Steps;
+use std::thread::Threads;
+use store_client::{Client, Worker, at_once};
 
-/// How many of a session's answers were as they should be, and how many of these told that a position came too late.
-#[derive(Clone, Copy)]
-pub struct Told {
-    pub good: u32,
-    pub stale: u32,
-}
+// A pass of the company's store, over any index, and any drive for a log.
+type TaxiPass<I, D> = Pass<SharedBook<I, D, Brand>>;
+
+// A session with a client of its own.
+type Hand<'s, I, D> = Worker<'s, I, D, Brand, Caller>;
 
 /// What a day came to.
 #[derive(Drop)]
@@ -35,47 +35,22 @@ pub struct Day {
     pub nearest: PlacedList,
 }
 
-// All of a team at once, each in a thread of its own.
-fn all_at_once<I: Index + Send, D: LogDisk + Send, R: Threads + Wait + Sync>(
-    rt: &R,
-    alloc: Global,
-    taxis: &Taxis<I, D>,
-    team: &mut [Caller<I, D>],
-)
-    requires { (i : ℕ) (d : Caller I D I.Place) → i < length team.old → IsFree taxis.now (slice_index_or team.old i d).pass }
-    ensures { (i : ℕ) (d : Caller I D I.Place) → i < length team.old → KeepsPass (slice_index_or team.old i d).pass (slice_index_or team.new i d).pass }
-{
-    let threads = team.len().max(1);
-    thread::for_each_mut(
-        rt,
-        team,
-        threads,
-        &|_, caller|
-            requires { IsFree taxis.now caller.now.pass }
-            ensures { KeepsPass caller.entry.now.pass caller.exit.now.pass }
-        { work(rt, alloc, taxis, caller) },
-    );
-}
-
 /// A day over an empty store.
-pub fn play_day<I: Index + Send, D: LogDisk + Send, R: Threads + Wait + Sync, L: Ledger>(
+pub fn play_day<I: Index + Send, D: LogDisk + Send, R: Threads + Wait + Sync>(
     rt: &R,
     alloc: Global,
     book: Book<I, D>,
-    blank: Blank,
 ) -> Option<Day>
     requires entries { book.entries ≡ [] }
     requires world { IsWorld book.opening.world }
-    requires name { blank.name ≡ L.name }
-    requires parts { blank.parts ≡ L.parts }
-    requires one_part { blank.parts ≡ 1 }
 {
-    let (taxis, mut pass) = open_store(alloc, book)?;
-    let mut steps = Steps::<L>::new(blank);
-    let (told, nearest) = call_all_day(rt, alloc, &taxis, &mut pass, &mut steps);
+    let (taxis, pass) = open_store(alloc, book)?;
+    let mut client = Client::new(&taxis, alloc, pass, DISPATCHER);
+    let day = call_all_day(rt, alloc, &mut client);
+    let mut pass = client.into_pass();
     let _ = taxis.settle(rt, alloc, &mut pass, &OpenGate);
     let events = history_of(taxis.close(pass));
-    let nearest = found(nearest)?;
+    let (told, nearest) = day?;
     Some(Day {
         told,
         events,
@@ -87,7 +62,7 @@ pub fn play_day<I: Index + Send, D: LogDisk + Send, R: Threads + Wait + Sync, L:
 fn open_store<I: Index, D: LogDisk>(
     alloc: Global,
     book: Book<I, D>,
-) -> Option<(Taxis<I, D>, TaxiPass<I, D>)>
+) -> Option<(Store<I, D, Brand>, TaxiPass<I, D>)>
     requires entries { book.entries ≡ [] }
     requires world { IsWorld book.opening.world }
     ensures { IfSome result (λ opened. IsFree opened.0 opened.1 × (opened.1.parts ≡ all_parts)) }
@@ -100,97 +75,103 @@ fn history_of<I: Index, D: LogDisk>(book: Book<I, D>) -> Entries {
     book.into_parts().entries
 }
 
-// The objects that an answer lists.
-fn found(answer: Result<Answer, CallFault>) -> Option<PlacedList> {
-    match answer {
-        Ok(Answer::Found(listed)) => Some(listed),
-        _ => None,
+// Three drivers and the dispatcher at once, and then the dispatcher's last question.
+fn call_all_day<I: Index + Send, D: LogDisk + Send, R: Threads + Wait + Sync>(
+    rt: &R,
+    alloc: Global,
+    client: &mut Client<'_, I, D, Brand>,
+) -> Option<([Told; 4], PlacedList)>
+    requires { 5 ≤ client.old.pass.parts }
+    ensures lock { client.new.pass.lock ≡ client.old.pass.lock }
+    ensures parts { client.new.pass.parts ≡ client.old.pass.parts }
+{
+    let Ok(team) = Vec::with_capacity(alloc, 4) else {
+        return None;
+    };
+    let _ = client.put(rt, WAITING, STATION, 0);
+    let (mut one, two, three, mut four) = work_all(rt, client, team);
+    // From here on the dispatcher has seen what the first driver did.
+    four.client.learn(&mut one.client);
+    let nearest = four.client.nearest(rt, STATION, 3).ok();
+    let told = [
+        go_home(client, one),
+        go_home(client, two),
+        go_home(client, three),
+        go_home(client, four),
+    ];
+    Some((told, nearest?))
+}
+
+// Hires a team, and lets all work at once, each in a thread of its own.
+fn work_all<'s, I: Index + Send, D: LogDisk + Send, R: Threads + Wait + Sync>(
+    rt: &R,
+    client: &mut Client<'s, I, D, Brand>,
+    mut team: Vec<Hand<'s, I, D>>,
+) -> (
+    Hand<'s, I, D>,
+    Hand<'s, I, D>,
+    Hand<'s, I, D>,
+    Hand<'s, I, D>,
+)
+    requires empty { team.items ≡ [] }
+    requires room { 4 ≤ vec_capacity team }
+    requires parts { 5 ≤ client.old.pass.parts }
+    ensures lock { client.new.pass.lock ≡ client.old.pass.lock }
+    ensures parts { client.new.pass.parts + 4 ≡ client.old.pass.parts }
+    ensures one { IsHired client.old result.0.client }
+    ensures two { IsHired client.old result.1.client }
+    ensures three { IsHired client.old result.2.client }
+    ensures four { IsHired client.old result.3.client }
+{
+    team.push_reserved(hire(client, 1));
+    team.push_reserved(hire(client, 2));
+    team.push_reserved(hire(client, 3));
+    team.push_reserved(hire(client, DISPATCHER));
+    at_once(rt, &mut team);
+    apart(team)
+}
+
+// The four of a team, one by one.
+fn apart<T>(team: Vec<T>) -> (T, T, T, T)
+    requires { vec_len team ≡ 4 }
+    ensures { result.0 ∷ result.1 ∷ result.2 ∷ result.3 ∷ [] ≡ team.items }
+{
+    match <[T; 4]>::try_from(team) {
+        Ok([one, two, three, four]) => (one, two, three, four),
+        Err(_) => unreachable!(),
     }
 }
 
-// Three drivers and the dispatcher at once, and then the dispatcher's last question.
-fn call_all_day<I: Index + Send, D: LogDisk + Send, R: Threads + Wait + Sync, L: Ledger>(
-    rt: &R,
-    alloc: Global,
-    taxis: &Taxis<I, D>,
-    pass: &mut TaxiPass<I, D>,
-    steps: &mut Steps<L>,
-) -> ([Told; 4], Result<Answer, CallFault>)
-    requires free { IsFree taxis.now pass.old }
-    requires parts { 5 ≤ pass.old.parts }
-    ensures { KeepsPass pass.old pass.new }
+// A session for a part of the client's pass.
+fn hire<'s, I: Index, D: LogDisk>(
+    client: &mut Client<'s, I, D, Brand>,
+    session: u8,
+) -> Hand<'s, I, D>
+    requires { 2 ≤ client.old.pass.parts }
+    ensures lock { (client.new.pass.lock ≡ client.old.pass.lock) × (result.client.pass.lock ≡ client.old.pass.lock) }
+    ensures parts { (client.new.pass.parts + 1 ≡ client.old.pass.parts) × (result.client.pass.parts ≡ 1) }
 {
-    put_waiting(rt, alloc, taxis, pass, steps);
-    let mut team = [
-        Caller::new(1, taxis.split_pass(pass)),
-        Caller::new(2, taxis.split_pass(pass)),
-        Caller::new(3, taxis.split_pass(pass)),
-        Caller::new(DISPATCHER, taxis.split_pass(pass)),
-    ];
-    all_at_once(rt, alloc, taxis, &mut team);
-    let [mut one, two, three, mut four] = team;
-    // From here on the dispatcher has seen what the first driver did.
-    taxis.meet(&mut one.pass, &mut four.pass);
-    let nearest = ask_nearest(rt, alloc, taxis, &mut four.pass, steps);
-    let told = [
-        go_home(taxis, pass, one),
-        go_home(taxis, pass, two),
-        go_home(taxis, pass, three),
-        go_home(taxis, pass, four),
-    ];
-    (told, nearest)
+    Worker {
+        client: client.another(session),
+        work: Caller::new(session),
+    }
 }
 
-fn put_waiting<I: Index, D: LogDisk, R: Wait, L: Ledger>(
-    rt: &R,
-    alloc: Global,
-    taxis: &Taxis<I, D>,
-    pass: &mut TaxiPass<I, D>,
-    steps: &mut Steps<L>,
-)
-    requires { IsFree taxis.now pass.old }
-    ensures { KeepsPass pass.old pass.new }
-{
-    let waits = Op::Put {
-        id: WAITING,
-        at: STATION,
-        moment: 0,
-    };
-    let _ = call(rt, alloc, taxis, pass, DISPATCHER, 0, &waits, steps);
-}
-
-fn ask_nearest<I: Index, D: LogDisk, R: Wait, L: Ledger>(
-    rt: &R,
-    alloc: Global,
-    taxis: &Taxis<I, D>,
-    pass: &mut TaxiPass<I, D>,
-    steps: &mut Steps<L>,
-) -> Result<Answer, CallFault>
-    requires { IsFree taxis.now pass.old }
-    ensures { KeepsPass pass.old pass.new }
-{
-    let near = Op::Near { at: STATION, k: 3 };
-    call(rt, alloc, taxis, pass, DISPATCHER, 101, &near, steps)
-}
-
-// Joins a caller's pass to another, and gives what the caller was told.
-fn go_home<I: Index, D: LogDisk>(
-    taxis: &Taxis<I, D>,
-    pass: &mut TaxiPass<I, D>,
-    caller: Caller<I, D>,
+// Joins a worker's client to another, and gives what the worker was told.
+fn go_home<'s, I: Index, D: LogDisk>(
+    client: &mut Client<'s, I, D, Brand>,
+    worker: Hand<'s, I, D>,
 ) -> Told
-    requires lock { IsFree taxis.now pass.old × IsFree taxis.now caller.pass }
-    ensures same { IsFree taxis.now pass.new }
-    ensures parts { pass.new.parts ≡ pass.old.parts + caller.pass.parts }
+    requires { worker.client.pass.lock ≡ client.old.pass.lock }
+    ensures lock { client.new.pass.lock ≡ client.old.pass.lock }
+    ensures parts { client.new.pass.parts ≡ client.old.pass.parts + worker.entry.client.pass.parts }
 {
-    let Caller {
-        session: _,
-        pass: other,
-        good,
-        stale,
-    } = caller;
-    taxis.join_pass(pass, other);
-    Told { good, stale }
+    let Worker {
+        client: other,
+        work,
+    } = worker;
+    client.join(other);
+    work.told
 }
 
 impl Day {

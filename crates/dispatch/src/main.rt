@@ -9,14 +9,13 @@ mod callers;
 mod day;
 mod town;
 
+use callers::Told;
 use commit_book::Book;
-use day::{Day, Told, play_day};
+use day::{Day, play_day};
 use disk_mem::MemDisk;
 use kd_trie::KdTrie;
 use std::io;
 use std::io::Print;
-use std::marker::Brand;
-use std::sync::ledger::Blank;
 use zorder::Placed;
 
 // How many taxis a leaf should have.
@@ -54,7 +53,7 @@ fn main(rt: HostRuntime) -> io::Result<()> {
     let Ok(book) = Book::<KdTrie, MemDisk>::fresh(rt.alloc(), BUCKET) else {
         return println!(rt; "no memory");
     };
-    match play_day::<KdTrie, MemDisk, HostRuntime, Brand>(&rt, rt.alloc(), book, Blank::new(1)) {
+    match play_day(&rt, rt.alloc(), book) {
         Some(day) => tell(&rt, &day),
         None => println!(rt; "no memory"),
     }

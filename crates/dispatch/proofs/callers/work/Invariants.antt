@@ -1,4 +1,0 @@
-use Rattle.dispatch.proofs.callers.work.Given as goal
-
-abbrev pub ghosts-make_calls : goal.ghosts-make_calls
-ghosts-make_calls g a = record { name = a.blank.name; parts = a.blank.parts }
