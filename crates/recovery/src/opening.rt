@@ -18,7 +18,7 @@ ghost use Rattle.recovery.specs.Wanted.{IsWidthFor, IsFaultFor, MayTell};
 use crate::inspecting::read_log;
 use crate::seen::{NEWEST, OpenFault, OpenRefused, Opened, OpenedLog, SeenLog};
 use disk_trait::{DiskFault, LogDisk};
-use split_log::SplitLog;
+use split_log::{CELL_BYTES, HEADER_BYTES, SplitLog};
 use std::alloc::Global;
 use std::snapshot::Snapshot;
 
@@ -134,7 +134,8 @@ fn settle<D: LogDisk>(
     // Synced first: what is read is then what a crash leaves.
     disk.sync()?;
     let found = read_log(alloc, disk, NEWEST, wanted, most)?;
-    cut_behind(disk, 17 + 32 * found.seen.cells, found.len)?;
+    let end = HEADER_BYTES + CELL_BYTES * found.seen.cells + 1;
+    cut_behind(disk, end, found.len)?;
     Ok(SeenLog {
         seen: found.seen,
         width: found.width,

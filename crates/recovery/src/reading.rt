@@ -17,6 +17,7 @@ use crate::seen::{OpenFault, Seen};
 use crate::walked::Walked;
 use cell_format::Cause;
 use disk_trait::{DiskFault, LogDisk};
+use split_log::{CELL_BYTES, HEADER_BYTES};
 use std::alloc::{AllocError, Global};
 use std::marker::Model;
 
@@ -101,7 +102,7 @@ impl Reading {
         }
         self.at = 0;
         self.filled = 0;
-        let from = 16 + 32 * self.number;
+        let from = HEADER_BYTES + CELL_BYTES * self.number;
         let got = read_piece(disk, &mut self.buffer, from, self.len)?;
         if got == 0 {
             return Err(self.unread());
