@@ -21,7 +21,7 @@ use Rattle.recovery.proofs.Exclusive.{one_fault, recovers_no_fault, recovers_wan
 use Rattle.recovery.proofs.OnlyReading.{stays-trans, rose-earlier}
 use Rattle.recovery.proofs.WidthLemmas.{recovers_width, same_width, fault_seen, fault_at}
 use Rattle.follower.specs.Holding.{most_followed}
-use Rattle.csv_rows.specs.declared.rows.Refusal.{Refusal}
+use Rattle.run_ends.specs.declared.refusals.Refusal.{Refusal}
 use Rattle.run_ends.specs.Attaching.{RefusesAttach}
 use Rattle.run_ends.specs.LogFaults.{log_refusal}
 use Rattle.run_ends.specs.Limits.{oldest_read}

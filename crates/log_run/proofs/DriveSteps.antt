@@ -22,8 +22,8 @@ use Rattle.recovery.proofs.CallLemmas.{stops-then, well-none}
 use Rattle.recovery.proofs.OnlyReading.{rose-earlier, stays-trans}
 use Rattle.recovery.proofs.OpeningLemmas.{leaves-trans, leaves-stays}
 use Rattle.log_compact.proofs.OnWay.{failed-making}
+use Rattle.run_ends.specs.declared.refusals.Refusal.{Refusal}
 use Rattle.run_ends.specs.Limits.{most_inspected}
-use Rattle.csv_rows.specs.declared.rows.Refusal.{Refusal}
 use Rattle.run_ends.specs.Attaching.{RefusesAttach}
 use Rattle.run_ends.specs.LogFaults.{MayTellLog, log_refusal}
 use Rattle.log_run.specs.Checking.{IsCheckingCause, IsDecidedBy}

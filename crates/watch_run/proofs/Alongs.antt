@@ -21,7 +21,7 @@ use Rattle.recovery.proofs.ReadingLemmas.{behind_cells}
 use Rattle.recovery.proofs.Exclusive.{recovers_wanted, told_fault, told_free}
 use Rattle.recovery.proofs.WidthLemmas.{fault_at, fault_seen, recovers_width, same_width}
 use Rattle.recovery.proofs.OnlyReading.{stays-trans}
-use Rattle.csv_rows.specs.declared.rows.Refusal.{Refusal}
+use Rattle.run_ends.specs.declared.refusals.Refusal.{Refusal}
 use Rattle.run_ends.specs.Limits.{most_inspected, oldest_read}
 use Rattle.run_ends.specs.LogFaults.{MayTellLog}
 use Rattle.run_ends.specs.Status.{status_of}
