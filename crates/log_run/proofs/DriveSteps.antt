@@ -10,7 +10,7 @@ use Rattle.recovery.specs.Faults.{IsInBytes}
 use Rattle.recovery.specs.Widths.{IsWidth, IsLogFault}
 use Rattle.recovery.specs.declared.seen.SeenLog.{SeenLog}
 use Rattle.recovery.specs.Found.{IsFree, IsFound}
-use Rattle.recovery.specs.Reading.{OnlyReads}
+use Rattle.recovery.specs.Reading.{IsBehind, OnlyReads}
 use Rattle.recovery.specs.declared.seen.Seen.{Seen}
 use Rattle.recovery.specs.declared.seen.InitFault.{InitFault}
 use Rattle.recovery.specs.declared.seen.InitFault.TheVariants as init_fault
@@ -107,3 +107,12 @@ calm-read a b c (open_fault.Damaged cell cause) same calm other = calm (λ e. cc
 calm-read a b c open_fault.Disk same calm other = absurd (other refl)
 calm-read a b c open_fault.Memory same calm other = calm (λ e. cc e) ∙ same
 calm-read a b c (open_fault.TooLong limit) same calm other = calm (λ e. cc e) ∙ same
+
+-- what is told behind so many cells of a log may be
+pub may-behind : (oldest most number : ℕ) (e : OpenFault) → IsBehind most number e → MayTellLog oldest most e
+may-behind oldest most number open_fault.NotLog behind = absurd behind
+may-behind oldest most number (open_fault.OldLog version width) behind = absurd behind
+may-behind oldest most number (open_fault.Damaged n why) behind = omega (arith, behind.0, behind.1)
+may-behind oldest most number (open_fault.TooLong limit) behind = behind.0
+may-behind oldest most number open_fault.Disk behind = tt
+may-behind oldest most number open_fault.Memory behind = tt
