@@ -1,12 +1,11 @@
 -- Rows and a base, through a change that keeps the base or doesn't.
 use Rattle.std.proofs.Common.{◌≡◌, ◌∙◌, ℕ, Bool, true, false, List, [], ap, sym}
 use mathlib.Core.Bool.{true≢false}
-use Rattle.std.specs.Arc.{arc_value}
 use Rattle.bucket_versions.specs.declared.row.Row.{Row}
 use Rattle.bucket_versions.specs.declared.row_list.RowList.{RowList}
 use Rattle.bucket_versions.specs.declared.content.Base.{Base}
 use Rattle.bucket_versions.specs.declared.content.Base.TheVariants.{Own, Below, Beside}
-use Rattle.bucket_versions.specs.Rows.{IsRows, AreRows, as_base, rows_over, rows_between}
+use Rattle.bucket_versions.specs.Rows.{IsRows, AreRows, as_base, rows_between}
 use Rattle.bucket_versions.specs.Delta.{delta_len, difference}
 use Rattle.bucket_versions.specs.RowList.{rows_under, listed, IsRowList}
 use Rattle.bucket_versions.specs.Content.{base_in, kept_in, IsReady, settled}
@@ -19,15 +18,7 @@ IsRows-listed l is = IsRows-difference (rows_under l.under) l.list.items is.unde
 pub kept_rising : (b : Base) (l : RowList) → IsRows (base_in b l) → IsRowList l → AreRows (kept_in b l)
 kept_rising b l base is = record { base = base; rows = IsRows-listed l is }
 
--- a base that stands apart stays as rows change, and else the rows are it
-pub ready_changed : (keeps : Bool) (b : Base) (old now : RowList) (rows : List Row) → IsReady keeps b → rows_under now.under ≡ rows_under old.under → listed now ≡ rows
-    → kept_in (settled keeps b) now ≡ rows_over keeps rows (kept_in b old)
-ready_changed true Own old now rows ready under is = absurd (true≢false ready)
-ready_changed true Below old now rows ready under is = λ i. record { base = under i; rows = is i }
-ready_changed true (Beside base) old now rows ready under is = λ i. record { base = (arc_value base).items; rows = is i }
-ready_changed false b old now rows ready under is = λ i. record { base = is i; rows = is i }
-
--- and so does its order
+-- a base is in order after a change of rows that keeps it apart, and after one that makes the rows the base
 pub base_rising : (keeps : Bool) (b : Base) (old now : RowList) → IsReady keeps b → rows_under now.under ≡ rows_under old.under → IsRows (base_in b old) → IsRowList now
     → IsRows (base_in (settled keeps b) now)
 base_rising true Own old now ready under rising is = absurd (true≢false ready)

@@ -335,24 +335,6 @@ gone_turns old now r i rising has at is =
     let both = gone_at_place old now r i rising has at is in
     (both.0 ∙ sym (turn-present r old has), both.1)
 
--- the delta of a base and the rows on it
-differ_twice : (x y : Bool) → differ x (differ x y) ≡ y
-differ_twice true true = refl
-differ_twice true false = refl
-differ_twice false y = refl
-
-difference-twice : (base rows : List Row) → IsRows base → IsRows rows → difference base (difference base rows) ≡ rows
-difference-twice base rows rising other =
-    let delta = difference base rows in
-    let ordered : IsRows delta = IsRows-difference base rows rising other in
-    rows-eq (difference base delta) rows (IsRows-difference base delta rising ordered) other
-    (λ q. has_row-difference q base delta rising ordered ∙ ap (differ (has_row q base)) (has_row-difference q base rows rising other) ∙ differ_twice (has_row q base) (has_row q rows))
-
-pub length-rows : (base rows : List Row) → IsRows base → IsRows rows → length (difference base rows) ≡ delta_len (record { base = base; rows = rows })
-length-rows base rows rising other =
-    length-delta base (difference base rows) rising (IsRows-difference base rows rising other)
-    ∙ ap (λ (l : List Row). delta_len (record { base = base; rows = l })) (difference-twice base rows rising other)
-
 -- a bucket's view of two lists, which tell it
 abbrev pub as_rows : List Row → List Row → Rows
 as_rows base rows = record { base = base; rows = rows }

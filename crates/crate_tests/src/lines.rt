@@ -4,12 +4,10 @@ ghost use Rattle.std.specs.Prelude.{None};
 use crate::answers::{Told, answer_of};
 use crate::checks::same_bytes;
 use cell_format::Cause;
-use csv_rows::{
-    InRow, Refusal, Rows, RowsFault, number_in, read_rows, refusal_line, write_line, write_rows,
-    write_title,
-};
+use csv_rows::{InRow, Rows, RowsFault, number_in, read_rows, write_line, write_rows, write_title};
 use io_edge::{Sink, SinkFault};
 use plain_list::{Answer, Op, PlacedList, Stamped};
+use run_ends::{Refusal, refusal_line};
 use std::alloc::{AllocError, Global};
 use std::process::Abort;
 use zorder::{Placed, Point, Region};

@@ -5,7 +5,5 @@ pub mod ColumnsFacts
 pub mod FieldsFacts
 pub mod NumbersFacts
 pub mod PiecesFacts
-pub mod LinesFacts
-pub mod ObjectFacts
 pub mod RoundTrip
 pub mod WrittenFacts

@@ -9,13 +9,9 @@ use Rattle.zorder.specs.declared.points.Placed.{Placed}
 use Rattle.plain_list.specs.declared.ops.Answer.TheVariants as ans
 use Rattle.plain_list.specs.declared.ops.Op.TheVariants as op
 use Rattle.plain_list.specs.declared.world.Stamped.{Stamped}
-use Rattle.zorder.specs.declared.points.Region.{Region}
 use Rattle.csv_rows.specs.declared.rows.InRow.{InRow}
 use Rattle.csv_rows.specs.declared.rows.RowsFault.TheVariants as fault
-use Rattle.cell_format.specs.declared.cell.Cause.TheVariants as cause
-use Rattle.csv_rows.specs.declared.rows.Refusal.TheVariants as refusal
-use Rattle.csv_rows.specs.Lines.{line_text, refusal_text}
-use Rattle.csv_rows.specs.ObjectLines.{objects_text}
+use Rattle.csv_rows.specs.Lines.{line_text}
 use Rattle.csv_rows.specs.RowLines.{rows_text}
 use Rattle.csv_rows.specs.Numbers.{is_between, is_number, number_in}
 use Rattle.csv_rows.specs.Rows.{rows_of}
@@ -98,29 +94,6 @@ line_3 : line_text 3 3 (ans.Found (placed 4 3 4 ∷ placed 9 0 5 ∷ [])) ≡ co
 unfolding line_text digits
 line_3 = refl
 
-refused : refusal_text (refusal.Field 3 6) ≡ codes "refused row 3 column 6\n"
-unfolding refusal_text digits
-refused = refl
-
-damaged : refusal_text (refusal.Damaged 0 cause.Kind) ≡ codes "refused cell 0 kind\n"
-unfolding refusal_text digits
-damaged = refl
-
-old_log : refusal_text (refusal.OldLog 3 1) ≡ codes "refused log version 3 width 1\n"
-unfolding refusal_text digits
-old_log = refl
-
-in_use : refusal_text (refusal.InUse 49) ≡ codes "refused in use 49\n"
-unfolding refusal_text digits
-in_use = refl
-
 text_of_rows : rows_text (put_7 ∷ where_7 ∷ []) ≡ header ++ codes "1,put,7,3,5,,,10\n1,where,7,,,,,\n"
 unfolding rows_text digits
 text_of_rows = refl
-
-abbrev whole : Region
-whole = record { lo = pt 0 0; hi = pt 9 9 }
-
-shown : objects_text whole (record { id = 7; at = pt 3 5; moment = 10 } ∷ []) ≡ codes "id,x,y,moment\n7,3,5,10\n"
-unfolding objects_text digits
-shown = refl

@@ -8,6 +8,4 @@ pub mod Tables
 pub mod Pieces
 pub mod Lines
 pub mod RowLines
-pub mod LogLines
-pub mod ObjectLines
 pub mod Examples

@@ -1,26 +1,22 @@
-//! Reads the rows of a CSV input, and writes rows, answers and refusals as text.
+//! Reads the rows of a CSV input, and writes rows and answers as text.
 //!
 //! Contracts see the rows of an input as `rows_of` its bytes: a list of rows, or the first place at fault, both taken
 //! from the records that `csv` reads. `read_rows` answers exactly that, or want of memory. `Rows` is seen as a list of
-//! rows that each keep the rules of their columns. `write_line`, `refusal_line`, `write_made`, `write_counts`,
-//! `write_summary`, `write_compacted`, `write_objects` and `write_rows` put exactly the texts of `Lines`, `LogLines`,
-//! `ObjectLines` and `RowLines`, and take no memory; what `write_rows` puts reads again as the same rows. A `Gathered`
-//! has many lines go out in large pieces; other crates write theirs into a `Piece`.
+//! rows that each keep the rules of their columns. `write_title`, `write_line` and `write_rows` put exactly the texts of
+//! `Lines` and `RowLines`, and take no memory; what `write_rows` puts reads again as the same rows. A `Gathered` has many
+//! lines go out in large pieces; other crates write theirs into a `Piece`.
 //!
 //! Rows of another type are seen as `rows_of_text` of a `Table`, which says what each record says behind the rows before it.
 //! `read_table` answers exactly that, or want of memory, for whatever implements `ReadsRow`.
 //!
-//! Not here: what an operation answers (`plain_list`), the status of a refusal (`run_ends`), and why a command answers one (`log_run` and
-//! its like).
+//! Not here: what an operation answers (`plain_list`), refusals and the lines of commands (`run_ends`).
 #![tactic(auto)]
 
 mod columns;
 mod fields;
 mod gathering;
 mod lines;
-mod log_lines;
 mod numbers;
-mod object_lines;
 mod pieces;
 mod read;
 mod records;
@@ -32,12 +28,10 @@ mod written;
 pub use columns::{COORDINATE, ID, Rule, at_least, point_of};
 pub use fields::{field_in, is_text, number_at};
 pub use gathering::Gathered;
-pub use lines::{refusal_line, write_line, write_title};
-pub use log_lines::{write_compacted, write_counts, write_made, write_summary};
+pub use lines::{write_line, write_title};
 pub use numbers::number_in;
-pub use object_lines::write_objects;
 pub use pieces::{Piece, add_number, add_pair, make_room, push_str};
 pub use read::read_rows;
 pub use row_lines::write_rows;
-pub use rows::{InRow, LogCounts, Refusal, Rows, RowsFault, Summary, Wrong};
+pub use rows::{InRow, Rows, RowsFault, Wrong};
 pub use tables::{ReadsRow, read_table};

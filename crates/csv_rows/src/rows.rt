@@ -1,12 +1,10 @@
-//! What is read, and what is refused.
+//! What is read, and why nothing is.
 ghost use Rattle.std.specs.Prelude.{◌≡◌};
 
-use cell_format::Cause;
 use plain_list::Op;
 use std::alloc::{AllocError, AllocFailed};
 use std::marker::Model;
 use thiserror::Error;
-use zorder::Memory;
 
 /// An operation, and the session that asks for it.
 #[derive(Clone, Copy, Debug, PartialEq, Eq)]
@@ -88,70 +86,6 @@ impl<T: Drop> From<AllocFailed<T>> for RowsFault {
     fn from(_: AllocFailed<T>) -> RowsFault {
         RowsFault::Memory
     }
-}
-
-/// Why a run of the program gives no answers.
-#[derive(Clone, Copy, Debug, PartialEq, Eq)]
-pub enum Refusal {
-    /// The words ask for no command.
-    Usage,
-    /// The input doesn't begin with the header of its table.
-    Header,
-    /// The record of this row has too few fields, or too many.
-    Csv { row: u32 },
-    /// This column, counted from 1, is the leftmost of its row that breaks its rule.
-    Field { row: u32, column: u8 },
-    /// The file doesn't begin as a log does.
-    NotLog,
-    /// The head names a version or a width that isn't read, or over which no rows are played.
-    OldLog { version: u8, width: u8 },
-    /// This cell, counted from 0, is the first whose bytes say nothing legal there.
-    Damaged { cell: u64, cause: Cause },
-    /// A read of the source failed.
-    Source,
-    /// A call of the drive failed: with the cell whose append failed; without one where no append did.
-    Disk { cell: Option<u64> },
-    /// The source has more than 16,777,216 bytes.
-    LongInput,
-    /// The input has more rows than its table may.
-    ManyRows,
-    /// The log has more cells than are read.
-    LongLog,
-    /// More crossings of fences come along the log than are kept.
-    LongEvents,
-    /// Memory ran out.
-    Memory,
-    /// The file in which a log is to be made has more than 17 bytes: this many.
-    InUse { len: u64 },
-    /// This is the first cell of a log that isn't the one that another log has there.
-    Strange { cell: u64 },
-}
-
-impl From<Memory> for Refusal {
-    ghost use Rattle.csv_rows.specs.declared.rows.Refusal.TheVariants as refusal;
-
-    ghost from_gives = { λ _ r. r ≡ refusal.Memory };
-
-    fn from(_: Memory) -> Refusal {
-        Refusal::Memory
-    }
-}
-
-/// How many of each a log was found to have: cells, points after them, leaves, and splits that haven't ended.
-#[derive(Clone, Copy, Debug, PartialEq, Eq)]
-pub struct LogCounts {
-    pub cells: u64,
-    pub points: u64,
-    pub leaves: u64,
-    pub unfinished: u64,
-}
-
-/// What made rows leave: how many rows there were, how many points are left, and the sum of their keys modulo 2^64.
-#[derive(Clone, Copy, Debug, PartialEq, Eq)]
-pub struct Summary {
-    pub rows: u64,
-    pub points: u64,
-    pub sum: u64,
 }
 
 /// What is wrong with a record: it has another number of fields, or a column breaks its rule.

@@ -6,12 +6,12 @@ use Rattle.causes.specs.Causes.{Rose}
 use Rattle.io_edge.specs.Reads.{ConsumesUpTo}
 use Rattle.io_edge.specs.Streams.{Input}
 use Rattle.cell_format.specs.declared.cell.Cell.{Cell}
-use Rattle.csv_rows.specs.declared.rows.Refusal.{Refusal}
-use Rattle.csv_rows.specs.declared.rows.Refusal.TheVariants as refusal
 use Rattle.csv_rows.specs.declared.rows.RowsFault.{RowsFault}
 use Rattle.csv_rows.specs.declared.rows.RowsFault.TheVariants as rows_fault
 use Rattle.follower.specs.declared.turns.Turn.{Turn}
 use Rattle.follower.specs.TurnRows.{turns_of_text}
+use Rattle.run_ends.specs.declared.refusals.Refusal.{Refusal}
+use Rattle.run_ends.specs.declared.refusals.Refusal.TheVariants as refusal
 use Rattle.run_ends.specs.Judged.{refusal_of}
 use Rattle.run_ends.specs.Limits.{most_bytes}
 use Rattle.run_ends.specs.Ends.{Targets}

@@ -12,7 +12,7 @@ use Rattle.recovery.specs.declared.seen.OpenFault.TheVariants as open_fault
 use Rattle.recovery.specs.declared.seen.OpenRefused.{OpenRefused}
 use Rattle.recovery.specs.Faults.{IsFault, IsInBytes}
 use Rattle.recovery.specs.Found.{IsFree}
-use Rattle.recovery.specs.Reading.{IsBehind, OnlyReads}
+use Rattle.recovery.specs.Reading.{OnlyReads}
 use Rattle.recovery.specs.Walks.{WalkView, ComesTo, TellsWalked, IsOfHead}
 use Rattle.recovery.specs.Wanted.{MayTellLog}
 use Rattle.recovery.specs.declared.walked.Walked.{Walked}
@@ -21,7 +21,7 @@ use Rattle.recovery.proofs.Exclusive.{one_fault, recovers_no_fault, recovers_wan
 use Rattle.recovery.proofs.OnlyReading.{stays-trans, rose-earlier}
 use Rattle.recovery.proofs.WidthLemmas.{recovers_width, same_width, fault_seen, fault_at}
 use Rattle.follower.specs.Holding.{most_followed}
-use Rattle.csv_rows.specs.declared.rows.Refusal.{Refusal}
+use Rattle.run_ends.specs.declared.refusals.Refusal.{Refusal}
 use Rattle.run_ends.specs.Attaching.{RefusesAttach}
 use Rattle.run_ends.specs.LogFaults.{log_refusal}
 use Rattle.run_ends.specs.Limits.{oldest_read}
@@ -158,15 +158,6 @@ along-exact bytes a b e (open_fault.Damaged number why) head whole shown is = in
 along-exact bytes a b e (open_fault.TooLong limit) head whole shown is = inr (whole is.0 is.1)
 along-exact bytes a b e open_fault.Disk head whole shown is = absurd shown
 along-exact bytes a b e open_fault.Memory head whole shown is = absurd shown
-
--- what is told behind so many cells may be
-pub may-behind : (number : ℕ) (e : OpenFault) → IsBehind most_followed number e → MayTellLog oldest_read most_followed e
-may-behind number open_fault.NotLog behind = absurd behind
-may-behind number (open_fault.OldLog version width) behind = absurd behind
-may-behind number (open_fault.Damaged n why) behind = omega (arith, behind.0, behind.1)
-may-behind number (open_fault.TooLong limit) behind = behind.0
-may-behind number open_fault.Disk behind = tt
-may-behind number open_fault.Memory behind = tt
 
 -- a log whose width was read, and then its cells
 module _ {D T : Type 0} (drive : D → Drive) (a b : Drive) (x : T) (first : OnlyReads a b (Ok x)) (w : ℕ) (has : (bytes : List ℕ) → a.bytes ≡ Some bytes → HasWidth w bytes) (result : Result (Leader D) (OpenRefused D))

@@ -22,8 +22,6 @@ use Rattle.recovery.specs.Opening.{IsUntouched}
 use Rattle.recovery.proofs.CallLemmas.{well-none, stops-then}
 use Rattle.recovery.proofs.OnlyReading.{rose-earlier}
 use Rattle.recovery.proofs.OpeningLemmas.{leaves-trans, leaves-stays}
-use Rattle.csv_rows.specs.declared.rows.Refusal.{Refusal}
-use Rattle.csv_rows.specs.declared.rows.Refusal.TheVariants as refusal
 use Rattle.follower.specs.declared.faults.FollowFault.{FollowFault}
 use Rattle.follower.specs.declared.faults.FollowFault.TheVariants as fault
 use Rattle.follower.specs.declared.turns.Report.{Report}
@@ -34,6 +32,8 @@ use Rattle.follower.specs.Holding.{FollowerView, RecoversFirst, IsUntold}
 use Rattle.follower.specs.Opening.{CallsToFollow, IsStrange, IsTaken, IsOpenCause, Opens, RefusesOpen, KeepsTarget, most_held}
 use Rattle.follower.proofs.OpenLemmas.{follow_before, stops_unfollowed}
 use Rattle.follower.proofs.TurnLemmas.{told-before}
+use Rattle.run_ends.specs.declared.refusals.Refusal.{Refusal}
+use Rattle.run_ends.specs.declared.refusals.Refusal.TheVariants as refusal
 use Rattle.run_ends.specs.Attaching.{RefusesAttach}
 use Rattle.run_ends.specs.LogFaults.{log_refusal}
 use Rattle.run_ends.specs.Status.{status_of, written_status}

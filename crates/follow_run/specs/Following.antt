@@ -7,14 +7,14 @@ use Rattle.cell_format.specs.Spelling.{newest}
 use Rattle.recovery.specs.Faults.{IsFault, IsInBytes}
 use Rattle.recovery.specs.Widths.{IsLogFault}
 use Rattle.recovery.specs.declared.seen.OpenFault.{OpenFault}
-use Rattle.csv_rows.specs.declared.rows.Refusal.{Refusal}
-use Rattle.csv_rows.specs.declared.rows.Refusal.TheVariants as refusal
 use Rattle.follower.specs.declared.turns.Turn.{Turn}
 use Rattle.follower.specs.TurnRows.{turns_of_text}
 use Rattle.follower.specs.Holding.{most_followed}
 use Rattle.follower.specs.Opening.{IsStrange, IsTaken, most_held}
 use Rattle.io_edge.specs.Streams.{Input}
 use Rattle.io_edge.specs.Reads.{ConsumesUpTo}
+use Rattle.run_ends.specs.declared.refusals.Refusal.{Refusal}
+use Rattle.run_ends.specs.declared.refusals.Refusal.TheVariants as refusal
 use Rattle.run_ends.specs.LogFaults.{log_refusal}
 use Rattle.run_ends.specs.Limits.{most_bytes, oldest_read}
 use Rattle.run_ends.specs.Ends.{Ends, Done, Targets}

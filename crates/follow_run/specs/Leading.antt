@@ -7,9 +7,9 @@ use Rattle.log_state.specs.Recovers.{Recovers}
 use Rattle.recovery.specs.Faults.{IsInBytes}
 use Rattle.recovery.specs.Widths.{IsWidth, IsLogFault}
 use Rattle.recovery.specs.declared.seen.OpenFault.{OpenFault}
-use Rattle.csv_rows.specs.declared.rows.Refusal.{Refusal}
-use Rattle.csv_rows.specs.declared.rows.Refusal.TheVariants as refusal
 use Rattle.follower.specs.Holding.{AreLeading, most_followed}
+use Rattle.run_ends.specs.declared.refusals.Refusal.{Refusal}
+use Rattle.run_ends.specs.declared.refusals.Refusal.TheVariants as refusal
 use Rattle.run_ends.specs.LogFaults.{IsReadingCause, log_refusal}
 use Rattle.run_ends.specs.Limits.{oldest_read}
 use Rattle.log_run.specs.Checking.{HasReadLog, HasReadUnless}

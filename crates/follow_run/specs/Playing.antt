@@ -11,8 +11,6 @@ use Rattle.recovery.specs.Calls.{AllWentWell, StopsAtFault}
 use Rattle.recovery.specs.Faults.{IsFault, IsInBytes}
 use Rattle.recovery.specs.Opening.{IsUntouched}
 use Rattle.recovery.specs.declared.seen.OpenFault.{OpenFault}
-use Rattle.csv_rows.specs.declared.rows.Refusal.{Refusal}
-use Rattle.csv_rows.specs.declared.rows.Refusal.TheVariants as refusal
 use Rattle.follower.specs.declared.turns.Turn.{Turn}
 use Rattle.follower.specs.declared.turns.Report.{Report}
 use Rattle.follower.specs.declared.faults.FollowFault.{FollowFault}
@@ -23,6 +21,8 @@ use Rattle.follower.specs.Holding.{FollowerView, HoldsFirst, RecoversFirst}
 use Rattle.follower.specs.Turning.{MakesTurn, FailsTurn}
 use Rattle.follower.specs.Opening.{CallsToFollow, IsStrange, IsTaken, KeepsTarget, most_held}
 use Rattle.io_edge.specs.Streams.{Output}
+use Rattle.run_ends.specs.declared.refusals.Refusal.{Refusal}
+use Rattle.run_ends.specs.declared.refusals.Refusal.TheVariants as refusal
 use Rattle.run_ends.specs.Status.{status_of}
 use Rattle.run_ends.specs.Attaching.{AttachesOnce}
 use Rattle.run_ends.specs.LogFaults.{log_refusal}

@@ -14,8 +14,6 @@ use Rattle.recovery.specs.Wanted.{IsOtherFor}
 use Rattle.recovery.specs.Opening.{IsUntouched, KeepsNewest}
 use Rattle.recovery.specs.declared.seen.OpenFault.{OpenFault}
 use Rattle.recovery.specs.declared.seen.OpenFault.TheVariants as open_fault
-use Rattle.csv_rows.specs.declared.rows.Refusal.{Refusal}
-use Rattle.csv_rows.specs.declared.rows.Refusal.TheVariants as refusal
 use Rattle.follower.specs.declared.faults.FollowFault.{FollowFault}
 use Rattle.follower.specs.declared.faults.FollowFault.TheVariants as follow_fault
 use Rattle.follower.specs.declared.turns.Turn.{Turn}
@@ -25,6 +23,8 @@ use Rattle.follower.specs.Holding.{RecoversFirst, IsUntold}
 use Rattle.follower.specs.Opening.{IsStrange, IsTaken, KeepsTarget, most_held}
 use Rattle.follower.specs.Turning.{BringsNext}
 use Rattle.io_edge.specs.Streams.{Output}
+use Rattle.run_ends.specs.declared.refusals.Refusal.{Refusal}
+use Rattle.run_ends.specs.declared.refusals.Refusal.TheVariants as refusal
 use Rattle.run_ends.specs.LogFaults.{log_refusal}
 use Rattle.run_ends.specs.Status.{status_of}
 use Rattle.run_ends.specs.Taking.{Refuses}

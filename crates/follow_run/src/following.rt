@@ -10,11 +10,10 @@ ghost use Rattle.follow_run.specs.Following.{EndsFollowing, Follows};
 
 use crate::leader::{Leader, find_leader};
 use crate::replica::copy_to;
-use csv_rows::Refusal;
 use disk_trait::LogDisk;
 use follower::{Turn, Turns, read_turns};
 use io_edge::{Sink, Source};
-use run_ends::{Drives, Ended, Unmade, read_bytes, refusal_of, refuse_on};
+use run_ends::{Drives, Ended, Refusal, Unmade, read_bytes, refusal_of, refuse_on};
 use std::alloc::Global;
 
 /// Copies the cells of the log in `file` on the first drive to `name` on the other one, along the turns of the source, and tells what is

@@ -8,11 +8,12 @@ ghost use Rattle.follow_run.specs.Replica.{EndsReplica, follow_refusal};
 
 use crate::lines::write_reports;
 use cell_format::Cell;
-use csv_rows::Refusal;
 use disk_trait::LogDisk;
 use follower::{FollowFault, FollowRefused, Follower, Report, Turn, Turned};
 use io_edge::Sink;
-use run_ends::{Drives, Ended, Unmade, attach, log_refusal, refuse_on, without_rows, written};
+use run_ends::{
+    Drives, Ended, Refusal, Unmade, attach, log_refusal, refuse_on, without_rows, written,
+};
 use std::alloc::Global;
 
 /// Follows the leader's cells in the file of this name along turns, and tells their reports.

@@ -26,9 +26,6 @@ pub record Goes (leaves : List Leaf) (kept : Kept) (begun : List Ahead) (next : 
   pub less : sum_by weight_of (next ∷ waiting) ≤ sum_by weight_of begun
   pub state : (p : Point) (k before now : ℕ) → State p k leaves before now begun kept → State p k leaves before now (next ∷ waiting) kept
 
-pub goes_first : (leaves : List Leaf) (kept : Kept) (next : Ahead) (waiting : List Ahead) → IsWanted kept next waiting → Goes leaves kept (next ∷ waiting) next waiting
-goes_first leaves kept next waiting wanted = record { wanted = wanted; less = omega arith; state = λ p k before now s. s }
-
 -- the nearest was taken out
 module _ {P : Type 0} where
   pub state-taken : (p : Point) (k : ℕ) (leaves : List Leaf) (before now : ℕ) (old new : List (Waiting P)) (w : Waiting P) (kept : Kept) → State p k leaves before now (ahead_of old) kept → IsNearest w old new

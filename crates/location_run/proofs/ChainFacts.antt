@@ -19,9 +19,9 @@ use Rattle.recovery.proofs.WidthLemmas.{recovers_width}
 use Rattle.command_words.specs.Words.{Command, Init, Check, Play, Show, Trial, Compact, Watch, Follow, AsksFor}
 use Rattle.command_words.proofs.WordsFacts.{init-width, one-command}
 use Rattle.csv_rows.specs.declared.rows.InRow.{InRow}
-use Rattle.csv_rows.specs.declared.rows.Refusal.TheVariants as refusal
 use Rattle.make_moves.specs.Moves.{made_rows}
 use Rattle.command_words.specs.declared.trials.Made.{Made}
+use Rattle.run_ends.specs.declared.refusals.Refusal.TheVariants as refusal
 use Rattle.run_ends.specs.Ends.{Ends, Done, Targets}
 use Rattle.run_ends.specs.Limits.{trial_bucket}
 use Rattle.run_ends.specs.Status.{status_of, WritesLines}

@@ -1,9 +1,9 @@
 -- What a run promises.
 use Rattle.std.specs.Prelude.{◌≡◌, ◌↔◌, ℕ, List}
-use Rattle.csv_rows.specs.declared.rows.Refusal.TheVariants as refusal
 use Rattle.command_words.specs.Words.{Command, Init, Check, Play, Show, Trial, Compact, Watch, Follow, AsksFor, IsAccepted}
 use Rattle.io_edge.specs.Streams.{Input, Output}
 use Rattle.disk_trait.specs.Drive.{Drive}
+use Rattle.run_ends.specs.declared.refusals.Refusal.TheVariants as refusal
 use Rattle.run_ends.specs.Ends.{Ends, Done, Targets, IsQuiet, IsUnread, ends}
 use Rattle.run_ends.specs.Taking.{Refuses}
 use Rattle.log_run.specs.Making.{Inits}

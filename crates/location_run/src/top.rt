@@ -10,13 +10,12 @@ ghost use Rattle.location_run.specs.Chain.{ChainsAsked};
 
 use crate::outcome::Outcome;
 use command_words::{Command, command_in};
-use csv_rows::Refusal;
 use disk_trait::LogDisk;
 use follow_run::follow_log;
 use io_edge::{Gate, Sink, Source};
 use log_run::{check_log, compact_log, make_log, show_log};
 use play_run::{play, trial};
-use run_ends::{Drives, Ended, refuse_on};
+use run_ends::{Drives, Ended, Refusal, refuse_on};
 use std::alloc::Global;
 use std::sync::Wait;
 use std::thread::Threads;

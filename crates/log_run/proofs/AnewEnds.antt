@@ -20,9 +20,9 @@ use Rattle.log_compact.specs.Compacting.{IsCompacted, IsOnWay, KeepsOnWay, Refus
 use Rattle.log_compact.specs.declared.compacting.CompactFault.{CompactFault}
 use Rattle.log_compact.specs.declared.compacting.CompactFault.TheVariants as compact_fault
 use Rattle.log_compact.proofs.Counting.{comes_by_splits, fresh_few}
-use Rattle.csv_rows.specs.LogLines.{compacted_line}
-use Rattle.csv_rows.specs.declared.rows.Refusal.{Refusal}
-use Rattle.csv_rows.specs.declared.rows.Refusal.TheVariants as refusal
+use Rattle.run_ends.specs.LogLines.{compacted_line}
+use Rattle.run_ends.specs.declared.refusals.Refusal.{Refusal}
+use Rattle.run_ends.specs.declared.refusals.Refusal.TheVariants as refusal
 use Rattle.run_ends.specs.Limits.{oldest_read, most_inspected}
 use Rattle.run_ends.specs.Ends.{Targets}
 use Rattle.run_ends.specs.Status.{status_of, written_status}

@@ -4,8 +4,8 @@ use Rattle.disk_trait.specs.Drive.{Drive, Stays}
 use Rattle.cell_format.specs.declared.cell.Cell.{Cell}
 use Rattle.recovery.specs.declared.seen.SeenLog.{SeenLog}
 use Rattle.recovery.specs.declared.seen.OpenFault.{OpenFault}
-use Rattle.csv_rows.specs.declared.rows.Refusal.{Refusal}
-use Rattle.csv_rows.specs.declared.rows.Refusal.TheVariants as refusal
+use Rattle.run_ends.specs.declared.refusals.Refusal.{Refusal}
+use Rattle.run_ends.specs.declared.refusals.Refusal.TheVariants as refusal
 use Rattle.run_ends.specs.Limits.{most_inspected}
 use Rattle.io_edge.specs.Streams.{Output}
 use Rattle.run_ends.specs.Status.{status_of}

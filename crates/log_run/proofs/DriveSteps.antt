@@ -10,7 +10,7 @@ use Rattle.recovery.specs.Faults.{IsInBytes}
 use Rattle.recovery.specs.Widths.{IsWidth, IsLogFault}
 use Rattle.recovery.specs.declared.seen.SeenLog.{SeenLog}
 use Rattle.recovery.specs.Found.{IsFree, IsFound}
-use Rattle.recovery.specs.Reading.{OnlyReads}
+use Rattle.recovery.specs.Reading.{IsBehind, OnlyReads}
 use Rattle.recovery.specs.declared.seen.Seen.{Seen}
 use Rattle.recovery.specs.declared.seen.InitFault.{InitFault}
 use Rattle.recovery.specs.declared.seen.InitFault.TheVariants as init_fault
@@ -22,8 +22,8 @@ use Rattle.recovery.proofs.CallLemmas.{stops-then, well-none}
 use Rattle.recovery.proofs.OnlyReading.{rose-earlier, stays-trans}
 use Rattle.recovery.proofs.OpeningLemmas.{leaves-trans, leaves-stays}
 use Rattle.log_compact.proofs.OnWay.{failed-making}
+use Rattle.run_ends.specs.declared.refusals.Refusal.{Refusal}
 use Rattle.run_ends.specs.Limits.{most_inspected}
-use Rattle.csv_rows.specs.declared.rows.Refusal.{Refusal}
 use Rattle.run_ends.specs.Attaching.{RefusesAttach}
 use Rattle.run_ends.specs.LogFaults.{MayTellLog, log_refusal}
 use Rattle.log_run.specs.Checking.{IsCheckingCause, IsDecidedBy}
@@ -107,3 +107,12 @@ calm-read a b c (open_fault.Damaged cell cause) same calm other = calm (λ e. cc
 calm-read a b c open_fault.Disk same calm other = absurd (other refl)
 calm-read a b c open_fault.Memory same calm other = calm (λ e. cc e) ∙ same
 calm-read a b c (open_fault.TooLong limit) same calm other = calm (λ e. cc e) ∙ same
+
+-- what is told behind so many cells of a log may be
+pub may-behind : (oldest most number : ℕ) (e : OpenFault) → IsBehind most number e → MayTellLog oldest most e
+may-behind oldest most number open_fault.NotLog behind = absurd behind
+may-behind oldest most number (open_fault.OldLog version width) behind = absurd behind
+may-behind oldest most number (open_fault.Damaged n why) behind = omega (arith, behind.0, behind.1)
+may-behind oldest most number (open_fault.TooLong limit) behind = behind.0
+may-behind oldest most number open_fault.Disk behind = tt
+may-behind oldest most number open_fault.Memory behind = tt

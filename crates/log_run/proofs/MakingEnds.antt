@@ -6,9 +6,9 @@ use Rattle.io_edge.specs.Puts.{Puts}
 use Rattle.io_edge.specs.Streams.{Output}
 use Rattle.disk_trait.specs.Drive.{Drive, AttachedOne}
 use Rattle.recovery.specs.Making.{Makes}
-use Rattle.csv_rows.specs.declared.rows.Refusal.{Refusal}
-use Rattle.csv_rows.specs.declared.rows.Refusal.TheVariants as refusal
-use Rattle.csv_rows.specs.LogLines.{made_line}
+use Rattle.run_ends.specs.declared.refusals.Refusal.{Refusal}
+use Rattle.run_ends.specs.declared.refusals.Refusal.TheVariants as refusal
+use Rattle.run_ends.specs.LogLines.{made_line}
 use Rattle.run_ends.specs.Ends.{Targets}
 use Rattle.run_ends.specs.Ending.{EndsWriting}
 use Rattle.run_ends.specs.Attaching.{AttachesOnce}

@@ -17,10 +17,10 @@ use Rattle.log_compact.specs.State.{IsStateOf}
 use Rattle.log_compact.specs.Compacting.{IsCompacted, IsOnWay}
 use Rattle.log_compact.specs.declared.compacting.CompactFault.{CompactFault}
 use Rattle.log_compact.specs.declared.compacting.CompactFault.TheVariants as compact_fault
-use Rattle.csv_rows.specs.declared.rows.Refusal.{Refusal}
-use Rattle.csv_rows.specs.declared.rows.Refusal.TheVariants as refusal
-use Rattle.csv_rows.specs.LogLines.{compacted_line}
 use Rattle.io_edge.specs.Streams.{Output}
+use Rattle.run_ends.specs.declared.refusals.Refusal.{Refusal}
+use Rattle.run_ends.specs.declared.refusals.Refusal.TheVariants as refusal
+use Rattle.run_ends.specs.LogLines.{compacted_line}
 use Rattle.run_ends.specs.LogFaults.{log_refusal}
 use Rattle.run_ends.specs.Limits.{oldest_read, most_inspected}
 use Rattle.run_ends.specs.Ends.{Ends, Done, Targets, IsUnread}

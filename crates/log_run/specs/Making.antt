@@ -8,10 +8,10 @@ use Rattle.recovery.specs.Calls.{StopsAtFault}
 use Rattle.recovery.specs.Making.{Makes, IsSmall}
 use Rattle.recovery.specs.declared.seen.InitFault.{InitFault}
 use Rattle.recovery.specs.declared.seen.InitFault.TheVariants as init_fault
-use Rattle.csv_rows.specs.declared.rows.Refusal.{Refusal}
-use Rattle.csv_rows.specs.declared.rows.Refusal.TheVariants as refusal
-use Rattle.csv_rows.specs.LogLines.{made_line}
 use Rattle.io_edge.specs.Streams.{Output}
+use Rattle.run_ends.specs.declared.refusals.Refusal.{Refusal}
+use Rattle.run_ends.specs.declared.refusals.Refusal.TheVariants as refusal
+use Rattle.run_ends.specs.LogLines.{made_line}
 use Rattle.run_ends.specs.Ends.{Ends, Done, Targets, IsQuiet, IsUnread}
 use Rattle.run_ends.specs.Ending.{EndsWriting, EndsRefused}
 use Rattle.run_ends.specs.Status.{WritesLines}

@@ -3,7 +3,7 @@ use Rattle.std.specs.Prelude.{ℕ, List}
 use Rattle.zorder.specs.declared.points.Region.{Region}
 use Rattle.cell_format.specs.declared.cell.Cell.{Cell}
 use Rattle.log_state.specs.Recovers.{state_of}
-use Rattle.csv_rows.specs.ObjectLines.{objects_text}
+use Rattle.run_ends.specs.ObjectLines.{objects_text}
 use Rattle.run_ends.specs.Ends.{Ends, Done, Targets, IsQuiet, IsUnread}
 use Rattle.log_run.specs.Checking.{EndsTelling}
 

@@ -7,12 +7,12 @@ ghost use Rattle.run_ends.specs.Limits.{oldest_read, most_inspected};
 ghost use Rattle.run_ends.specs.Ends.{written_by};
 ghost use Rattle.log_run.specs.Checking.{HasReadLog, HasReadUnless, IsCheckingCause, IsDecidedBy, ChecksLog, TellsLog, checked_text, counts_of};
 
-use csv_rows::{LogCounts, Refusal, write_counts};
 use disk_trait::LogDisk;
 use io_edge::Sink;
 use recovery::{Seen, SeenLog, inspect_log};
 use run_ends::{
-    Drives, Ended, MOST_INSPECTED, attach, log_refusal, put_refusal, without_rows, written,
+    Drives, Ended, LogCounts, MOST_INSPECTED, Refusal, attach, log_refusal, put_refusal,
+    without_rows, write_counts, written,
 };
 use std::alloc::Global;
 

@@ -11,12 +11,14 @@ ghost use Rattle.log_run.specs.Making.{IsMakingCause};
 ghost use Rattle.log_run.specs.Compacting.{CompactsLog, EndsAnew, MakesAnew, LeavesNew, compact_refusal, anew};
 
 use crate::checking::find;
-use csv_rows::{Refusal, write_compacted};
 use disk_trait::LogDisk;
 use io_edge::Sink;
 use log_compact::{CompactFault, CompactRefused, compact, count_fresh};
 use recovery::SeenLog;
-use run_ends::{Drives, Ended, Unmade, attach, put_refusal, refuse_on, without_rows, written};
+use run_ends::{
+    Drives, Ended, Refusal, Unmade, attach, put_refusal, refuse_on, without_rows, write_compacted,
+    written,
+};
 use std::alloc::Global;
 
 /// Writes what the log in a file says anew into a file of this name on the other drive. Of the first drive it only reads.

@@ -8,11 +8,12 @@ ghost use Rattle.run_ends.specs.Status.{status_of};
 ghost use Rattle.run_ends.specs.Attaching.{AttachesOnce};
 ghost use Rattle.log_run.specs.Making.{IsMakingCause, LeavesFile, MakesLog, making_refusal};
 
-use csv_rows::{Refusal, write_made};
 use disk_trait::LogDisk;
 use io_edge::Sink;
 use recovery::{InitFault, InitRefused, init};
-use run_ends::{Drives, Ended, Unmade, attach, refuse_on, without_rows, written};
+use run_ends::{
+    Drives, Ended, Refusal, Unmade, attach, refuse_on, without_rows, write_made, written,
+};
 use std::alloc::Global;
 
 /// Makes a log of this width in a file of this name, and says so.

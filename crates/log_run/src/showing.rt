@@ -4,10 +4,9 @@ ghost use Rattle.log_run.specs.Checking.{TellsLog};
 ghost use Rattle.log_run.specs.Showing.{ShowsLog, shown_text};
 
 use crate::checking::find;
-use csv_rows::write_objects;
 use disk_trait::LogDisk;
 use io_edge::Sink;
-use run_ends::{Drives, Ended, put_refusal, without_rows, written};
+use run_ends::{Drives, Ended, put_refusal, without_rows, write_objects, written};
 use std::alloc::Global;
 use zorder::Region;
 

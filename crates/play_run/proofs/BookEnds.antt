@@ -1,6 +1,5 @@
 -- A book over what was found in a log.
-use Rattle.std.proofs.Common.{◌≡◌, ◌∙◌, ℕ, false, List, [], Option, Some, Result, Ok, Err, refl, sym, ap, subst}
-use Rattle.std.specs.Prelude.{IfOk}
+use Rattle.std.proofs.Common.{◌≡◌, ◌∙◌, ℕ, false, List, [], Option, Some, refl, sym, ap, subst}
 use Rattle.disk_trait.specs.Drive.{Drive, AttachedOne, Stays}
 use Rattle.recovery.specs.declared.seen.Seen.{Seen}
 use Rattle.kept_log.specs.KeptView.{KeptView}
@@ -39,7 +38,3 @@ opens-book {D = D} drive file old w size b log seen start now opens first here c
       attached = subst (λ (d : D). AttachedOne file false old (drive d)) (sym here) opens.attached;
       shows = opens.shows;
     }
-
-pub if-ok : {A B : Type 0} (P Q R : A → Type 0) (result : Result A B) → ((a : A) → P a → Q a → R a) → IfOk result P → IfOk result Q → IfOk result R
-if-ok P Q R (Ok a) both first second = both a first second
-if-ok P Q R (Err b) both first second = tt

@@ -13,8 +13,8 @@ use Rattle.kept_log.specs.Journal.{disk_in, KeepsLog, KeepsIn}
 use Rattle.commit_book.specs.BookView.{BookView}
 use Rattle.kept_log.specs.Counts.{first_in, count_after}
 use Rattle.csv_rows.specs.declared.rows.InRow.{InRow}
-use Rattle.csv_rows.specs.declared.rows.Refusal.{Refusal}
 use Rattle.io_edge.specs.Streams.{Output}
+use Rattle.run_ends.specs.declared.refusals.Refusal.{Refusal}
 use Rattle.run_ends.specs.declared.ended.Drives.{Drives}
 use Rattle.run_ends.specs.Ends.{targets}
 use Rattle.run_ends.specs.Status.{status_of, WritesLines}

@@ -17,8 +17,8 @@ use Rattle.recovery.proofs.CallLemmas.{well-none, well-then, stops-then, stops-r
 use Rattle.recovery.proofs.OnlyReading.{rose-earlier}
 use Rattle.recovery.proofs.OpeningLemmas.{leaves-trans, leaves-stays}
 use Rattle.recovery.proofs.WidthLemmas.{recovers_width, same_width}
-use Rattle.csv_rows.specs.declared.rows.Refusal.{Refusal}
-use Rattle.csv_rows.specs.declared.rows.Refusal.TheVariants as refusal
+use Rattle.run_ends.specs.declared.refusals.Refusal.{Refusal}
+use Rattle.run_ends.specs.declared.refusals.Refusal.TheVariants as refusal
 use Rattle.run_ends.specs.Attaching.{Attaches, RefusesAttach}
 use Rattle.run_ends.specs.LogFaults.{log_refusal}
 use Rattle.run_ends.specs.Limits.{oldest_played, most_played}

@@ -15,13 +15,13 @@ use Rattle.commit_book.specs.BookView.{BookView}
 use Rattle.commit_book.specs.IsBook.{IsBook}
 use Rattle.csv_rows.specs.declared.rows.InRow.{InRow}
 use Rattle.csv_rows.specs.InRows.{AreInRows}
-use Rattle.csv_rows.specs.declared.rows.Refusal.{Refusal}
-use Rattle.csv_rows.specs.declared.rows.Refusal.TheVariants as refusal
 use Rattle.io_edge.specs.Streams.{Output}
 use Rattle.io_edge.specs.Puts.{Puts}
 use Rattle.lane_history.specs.LostSteps.{IsNextStep}
 use Rattle.kept_log.specs.Counts.{first_in}
 use Rattle.lane_splits.specs.Settled.{SplitsAreDone}
+use Rattle.run_ends.specs.declared.refusals.Refusal.{Refusal}
+use Rattle.run_ends.specs.declared.refusals.Refusal.TheVariants as refusal
 use Rattle.play_run.specs.declared.reports.Report.{Report}
 use Rattle.play_run.specs.Lines.{text_of}
 use Rattle.run_ends.specs.Status.{WritesLines, written_status}

@@ -4,9 +4,9 @@ use Rattle.causes.specs.Causes.{Rose}
 use Rattle.disk_trait.specs.Drive.{Drive}
 use Rattle.plain_list.specs.declared.entries.Entry.{Entry}
 use Rattle.csv_rows.specs.declared.rows.InRow.{InRow}
-use Rattle.csv_rows.specs.declared.rows.Refusal.{Refusal}
-use Rattle.csv_rows.specs.declared.rows.Refusal.TheVariants as refusal
 use Rattle.io_edge.specs.Streams.{Input}
+use Rattle.run_ends.specs.declared.refusals.Refusal.{Refusal}
+use Rattle.run_ends.specs.declared.refusals.Refusal.TheVariants as refusal
 use Rattle.play_run.specs.declared.reports.Report.{Report}
 use Rattle.play_run.specs.declared.reports.Report.TheVariants as reports
 use Rattle.run_ends.specs.Ends.{Ends, Done, Targets}

@@ -2,10 +2,10 @@
 use Rattle.std.proofs.Common.{◌≡◌, inl, inr, ℕ, List, Option, Some, None, arith}
 use Rattle.plain_list.specs.declared.entries.Entry.{Entry}
 use Rattle.csv_rows.specs.declared.rows.InRow.{InRow}
-use Rattle.csv_rows.specs.declared.rows.Refusal.TheVariants as refusal
 use Rattle.io_edge.specs.Streams.{Input}
 use Rattle.make_moves.specs.Moves.{made_rows}
 use Rattle.command_words.specs.declared.trials.Made.{Made}
+use Rattle.run_ends.specs.declared.refusals.Refusal.TheVariants as refusal
 use Rattle.play_run.specs.declared.reports.Report.{Report}
 use Rattle.play_run.specs.declared.reports.Report.TheVariants as reports
 use Rattle.run_ends.specs.Limits.{trial_bucket}

@@ -6,11 +6,11 @@ use Rattle.plain_list.specs.declared.entries.Entry.{Entry}
 use Rattle.plain_list.specs.World.{World, places_of}
 use Rattle.plain_list.specs.History.{reply_at, world_after}
 use Rattle.csv_rows.specs.declared.rows.InRow.{InRow}
-use Rattle.csv_rows.specs.declared.rows.Summary.{Summary}
-use Rattle.csv_rows.specs.LogLines.{summary_text}
 use Rattle.csv_rows.specs.Lines.{line_text, title_line}
 use Rattle.lane_history.specs.SessionRows.{row_place}
 use Rattle.table_share.specs.Sums.{sums_of}
+use Rattle.run_ends.specs.declared.log_lines.Summary.{Summary}
+use Rattle.run_ends.specs.LogLines.{summary_text}
 use Rattle.play_run.specs.declared.reports.Report.{Report}
 use Rattle.play_run.specs.declared.reports.Report.TheVariants as reports
 

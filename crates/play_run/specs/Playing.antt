@@ -14,8 +14,8 @@ use Rattle.recovery.specs.Widths.{IsWidth, HasWidth, IsLogFault}
 use Rattle.recovery.specs.Calls.{StopsAtFault}
 use Rattle.recovery.specs.Opening.{KeepsCells, KeepsNewest, HasNoLog, IsUntouched}
 use Rattle.csv_rows.specs.declared.rows.InRow.{InRow}
-use Rattle.csv_rows.specs.declared.rows.Refusal.{Refusal}
-use Rattle.csv_rows.specs.declared.rows.Refusal.TheVariants as refusal
+use Rattle.run_ends.specs.declared.refusals.Refusal.{Refusal}
+use Rattle.run_ends.specs.declared.refusals.Refusal.TheVariants as refusal
 use Rattle.run_ends.specs.Limits.{most_bytes, oldest_played, most_played}
 use Rattle.io_edge.specs.Streams.{Input, Output}
 use Rattle.io_edge.specs.Reads.{ConsumesUpTo}

@@ -2,9 +2,9 @@
 use Rattle.std.specs.Prelude.{◌≡◌, ◌⊎◌, ℕ, List, [], Option}
 use Rattle.causes.specs.Causes.{Rose}
 use Rattle.plain_list.specs.declared.entries.Entry.{Entry}
-use Rattle.csv_rows.specs.declared.rows.Refusal.TheVariants as refusal
 use Rattle.make_moves.specs.Moves.{made_rows}
 use Rattle.command_words.specs.declared.trials.Made.{Made}
+use Rattle.run_ends.specs.declared.refusals.Refusal.TheVariants as refusal
 use Rattle.play_run.specs.declared.reports.Report.TheVariants as reports
 use Rattle.run_ends.specs.Limits.{trial_bucket}
 use Rattle.run_ends.specs.Ends.{Ends, Done, Targets, IsUnread}

@@ -7,12 +7,11 @@ ghost use Rattle.play_run.specs.inside.Books.{IsNewBook, OpensFile};
 ghost use Rattle.play_run.specs.Playing.{IsNotOpened};
 
 use commit_book::Book;
-use csv_rows::Refusal;
 use disk_trait::LogDisk;
 use index_layer::Index;
 use plain_list::World;
 use recovery::{OpenRefused, Opened, OpenedLog, open_log};
-use run_ends::{MOST_PLAYED, Unmade, attach, log_refusal};
+use run_ends::{MOST_PLAYED, Refusal, Unmade, attach, log_refusal};
 use std::alloc::Global;
 
 /// The log of the newest version in a file of this name, opened by the width that it has.

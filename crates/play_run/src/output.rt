@@ -12,9 +12,10 @@ ghost use Rattle.play_run.specs.inside.Answered.{kept_of, HasLanes, HasNumbers, 
 
 use crate::lanes::LaneEnd;
 use crate::reports::Report;
-use csv_rows::{Gathered, InRow, Summary, write_summary};
+use csv_rows::{Gathered, InRow};
 use index_layer::Index;
 use io_edge::{Sink, SinkFault};
+use run_ends::{Summary, write_summary};
 use sessions::KeptRow;
 use std::marker::Brand;
 use std::sync::ledger::{Blank, Ledger};

@@ -4,8 +4,8 @@ use Rattle.causes.specs.Causes.{Rose}
 use Rattle.disk_trait.specs.declared.disk.AttachFault.{AttachFault}
 use Rattle.disk_trait.specs.declared.disk.AttachFault.TheVariants as attach_fault
 use Rattle.disk_trait.specs.Drive.{Drive, AttachedOne, CountsAttach, Stays}
-use Rattle.csv_rows.specs.declared.rows.Refusal.{Refusal}
-use Rattle.csv_rows.specs.declared.rows.Refusal.TheVariants as refusal
+use Rattle.run_ends.specs.declared.refusals.Refusal.{Refusal}
+use Rattle.run_ends.specs.declared.refusals.Refusal.TheVariants as refusal
 use Rattle.run_ends.specs.Attaching.{AttachesOnce, RefusesAttach}
 use Rattle.run_ends.specs.LogFaults.{attach_refusal, IsReadingCause}
 use Rattle.run_ends.specs.Status.{status_of}

@@ -3,8 +3,8 @@ use Rattle.std.proofs.Common.{◌≡◌, inl, inr, ℕ, List, Result, Ok, Err, s
 use Rattle.std.specs.Result.{IsErr}
 use Rattle.causes.specs.Causes.{Counts}
 use Rattle.io_edge.specs.Puts.{Puts}
-use Rattle.csv_rows.specs.declared.rows.Refusal.{Refusal}
-use Rattle.csv_rows.specs.declared.rows.Refusal.TheVariants as refusal
+use Rattle.run_ends.specs.declared.refusals.Refusal.{Refusal}
+use Rattle.run_ends.specs.declared.refusals.Refusal.TheVariants as refusal
 use Rattle.run_ends.specs.Status.{status_of, WritesLines}
 use Rattle.run_ends.specs.Taking.{TakesLine}
 use Rattle.run_ends.specs.Ending.{EndsWriting, EndsRefused}

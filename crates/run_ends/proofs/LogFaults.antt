@@ -7,7 +7,7 @@ use Rattle.recovery.specs.Found.{IsFree}
 use Rattle.recovery.specs.declared.seen.OpenFault.{OpenFault}
 use Rattle.recovery.specs.declared.seen.OpenFault.TheVariants as open_fault
 use Rattle.recovery.proofs.OnlyReading.{rose-earlier}
-use Rattle.csv_rows.specs.declared.rows.Refusal.TheVariants as refusal
+use Rattle.run_ends.specs.declared.refusals.Refusal.TheVariants as refusal
 use Rattle.run_ends.specs.LogFaults.{HasFault, IsReadingCause, MayTellLog, log_refusal}
 
 -- why a log isn't read

@@ -1,9 +1,9 @@
 -- Which file a command attaches, and what a refused attach leaves.
 use Rattle.std.specs.Prelude.{◌≡◌, ◌≢◌, ◌⊎◌, ◌≤◌, ℕ, Bool, List, None}
 use Rattle.causes.specs.Causes.{Rose}
-use Rattle.csv_rows.specs.declared.rows.Refusal.{Refusal}
-use Rattle.csv_rows.specs.declared.rows.Refusal.TheVariants as refusal
 use Rattle.disk_trait.specs.Drive.{Drive, AttachedOne, AttachedAtMost, Stays}
+use Rattle.run_ends.specs.declared.refusals.Refusal.{Refusal}
+use Rattle.run_ends.specs.declared.refusals.Refusal.TheVariants as refusal
 use Rattle.run_ends.specs.Status.{status_of}
 
 -- This file was attached once, and no other was. Where the drive failed or memory ran out, it may be that none was.

@@ -2,8 +2,8 @@
 use Rattle.std.specs.Prelude.{◌≡◌, ◌⊎◌, ℕ, List, take}
 use Rattle.std.specs.Io.KnownBytes.{Appends}
 use Rattle.causes.specs.Causes.{Rose}
-use Rattle.csv_rows.specs.declared.rows.Refusal.{Refusal}
 use Rattle.io_edge.specs.Streams.{Output}
+use Rattle.run_ends.specs.declared.refusals.Refusal.{Refusal}
 use Rattle.run_ends.specs.Taking.{Refuses}
 
 -- with its whole text, or with a fault of the sink and a prefix of the text

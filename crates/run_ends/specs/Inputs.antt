@@ -3,8 +3,8 @@ use Rattle.std.specs.Prelude.{◌≡◌, ℕ, List, [], Some, Ok, Err, ⊤}
 use Rattle.causes.specs.Causes.{Rose}
 use Rattle.io_edge.specs.Streams.{Input}
 use Rattle.csv_rows.specs.declared.rows.InRow.{InRow}
-use Rattle.csv_rows.specs.declared.rows.Refusal.{Refusal}
-use Rattle.csv_rows.specs.declared.rows.Refusal.TheVariants as refusal
+use Rattle.run_ends.specs.declared.refusals.Refusal.{Refusal}
+use Rattle.run_ends.specs.declared.refusals.Refusal.TheVariants as refusal
 use Rattle.run_ends.specs.Judged.{judged}
 
 -- where the bytes that a source had are known, this is what they give

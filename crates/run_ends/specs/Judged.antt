@@ -3,9 +3,9 @@ use Rattle.std.specs.Prelude.{ℕ, nat_lt, List, length, if◌then◌else◌, Re
 use Rattle.csv_rows.specs.declared.rows.InRow.{InRow}
 use Rattle.csv_rows.specs.declared.rows.RowsFault.{RowsFault}
 use Rattle.csv_rows.specs.declared.rows.RowsFault.TheVariants as fault
-use Rattle.csv_rows.specs.declared.rows.Refusal.{Refusal}
-use Rattle.csv_rows.specs.declared.rows.Refusal.TheVariants as refusal
 use Rattle.csv_rows.specs.Rows.{rows_of}
+use Rattle.run_ends.specs.declared.refusals.Refusal.{Refusal}
+use Rattle.run_ends.specs.declared.refusals.Refusal.TheVariants as refusal
 use Rattle.run_ends.specs.Limits.{most_bytes}
 
 -- the refusal of what is wrong with rows

@@ -1,6 +1,9 @@
 pub mod Limits
 pub mod Ends
 pub mod Judged
+pub mod RefusalLines
+pub mod LogLines
+pub mod ObjectLines
 pub mod Status
 pub mod Taking
 pub mod Ending
@@ -8,6 +11,7 @@ pub mod Attaching
 pub mod LogFaults
 pub mod Inputs
 pub mod Tables
+pub mod Examples
 pub use Rattle.causes.specs.Causes
 pub use Rattle.disk_trait.specs.Drive
 pub use Rattle.io_edge.specs.Streams

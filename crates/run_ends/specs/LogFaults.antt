@@ -8,8 +8,8 @@ pub use Rattle.recovery.specs.Widths.{ShowsFault}
 pub use Rattle.recovery.specs.Wanted.{MayTellLog}
 use Rattle.recovery.specs.declared.seen.OpenFault.{OpenFault}
 use Rattle.recovery.specs.declared.seen.OpenFault.TheVariants as open_fault
-use Rattle.csv_rows.specs.declared.rows.Refusal.{Refusal}
-use Rattle.csv_rows.specs.declared.rows.Refusal.TheVariants as refusal
+use Rattle.run_ends.specs.declared.refusals.Refusal.{Refusal}
+use Rattle.run_ends.specs.declared.refusals.Refusal.TheVariants as refusal
 
 -- the refusal where a file wasn't attached
 abbrev pub attach_refusal : AttachFault → Refusal

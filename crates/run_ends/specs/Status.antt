@@ -1,7 +1,7 @@
 -- The status of each refusal.
 use Rattle.std.specs.Prelude.{◌≡◌, ◌⊎◌, ℕ, Result, Ok, Err}
-use Rattle.csv_rows.specs.declared.rows.Refusal.{Refusal}
-use Rattle.csv_rows.specs.declared.rows.Refusal.TheVariants as refusal
+use Rattle.run_ends.specs.declared.refusals.Refusal.{Refusal}
+use Rattle.run_ends.specs.declared.refusals.Refusal.TheVariants as refusal
 
 abbrev pub status_of : Refusal → ℕ
 status_of refusal.Usage = 2

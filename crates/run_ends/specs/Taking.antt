@@ -2,9 +2,9 @@
 use Rattle.std.specs.Prelude.{◌≡◌, ◌⊎◌, ℕ, List, take}
 use Rattle.std.specs.Io.KnownBytes.{Appends}
 use Rattle.causes.specs.Causes.{Rose}
-use Rattle.csv_rows.specs.declared.rows.Refusal.{Refusal}
-use Rattle.csv_rows.specs.Lines.{refusal_text}
 use Rattle.io_edge.specs.Streams.{Output}
+use Rattle.run_ends.specs.declared.refusals.Refusal.{Refusal}
+use Rattle.run_ends.specs.RefusalLines.{refusal_text}
 use Rattle.run_ends.specs.Status.{status_of}
 
 -- the sink took a line, or its count of faults rose and it took a prefix of the line

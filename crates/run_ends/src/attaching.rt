@@ -3,7 +3,7 @@ ghost use Rattle.std.specs.Prelude.{IfErr, OnOk};
 ghost use Rattle.run_ends.specs.Attaching.{Attaches, RefusesAttach};
 
 use crate::log_faults::attach_refusal;
-use csv_rows::Refusal;
+use crate::refusals::Refusal;
 use disk_trait::LogDisk;
 use std::alloc::Global;
 

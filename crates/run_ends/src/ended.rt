@@ -2,8 +2,8 @@
 ghost use Rattle.std.specs.Prelude.{◌≡◌, [], ◌≤◌};
 ghost use Rattle.run_ends.specs.Taking.{Refuses};
 
-use crate::refusals::put_refusal;
-use csv_rows::Refusal;
+use crate::refusal_lines::put_refusal;
+use crate::refusals::Refusal;
 use io_edge::Sink;
 use plain_list::Entries;
 use std::alloc::Global;

@@ -7,7 +7,8 @@ ghost use Rattle.run_ends.specs.Inputs.{IsInputCause, ReadsInput};
 ghost use Rattle.run_ends.specs.Tables.{HasBytes, IsBytesCause};
 
 use crate::limits::MOST_BYTES;
-use csv_rows::{Refusal, Rows, RowsFault, read_rows};
+use crate::refusals::Refusal;
+use csv_rows::{Rows, RowsFault, read_rows};
 use io_edge::{ReadFault, Source, read_all};
 use std::alloc::Global;
 

@@ -1,13 +1,15 @@
-//! What the commands of a run share: what they give back, the statuses and lines of refusals, the attach of a file, what goes wrong with a
-//! log, and the tables of a source.
+//! What the commands of a run share: what they give back, refusals with their statuses and lines, the lines of commands, the attach of a
+//! file, what goes wrong with a log, and the tables of a source.
 //!
-//! Contracts see a run's ends as one value (`Ends`: source, sink, two drives), and what a command did as another: its ends before and after,
-//! its status and its history (`Done`). Each refusal has one status and one line, which `put_refusal` puts (`Refuses`). `attach` says what
-//! it leaves, whatever it answers. `read_judged` promises the rows of all bytes that a source had, or the first thing that is wrong with
-//! them; `read_bytes` hands out these bytes for tables of other kinds (`judged_by`).
+//! Contracts see a run's ends as one value (`Ends`: source, sink, two drives), and what a command did as another: its ends before and
+//! after, its status and its history (`Done`). Each refusal has one status and one line, which `put_refusal` puts (`Refuses`).
+//! `refusal_line`, `write_made`, `write_counts`, `write_summary`, `write_compacted` and `write_objects` put exactly the texts of
+//! `RefusalLines`, `LogLines` and `ObjectLines`, and take no memory. `attach` says what it leaves, whatever it answers. `read_judged`
+//! promises the rows of all bytes that a source had, or the first thing that is wrong with them; `read_bytes` hands out these bytes for
+//! tables of other kinds (`judged_by`).
 //!
 //! Not here: what a command does (`log_run`, `watch_run`, `follow_run`, `play_run`), which command words ask for (`command_words`), the
-//! texts of lines (`csv_rows`).
+//! texts of rows and answers (`csv_rows`).
 #![tactic(auto)]
 
 mod attaching;
@@ -15,6 +17,9 @@ mod ended;
 mod input;
 mod limits;
 mod log_faults;
+mod log_lines;
+mod object_lines;
+mod refusal_lines;
 mod refusals;
 mod writing;
 
@@ -23,5 +28,8 @@ pub use ended::{Drives, Ended, refuse_on, without_rows};
 pub use input::{read_bytes, read_judged, refusal_of};
 pub use limits::{MOST_INSPECTED, MOST_PLAYED, TRIAL_BUCKET};
 pub use log_faults::{Unmade, log_refusal};
-pub use refusals::put_refusal;
+pub use log_lines::{LogCounts, Summary, write_compacted, write_counts, write_made, write_summary};
+pub use object_lines::write_objects;
+pub use refusal_lines::{put_refusal, refusal_line};
+pub use refusals::Refusal;
 pub use writing::written;

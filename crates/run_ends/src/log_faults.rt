@@ -2,7 +2,7 @@
 ghost use Rattle.std.specs.Prelude.{◌≡◌};
 ghost use Rattle.run_ends.specs.LogFaults.{attach_refusal, log_refusal};
 
-use csv_rows::Refusal;
+use crate::refusals::Refusal;
 use disk_trait::AttachFault;
 use recovery::OpenFault;
 

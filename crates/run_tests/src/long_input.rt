@@ -1,8 +1,7 @@
 //! A source that has far more than an input may have.
 use crate::checks::holds;
-use csv_rows::Refusal;
 use io_edge::{Source, SourceFault};
-use run_ends::read_judged;
+use run_ends::{Refusal, read_judged};
 use std::alloc::Global;
 use std::process::Abort;
 

@@ -1,6 +1,8 @@
 -- What a client is to contracts.
 use Rattle.std.specs.Prelude.{◌≡◌, ℕ, ◌+◌, ◌-◌, ◌^◌, min, false, []}
 use Rattle.atomic_table.specs.Seated.{TableId}
+use Rattle.book_lock.specs.Ends.{longer}
+use Rattle.book_lock.specs.Own.{merge}
 use Rattle.book_lock.specs.Pass.{Known}
 
 -- the pass is of this lock, and doesn't hold it
@@ -32,3 +34,7 @@ without_part old = record old { pass = record old.pass { parts = old.pass.parts 
 -- the one that got it: it has seen the same, and has asked nothing yet
 abbrev pub with_part_of : Caller → ℕ → Caller
 with_part_of old session = record { pass = record old.pass { own = []; parts = 1 }; session = session; row = 0 }
+
+-- a client that has taken in another one's pass: it has seen what either has, and both's entries and parts are its own
+abbrev pub has_joined : Caller → Known → Caller
+has_joined old other = record old { pass = record old.pass { seen = longer old.pass.seen other.seen; own = merge other.own old.pass.own; parts = old.pass.parts + other.parts } }

@@ -1,6 +1,7 @@
 //! Clients at once, each in a thread.
-ghost use Rattle.std.specs.Prelude.{◌≡◌, ℕ, ◌<◌, length, slice_index_or};
+ghost use Rattle.std.specs.Prelude.{◌≡◌};
 ghost use Rattle.store_client.specs.Caller.{Keeps};
+ghost use Rattle.store_client.specs.Teams.{AllDid, AllKept, Did};
 
 use crate::client::Client;
 use disk_trait::LogDisk;
@@ -42,8 +43,8 @@ pub fn at_once<
     W: Work + Send,
     R: Threads + Wait + Sync,
 >(rt: &R, team: &mut [Worker<'s, I, D, O, W>])
-    ensures does { (i : ℕ) (d : Worker I D O W I.Place) → i < length team.old → W.does (slice_index_or team.old i d).work (slice_index_or team.old i d).client (slice_index_or team.new i d).work (slice_index_or team.new i d).client }
-    ensures clients { (i : ℕ) (d : Worker I D O W I.Place) → i < length team.old → Keeps (slice_index_or team.old i d).client (slice_index_or team.new i d).client }
+    ensures does { AllDid W.does team.old team.new }
+    ensures clients { AllKept team.old team.new }
 {
     let threads = team.len().max(1);
     thread::for_each_mut(
@@ -51,7 +52,7 @@ pub fn at_once<
         team,
         threads,
         &|_, worker|
-            ensures { W.does worker.entry.now.work worker.entry.now.client worker.exit.now.work worker.exit.now.client × Keeps worker.entry.now.client worker.exit.now.client }
+            ensures { Did W.does worker.entry.now worker.exit.now }
         { worker.work.work(rt, &mut worker.client) },
     );
 }

@@ -1,9 +1,8 @@
 //! Further clients of a store, and their end.
-ghost use Rattle.std.specs.Prelude.{◌≡◌, ◌+◌, ◌≤◌};
+ghost use Rattle.std.specs.Prelude.{◌≡◌, ◌≤◌};
 ghost use mathlib.Core.List.{IsPrefix};
-ghost use Rattle.book_lock.specs.Own.{merge};
 ghost use Rattle.book_lock.specs.Ends.{longer};
-ghost use Rattle.store_client.specs.Caller.{without_part, with_part_of};
+ghost use Rattle.store_client.specs.Caller.{has_joined, without_part, with_part_of};
 
 use crate::client::Client;
 use disk_trait::LogDisk;
@@ -31,7 +30,7 @@ impl<'s, I: Index, D: LogDisk, O: Start> Client<'s, I, D, O> {
     /// Takes in another client, which asks no more.
     pub fn join(&mut self, other: Client<'s, I, D, O>)
         requires lock { other.pass.lock ≡ self.old.pass.lock }
-        ensures joined { self.new ≡ record self.old { pass = record self.old.pass { seen = longer self.old.pass.seen other.entry.pass.seen; own = merge other.entry.pass.own self.old.pass.own; parts = self.old.pass.parts + other.entry.pass.parts } } }
+        ensures joined { self.new ≡ has_joined self.old other.entry.pass }
         ensures begins { IsPrefix self.old.pass.seen self.new.pass.seen × IsPrefix other.entry.pass.seen self.new.pass.seen }
     {
         let store = self.store;

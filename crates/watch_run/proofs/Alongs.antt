@@ -21,11 +21,11 @@ use Rattle.recovery.proofs.ReadingLemmas.{behind_cells}
 use Rattle.recovery.proofs.Exclusive.{recovers_wanted, told_fault, told_free}
 use Rattle.recovery.proofs.WidthLemmas.{fault_at, fault_seen, recovers_width, same_width}
 use Rattle.recovery.proofs.OnlyReading.{stays-trans}
-use Rattle.csv_rows.specs.declared.rows.Refusal.{Refusal}
+use Rattle.run_ends.specs.declared.refusals.Refusal.{Refusal}
 use Rattle.run_ends.specs.Limits.{most_inspected, oldest_read}
-use Rattle.run_ends.specs.LogFaults.{MayTellLog}
 use Rattle.run_ends.specs.Status.{status_of}
 use Rattle.run_ends.proofs.AttachFacts.{attaches-one}
+use Rattle.log_run.proofs.DriveSteps.{may-behind}
 use Rattle.fence_watch.specs.declared.fences.Fence.{Fence}
 use Rattle.fence_watch.specs.Crossings.{crossings}
 use Rattle.fence_watch.specs.Tallies.{IsPast, Tallies, TalliesCells, TallyView, count_behind, events_told}
@@ -55,15 +55,6 @@ module _ {D : Type 0} (w : ℕ) (cells : List Cell) (drive : Drive) (walk : Walk
       let some : 1 ≤ length (walk.reading.rest ++ at.1) = omega (arith, at.0, came.room, (behind_cells walk.reading.replay.version w cells (walk.reading.rest ++ at.1) bytes begins).1) in
       (walk.reading.rest ++ at.1, begins, some)
 
--- what is told behind so many cells may be
-may-behind : (number : ℕ) (e : OpenFault) → IsBehind most_inspected number e → MayTellLog oldest_read most_inspected e
-may-behind number fault.NotLog behind = absurd behind
-may-behind number (fault.OldLog version width) behind = absurd behind
-may-behind number (fault.Damaged n why) behind = omega (arith, behind.0, behind.1)
-may-behind number (fault.TooLong limit) behind = behind.0
-may-behind number fault.Disk behind = tt
-may-behind number fault.Memory behind = tt
-
 -- a walk and a watch behind the same cells, and the drive as it was at first, before a call and after it
 module _ {D : Type 0} (w : ℕ) (fences : List Fence) (first now after : Drive) (walk : WalkView D) (v : TallyView) (width : IsWidthOf first w) (have : HaveGone w fences first now walk v) where
   has-now : (bytes : List ℕ) → now.bytes ≡ Some bytes → HasWidth w bytes
@@ -91,7 +82,7 @@ module _ {D : Type 0} (w : ℕ) (fences : List Fence) (first now after : Drive) 
     fails-next e tells reads =
         let rose : e ≡ fault.Disk → Rose now.faults after.faults = λ disk. reads.failed (ap (λ (f : OpenFault). Err f) disk) in
         record {
-          may = may-behind (length have.cells) e tells.1;
+          may = may-behind oldest_read most_inspected (length have.cells) e tells.1;
           wrong = λ bytes told. fault_seen oldest_read most_inspected bytes w (has-now bytes told) e (tells.2 bytes told);
           crowd = λ bytes told crowd. behind-free e rose tells.1 bytes told (tells.2 bytes told) crowd;
           exact = λ bytes f told shown is. told_fault oldest_read w most_inspected (omega arith) bytes now after e f (tells.2 bytes told) rose shown (fault_at oldest_read most_inspected bytes w (has-now bytes told) f is);

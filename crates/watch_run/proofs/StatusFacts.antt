@@ -1,7 +1,7 @@
 -- `watch` never tells that its words aren't accepted.
 use Rattle.std.proofs.Common.{◌≡◌, ◌⊎◌, inl, inr, ℕ, List}
 use Rattle.io_edge.specs.Streams.{Input}
-use Rattle.csv_rows.specs.declared.rows.Refusal.TheVariants as refusal
+use Rattle.run_ends.specs.declared.refusals.Refusal.TheVariants as refusal
 use Rattle.run_ends.specs.Ends.{Targets}
 use Rattle.run_ends.specs.Ending.{EndsRefused}
 use Rattle.run_ends.specs.Tables.{IsTableCause}

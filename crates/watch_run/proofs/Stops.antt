@@ -13,8 +13,8 @@ use Rattle.recovery.specs.Walks.{IsOfHead}
 use Rattle.recovery.specs.Widths.{IsWidth, HasWidth, IsLogFault}
 use Rattle.recovery.proofs.OnlyReading.{stays-trans}
 use Rattle.recovery.proofs.WidthLemmas.{recovers_width}
-use Rattle.csv_rows.specs.declared.rows.Refusal.{Refusal}
-use Rattle.csv_rows.specs.declared.rows.Refusal.TheVariants as refusal
+use Rattle.run_ends.specs.declared.refusals.Refusal.{Refusal}
+use Rattle.run_ends.specs.declared.refusals.Refusal.TheVariants as refusal
 use Rattle.run_ends.specs.Limits.{most_inspected, oldest_read}
 use Rattle.run_ends.specs.LogFaults.{HasFault, MayTellLog, ShowsFault, log_refusal}
 use Rattle.run_ends.proofs.LogFaults.{reading-after, calm-free, calm-named}

@@ -5,9 +5,9 @@ use Rattle.io_edge.specs.Puts.{Puts}
 use Rattle.io_edge.specs.Streams.{Input, Output}
 use Rattle.recovery.proofs.Exclusive.{recovers_no_fault, recovers_wanted}
 use Rattle.recovery.proofs.WidthLemmas.{fault_at, recovers_width}
-use Rattle.csv_rows.specs.declared.rows.Refusal.{Refusal}
-use Rattle.csv_rows.specs.declared.rows.Refusal.TheVariants as refusal
 use Rattle.csv_rows.specs.declared.rows.RowsFault.{RowsFault}
+use Rattle.run_ends.specs.declared.refusals.Refusal.{Refusal}
+use Rattle.run_ends.specs.declared.refusals.Refusal.TheVariants as refusal
 use Rattle.run_ends.specs.Limits.{most_inspected, oldest_read}
 use Rattle.run_ends.specs.Ends.{Ends, Done, Targets}
 use Rattle.run_ends.specs.LogFaults.{log_refusal}

@@ -5,10 +5,9 @@ ghost use Rattle.run_ends.specs.Limits.{most_bytes};
 ghost use Rattle.run_ends.specs.Tables.{IsTableCause, ReadsTable, judged_by};
 ghost use Rattle.fence_watch.specs.FenceRows.{fences_of_text};
 
-use csv_rows::Refusal;
 use fence_watch::{Fences, read_fences};
 use io_edge::Source;
-use run_ends::{read_bytes, refusal_of};
+use run_ends::{Refusal, read_bytes, refusal_of};
 use std::alloc::Global;
 
 /// The fences of the source. The order of refusals: source, length of the input, fences.

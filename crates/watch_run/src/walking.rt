@@ -3,11 +3,10 @@ ghost use Rattle.std.specs.Prelude.{◌≡◌, List, MatchResult};
 ghost use Rattle.fence_watch.specs.declared.fences.Fence.{Fence};
 ghost use Rattle.watch_run.specs.inside.Along.{IsBegun, IsStarted, RefusesAttached, RefusesFile, RunsAlong, RunsFile, watch_refusal};
 
-use csv_rows::Refusal;
 use disk_trait::LogDisk;
 use fence_watch::{Fences, Tally, WatchFault};
 use recovery::{OpenRefused, Walk, Walked};
-use run_ends::{MOST_INSPECTED, Unmade, attach, log_refusal};
+use run_ends::{MOST_INSPECTED, Refusal, Unmade, attach, log_refusal};
 use std::alloc::Global;
 
 /// A watch along all cells of a log, and the drive of that log.

@@ -17,8 +17,8 @@ use Rattle.lane_history.specs.SessionRows.{session_rows}
 use Rattle.lane_history.specs.Kept.{AreRight}
 use Rattle.lane_history.specs.LostSteps.{IsNextStep, LosesStep}
 use Rattle.lane_splits.specs.Settled.{SplitsAreDone, IsWithinLimits}
-use Rattle.csv_rows.specs.declared.rows.Refusal.TheVariants as refusal
 use Rattle.io_edge.specs.Streams.{Output}
+use Rattle.run_ends.specs.declared.refusals.Refusal.TheVariants as refusal
 use Rattle.play_run.specs.declared.reports.Report.{Report}
 use Rattle.play_run.specs.Lines.{text_of}
 use Rattle.run_ends.specs.Taking.{Refuses}

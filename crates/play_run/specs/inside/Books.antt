@@ -17,8 +17,8 @@ use Rattle.kept_log.specs.Journal.{cells_in, disk_in, KeepsIn}
 use Rattle.commit_book.specs.BookView.{BookView}
 use Rattle.kept_log.specs.Counts.{first_in}
 use Rattle.sessions.specs.Shared.{StartsAs}
-use Rattle.csv_rows.specs.declared.rows.Refusal.{Refusal}
-use Rattle.csv_rows.specs.declared.rows.Refusal.TheVariants as refusal
+use Rattle.run_ends.specs.declared.refusals.Refusal.{Refusal}
+use Rattle.run_ends.specs.declared.refusals.Refusal.TheVariants as refusal
 use Rattle.run_ends.specs.Limits.{oldest_played, most_played}
 use Rattle.plain_list.specs.declared.entries.Lost.{Lost}
 use Rattle.plain_list.specs.History.{failed_cell}

@@ -8,8 +8,8 @@ use Rattle.recovery.specs.Faults.{IsInBytes}
 use Rattle.recovery.specs.Walks.{ComesAlong, ComesTo, WalkView}
 use Rattle.recovery.specs.Widths.{IsWidth, IsLogFault}
 use Rattle.recovery.specs.declared.seen.OpenFault.{OpenFault}
-use Rattle.csv_rows.specs.declared.rows.Refusal.{Refusal}
-use Rattle.csv_rows.specs.declared.rows.Refusal.TheVariants as refusal
+use Rattle.run_ends.specs.declared.refusals.Refusal.{Refusal}
+use Rattle.run_ends.specs.declared.refusals.Refusal.TheVariants as refusal
 use Rattle.run_ends.specs.Limits.{most_inspected, oldest_read}
 use Rattle.run_ends.specs.LogFaults.{log_refusal}
 use Rattle.run_ends.specs.Status.{status_of}

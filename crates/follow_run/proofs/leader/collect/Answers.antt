@@ -2,8 +2,10 @@ use Rattle.std.proofs.Common.{◌∙◌, List, length, sym, subst}
 use Rattle.cell_format.specs.declared.cell.Cell.{Cell}
 use Rattle.recovery.specs.Walks.{ComesTo}
 use Rattle.follower.specs.Holding.{most_followed}
+use Rattle.run_ends.specs.Limits.{oldest_read}
+use Rattle.log_run.proofs.DriveSteps.{may-behind}
 use Rattle.follow_run.proofs.PlayFacts.{passed-on}
-use Rattle.follow_run.proofs.LeaderFacts.{next-told, end-told, found-before, may-behind, reads-on}
+use Rattle.follow_run.proofs.LeaderFacts.{next-told, end-told, found-before, reads-on}
 use Rattle.follow_run.proofs.leader.collect.Goals as goal
 
 pub returns-in_err-walked-clause-fault : goal.returns-in_err-walked-clause-fault
@@ -16,7 +18,7 @@ pub returns-in_err-walked-clause-may : goal.returns-in_err-walked-clause-may
 returns-in_err-walked-clause-may g c =
     let w = c.args.walk.now.reading.replay.width in
     passed-on c.from_residual.result _ _ c.from_residual.ensures.1
-    (may-behind (length c.loop-cells.cells.items) _ (c.in_err-walked.ensures.tells w most_followed c.loop-cells.cells.items c.loop-cells.invariant.0).1)
+    (may-behind oldest_read most_followed (length c.loop-cells.cells.items) _ (c.in_err-walked.ensures.tells w most_followed c.loop-cells.cells.items c.loop-cells.invariant.0).1)
 
 pub loop-cells-preserved : goal.loop-cells-preserved
 loop-cells-preserved g c =

@@ -1,5 +1,5 @@
 use Rattle.std.proofs.Common.{sym, subst}
-use Rattle.csv_rows.specs.declared.rows.Refusal.{Refusal}
+use Rattle.run_ends.specs.declared.refusals.Refusal.{Refusal}
 use Rattle.follow_run.specs.Leading.{LosesLeader}
 use Rattle.follow_run.proofs.LeaderFacts.{reads-leader, loses-leader, loses-attached}
 use Rattle.follow_run.proofs.leader.find_leader.Goals as goal

@@ -1,5 +1,5 @@
 use Rattle.std.proofs.Common.{sym, subst}
-use Rattle.csv_rows.specs.declared.rows.Refusal.{Refusal}
+use Rattle.run_ends.specs.declared.refusals.Refusal.{Refusal}
 use Rattle.follow_run.specs.Playing.{LosesReplica}
 use Rattle.follow_run.proofs.ReplicaFacts.{lost-attached, opened, lost}
 use Rattle.follow_run.proofs.replica.open_replica.Goals as goal

@@ -1,7 +1,7 @@
 use Rattle.std.proofs.Common.{List, subst}
 use Rattle.io_edge.specs.Puts.{Puts}
 use Rattle.follower.specs.declared.turns.Report.{Report}
-use Rattle.csv_rows.specs.declared.rows.Refusal.{Refusal}
+use Rattle.run_ends.specs.declared.refusals.Refusal.{Refusal}
 use Rattle.run_ends.specs.Taking.{Refuses}
 use Rattle.follow_run.specs.Lines.{reports_text}
 use Rattle.follow_run.proofs.ReplicaFacts.{plays-told, plays-stopped}

@@ -2,7 +2,7 @@ use Rattle.std.proofs.Common.{Err, false, ◌∙◌, sym, subst, arith}
 use Rattle.recovery.specs.declared.seen.SeenLog.{SeenLog}
 use Rattle.disk_trait.proofs.Calls.{attached-still}
 use Rattle.recovery.proofs.OnlyReading.{stays-trans}
-use Rattle.csv_rows.specs.declared.rows.Refusal.{Refusal}
+use Rattle.run_ends.specs.declared.refusals.Refusal.{Refusal}
 use Rattle.run_ends.specs.Limits.{most_inspected, oldest_read}
 use Rattle.run_ends.proofs.AttachFacts.{attaches-one, reading-unattached}
 use Rattle.log_run.specs.Checking.{IsCheckingCause, IsDecidedBy}

@@ -1,7 +1,7 @@
 use Rattle.std.proofs.Common.{◌∙◌, sym, subst}
 use Rattle.disk_trait.specs.Drive.{Drive}
 use Rattle.kept_log.proofs.Starting.{opened-found}
-use Rattle.csv_rows.specs.declared.rows.Refusal.{Refusal}
+use Rattle.run_ends.specs.declared.refusals.Refusal.{Refusal}
 use Rattle.run_ends.specs.Limits.{most_played}
 use Rattle.play_run.specs.Playing.{IsNotOpened}
 use Rattle.play_run.specs.inside.Books.{OpensFile}

@@ -1,6 +1,0 @@
-use Rattle.std.proofs.Common.{refl}
-use Rattle.csv_rows.proofs.LinesFacts.{two_counted}
-use Rattle.csv_rows.proofs.lines.add_two.Goals as goal
-
-pub returns-clause-bytes : goal.returns-clause-bytes
-returns-clause-bytes c = two_counted c.args.piece.now.items c.args.first.now c.args.second.now refl refl c.add_counted.ensures.bytes c.add_counted-2.ensures.bytes
