@@ -80,6 +80,8 @@ in-quiet drive w s h e (Some log) legal none going kept =
       well = λ none. kept.well (failed_cell-none h sound);
       stopped = unnamed (failed_cell (h ++ e ∷ [])) unfailed;
       file = kept.file;
+      told = kept.told;
+      from = kept.from;
     }
 
 -- a call that changes nothing has no cell
@@ -103,6 +105,10 @@ in-opened drive w s log first opened most sound = record {
   well = λ none. opened.calls;
   stopped = unnamed None refl;
   file = opened.file;
+  told = opened.told;
+  from = λ bytes told.
+      let (cells, recovers, is_log) = opened.log bytes told in
+      record { cells = cells; recovers = recovers; state = opened.state bytes cells told recovers };
 }
 
 -- without a log nothing is added, and nothing need be kept
@@ -121,6 +127,13 @@ module _ {D : Type 0} (drive : D → Drive) (cell : Cell) (old new : KeptView D)
 
   still_file : SameFile (drive old.disk) (drive new.disk) → SameFile (drive old.start) (drive old.disk) → SameFile (drive new.start) (drive new.disk)
   still_file file was all told = ap (λ (d : D). (drive d).attaches) opened.start ∙ was all (file all told)
+
+  still_told : is_some (drive new.disk).bytes ≡ is_some (drive old.disk).bytes → is_some (drive old.disk).bytes ≡ is_some (drive old.start).bytes
+      → is_some (drive new.disk).bytes ≡ is_some (drive new.start).bytes
+  still_told now was = now ∙ was ∙ ap (λ (d : D). is_some (drive d).bytes) (sym opened.start)
+
+  still_from : {P : List ℕ → Type 0} → ((bytes : List ℕ) → (drive old.start).bytes ≡ Some bytes → P bytes) → (bytes : List ℕ) → (drive new.start).bytes ≡ Some bytes → P bytes
+  still_from was bytes told = was bytes (sym (ap (λ (d : D). (drive d).bytes) opened.start) ∙ told)
 
   pub leaves-next : LeavesNext drive cell (Some old) (Some new)
   leaves-next w s h e next kept first = leaves-either drive cell old new sound_log opened any_moment w s h e first next kept.keeps
@@ -144,6 +157,8 @@ module _ {D : Type 0} (drive : D → Drive) (cell : Cell) (old new : KeptView D)
               (well-then (drive old.start) (drive old.disk) (drive new.disk) (kept.well (failed_cell-none h sound)) (record { count = 4; calls = adds.calls }));
           stopped = unnamed (failed_cell (h ++ e ∷ [])) unfailed;
           file = still_file adds.file kept.file;
+          told = still_told adds.told kept.told;
+          from = still_from kept.from;
         };
   }
 
@@ -175,6 +190,8 @@ module _ {D : Type 0} (drive : D → Drive) (cell : Cell) (old new : KeptView D)
               (ends-then (drive old.start) (drive old.disk) (drive new.disk) (kept.well (failed_cell-none h (sound-push w s h e next.legal)))
               (record { went_well = fails.broken.went_well; calls = fails.broken.stops.calls }));
           file = still_file fails.file kept.file;
+          told = still_told fails.told kept.told;
+          from = still_from kept.from;
         };
   }
     where

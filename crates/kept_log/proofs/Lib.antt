@@ -3,3 +3,4 @@ pub mod StepCells
 pub mod Adding
 pub mod Appending
 pub mod InJournal
+pub mod Renewing

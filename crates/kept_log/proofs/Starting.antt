@@ -79,4 +79,5 @@ opened-found w most start now seen found ready any_moment = record {
   calls = well-opened seen.cells start now ready.calls;
   same = ready.same;
   file = ready.file;
+  told = ready.told;
 }

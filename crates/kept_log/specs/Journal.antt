@@ -14,7 +14,7 @@ use Rattle.log_state.specs.Recovers.{Recovers}
 use Rattle.log_state.specs.Changes.{cells_of, lost_cells}
 use Rattle.recovery.specs.Calls.{AllWentWell, EndsAtFault}
 use Rattle.kept_log.specs.KeptView.{KeptView}
-use Rattle.kept_log.specs.Kept.{StartsWith, Keeps}
+use Rattle.kept_log.specs.Kept.{StartsWith, RecoversTo, Keeps}
 use Rattle.split_log.specs.LogView.{most_cells}
 use Rattle.kept_log.specs.Steps.{IsNext, IsSince}
 
@@ -46,6 +46,9 @@ pub record KeepsLog {D : Type 0} (drive : D → Drive) (w : ℕ) (s : State) (h 
   pub well : failed_cell h ≡ None → AllWentWell (drive log.start) (drive log.disk)
   pub stopped : is_some (failed_cell h) ≡ true → EndsAtFault (drive log.start) (drive log.disk)
   pub file : SameFile (drive log.start) (drive log.disk)
+  -- the bytes are known where they were at the opening, and recovered to cells that left the state at which the history begins
+  pub told : is_some (drive log.disk).bytes ≡ is_some (drive log.start).bytes
+  pub from : (bytes : List ℕ) → (drive log.start).bytes ≡ Some bytes → RecoversTo w s bytes
 
 -- the log keeps the history, where there is one; else no append has failed
 abbrev pub KeepsIn : {D : Type 0} → (D → Drive) → ℕ → State → List Entry → Option (KeptView D) → Type 0

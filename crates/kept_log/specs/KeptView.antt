@@ -9,3 +9,7 @@ pub record KeptView (D : Type 0) : Type 0 where
   pub failed : Option ℕ
   pub start : D
   pub first : ℕ
+
+-- the same log, as if it was opened where it stands
+abbrev pub renewed_log : {D : Type 0} → KeptView D → KeptView D
+renewed_log log = record log { start = log.disk; first = log.cells }

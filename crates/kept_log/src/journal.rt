@@ -1,8 +1,11 @@
 //! The log of a store that may have none, and what it has kept since it was opened.
-ghost use Rattle.std.specs.Prelude.{◌≡◌, ◌≤◌, ◌<◌, ◌==◌, ℕ, [], Some, None, is_some, OnOk, IfErr};
-ghost use Rattle.plain_list.specs.State.{State};
+ghost use Rattle.std.specs.Prelude.{◌≡◌, ◌≤◌, ◌<◌, ◌==◌, ℕ, List, [], Some, None, is_some, OnOk, IfErr};
+ghost use Rattle.std.specs.Option.{option_map};
+ghost use Rattle.plain_list.specs.declared.entries.Entry.{Entry};
+ghost use Rattle.plain_list.specs.State.{State, IsLegal};
 ghost use Rattle.split_log.specs.LogView.{most_cells};
-ghost use Rattle.kept_log.specs.Kept.{IsOpened};
+ghost use Rattle.kept_log.specs.Kept.{IsOpened, renewed_state};
+ghost use Rattle.kept_log.specs.KeptView.{renewed_log};
 ghost use Rattle.kept_log.specs.Steps.{IsSince};
 ghost use Rattle.kept_log.specs.Journal.{cells_in, failed_in, disk_in, KeepsIn, IsSinceIn, Added, Missed, LeavesNext};
 
@@ -122,6 +125,19 @@ impl<D: LogDisk> Journal<D> {
         kept.append(cell)
     }
 
+    /// Goes on from where the log stands, as if it was opened there: what it has kept so far is what stood first. No device call is made.
+    pub fn renew(&mut self)
+        requires open { failed_in self.old ≡ None }
+
+        ensures value { self.new ≡ option_map renewed_log self.old }
+        ensures keeps { (w : ℕ) (s : State) (h : List Entry) → IsLegal w s h → KeepsIn D.drive w s h self.old
+            → KeepsIn D.drive w (renewed_state w s h) [] self.new }
+    {
+        if let Some(kept) = &mut self.log {
+            kept.renew();
+        }
+    }
+
     /// The drive, whatever stands on it.
     pub fn give_back(self) -> Option<D>
         ensures { result ≡ disk_in self }
@@ -148,5 +164,12 @@ impl<D: LogDisk> Kept<D> {
             Err(AppendFault::Disk { cell: number }) => Err(AppendLost { cell: number }),
             Err(AppendFault::LogFull) => unreachable!(),
         }
+    }
+
+    fn renew(&mut self)
+        ensures { self.new ≡ renewed_log self.old }
+    {
+        self.start = self.log.snapshot();
+        self.first = Snapshot::of(&self.log.cells());
     }
 }

@@ -43,6 +43,7 @@ pub record Fails (cell : Cell) (number before after : ℕ) (failed : Option ℕ)
   pub named : number ≡ before
   pub kept : failed ≡ Some before
   pub count : after ≡ before
+  pub told : is_some new.bytes ≡ is_some old.bytes
   pub rose : Rose old.faults new.faults
   pub file : SameFile old new
   -- a crash now leaves the cells, with the new one or without
