@@ -1,4 +1,5 @@
 pub mod RowsFacts
+pub mod FaultFacts
 pub mod Insides
 pub mod Following
 pub mod RisingIds
