@@ -9,5 +9,6 @@ pub mod Passing
 pub mod Parts
 pub mod AlongParts
 pub mod Tallying
+pub mod WorldSteps
 pub mod Guarding
 pub mod Answering
