@@ -122,7 +122,7 @@ put-behind m world f rising None e false =
     inside-put f m world e rising
     ∙ (λ i. inside_behind m.id (at_of (sym e i)) (at_of (sym there i)) f (inside_of world f))
 
-moved-there : (id : ℕ) (to p : Stamped) (world : World) → position_of world id ≡ Some p → position_of (with_moved id to world) id ≡ Some to
+pub moved-there : (id : ℕ) (to p : Stamped) (world : World) → position_of world id ≡ Some p → position_of (with_moved id to world) id ≡ Some to
 moved-there id to p [] e = absurd (cc e)
 moved-there id to p (n ∷ ns) e = by_test (n.id == id) refl e (λ later. moved-there id to p ns later)
   where

@@ -1,52 +1,50 @@
 -- What a step tells of a tally, told of the guards over it.
 use Rattle.std.proofs.Common.{◌≡◌, ℕ, ◌≤◌, ◌<◌, ◌+◌, List, ◌++◌, length, map, Option, Result, Ok, Err, OnOk, OnErr, sym, ◌∙◌, ap, subst}
-use Rattle.recovery.specs.declared.walked.Walked.{Walked}
-use Rattle.recovery.specs.Walks.{object_of}
+use Rattle.zorder.specs.declared.points.Point.{Point}
 use Rattle.fence_watch.specs.declared.fences.Fence.{Fence}
 use Rattle.fence_watch.specs.Fences.{most_fences}
 use Rattle.fence_watch.specs.Crossings.{crossings_by}
 use Rattle.fence_watch.specs.Counts.{fences_counted}
 use Rattle.fence_watch.specs.Guards.{AllRising}
 use Rattle.fence_watch.specs.Kept.{Keeps}
-use Rattle.fence_watch.specs.Tallies.{TallyView, Tallies, IsPast}
-use Rattle.fence_watch.specs.Watches.{Guard, fences_of, guard_behind, HoldsBefore, Steps, IsOver, most_events}
+use Rattle.fence_watch.specs.Tallies.{TallyView, TalliesBy, IsPastBy}
+use Rattle.fence_watch.specs.Watches.{Guard, fences_of, guard_behind, HoldsBefore, StepsBy, IsOverBy, most_events}
 use Rattle.fence_watch.proofs.Passing.{fences-behind, rising-behind}
 use Rattle.fence_watch.proofs.Tallying.{fences-behind as counted-behind}
 
 -- guards over a tally of the same fences
-module _ (walked : Walked) (guards : List Guard) (t : TallyView) (same : fences_of guards ≡ fences_counted t.counts) where
+module _ (at : ℕ) (o : Option ℕ) (before after : Option Point) (guards : List Guard) (t : TallyView) (same : fences_of guards ≡ fences_counted t.counts) where
   abbrev Passes : List Fence → Type 0
-  Passes fences = most_events < length t.events + length (crossings_by walked.at (object_of walked.cell) walked.before walked.after fences)
+  Passes fences = most_events < length t.events + length (crossings_by at o before after fences)
 
-  pub past-over : IsOver walked (record { guards = guards; events = t.events }) → IsPast walked t
+  pub past-over : IsOverBy at o before after (record { guards = guards; events = t.events }) → IsPastBy at o before after t
   past-over over = subst Passes same over
 
-  pub over-past : IsPast walked t → IsOver walked (record { guards = guards; events = t.events })
+  pub over-past : IsPastBy at o before after t → IsOverBy at o before after (record { guards = guards; events = t.events })
   over-past past = subst Passes (sym same) past
 
-  pub steps-over : (new : List Guard) (u : TallyView) → new ≡ map (guard_behind (object_of walked.cell) walked.before walked.after) guards → Tallies walked t u
-      → Steps walked (record { guards = guards; events = t.events }) (record { guards = new; events = u.events })
+  pub steps-over : (new : List Guard) (u : TallyView) → new ≡ map (guard_behind o before after) guards → TalliesBy at o before after t u
+      → StepsBy at o before after (record { guards = guards; events = t.events }) (record { guards = new; events = u.events })
   steps-over new u is tallies = record {
-    events = tallies.events ∙ ap (λ (fences : List Fence). t.events ++ crossings_by walked.at (object_of walked.cell) walked.before walked.after fences) (sym same);
+    events = tallies.events ∙ ap (λ (fences : List Fence). t.events ++ crossings_by at o before after fences) (sym same);
     guards = is;
   }
 
-pub keeps-behind : (walked : Walked) (guards new : List Guard) (t u : TallyView) → Keeps guards t → HoldsBefore (object_of walked.cell) walked.before guards
-    → new ≡ map (guard_behind (object_of walked.cell) walked.before walked.after) guards → Tallies walked t u → Keeps new u
-keeps-behind walked guards new t u keeps holds is tallies =
-    let o : Option ℕ = object_of walked.cell in
-    let same : fences_of new ≡ fences_of guards = ap fences_of is ∙ fences-behind o walked.before walked.after guards in
+pub keeps-behind : (at : ℕ) (o : Option ℕ) (before after : Option Point) (guards new : List Guard) (t u : TallyView) → Keeps guards t → HoldsBefore o before guards
+    → new ≡ map (guard_behind o before after) guards → TalliesBy at o before after t u → Keeps new u
+keeps-behind at o before after guards new t u keeps holds is tallies =
+    let same : fences_of new ≡ fences_of guards = ap fences_of is ∙ fences-behind o before after guards in
     record {
-      fences = same ∙ keeps.fences ∙ sym (ap fences_counted tallies.counts ∙ counted-behind o walked.before walked.after t.counts);
-      rising = subst AllRising (sym is) (rising-behind o walked.before walked.after guards holds keeps.rising);
+      fences = same ∙ keeps.fences ∙ sym (ap fences_counted tallies.counts ∙ counted-behind o before after t.counts);
+      rising = subst AllRising (sym is) (rising-behind o before after guards holds keeps.rising);
       few = subst (λ (l : List Fence). length l ≤ most_fences) (sym same) keeps.few;
     }
 
 -- either way
-pub keeps-either : {E : Type 0} (r : Result (Unit {0}) E) (walked : Walked) (guards new : List Guard) (t u : TallyView) → Keeps guards t → HoldsBefore (object_of walked.cell) walked.before guards
-    → OnOk r (new ≡ map (guard_behind (object_of walked.cell) walked.before walked.after) guards) → OnOk r (Tallies walked t u) → OnErr r (new ≡ guards) → OnErr r (u ≡ t) → Keeps new u
-keeps-either (Ok x) walked guards new t u keeps holds is tallies same stays = keeps-behind walked guards new t u keeps holds is tallies
-keeps-either (Err e) walked guards new t u keeps holds is tallies same stays = subst (λ (l : List Guard). Keeps l u) (sym same) (subst (λ (v : TallyView). Keeps guards v) (sym stays) keeps)
+pub keeps-either : {E : Type 0} (r : Result (Unit {0}) E) (at : ℕ) (o : Option ℕ) (before after : Option Point) (guards new : List Guard) (t u : TallyView) → Keeps guards t → HoldsBefore o before guards
+    → OnOk r (new ≡ map (guard_behind o before after) guards) → OnOk r (TalliesBy at o before after t u) → OnErr r (new ≡ guards) → OnErr r (u ≡ t) → Keeps new u
+keeps-either (Ok x) at o before after guards new t u keeps holds is tallies same stays = keeps-behind at o before after guards new t u keeps holds is tallies
+keeps-either (Err e) at o before after guards new t u keeps holds is tallies same stays = subst (λ (l : List Guard). Keeps l u) (sym same) (subst (λ (v : TallyView). Keeps guards v) (sym stays) keeps)
 
 pub on-ok : {E : Type 0} {A B : Type 0} (r : Result (Unit {0}) E) → OnOk r A → (A → B) → OnOk r B
 on-ok (Ok x) a f = f a

@@ -1,4 +1,5 @@
 pub mod RowsFacts
+pub mod FaultFacts
 pub mod Insides
 pub mod Following
 pub mod RisingIds
@@ -8,5 +9,6 @@ pub mod Passing
 pub mod Parts
 pub mod AlongParts
 pub mod Tallying
+pub mod WorldSteps
 pub mod Guarding
 pub mod Answering

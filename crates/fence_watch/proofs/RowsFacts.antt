@@ -11,8 +11,8 @@ use Rattle.csv_rows.specs.Fields.{first_fault, unless}
 use Rattle.csv_rows.proofs.NumbersFacts.{is_between-bounds}
 use Rattle.csv_rows.proofs.TablesFacts.{table-keeps}
 use Rattle.fence_watch.specs.declared.fences.Fence.{Fence}
-use Rattle.fence_watch.specs.Fences.{AreDistinct, AreFences, IsFence}
-use Rattle.fence_watch.specs.FenceRows.{corner_rules, fence_at, fence_of, fence_table, fences_of_text, has_fence}
+use Rattle.fence_watch.specs.Fences.{AreDistinct, AreFences, IsFence, has_fence}
+use Rattle.fence_watch.specs.FenceRows.{corner_rules, fence_at, fence_of, fence_table, fences_of_text}
 
 -- the fields that stand at five places are all of five
 pub five_fields : (fields : List (List ℕ)) (a b c d e : List ℕ) → length fields ≡ 5 → field_at fields 0 ≡ Some a → field_at fields 1 ≡ Some b → field_at fields 2 ≡ Some c → field_at fields 3 ≡ Some d → field_at fields 4 ≡ Some e
@@ -101,14 +101,15 @@ distinct-more (g ∷ fences) f distinct other =
     (all-more (λ (h : Fence). h.id ≢ g.id) fences f distinct.0 (λ same. eqb-false g.id f.id parts.0 (sym same)), distinct-more fences f distinct.1 parts.1)
 
 -- one fence more
+pub fence-more : (fences : List Fence) (f : Fence) → length fences < 256 → IsNew fences f → AreFences fences → AreFences (fences ++ f ∷ [])
+fence-more fences f few new good = record {
+  each = all-more IsFence fences f good.each new.fence;
+  distinct = distinct-more fences f good.distinct new.other;
+  most = omega (arith, few, length-append fences (f ∷ []));
+}
+
 fences-more : (fences : List Fence) (fields : List (List ℕ)) (f : Fence) → length fences < 256 → fence_of fences fields ≡ Ok f → AreFences fences → AreFences (fences ++ f ∷ [])
-fences-more fences fields f few is good =
-    let new = fence-new fences fields f is in
-    record {
-      each = all-more IsFence fences f good.each new.fence;
-      distinct = distinct-more fences f good.distinct new.other;
-      most = omega (arith, few, length-append fences (f ∷ []));
-    }
+fences-more fences fields f few is good = fence-more fences f few (fence-new fences fields f is) good
 
 -- the fences of a text keep the rules
 pub read-fences : (bytes : List ℕ) (fences : List Fence) → fences_of_text bytes ≡ Ok fences → AreFences fences

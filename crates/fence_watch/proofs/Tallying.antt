@@ -1,5 +1,5 @@
 -- A tally that follows the cells of a log goes on following them.
-use Rattle.std.proofs.Common.{◌≡◌, ℕ, zero, suc, ◌+◌, ◌-◌, ◌≤◌, ◌<◌, length, Bool, true, false, List, [], ◌∷◌, ◌++◌, map, Option, Some, None, refl, sym, ◌∙◌, ap, subst, arith, cond, ◌==◌, ◌||◌, not, append_assoc, append-nil, take, drop}
+use Rattle.std.proofs.Common.{◌≡◌, ℕ, zero, suc, ◌+◌, ◌-◌, ◌≤◌, ◌<◌, length, Bool, true, false, List, [], ◌∷◌, ◌++◌, map, Option, Some, None, refl, sym, ◌∙◌, ap, subst, arith, cond, ◌==◌, ◌||◌, not, append_assoc, append-nil, length-append, take, drop}
 use Rattle.std.specs.Prelude.{nat_le, nat_lt}
 use Rattle.std.specs.Option.{option_map_or}
 use Rattle.std.proofs.lemmas.List.{take-append-le, take_all}
@@ -24,14 +24,15 @@ use Rattle.fence_watch.specs.declared.fences.Event.{Event}
 use Rattle.fence_watch.specs.declared.counts.FenceCount.{FenceCount}
 use Rattle.fence_watch.specs.declared.passages.Chart.{Chart}
 use Rattle.fence_watch.specs.declared.passages.Pair.{Pair}
+use Rattle.fence_watch.specs.declared.passages.Went.{Went}
 use Rattle.fence_watch.specs.Fences.{lies_in, inside_of, most_fences}
-use Rattle.fence_watch.specs.Crossings.{world_behind, world_after_cells, crossings_by}
+use Rattle.fence_watch.specs.Crossings.{world_behind, world_after_cells, crossings_of, crossings_by}
 use Rattle.fence_watch.specs.Marks.{filled}
 use Rattle.fence_watch.specs.Passages.{along, turn, turns_of, count_turns, events_along, turn_at, all_turns, Charts, ShowsPassage}
 use Rattle.fence_watch.specs.Guards.{AreRising}
 use Rattle.fence_watch.specs.Watches.{Guard, guard_in, guard_behind, inside_behind, with_id, without_id, has_id, most_events}
 use Rattle.fence_watch.specs.Counts.{fences_counted, count_by, one_more}
-use Rattle.fence_watch.specs.Tallies.{TallyView, count_behind, count_in, number_behind, events_told, Tallies, TalliesCells, IsPast}
+use Rattle.fence_watch.specs.Tallies.{TallyView, count_behind, count_in, number_behind, events_told, TalliesBy, Tallies, TalliesFrom, TalliesCells, IsNextFrom, Shows, IsPastBy, IsPast}
 use Rattle.fence_watch.specs.Kept.{KeepsTally}
 use Rattle.fence_watch.proofs.AlongParts.{along-none}
 use Rattle.fence_watch.proofs.Passing.{events-shown, count-shown, none-events}
@@ -124,7 +125,7 @@ few-behind world (cell.Begin number name) few = few
 few-behind world (cell.Install number) few = few
 few-behind world (cell.Abandon number) few = few
 
-few-after : (world : World) (cells : List Cell) → length world ≤ most_members → length (world_after_cells world cells) ≤ most_members
+pub few-after : (world : World) (cells : List Cell) → length world ≤ most_members → length (world_after_cells world cells) ≤ most_members
 few-after world [] few = few
 few-after world (c ∷ cells) few = few-after (world_behind world c) cells (few-behind world c few)
 
@@ -160,26 +161,52 @@ pub counted-in : (world : World) (fences : List Fence) → fences_counted (map (
 counted-in world [] = refl
 counted-in world (f ∷ fences) = ap (λ (l : List Fence). f ∷ l) (counted-in world fences)
 
+-- a step of an object between its places in a world and in the world behind it
+pub tallies-counts : (world : World) (c : Cell) (fences : List Fence) (at : ℕ) (before after : Option Point) (old new : TallyView) → IsRising (places_of world) → length world ≤ most_members → old.counts ≡ map (count_in world) fences
+    → before ≡ place_in world (object_of c) → after ≡ place_in (world_behind world c) (object_of c) → TalliesBy at (object_of c) before after old new → new.counts ≡ map (count_in (world_behind world c)) fences
+tallies-counts world c fences at before after old new rising few counts_are is_before is_after s =
+    s.counts ∙ (λ i. map (count_behind (object_of c) (is_before i) (is_after i)) (counts_are i)) ∙ sym (counts-behind world c fences rising few)
+
+-- a step along the next cell
+pub tallies-next : (at : ℕ) (start : World) (taken : List Event) (cells : List Cell) (fences : List Fence) (walked : Walked) (old new : TallyView)
+    → TalliesFrom at start taken cells fences old → IsNextFrom at start cells walked → Tallies walked old new → TalliesFrom at start taken (cells ++ walked.cell ∷ []) fences new
+tallies-next at start taken cells fences walked old new t n s =
+    let world : World = world_after_cells start cells in
+    let o : Option ℕ = object_of walked.cell in
+    let counts_are : old.counts ≡ map (count_in world) fences = t.counts in
+    record {
+      rising = t.rising;
+      few = t.few;
+      events = ap (λ (l : List Event). taken ++ l) s.events
+          ∙ sym (append_assoc taken old.events (events_told walked old.counts))
+          ∙ (λ i. t.events i ++ crossings_by (n.at i) o (n.before i) (n.after i) ((ap fences_counted counts_are ∙ counted-in world fences) i))
+          ∙ sym (crossings-snoc at start cells walked.cell fences);
+      counts = tallies-counts world walked.cell fences walked.at walked.before walked.after old new (rising-after start cells t.rising) (few-after start cells t.few) counts_are n.before n.after s
+          ∙ ap (λ (w : World). map (count_in w) fences) (sym (after-snoc start cells walked.cell));
+    }
+
+-- cells behind others of a log
+pub after-append : (world : World) (front cells : List Cell) → world_after_cells world (front ++ cells) ≡ world_after_cells (world_after_cells world front) cells
+after-append world [] cells = refl
+after-append world (c ∷ front) cells = after-append (world_behind world c) front cells
+
+pub next-behind : (w : ℕ) (front cells : List Cell) (walked : Walked) → IsNextWalked w (front ++ cells) walked → IsNextFrom (length front) (state_of w front).world cells walked
+next-behind w front cells walked n =
+    let world : world_after_cells [] (front ++ cells) ≡ world_after_cells (state_of w front).world cells =
+    after-append [] front cells ∙ ap (λ (start : World). world_after_cells start cells) (sym (world-of_state w front)) in
+    record {
+      at = n.at ∙ length-append front cells;
+      before = places-before w (front ++ cells) walked n ∙ ap (λ (start : World). place_in start (object_of walked.cell)) world;
+      after = places-after w (front ++ cells) walked n ∙ ap (λ (start : World). place_in (world_behind start walked.cell) (object_of walked.cell)) world;
+    }
+
+pub next-first : (w : ℕ) (cells : List Cell) (walked : Walked) → IsNextWalked w cells walked → IsNextFrom 0 [] cells walked
+next-first w cells walked n = next-behind w [] cells walked n
+
 -- a step along the next cell of a log
 pub tallies-step : (w : ℕ) (taken : List Event) (cells : List Cell) (fences : List Fence) (walked : Walked) (old new : TallyView)
     → TalliesCells taken cells fences old → IsNextWalked w cells walked → Tallies walked old new → TalliesCells taken (cells ++ walked.cell ∷ []) fences new
-tallies-step w taken cells fences walked old new t n s =
-    let world : World = world_after_cells [] cells in
-    let o : Option ℕ = object_of walked.cell in
-    let counts_are : old.counts ≡ map (count_in world) fences = t.counts in
-    let counted : walked.at ≡ 0 + length cells = n.at ∙ omega arith in
-    let before = places-before w cells walked n in
-    let after = places-after w cells walked n in
-    record {
-      events = ap (λ (l : List Event). taken ++ l) s.events
-          ∙ sym (append_assoc taken old.events (events_told walked old.counts))
-          ∙ (λ i. t.events i ++ crossings_by (counted i) o (before i) (after i) ((ap fences_counted counts_are ∙ counted-in world fences) i))
-          ∙ sym (crossings-snoc 0 [] cells walked.cell fences);
-      counts = s.counts
-          ∙ (λ i. map (count_behind o (before i) (after i)) (counts_are i))
-          ∙ sym (counts-behind world walked.cell fences (rising-after [] cells tt) (few-after [] cells (omega arith)))
-          ∙ ap (λ (w : World). map (count_in w) fences) (sym (after-snoc [] cells walked.cell));
-    }
+tallies-step w taken cells fences walked old new t n s = tallies-next 0 [] taken cells fences walked old new t (next-first w cells walked n) s
 
 -- in the words of the state that the cells leave
 pub counts-told : (w : ℕ) (taken : List Event) (cells : List Cell) (fences : List Fence) (v : TallyView) → TalliesCells taken cells fences v → v.counts ≡ map (count_in (state_of w cells).world) fences
@@ -213,33 +240,38 @@ counts-shown id o before after counts p is few shows =
     ap (along count_by counts) shows ∙ along-all before after counts few ∙ along-map id before after counts ∙ ap (λ (x : Option ℕ). map (count_behind x before after) counts) (sym is)
 
 -- what a passage that shows both places of a step tells of its events and of the counts behind it
-pub record Said (walked : Walked) (id : ℕ) (counts : List FenceCount) (p : List Pair) : Type 0 where
-  pub count : count_turns (turns_of p) ≡ length (events_told walked counts)
-  pub told : events_along walked.at id (fences_counted counts) (turns_of p) ≡ events_told walked counts
-  pub behind : along count_by counts (turns_of p) ≡ map (count_behind (object_of walked.cell) walked.before walked.after) counts
+pub record Said (went : Went) (counts : List FenceCount) (p : List Pair) : Type 0 where
+  pub count : count_turns (turns_of p) ≡ length (crossings_of went.at went.id went.before went.after (fences_counted counts))
+  pub told : events_along went.at went.id (fences_counted counts) (turns_of p) ≡ crossings_of went.at went.id went.before went.after (fences_counted counts)
+  pub behind : along count_by counts (turns_of p) ≡ map (count_behind (Some went.id) went.before went.after) counts
 
-pub said : (walked : Walked) (id : ℕ) (counts : List FenceCount) (p : List Pair) → object_of walked.cell ≡ Some id → length (fences_counted counts) ≤ most_fences → ShowsPassage walked.before walked.after (fences_counted counts) p
-    → Said walked id counts p
-said walked id counts p is few shows = record {
-  count = count-shown walked.at id (object_of walked.cell) walked.before walked.after (fences_counted counts) p is few shows;
-  told = events-shown walked.at id (object_of walked.cell) walked.before walked.after (fences_counted counts) p is few shows;
-  behind = counts-shown id (object_of walked.cell) walked.before walked.after counts p is few shows;
+pub said : (went : Went) (v : TallyView) (p : List Pair) → length (fences_counted v.counts) ≤ most_fences → Shows went v p → Said went v.counts p
+said went v p few shows = record {
+  count = count-shown went.at went.id (Some went.id) went.before went.after (fences_counted v.counts) p refl few shows;
+  told = events-shown went.at went.id (Some went.id) went.before went.after (fences_counted v.counts) p refl few shows;
+  behind = counts-shown went.id (Some went.id) went.before went.after v.counts p refl few shows;
 }
 
+abbrev pub Goes : Went → TallyView → TallyView → Type 0
+Goes went old new = TalliesBy went.at (Some went.id) went.before went.after old new
+
+abbrev pub IsPastIn : Went → TallyView → Type 0
+IsPastIn went old = IsPastBy went.at (Some went.id) went.before went.after old
+
 -- where no fence is crossed the tally stays as it is
-pub stays : (walked : Walked) (id : ℕ) (v : TallyView) (p : List Pair) → Said walked id v.counts p → count_turns (turns_of p) ≡ 0 → Tallies walked v v
-stays walked id v p k crossed =
-    let none : events_told walked v.counts ≡ [] = none-events (events_told walked v.counts) (sym k.count ∙ crossed) in
+pub stays : (went : Went) (v : TallyView) (p : List Pair) → Said went v.counts p → count_turns (turns_of p) ≡ 0 → Goes went v v
+stays went v p k crossed =
+    let none : crossings_of went.at went.id went.before went.after (fences_counted v.counts) ≡ [] = none-events (crossings_of went.at went.id went.before went.after (fences_counted v.counts)) (sym k.count ∙ crossed) in
     record {
       events = sym (append-nil v.events) ∙ ap (λ (l : List Event). v.events ++ l) (sym none);
       counts = sym (along-none count_by (λ c. refl) v.counts (turns_of p) crossed) ∙ k.behind;
     }
 
-pub not-past : (walked : Walked) (id crossed : ℕ) (v : TallyView) (p : List Pair) → Said walked id v.counts p → crossed ≡ count_turns (turns_of p) → length v.events + crossed ≤ most_events → IsPast walked v → ⊥
-not-past walked id crossed v p k counts fits over = omega (arith, k.count, counts, fits, over)
+pub not-past : (went : Went) (crossed : ℕ) (v : TallyView) (p : List Pair) → Said went v.counts p → crossed ≡ count_turns (turns_of p) → length v.events + crossed ≤ most_events → IsPastIn went v → ⊥
+not-past went crossed v p k counts fits over = omega (arith, k.count, counts, fits, over)
 
-pub is-past : (walked : Walked) (id crossed : ℕ) (v : TallyView) (p : List Pair) → Said walked id v.counts p → crossed ≡ count_turns (turns_of p) → most_events < length v.events + crossed → IsPast walked v
-is-past walked id crossed v p k counts past = omega (arith, k.count, counts, past)
+pub is-past : (went : Went) (crossed : ℕ) (v : TallyView) (p : List Pair) → Said went v.counts p → crossed ≡ count_turns (turns_of p) → most_events < length v.events + crossed → IsPastIn went v
+is-past went crossed v p k counts past = omega (arith, k.count, counts, past)
 
 -- a list that is written over as a whole
 pub rewritten : {X : Type 0} (n : ℕ) (new old : List X) → length new ≡ n → take n (new ++ drop (length new) old) ≡ new
@@ -252,9 +284,9 @@ fences-behind (Some id) before after [] = refl
 fences-behind None before after (c ∷ counts) = ap (λ (l : List Fence). c.fence ∷ l) (fences-behind None before after counts)
 fences-behind (Some id) before after (c ∷ counts) = ap (λ (l : List Fence). c.fence ∷ l) (fences-behind (Some id) before after counts)
 
-pub keeps-tallied : (walked : Walked) (old new : TallyView) (chart : Chart) → Tallies walked old new → KeepsTally old.counts chart old.events → length new.events ≤ most_events → KeepsTally new.counts chart new.events
-keeps-tallied walked old new chart tallies keeps fits =
-    let same : fences_counted new.counts ≡ fences_counted old.counts = ap fences_counted tallies.counts ∙ fences-behind (object_of walked.cell) walked.before walked.after old.counts in
+pub keeps-tallied : (went : Went) (old new : TallyView) (chart : Chart) → Goes went old new → KeepsTally old.counts chart old.events → length new.events ≤ most_events → KeepsTally new.counts chart new.events
+keeps-tallied went old new chart tallies keeps fits =
+    let same : fences_counted new.counts ≡ fences_counted old.counts = ap fences_counted tallies.counts ∙ fences-behind (Some went.id) went.before went.after old.counts in
     record {
       charts = subst (λ (l : List Fence). Charts l chart) (sym same) keeps.charts;
       few = subst (λ (l : List Fence). length l ≤ most_fences) (sym same) keeps.few;

@@ -1,6 +1,5 @@
 -- The fences of a text.
-use Rattle.std.specs.Prelude.{ℕ, ◌==◌, Bool, List, [], ◌∷◌, if◌then◌else◌, Result, Err, codes}
-use Rattle.std.specs.List.{list_any}
+use Rattle.std.specs.Prelude.{ℕ, List, [], ◌∷◌, if◌then◌else◌, Result, Err, codes}
 use Rattle.csv_rows.specs.declared.columns.Rule.{Rule}
 use Rattle.csv_rows.specs.declared.columns.Rule.TheVariants.{Between}
 use Rattle.csv_rows.specs.declared.rows.RowsFault.{RowsFault}
@@ -10,11 +9,7 @@ use Rattle.csv_rows.specs.Columns.{keeps, number, id_rule, coordinate_rule, poin
 use Rattle.csv_rows.specs.Fields.{first_fault, unless}
 use Rattle.csv_rows.specs.Tables.{Table, rows_of_text}
 use Rattle.fence_watch.specs.declared.fences.Fence.{Fence}
-use Rattle.fence_watch.specs.Fences.{most_fences}
-
--- whether a fence has this id
-abbrev pub has_fence : ℕ → List Fence → Bool
-has_fence id fences = list_any (λ (f : Fence). f.id == id) fences
+use Rattle.fence_watch.specs.Fences.{has_fence, most_fences}
 
 -- the rules of columns 2 to 5, where columns 2 and 3 say these numbers: the upper corner isn't below the lower one
 abbrev pub corner_rules : ℕ → ℕ → List Rule

@@ -1,6 +1,6 @@
 -- Fences, and what lies in one.
-use Rattle.std.specs.Prelude.{◌≢◌, ◌≤◌, ◌<◌, ◌^◌, ℕ, Bool, false, List, [], ◌∷◌, length, map, Option, Some, None, ⊤}
-use Rattle.std.specs.List.{AllByRecursion}
+use Rattle.std.specs.Prelude.{◌≢◌, ◌==◌, ◌≤◌, ◌<◌, ◌^◌, ℕ, Bool, false, List, [], ◌∷◌, length, map, Option, Some, None, ⊤}
+use Rattle.std.specs.List.{AllByRecursion, list_any}
 use Rattle.zorder.specs.declared.points.Point.{Point}
 use Rattle.zorder.specs.declared.points.Placed.{Placed}
 use Rattle.zorder.specs.Key.{IsPoint}
@@ -23,6 +23,10 @@ pub record IsFence (f : Fence) : Type 0 where
 -- none of the fences has this id
 abbrev pub AreOthers : ℕ → List Fence → Type 0
 AreOthers id fences = AllByRecursion (λ (f : Fence). f.id ≢ id) fences
+
+-- whether a fence has this id
+abbrev pub has_fence : ℕ → List Fence → Bool
+has_fence id fences = list_any (λ (f : Fence). f.id == id) fences
 
 -- no two fences have one id
 abbrev pub AreDistinct : List Fence → Type 0

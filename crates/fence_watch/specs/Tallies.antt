@@ -1,16 +1,22 @@
--- What a tally keeps along the cells of a log.
-use Rattle.std.specs.Prelude.{◌≡◌, ◌+◌, ◌-◌, ◌<◌, ℕ, List, [], ◌++◌, length, map, if◌then◌else◌, Option, Some, None}
+-- What a tally keeps along the cells of a log, or of what a program tells it.
+use Rattle.std.specs.Prelude.{◌≡◌, ◌+◌, ◌-◌, ◌<◌, ◌≤◌, ℕ, List, [], ◌++◌, length, map, if◌then◌else◌, Option, Some, None}
 use Rattle.zorder.specs.declared.points.Point.{Point}
 use Rattle.cell_format.specs.declared.cell.Cell.{Cell}
-use Rattle.plain_list.specs.World.{World}
+use Rattle.plain_list.specs.declared.ops.Op.{Op}
+use Rattle.plain_list.specs.declared.ops.Op.TheVariants as op
+use Rattle.plain_list.specs.declared.ops.Answer.{Answer}
+use Rattle.plain_list.specs.declared.ops.Answer.TheVariants.{Done, Moved, Gone}
+use Rattle.plain_list.specs.Places.{IsRising}
+use Rattle.plain_list.specs.World.{World, places_of, most_members}
 use Rattle.fence_watch.specs.declared.fences.Fence.{Fence}
 use Rattle.fence_watch.specs.declared.fences.Event.{Event}
 use Rattle.fence_watch.specs.declared.counts.FenceCount.{FenceCount}
 use Rattle.recovery.specs.declared.walked.Walked.{Walked}
-use Rattle.recovery.specs.Walks.{object_of}
+use Rattle.recovery.specs.Walks.{object_of, place_in}
 use Rattle.fence_watch.specs.Fences.{lies_in, inside_of}
-use Rattle.fence_watch.specs.Crossings.{world_after_cells, crossings_by, crossings}
+use Rattle.fence_watch.specs.Crossings.{world_behind, world_after_cells, crossings_by, crossings_from}
 use Rattle.fence_watch.specs.declared.passages.Pair.{Pair}
+use Rattle.fence_watch.specs.declared.passages.Went.{Went}
 use Rattle.fence_watch.specs.Passages.{ShowsPassage}
 use Rattle.fence_watch.specs.Watches.{most_events}
 use Rattle.fence_watch.specs.Counts.{fences_counted, one_more}
@@ -34,26 +40,58 @@ count_behind (Some id) before after c = record { fence = c.fence; inside = numbe
 abbrev pub events_told : Walked → List FenceCount → List Event
 events_told walked counts = crossings_by walked.at (object_of walked.cell) walked.before walked.after (fences_counted counts)
 
+-- a step of this number, in which an object, if there is one, goes from one place to another
+pub record TalliesBy (at : ℕ) (object : Option ℕ) (before after : Option Point) (old new : TallyView) : Type 0 where
+  pub events : new.events ≡ old.events ++ crossings_by at object before after (fences_counted old.counts)
+  pub counts : new.counts ≡ map (count_behind object before after) old.counts
+
 -- a step along a cell
-pub record Tallies (walked : Walked) (old new : TallyView) : Type 0 where
-  pub events : new.events ≡ old.events ++ events_told walked old.counts
-  pub counts : new.counts ≡ map (count_behind (object_of walked.cell) walked.before walked.after) old.counts
+abbrev pub Tallies : Walked → TallyView → TallyView → Type 0
+Tallies walked old new = TalliesBy walked.at (object_of walked.cell) walked.before walked.after old new
 
--- a cell that changes this object, and how it crosses the fences of a tally
-pub record Shows (walked : Walked) (id : ℕ) (v : TallyView) (passage : List Pair) : Type 0 where
-  pub is : object_of walked.cell ≡ Some id
-  pub shows : ShowsPassage walked.before walked.after (fences_counted v.counts) passage
+-- how an object crosses the fences of a tally
+abbrev pub Shows : Went → TallyView → List Pair → Type 0
+Shows went v passage = ShowsPassage went.before went.after (fences_counted v.counts) passage
 
--- the events would be too many
+-- with such a step the events would be too many
+abbrev pub IsPastBy : ℕ → Option ℕ → Option Point → Option Point → TallyView → Type 0
+IsPastBy at object before after old = most_events < length old.events + length (crossings_by at object before after (fences_counted old.counts))
+
 abbrev pub IsPast : Walked → TallyView → Type 0
-IsPast walked old = most_events < length old.events + length (events_told walked old.counts)
+IsPast walked old = IsPastBy walked.at (object_of walked.cell) walked.before walked.after old
 
 -- a fence with how many of a world's objects are in it
 abbrev pub count_in : World → Fence → FenceCount
 count_in world f = record { fence = f; inside = length (inside_of world f) }
 
--- The tally after steps along these cells: their crossings, the first of which were taken, and how many are inside in the world that the cells
--- leave.
-pub record TalliesCells (taken : List Event) (cells : List Cell) (fences : List Fence) (v : TallyView) : Type 0 where
-  pub events : taken ++ v.events ≡ crossings cells fences
-  pub counts : v.counts ≡ map (count_in (world_after_cells [] cells)) fences
+-- The tally after steps along these cells, the first of which has this number and stands behind this world: their crossings, the first of which
+-- were taken, and how many are inside in the world that the cells leave.
+pub record TalliesFrom (at : ℕ) (world : World) (taken : List Event) (cells : List Cell) (fences : List Fence) (v : TallyView) : Type 0 where
+  pub rising : IsRising (places_of world)
+  pub few : length world ≤ most_members
+  pub events : taken ++ v.events ≡ crossings_from at world cells fences
+  pub counts : v.counts ≡ map (count_in (world_after_cells world cells)) fences
+
+-- the same along the cells of a log, from the first one on
+abbrev pub TalliesCells : List Event → List Cell → List Fence → TallyView → Type 0
+TalliesCells taken cells fences v = TalliesFrom 0 [] taken cells fences v
+
+-- what a walk tells of the next cell behind these, the first of which has this number and stands behind this world
+pub record IsNextFrom (first : ℕ) (world : World) (cells : List Cell) (walked : Walked) : Type 0 where
+  pub at : walked.at ≡ first + length cells
+  pub before : walked.before ≡ place_in (world_after_cells world cells) (object_of walked.cell)
+  pub after : walked.after ≡ place_in (world_behind (world_after_cells world cells) walked.cell) (object_of walked.cell)
+
+-- how many are inside each fence is told as of this world
+pub record FollowsWorld (world : World) (fences : List Fence) (v : TallyView) : Type 0 where
+  pub rising : IsRising (places_of world)
+  pub few : length world ≤ most_members
+  pub counts : v.counts ≡ map (count_in world) fences
+
+-- An operation with this answer changed this object, and its places before and after are these: put where it wasn't, moved from where it was kept,
+-- or dropped there.
+abbrev pub IsStepOf : ℕ → Option Point → Option Point → Op → Answer → Type 0
+IsStepOf id before after (op.Put object at moment) Done = (object ≡ id) × (before ≡ None) × (after ≡ Some at)
+IsStepOf id before after (op.Move object at moment) (Moved kept) = (object ≡ id) × (before ≡ Some kept.at) × (after ≡ Some at)
+IsStepOf id before after (op.Remove object) (Gone kept) = (object ≡ id) × (before ≡ Some kept.at) × (after ≡ None)
+IsStepOf id before after _ _ = ⊥

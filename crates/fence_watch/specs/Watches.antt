@@ -56,18 +56,21 @@ abbrev pub HoldsBefore : Option ℕ → Option Point → List Guard → Type 0
 HoldsBefore None before guards = ⊤
 HoldsBefore (Some id) before guards = AllByRecursion (λ (g : Guard). has_id id g.inside ≡ lies_in g.fence before) guards
 
--- the events that a cell gives
-abbrev pub events_by : Walked → List Guard → List Event
-events_by walked guards = crossings_by walked.at (object_of walked.cell) walked.before walked.after (fences_of guards)
+-- a step of this number, in which an object, if there is one, goes from one place to another
+pub record StepsBy (at : ℕ) (object : Option ℕ) (before after : Option Point) (old new : WatchView) : Type 0 where
+  pub events : new.events ≡ old.events ++ crossings_by at object before after (fences_of old.guards)
+  pub guards : new.guards ≡ map (guard_behind object before after) old.guards
 
 -- a step along a cell
-pub record Steps (walked : Walked) (old new : WatchView) : Type 0 where
-  pub events : new.events ≡ old.events ++ events_by walked old.guards
-  pub guards : new.guards ≡ map (guard_behind (object_of walked.cell) walked.before walked.after) old.guards
+abbrev pub Steps : Walked → WatchView → WatchView → Type 0
+Steps walked old new = StepsBy walked.at (object_of walked.cell) walked.before walked.after old new
 
--- the events would be too many
+-- with such a step the events would be too many
+abbrev pub IsOverBy : ℕ → Option ℕ → Option Point → Option Point → WatchView → Type 0
+IsOverBy at object before after old = most_events < length old.events + length (crossings_by at object before after (fences_of old.guards))
+
 abbrev pub IsOver : Walked → WatchView → Type 0
-IsOver walked old = most_events < length old.events + length (events_by walked old.guards)
+IsOver walked old = IsOverBy walked.at (object_of walked.cell) walked.before walked.after old
 
 -- a fence with the ids of a world's objects in it
 abbrev pub guard_in : World → Fence → Guard

@@ -1,10 +1,13 @@
 //! How many are inside each fence, and what crossings make of that.
 ghost use Rattle.std.specs.Prelude.{◌≡◌, ◌≤◌, ◌+◌, ◌-◌, ◌++◌, length, map, Some, vec_len, vec_capacity, OnOk, OnErr, IfOk};
+ghost use Rattle.fence_watch.specs.Fences.{inside_of};
+ghost use Rattle.fence_watch.specs.Tallies.{count_in};
 ghost use Rattle.fence_watch.specs.Passages.{turns_in, turns_of, event_by};
 ghost use Rattle.fence_watch.specs.Counts.{one_more, uncounted, count_by, counted_by, counted_in, said_by, said_in};
 
 use crate::fences::{Crossing, Event, Fence};
 use crate::passages::Pair;
+use plain_list::Member;
 use std::alloc::{AllocError, Global};
 
 /// A fence, and how many objects are inside it.
@@ -33,6 +36,36 @@ pub(crate) fn uncounted(alloc: Global, fences: &[Fence]) -> Result<Vec<FenceCoun
         })?;
     }
     Ok(counts)
+}
+
+/// Fences, and how many of these objects are inside each.
+pub(crate) fn counted(
+    alloc: Global,
+    fences: &[Fence],
+    members: &[Member],
+) -> Result<Vec<FenceCount>, AllocError>
+    ensures { IfOk result (λ counts. counts.items ≡ map (count_in members.now) fences.now) }
+{
+    let mut counts = Vec::new(alloc);
+    for fence in fences {
+        counts.push(FenceCount {
+            fence: *fence,
+            inside: number_inside(fence, members),
+        })?;
+    }
+    Ok(counts)
+}
+
+fn number_inside(fence: &Fence, members: &[Member]) -> u64
+    ensures { result ≡ length (inside_of members.now fence.now) }
+{
+    let mut number = 0;
+    for member in members {
+        if fence.region.has(member.at) {
+            number += 1;
+        }
+    }
+    number
 }
 
 /// Crosses as many fences as were counted. All memory is taken before anything is changed.

@@ -1,6 +1,6 @@
 //! Fences, and the events that they give.
 ghost use Rattle.std.specs.Prelude.{◌≡◌, IfOk};
-ghost use Rattle.fence_watch.specs.Fences.{AreFences};
+ghost use Rattle.fence_watch.specs.Fences.{AreFences, has_fence};
 
 use std::alloc::Global;
 use std::marker::Model;
@@ -15,6 +15,12 @@ pub struct Fence {
 
 /// The most fences that are watched at once.
 pub(crate) const MOST_FENCES: usize = 256;
+
+pub(crate) fn has_fence(fences: &[Fence], id: u64) -> bool
+    ensures { result ≡ has_fence id fences.now }
+{
+    fences.iter().any(|fence| fence.id == id)
+}
 
 /// At most 256 fences, each id once, in the order in which they were given.
 #[derive(Drop)]

@@ -12,6 +12,7 @@ mod fences;
 mod guards;
 mod hints;
 mod ids;
+mod making;
 mod passages;
 mod rows;
 mod slabs;
@@ -20,6 +21,7 @@ mod watch;
 
 pub use counts::FenceCount;
 pub use fences::{Crossing, Event, Fence, Fences};
+pub use making::BadFences;
 pub use rows::read_fences;
 pub use tally::Tally;
 pub use watch::{Watch, WatchFault};

@@ -17,6 +17,15 @@ pub(crate) struct Chart {
     lines: Slabs,
 }
 
+/// With the step of this number an object goes from one place to another: nowhere, where it isn't there yet, or isn't there any more.
+#[derive(Clone, Copy)]
+pub(crate) struct Went {
+    pub(crate) at: u64,
+    pub(crate) id: u64,
+    pub(crate) before: Option<Point>,
+    pub(crate) after: Option<Point>,
+}
+
 /// Of 64 fences, a bit for each: which an object was in, and is in.
 #[derive(Clone, Copy)]
 pub(crate) struct Pair {

@@ -2,9 +2,9 @@
 ghost use Rattle.std.specs.Prelude.{◌≡◌, ◌≢◌, ◌∷◌, [], Ok, Err, IfOk, IfErr, MatchOption, length};
 ghost use Rattle.csv.specs.Records.{fields_of};
 ghost use Rattle.csv_rows.specs.Tables.{is_header_of};
-ghost use Rattle.fence_watch.specs.FenceRows.{fence_of, fence_at, fence_table, fences_of_text, has_fence};
+ghost use Rattle.fence_watch.specs.FenceRows.{fence_of, fence_at, fence_table, fences_of_text};
 
-use crate::fences::{Fence, Fences, MOST_FENCES};
+use crate::fences::{Fence, Fences, MOST_FENCES, has_fence};
 use csv::ByteRecord;
 use csv_rows::{
     COORDINATE, ID, ReadsRow, RowsFault, Wrong, at_least, field_in, is_text, number_at, point_of,
@@ -102,12 +102,6 @@ fn fence_of(earlier: &[Fence], fields: &ByteRecord) -> Result<Fence, Wrong>
         return Err(Wrong::Column(1));
     }
     fence_at(id, &fields)
-}
-
-fn has_fence(fences: &[Fence], id: u64) -> bool
-    ensures { result ≡ has_fence id fences.now }
-{
-    fences.iter().any(|fence| fence.id == id)
 }
 
 // The fence with this id that columns 2 to 5 say, or the leftmost of them at fault.

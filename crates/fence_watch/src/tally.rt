@@ -1,26 +1,31 @@
 //! A tally: fences, how many are inside, and who crossed.
 ghost use Rattle.std.specs.Prelude.{◌≡◌, ◌≤◌, ◌↔◌, ℕ, List, [], ◌∷◌, ◌++◌, length, map};
-ghost use Rattle.std.specs.Prelude.{Err, true, IfOk, OnOk, OnErr};
+ghost use Rattle.std.specs.Prelude.{Err, Some, true, IfOk, OnOk, OnErr};
 ghost use Rattle.cell_format.specs.declared.cell.Cell.{Cell};
+ghost use Rattle.plain_list.specs.World.{World};
+ghost use Rattle.plain_list.specs.declared.ops.Op.{Op};
+ghost use Rattle.plain_list.specs.Answer.{answer_of, after_of};
 ghost use Rattle.recovery.specs.Walks.{object_of, IsNextWalked};
 ghost use Rattle.fence_watch.specs.declared.fences.Fence.{Fence};
 ghost use Rattle.fence_watch.specs.declared.fences.Event.{Event};
 ghost use Rattle.log_state.specs.Recovers.{state_of};
-ghost use Rattle.fence_watch.specs.Crossings.{crossings};
+ghost use Rattle.fence_watch.specs.Crossings.{crossings, crossings_from, world_after_cells};
 ghost use Rattle.fence_watch.specs.Passages.{ShowsPassage};
 ghost use Rattle.fence_watch.specs.Watches.{most_events};
 ghost use Rattle.fence_watch.specs.Counts.{fences_counted};
-ghost use Rattle.fence_watch.specs.Tallies.{Shows, Tallies, TalliesCells, IsPast, count_in};
+ghost use Rattle.fence_watch.specs.Tallies.{Shows, Tallies, TalliesBy, TalliesFrom, TalliesCells, IsNextFrom, IsPast, IsPastBy, count_in};
+ghost use Rattle.fence_watch.specs.Tallies.{FollowsWorld, IsStepOf};
 
-use crate::counts::{FenceCount, Step, pass_counted, uncounted};
+use crate::counts::{FenceCount, Step, counted, pass_counted, uncounted};
 use crate::fences::{Event, Fences};
-use crate::passages::{Chart, Pair, crossed};
+use crate::passages::{Chart, Pair, Went, crossed};
 use crate::watch::{WatchFault, object_of};
+use plain_list::World;
 use recovery::Walked;
 use std::alloc::Global;
 use std::marker::Model;
 use std::mem::replace;
-use zorder::Memory;
+use zorder::{Memory, Point};
 
 /// Fences along a log, and how many are inside each: no ids are kept, so a step costs the same in whatever order they come.
 #[derive(Drop)]
@@ -54,12 +59,26 @@ impl Tally {
         })
     }
 
+    /// No step was made yet, and a world's objects are inside. It looks at each of them for each fence.
+    pub fn over(alloc: Global, fences: &Fences, world: &World) -> Result<Tally, Memory>
+        ensures from { IfOk result (λ t. (at : ℕ) → TalliesFrom at world.now [] [] fences.now t) }
+        ensures world { IfOk result (λ t. FollowsWorld world.now fences.now t) }
+    {
+        Ok(Tally {
+            counts: counted(alloc, fences.as_slice(), world.as_slice())?,
+            chart: Chart::new(alloc, fences.as_slice())?,
+            events: Vec::new(alloc),
+        })
+    }
+
     /// The events so far, without those that were taken.
     pub fn events(&self) -> &[Event]
         ensures events { result.now ≡ self.now.events }
         ensures few { length self.now.events ≤ most_events }
         ensures follows { (taken : List Event) (cells : List Cell) (fences : List Fence) → TalliesCells taken cells fences self.now
             → taken ++ result.now ≡ crossings cells fences }
+        ensures from { (at : ℕ) (world : World) (taken : List Event) (cells : List Cell) (fences : List Fence)
+            → TalliesFrom at world taken cells fences self.now → taken ++ result.now ≡ crossings_from at world cells fences }
     {
         self.events.as_slice()
     }
@@ -69,6 +88,9 @@ impl Tally {
         ensures counts { result.now ≡ self.now.counts }
         ensures follows { (w : ℕ) (taken : List Event) (cells : List Cell) (fences : List Fence) → TalliesCells taken cells fences self.now
             → result.now ≡ map (count_in (state_of w cells).world) fences }
+        ensures from { (at : ℕ) (world : World) (taken : List Event) (cells : List Cell) (fences : List Fence)
+            → TalliesFrom at world taken cells fences self.now → result.now ≡ map (count_in (world_after_cells world cells)) fences }
+        ensures world { (world : World) (fences : List Fence) → FollowsWorld world fences self.now → result.now ≡ map (count_in world) fences }
     {
         self.counts.as_slice()
     }
@@ -78,6 +100,12 @@ impl Tally {
         ensures ok { OnOk result (Tallies walked.now self.old self.new) }
         ensures follows { OnOk result ((w : ℕ) (taken : List Event) (cells : List Cell) (fences : List Fence) → TalliesCells taken cells fences self.old
             → IsNextWalked w cells walked.now → TalliesCells taken (cells ++ walked.now.cell ∷ []) fences self.new) }
+        ensures from { OnOk result ((at : ℕ) (world : World) (taken : List Event) (cells : List Cell) (fences : List Fence)
+            → TalliesFrom at world taken cells fences self.old → IsNextFrom at world cells walked.now
+            → TalliesFrom at world taken (cells ++ walked.now.cell ∷ []) fences self.new) }
+        ensures behind { OnOk result ((w : ℕ) (front : List Cell) (taken : List Event) (cells : List Cell) (fences : List Fence)
+            → TalliesFrom (length front) (state_of w front).world taken cells fences self.old → IsNextWalked w (front ++ cells) walked.now
+            → TalliesFrom (length front) (state_of w front).world taken (cells ++ walked.now.cell ∷ []) fences self.new) }
         ensures err { OnErr result (self.new ≡ self.old) }
         ensures too_many { (result ≡ Err WatchFault.TooMany) ↔ IsPast walked.now self.old }
     {
@@ -86,8 +114,35 @@ impl Tally {
         let Some(id) = object_of(&walked.cell) else {
             return Ok(());
         };
-        let passage = self.passage(walked);
-        self.pass(walked, id, &passage)
+        self.moved(walked.at, id, walked.before, walked.after)
+    }
+
+    /// Goes on with a step of a program's own: an object went from one place to another. It is nowhere before it is put, and after it was dropped.
+    ///
+    /// The number is the program's, and stands in the events of this step: a place in its history, say.
+    pub fn moved(
+        &mut self,
+        at: u64,
+        id: u64,
+        before: Option<Point>,
+        after: Option<Point>,
+    ) -> Result<(), WatchFault>
+        ensures ok { OnOk result (TalliesBy at (Some id) before after self.old self.new) }
+        ensures world { OnOk result ((world : World) (op : Op) (fences : List Fence) → FollowsWorld world fences self.old
+            → IsStepOf id before after op (answer_of world op) → FollowsWorld (after_of world op) fences self.new) }
+        ensures err { OnErr result (self.new ≡ self.old) }
+        ensures too_many { (result ≡ Err WatchFault.TooMany) ↔ IsPastBy at (Some id) before after self.old }
+    {
+        let passage = self.passage(before, after);
+        self.pass(
+            &Went {
+                at,
+                id,
+                before,
+                after,
+            },
+            &passage,
+        )
     }
 
     /// Takes the events out, so that there is room for as many again. How many are inside stays.
@@ -96,36 +151,35 @@ impl Tally {
         ensures rest { self.new ≡ record { counts = self.old.counts; events = [] } }
         ensures follows { (taken : List Event) (cells : List Cell) (fences : List Fence) → TalliesCells taken cells fences self.old
             → TalliesCells (taken ++ result.items) cells fences self.new }
+        ensures from { (at : ℕ) (world : World) (taken : List Event) (cells : List Cell) (fences : List Fence)
+            → TalliesFrom at world taken cells fences self.old → TalliesFrom at world (taken ++ result.items) cells fences self.new }
+        ensures world { (world : World) (fences : List Fence) → FollowsWorld world fences self.old → FollowsWorld world fences self.new }
     {
         replace(&mut self.events, Vec::new(alloc))
     }
 
-    /// How each fence is crossed with a cell.
-    pub(crate) fn passage(&self, walked: &Walked) -> [Pair; 4]
-        ensures { ShowsPassage walked.now.before walked.now.after (fences_counted self.now.counts) result }
+    /// How each fence is crossed between two places.
+    pub(crate) fn passage(&self, before: Option<Point>, after: Option<Point>) -> [Pair; 4]
+        ensures { ShowsPassage before after (fences_counted self.now.counts) result }
     {
-        self.chart.passage(walked.before, walked.after)
+        self.chart.passage(before, after)
     }
 
-    /// Whether there would be too many events with a cell that changes this object, and crosses fences so.
-    pub(crate) fn is_past(&self, walked: &Walked, id: u64, passage: &[Pair; 4]) -> bool
-        requires { Shows walked.now id self.now passage.now }
-        ensures { (result ≡ true) ↔ IsPast walked.now self.now }
+    /// Whether there would be too many events with a step that crosses fences so.
+    pub(crate) fn is_past(&self, went: &Went, passage: &[Pair; 4]) -> bool
+        requires { Shows went.now self.now passage.now }
+        ensures { (result ≡ true) ↔ IsPastBy went.now.at (Some went.now.id) went.now.before went.now.after self.now }
     {
         self.events.len() + crossed(passage) > MOST_EVENTS
     }
 
-    /// What `step` does of a cell that changes this object, and crosses fences so.
-    pub(crate) fn pass(
-        &mut self,
-        walked: &Walked,
-        id: u64,
-        passage: &[Pair; 4],
-    ) -> Result<(), WatchFault>
-        requires { Shows walked.now id self.old passage.now }
-        ensures ok { OnOk result (Tallies walked.now self.old self.new) }
+    /// What `moved` does of a step that crosses fences so.
+    pub(crate) fn pass(&mut self, went: &Went, passage: &[Pair; 4]) -> Result<(), WatchFault>
+        requires { Shows went.now self.old passage.now }
+        ensures ok { OnOk result (TalliesBy went.now.at (Some went.now.id) went.now.before went.now.after self.old self.new) }
         ensures err { OnErr result (self.new ≡ self.old) }
-        ensures too_many { (result ≡ Err WatchFault.TooMany) ↔ IsPast walked.now self.old }
+        ensures too_many { (result ≡ Err WatchFault.TooMany)
+            ↔ IsPastBy went.now.at (Some went.now.id) went.now.before went.now.after self.old }
     {
         let told = self.events.len();
         let crossed = crossed(passage);
@@ -135,7 +189,10 @@ impl Tally {
         if told + crossed > MOST_EVENTS {
             return Err(WatchFault::TooMany);
         }
-        let step = Step { at: walked.at, id };
+        let step = Step {
+            at: went.at,
+            id: went.id,
+        };
         let Ok(()) = pass_counted(&mut self.counts, passage, step, crossed, &mut self.events) else {
             return Err(WatchFault::Memory);
         };

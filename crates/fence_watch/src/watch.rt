@@ -7,19 +7,19 @@ ghost use Rattle.fence_watch.specs.declared.fences.Fence.{Fence};
 ghost use Rattle.log_state.specs.Recovers.{state_of};
 ghost use Rattle.fence_watch.specs.Fences.{AreOthers};
 ghost use Rattle.fence_watch.specs.Crossings.{crossings};
-ghost use Rattle.fence_watch.specs.Watches.{Steps, IsOver, HoldsBefore, FollowsCells, IsInside, inside_at, most_events};
+ghost use Rattle.fence_watch.specs.Watches.{Steps, StepsBy, IsOver, IsOverBy, HoldsBefore, FollowsCells, IsInside, inside_at, most_events};
 ghost use Rattle.fence_watch.specs.Guards.{AllRising, guards_of, crossed_by};
-ghost use Rattle.fence_watch.specs.Tallies.{IsPast, Shows, Tallies};
+ghost use Rattle.fence_watch.specs.Tallies.{IsPastBy, Shows, TalliesBy};
 
 use crate::fences::{Event, Fences};
 use crate::guards::{Guarded, cross, guard, make_room};
-use crate::passages::Pair;
+use crate::passages::{Pair, Went};
 use crate::tally::Tally;
 use cell_format::Cell;
 use recovery::Walked;
 use std::alloc::Global;
 use std::marker::Model;
-use zorder::Memory;
+use zorder::{Memory, Point};
 
 /// Why a step wasn't made.
 #[derive(Clone, Copy, Debug, PartialEq, Eq)]
@@ -102,46 +102,57 @@ impl Watch {
         let Some(id) = object_of(&walked.cell) else {
             return Ok(());
         };
-        self.follow(walked, id)
+        self.moved(walked.at, id, walked.before, walked.after)
     }
 
-    // What `step` does of a cell that changes this object.
-    fn follow(&mut self, walked: &Walked, id: u64) -> Result<(), WatchFault>
-        requires is { object_of walked.now.cell ≡ Some id }
-        requires holds { HoldsBefore (object_of walked.now.cell) walked.now.before self.old.guards }
-        ensures ok { OnOk result (Steps walked.now self.old self.new) }
+    /// Goes on with a step of a program's own, as `Tally::moved` does.
+    pub fn moved(
+        &mut self,
+        at: u64,
+        id: u64,
+        before: Option<Point>,
+        after: Option<Point>,
+    ) -> Result<(), WatchFault>
+        requires { HoldsBefore (Some id) before self.old.guards }
+        ensures ok { OnOk result (StepsBy at (Some id) before after self.old self.new) }
         ensures err { OnErr result (self.new ≡ self.old) }
-        ensures too_many { (result ≡ Err WatchFault.TooMany) ↔ IsOver walked.now self.old }
+        ensures too_many { (result ≡ Err WatchFault.TooMany) ↔ IsOverBy at (Some id) before after self.old }
     {
-        let passage = self.tally.passage(walked);
-        pass(&mut self.guards, &mut self.tally, walked, id, &passage)
+        let passage = self.tally.passage(before, after);
+        let went = Went {
+            at,
+            id,
+            before,
+            after,
+        };
+        pass(&mut self.guards, &mut self.tally, &went, &passage)
     }
 }
 
-// Goes along a cell that changes this object, and crosses fences so. All memory is taken before anything is changed.
+// Makes a step that crosses fences so. All memory is taken before anything is changed.
 fn pass(
     guards: &mut [Guarded],
     tally: &mut Tally,
-    walked: &Walked,
-    id: u64,
+    went: &Went,
     passage: &[Pair; 4],
 ) -> Result<(), WatchFault>
-    requires shows { Shows walked.now id tally.old passage.now }
+    requires shows { Shows went.now tally.old passage.now }
     requires rising { AllRising (guards_of guards.old) }
-    ensures guards { OnOk result (guards_of guards.new ≡ crossed_by id guards.old passage.now) }
-    ensures tally { OnOk result (Tallies walked.now tally.old tally.new) }
+    ensures guards { OnOk result (guards_of guards.new ≡ crossed_by went.now.id guards.old passage.now) }
+    ensures tally { OnOk result (TalliesBy went.now.at (Some went.now.id) went.now.before went.now.after tally.old tally.new) }
     ensures same_guards { OnErr result (guards_of guards.new ≡ guards_of guards.old) }
     ensures same_tally { OnErr result (tally.new ≡ tally.old) }
-    ensures too_many { (result ≡ Err WatchFault.TooMany) ↔ IsPast walked.now tally.old }
+    ensures too_many { (result ≡ Err WatchFault.TooMany)
+        ↔ IsPastBy went.now.at (Some went.now.id) went.now.before went.now.after tally.old }
 {
-    if tally.is_past(walked, id, passage) {
+    if tally.is_past(went, passage) {
         return Err(WatchFault::TooMany);
     }
     let Ok(()) = make_room(guards, passage) else {
         return Err(WatchFault::Memory);
     };
-    tally.pass(walked, id, passage)?;
-    cross(guards, passage, id);
+    tally.pass(went, passage)?;
+    cross(guards, passage, went.id);
     Ok(())
 }
 

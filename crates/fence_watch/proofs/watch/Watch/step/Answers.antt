@@ -1,4 +1,4 @@
-use Rattle.std.proofs.Common.{◌≡◌, ◌∙◌, ℕ, List, [], ◌∷◌, ◌++◌, map, length, Option, None, Result, Ok, Err, OnOk, refl, sym, ap, arith, append-nil}
+use Rattle.std.proofs.Common.{◌≡◌, ◌∙◌, ℕ, List, [], ◌∷◌, ◌++◌, map, length, Option, None, Result, Ok, Err, OnOk, refl, sym, ap, subst, arith, append-nil}
 use Rattle.zorder.specs.declared.points.Point.{Point}
 use Rattle.cell_format.specs.declared.cell.Cell.{Cell}
 use Rattle.recovery.specs.declared.walked.Walked.{Walked}
@@ -7,16 +7,19 @@ use Rattle.fence_watch.specs.declared.fences.Fence.{Fence}
 use Rattle.fence_watch.specs.declared.watch.WatchFault.{WatchFault}
 use Rattle.fence_watch.specs.declared.fences.Event.{Event}
 use Rattle.fence_watch.specs.Crossings.{crossings_by}
-use Rattle.fence_watch.specs.Watches.{Guard, WatchView, fences_of, guard_behind, Steps, FollowsCells}
+use Rattle.fence_watch.specs.Watches.{Guard, WatchView, fences_of, guard_behind, HoldsBefore, Steps, StepsBy, IsOverBy, FollowsCells}
 use Rattle.fence_watch.proofs.Following.{follows-step}
 use Rattle.fence_watch.proofs.watch.Watch.step.Goals as goal
 
 abbrev GoesOn : Walked → WatchView → WatchView → Type 0
 GoesOn walked old new = (w : ℕ) (cells : List Cell) (fences : List Fence) → FollowsCells cells fences old → IsNextWalked w cells walked → FollowsCells (cells ++ walked.cell ∷ []) fences new
 
-goes_on : (r : Result (Unit {0}) WatchFault) (walked : Walked) (old new : WatchView) → OnOk r (Steps walked old new) → OnOk r (GoesOn walked old new)
-goes_on (Ok x) walked old new steps = λ w cells fences f n. follows-step w cells fences walked old new f n steps
-goes_on (Err e) walked old new steps = tt
+with_ok : {A B : Type 0} (r : Result (Unit {0}) WatchFault) → OnOk r A → (A → B) → OnOk r B
+with_ok (Ok x) a f = f a
+with_ok (Err e) a f = tt
+
+on : (walked : Walked) (old new : WatchView) → Steps walked old new → GoesOn walked old new
+on walked old new steps w cells fences f n = follows-step w cells fences walked old new f n steps
 
 nothing : (o : Option ℕ) → o ≡ None → (at : ℕ) (before after : Option Point) (fences : List Fence) → crossings_by at o before after fences ≡ []
 nothing o e at before after fences = ap (λ (x : Option ℕ). crossings_by at x before after fences) e
@@ -35,19 +38,37 @@ stays walked v none = record {
   guards = nobody (object_of walked.cell) none walked.before walked.after v.guards;
 }
 
-pub returns-clause-follows : goal.returns-clause-follows
-returns-clause-follows c = goes_on c.follow.result c.args.walked.now c.args.self.now c.follow.new.self c.follow.ensures.ok
+pub moved-requires : goal.moved-requires
+moved-requires c = subst (λ (o : Option ℕ). HoldsBefore o c.args.walked.now.before c.args.self.now.guards) (sym c.in-Some.ensures) c.requires.holds
 
-pub returns-in_default-clause-ok : goal.returns-in_default-clause-ok
-returns-in_default-clause-ok c = stays c.args.walked.now c.args.self.now (sym c.in_default.ensures)
+pub returns : goal.returns
+returns c =
+    let walked = c.args.walked.now in
+    let old = c.args.self.now in
+    let is = sym c.in-Some.ensures in
+    let ok = with_ok c.moved.result c.moved.ensures.ok (subst (λ (o : Option ℕ). StepsBy walked.at o walked.before walked.after old c.moved.new.self) (sym is)) in
+    record {
+      ok = ok;
+      follows = with_ok c.moved.result ok (on walked old c.moved.new.self);
+      err = c.moved.ensures.err;
+      too_many = (
+        (λ e. subst (λ (o : Option ℕ). IsOverBy walked.at o walked.before walked.after old) (sym is) (c.moved.ensures.too_many.0 e)),
+        (λ over. c.moved.ensures.too_many.1 (subst (λ (o : Option ℕ). IsOverBy walked.at o walked.before walked.after old) is over)),
+      );
+    }
 
-pub returns-in_default-clause-follows : goal.returns-in_default-clause-follows
-returns-in_default-clause-follows c = λ w cells fences f n.
-    follows-step w cells fences c.args.walked.now c.args.self.now c.args.self.now f n (stays c.args.walked.now c.args.self.now (sym c.in_default.ensures))
-
-pub returns-in_default-clause-too_many : goal.returns-in_default-clause-too_many
-returns-in_default-clause-too_many c =
-    let w = c.args.walked.now in
-    let v = c.args.self.now in
+pub returns-in_default : goal.returns-in_default
+returns-in_default c =
+    let walked = c.args.walked.now in
+    let old = c.args.self.now in
     let none = sym c.in_default.ensures in
-    ((λ e. absurd (cc e)), (λ over. absurd (omega (arith, over, ap length (nothing (object_of w.cell) none w.at w.before w.after (fences_of v.guards)), c.events-events.ensures.few))))
+    let steps : Steps walked old old = stays walked old none in
+    record {
+      ok = steps;
+      follows = on walked old old steps;
+      err = tt;
+      too_many = (
+        (λ e. absurd (cc e)),
+        (λ over. absurd (omega (arith, over, ap length (nothing (object_of walked.cell) none walked.at walked.before walked.after (fences_of old.guards)), c.events-events.ensures.few))),
+      );
+    }

@@ -1,23 +1,21 @@
-use Rattle.std.proofs.Common.{◌≡◌, ◌∙◌, ◌++◌, List, length, map, take, drop, OnOk, OnErr, sym, ap, subst}
-use Rattle.recovery.specs.Walks.{object_of}
+use Rattle.std.proofs.Common.{◌≡◌, ◌∙◌, ◌++◌, List, length, map, take, drop, OnOk, OnErr, Some, refl, sym, ap, subst}
 use Rattle.fence_watch.specs.declared.fences.Fence.{Fence}
 use Rattle.fence_watch.specs.declared.guards.Guarded.{Guarded}
 use Rattle.fence_watch.specs.Guards.{AllRising, guards_of, guards_along}
 use Rattle.fence_watch.specs.Kept.{Keeps}
 use Rattle.fence_watch.specs.Passages.{ShowsPassage, turns_of}
 use Rattle.fence_watch.specs.Tallies.{TallyView}
-use Rattle.fence_watch.specs.Watches.{Guard, WatchView, HoldsBefore, Steps, IsOver, guard_behind}
+use Rattle.fence_watch.specs.Watches.{Guard, WatchView, HoldsBefore, StepsBy, IsOverBy, guard_behind}
 use Rattle.fence_watch.proofs.Guarding.{past-over, over-past, steps-over, keeps-either, on-ok, on-both, on-err, on-neither}
 use Rattle.fence_watch.proofs.Passing.{guards-shown}
 use Rattle.fence_watch.proofs.Tallying.{rewritten}
-use Rattle.fence_watch.proofs.watch.Watch.follow.Goals as goal
+use Rattle.fence_watch.proofs.watch.Watch.moved.Goals as goal
 
 pub pass-requires-clause-rising : goal.pass-requires-clause-rising
 pass-requires-clause-rising c = subst (λ (l : List Guarded). AllRising (guards_of l)) (sym c.deref_mut.ensures.value) c.self.invariant.rising
 
 pub invariant_of-self : goal.invariant_of-self
 invariant_of-self c =
-    let w = c.args.walked.now in
     let p = c.passage-passage.result in
     let guards : List Guard = guards_of c.self.inside.guards.items in
     let t : TallyView = c.self.inside.tally in
@@ -25,16 +23,15 @@ invariant_of-self c =
     let r = c.pass.result in
     let new : List Guard = guards_of (take c.self.inside.guards.len (c.pass.new.guards ++ drop (length c.pass.new.guards) c.self.inside.guards.items)) in
     let kept : new ≡ guards_of c.pass.new.guards = ap guards_of (rewritten c.self.inside.guards.len c.pass.new.guards c.self.inside.guards.items (c.pass.auto.guards ∙ c.deref_mut.ensures.len)) in
-    let behind : OnOk r (new ≡ map (guard_behind (object_of w.cell) w.before w.after) guards) =
+    let behind : OnOk r (new ≡ map (guard_behind (Some c.args.id) c.args.before c.args.after) guards) =
     on-ok r c.pass.ensures.guards
     (λ is. kept ∙ is ∙ ap (λ (l : List Guarded). guards_along c.args.id (guards_of l) (turns_of p)) c.deref_mut.ensures.value
-    ∙ guards-shown c.args.id (object_of w.cell) w.before w.after guards p c.requires.is keeps.few (subst (λ (fs : List Fence). ShowsPassage w.before w.after fs p) (sym keeps.fences) c.passage-passage.ensures)) in
+    ∙ guards-shown c.args.id (Some c.args.id) c.args.before c.args.after guards p refl keeps.few (subst (λ (fs : List Fence). ShowsPassage c.args.before c.args.after fs p) (sym keeps.fences) c.passage-passage.ensures)) in
     let same : OnErr r (new ≡ guards) = on-err r c.pass.ensures.same_guards (λ is. kept ∙ is ∙ ap guards_of c.deref_mut.ensures.value) in
-    keeps-either r w guards new t c.pass.new.tally keeps (subst (λ (x : WatchView). HoldsBefore (object_of w.cell) w.before x.guards) (sym c.self.view_is) c.requires.holds) behind c.pass.ensures.tally same c.pass.ensures.same_tally
+    keeps-either r c.args.at (Some c.args.id) c.args.before c.args.after guards new t c.pass.new.tally keeps (subst (λ (x : WatchView). HoldsBefore (Some c.args.id) c.args.before x.guards) (sym c.self.view_is) c.requires) behind c.pass.ensures.tally same c.pass.ensures.same_tally
 
 pub returns-clause-ok : goal.returns-clause-ok
 returns-clause-ok c =
-    let w = c.args.walked.now in
     let p = c.passage-passage.result in
     let guards : List Guard = guards_of c.self.inside.guards.items in
     let t : TallyView = c.self.inside.tally in
@@ -42,12 +39,12 @@ returns-clause-ok c =
     let r = c.pass.result in
     let new : List Guard = guards_of (take c.self.inside.guards.len (c.pass.new.guards ++ drop (length c.pass.new.guards) c.self.inside.guards.items)) in
     let kept : new ≡ guards_of c.pass.new.guards = ap guards_of (rewritten c.self.inside.guards.len c.pass.new.guards c.self.inside.guards.items (c.pass.auto.guards ∙ c.deref_mut.ensures.len)) in
-    let behind : OnOk r (new ≡ map (guard_behind (object_of w.cell) w.before w.after) guards) =
+    let behind : OnOk r (new ≡ map (guard_behind (Some c.args.id) c.args.before c.args.after) guards) =
     on-ok r c.pass.ensures.guards
     (λ is. kept ∙ is ∙ ap (λ (l : List Guarded). guards_along c.args.id (guards_of l) (turns_of p)) c.deref_mut.ensures.value
-    ∙ guards-shown c.args.id (object_of w.cell) w.before w.after guards p c.requires.is keeps.few (subst (λ (fs : List Fence). ShowsPassage w.before w.after fs p) (sym keeps.fences) c.passage-passage.ensures)) in
+    ∙ guards-shown c.args.id (Some c.args.id) c.args.before c.args.after guards p refl keeps.few (subst (λ (fs : List Fence). ShowsPassage c.args.before c.args.after fs p) (sym keeps.fences) c.passage-passage.ensures)) in
     on-both r behind c.pass.ensures.tally
-    (λ is tallies. subst (λ (x : WatchView). Steps w x (record { guards = new; events = c.pass.new.tally.events })) c.self.view_is (steps-over w guards t keeps.fences new c.pass.new.tally is tallies))
+    (λ is tallies. subst (λ (x : WatchView). StepsBy c.args.at (Some c.args.id) c.args.before c.args.after x (record { guards = new; events = c.pass.new.tally.events })) c.self.view_is (steps-over c.args.at (Some c.args.id) c.args.before c.args.after guards t keeps.fences new c.pass.new.tally is tallies))
 
 pub returns-clause-err : goal.returns-clause-err
 returns-clause-err c =
@@ -60,10 +57,9 @@ returns-clause-err c =
 
 pub returns-clause-too_many : goal.returns-clause-too_many
 returns-clause-too_many c =
-    let w = c.args.walked.now in
     let guards : List Guard = guards_of c.self.inside.guards.items in
     let t : TallyView = c.self.inside.tally in
     let keeps : Keeps guards t = c.self.invariant in (
-      (λ e. subst (λ (x : WatchView). IsOver w x) c.self.view_is (over-past w guards t keeps.fences (c.pass.ensures.too_many.0 e))),
-      (λ over. c.pass.ensures.too_many.1 (past-over w guards t keeps.fences (subst (λ (x : WatchView). IsOver w x) (sym c.self.view_is) over))),
+      (λ e. subst (λ (x : WatchView). IsOverBy c.args.at (Some c.args.id) c.args.before c.args.after x) c.self.view_is (over-past c.args.at (Some c.args.id) c.args.before c.args.after guards t keeps.fences (c.pass.ensures.too_many.0 e))),
+      (λ over. c.pass.ensures.too_many.1 (past-over c.args.at (Some c.args.id) c.args.before c.args.after guards t keeps.fences (subst (λ (x : WatchView). IsOverBy c.args.at (Some c.args.id) c.args.before c.args.after x) (sym c.self.view_is) over))),
     )
