@@ -7,3 +7,4 @@ pub mod TurnLemmas
 pub mod CellTests
 pub mod CountLemmas
 pub mod OpenLemmas
+pub mod Growing

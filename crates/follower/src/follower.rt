@@ -52,8 +52,8 @@ pub struct Turned<D: LogDisk> {
 }
 
 impl<D: LogDisk> Follower<D> {
-    /// Makes a turn. The cells are the leader's, the same at each call. After a refusal there is no follower any more, and the drive may be
-    /// opened again.
+    /// Makes a turn. The cells are the leader's: those of the call before, or where its log has grown, more behind them (`goes_on`). After a
+    /// refusal there is no follower any more, and the drive may be opened again.
     pub fn turn(self, cells: &[Cell], turn: &Turn) -> Result<Turned<D>, FollowRefused<D>>
         requires holds { HoldsFirst D.drive cells.now self }
         requires sent { NamesSent (length self.state.packets) (length self.state.acks) turn.now }

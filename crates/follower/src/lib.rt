@@ -11,6 +11,7 @@
 mod comparing;
 mod faults;
 mod follower;
+mod laws;
 mod reopening;
 mod turn_rows;
 mod turns;
