@@ -10,11 +10,17 @@ use Rattle.commit_book.specs.BookView.{BookView}
 use Rattle.commit_book.specs.IsBook.{most_events, most_begun}
 use Rattle.commit_book.specs.declared.faults.RenewFault.{RenewFault}
 use Rattle.commit_book.specs.declared.faults.RenewFault.TheVariants.{Closed, Begun}
-pub use Rattle.commit_book.specs.declared.book.renewal.Room.{Room}
+use Rattle.commit_book.specs.declared.book.renewal.Room.{Room}
 
 -- the same leaves, bucket size and log, at the state that the history left, with no split open and no entry
 abbrev pub renewed : {D : Type 0} → ℕ → BookView D → BookView D
-renewed w b = record { leaves = b.leaves; opening = renewed_state w b.opening b.entries; entries = []; bucket = b.bucket; log = option_map renewed_log b.log }
+renewed w b = record {
+  leaves = b.leaves;
+  opening = renewed_state w b.opening b.entries;
+  entries = [];
+  bucket = b.bucket;
+  log = option_map renewed_log b.log;
+}
 
 -- why a book isn't renewed: an append has failed, or so many splits were begun
 abbrev pub renew_cause : Option ℕ → ℕ → Option RenewFault
