@@ -5,7 +5,6 @@ use Rattle.plain_list.specs.State.{State, IsLegal, state_after}
 use Rattle.plain_list.specs.History.{world_after, failed_cell}
 use Rattle.index_layer.specs.Stands.{Stands}
 use Rattle.disk_trait.specs.Drive.{Drive}
-use Rattle.split_log.specs.LogView.{most_cells}
 use Rattle.kept_log.specs.Journal.{cells_in, KeepsIn, IsSinceIn}
 use Rattle.kept_log.specs.Counts.{first_in}
 use Rattle.commit_book.specs.BookView.{BookView}
@@ -16,10 +15,14 @@ use Rattle.commit_book.specs.Room.{BeginsInRoom}
 abbrev pub most_events : ℕ
 most_events = 4194304
 
--- a state at which a book may begin: no split is open, and no more were begun than a log has cells
+-- the most splits that were begun before a book that begins: 2 ^ 62
+abbrev pub most_begun : ℕ
+most_begun = 4611686018427387904
+
+-- a state at which a book may begin: no split is open, and so few were begun that the numbers of those of its history fit in 64 bits
 pub record IsOpening (s : State) : Type 0 where
   pub rests : s.splits ≡ []
-  pub begun : s.begun ≤ most_cells
+  pub begun : s.begun ≤ most_begun
 
 -- The history is legal from the state at which the book began, the index stands for its world, with its leaves, and the base of each leaf
 -- whose split is open has exactly the rows that stood there when it was begun. Each split was begun where there was room. The log keeps the

@@ -7,6 +7,7 @@ pub mod History
 pub mod IsBook
 pub mod KeptBases
 pub mod Refusals
+pub mod Renewal
 pub mod Room
 pub mod SplitSteps
 pub mod Splits

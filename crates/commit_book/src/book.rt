@@ -16,6 +16,7 @@ ghost use Rattle.commit_book.specs.Events.{with_entry};
 ghost use Rattle.commit_book.specs.IsBook.{IsBook, AreBooks};
 ghost use Rattle.commit_book.specs.Refusals.{IsRefusedBy, IsMemory, IsMemoryOrDisk, IsNoFault, LeavesRefused, call_refusal, most_cells, update_refusal};
 
+mod renewal;
 mod splits;
 
 use crate::faults::BookFault;
@@ -29,6 +30,7 @@ use kept_log::Journal;
 use plain_list::{Answer, Entries, Entry, Lost, Op};
 use point_table::PointTable;
 use recovery::Opened;
+pub use renewal::Room;
 use std::alloc::Global;
 use std::marker::Model;
 use zorder::{Memory, Name};

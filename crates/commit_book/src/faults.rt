@@ -51,6 +51,21 @@ pub enum BookFault {
     },
 }
 
+/// Why a book wasn't renewed. It is as it was.
+#[derive(Clone, Copy, Debug, PartialEq, Eq)]
+pub enum RenewFault {
+    /// An earlier call answered `Disk` for this cell, so the history has ended.
+    Closed {
+        /// The cell whose append failed.
+        cell: u64,
+    },
+    /// So many splits were begun, in this history and before it, that the number of a further one need not fit in 64 bits.
+    Begun {
+        /// How many: more than 4,611,686,018,427,387,904.
+        splits: u64,
+    },
+}
+
 impl From<AllocError> for BookFault {
     ghost use Rattle.commit_book.specs.declared.faults.BookFault.TheVariants.{Memory};
 

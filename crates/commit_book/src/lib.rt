@@ -5,7 +5,8 @@
 //! open has the rows of its begin, and that the log, where there is one, keeps the history (`Book::events`, `book`). `update` and
 //! `snapshot` append one call each; `update` answers what one plain list answers there. `begin`, `install` and `abandon` append the
 //! steps of a split and leave the world. A refusal changes nothing, unless the drive failed: then the history ends with the step that
-//! was lost, and the book is closed. Each step is one `Step`: the change of the table waits for its cell and its entry.
+//! was lost, and the book is closed. Each step is one `Step`: the change of the table waits for its cell and its entry. `renew` begins an
+//! empty history where the one so far ends, and `room` tells how much more it takes.
 //!
 //! Not here: the objects by id and by key (`point_table`), how a log is opened (`recovery`), who may call, and when (`book_lock`), and how a bucket is cut (`split_prepare`).
 #![tactic(auto)]
@@ -18,5 +19,5 @@ mod opening;
 mod sending;
 mod steps;
 
-pub use book::{Book, BookParts, Done, Snapshot};
-pub use faults::BookFault;
+pub use book::{Book, BookParts, Done, Room, Snapshot};
+pub use faults::{BookFault, RenewFault};

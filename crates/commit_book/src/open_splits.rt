@@ -91,6 +91,13 @@ impl OpenSplits {
         Ok(())
     }
 
+    /// How many were begun.
+    pub(crate) fn begun(&self) -> u64
+        ensures { result ≡ self.now.begun }
+    {
+        self.begun
+    }
+
     /// The number of the split that is begun next.
     pub(crate) fn next_number(&self) -> u64
         requires { self.now.begun < 2 ^ 63 }

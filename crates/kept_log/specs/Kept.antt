@@ -28,7 +28,7 @@ pub record RecoversTo (w : ℕ) (s : State) (bytes : List ℕ) : Type 0 where
   pub recovers : Recovers w cells bytes
   pub state : at_rest (state_of w cells) ≡ s
 
--- the state at which an empty history goes on where this one ends: the splits that are still open are given up, and their numbers stay taken
+-- the state at which an empty history goes on where this one ends: the splits that are still open are given up, their numbers stay taken
 abbrev pub renewed_state : ℕ → State → List Entry → State
 renewed_state w s h = at_rest (state_after w s h)
 
@@ -53,8 +53,8 @@ abbrev pub found_state : Seen → State
 found_state seen = record { world = seen.world; leaves = seen.leaves; splits = []; begun = seen.begun }
 
 -- A log was opened at a state: where the drive's bytes were known, their cells left that state, and the file is the text of these cells alone.
--- No device call failed, the file is the one that was attached, and its bytes are known where they were. Each crash on the way left the cells, and
--- the newest version where it did before.
+-- No device call failed, the file is the one that was attached, and its bytes are known where they were. Each crash on the way left the
+-- cells, and the newest version where it did before.
 pub record IsOpened (w : ℕ) (s : State) (start now : Drive) : Type 0 where
   pub state : (bytes : List ℕ) (first : List Cell) → start.bytes ≡ Some bytes → Recovers w first bytes → at_rest (state_of w first) ≡ s
   pub log : (bytes : List ℕ) → start.bytes ≡ Some bytes → (cells : List Cell) × Recovers w cells bytes × IsLog w cells now

@@ -8,5 +8,6 @@ pub mod CallLemmas
 pub mod SplitLemmas
 pub mod LaneLemmas
 pub mod LanePasses
+pub mod Renewals
 pub mod RunLemmas
 pub mod SettleLemmas

@@ -5,5 +5,6 @@ pub mod Opens
 pub mod Calls
 pub mod Splits
 pub mod Lanes
+pub mod Renewals
 pub mod Runs
 pub mod Settles

@@ -1,5 +1,5 @@
 //! A book behind a lock.
-ghost use Rattle.std.specs.Prelude.{◌≡◌, ◌+◌, ◌<◌, ◌^◌, length, IfOk, IfErr, OnOk};
+ghost use Rattle.std.specs.Prelude.{◌≡◌, ◌+◌, ◌<◌, ◌^◌, length, Some, None, IfOk, IfErr, OnOk};
 ghost use Rattle.zorder.specs.Key.{IsPoint};
 ghost use Rattle.plain_list.specs.Answer.{FitsOp};
 ghost use Rattle.plain_list.specs.World.{places_of, IsWorld};
@@ -11,15 +11,16 @@ ghost use Rattle.commit_book.specs.IsBook.{IsBook, AreBooks};
 ghost use Rattle.commit_book.specs.Refusals.{IsRefusedBy, IsDisk, IsMemory, IsMemoryOrDisk, LeavesRefused, call_refusal, update_refusal, begin_refusal, install_refusal, abandon_refusal};
 ghost use Rattle.commit_book.specs.Answers.{IsUpdate, IsQuery, Notes, Replies, is_still_since};
 ghost use Rattle.commit_book.specs.BookView.{StandsAfter};
+ghost use Rattle.commit_book.specs.Renewal.{renewed, renew_refusal, room_of};
 ghost use Rattle.commit_book.specs.SplitSteps.{Begins, CanPrepare, Installs, Abandons};
 ghost use Rattle.sessions.specs.Shared.{HasWorld, StartsAs, TellsFull};
 
 use crate::start::Start;
 use book_lock::Held;
-use commit_book::{Book, BookFault, Done, Snapshot};
+use commit_book::{Book, BookFault, Done, RenewFault, Room, Snapshot};
 use disk_trait::LogDisk;
 use index_layer::Index;
-use plain_list::Op;
+use plain_list::{Entries, Op};
 use split_prepare::{Prepared, SplitTicket};
 use std::alloc::{AllocFailed, Global};
 use std::marker::{Model, PhantomData};
@@ -83,6 +84,38 @@ impl<I: Index, D: LogDisk, O: Start> SharedBook<I, D, O> {
         ensures start { StartsAs D.drive O.unlogged O.is result.log }
     {
         Box::into_inner(self.book)
+    }
+
+    /// The book goes on with an empty history, and of its log another start is known. Where it isn't renewed it comes back.
+    pub(crate) fn renew<N: Start>(
+        self,
+        alloc: Global,
+    ) -> Result<(SharedBook<I, D, N>, Entries), (Book<I, D>, RenewFault)>
+        requires start { IsBook D.drive I.WIDTH self → StartsAs D.drive O.unlogged O.is self.log → StartsAs D.drive N.unlogged N.is (renewed I.WIDTH self).log }
+        ensures renewed { IfOk result (λ r. (r.0 ≡ renewed I.WIDTH self) × (r.1 ≡ self.entries) × (renew_refusal I.WIDTH self ≡ None)) }
+        ensures kept { IfErr result (λ e. (e.0 ≡ self) × (renew_refusal I.WIDTH self ≡ Some e.1)) }
+        ensures start { IfErr result (λ e. StartsAs D.drive O.unlogged O.is e.0.log) }
+        ensures book { IsBook D.drive I.WIDTH self }
+    {
+        let SharedBook { mut book, start: _ } = self;
+        match book.renew(alloc) {
+            Ok(entries) => Ok((
+                SharedBook {
+                    book,
+                    start: PhantomData,
+                },
+                entries,
+            )),
+            Err(cause) => Err((Box::into_inner(book), cause)),
+        }
+    }
+
+    /// As of the book.
+    pub(crate) fn room(&self) -> Room
+        ensures room { result ≡ room_of self.now }
+        ensures book { IsBook D.drive I.WIDTH self.now }
+    {
+        self.book.room()
     }
 
     /// The leaf that is to be split next, or that the book is closed.

@@ -7,6 +7,7 @@ ghost use Rattle.sessions.specs.Steps.{all_parts, MayGive, WasTaken, has_entry, 
 mod calls;
 mod lanes;
 mod passes;
+mod renewal;
 mod runs;
 mod settling;
 mod splits;
@@ -19,6 +20,7 @@ use commit_book::{Book, BookFault};
 use disk_trait::LogDisk;
 use index_layer::Index;
 pub use lanes::{KeptRow, Lane};
+pub use renewal::{NotRenewed, Renewed};
 use std::alloc::Global;
 use std::marker::Model;
 use std::sync::Wait;

@@ -6,7 +6,7 @@ ghost use Rattle.plain_list.specs.declared.entries.Entry.{Entry};
 ghost use Rattle.commit_book.specs.BookView.{next_number};
 ghost use Rattle.commit_book.specs.Crash.{LeavesCells};
 ghost use Rattle.commit_book.specs.IsBook.{AreBooks};
-ghost use Rattle.commit_book.specs.Refusals.{IsRefusedBy, IsDisk, IsMemoryOrDisk, IsNoFault, LeavesRefused, begin_refusal, room_refusal, leaf_refusal, end_refusal, has_base, prepared_refusal, abandon_refusal};
+ghost use Rattle.commit_book.specs.Refusals.{IsRefusedBy, IsDisk, IsMemoryOrDisk, IsNoFault, LeavesRefused, begin_refusal, has_no_room, room_refusal, leaf_refusal, end_refusal, has_base, prepared_refusal, abandon_refusal};
 ghost use Rattle.kept_log.specs.Journal.{cells_in};
 ghost use Rattle.commit_book.specs.SplitSteps.{Begins, CanPrepare, Installs, Abandons};
 
@@ -78,12 +78,20 @@ impl<I: Index, D: LogDisk> Book<I, D> {
     fn check_room(&self) -> Result<(), BookFault>
         ensures { IsRefusedBy IsNoFault (room_refusal (cells_in self.now.log) (length self.now.entries)) result }
     {
-        let cells = self.cells();
-        let events = self.events();
-        if cells > MOST_CELLS_TO_BEGIN || events > MOST_EVENTS_TO_BEGIN {
-            return Err(BookFault::Room { cells, events });
+        if self.is_near_end() {
+            return Err(BookFault::Room {
+                cells: self.cells(),
+                events: self.events(),
+            });
         }
         Ok(())
+    }
+
+    /// Whether there are so many cells or events that no split begins any more. What else there is room for, `room` tells.
+    pub fn is_near_end(&self) -> bool
+        ensures { result ≡ has_no_room (cells_in self.now.log) (length self.now.entries) }
+    {
+        self.cells() > MOST_CELLS_TO_BEGIN || self.events() > MOST_EVENTS_TO_BEGIN
     }
 
     fn check_leaf(&self, name: &Name) -> Result<(), BookFault>

@@ -1,0 +1,12 @@
+use Rattle.std.proofs.Common.{sym, ◌∙◌, ap}
+use Rattle.book_lock.specs.Pass.{Known}
+use Rattle.sessions.proofs.Renewals.{room-seen}
+use Rattle.sessions.proofs.store.Store.room.Goals as goal
+
+pub returns-clause-room : goal.returns-clause-room
+returns-clause-room g c =
+    let was = c.take-book.ensures in
+    c.room-room.ensures.room
+    ∙ room-seen g.D.LogDisk.drive g.I.Index.WIDTH c.take-book.result c.room-room.ensures.book _ _
+    (was.origin ∙ sym (ap (λ (k : Known). k.origin) c.put_back.ensures ∙ ap (λ (k : Known). k.origin) was.took_is))
+    (was.entries ∙ sym (ap (λ (k : Known). k.seen) c.put_back.ensures))
