@@ -12,9 +12,9 @@ use Rattle.fence_watch.specs.declared.fences.Fence.{Fence}
 use Rattle.fence_watch.specs.declared.fences.Event.{Event}
 use Rattle.fence_watch.specs.declared.counts.FenceCount.{FenceCount}
 use Rattle.recovery.specs.declared.walked.Walked.{Walked}
-use Rattle.recovery.specs.Walks.{object_of, place_in}
+use Rattle.recovery.specs.Walks.{object_of}
 use Rattle.fence_watch.specs.Fences.{lies_in, inside_of}
-use Rattle.fence_watch.specs.Crossings.{world_behind, world_after_cells, crossings_by, crossings_from}
+use Rattle.fence_watch.specs.Crossings.{world_after_cells, crossings_by, crossings_from}
 use Rattle.fence_watch.specs.declared.passages.Pair.{Pair}
 use Rattle.fence_watch.specs.declared.passages.Went.{Went}
 use Rattle.fence_watch.specs.Passages.{ShowsPassage}
@@ -75,12 +75,6 @@ pub record TalliesFrom (at : ℕ) (world : World) (taken : List Event) (cells : 
 -- the same along the cells of a log, from the first one on
 abbrev pub TalliesCells : List Event → List Cell → List Fence → TallyView → Type 0
 TalliesCells taken cells fences v = TalliesFrom 0 [] taken cells fences v
-
--- what a walk tells of the next cell behind these, the first of which has this number and stands behind this world
-pub record IsNextFrom (first : ℕ) (world : World) (cells : List Cell) (walked : Walked) : Type 0 where
-  pub at : walked.at ≡ first + length cells
-  pub before : walked.before ≡ place_in (world_after_cells world cells) (object_of walked.cell)
-  pub after : walked.after ≡ place_in (world_behind (world_after_cells world cells) walked.cell) (object_of walked.cell)
 
 -- how many are inside each fence is told as of this world
 pub record FollowsWorld (world : World) (fences : List Fence) (v : TallyView) : Type 0 where

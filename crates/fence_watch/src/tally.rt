@@ -9,11 +9,11 @@ ghost use Rattle.recovery.specs.Walks.{object_of, IsNextWalked};
 ghost use Rattle.fence_watch.specs.declared.fences.Fence.{Fence};
 ghost use Rattle.fence_watch.specs.declared.fences.Event.{Event};
 ghost use Rattle.log_state.specs.Recovers.{state_of};
-ghost use Rattle.fence_watch.specs.Crossings.{crossings, crossings_from, world_after_cells};
+ghost use Rattle.fence_watch.specs.Crossings.{crossings, crossings_from, world_after_cells, IsNextFrom};
 ghost use Rattle.fence_watch.specs.Passages.{ShowsPassage};
 ghost use Rattle.fence_watch.specs.Watches.{most_events};
 ghost use Rattle.fence_watch.specs.Counts.{fences_counted};
-ghost use Rattle.fence_watch.specs.Tallies.{Shows, Tallies, TalliesBy, TalliesFrom, TalliesCells, IsNextFrom, IsPast, IsPastBy, count_in};
+ghost use Rattle.fence_watch.specs.Tallies.{Shows, Tallies, TalliesBy, TalliesFrom, TalliesCells, IsPast, IsPastBy, count_in};
 ghost use Rattle.fence_watch.specs.Tallies.{FollowsWorld, IsStepOf};
 
 use crate::counts::{FenceCount, Step, counted, pass_counted, uncounted};
