@@ -5,8 +5,8 @@ ghost use Rattle.watch_run.specs.inside.Along.{IsBegun, IsStarted, RefusesAttach
 
 use csv_rows::Refusal;
 use disk_trait::LogDisk;
-use fence_watch::{Fences, Tally, WatchFault};
-use recovery::{OpenRefused, Walk, Walked};
+use fence_watch::{AlongFault, Fences, Tally, WatchFault};
+use recovery::{OpenRefused, Walk};
 use run_ends::{MOST_INSPECTED, Unmade, attach, log_refusal};
 use std::alloc::Global;
 
@@ -95,16 +95,10 @@ fn go_along<D: LogDisk>(walk: &mut Walk<D>, watch: &mut Tally) -> Result<(), Ref
         → MatchResult result (λ _. RunsAlong fences (D.drive walk.old.disk) (D.drive walk.new.disk) watch.new)
         (λ why. RefusesAttached fences (D.drive walk.old.disk) (D.drive walk.new.disk) why) }
 {
-    'cells: loop {
-        match walk.next() {
-            Ok(Some(walked)) => {
-                if let Err(fault) = watch.step(&walked) {
-                    return Err(watch_refusal(fault));
-                }
-            }
-            Ok(None) => return Ok(()),
-            Err(fault) => return Err(log_refusal(fault)),
-        }
+    match watch.along(walk) {
+        Ok(()) => Ok(()),
+        Err(AlongFault::Watch(fault)) => Err(watch_refusal(fault)),
+        Err(AlongFault::Log(fault)) => Err(log_refusal(fault)),
     }
 }
 
