@@ -14,19 +14,22 @@ use Rattle.fence_watch.specs.declared.fences.Fence.{Fence}
 use Rattle.fence_watch.specs.declared.watch.WatchFault.TheVariants.{TooMany}
 use Rattle.fence_watch.specs.Tallies.{IsPast, TalliesFrom, TallyView}
 
--- A tally was led along cells, which begin with these and stand in a log behind a front. Behind them the walk told this last. The drive is as it was
--- at first, and as the walk leaves it.
-pub record IsLed {D : Type 0} (w most : ℕ) (front begun : List Cell) (taken : List Event) (fences : List Fence) (old new : Drive) (walk : WalkView D) (v : TallyView)
-    (told : Result (Option Walked) OpenFault) : Type 0 where
+-- A tally was led along cells, which begin with these and stand in a log behind a front. Behind them the walk told this last. The drive is
+-- as it was at first, and as the walk leaves it.
+pub record IsLed {D : Type 0} (w most : ℕ) (front begun : List Cell) (taken : List Event) (fences : List Fence) (old new : Drive)
+    (walk : WalkView D) (v : TallyView) (told : Result (Option Walked) OpenFault) : Type 0 where
   pub cells : List Cell
   pub begins : (more : List Cell) × (cells ≡ begun ++ more)
   pub tallies : TalliesFrom (length front) (state_of w front).world taken cells fences v
   pub tells : TellsWalked w most (front ++ cells) old new walk told
-  pub exact : (bytes : List ℕ) (fault : OpenFault) → old.bytes ≡ Some bytes → IsInBytes fault → IsFault 1 w most bytes fault → TellsFault fault old new told
-  pub whole : (all : List Cell) (bytes : List ℕ) → old.bytes ≡ Some bytes → Recovers w all bytes → length all ≤ most → TellsAll all (front ++ cells) old new told
+  pub exact : (bytes : List ℕ) (fault : OpenFault) → old.bytes ≡ Some bytes → IsInBytes fault → IsFault 1 w most bytes fault
+      → TellsFault fault old new told
+  pub whole : (all : List Cell) (bytes : List ℕ) → old.bytes ≡ Some bytes → Recovers w all bytes → length all ≤ most
+      → TellsAll all (front ++ cells) old new told
 
 -- a tally was led to the log's end; or up to the cell that it didn't take; or up to what the walk came upon
-abbrev pub GoesAlong : {D : Type 0} → ℕ → ℕ → List Cell → List Cell → List Event → List Fence → Drive → Drive → WalkView D → TallyView → Result (Unit {0}) AlongFault → Type 0
+abbrev pub GoesAlong : {D : Type 0} → ℕ → ℕ → List Cell → List Cell → List Event → List Fence → Drive → Drive → WalkView D → TallyView
+    → Result (Unit {0}) AlongFault → Type 0
 GoesAlong w most front begun taken fences old new walk v (Ok done) = IsLed w most front begun taken fences old new walk v (Ok None)
 GoesAlong w most front begun taken fences old new walk v (Err (Log e)) = IsLed w most front begun taken fences old new walk v (Err e)
 GoesAlong w most front begun taken fences old new walk v (Err (Watch why)) =

@@ -77,8 +77,8 @@ IsOver walked old = IsOverBy walked.at (object_of walked.cell) walked.before wal
 abbrev pub guard_in : World → Fence → Guard
 guard_in world f = record { fence = f; inside = inside_of world f }
 
--- The watch after steps along these cells, the first of which has this number and stands behind this world: their crossings, the first of which
--- were taken, and who is inside in the world that they leave.
+-- The watch after steps along these cells, the first of which has this number and stands behind this world, whose ids rise: their
+-- crossings, the first of which were taken, and who is inside in the world that they leave.
 pub record FollowsFrom (at : ℕ) (world : World) (taken : List Event) (cells : List Cell) (fences : List Fence) (v : WatchView) : Type 0 where
   pub rising : IsRising (places_of world)
   pub events : taken ++ v.events ≡ crossings_from at world cells fences
@@ -88,7 +88,7 @@ pub record FollowsFrom (at : ℕ) (world : World) (taken : List Event) (cells : 
 abbrev pub FollowsCells : List Cell → List Fence → WatchView → Type 0
 FollowsCells cells fences v = FollowsFrom 0 [] [] cells fences v
 
--- who is inside each fence is told as of this world
+-- who is inside each fence is so in this world, whose ids rise
 pub record HoldsWorld (world : World) (fences : List Fence) (v : WatchView) : Type 0 where
   pub rising : IsRising (places_of world)
   pub guards : v.guards ≡ map (guard_in world) fences

@@ -25,8 +25,8 @@ pub enum AlongFault {
 }
 
 impl Tally {
-    /// Goes on along all cells that a walk has before it. The walk may have gone over others: along those behind which the tally stands, or over a
-    /// front of the log whose world the tally began with.
+    /// Goes on along all cells that a walk has before it. The walk may have gone over others: along those behind which the tally stands, or
+    /// over a front of the log whose world the tally began with.
     pub fn along<D: LogDisk>(&mut self, walk: &mut Walk<D>) -> Result<(), AlongFault>
         requires { (w : ℕ) × (most : ℕ) × (cells : List Cell) × ComesTo w most cells (D.drive walk.old.disk) walk.old }
         ensures along { (w most : ℕ) (front cells : List Cell) (taken : List Event) (fences : List Fence)

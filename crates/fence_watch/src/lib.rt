@@ -1,7 +1,7 @@
 //! Tells who enters and leaves fences along the cells of a log, or as a program moves its objects.
 //!
-//! Contracts see a `Tally` as its fences, each with how many are inside it, and the events that weren't taken out. From a world on, after steps
-//! along cells, its events are the `crossings_from` there, and the numbers those of the objects that the cells leave in each fence
+//! Contracts see a `Tally` as its fences, each with how many are inside it, and the events that weren't taken out. From a world on, after
+//! steps along cells, its events are the `crossings_from` there, and the numbers those of the objects that the cells leave in each fence
 //! (`TalliesFrom`); after a program's own steps (`moved`) the numbers are those of the world that its operations leave (`FollowsWorld`). A
 //! `Watch` is a tally with the ids inside each fence beside it. Fences are read from a text (`read_fences`) or made (`Fences::of`).
 //!
