@@ -55,6 +55,8 @@ mod lists;
 #[cfg(test)]
 mod logs;
 #[cfg(test)]
+mod made_fences;
+#[cfg(test)]
 mod memory;
 #[cfg(test)]
 mod moves;

@@ -32,25 +32,28 @@ answers id world (f ∷ fences) = by_test (f.id == id) refl (inside_at id (map (
     by_test false other None rest = ((λ is. true_false (sym (eq-eqb f.id id is) ∙ other)), rest)
     by_test false other (Some ids) rest = behind id world f fences ids rest
 
--- in the words of the state that the cells leave
-told : (w : ℕ) (cells : List Cell) (fences : List Fence) (v : WatchView) (id : ℕ) → FollowsCells cells fences v
-    → MatchOption (inside_at id v.guards) (AreOthers id fences) (λ ids. IsInside id (state_of w cells).world fences ids)
-told w cells fences v id f =
-    subst (λ (world : World). MatchOption (inside_at id v.guards) (AreOthers id fences) (λ ids. IsInside id world fences ids)) (sym (world-of_state w cells))
-    (subst (λ (guards : List Guard). MatchOption (inside_at id guards) (AreOthers id fences) (λ ids. IsInside id (world_after_cells [] cells) fences ids)) (sym f.guards)
-    (answers id (world_after_cells [] cells) fences))
+-- as a watch tells it that holds a world
+told : (world : World) (fences : List Fence) (v : WatchView) (id : ℕ) → v.guards ≡ map (guard_in world) fences → MatchOption (inside_at id v.guards) (AreOthers id fences) (λ ids. IsInside id world fences ids)
+told world fences v id is = subst (λ (guards : List Guard). MatchOption (inside_at id guards) (AreOthers id fences) (λ ids. IsInside id world fences ids)) (sym is) (answers id world fences)
 
-pub some-follows : (w : ℕ) (cells : List Cell) (fences : List Fence) (v : WatchView) (id : ℕ) (ids : List ℕ) → inside_at id v.guards ≡ Some ids → FollowsCells cells fences v → IsInside id (state_of w cells).world fences ids
-some-follows w cells fences v id ids is f =
-    let t : MatchOption (Some ids) (AreOthers id fences) (λ ids. IsInside id (state_of w cells).world fences ids) =
-    subst (λ (o : Option (List ℕ)). MatchOption o (AreOthers id fences) (λ ids. IsInside id (state_of w cells).world fences ids)) is (told w cells fences v id f) in
+pub some-in : (world : World) (fences : List Fence) (v : WatchView) (id : ℕ) (ids : List ℕ) → inside_at id v.guards ≡ Some ids → v.guards ≡ map (guard_in world) fences → IsInside id world fences ids
+some-in world fences v id ids is held =
+    let t : MatchOption (Some ids) (AreOthers id fences) (λ ids. IsInside id world fences ids) =
+    subst (λ (o : Option (List ℕ)). MatchOption o (AreOthers id fences) (λ ids. IsInside id world fences ids)) is (told world fences v id held) in
     t
+
+pub none-in : (world : World) (fences : List Fence) (v : WatchView) (id : ℕ) → inside_at id v.guards ≡ None → v.guards ≡ map (guard_in world) fences → AreOthers id fences
+none-in world fences v id is held =
+    let t : MatchOption None (AreOthers id fences) (λ ids. IsInside id world fences ids) =
+    subst (λ (o : Option (List ℕ)). MatchOption o (AreOthers id fences) (λ ids. IsInside id world fences ids)) is (told world fences v id held) in
+    t
+
+-- in the words of the state that the cells leave
+pub some-follows : (w : ℕ) (cells : List Cell) (fences : List Fence) (v : WatchView) (id : ℕ) (ids : List ℕ) → inside_at id v.guards ≡ Some ids → FollowsCells cells fences v → IsInside id (state_of w cells).world fences ids
+some-follows w cells fences v id ids is f = some-in (state_of w cells).world fences v id ids is (f.guards ∙ ap (λ (world : World). map (guard_in world) fences) (sym (world-of_state w cells)))
 
 pub none-follows : (cells : List Cell) (fences : List Fence) (v : WatchView) (id : ℕ) → inside_at id v.guards ≡ None → FollowsCells cells fences v → AreOthers id fences
-none-follows cells fences v id is f =
-    let t : MatchOption None (AreOthers id fences) (λ ids. IsInside id (state_of 1 cells).world fences ids) =
-    subst (λ (o : Option (List ℕ)). MatchOption o (AreOthers id fences) (λ ids. IsInside id (state_of 1 cells).world fences ids)) is (told 1 cells fences v id f) in
-    t
+none-follows cells fences v id is f = none-in (world_after_cells [] cells) fences v id is f.guards
 
 -- of distinct fences the one of a number is found
 pub inside-named : (world : World) (fences : List Fence) (i : ℕ) (d : Fence) → AreDistinct fences → i < length fences

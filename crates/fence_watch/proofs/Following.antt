@@ -1,5 +1,5 @@
 -- A watch that follows the cells of a log goes on following them.
-use Rattle.std.proofs.Common.{◌≡◌, ℕ, suc, ◌+◌, length, Bool, true, false, List, [], ◌∷◌, ◌++◌, map, Option, Some, None, refl, sym, ◌∙◌, ap, subst, arith, cond, ◌==◌, append_assoc, append-nil}
+use Rattle.std.proofs.Common.{◌≡◌, ℕ, suc, ◌+◌, length, Bool, true, false, List, [], ◌∷◌, ◌++◌, map, Option, Some, None, refl, sym, ◌∙◌, ap, subst, arith, cond, ◌==◌, append_assoc, append-nil, length-append}
 use Rattle.std.specs.Prelude.{nat_lt}
 use Rattle.std.specs.List.{find}
 use Rattle.std.specs.Option.{option_map, option_map_or}
@@ -23,8 +23,8 @@ use Rattle.recovery.specs.Walks.{object_of, place_in, IsNextWalked}
 use Rattle.fence_watch.specs.declared.fences.Fence.{Fence}
 use Rattle.fence_watch.specs.declared.fences.Event.{Event}
 use Rattle.fence_watch.specs.Fences.{lies_in, inside_of}
-use Rattle.fence_watch.specs.Crossings.{world_behind, world_after_cells, crossings_by, cell_crossings, crossings_from}
-use Rattle.fence_watch.specs.Watches.{Guard, WatchView, fences_of, guard_behind, guard_in, with_id, without_id, inside_behind, HoldsBefore, Steps, FollowsCells}
+use Rattle.fence_watch.specs.Crossings.{world_behind, world_after_cells, crossings_by, cell_crossings, crossings_from, IsNextFrom}
+use Rattle.fence_watch.specs.Watches.{Guard, WatchView, fences_of, guard_behind, guard_in, with_id, without_id, inside_behind, HoldsBefore, Steps, StepsBy, FollowsFrom, FollowsCells, HoldsWorld}
 use Rattle.fence_watch.proofs.Insides.{inside-put, inside-moved, inside-gone, has-inside}
 
 -- one cell more
@@ -181,36 +181,72 @@ places-before w cells walked n = n.before ∙ ap (λ (world : World). place_in w
 pub places-after : (w : ℕ) (cells : List Cell) (walked : Walked) → IsNextWalked w cells walked → walked.after ≡ place_in (world_behind (world_after_cells [] cells) walked.cell) (object_of walked.cell)
 places-after w cells walked n = n.after ∙ ap (λ (world : World). place_in world (object_of walked.cell)) (world-of_state w (cells ++ walked.cell ∷ []) ∙ after-snoc [] cells walked.cell)
 
+-- cells behind others of a log
+pub after-append : (world : World) (front cells : List Cell) → world_after_cells world (front ++ cells) ≡ world_after_cells (world_after_cells world front) cells
+after-append world [] cells = refl
+after-append world (c ∷ front) cells = after-append (world_behind world c) front cells
+
+pub next-behind : (w : ℕ) (front cells : List Cell) (walked : Walked) → IsNextWalked w (front ++ cells) walked → IsNextFrom (length front) (state_of w front).world cells walked
+next-behind w front cells walked n =
+    let world : world_after_cells [] (front ++ cells) ≡ world_after_cells (state_of w front).world cells =
+    after-append [] front cells ∙ ap (λ (start : World). world_after_cells start cells) (sym (world-of_state w front)) in
+    record {
+      at = n.at ∙ length-append front cells;
+      before = places-before w (front ++ cells) walked n ∙ ap (λ (start : World). place_in start (object_of walked.cell)) world;
+      after = places-after w (front ++ cells) walked n ∙ ap (λ (start : World). place_in (world_behind start walked.cell) (object_of walked.cell)) world;
+    }
+
+pub next-first : (w : ℕ) (cells : List Cell) (walked : Walked) → IsNextWalked w cells walked → IsNextFrom 0 [] cells walked
+next-first w cells walked n = next-behind w [] cells walked n
+
+-- a step of an object between its places in a world and in the world behind it
+pub steps-guards : (world : World) (c : Cell) (fences : List Fence) (at : ℕ) (before after : Option Point) (old new : WatchView) → IsRising (places_of world) → old.guards ≡ map (guard_in world) fences
+    → before ≡ place_in world (object_of c) → after ≡ place_in (world_behind world c) (object_of c) → StepsBy at (object_of c) before after old new → new.guards ≡ map (guard_in (world_behind world c)) fences
+steps-guards world c fences at before after old new rising guards_are is_before is_after s =
+    s.guards ∙ (λ i. map (guard_behind (object_of c) (is_before i) (is_after i)) (guards_are i)) ∙ sym (guards-behind world c fences rising)
+
+-- a step along the next cell
+pub follows-next : (at : ℕ) (start : World) (taken : List Event) (cells : List Cell) (fences : List Fence) (walked : Walked) (old new : WatchView)
+    → FollowsFrom at start taken cells fences old → IsNextFrom at start cells walked → Steps walked old new → FollowsFrom at start taken (cells ++ walked.cell ∷ []) fences new
+follows-next at start taken cells fences walked old new f n s =
+    let world : World = world_after_cells start cells in
+    let o : Option ℕ = object_of walked.cell in
+    let guards_are : old.guards ≡ map (guard_in world) fences = f.guards in
+    record {
+      rising = f.rising;
+      events = ap (λ (l : List Event). taken ++ l) s.events
+          ∙ sym (append_assoc taken old.events (crossings_by walked.at o walked.before walked.after (fences_of old.guards)))
+          ∙ (λ i. f.events i ++ crossings_by (n.at i) o (n.before i) (n.after i) ((ap fences_of guards_are ∙ fences-in world fences) i))
+          ∙ sym (crossings-snoc at start cells walked.cell fences);
+      guards = steps-guards world walked.cell fences walked.at walked.before walked.after old new (rising-after start cells f.rising) guards_are n.before n.after s
+          ∙ ap (λ (w : World). map (guard_in w) fences) (sym (after-snoc start cells walked.cell));
+    }
+
 -- a step along the next cell of a log
 pub follows-step : (w : ℕ) (cells : List Cell) (fences : List Fence) (walked : Walked) (old new : WatchView)
     → FollowsCells cells fences old → IsNextWalked w cells walked → Steps walked old new → FollowsCells (cells ++ walked.cell ∷ []) fences new
-follows-step w cells fences walked old new f n s =
-    let world : World = world_after_cells [] cells in
-    let o : Option ℕ = object_of walked.cell in
-    let guards_are : old.guards ≡ map (guard_in world) fences = f.guards in
-    let counted : walked.at ≡ 0 + length cells = n.at ∙ omega arith in
-    let before = places-before w cells walked n in
-    let after = places-after w cells walked n in
-    record {
-      events = s.events
-          ∙ (λ i. f.events i ++ crossings_by (counted i) o (before i) (after i) ((ap fences_of guards_are ∙ fences-in world fences) i))
-          ∙ sym (crossings-snoc 0 [] cells walked.cell fences);
-      guards = s.guards
-          ∙ (λ i. map (guard_behind o (before i) (after i)) (guards_are i))
-          ∙ sym (guards-behind world walked.cell fences (rising-after [] cells tt))
-          ∙ ap (λ (w : World). map (guard_in w) fences) (sym (after-snoc [] cells walked.cell));
-    }
+follows-step w cells fences walked old new f n s = follows-next 0 [] [] cells fences walked old new f (next-first w cells walked n) s
 
 holds-in : (world : World) (o : Option ℕ) (fences : List Fence) → IsRising (places_of world) → HoldsBefore o (place_in world o) (map (guard_in world) fences)
 holds-in world None fences rising = tt
 holds-in world (Some id) [] rising = tt
 holds-in world (Some id) (f ∷ fences) rising = (has-inside f id world rising, holds-in world (Some id) fences rising)
 
+-- a watch that holds a world may make a step of an object from where it is there
+pub holds-world : (world : World) (o : Option ℕ) (before : Option Point) (fences : List Fence) (view : WatchView) → HoldsWorld world fences view → before ≡ place_in world o → HoldsBefore o before view.guards
+holds-world world o before fences view holds is =
+    subst (λ (guards : List Guard). HoldsBefore o before guards) (sym holds.guards)
+    (subst (λ (p : Option Point). HoldsBefore o p (map (guard_in world) fences)) (sym is) (holds-in world o fences holds.rising))
+
+pub world-from : (at : ℕ) (start : World) (taken : List Event) (cells : List Cell) (fences : List Fence) (view : WatchView) → FollowsFrom at start taken cells fences view → HoldsWorld (world_after_cells start cells) fences view
+world-from at start taken cells fences view f = record { rising = rising-after start cells f.rising; guards = f.guards }
+
 -- a watch that follows cells may make a step along the next one
+pub holds-from : (at : ℕ) (start : World) (taken : List Event) (cells : List Cell) (fences : List Fence) (walked : Walked) (view : WatchView)
+    → FollowsFrom at start taken cells fences view → IsNextFrom at start cells walked → HoldsBefore (object_of walked.cell) walked.before view.guards
+holds-from at start taken cells fences walked view f n =
+    holds-world (world_after_cells start cells) (object_of walked.cell) walked.before fences view (world-from at start taken cells fences view f) n.before
+
 pub holds-next : (w : ℕ) (cells : List Cell) (fences : List Fence) (walked : Walked) (view : WatchView)
     → FollowsCells cells fences view → IsNextWalked w cells walked → HoldsBefore (object_of walked.cell) walked.before view.guards
-holds-next w cells fences walked view f n =
-    let world : World = world_after_cells [] cells in
-    let o : Option ℕ = object_of walked.cell in
-    subst (λ (guards : List Guard). HoldsBefore o walked.before guards) (sym f.guards)
-    (subst (λ (p : Option Point). HoldsBefore o p (map (guard_in world) fences)) (sym (places-before w cells walked n)) (holds-in world o fences (rising-after [] cells tt)))
+holds-next w cells fences walked view f n = holds-from 0 [] [] cells fences walked view f (next-first w cells walked n)

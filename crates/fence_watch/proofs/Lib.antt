@@ -10,5 +10,6 @@ pub mod Parts
 pub mod AlongParts
 pub mod Tallying
 pub mod WorldSteps
+pub mod Alonging
 pub mod Guarding
 pub mod Answering

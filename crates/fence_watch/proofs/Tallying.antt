@@ -1,5 +1,5 @@
 -- A tally that follows the cells of a log goes on following them.
-use Rattle.std.proofs.Common.{◌≡◌, ℕ, zero, suc, ◌+◌, ◌-◌, ◌≤◌, ◌<◌, length, Bool, true, false, List, [], ◌∷◌, ◌++◌, map, Option, Some, None, refl, sym, ◌∙◌, ap, subst, arith, cond, ◌==◌, ◌||◌, not, append_assoc, append-nil, length-append, take, drop}
+use Rattle.std.proofs.Common.{◌≡◌, ℕ, zero, suc, ◌+◌, ◌-◌, ◌≤◌, ◌<◌, length, Bool, true, false, List, [], ◌∷◌, ◌++◌, map, Option, Some, None, refl, sym, ◌∙◌, ap, subst, arith, cond, ◌==◌, ◌||◌, not, append_assoc, append-nil, take, drop}
 use Rattle.std.specs.Prelude.{nat_le, nat_lt}
 use Rattle.std.specs.Option.{option_map_or}
 use Rattle.std.proofs.lemmas.List.{take-append-le, take_all}
@@ -26,19 +26,19 @@ use Rattle.fence_watch.specs.declared.passages.Chart.{Chart}
 use Rattle.fence_watch.specs.declared.passages.Pair.{Pair}
 use Rattle.fence_watch.specs.declared.passages.Went.{Went}
 use Rattle.fence_watch.specs.Fences.{lies_in, inside_of, most_fences}
-use Rattle.fence_watch.specs.Crossings.{world_behind, world_after_cells, crossings_of, crossings_by}
+use Rattle.fence_watch.specs.Crossings.{world_behind, world_after_cells, crossings_of, crossings_by, IsNextFrom}
 use Rattle.fence_watch.specs.Marks.{filled}
 use Rattle.fence_watch.specs.Passages.{along, turn, turns_of, count_turns, events_along, turn_at, all_turns, Charts, ShowsPassage}
 use Rattle.fence_watch.specs.Guards.{AreRising}
 use Rattle.fence_watch.specs.Watches.{Guard, guard_in, guard_behind, inside_behind, with_id, without_id, has_id, most_events}
 use Rattle.fence_watch.specs.Counts.{fences_counted, count_by, one_more}
-use Rattle.fence_watch.specs.Tallies.{TallyView, count_behind, count_in, number_behind, events_told, TalliesBy, Tallies, TalliesFrom, TalliesCells, IsNextFrom, Shows, IsPastBy, IsPast}
+use Rattle.fence_watch.specs.Tallies.{TallyView, count_behind, count_in, number_behind, events_told, TalliesBy, Tallies, TalliesFrom, TalliesCells, Shows, IsPastBy, IsPast}
 use Rattle.fence_watch.specs.Kept.{KeepsTally}
 use Rattle.fence_watch.proofs.AlongParts.{along-none}
 use Rattle.fence_watch.proofs.Passing.{events-shown, count-shown, none-events}
 use Rattle.fence_watch.proofs.RisingIds.{Above, without-above}
 use Rattle.fence_watch.proofs.Insides.{first-inside, more, has-inside}
-use Rattle.fence_watch.proofs.Following.{after-snoc, world-of_state, rising-after, crossings-snoc, guard-behind, places-before, places-after}
+use Rattle.fence_watch.proofs.Following.{after-snoc, world-of_state, rising-after, crossings-snoc, guard-behind, next-first}
 
 -- how long a list with one id more or less is
 length-with_id : (id : ℕ) (xs : List ℕ) → length (with_id id xs) ≡ length xs + 1
@@ -69,7 +69,7 @@ inside-above f a (m ∷ ms) above = subst (Above a) (sym (first-inside f m ms)) 
     by_test true rest = (above.0, rest)
     by_test false rest = rest
 
-inside-rising : (f : Fence) (ms : World) → IsRising (places_of ms) → AreRising (inside_of ms f)
+pub inside-rising : (f : Fence) (ms : World) → IsRising (places_of ms) → AreRising (inside_of ms f)
 inside-rising f [] rising = tt
 inside-rising f (m ∷ ms) rising = subst AreRising (sym (first-inside f m ms)) (by_test (has_point f.region m.at) (inside-rising f ms rising.1))
   where
@@ -184,24 +184,6 @@ tallies-next at start taken cells fences walked old new t n s =
       counts = tallies-counts world walked.cell fences walked.at walked.before walked.after old new (rising-after start cells t.rising) (few-after start cells t.few) counts_are n.before n.after s
           ∙ ap (λ (w : World). map (count_in w) fences) (sym (after-snoc start cells walked.cell));
     }
-
--- cells behind others of a log
-pub after-append : (world : World) (front cells : List Cell) → world_after_cells world (front ++ cells) ≡ world_after_cells (world_after_cells world front) cells
-after-append world [] cells = refl
-after-append world (c ∷ front) cells = after-append (world_behind world c) front cells
-
-pub next-behind : (w : ℕ) (front cells : List Cell) (walked : Walked) → IsNextWalked w (front ++ cells) walked → IsNextFrom (length front) (state_of w front).world cells walked
-next-behind w front cells walked n =
-    let world : world_after_cells [] (front ++ cells) ≡ world_after_cells (state_of w front).world cells =
-    after-append [] front cells ∙ ap (λ (start : World). world_after_cells start cells) (sym (world-of_state w front)) in
-    record {
-      at = n.at ∙ length-append front cells;
-      before = places-before w (front ++ cells) walked n ∙ ap (λ (start : World). place_in start (object_of walked.cell)) world;
-      after = places-after w (front ++ cells) walked n ∙ ap (λ (start : World). place_in (world_behind start walked.cell) (object_of walked.cell)) world;
-    }
-
-pub next-first : (w : ℕ) (cells : List Cell) (walked : Walked) → IsNextWalked w cells walked → IsNextFrom 0 [] cells walked
-next-first w cells walked n = next-behind w [] cells walked n
 
 -- a step along the next cell of a log
 pub tallies-step : (w : ℕ) (taken : List Event) (cells : List Cell) (fences : List Fence) (walked : Walked) (old new : TallyView)

@@ -18,7 +18,8 @@ use Rattle.recovery.specs.Walks.{object_of, place_in}
 use Rattle.fence_watch.specs.declared.fences.Fence.{Fence}
 use Rattle.fence_watch.specs.Crossings.{world_behind}
 use Rattle.fence_watch.specs.Tallies.{TallyView, TalliesBy, FollowsWorld, IsStepOf}
-use Rattle.fence_watch.proofs.Following.{moved-there, rising-after}
+use Rattle.fence_watch.specs.Watches.{WatchView, HoldsBefore, HoldsWorld, StepsBy}
+use Rattle.fence_watch.proofs.Following.{holds-world, moved-there, rising-after, steps-guards}
 use Rattle.fence_watch.proofs.Tallying.{few-after, tallies-counts}
 
 -- an object, with its places in a world and in the one behind
@@ -73,16 +74,73 @@ goes-on world c object fences at id before after old new is follows are tallies 
           (subst (λ (o : Option ℕ). TalliesBy at o before after old new) named tallies);
     }
 
+holds-on : (world : World) (c : Cell) (object : ℕ) (fences : List Fence) (at id : ℕ) (before after : Option Point) (old new : WatchView) → object_of c ≡ Some object → HoldsWorld world fences old
+    → AreAt world (world_behind world c) object id before after → StepsBy at (Some id) before after old new → HoldsWorld (world_behind world c) fences new
+holds-on world c object fences at id before after old new is holds are steps =
+    let named : Some id ≡ object_of c = ap (λ (n : ℕ). Some n) (sym are.same) ∙ sym is in
+    record {
+      rising = rising-after world (c ∷ []) holds.rising;
+      guards = steps-guards world c fences at before after old new holds.rising holds.guards
+          (are.before_is ∙ ap (place_in world) (sym is)) (are.after_is ∙ ap (place_in (world_behind world c)) (sym is))
+          (subst (λ (o : Option ℕ). StepsBy at o before after old new) named steps);
+    }
+
+-- the cell that stands for an operation which changed an object
+record StandsFor (world : World) (o : Op) (id : ℕ) (before after : Option Point) (c : Cell) : Type 0 where
+  object : ℕ
+  is : object_of c ≡ Some object
+  behind : world_behind world c ≡ after_of world o
+  are : AreAt world (world_behind world c) object id before after
+
+stands-for : (world : World) (o : Op) (id : ℕ) (before after : Option Point) → IsStepOf id before after o (answer_of world o) → (c : Cell) × StandsFor world o id before after c
+stands-for world (op.Put object to moment) id before after step = (
+  cell.Put object to moment,
+  record {
+    object = object;
+    is = refl;
+    behind = refl;
+    are = put-at (record { id = object; at = to; moment = moment }) world id before after (position_of world object) refl (is_full world) step;
+  },
+)
+stands-for world (op.Move object to moment) id before after step = (
+  cell.Move object to moment,
+  record {
+    object = object;
+    is = refl;
+    behind = refl;
+    are = move-at object (record { at = to; moment = moment }) world id before after (position_of world object) refl step;
+  },
+)
+stands-for world (op.Remove object) id before after step = (
+  cell.Remove object,
+  record {
+    object = object;
+    is = refl;
+    behind = refl;
+    are = drop-at object world id before after (position_of world object) refl step;
+  },
+)
+stands-for world (op.Find object) id before after step = absurd step
+stands-for world (op.Within region) id before after step = absurd step
+stands-for world (op.Near point k) id before after step = absurd step
+
 pub follows-on : (world : World) (o : Op) (fences : List Fence) (at id : ℕ) (before after : Option Point) (old new : TallyView) → FollowsWorld world fences old
     → IsStepOf id before after o (answer_of world o) → TalliesBy at (Some id) before after old new → FollowsWorld (after_of world o) fences new
-follows-on world (op.Put object to moment) fences at id before after old new follows step tallies =
-    goes-on world (cell.Put object to moment) object fences at id before after old new refl follows
-    (put-at (record { id = object; at = to; moment = moment }) world id before after (position_of world object) refl (is_full world) step) tallies
-follows-on world (op.Move object to moment) fences at id before after old new follows step tallies =
-    goes-on world (cell.Move object to moment) object fences at id before after old new refl follows
-    (move-at object (record { at = to; moment = moment }) world id before after (position_of world object) refl step) tallies
-follows-on world (op.Remove object) fences at id before after old new follows step tallies =
-    goes-on world (cell.Remove object) object fences at id before after old new refl follows (drop-at object world id before after (position_of world object) refl step) tallies
-follows-on world (op.Find object) fences at id before after old new follows step tallies = absurd step
-follows-on world (op.Within region) fences at id before after old new follows step tallies = absurd step
-follows-on world (op.Near point k) fences at id before after old new follows step tallies = absurd step
+follows-on world o fences at id before after old new follows step tallies =
+    let stands = stands-for world o id before after step in
+    subst (λ (next : World). FollowsWorld next fences new) stands.1.behind
+    (goes-on world stands.0 stands.1.object fences at id before after old new stands.1.is follows stands.1.are tallies)
+
+pub holds-step : (world : World) (o : Op) (fences : List Fence) (at id : ℕ) (before after : Option Point) (old new : WatchView) → HoldsWorld world fences old
+    → IsStepOf id before after o (answer_of world o) → StepsBy at (Some id) before after old new → HoldsWorld (after_of world o) fences new
+holds-step world o fences at id before after old new holds step steps =
+    let stands = stands-for world o id before after step in
+    subst (λ (next : World). HoldsWorld next fences new) stands.1.behind
+    (holds-on world stands.0 stands.1.object fences at id before after old new stands.1.is holds stands.1.are steps)
+
+-- a watch that holds a world may make the step
+pub holds-place : (world : World) (o : Op) (fences : List Fence) (id : ℕ) (before after : Option Point) (view : WatchView) → HoldsWorld world fences view → IsStepOf id before after o (answer_of world o)
+    → HoldsBefore (Some id) before view.guards
+holds-place world o fences id before after view holds step =
+    let stands = stands-for world o id before after step in
+    holds-world world (Some id) before fences view holds (stands.1.are.before_is ∙ ap (λ (n : ℕ). place_in world (Some n)) stands.1.are.same)

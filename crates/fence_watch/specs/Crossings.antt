@@ -1,5 +1,5 @@
 -- Who enters and leaves fences along the cells of a log.
-use Rattle.std.specs.Prelude.{ℕ, ◌+◌, List, [], ◌∷◌, ◌++◌, if◌then◌else◌, Option, Some, None}
+use Rattle.std.specs.Prelude.{◌≡◌, ℕ, ◌+◌, List, [], ◌∷◌, ◌++◌, length, if◌then◌else◌, Option, Some, None}
 use Rattle.std.specs.List.{flat_map}
 use Rattle.zorder.specs.declared.points.Point.{Point}
 use Rattle.cell_format.specs.declared.cell.Cell.{Cell}
@@ -10,6 +10,7 @@ use Rattle.plain_list.specs.World.{World}
 use Rattle.fence_watch.specs.declared.fences.Fence.{Fence}
 use Rattle.fence_watch.specs.declared.fences.Event.{Event}
 use Rattle.fence_watch.specs.declared.fences.Crossing.TheVariants.{Enter, Leave}
+use Rattle.recovery.specs.declared.walked.Walked.{Walked}
 use Rattle.recovery.specs.Walks.{object_of, place_in}
 use Rattle.fence_watch.specs.Fences.{lies_in}
 
@@ -54,3 +55,9 @@ crossings_from at world (c ∷ cells) fences = cell_crossings at world c fences 
 -- the crossings of the cells of a log
 abbrev pub crossings : List Cell → List Fence → List Event
 crossings cells fences = crossings_from 0 [] cells fences
+
+-- what a walk tells of the next cell behind these, the first of which has this number and stands behind this world
+pub record IsNextFrom (first : ℕ) (world : World) (cells : List Cell) (walked : Walked) : Type 0 where
+  pub at : walked.at ≡ first + length cells
+  pub before : walked.before ≡ place_in (world_after_cells world cells) (object_of walked.cell)
+  pub after : walked.after ≡ place_in (world_behind (world_after_cells world cells) walked.cell) (object_of walked.cell)

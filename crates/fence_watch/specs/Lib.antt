@@ -10,6 +10,7 @@ pub mod Passages
 pub mod Guards
 pub mod Counts
 pub mod Tallies
+pub mod Alongs
 pub mod Kept
 pub mod Examples
 pub use Rattle.log_state.specs.Recovers

@@ -12,9 +12,9 @@ use Rattle.fence_watch.specs.declared.fences.Fence.{Fence}
 use Rattle.fence_watch.specs.declared.fences.Event.{Event}
 use Rattle.fence_watch.specs.declared.counts.FenceCount.{FenceCount}
 use Rattle.recovery.specs.declared.walked.Walked.{Walked}
-use Rattle.recovery.specs.Walks.{object_of, place_in}
+use Rattle.recovery.specs.Walks.{object_of}
 use Rattle.fence_watch.specs.Fences.{lies_in, inside_of}
-use Rattle.fence_watch.specs.Crossings.{world_behind, world_after_cells, crossings_by, crossings_from}
+use Rattle.fence_watch.specs.Crossings.{world_after_cells, crossings_by, crossings_from}
 use Rattle.fence_watch.specs.declared.passages.Pair.{Pair}
 use Rattle.fence_watch.specs.declared.passages.Went.{Went}
 use Rattle.fence_watch.specs.Passages.{ShowsPassage}
@@ -55,7 +55,8 @@ Shows went v passage = ShowsPassage went.before went.after (fences_counted v.cou
 
 -- with such a step the events would be too many
 abbrev pub IsPastBy : ℕ → Option ℕ → Option Point → Option Point → TallyView → Type 0
-IsPastBy at object before after old = most_events < length old.events + length (crossings_by at object before after (fences_counted old.counts))
+IsPastBy at object before after old =
+    most_events < length old.events + length (crossings_by at object before after (fences_counted old.counts))
 
 abbrev pub IsPast : Walked → TallyView → Type 0
 IsPast walked old = IsPastBy walked.at (object_of walked.cell) walked.before walked.after old
@@ -64,8 +65,8 @@ IsPast walked old = IsPastBy walked.at (object_of walked.cell) walked.before wal
 abbrev pub count_in : World → Fence → FenceCount
 count_in world f = record { fence = f; inside = length (inside_of world f) }
 
--- The tally after steps along these cells, the first of which has this number and stands behind this world: their crossings, the first of which
--- were taken, and how many are inside in the world that the cells leave.
+-- The tally after steps along these cells, the first of which has this number and stands behind this world, whose ids rise, and which has
+-- no more objects than there may be: their crossings, the first of which were taken, and how many are inside in the world that the cells leave.
 pub record TalliesFrom (at : ℕ) (world : World) (taken : List Event) (cells : List Cell) (fences : List Fence) (v : TallyView) : Type 0 where
   pub rising : IsRising (places_of world)
   pub few : length world ≤ most_members
@@ -76,20 +77,14 @@ pub record TalliesFrom (at : ℕ) (world : World) (taken : List Event) (cells : 
 abbrev pub TalliesCells : List Event → List Cell → List Fence → TallyView → Type 0
 TalliesCells taken cells fences v = TalliesFrom 0 [] taken cells fences v
 
--- what a walk tells of the next cell behind these, the first of which has this number and stands behind this world
-pub record IsNextFrom (first : ℕ) (world : World) (cells : List Cell) (walked : Walked) : Type 0 where
-  pub at : walked.at ≡ first + length cells
-  pub before : walked.before ≡ place_in (world_after_cells world cells) (object_of walked.cell)
-  pub after : walked.after ≡ place_in (world_behind (world_after_cells world cells) walked.cell) (object_of walked.cell)
-
--- how many are inside each fence is told as of this world
+-- how many are inside each fence is so in this world, whose ids rise, and which has no more objects than there may be
 pub record FollowsWorld (world : World) (fences : List Fence) (v : TallyView) : Type 0 where
   pub rising : IsRising (places_of world)
   pub few : length world ≤ most_members
   pub counts : v.counts ≡ map (count_in world) fences
 
--- An operation with this answer changed this object, and its places before and after are these: put where it wasn't, moved from where it was kept,
--- or dropped there.
+-- An operation with this answer changed this object, and its places before and after are these: put where it wasn't, moved from where it
+-- was kept, or dropped there.
 abbrev pub IsStepOf : ℕ → Option Point → Option Point → Op → Answer → Type 0
 IsStepOf id before after (op.Put object at moment) Done = (object ≡ id) × (before ≡ None) × (after ≡ Some at)
 IsStepOf id before after (op.Move object at moment) (Moved kept) = (object ≡ id) × (before ≡ Some kept.at) × (after ≡ Some at)

@@ -1,15 +1,16 @@
--- What a watch keeps along the cells of a log.
+-- What a watch keeps along the cells of a log, or of what a program tells it.
 use Rattle.std.specs.Prelude.{◌≡◌, ◌+◌, ◌<◌, nat_lt, ◌==◌, ℕ, Bool, not, List, [], ◌∷◌, ◌++◌, length, map, if◌then◌else◌, Option, Some, None, ⊤}
 use Rattle.std.specs.List.{filter, AllByRecursion, Contains, list_any}
 use Rattle.zorder.specs.declared.points.Point.{Point}
 use Rattle.cell_format.specs.declared.cell.Cell.{Cell}
-use Rattle.plain_list.specs.World.{World}
+use Rattle.plain_list.specs.Places.{IsRising}
+use Rattle.plain_list.specs.World.{World, places_of}
 use Rattle.fence_watch.specs.declared.fences.Fence.{Fence}
 use Rattle.fence_watch.specs.declared.fences.Event.{Event}
 use Rattle.recovery.specs.declared.walked.Walked.{Walked}
 use Rattle.recovery.specs.Walks.{object_of}
 use Rattle.fence_watch.specs.Fences.{lies_in, inside_of}
-use Rattle.fence_watch.specs.Crossings.{world_after_cells, crossings_by, crossings}
+use Rattle.fence_watch.specs.Crossings.{world_after_cells, crossings_by, crossings_from}
 
 -- how many events there may be
 abbrev pub most_events : ℕ
@@ -76,10 +77,21 @@ IsOver walked old = IsOverBy walked.at (object_of walked.cell) walked.before wal
 abbrev pub guard_in : World → Fence → Guard
 guard_in world f = record { fence = f; inside = inside_of world f }
 
--- the watch after steps along these cells: their crossings, and who is inside in the world that they leave
-pub record FollowsCells (cells : List Cell) (fences : List Fence) (v : WatchView) : Type 0 where
-  pub events : v.events ≡ crossings cells fences
-  pub guards : v.guards ≡ map (guard_in (world_after_cells [] cells)) fences
+-- The watch after steps along these cells, the first of which has this number and stands behind this world, whose ids rise: their
+-- crossings, the first of which were taken, and who is inside in the world that they leave.
+pub record FollowsFrom (at : ℕ) (world : World) (taken : List Event) (cells : List Cell) (fences : List Fence) (v : WatchView) : Type 0 where
+  pub rising : IsRising (places_of world)
+  pub events : taken ++ v.events ≡ crossings_from at world cells fences
+  pub guards : v.guards ≡ map (guard_in (world_after_cells world cells)) fences
+
+-- the same along the cells of a log, from the first one on
+abbrev pub FollowsCells : List Cell → List Fence → WatchView → Type 0
+FollowsCells cells fences v = FollowsFrom 0 [] [] cells fences v
+
+-- who is inside each fence is so in this world, whose ids rise
+pub record HoldsWorld (world : World) (fences : List Fence) (v : WatchView) : Type 0 where
+  pub rising : IsRising (places_of world)
+  pub guards : v.guards ≡ map (guard_in world) fences
 
 -- the ids inside the fence of this number, where there is one
 abbrev pub inside_at : ℕ → List Guard → Option (List ℕ)

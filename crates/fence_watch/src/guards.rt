@@ -1,11 +1,14 @@
 //! Fences, each with the ids inside it.
 ghost use Rattle.std.specs.Prelude.{◌≡◌, [], length, map, Some, OnOk, IfOk};
+ghost use Rattle.fence_watch.specs.Fences.{inside_of};
+ghost use Rattle.fence_watch.specs.Watches.{guard_in};
 ghost use Rattle.fence_watch.specs.Passages.{turns_in, turns_of};
 ghost use Rattle.fence_watch.specs.Guards.{AreRising, AllRising, guard_of, guards_of, behind_by, crossed_by, crossed_in, HaveRoom, HasRoom};
 
 use crate::fences::{Crossing, Fence};
 use crate::ids::{put_id, take_id};
 use crate::passages::Pair;
+use plain_list::Member;
 use std::alloc::{AllocError, Global};
 
 // It has no view of its own, so that contracts see how much room there is.
@@ -28,6 +31,37 @@ pub(crate) fn guard(alloc: Global, fences: &[Fence]) -> Result<Vec<Guarded>, All
         })?;
     }
     Ok(guards)
+}
+
+/// Fences, each with the ids of these objects that are inside.
+pub(crate) fn guard_over(
+    alloc: Global,
+    fences: &[Fence],
+    members: &[Member],
+) -> Result<Vec<Guarded>, AllocError>
+    ensures { IfOk result (λ guards. guards_of guards.items ≡ map (guard_in members.now) fences.now) }
+{
+    let mut guards = Vec::new(alloc);
+    for fence in fences {
+        let inside = ids_inside(alloc, fence, members)?;
+        guards.push(Guarded {
+            fence: *fence,
+            inside,
+        })?;
+    }
+    Ok(guards)
+}
+
+fn ids_inside(alloc: Global, fence: &Fence, members: &[Member]) -> Result<Vec<u64>, AllocError>
+    ensures { IfOk result (λ ids. ids.items ≡ inside_of members.now fence.now) }
+{
+    let mut ids = Vec::new(alloc);
+    for member in members {
+        if fence.region.has(member.at) {
+            ids.push(member.id)?;
+        }
+    }
+    Ok(ids)
 }
 
 /// Takes room for an id in each fence that is entered.

@@ -9,11 +9,11 @@ ghost use Rattle.recovery.specs.Walks.{object_of, IsNextWalked};
 ghost use Rattle.fence_watch.specs.declared.fences.Fence.{Fence};
 ghost use Rattle.fence_watch.specs.declared.fences.Event.{Event};
 ghost use Rattle.log_state.specs.Recovers.{state_of};
-ghost use Rattle.fence_watch.specs.Crossings.{crossings, crossings_from, world_after_cells};
+ghost use Rattle.fence_watch.specs.Crossings.{crossings, crossings_from, world_after_cells, IsNextFrom};
 ghost use Rattle.fence_watch.specs.Passages.{ShowsPassage};
 ghost use Rattle.fence_watch.specs.Watches.{most_events};
 ghost use Rattle.fence_watch.specs.Counts.{fences_counted};
-ghost use Rattle.fence_watch.specs.Tallies.{Shows, Tallies, TalliesBy, TalliesFrom, TalliesCells, IsNextFrom, IsPast, IsPastBy, count_in};
+ghost use Rattle.fence_watch.specs.Tallies.{Shows, Tallies, TalliesBy, TalliesFrom, TalliesCells, IsPast, IsPastBy, count_in};
 ghost use Rattle.fence_watch.specs.Tallies.{FollowsWorld, IsStepOf};
 
 use crate::counts::{FenceCount, Step, counted, pass_counted, uncounted};
@@ -98,8 +98,9 @@ impl Tally {
     /// Goes on along a cell.
     pub fn step(&mut self, walked: &Walked) -> Result<(), WatchFault>
         ensures ok { OnOk result (Tallies walked.now self.old self.new) }
-        ensures follows { OnOk result ((w : ℕ) (taken : List Event) (cells : List Cell) (fences : List Fence) → TalliesCells taken cells fences self.old
-            → IsNextWalked w cells walked.now → TalliesCells taken (cells ++ walked.now.cell ∷ []) fences self.new) }
+        ensures follows { OnOk result ((w : ℕ) (taken : List Event) (cells : List Cell) (fences : List Fence)
+            → TalliesCells taken cells fences self.old → IsNextWalked w cells walked.now
+            → TalliesCells taken (cells ++ walked.now.cell ∷ []) fences self.new) }
         ensures from { OnOk result ((at : ℕ) (world : World) (taken : List Event) (cells : List Cell) (fences : List Fence)
             → TalliesFrom at world taken cells fences self.old → IsNextFrom at world cells walked.now
             → TalliesFrom at world taken (cells ++ walked.now.cell ∷ []) fences self.new) }
@@ -117,7 +118,8 @@ impl Tally {
         self.moved(walked.at, id, walked.before, walked.after)
     }
 
-    /// Goes on with a step of a program's own: an object went from one place to another. It is nowhere before it is put, and after it was dropped.
+    /// Goes on with a step of a program's own: an object went from one place to another. It is nowhere before it is put, and after it was
+    /// dropped.
     ///
     /// The number is the program's, and stands in the events of this step: a place in its history, say.
     pub fn moved(

@@ -6,16 +6,22 @@ ghost use Rattle.recovery.specs.Walks.{object_of, IsNextWalked};
 ghost use Rattle.fence_watch.specs.declared.fences.Fence.{Fence};
 ghost use Rattle.log_state.specs.Recovers.{state_of};
 ghost use Rattle.fence_watch.specs.Fences.{AreOthers};
-ghost use Rattle.fence_watch.specs.Crossings.{crossings};
-ghost use Rattle.fence_watch.specs.Watches.{Steps, StepsBy, IsOver, IsOverBy, HoldsBefore, FollowsCells, IsInside, inside_at, most_events};
+ghost use Rattle.plain_list.specs.World.{World};
+ghost use Rattle.plain_list.specs.declared.ops.Op.{Op};
+ghost use Rattle.plain_list.specs.Answer.{answer_of, after_of};
+ghost use Rattle.fence_watch.specs.declared.fences.Event.{Event};
+ghost use Rattle.fence_watch.specs.Crossings.{crossings, crossings_from, IsNextFrom};
+ghost use Rattle.fence_watch.specs.Watches.{Steps, StepsBy, IsOver, IsOverBy, HoldsBefore, FollowsFrom, FollowsCells, HoldsWorld};
+ghost use Rattle.fence_watch.specs.Watches.{IsInside, inside_at, most_events};
 ghost use Rattle.fence_watch.specs.Guards.{AllRising, guards_of, crossed_by};
-ghost use Rattle.fence_watch.specs.Tallies.{IsPastBy, Shows, TalliesBy};
+ghost use Rattle.fence_watch.specs.Tallies.{IsPastBy, IsStepOf, Shows, TalliesBy};
 
 use crate::fences::{Event, Fences};
-use crate::guards::{Guarded, cross, guard, make_room};
+use crate::guards::{Guarded, cross, guard, guard_over, make_room};
 use crate::passages::{Pair, Went};
 use crate::tally::Tally;
 use cell_format::Cell;
+use plain_list::World;
 use recovery::Walked;
 use std::alloc::Global;
 use std::marker::Model;
@@ -63,12 +69,25 @@ impl Watch {
         })
     }
 
-    /// The events so far.
+    /// No step was made yet, and a world's objects are inside. It looks at each of them for each fence, twice.
+    pub fn over(alloc: Global, fences: Fences, world: &World) -> Result<Watch, Memory>
+        ensures from { IfOk result (λ w. (at : ℕ) → FollowsFrom at world.now [] [] fences w) }
+        ensures world { IfOk result (λ w. HoldsWorld world.now fences w) }
+    {
+        Ok(Watch {
+            guards: guard_over(alloc, fences.as_slice(), world.as_slice())?,
+            tally: Tally::over(alloc, &fences, world)?,
+        })
+    }
+
+    /// The events so far, without those that were taken.
     pub fn events(&self) -> &[Event]
         ensures events { result.now ≡ self.now.events }
         ensures few { length self.now.events ≤ most_events }
         ensures follows { (cells : List Cell) (fences : List Fence) → FollowsCells cells fences self.now
             → result.now ≡ crossings cells fences }
+        ensures from { (at : ℕ) (world : World) (taken : List Event) (cells : List Cell) (fences : List Fence)
+            → FollowsFrom at world taken cells fences self.now → taken ++ result.now ≡ crossings_from at world cells fences }
     {
         self.tally.events()
     }
@@ -79,6 +98,8 @@ impl Watch {
             (λ ids. inside_at fence self.now.guards ≡ Some ids.now) }
         ensures follows { (w : ℕ) (cells : List Cell) (fences : List Fence) → FollowsCells cells fences self.now
             → MatchOption result (AreOthers fence fences) (λ ids. IsInside fence (state_of w cells).world fences ids.now) }
+        ensures world { (world : World) (fences : List Fence) → HoldsWorld world fences self.now
+            → MatchOption result (AreOthers fence fences) (λ ids. IsInside fence world fences ids.now) }
     {
         for guard in &self.guards {
             if guard.fence.id == fence {
@@ -94,6 +115,9 @@ impl Watch {
         ensures ok { OnOk result (Steps walked.now self.old self.new) }
         ensures follows { OnOk result ((w : ℕ) (cells : List Cell) (fences : List Fence) → FollowsCells cells fences self.old
             → IsNextWalked w cells walked.now → FollowsCells (cells ++ walked.now.cell ∷ []) fences self.new) }
+        ensures from { OnOk result ((at : ℕ) (world : World) (taken : List Event) (cells : List Cell) (fences : List Fence)
+            → FollowsFrom at world taken cells fences self.old → IsNextFrom at world cells walked.now
+            → FollowsFrom at world taken (cells ++ walked.now.cell ∷ []) fences self.new) }
         ensures err { OnErr result (self.new ≡ self.old) }
         ensures too_many { (result ≡ Err WatchFault.TooMany) ↔ IsOver walked.now self.old }
     {
@@ -115,6 +139,8 @@ impl Watch {
     ) -> Result<(), WatchFault>
         requires { HoldsBefore (Some id) before self.old.guards }
         ensures ok { OnOk result (StepsBy at (Some id) before after self.old self.new) }
+        ensures world { OnOk result ((world : World) (op : Op) (fences : List Fence) → HoldsWorld world fences self.old
+            → IsStepOf id before after op (answer_of world op) → HoldsWorld (after_of world op) fences self.new) }
         ensures err { OnErr result (self.new ≡ self.old) }
         ensures too_many { (result ≡ Err WatchFault.TooMany) ↔ IsOverBy at (Some id) before after self.old }
     {
@@ -126,6 +152,17 @@ impl Watch {
             after,
         };
         pass(&mut self.guards, &mut self.tally, &went, &passage)
+    }
+
+    /// Takes the events out, so that there is room for as many again. Who is inside stays.
+    pub fn take_events(&mut self, alloc: Global) -> Vec<Event>
+        ensures events { result.items ≡ self.old.events }
+        ensures rest { self.new ≡ record { guards = self.old.guards; events = [] } }
+        ensures from { (at : ℕ) (world : World) (taken : List Event) (cells : List Cell) (fences : List Fence)
+            → FollowsFrom at world taken cells fences self.old → FollowsFrom at world (taken ++ result.items) cells fences self.new }
+        ensures world { (world : World) (fences : List Fence) → HoldsWorld world fences self.old → HoldsWorld world fences self.new }
+    {
+        self.tally.take_events(alloc)
     }
 }
 

@@ -1,6 +1,5 @@
 -- A watch along the cells of a log.
-use Rattle.std.proofs.Common.{◌≡◌, inl, inr, false, ℕ, ◌+◌, ◌<◌, ◌≤◌, List, [], ◌∷◌, ◌++◌, length, map, Some, None, Result, Ok, Err, refl, sym, ◌∙◌, ap, subst, arith, length-append}
-use Rattle.std.proofs.lemmas.Bool.{cases_lt}
+use Rattle.std.proofs.Common.{◌≡◌, inl, inr, false, ℕ, ◌<◌, ◌≤◌, List, [], ◌∷◌, ◌++◌, length, map, Some, None, Result, Ok, Err, refl, sym, ◌∙◌, ap, subst, arith, length-append}
 use Rattle.causes.specs.Causes.{Rose}
 use Rattle.std.specs.Prelude.{MatchResult}
 use Rattle.std.specs.Result.{IsErrAnd}
@@ -14,9 +13,9 @@ use Rattle.recovery.specs.declared.walked.Walked.{Walked}
 use Rattle.recovery.specs.Faults.{BeginsWith, IsFault}
 use Rattle.recovery.specs.Found.{IsFree}
 use Rattle.recovery.specs.Reading.{IsBehind, OnlyReads}
-use Rattle.recovery.specs.Walks.{ComesTo, TellsWalked, WalkView}
+use Rattle.recovery.specs.Walks.{ComesTo, WalkView}
 use Rattle.recovery.specs.Walked.{object_of}
-use Rattle.recovery.specs.Widths.{HasWidth, IsWidthOf}
+use Rattle.recovery.specs.Widths.{IsWidthOf}
 use Rattle.recovery.proofs.ReadingLemmas.{behind_cells}
 use Rattle.recovery.proofs.Exclusive.{recovers_wanted, told_fault, told_free}
 use Rattle.recovery.proofs.WidthLemmas.{fault_at, fault_seen, recovers_width, same_width}
@@ -28,19 +27,16 @@ use Rattle.run_ends.proofs.AttachFacts.{attaches-one}
 use Rattle.log_run.proofs.DriveSteps.{may-behind}
 use Rattle.fence_watch.specs.declared.fences.Fence.{Fence}
 use Rattle.fence_watch.specs.Crossings.{crossings}
-use Rattle.fence_watch.specs.Tallies.{IsPast, Tallies, TalliesCells, TallyView, count_behind, events_told}
+use Rattle.fence_watch.specs.Alongs.{IsLed}
+use Rattle.fence_watch.specs.Tallies.{IsPast, TalliesCells, TallyView, count_behind, events_told}
 use Rattle.fence_watch.specs.Watches.{most_events}
 use Rattle.fence_watch.proofs.Tallying.{tallies-step}
 use Rattle.fence_watch.specs.declared.watch.WatchFault.{WatchFault}
 use Rattle.fence_watch.specs.declared.watch.WatchFault.TheVariants as watch_fault
 use Rattle.watch_run.specs.Watching.{IsCrowded, ShowsCrowd}
-use Rattle.watch_run.specs.inside.Along.{FindsAlong, HaveGone, IsBegun, IsCalm, RefusesAttached, RefusesFile, RunsAlong, RunsFile, watch_refusal}
+use Rattle.watch_run.specs.inside.Along.{FindsAlong, IsCalm, RefusesAttached, RefusesFile, RunsAlong, RunsFile, watch_refusal}
 use Rattle.watch_run.proofs.Crowds.{crowd-damaged, crowd-long}
-use Rattle.watch_run.proofs.Stops.{FailsAlong, calm-still, calm-trans, refuses-crowd, refuses-later, refuses-memory}
-
--- before the first cell
-pub gone-first : {D : Type 0} (fences : List Fence) (drive : Drive) (walk : WalkView D) (v : TallyView) → IsBegun fences drive walk v → HaveGone walk.reading.replay.width fences drive drive walk v
-gone-first fences drive walk v begun = record { cells = []; came = begun.started.comes; tallies = begun.none; under = omega (arith, ap length begun.none.events); calm = calm-still drive }
+use Rattle.watch_run.proofs.Stops.{FailsAlong, calm-trans, refuses-crowd, refuses-later, refuses-memory}
 
 -- a call that went well
 pub calm-reads : {T : Type 0} (old new : Drive) (x : T) → OnlyReads old new (Ok x) → IsCalm old new
@@ -55,94 +51,76 @@ module _ {D : Type 0} (w : ℕ) (cells : List Cell) (drive : Drive) (walk : Walk
       let some : 1 ≤ length (walk.reading.rest ++ at.1) = omega (arith, at.0, came.room, (behind_cells walk.reading.replay.version w cells (walk.reading.rest ++ at.1) bytes begins).1) in
       (walk.reading.rest ++ at.1, begins, some)
 
--- a walk and a watch behind the same cells, and the drive as it was at first, before a call and after it
-module _ {D : Type 0} (w : ℕ) (fences : List Fence) (first now after : Drive) (walk : WalkView D) (v : TallyView) (width : IsWidthOf first w) (have : HaveGone w fences first now walk v) where
-  has-now : (bytes : List ℕ) → now.bytes ≡ Some bytes → HasWidth w bytes
-  has-now bytes told = width.named bytes (sym have.calm.stays.bytes ∙ told)
-
+-- a watch that was led along a log from its first cell on, with the drive as it was at first, and as it is left
+module _ {D : Type 0} (w : ℕ) (fences : List Fence) (first after : Drive) (walk : WalkView D) (v : TallyView) (width : IsWidthOf first w) (few : length v.events ≤ most_events) where
   -- the cells have no more crossings than are kept
-  never : most_events < length (crossings have.cells fences) → ⊥
-  never over = omega (arith, have.under, over, ap length have.tallies.events)
-
-  -- a fault there
-  module _ (new : WalkView D) where
-    behind-free : (e : OpenFault) → (e ≡ fault.Disk → Rose now.faults after.faults) → IsBehind most_inspected (length have.cells) e → (bytes : List ℕ) → now.bytes ≡ Some bytes → IsFault oldest_read w most_inspected bytes e → IsCrowded fences bytes → IsFree now after e
-    behind-free fault.NotLog rose behind bytes told is crowd = absurd behind
-    behind-free (fault.OldLog version width) rose behind bytes told is crowd = absurd behind
-    behind-free (fault.Damaged n why) rose behind bytes told is crowd =
-        let at = begins-there w have.cells now walk have.came bytes told in
-        absurd (never (crowd-damaged fences bytes crowd walk.reading.replay.version w have.cells at.0 n why at.1 behind.0 is))
-    behind-free (fault.TooLong limit) rose behind bytes told is crowd =
-        let at = begins-there w have.cells now walk have.came bytes told in
-        absurd (never (crowd-long fences bytes crowd walk.reading.replay.version w have.cells at.0 at.1 behind.1 is.1))
-    behind-free fault.Disk rose behind bytes told is crowd = inr (rose refl)
-    behind-free fault.Memory rose behind bytes told is crowd = inl refl
-
-    pub fails-next : (e : OpenFault) → TellsWalked w most_inspected have.cells now after new (Err e) → OnlyReads {T = Unit {0}} now after (Err e) → FailsAlong fences now after e
-    fails-next e tells reads =
-        let rose : e ≡ fault.Disk → Rose now.faults after.faults = λ disk. reads.failed (ap (λ (f : OpenFault). Err f) disk) in
-        record {
-          may = may-behind oldest_read most_inspected (length have.cells) e tells.1;
-          wrong = λ bytes told. fault_seen oldest_read most_inspected bytes w (has-now bytes told) e (tells.2 bytes told);
-          crowd = λ bytes told crowd. behind-free e rose tells.1 bytes told (tells.2 bytes told) crowd;
-          exact = λ bytes f told shown is. told_fault oldest_read w most_inspected (omega arith) bytes now after e f (tells.2 bytes told) rose shown (fault_at oldest_read most_inspected bytes w (has-now bytes told) f is);
-          whole = λ bytes u cells told known recovers short.
-              let same : u ≡ w = same_width u w bytes (recovers_width u cells bytes known recovers) (has-now bytes told) in
-              told_free oldest_read w most_inspected (omega arith) bytes now after e cells (tells.2 bytes told) rose (subst (λ n. Recovers n cells bytes) same recovers) (recovers_wanted u cells bytes recovers) short;
-          reads = reads;
-        }
+  never : (cells : List Cell) → TalliesCells [] cells fences v → most_events < length (crossings cells fences) → ⊥
+  never cells tallies over = omega (arith, few, over, ap length tallies.events)
 
   -- the end
-  pub finds-all : (new : WalkView D) → TellsWalked w most_inspected have.cells now after new (Ok None) → FindsAlong fences first v
-  finds-all new tells = record {
+  pub finds-all : IsLed w most_inspected [] [] [] fences first after walk v (Ok None) → FindsAlong fences first v
+  finds-all led = record {
     width = w;
-    cells = have.cells;
-    found = record { known = width.known; legal = have.came.legal; few = have.came.few; recovers = λ bytes told. tells.1 bytes (have.calm.stays.bytes ∙ told) };
-    tallies = have.tallies;
-    under = have.under;
+    cells = led.cells;
+    found = record { known = width.known; legal = led.tells.0.legal; few = led.tells.0.few; recovers = led.tells.1 };
+    tallies = led.tallies;
+    under = few;
   }
 
-  -- one cell more
-  module _ (new : WalkView D) (walked : Walked) (tells : TellsWalked w most_inspected have.cells now after new (Ok (Some walked))) (calm : IsCalm now after) where
-    pub gone-further : (next : TallyView) → Tallies walked v next → (IsPast walked v → ⊥) → HaveGone w fences first after new next
-    gone-further next steps within = record {
-      cells = have.cells ++ walked.cell ∷ [];
-      came = tells.0;
-      tallies = tallies-step w [] have.cells fences walked v next have.tallies tells.1 steps;
-      under = elim (cases_lt most_events (length v.events + length (events_told walked v.counts))) [
-        | inl over ↦ absurd (within over)
-        | inr under ↦ omega (arith, under, ap length steps.events, length-append v.events (events_told walked v.counts))
-      ];
-      calm = calm-trans first now after have.calm calm;
+  -- a fault in the log
+  module _ (e : OpenFault) (led : IsLed w most_inspected [] [] [] fences first after walk v (Err e)) (reads : OnlyReads {T = Unit {0}} first after (Err e)) where
+    rose : e ≡ fault.Disk → Rose first.faults after.faults
+    rose disk = reads.failed (ap (λ (f : OpenFault). Err f) disk)
+
+    behind-free : (f : OpenFault) → e ≡ f → IsBehind most_inspected (length led.cells) f → (bytes : List ℕ) → first.bytes ≡ Some bytes → IsFault oldest_read w most_inspected bytes f → IsCrowded fences bytes → IsFree first after f
+    behind-free fault.NotLog same behind bytes told is crowd = absurd behind
+    behind-free (fault.OldLog version width) same behind bytes told is crowd = absurd behind
+    behind-free (fault.Damaged n why) same behind bytes told is crowd =
+        let at = begins-there w led.cells after walk led.tells.0 bytes (reads.stays.bytes ∙ told) in
+        absurd (never led.cells led.tallies (crowd-damaged fences bytes crowd walk.reading.replay.version w led.cells at.0 n why at.1 behind.0 is))
+    behind-free (fault.TooLong limit) same behind bytes told is crowd =
+        let at = begins-there w led.cells after walk led.tells.0 bytes (reads.stays.bytes ∙ told) in
+        absurd (never led.cells led.tallies (crowd-long fences bytes crowd walk.reading.replay.version w led.cells at.0 at.1 behind.1 is.1))
+    behind-free fault.Disk same behind bytes told is crowd = inr (rose same)
+    behind-free fault.Memory same behind bytes told is crowd = inl refl
+
+    pub fails-led : FailsAlong fences first after e
+    fails-led = record {
+      may = may-behind oldest_read most_inspected (length led.cells) e led.tells.1;
+      wrong = λ bytes told. fault_seen oldest_read most_inspected bytes w (width.named bytes told) e (led.tells.2 bytes told);
+      crowd = λ bytes told crowd. behind-free e refl led.tells.1 bytes told (led.tells.2 bytes told) crowd;
+      exact = λ bytes f told shown is.
+          told_fault oldest_read w most_inspected (omega arith) bytes first after e f (led.tells.2 bytes told) rose shown (fault_at oldest_read most_inspected bytes w (width.named bytes told) f is);
+      whole = λ bytes u cells told known recovers short.
+          let same : u ≡ w = same_width u w bytes (recovers_width u cells bytes known recovers) (width.named bytes told) in
+          told_free oldest_read w most_inspected (omega arith) bytes first after e cells (led.tells.2 bytes told) rose (subst (λ n. Recovers n cells bytes) same recovers) (recovers_wanted u cells bytes recovers) short;
+      reads = reads;
     }
 
+  -- a cell that the watch didn't take
+  module _ (walked : Walked) (led : IsLed w most_inspected [] [] [] fences first after walk v (Ok (Some walked))) (calm : IsCalm first after) where
     -- with which there are too many crossings
-    pub crowd-now : IsPast walked v → ShowsCrowd fences first
+    crowd-now : IsPast walked v → ShowsCrowd fences first
     crowd-now over bytes told =
-        let at = begins-there w (have.cells ++ walked.cell ∷ []) after new tells.0 bytes (calm.stays.bytes ∙ have.calm.stays.bytes ∙ told) in
+        let at = begins-there w (led.cells ++ walked.cell ∷ []) after walk led.tells.0 bytes (calm.stays.bytes ∙ told) in
         let next : TallyView = record { counts = map (count_behind (object_of walked.cell) walked.before walked.after) v.counts; events = v.events ++ events_told walked v.counts } in
-        let tallies : TalliesCells [] (have.cells ++ walked.cell ∷ []) fences next = tallies-step w [] have.cells fences walked v next have.tallies tells.1 (record { events = refl; counts = refl }) in
+        let tallies : TalliesCells [] (led.cells ++ walked.cell ∷ []) fences next = tallies-step w [] led.cells fences walked v next led.tallies led.tells.1 (record { events = refl; counts = refl }) in
         record {
-          version = new.reading.replay.version;
-          wanted = tells.0.wanted;
+          version = walk.reading.replay.version;
+          wanted = led.tells.0.wanted;
           width = w;
           known = width.known;
-          cells = have.cells ++ walked.cell ∷ [];
+          cells = led.cells ++ walked.cell ∷ [];
           tail = at.0;
           begins = at.1;
           some = at.2;
-          few = tells.0.few;
+          few = led.tells.0.few;
           over = omega (arith, over, ap length tallies.events, length-append v.events (events_told walked v.counts));
         }
 
-    -- whatever stops the watch there
-    pub stops-step : (why : WatchFault) → (why ≡ watch_fault.TooMany → IsPast walked v) → RefusesAttached fences first after (watch_refusal why)
-    stops-step watch_fault.TooMany over =
-        let all : IsCalm first after = calm-trans first now after have.calm calm in
-        record { refuses = refuses-crowd fences first after all (crowd-now (over refl)); file = all.file }
-    stops-step watch_fault.Memory over =
-        let all : IsCalm first after = calm-trans first now after have.calm calm in
-        record { refuses = refuses-memory fences first after all.stays all.same; file = all.file }
+    pub stops-led : (why : WatchFault) → (why ≡ watch_fault.TooMany → IsPast walked v) → RefusesAttached fences first after (watch_refusal why)
+    stops-led watch_fault.TooMany over = record { refuses = refuses-crowd fences first after calm (crowd-now (over refl)); file = calm.file }
+    stops-led watch_fault.Memory over = record { refuses = refuses-memory fences first after calm.stays calm.same; file = calm.file }
 
 -- what is said of a drive that was only read before
 module _ (fences : List Fence) (a b c : Drive) (calm : IsCalm a b) where
@@ -188,18 +166,6 @@ module _ (fences : List Fence) (file : List ℕ) (a b c : Drive) (stays : Stays 
 pub match-as : {T E : Type 0} {P Q : T → Type 0} {R S : E → Type 0} (result : Result T E) → ((x : T) → P x → Q x) → ((e : E) → R e → S e) → MatchResult result P R → MatchResult result Q S
 match-as (Ok x) f g holds = f x holds
 match-as (Err e) f g holds = g e holds
-
-err-same : {T : Type 0} (e f : OpenFault) → ◌≡◌ {A = Result T OpenFault} (Err e) (Err f) → e ≡ f
-err-same e f is = cc is
-
-pub reads-as : {T : Type 0} (old new : Drive) (e : OpenFault) → OnlyReads {T = T} old new (Err e) → OnlyReads {T = Unit {0}} old new (Err e)
-reads-as old new e reads = record {
-  stays = reads.stays;
-  later = reads.later;
-  same = reads.same;
-  failed = λ is. reads.failed (ap (λ (f : OpenFault). Err f) (err-same e fault.Disk is));
-  file = reads.file;
-}
 
 -- a refusal, handed on
 pub passed-on : {T : Type 0} (P : T → Type 0) (R : Refusal → Type 0) (result : Result T Refusal) (why : Refusal) → IsErrAnd result (λ other. other ≡ why) → R why → MatchResult result P R

@@ -28,9 +28,6 @@ use Rattle.watch_run.proofs.Crowds.{crowd-recovers, crowd-width}
 pub stays-still : (a : Drive) → Stays a a
 stays-still a = record { bytes = refl; images = λ c left. left; clock = refl; since = λ t c left. left; keeps = λ t c left. left; calls = λ all told. told }
 
-pub calm-still : (a : Drive) → IsCalm a a
-calm-still a = record { stays = stays-still a; same = refl; file = λ all told. told }
-
 pub calm-trans : (a b c : Drive) → IsCalm a b → IsCalm b c → IsCalm a c
 calm-trans a b c first second = record { stays = stays-trans a b c first.stays second.stays; same = second.same ∙ first.same; file = λ all told. first.file all (second.file all told) }
 

@@ -4,8 +4,8 @@ ghost use Rattle.fence_watch.specs.declared.fences.Fence.{Fence};
 ghost use Rattle.watch_run.specs.inside.Along.{IsBegun, IsStarted, RefusesAttached, RefusesFile, RunsAlong, RunsFile, watch_refusal};
 
 use disk_trait::LogDisk;
-use fence_watch::{Fences, Tally, WatchFault};
-use recovery::{OpenRefused, Walk, Walked};
+use fence_watch::{AlongFault, Fences, Tally, WatchFault};
+use recovery::{OpenRefused, Walk};
 use run_ends::{MOST_INSPECTED, Refusal, Unmade, attach, log_refusal};
 use std::alloc::Global;
 
@@ -94,16 +94,10 @@ fn go_along<D: LogDisk>(walk: &mut Walk<D>, watch: &mut Tally) -> Result<(), Ref
         → MatchResult result (λ _. RunsAlong fences (D.drive walk.old.disk) (D.drive walk.new.disk) watch.new)
         (λ why. RefusesAttached fences (D.drive walk.old.disk) (D.drive walk.new.disk) why) }
 {
-    'cells: loop {
-        match walk.next() {
-            Ok(Some(walked)) => {
-                if let Err(fault) = watch.step(&walked) {
-                    return Err(watch_refusal(fault));
-                }
-            }
-            Ok(None) => return Ok(()),
-            Err(fault) => return Err(log_refusal(fault)),
-        }
+    match watch.along(walk) {
+        Ok(()) => Ok(()),
+        Err(AlongFault::Watch(fault)) => Err(watch_refusal(fault)),
+        Err(AlongFault::Log(fault)) => Err(log_refusal(fault)),
     }
 }
 

@@ -5,7 +5,7 @@ use Rattle.disk_trait.specs.Drive.{Drive, SameFile, Stays}
 use Rattle.cell_format.specs.declared.cell.Cell.{Cell}
 use Rattle.log_state.specs.Recovers.{Recovers}
 use Rattle.recovery.specs.Faults.{IsInBytes}
-use Rattle.recovery.specs.Walks.{ComesAlong, ComesTo, WalkView}
+use Rattle.recovery.specs.Walks.{ComesAlong, WalkView}
 use Rattle.recovery.specs.Widths.{IsWidth, IsLogFault}
 use Rattle.recovery.specs.declared.seen.OpenFault.{OpenFault}
 use Rattle.run_ends.specs.declared.refusals.Refusal.{Refusal}
@@ -80,14 +80,6 @@ IsStarted drive walk = ComesAlong walk.reading.replay.width most_inspected [] dr
 pub record IsBegun {D : Type 0} (fences : List Fence) (drive : Drive) (walk : WalkView D) (v : TallyView) : Type 0 where
   pub started : IsStarted drive walk
   pub none : TalliesCells [] [] fences v
-
--- both behind the same cells
-pub record HaveGone {D : Type 0} (w : ℕ) (fences : List Fence) (first now : Drive) (walk : WalkView D) (v : TallyView) : Type 0 where
-  pub cells : List Cell
-  pub came : ComesTo w most_inspected cells now walk
-  pub tallies : TalliesCells [] cells fences v
-  pub under : length v.events ≤ most_events
-  pub calm : IsCalm first now
 
 -- the refusal of a fault of a watch
 abbrev pub watch_refusal : WatchFault → Refusal

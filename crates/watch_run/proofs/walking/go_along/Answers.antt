@@ -1,62 +1,38 @@
-use Rattle.std.proofs.Common.{Err, ap, arith, length-append, ◌∷◌, []}
+use Rattle.std.proofs.Common.{[]}
 use Rattle.run_ends.specs.Limits.{most_inspected}
-use Rattle.fence_watch.specs.declared.watch.WatchFault.{WatchFault}
-use Rattle.watch_run.proofs.Stops.{calm-trans, refuses-fault}
-use Rattle.watch_run.proofs.Alongs.{calm-reads, fails-next, finds-all, gone-first, gone-further, reads-as, refused-later, stops-step}
+use Rattle.watch_run.proofs.Stops.{refuses-fault}
+use Rattle.watch_run.proofs.Alongs.{calm-reads, fails-led, finds-all, stops-led}
 use Rattle.watch_run.proofs.walking.go_along.Goals as goal
 
-pub cells-init : goal.cells-init
-cells-init g c = λ fences begun. gone-first fences _ _ _ begun
+pub along-requires : goal.along-requires
+along-requires g c = (_, most_inspected, [], c.requires.1.started.comes)
 
-pub returns-in-Err-step : goal.returns-in-Err-step
-returns-in-Err-step g c =
-    let drive = g.D.LogDisk.drive in
-    let told = rw c.in-Ok-Some.field-0-is at c.in-Ok-Some.ensures in
+pub returns-in-Ok : goal.returns-in-Ok
+returns-in-Ok g c =
+    let told = c.in-Ok.ensures in
+    record {
+      along = λ fences begun.
+          let led = told.along _ most_inspected [] [] [] fences begun.started.comes begun.none in
+          record { finds = finds-all _ fences _ _ _ _ begun.started.width told.few led; calm = calm-reads _ _ _ told.reads };
+    }
+
+pub returns-in-Err-Watch : goal.returns-in-Err-Watch
+returns-in-Err-Watch g c =
+    let told = rw c.in-Err-Watch.field-0-is at c.in-Err-Watch.ensures in
     rw c.watch_refusal.ensures
     (record {
       along = λ fences begun.
-          let have = c.cells.invariant fences begun in
-          stops-step _ fences (drive c.args.walk.now.disk) (drive c.cells.walk.disk) (drive c.next.new.self.disk) c.cells.walk c.cells.watch begun.started.width have c.next.new.self c.in-Ok-Some.walked
-          (told.tells _ most_inspected have.cells have.came) (calm-reads _ _ _ told.reads) c.in-Err-step.fault (λ e. c.in-Err-step.ensures.too_many.0 (ap (λ (f : WatchFault). Err f) e));
+          let led = told.along _ most_inspected [] [] [] fences begun.started.comes begun.none in
+          stops-led _ fences _ _ _ _ begun.started.width told.few led.0 led.1 (calm-reads _ _ _ told.reads) c.in-Err-Watch.fault led.2.0;
     })
 
-pub cells-smaller : goal.cells-smaller
-cells-smaller g c =
-    let have = c.cells.invariant c.requires.0 c.requires.1 in
-    let told = rw c.in-Ok-Some.field-0-is at c.in-Ok-Some.ensures in
-    let tells = told.tells _ most_inspected have.cells have.came in
-    omega (arith, tells.0.read.count, have.came.read.count, tells.0.few, length-append have.cells (c.in-Ok-Some.walked.cell ∷ []))
-
-pub cells-preserved : goal.cells-preserved
-cells-preserved g c = λ fences begun.
-    let drive = g.D.LogDisk.drive in
-    let told = rw c.in-Ok-Some.field-0-is at c.in-Ok-Some.ensures in
-    let have = c.cells.invariant fences begun in
-    gone-further _ fences (drive c.args.walk.now.disk) (drive c.cells.walk.disk) (drive c.next.new.self.disk) c.cells.walk c.cells.watch begun.started.width have c.next.new.self c.in-Ok-Some.walked
-    (told.tells _ most_inspected have.cells have.came) (calm-reads _ _ _ told.reads) c.step.new.self c.in_default.ensures.ok (λ over. c.in_default.not-Err _ (c.step.ensures.too_many.1 over))
-
-pub returns-in-Ok-None : goal.returns-in-Ok-None
-returns-in-Ok-None g c =
-    let drive = g.D.LogDisk.drive in
-    let told = rw c.in-Ok-None.field-0-is at c.in-Ok-None.ensures in
-    record {
-      along = λ fences begun.
-          let have = c.cells.invariant fences begun in
-          let found =
-          finds-all _ fences (drive c.args.walk.now.disk) (drive c.cells.walk.disk) (drive c.next.new.self.disk) c.cells.walk c.cells.watch begun.started.width have c.next.new.self (told.tells _ most_inspected have.cells have.came) in
-          record { finds = found; calm = calm-trans _ _ _ have.calm (calm-reads _ _ _ told.reads) };
-    }
-
-pub returns-in-Err : goal.returns-in-Err
-returns-in-Err g c =
-    let drive = g.D.LogDisk.drive in
+pub returns-in-Err-Log : goal.returns-in-Err-Log
+returns-in-Err-Log g c =
+    let told = rw c.in-Err-Log.field-0-is at c.in-Err-Log.ensures in
     rw c.log_refusal.ensures
     (record {
       along = λ fences begun.
-          let have = c.cells.invariant fences begun in
-          let reads = reads-as _ _ c.in-Err.fault c.in-Err.ensures.reads in
-          let fails =
-          fails-next _ fences (drive c.args.walk.now.disk) (drive c.cells.walk.disk) (drive c.next.new.self.disk) c.cells.walk c.cells.watch begun.started.width have c.next.new.self c.in-Err.fault
-          (c.in-Err.ensures.tells _ most_inspected have.cells have.came) reads in
-          refused-later fences _ _ _ have.calm _ (record { refuses = refuses-fault fences _ _ c.in-Err.fault fails; file = reads.file });
+          let led = told.along _ most_inspected [] [] [] fences begun.started.comes begun.none in
+          let fails = fails-led _ fences _ _ _ _ begun.started.width told.few c.in-Err-Log.fault led told.reads in
+          record { refuses = refuses-fault fences _ _ c.in-Err-Log.fault fails; file = told.reads.file };
     })

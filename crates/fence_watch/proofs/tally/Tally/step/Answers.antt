@@ -7,8 +7,10 @@ use Rattle.recovery.specs.Walks.{object_of, IsNextWalked}
 use Rattle.fence_watch.specs.declared.fences.Fence.{Fence}
 use Rattle.fence_watch.specs.declared.fences.Event.{Event}
 use Rattle.fence_watch.specs.declared.watch.WatchFault.{WatchFault}
-use Rattle.fence_watch.specs.Tallies.{TallyView, Tallies, TalliesBy, TalliesFrom, TalliesCells, IsNextFrom, IsPastBy}
-use Rattle.fence_watch.proofs.Tallying.{tallies-next, tallies-step, next-behind, split-stays, split-within}
+use Rattle.fence_watch.specs.Crossings.{IsNextFrom}
+use Rattle.fence_watch.specs.Tallies.{TallyView, Tallies, TalliesBy, TalliesFrom, TalliesCells, IsPastBy}
+use Rattle.fence_watch.proofs.Following.{next-behind}
+use Rattle.fence_watch.proofs.Tallying.{tallies-next, tallies-step, split-stays, split-within}
 use Rattle.fence_watch.proofs.tally.Tally.step.Goals as goal
 
 abbrev GoesOn : Walked → TallyView → TallyView → Type 0

@@ -4,7 +4,7 @@ use Rattle.std.proofs.lemmas.List.{drop_more, drop_all}
 use Rattle.fence_watch.specs.declared.guards.Guarded.{Guarded}
 use Rattle.fence_watch.specs.Guards.{guards_of}
 use Rattle.fence_watch.specs.Watches.{WatchView, inside_at}
-use Rattle.fence_watch.proofs.Answering.{some-follows, none-follows}
+use Rattle.fence_watch.proofs.Answering.{some-in, none-in, some-follows, none-follows}
 use Rattle.fence_watch.proofs.watch.Watch.inside.Goals as goal
 
 abbrev from : ℕ → ℕ → List Guarded → Option (List ℕ)
@@ -34,7 +34,7 @@ pub returns-then-guard-fence : goal.returns-then-guard-fence
 returns-then-guard-fence c =
     let found = c.loop-guard.invariant ∙ here c.args.fence c.loop-guard.guard-index c.deref-guard-items.result.now c.guard-item.result c.loop-guard-test.true c.guard-item.is c.if-guard-fence.true
     ∙ ap (λ (l : List ℕ). Some l) (sym c.as_slice.ensures.value) in
-    record { answer = found; follows = λ w cells fences f. some-follows w cells fences c.args.self.now c.args.fence c.as_slice.result.now found f }
+    record { answer = found; follows = λ w cells fences f. some-follows w cells fences c.args.self.now c.args.fence c.as_slice.result.now found f; world = λ world fences h. some-in world fences c.args.self.now c.args.fence c.as_slice.result.now found h.guards }
 
 pub loop-guard-preserved : goal.loop-guard-preserved
 loop-guard-preserved c =
@@ -43,4 +43,4 @@ loop-guard-preserved c =
 pub returns : goal.returns
 returns c =
     let none = c.loop-guard.invariant ∙ ap (λ (l : List Guarded). inside_at c.args.fence (guards_of l)) (drop_all c.loop-guard.guard-index c.deref-guard-items.result.now c.loop-guard-test.false) in
-    record { answer = none; follows = λ w cells fences f. none-follows cells fences c.args.self.now c.args.fence none f }
+    record { answer = none; follows = λ w cells fences f. none-follows cells fences c.args.self.now c.args.fence none f; world = λ world fences h. none-in world fences c.args.self.now c.args.fence none h.guards }

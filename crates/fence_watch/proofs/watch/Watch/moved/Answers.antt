@@ -1,14 +1,20 @@
-use Rattle.std.proofs.Common.{◌≡◌, ◌∙◌, ◌++◌, List, length, map, take, drop, OnOk, OnErr, Some, refl, sym, ap, subst}
+use Rattle.std.proofs.Common.{◌≡◌, ◌∙◌, ◌++◌, List, length, map, take, drop, OnOk, OnErr, ℕ, Option, Result, Ok, Err, Some, refl, sym, ap, subst}
+use Rattle.zorder.specs.declared.points.Point.{Point}
+use Rattle.plain_list.specs.declared.ops.Op.{Op}
+use Rattle.plain_list.specs.World.{World}
+use Rattle.plain_list.specs.Answer.{answer_of, after_of}
+use Rattle.fence_watch.specs.declared.watch.WatchFault.{WatchFault}
 use Rattle.fence_watch.specs.declared.fences.Fence.{Fence}
 use Rattle.fence_watch.specs.declared.guards.Guarded.{Guarded}
 use Rattle.fence_watch.specs.Guards.{AllRising, guards_of, guards_along}
 use Rattle.fence_watch.specs.Kept.{Keeps}
 use Rattle.fence_watch.specs.Passages.{ShowsPassage, turns_of}
-use Rattle.fence_watch.specs.Tallies.{TallyView}
-use Rattle.fence_watch.specs.Watches.{Guard, WatchView, HoldsBefore, StepsBy, IsOverBy, guard_behind}
+use Rattle.fence_watch.specs.Tallies.{TallyView, IsStepOf}
+use Rattle.fence_watch.specs.Watches.{Guard, WatchView, HoldsBefore, HoldsWorld, StepsBy, IsOverBy, guard_behind}
 use Rattle.fence_watch.proofs.Guarding.{past-over, over-past, steps-over, keeps-either, on-ok, on-both, on-err, on-neither}
 use Rattle.fence_watch.proofs.Passing.{guards-shown}
 use Rattle.fence_watch.proofs.Tallying.{rewritten}
+use Rattle.fence_watch.proofs.WorldSteps.{holds-step}
 use Rattle.fence_watch.proofs.watch.Watch.moved.Goals as goal
 
 pub pass-requires-clause-rising : goal.pass-requires-clause-rising
@@ -63,3 +69,13 @@ returns-clause-too_many c =
       (λ e. subst (λ (x : WatchView). IsOverBy c.args.at (Some c.args.id) c.args.before c.args.after x) c.self.view_is (over-past c.args.at (Some c.args.id) c.args.before c.args.after guards t keeps.fences (c.pass.ensures.too_many.0 e))),
       (λ over. c.pass.ensures.too_many.1 (past-over c.args.at (Some c.args.id) c.args.before c.args.after guards t keeps.fences (subst (λ (x : WatchView). IsOverBy c.args.at (Some c.args.id) c.args.before c.args.after x) (sym c.self.view_is) over))),
     )
+
+abbrev KeepsWorlds : ℕ → Option Point → Option Point → WatchView → WatchView → Type 0
+KeepsWorlds id before after old new = (world : World) (op : Op) (fences : List Fence) → HoldsWorld world fences old → IsStepOf id before after op (answer_of world op) → HoldsWorld (after_of world op) fences new
+
+keeps : (r : Result (Unit {0}) WatchFault) (at id : ℕ) (before after : Option Point) (old new : WatchView) → OnOk r (StepsBy at (Some id) before after old new) → OnOk r (KeepsWorlds id before after old new)
+keeps (Ok x) at id before after old new steps = λ world op fences holds step. holds-step world op fences at id before after old new holds step steps
+keeps (Err e) at id before after old new steps = tt
+
+pub returns-clause-world : goal.returns-clause-world
+returns-clause-world c = keeps c.pass.result c.args.at c.args.id c.args.before c.args.after c.args.self.now _ (returns-clause-ok c)

@@ -25,6 +25,7 @@ invariant_of-result c =
 
 pub returns : goal.returns
 returns c = record {
+  rising = tt;
   events = c.in_ok-new.ensures.events;
   guards = c.in_ok-guard.ensures.guards ∙ ap (λ (l : List Fence). map unguarded_by l) c.as_slice.ensures.fences;
 }

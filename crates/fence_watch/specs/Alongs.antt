@@ -1,0 +1,42 @@
+-- How a tally goes along the cells that a walk has before it.
+use Rattle.std.specs.Prelude.{◌≡◌, ◌↔◌, ◌≤◌, ℕ, List, ◌++◌, length, Option, Some, None, Result, Ok, Err}
+use Rattle.cell_format.specs.declared.cell.Cell.{Cell}
+use Rattle.disk_trait.specs.Drive.{Drive}
+use Rattle.log_state.specs.Recovers.{Recovers, state_of}
+use Rattle.recovery.specs.declared.seen.OpenFault.{OpenFault}
+use Rattle.recovery.specs.declared.walked.Walked.{Walked}
+use Rattle.recovery.specs.Faults.{IsFault, IsInBytes}
+use Rattle.recovery.specs.Walks.{TellsAll, TellsFault, TellsWalked, WalkView}
+use Rattle.fence_watch.specs.declared.along.AlongFault.{AlongFault}
+use Rattle.fence_watch.specs.declared.along.AlongFault.TheVariants.{Watch, Log}
+use Rattle.fence_watch.specs.declared.fences.Event.{Event}
+use Rattle.fence_watch.specs.declared.fences.Fence.{Fence}
+use Rattle.fence_watch.specs.declared.watch.WatchFault.TheVariants.{TooMany}
+use Rattle.fence_watch.specs.Tallies.{IsPast, TalliesFrom, TallyView}
+
+-- A tally was led along cells, which begin with these and stand in a log behind a front. Behind them the walk told this last. The drive is
+-- as it was at first, and as the walk leaves it.
+pub record IsLed {D : Type 0} (w most : ℕ) (front begun : List Cell) (taken : List Event) (fences : List Fence) (old new : Drive)
+    (walk : WalkView D) (v : TallyView) (told : Result (Option Walked) OpenFault) : Type 0 where
+  pub cells : List Cell
+  pub begins : (more : List Cell) × (cells ≡ begun ++ more)
+  pub tallies : TalliesFrom (length front) (state_of w front).world taken cells fences v
+  pub tells : TellsWalked w most (front ++ cells) old new walk told
+  pub exact : (bytes : List ℕ) (fault : OpenFault) → old.bytes ≡ Some bytes → IsInBytes fault → IsFault 1 w most bytes fault
+      → TellsFault fault old new told
+  pub whole : (all : List Cell) (bytes : List ℕ) → old.bytes ≡ Some bytes → Recovers w all bytes → length all ≤ most
+      → TellsAll all (front ++ cells) old new told
+
+-- a tally was led to the log's end; or up to the cell that it didn't take; or up to what the walk came upon
+abbrev pub GoesAlong : {D : Type 0} → ℕ → ℕ → List Cell → List Cell → List Event → List Fence → Drive → Drive → WalkView D → TallyView
+    → Result (Unit {0}) AlongFault → Type 0
+GoesAlong w most front begun taken fences old new walk v (Ok done) = IsLed w most front begun taken fences old new walk v (Ok None)
+GoesAlong w most front begun taken fences old new walk v (Err (Log e)) = IsLed w most front begun taken fences old new walk v (Err e)
+GoesAlong w most front begun taken fences old new walk v (Err (Watch why)) =
+    (walked : Walked) × IsLed w most front begun taken fences old new walk v (Ok (Some walked)) × ((why ≡ TooMany) ↔ IsPast walked v)
+
+-- what the walk answered last, as far as its drive goes
+abbrev pub read_of : Result (Unit {0}) AlongFault → Result (Unit {0}) OpenFault
+read_of (Ok done) = Ok done
+read_of (Err (Log e)) = Err e
+read_of (Err (Watch why)) = Ok tt
