@@ -3,7 +3,7 @@ ghost use Rattle.std.specs.Prelude.{◌≡◌, ◌+◌, ◌<◌, ◌≤◌, [], 
 ghost use Rattle.std.specs.Thread.{IsSend, IsSync};
 ghost use Rattle.plain_list.specs.World.{IsWorld};
 ghost use Rattle.sessions.specs.Steps.{all_parts};
-ghost use Rattle.callers.specs.Passes.{IsFree, KeepsPass};
+ghost use Rattle.store_client.specs.Caller.{IsFree, KeepsPass};
 
 use crate::plan::Plan;
 use crate::work::{Objects, ObjectsPass, call_at_pace, call_on, put_all};

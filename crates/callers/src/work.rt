@@ -1,6 +1,6 @@
 //! The calls of one thread.
 ghost use Rattle.std.specs.Prelude.{◌≡◌};
-ghost use Rattle.callers.specs.Passes.{IsFree, KeepsPass};
+ghost use Rattle.store_client.specs.Caller.{IsFree, KeepsPass};
 
 use crate::plan::Plan;
 use crate::rows::{OBJECTS, is_good, op_of, put_of};

@@ -9,6 +9,10 @@ use Rattle.book_lock.specs.Pass.{Known}
 abbrev pub IsFree : TableId → Known → Type 0
 IsFree lock pass = (pass.lock ≡ lock) × (pass.holds ≡ false)
 
+-- the pass is of the same lock, has as many parts, and holds the lock or not as before
+abbrev pub KeepsPass : Known → Known → Type 0
+KeepsPass old new = (new.lock ≡ old.lock) × (new.holds ≡ old.holds) × (new.parts ≡ old.parts)
+
 -- a client: its pass, its session, and the number of its next row
 pub record Caller : Type 0 where
   pub pass : Known

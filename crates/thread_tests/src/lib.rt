@@ -1,4 +1,5 @@
-//! Tests of the lock by itself, and of sessions that run at once: passes by hand, lanes in an order that a gate makes, also such as a store runs by itself, and sixteen lanes together; and the index that one of them watches.
+//! Tests of the lock by itself, and of sessions that run at once: passes by hand, lanes in an order that a gate makes, also such as a store
+//! runs by itself, and sixteen lanes together; the index that one of them watches; and the verbs of a client.
 #![tactic(auto)]
 
 // `assert!` and `assert_eq!` as calls: the proof of a function with several of them is much shorter so.
@@ -18,6 +19,8 @@ macro_rules! assert_same {
 
 #[cfg(test)]
 mod checks;
+#[cfg(test)]
+mod clients;
 #[cfg(test)]
 mod crowds;
 #[cfg(test)]

@@ -1,5 +1,5 @@
 use Rattle.std.specs.Prelude.{◌≡◌}
-use Rattle.callers.specs.Passes.{IsFree}
+use Rattle.store_client.specs.Caller.{IsFree}
 use Rattle.callers.proofs.crowd.play.Given as goal
 
 abbrev pub invariant-loop-session : goal.invariant-loop-session

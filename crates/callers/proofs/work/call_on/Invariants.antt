@@ -1,4 +1,4 @@
-use Rattle.callers.specs.Passes.{KeepsPass}
+use Rattle.store_client.specs.Caller.{KeepsPass}
 use Rattle.callers.proofs.work.call_on.Given as goal
 
 abbrev pub invariant-loop-row : goal.invariant-loop-row

@@ -1,4 +1,4 @@
-use Rattle.callers.specs.Passes.{KeepsPass}
+use Rattle.store_client.specs.Caller.{KeepsPass}
 use Rattle.callers.proofs.work.put_all.Given as goal
 
 abbrev pub invariant-loop-object : goal.invariant-loop-object

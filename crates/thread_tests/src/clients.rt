@@ -1,0 +1,234 @@
+//! A client's verbs: each answer that they may have, but that the world is full.
+ghost use Rattle.std.specs.Prelude.{◌≡◌};
+ghost use Rattle.store_client.specs.Caller.{Keeps};
+
+use crate::stores::{events_of, new_store};
+use disk_mem::MemDisk;
+use disk_trait::LogDisk;
+use flat_index::FlatIndex;
+use index_layer::Index;
+use plain_list::{PlacedList, Stamped};
+use std::alloc::Global;
+use std::marker::Brand;
+use std::process::Abort;
+use std::sync::Wait;
+use store_client::{Client, Listed, MoveReply, PutReply, Report};
+use zorder::{Placed, Point, Region};
+
+const HERE: Point = Point { x: 5, y: 5 };
+
+const THERE: Point = Point { x: 8, y: 9 };
+
+// A position of an object, here or there, and its moment.
+macro_rules! here {
+    ($moment:expr) => {
+        Stamped {
+            at: HERE,
+            moment: $moment,
+        }
+    };
+}
+
+macro_rules! there {
+    ($moment:expr) => {
+        Stamped {
+            at: THERE,
+            moment: $moment,
+        }
+    };
+}
+
+// An object is new, and comes from here; a report that is late leaves it there, and one of its own moment isn't late.
+const REPORTED: [Option<Report>; 4] = [
+    Some(Report::New),
+    Some(Report::From(here!(10))),
+    Some(Report::Stale(there!(12))),
+    Some(Report::From(there!(12))),
+];
+
+fn reports<I: Index, D: LogDisk, R: Wait>(
+    rt: &R,
+    client: &mut Client<'_, I, D, Brand>,
+) -> [Option<Report>; 4]
+    ensures lock { client.new.pass.lock ≡ client.old.pass.lock }
+    ensures parts { client.new.pass.parts ≡ client.old.pass.parts }
+{
+    [
+        client.report(rt, 1, HERE, 10).ok(),
+        client.report(rt, 1, THERE, 12).ok(),
+        client.report(rt, 1, HERE, 11).ok(),
+        client.report(rt, 1, HERE, 12).ok(),
+    ]
+}
+
+// The first report has two entries, a move and a put, and each other one a move.
+fn is_told_of_reports<I: Index, D: LogDisk, R: Wait + Abort>(rt: &R, alloc: Global) {
+    let (store, pass) = new_store::<I, D>(rt, alloc);
+    let mut client = Client::new(&store, alloc, pass, 7);
+    let told = reports(rt, &mut client);
+    let pass = client.into_pass();
+    let events = events_of(store.close(pass));
+    assert_same!(rt; told, REPORTED);
+    assert_same!(rt; events, 5);
+}
+
+const PUT: [Option<PutReply>; 2] = [Some(PutReply::Done), Some(PutReply::Present(here!(3)))];
+
+fn puts<I: Index, D: LogDisk, R: Wait>(
+    rt: &R,
+    client: &mut Client<'_, I, D, Brand>,
+) -> [Option<PutReply>; 2]
+    ensures lock { client.new.pass.lock ≡ client.old.pass.lock }
+    ensures parts { client.new.pass.parts ≡ client.old.pass.parts }
+{
+    [
+        client.put(rt, 1, HERE, 3).ok(),
+        client.put(rt, 1, THERE, 4).ok(),
+    ]
+}
+
+const MOVED: [Option<MoveReply>; 3] = [
+    Some(MoveReply::From(here!(3))),
+    Some(MoveReply::Stale(there!(4))),
+    Some(MoveReply::Absent),
+];
+
+fn moves<I: Index, D: LogDisk, R: Wait>(
+    rt: &R,
+    client: &mut Client<'_, I, D, Brand>,
+) -> [Option<MoveReply>; 3]
+    ensures lock { client.new.pass.lock ≡ client.old.pass.lock }
+    ensures parts { client.new.pass.parts ≡ client.old.pass.parts }
+{
+    [
+        client.move_to(rt, 1, THERE, 4).ok(),
+        client.move_to(rt, 1, HERE, 3).ok(),
+        client.move_to(rt, 2, HERE, 3).ok(),
+    ]
+}
+
+// Two that are found, or not, and two that are removed, or not.
+const SEEN: [Option<Option<Stamped>>; 4] = [
+    Some(Some(there!(4))),
+    Some(None),
+    Some(Some(there!(4))),
+    Some(None),
+];
+
+fn finds_and_removes<I: Index, D: LogDisk, R: Wait>(
+    rt: &R,
+    client: &mut Client<'_, I, D, Brand>,
+) -> [Option<Option<Stamped>>; 4]
+    ensures lock { client.new.pass.lock ≡ client.old.pass.lock }
+    ensures parts { client.new.pass.parts ≡ client.old.pass.parts }
+{
+    [
+        client.find(rt, 1).ok(),
+        client.find(rt, 2).ok(),
+        client.remove(rt, 1).ok(),
+        client.remove(rt, 1).ok(),
+    ]
+}
+
+// One object is put, moved, found and removed, and another one isn't there. Each call has an entry.
+fn is_told_of_an_object<I: Index, D: LogDisk, R: Wait + Abort>(rt: &R, alloc: Global) {
+    let (store, pass) = new_store::<I, D>(rt, alloc);
+    let mut client = Client::new(&store, alloc, pass, 7);
+    let put = puts(rt, &mut client);
+    let moved = moves(rt, &mut client);
+    let seen = finds_and_removes(rt, &mut client);
+    let pass = client.into_pass();
+    let events = events_of(store.close(pass));
+    assert_same!(rt; put, PUT);
+    assert_same!(rt; moved, MOVED);
+    assert_same!(rt; seen, SEEN);
+    assert_same!(rt; events, 9);
+}
+
+// How many objects are put in a row, one more than a list has room for.
+const MANY: u32 = 2_049;
+
+fn put_many<I: Index, D: LogDisk, R: Wait>(rt: &R, client: &mut Client<'_, I, D, Brand>)
+    ensures { Keeps client.old client.new }
+{
+    for x in 0..MANY {
+        let _ = client.put(rt, u64::from(x), Point { x, y: 0 }, 0);
+    }
+}
+
+const ALL: Region = Region {
+    lo: Point { x: 0, y: 0 },
+    hi: Point { x: 2_048, y: 0 },
+};
+
+// All but the last.
+const BUT_ONE: Region = Region {
+    lo: Point { x: 0, y: 0 },
+    hi: Point { x: 2_047, y: 0 },
+};
+
+fn is_number(told: &Option<Listed>, number: u64) -> bool {
+    matches!(told, Some(Listed::Many(n)) if *n == number)
+}
+
+fn is_list(told: &Option<Listed>, len: usize) -> bool {
+    matches!(told, Some(Listed::All(list)) if list.as_slice().len() == len)
+}
+
+// The two that are nearest to the first point, the nearest first.
+const NEAREST: [Placed; 2] = [
+    Placed {
+        id: 0,
+        at: Point { x: 0, y: 0 },
+    },
+    Placed {
+        id: 1,
+        at: Point { x: 1, y: 0 },
+    },
+];
+
+fn are_nearest(told: &Option<PlacedList>) -> bool {
+    matches!(told, Some(list) if list.as_slice() == NEAREST.as_slice())
+}
+
+// What is told of boxes, and of a near.
+fn queries<I: Index, D: LogDisk, R: Wait>(
+    rt: &R,
+    client: &mut Client<'_, I, D, Brand>,
+) -> (Option<Listed>, Option<Listed>, Option<PlacedList>)
+    ensures lock { client.new.pass.lock ≡ client.old.pass.lock }
+    ensures parts { client.new.pass.parts ≡ client.old.pass.parts }
+{
+    (
+        client.within(rt, ALL).ok(),
+        client.within(rt, BUT_ONE).ok(),
+        client.nearest(rt, Point { x: 0, y: 0 }, 2).ok(),
+    )
+}
+
+fn is_told_of_many<I: Index, D: LogDisk, R: Wait + Abort>(rt: &R, alloc: Global) {
+    let (store, pass) = new_store::<I, D>(rt, alloc);
+    let mut client = Client::new(&store, alloc, pass, 7);
+    put_many(rt, &mut client);
+    let (all, but_one, nearest) = queries(rt, &mut client);
+    let pass = client.into_pass();
+    let _ = events_of(store.close(pass));
+    assert_is!(rt; is_number(&all, 2_049));
+    assert_is!(rt; is_list(&but_one, 2_048));
+    assert_is!(rt; are_nearest(&nearest));
+}
+
+#[test]
+fn a_report_tells_whether_its_object_is_new_or_comes_or_stays(rt: HostRuntime) {
+    is_told_of_reports::<FlatIndex, MemDisk, HostRuntime>(&rt, rt.alloc());
+}
+
+#[test]
+fn each_verb_of_one_object_tells_its_answers(rt: HostRuntime) {
+    is_told_of_an_object::<FlatIndex, MemDisk, HostRuntime>(&rt, rt.alloc());
+}
+
+#[test]
+fn a_box_is_told_as_a_list_or_as_a_number(rt: HostRuntime) {
+    is_told_of_many::<FlatIndex, MemDisk, HostRuntime>(&rt, rt.alloc());
+}
