@@ -1,3 +1,4 @@
 pub mod Caller
 pub mod Asked
 pub mod Verbs
+pub mod Objects
