@@ -1,3 +1,4 @@
 pub mod Asks
 pub mod Crossing
 pub mod Reports
+pub mod Objects

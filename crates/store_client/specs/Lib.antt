@@ -2,3 +2,4 @@ pub mod Caller
 pub mod Asked
 pub mod Verbs
 pub mod Teams
+pub mod Objects

@@ -1,0 +1,33 @@
+-- Which operations and histories leave an object alone.
+use Rattle.std.specs.Prelude.{◌≡◌, ℕ, Bool, false, ◌==◌, List, [], ◌∷◌, ⊤}
+use Rattle.plain_list.specs.declared.ops.Op.{Op}
+use Rattle.plain_list.specs.declared.ops.Op.TheVariants.{Put, Move, Remove, Find, Within, Near}
+use Rattle.plain_list.specs.declared.entries.Entry.{Entry}
+use Rattle.plain_list.specs.declared.entries.Entry.TheVariants.{Fail, Call, Begin, Install, Abandon}
+
+-- whether an operation may change this object
+abbrev pub may_change : ℕ → Op → Bool
+may_change id (Put other at moment) = other == id
+may_change id (Move other at moment) = other == id
+may_change id (Remove other) = other == id
+may_change id (Find other) = false
+may_change id (Within region) = false
+may_change id (Near at k) = false
+
+-- whether it may remove it
+abbrev pub may_remove : ℕ → Op → Bool
+may_remove id (Remove other) = other == id
+may_remove id (Put other at moment) = false
+may_remove id (Move other at moment) = false
+may_remove id (Find other) = false
+may_remove id (Within region) = false
+may_remove id (Near at k) = false
+
+-- no call of a history is such a one
+abbrev pub HasNone : (Op → Bool) → List Entry → Type 0
+HasNone is [] = ⊤
+HasNone is (Call session row op ∷ h) = (is op ≡ false) × HasNone is h
+HasNone is (Begin number name ∷ h) = HasNone is h
+HasNone is (Install number ∷ h) = HasNone is h
+HasNone is (Abandon number ∷ h) = HasNone is h
+HasNone is (Fail cell lost ∷ h) = HasNone is h

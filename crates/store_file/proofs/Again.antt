@@ -1,0 +1,109 @@
+-- What the next opening of a file finds, once a store over it was closed.
+use Rattle.std.proofs.Common.{◌≡◌, inl, inr, ◌∙◌, ℕ, ◌+◌, ◌*◌, ◌≤◌, Bool, true, false, List, [], ◌∷◌, ◌++◌, length, Option, Some, None, is_some, cond, refl, sym, ap, subst, arith, length-append}
+use mathlib.Core.Bool.{true≢false}
+use Rattle.std.proofs.lemmas.List.{append-nil}
+use Rattle.std.proofs.lemmas.Option.{same_Some}
+use Rattle.atomic_table.specs.Seated.{TableId}
+use Rattle.cell_format.specs.declared.cell.Cell.{Cell}
+use Rattle.cell_format.specs.Spelling.{newest}
+use Rattle.disk_trait.specs.Drive.{Drive}
+use Rattle.plain_list.specs.declared.ops.Op.{Op}
+use Rattle.plain_list.specs.declared.ops.Op.TheVariants as op
+use Rattle.plain_list.specs.declared.entries.Entry.{Entry}
+use Rattle.plain_list.specs.declared.entries.Entry.TheVariants as entry
+use Rattle.plain_list.specs.World.{World}
+use Rattle.plain_list.specs.Answer.{answer_of, after_of, is_change, changed}
+use Rattle.plain_list.specs.State.{State, empty_state, step}
+use Rattle.plain_list.specs.History.{world_after, failed_cell}
+use Rattle.split_log.specs.LogText.{IsLog, HoldsCells, front_of}
+use Rattle.split_log.proofs.Cells.{length-front_of}
+use Rattle.split_log.proofs.Unique.{holds-same}
+use Rattle.log_state.specs.Recovers.{state_of, cells_after}
+use Rattle.log_state.specs.Changes.{cells_of, change_cells}
+use Rattle.log_state.proofs.LegalCells.{cells_after-append}
+use Rattle.book_lock.specs.Pass.{Known}
+use Rattle.book_lock.specs.declared.origin.Origin.{Origin}
+use Rattle.book_lock.specs.declared.origin.LogStart.{LogStart}
+use Rattle.store_file.specs.Files.{FindsCells}
+use Rattle.store_file.specs.Opened.{OpensStore}
+use Rattle.store_file.specs.Closed.{ClosesStore}
+use Rattle.store_file.specs.Again.{GoesOnFrom}
+
+same_either : {A : Type 0} (b : Bool) (x : A) → cond b x x ≡ x
+same_either true x = refl
+same_either false x = refl
+
+-- the cells of a call make of a world what the call does
+module _ (w : ℕ) (s : State) (world : World) (rest : List Cell) (last : World) (same : s.world ≡ world) where
+  quiet : (o : Op) → after_of world o ≡ world → ((d : State) → d.world ≡ after_of world o → (cells_after w d rest).world ≡ last) → (cells_after w s rest).world ≡ last
+  quiet o is on = on s (same ∙ sym is)
+
+  by_test : (o : Op) (t : Bool) → is_change (answer_of world o) ≡ t → ((d : State) → d.world ≡ after_of world o → (cells_after w d rest).world ≡ last)
+      → (cells_after w s (cond t (change_cells o) [] ++ rest)).world ≡ last
+  by_test (op.Put id at moment) true is on = on (step w s (entry.Call 0 0 (op.Put id at moment))) (ap (λ l. after_of l (op.Put id at moment)) same)
+  by_test (op.Move id at moment) true is on = on (step w s (entry.Call 0 0 (op.Move id at moment))) (ap (λ l. after_of l (op.Move id at moment)) same)
+  by_test (op.Remove id) true is on = on (step w s (entry.Call 0 0 (op.Remove id))) (ap (λ l. after_of l (op.Remove id)) same)
+  by_test (op.Find id) true is on = quiet (op.Find id) (same_either (is_change (answer_of world (op.Find id))) world) on
+  by_test (op.Within region) true is on = quiet (op.Within region) (same_either (is_change (answer_of world (op.Within region))) world) on
+  by_test (op.Near at k) true is on = quiet (op.Near at k) (same_either (is_change (answer_of world (op.Near at k))) world) on
+  by_test o false is on = quiet o (ap (λ t. cond t (changed world o) world) is) on
+
+-- the cells of a history make of a world what the history does
+cells-world : (w : ℕ) (s : State) (world : World) (h : List Entry) → s.world ≡ world → (cells_after w s (cells_of world h)).world ≡ world_after world h
+cells-world w s world [] same = same
+cells-world w s world (entry.Call session row o ∷ h) same =
+    by_test w s world (cells_of (after_of world o) h) (world_after (after_of world o) h) same o (is_change (answer_of world o)) refl (λ d is. cells-world w d (after_of world o) h is)
+cells-world w s world (entry.Begin number name ∷ h) same = cells-world w (step w s (entry.Begin number name)) world h same
+cells-world w s world (entry.Install number ∷ h) same = cells-world w (step w s (entry.Install number)) world h same
+cells-world w s world (entry.Abandon number ∷ h) same = cells-world w (step w s (entry.Abandon number)) world h same
+cells-world w s world (entry.Fail number lost ∷ h) same = cells-world w s world h same
+
+-- a file that is the text of so few cells that it is small has none
+no-more : (cells : List Cell) → 32 * length cells ≤ 0 → [] ≡ cells
+no-more [] few = refl
+no-more (c ∷ cells) few = absurd (omega (arith, few))
+
+text-length : (w : ℕ) (cells : List Cell) (drive : Drive) (log : IsLog w cells drive) → length log.bytes ≡ 17 + 32 * length cells
+text-length w cells drive log =
+    omega (arith, ap length log.text.text, length-append (front_of newest w cells) (log.text.commit_byte ∷ []), length-front_of newest w cells)
+
+text-holds : (w : ℕ) (cells : List Cell) (drive : Drive) (log : IsLog w cells drive) → HoldsCells newest w cells log.bytes
+text-holds w cells drive log = record { front = log.bytes; rest = []; parts = sym (append-nil log.bytes); text = log.text }
+
+-- what is found in the text of cells
+finds-text : (w : ℕ) (cells found : List Cell) (drive : Drive) (log : IsLog w cells drive) → FindsCells w found log.bytes → found ≡ cells
+finds-text w cells found drive log (inl small) = small.1 ∙ no-more cells (omega (arith, small.0, text-length w cells drive log))
+finds-text w cells found drive log (inr long) = holds-same long.1.version newest w found cells log.bytes long.1.holds (text-holds w cells drive log)
+
+some_of : (o : Option (List ℕ)) → is_some o ≡ true → (bytes : List ℕ) × (o ≡ Some bytes)
+some_of None is = absurd (true≢false (sym is))
+some_of (Some bytes) is = (bytes, refl)
+
+module _ {D E : Type 0} (drive : D → Drive) (other : E → Drive) (w bucket size : ℕ) (file also : List ℕ) (old : Drive) (Is : Drive → Type 0) (lock key : TableId) (pass last next : Known) (points number : ℕ) (latest newer : Option ℕ) (records more : ℕ)
+    (entries : List Entry) (disk : D) (opened : OpensStore drive w bucket file old lock pass points latest records) (one : last.origin ≡ pass.origin) (told : is_some old.bytes ≡ true)
+    (closed : ClosesStore drive w Is last entries disk) (good : failed_cell last.seen ≡ None) where
+  -- The file is the text of the cells that the opening found and of the history's, and a crash leaves it.
+  pub text-closed : IsLog w (opened.cells ++ cells_of pass.origin.world last.seen) (drive disk)
+  text-closed =
+      let start : LogStart = record { cells = length opened.cells; bytes = (drive opened.start).bytes; clock = (drive opened.start).clock; faults = (drive opened.start).faults } in
+      let began : Some start ≡ last.origin.log = sym (ap (λ (k : Known). k.origin.log) opened.pass_is) ∙ sym (ap (λ (o : Origin). o.log) one) in
+      let same = ap (λ (l : LogStart). l.bytes) (same_Some _ _ (began ∙ closed.began)) in
+      let known = some_of (drive opened.start).bytes (opened.readies.told ∙ told) in
+      let recovers = opened.found.recovers known.0 known.1 in
+      let text = closed.keeps.keeps.text opened.cells known.0 (sym same ∙ known.1) recovers (closed.keeps.failed ∙ good) in
+      subst (λ (o : Origin). IsLog w (opened.cells ++ cells_of o.world last.seen) (drive disk)) one
+      (subst (λ (d : D). IsLog w (opened.cells ++ cells_of last.origin.world last.seen) (drive d)) closed.disk_is text)
+
+  module _ (again : OpensStore other w size also (drive disk) key next number newer more) where
+    -- the next opening finds these cells
+    pub finds-cells : again.cells ≡ opened.cells ++ cells_of pass.origin.world last.seen
+    finds-cells = finds-text w (opened.cells ++ cells_of pass.origin.world last.seen) again.cells (drive disk) text-closed (again.found.finds text-closed.bytes text-closed.told)
+
+    -- and begins with the objects that the last history left
+    pub finds-closed : GoesOnFrom pass.origin last.seen next.origin
+    finds-closed =
+        let first : pass.origin.world ≡ (state_of w opened.cells).world = ap (λ (k : Known). k.origin.world) opened.pass_is in
+        let now : next.origin.world ≡ (state_of w again.cells).world = ap (λ (k : Known). k.origin.world) again.pass_is in
+        now ∙ ap (λ (l : List Cell). (state_of w l).world) finds-cells
+        ∙ ap (λ (s : State). s.world) (cells_after-append w empty_state opened.cells (cells_of pass.origin.world last.seen))
+        ∙ cells-world w (state_of w opened.cells) pass.origin.world last.seen (sym first)

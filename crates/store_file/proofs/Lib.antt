@@ -1,0 +1,4 @@
+mod FileFacts
+mod Latest
+mod StoreFacts
+pub mod Again

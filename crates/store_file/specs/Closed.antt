@@ -1,0 +1,22 @@
+-- A store over a file that was closed.
+use Rattle.std.specs.Prelude.{◌≡◌, ℕ, List, length, Some}
+use Rattle.disk_trait.specs.Drive.{Drive}
+use Rattle.plain_list.specs.declared.entries.Entry.{Entry}
+use Rattle.plain_list.specs.State.{IsLegal}
+use Rattle.kept_log.specs.KeptView.{KeptView}
+use Rattle.kept_log.specs.Journal.{KeepsLog}
+use Rattle.book_lock.specs.Own.{times, once_below}
+use Rattle.book_lock.specs.Pass.{Known}
+use Rattle.sessions.specs.Shared.{start_in, start_of}
+
+-- The history is what the last pass has seen, all of it its own, and legal from the origin. The log keeps it since the opening, whose drive the fact
+-- holds of: while no append has failed, the file is the text of the cells that stood first and of the history's, and a crash leaves that.
+pub record ClosesStore {D : Type 0} (drive : D → Drive) (w : ℕ) (Is : Drive → Type 0) (pass : Known) (entries : List Entry) (disk : D) : Type 0 where
+  pub entries_are : entries ≡ pass.seen
+  pub own : (p : ℕ) → times p pass.own ≡ once_below p (length pass.seen)
+  pub legal : IsLegal w (start_of pass.origin) pass.seen
+  pub log : KeptView D
+  pub disk_is : log.disk ≡ disk
+  pub began : pass.origin.log ≡ Some (start_in drive log)
+  pub starts : Is (drive log.start)
+  pub keeps : KeepsLog drive w (start_of pass.origin) pass.seen log

@@ -1,0 +1,12 @@
+pub mod Causes
+pub mod Files
+pub mod Objects
+pub mod Opened
+pub mod Refused
+pub mod Closed
+pub mod Again
+pub use Rattle.recovery.specs.Opening
+pub use Rattle.recovery.specs.Calls
+pub use Rattle.recovery.specs.Faults
+pub use Rattle.kept_log.specs.Journal
+pub use Rattle.kept_log.specs.Kept

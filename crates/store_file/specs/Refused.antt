@@ -1,0 +1,63 @@
+-- Why no store is opened over a file, and what that leaves.
+use Rattle.std.specs.Prelude.{◌≡◌, ◌⊎◌, ℕ, nat_le, ◌<◌, ◌≤◌, Bool, true, false, ◌&&◌, List, length, Some, ⊤}
+use Rattle.causes.specs.Causes.{Rose}
+use Rattle.cell_format.specs.Spelling.{newest}
+use Rattle.disk_trait.specs.Drive.{Drive, AttachedAtMost}
+use Rattle.split_log.specs.LogView.{most_cells}
+use Rattle.recovery.specs.declared.seen.OpenFault.{OpenFault}
+use Rattle.recovery.specs.Calls.{StopsAtFault}
+use Rattle.recovery.specs.Faults.{IsFault, IsInBytes}
+use Rattle.recovery.specs.Opening.{HasNoLog, IsUntouched}
+use Rattle.recovery.specs.Wanted.{MayTell}
+use Rattle.store_file.specs.declared.faults.OpenCause.{OpenCause}
+use Rattle.store_file.specs.declared.faults.OpenCause.TheVariants.{Bucket, Attach, Disk, Log, Memory}
+use Rattle.store_file.specs.Files.{KeepsFile}
+
+-- whether a bucket may have this size
+abbrev pub is_bucket : ℕ → Bool
+is_bucket bucket = nat_le 4 bucket && nat_le bucket 4096
+
+-- a cause that the bytes don't decide: memory ran out, or the count of faults rose
+abbrev pub IsFreeCause : Drive → Drive → OpenCause → Type 0
+IsFreeCause old new cause = (cause ≡ Memory) ⊎ Rose old.faults new.faults
+
+-- the drive failed
+abbrev pub IsOfDrive : OpenCause → Type 0
+IsOfDrive Bucket = ⊥
+IsOfDrive Attach = ⊤
+IsOfDrive Disk = ⊤
+IsOfDrive (Log fault) = ⊥
+IsOfDrive Memory = ⊥
+
+-- A fault of a log: it is one that bytes show, and where the drive's are known, they are more than 17, and it is the first that they show.
+pub record IsShown (w : ℕ) (drive : Drive) (fault : OpenFault) : Type 0 where
+  pub in_bytes : IsInBytes fault
+  pub may : MayTell newest w most_cells fault
+  pub shows : (bytes : List ℕ) → drive.bytes ≡ Some bytes → (17 < length bytes) × IsFault newest w most_cells bytes fault
+
+-- why there is no store over a file, where a bucket may have the size that was asked for
+abbrev pub IsCause : ℕ → Drive → Drive → OpenCause → Type 0
+IsCause w old new Bucket = ⊥
+IsCause w old new Attach = Rose old.faults new.faults
+IsCause w old new Disk = Rose old.faults new.faults
+IsCause w old new (Log fault) = IsShown w old fault
+IsCause w old new Memory = ⊤
+
+-- What that leaves: a crash at any moment leaves what stood in the file, a long file that is no log is left as it was, the count of faults is, but
+-- where the drive failed, and no device call was made behind one that failed. No other file was attached.
+pub record NotOpens (w : ℕ) (file : List ℕ) (old new : Drive) (cause : OpenCause) : Type 0 where
+  pub why : IsCause w old new cause
+  pub keeps : KeepsFile w old new
+  pub untouched : (bytes : List ℕ) → old.bytes ≡ Some bytes → 17 < length bytes → HasNoLog w most_cells bytes → IsUntouched old new
+  pub calm : (IsOfDrive cause → ⊥) → new.faults ≡ old.faults
+  pub later : old.faults ≤ new.faults
+  pub calls : StopsAtFault old new
+  pub attached : AttachedAtMost file true old new
+
+-- Where the size of a bucket is wrong, the drive is as it was.
+abbrev pub RefusesStore : {D : Type 0} → (D → Drive) → ℕ → ℕ → List ℕ → D → D → OpenCause → Type 0
+RefusesStore drive w bucket file disk back Bucket = (is_bucket bucket ≡ false) × (back ≡ disk)
+RefusesStore drive w bucket file disk back Attach = (is_bucket bucket ≡ true) × NotOpens w file (drive disk) (drive back) Attach
+RefusesStore drive w bucket file disk back Disk = (is_bucket bucket ≡ true) × NotOpens w file (drive disk) (drive back) Disk
+RefusesStore drive w bucket file disk back (Log fault) = (is_bucket bucket ≡ true) × NotOpens w file (drive disk) (drive back) (Log fault)
+RefusesStore drive w bucket file disk back Memory = (is_bucket bucket ≡ true) × NotOpens w file (drive disk) (drive back) Memory

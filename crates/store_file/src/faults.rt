@@ -1,0 +1,54 @@
+//! Why no store is opened.
+ghost use Rattle.std.specs.Prelude.{◌≡◌};
+ghost use Rattle.store_file.specs.Causes.{attach_cause, open_cause};
+
+use disk_trait::AttachFault;
+use recovery::OpenFault;
+use thiserror::Error;
+
+/// Why no store was opened.
+#[derive(Clone, Copy, Debug, PartialEq, Eq, Error)]
+pub enum OpenCause {
+    /// The size of a bucket isn't from 4 to 4,096. Nothing was asked of the drive.
+    #[error("the size of a bucket isn't from 4 to 4,096")]
+    Bucket,
+    /// The drive failed to open the file, or to make it.
+    #[error("the file can't be opened or made")]
+    Attach,
+    /// The drive failed once the file was open.
+    #[error("the drive failed")]
+    Disk,
+    /// What is in the file isn't a log that can be gone on with.
+    #[error("{fault}")]
+    Log { fault: OpenFault },
+    #[error("out of memory")]
+    Memory,
+}
+
+/// The drive back, and why no store was opened over its file.
+#[derive(Drop)]
+pub struct NotOpened<D: Drop> {
+    pub disk: D,
+    pub cause: OpenCause,
+}
+
+/// What a file that wasn't attached is told as.
+pub(crate) fn attach_cause(fault: AttachFault) -> OpenCause
+    ensures { result ≡ attach_cause fault }
+{
+    match fault {
+        AttachFault::Disk => OpenCause::Attach,
+        AttachFault::Memory => OpenCause::Memory,
+    }
+}
+
+/// What a log that wasn't opened is told as.
+pub(crate) fn open_cause(fault: OpenFault) -> OpenCause
+    ensures { result ≡ open_cause fault }
+{
+    match fault {
+        OpenFault::Disk => OpenCause::Disk,
+        OpenFault::Memory => OpenCause::Memory,
+        fault => OpenCause::Log { fault },
+    }
+}
