@@ -7,7 +7,7 @@ use Rattle.cell_format.specs.declared.cell.Cell.TheVariants as cell
 use Rattle.fence_watch.specs.declared.fences.Fence.{Fence}
 use Rattle.fence_watch.specs.declared.fences.Crossing.TheVariants.{Enter, Leave}
 use Rattle.fence_watch.specs.Fences.{inside_of}
-use Rattle.fence_watch.specs.Crossings.{crossings, world_after_cells}
+use Rattle.fence_watch.specs.Crossings.{crossings, crossings_from, world_after_cells}
 
 abbrev cells : List Cell
 cells = cell.Put 7 (pt 3 5) 10 ∷ cell.Move 7 (pt 8 8) 20 ∷ cell.Remove 7 ∷ []
@@ -33,3 +33,8 @@ one_inside = refl
 -- a cell of a split moves nobody, and counts
 split_between : crossings (cell.Begin 1 [] ∷ cell.Put 7 (pt 3 5) 10 ∷ []) (first ∷ []) ≡ record { at = 1; crossing = Enter; id = 7; fence = 1 } ∷ []
 split_between = refl
+
+-- from a world on, and with a number of its own
+goes_on : crossings_from 40 (record { id = 7; at = pt 3 5; moment = 10 } ∷ []) (cell.Move 7 (pt 8 8) 20 ∷ []) (first ∷ [])
+    ≡ record { at = 40; crossing = Leave; id = 7; fence = 1 } ∷ []
+goes_on = refl

@@ -1,5 +1,5 @@
--- Worked texts of fences.
-use Rattle.std.specs.Prelude.{◌≡◌, ℕ, List, [], ◌∷◌, ◌++◌, codes, Ok, Err}
+-- Worked texts of fences, and worked fences.
+use Rattle.std.specs.Prelude.{◌≡◌, ℕ, List, [], ◌∷◌, ◌++◌, codes, Some, None, Ok, Err}
 use Rattle.std.proofs.Common.{refl}
 use Rattle.csv.specs.Machine.{next_record}
 use Rattle.csv.specs.Reading.{records_from}
@@ -7,6 +7,8 @@ use Rattle.csv_rows.specs.declared.rows.RowsFault.TheVariants as fault
 use Rattle.csv_rows.specs.Numbers.{is_between, is_number}
 use Rattle.csv_rows.specs.Tables.{rows_of_text}
 use Rattle.fence_watch.specs.declared.fences.Fence.{Fence}
+use Rattle.fence_watch.specs.declared.making.BadFences.TheVariants as bad
+use Rattle.fence_watch.specs.FenceFaults.{fault_of}
 use Rattle.fence_watch.specs.FenceRows.{fences_of_text}
 
 abbrev header : List ℕ
@@ -41,3 +43,16 @@ none = refl
 no_header : fences_of_text (codes "1,0,0,5,5\n") ≡ Err fault.Header
 unfolding rows_of_text records_from next_record
 no_header = refl
+
+-- fences from code: one that is no box, an id for the second time, and both at once
+no_box : fault_of (fence 1 0 0 5 5 ∷ fence 2 5 0 4 5 ∷ []) ≡ Some (bad.NoBox 1)
+no_box = refl
+
+twice : fault_of (fence 1 0 0 5 5 ∷ fence 2 5 0 5 0 ∷ fence 1 4 4 9 9 ∷ []) ≡ Some (bad.Twice 2)
+twice = refl
+
+both_at_once : fault_of (fence 1 0 0 5 5 ∷ fence 1 4 4 9 3 ∷ []) ≡ Some (bad.NoBox 1)
+both_at_once = refl
+
+good : fault_of (fence 1 0 0 5 5 ∷ fence 2 4 4 9 9 ∷ []) ≡ None
+good = refl
