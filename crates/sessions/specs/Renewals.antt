@@ -40,7 +40,8 @@ pub record IsRenewedOrigin (w : ℕ) (old : Origin) (seen : List Entry) (new : O
   pub cells : first_cells new ≡ cells_where_at old seen
 
 -- a book that may come out of a store with this history and origin, over a log of which this is known
-pub record ComesOut {D : Type 0} (drive : D → Drive) (w : ℕ) (unlogged : Type 0) (Is : Drive → Type 0) (origin : Origin) (seen : List Entry) (b : BookView D) : Type 0 where
+pub record ComesOut {D : Type 0} (drive : D → Drive) (w : ℕ) (unlogged : Type 0) (Is : Drive → Type 0) (origin : Origin) (seen : List Entry)
+    (b : BookView D) : Type 0 where
   pub book : IsBook drive w b
   pub entries : b.entries ≡ seen
   pub origin_is : origin_of drive b ≡ origin

@@ -91,7 +91,8 @@ impl<I: Index, D: LogDisk, O: Start> SharedBook<I, D, O> {
         self,
         alloc: Global,
     ) -> Result<(SharedBook<I, D, N>, Entries), (Book<I, D>, RenewFault)>
-        requires start { IsBook D.drive I.WIDTH self → StartsAs D.drive O.unlogged O.is self.log → StartsAs D.drive N.unlogged N.is (renewed I.WIDTH self).log }
+        requires start { IsBook D.drive I.WIDTH self → StartsAs D.drive O.unlogged O.is self.log
+            → StartsAs D.drive N.unlogged N.is (renewed I.WIDTH self).log }
         ensures renewed { IfOk result (λ r. (r.0 ≡ renewed I.WIDTH self) × (r.1 ≡ self.entries) × (renew_refusal I.WIDTH self ≡ None)) }
         ensures kept { IfErr result (λ e. (e.0 ≡ self) × (renew_refusal I.WIDTH self ≡ Some e.1)) }
         ensures start { IfErr result (λ e. StartsAs D.drive O.unlogged O.is e.0.log) }
