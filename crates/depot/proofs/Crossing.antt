@@ -6,19 +6,19 @@ use denote.Struct.Declared.{Declared, shape}
 use denote.Struct.Tuple.{TupleAt, type_at}
 use mathlib.Core.List.{[], ◌∷◌}
 use mir.Syntax.{Sym}
-use Rattle.std.specs.contracts.marker.Brand as Brand
-use Rattle.std.proofs.marker.Brand.TheSendSync as brand
 use Rattle.index_layer.specs.declared.index.Index.{Ghosts}
 use Rattle.disk_trait.specs.declared.disk.LogDisk.{Ghosts as DriveGhosts}
-use Rattle.sessions.specs.contracts.start.BrandStart.TheImpl as started
 use Rattle.sessions.proofs.Sent.{pass_send}
+use Rattle.store_file.specs.contracts.start.OverFile as OverFile
+use Rattle.store_file.specs.contracts.start.OverFileStart.TheImpl as started
+use Rattle.store_file.proofs.start.OverFile.TheSendSync as over
 use Rattle.depot.specs.contracts.drivers.Driver as Driver
 
 -- each field by itself
 pub driver_send : (I D P : RattleType) (g : Ghosts I.Denot P.Denot) (h : DriveGhosts D.Denot) → IsSend I → IsSend D → IsSend (Driver.the_row I D P g h)
 driver_send I D P g h i d =
     recorded_send (Driver.the_field I D P g h).row _ _ (Driver.the_type I D P g h).to_one (struct_send (shape (Driver.the_type I D P g h))
-    (plain_send _ _ _ _ _, (pass_send I D Brand.the_row P g h started.ghosts i d brand.the_send, (plain_send _ _ _ _ _, (plain_send _ _ _ _ _, tt)))))
+    (plain_send _ _ _ _ _, (pass_send I D OverFile.the_row P g h started.ghosts i d over.the_send, (plain_send _ _ _ _ _, (plain_send _ _ _ _ _, tt)))))
 
 -- a closure over four captures
 pub closure_sync : (ν : Sym) (A B C D : RattleType) → IsSync A → IsSync B → IsSync C → IsSync D → IsSync (TupleAt ν (A ∷ B ∷ C ∷ D ∷ []))

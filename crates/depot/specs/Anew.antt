@@ -1,5 +1,5 @@
 -- A log that is written anew.
-use Rattle.std.specs.Prelude.{ℕ, ◌≤◌, ◌^◌, length}
+use Rattle.std.specs.Prelude.{◌≤◌, ◌^◌, length}
 use Rattle.recovery.specs.declared.seen.Seen.{Seen}
 use Rattle.log_compact.specs.Fresh.{fresh_cells, ComesBySplits}
 

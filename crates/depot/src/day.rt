@@ -1,22 +1,21 @@
-//! A day of the company over a book, and what the next one finds.
-ghost use Rattle.std.specs.Prelude.{◌≡◌, ℕ, ◌+◌, ◌<◌, ◌≤◌, length, slice_index_or, IfOk};
-ghost use Rattle.sessions.specs.Steps.{all_parts};
-ghost use Rattle.depot.specs.Passes.{IsFree, KeepsPass, IsNewBook};
+//! A day of the company over a store, and what the next one finds.
+ghost use Rattle.std.specs.Prelude.{◌≡◌, ℕ, ◌+◌, ◌<◌, ◌≤◌, length, slice_index_or};
+ghost use Rattle.store_file.specs.Opened.{IsFirst};
+ghost use Rattle.depot.specs.Passes.{IsFree, KeepsPass};
 
 use crate::drivers::{Driver, VanPass, Vans, call, work};
 use crate::trouble::Trouble;
 use crate::yard::{ALL_VANS, Day};
-use commit_book::Book;
 use disk_trait::LogDisk;
 use index_layer::Index;
 use io_edge::OpenGate;
-use sessions::Store;
-use std::alloc::{AllocError, Global};
+use std::alloc::Global;
 use std::marker::Brand;
 use std::sync::Wait;
 use std::sync::ledger::{Blank, Ledger};
 use std::thread::{self, Threads};
 use step_count::Steps;
+use store_file::close_store;
 
 /// How many of a driver's answers were as they should be, and how many of these told that a position came too late.
 #[derive(Clone, Copy)]
@@ -25,52 +24,37 @@ pub struct Told {
     pub stale: u32,
 }
 
-/// A day over a book without entries: all drivers at once, and then the splits that are still due. The book is closed, and its drive with it.
+/// A day over a store: all drivers at once, and then the splits that are still due. The store is closed, and its drive with it.
 pub fn play_day<I: Index + Send, D: LogDisk + Send, R: Threads + Wait + Sync>(
     rt: &R,
     alloc: Global,
-    book: Book<I, D>,
+    vans: Vans<I, D>,
+    mut pass: VanPass<I, D>,
     day: Day,
 ) -> Result<[Told; 4], Trouble>
-    requires { IsNewBook book }
+    requires { IsFirst vans pass }
 {
-    let (vans, mut pass) = open_store(alloc, book)?;
     let told = drive_all_day(rt, alloc, &vans, day, &mut pass);
     let _ = vans.settle(rt, alloc, &mut pass, &OpenGate);
-    let book = vans.close(pass);
-    match book.closed() {
+    match close_store(vans, pass).lost {
         Some(cell) => Err(Trouble::Lost { cell }),
         None => Ok(told),
     }
 }
 
-/// How many vans are where a day has left them, as a book answers that was opened after it.
+/// How many vans are where a day has left them, as a store answers that was opened after it.
 pub fn count_found<I: Index, D: LogDisk, R: Wait>(
     rt: &R,
     alloc: Global,
-    book: Book<I, D>,
+    vans: Vans<I, D>,
+    mut pass: VanPass<I, D>,
     day: Day,
-) -> Result<u32, Trouble>
-    requires { IsNewBook book }
+) -> u32
+    requires { IsFirst vans pass }
 {
-    let (vans, mut pass) = open_store(alloc, book)?;
     let found = ask_for_all::<I, D, R, Brand>(rt, alloc, &vans, day, &mut pass, Blank::new(1));
-    let _book = vans.close(pass);
-    Ok(found)
-}
-
-// A store of a book, and the pass that has all parts of it, where there is memory for it.
-fn open_store<I: Index, D: LogDisk>(
-    alloc: Global,
-    book: Book<I, D>,
-) -> Result<(Vans<I, D>, VanPass<I, D>), Trouble>
-    requires { IsNewBook book }
-    ensures { IfOk result (λ opened. IsFree opened.0 opened.1 × (opened.1.parts ≡ all_parts)) }
-{
-    match Store::<I, D, Brand>::new(alloc, book) {
-        Ok(opened) => Ok(opened),
-        Err(_) => Err(Trouble::Memory(AllocError)),
-    }
+    close_store(vans, pass);
+    found
 }
 
 // All of a team at once, each in a thread of its own.

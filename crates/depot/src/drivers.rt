@@ -15,12 +15,13 @@ use std::marker::Brand;
 use std::sync::Wait;
 use std::sync::ledger::{Blank, Ledger};
 use step_count::Steps;
+use store_file::OverFile;
 
-/// The company's store, over any index, and any drive for its log.
-pub type Vans<I, D> = Store<I, D, Brand>;
+/// The company's store over a file, with any index and any drive.
+pub type Vans<I, D> = Store<I, D, OverFile>;
 
 /// A pass of it.
-pub type VanPass<I, D> = Pass<SharedBook<I, D, Brand>>;
+pub type VanPass<I, D> = Pass<SharedBook<I, D, OverFile>>;
 
 /// A driver, how many of their answers were as they should be, and how many of these told that a position came too late.
 pub struct Driver<I: Index, D: LogDisk> {

@@ -9,6 +9,9 @@
 //! first.
 #![tactic(auto)]
 
+ghost use Rattle.std.specs.Prelude.{IfOk};
+ghost use Rattle.store_file.specs.Opened.{IsFirst};
+
 mod day;
 mod drivers;
 mod logs;
@@ -18,14 +21,17 @@ mod yard;
 use day::{Told, count_found, play_day};
 use disk_file::FileDisk;
 use disk_trait::LogDisk;
+use kd_trie::KdTrie;
 use log_compact::CompactFault;
-use logs::{Found, Made, make_where_none, open_book, read_log, write_anew};
+use logs::{read_log, write_anew};
+use std::alloc::Global;
 use std::fs::Files;
 use std::io;
 use std::io::Print;
 use std::process::ExitCode;
 use std::sync::Wait;
 use std::thread::Threads;
+use store_file::{NotOpened, OpenedStore, OverFile, open_store};
 use trouble::Trouble;
 use yard::Day;
 
@@ -33,12 +39,11 @@ const LOG: &str = "depot.log";
 
 const FRESH: &str = "fresh.log";
 
-fn tell_begin(rt: &impl Print, made: bool, vans: u64) -> io::Result<()> {
-    if made {
-        println!(rt; "{LOG}: made")
-    } else {
-        println!(rt; "{LOG}: found, with {vans} vans")
-    }
+// How many vans a leaf should have.
+const BUCKET: u32 = 4;
+
+fn tell_begin(rt: &impl Print, vans: u64, records: u64) -> io::Result<()> {
+    println!(rt; "{LOG}: {vans} vans in {records} records")
 }
 
 fn tell_day(rt: &impl Print, told: &[Told; 4]) -> io::Result<()> {
@@ -65,36 +70,58 @@ fn tell_anew(rt: &impl Print, anew: Result<u64, Trouble>) -> Result<(), Trouble>
     Ok(())
 }
 
+// The store over the log.
+fn open_vans<D: LogDisk>(
+    alloc: Global,
+    disk: D,
+) -> Result<OpenedStore<KdTrie, D, OverFile>, Trouble>
+    ensures { IfOk result (λ o. IsFirst o.store o.pass) }
+{
+    match open_store::<KdTrie, D>(alloc, disk, LOG, BUCKET) {
+        Ok(opened) => Ok(opened),
+        Err(NotOpened { disk: _, cause }) => Err(Trouble::Open(cause)),
+    }
+}
+
 // Plays a day over the log, from the latest moment on that the log knows.
 fn work<R: Threads + Wait + Sync + AllocGlobal + Print, D: LogDisk + Send>(
     rt: &R,
     disk: D,
 ) -> Result<Day, Trouble> {
     let alloc = rt.alloc();
-    let Made { made, disk } = make_where_none(alloc, LOG, disk)?;
-    let Found { book, vans, latest } = open_book(alloc, disk)?;
-    tell_begin(rt, made, vans)?;
-    let day = Day::behind(latest);
-    let told = play_day(rt, alloc, book, day)?;
-    tell_day(rt, &told)?;
+    let OpenedStore {
+        store,
+        pass,
+        points,
+        latest,
+        records,
+    } = open_vans(alloc, disk)?;
+    let day = Day::behind(latest.unwrap_or(0));
+    let told = play_day(rt, alloc, store, pass, day);
+    tell_begin(rt, points, records)?;
+    tell_day(rt, &told?)?;
     Ok(day)
 }
 
 // Opens the log again, as the next run will, asks for each van, and writes the log anew.
 fn look_again<R: Wait + AllocGlobal + Print, D: LogDisk>(
     rt: &R,
-    mut disk: D,
+    disk: D,
+    mut same: D,
     target: D,
     day: Day,
 ) -> Result<(), Trouble> {
     let alloc = rt.alloc();
-    let seen = read_log(alloc, LOG, &mut disk)?;
-    let again = open_book(alloc, disk)?;
-    let found = count_found(rt, alloc, again.book, day)?;
-    println!(rt;
-        "{LOG}: opened again, {found} of {} vans where they were left",
-        again.vans
-    )?;
+    let OpenedStore {
+        store,
+        pass,
+        points,
+        latest: _,
+        records: _,
+    } = open_vans(alloc, disk)?;
+    let found = count_found(rt, alloc, store, pass, day);
+    println!(rt; "{LOG}: opened again, {found} of {points} vans where they were left")?;
+    let seen = read_log(alloc, LOG, &mut same)?;
     println!(rt; "{LOG}: {} records", seen.cells)?;
     tell_anew(rt, write_anew(alloc, &seen, FRESH, target))
 }
@@ -115,11 +142,14 @@ fn end(rt: &impl Print, end: Result<(), Trouble>) -> ExitCode {
 }
 
 fn main(rt: HostRuntime) -> ExitCode {
-    let (Ok(disk), Ok(same), Ok(target)) = (drive(&rt), drive(&rt), drive(&rt)) else {
+    let (Ok(disk), Ok(again)) = (drive(&rt), drive(&rt)) else {
+        return ExitCode::FAILURE;
+    };
+    let (Ok(same), Ok(target)) = (drive(&rt), drive(&rt)) else {
         return ExitCode::FAILURE;
     };
     match work(&rt, disk) {
-        Ok(day) => end(&rt, look_again(&rt, same, target, day)),
+        Ok(day) => end(&rt, look_again(&rt, again, same, target, day)),
         Err(trouble) => end(&rt, Err(trouble)),
     }
 }

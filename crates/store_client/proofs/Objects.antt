@@ -27,7 +27,7 @@ use Rattle.sessions.specs.Calls.{CallLeaves}
 use Rattle.store_client.specs.declared.client.Reply.{Reply}
 use Rattle.store_client.specs.Caller.{Caller}
 use Rattle.store_client.specs.Asked.{Asked, Follows}
-use Rattle.store_client.specs.Objects.{may_change, may_remove, HasNone}
+use Rattle.store_client.specs.Objects.{may_change, may_remove, HasNone, FindsBehind}
 
 -- what is kept of an object behind a move of this one
 abbrev moved_in : Bool → Stamped → Option Stamped → Option Stamped
@@ -213,30 +213,28 @@ module _ (w id : ℕ) (op : Op) (old mid now later : Caller) (first second : Rep
   stays-at kept there none = found-in ∙ ap (λ o. option_map_or answer.At o answer.Absent) (kept-after id (after_of (world_after old.pass.origin.world changed_by.called.before) op) between none ∙ there)
 
 -- An object that nobody else changed since is where a client's own move put it, whatever else happened.
-pub own-move-stands : (w id : ℕ) (at : Point) (moment : ℕ) (from : Stamped) (old mid now later : Caller) (first second : Reply) (moved : Asked w (Move id at moment) old mid (Ok first)) (found : Asked w (Find id) now later (Ok second))
-    → now.pass.origin ≡ old.pass.origin → (between : List Entry) → found.called.before ≡ moved.mid.seen ++ between → HasNone (may_change id) between → first.answer ≡ answer.Moved from
-    → second.answer ≡ answer.At (record { at = at; moment = moment })
-own-move-stands w id at moment from old mid now later first second moved found one between stands none told =
-    let call = answered-at w (Move id at moment) old mid first moved in
-    stays-at w id (Move id at moment) old mid now later first second moved found one between stands (record { at = at; moment = moment })
-    (moved-at (world_after old.pass.origin.world moved.called.before) id at moment from (sym call.answer_is ∙ told)) none
+pub own-move-stands : (w id : ℕ) (at : Point) (moment : ℕ) (from : Stamped) (old mid now later : Caller) (first second : Reply) → FindsBehind w id (Move id at moment) (may_change id) old mid now later first second
+    → first.answer ≡ answer.Moved from → second.answer ≡ answer.At (record { at = at; moment = moment })
+own-move-stands w id at moment from old mid now later first second behind_it told =
+    let call = answered-at w (Move id at moment) old mid first behind_it.call in
+    stays-at w id (Move id at moment) old mid now later first second behind_it.call behind_it.finds behind_it.one behind_it.between behind_it.stands (record { at = at; moment = moment })
+    (moved-at (world_after old.pass.origin.world behind_it.call.called.before) id at moment from (sym call.answer_is ∙ told)) behind_it.none
 
 -- the same of its own put
-pub own-put-stands : (w id : ℕ) (at : Point) (moment : ℕ) (old mid now later : Caller) (first second : Reply) (put : Asked w (Put id at moment) old mid (Ok first)) (found : Asked w (Find id) now later (Ok second))
-    → now.pass.origin ≡ old.pass.origin → (between : List Entry) → found.called.before ≡ put.mid.seen ++ between → HasNone (may_change id) between → first.answer ≡ answer.Done
-    → second.answer ≡ answer.At (record { at = at; moment = moment })
-own-put-stands w id at moment old mid now later first second put found one between stands none told =
-    let call = answered-at w (Put id at moment) old mid first put in
-    stays-at w id (Put id at moment) old mid now later first second put found one between stands (record { at = at; moment = moment })
-    (put-at (world_after old.pass.origin.world put.called.before) id at moment (sym call.answer_is ∙ told)) none
+pub own-put-stands : (w id : ℕ) (at : Point) (moment : ℕ) (old mid now later : Caller) (first second : Reply) → FindsBehind w id (Put id at moment) (may_change id) old mid now later first second
+    → first.answer ≡ answer.Done → second.answer ≡ answer.At (record { at = at; moment = moment })
+own-put-stands w id at moment old mid now later first second behind_it told =
+    let call = answered-at w (Put id at moment) old mid first behind_it.call in
+    stays-at w id (Put id at moment) old mid now later first second behind_it.call behind_it.finds behind_it.one behind_it.between behind_it.stands (record { at = at; moment = moment })
+    (put-at (world_after old.pass.origin.world behind_it.call.called.before) id at moment (sym call.answer_is ∙ told)) behind_it.none
 
 -- Over two finds of an object that nobody removed between them, its moment doesn't fall.
-pub moments-rise : (w id : ℕ) (a b : Stamped) (old mid now later : Caller) (first second : Reply) (was : Asked w (Find id) old mid (Ok first)) (found : Asked w (Find id) now later (Ok second)) → now.pass.origin ≡ old.pass.origin
-    → (between : List Entry) → found.called.before ≡ was.mid.seen ++ between → HasNone (may_remove id) between → first.answer ≡ answer.At a → second.answer ≡ answer.At b → a.moment ≤ b.moment
-moments-rise w id a b old mid now later first second was found one between stands none told_a told_b =
-    let world = world_after old.pass.origin.world was.called.before in
-    let here : position_of world id ≡ Some a = found-at a (position_of world id) (sym (answered-at w (Find id) old mid first was).answer_is ∙ told_a) in
+pub moments-rise : (w id : ℕ) (a b : Stamped) (old mid now later : Caller) (first second : Reply) → FindsBehind w id (Find id) (may_remove id) old mid now later first second
+    → first.answer ≡ answer.At a → second.answer ≡ answer.At b → a.moment ≤ b.moment
+moments-rise w id a b old mid now later first second behind_it told_a told_b =
+    let world = world_after old.pass.origin.world behind_it.call.called.before in
+    let here : position_of world id ≡ Some a = found-at a (position_of world id) (sym (answered-at w (Find id) old mid first behind_it.call).answer_is ∙ told_a) in
     let has : HasSince a.moment (position_of world id) = subst (HasSince a.moment) (sym here) (omega arith) in
     let still : HasSince a.moment (position_of (after_of world (Find id)) id) = after-either world id (λ after. HasSince a.moment (position_of after id)) (Find id) has (λ is. has) in
-    let then = found-at b _ (sym (found-in w id (Find id) old mid now later first second was found one between stands) ∙ told_b) in
-    subst (HasSince a.moment) then (since-after id a.moment (after_of world (Find id)) between none still)
+    let found = found-in w id (Find id) old mid now later first second behind_it.call behind_it.finds behind_it.one behind_it.between behind_it.stands in
+    subst (HasSince a.moment) (found-at b _ (sym found ∙ told_b)) (since-after id a.moment (after_of world (Find id)) behind_it.between behind_it.none still)

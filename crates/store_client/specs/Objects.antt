@@ -1,9 +1,12 @@
--- Which operations and histories leave an object alone.
-use Rattle.std.specs.Prelude.{◌≡◌, ℕ, Bool, false, ◌==◌, List, [], ◌∷◌, ⊤}
+-- Which operations and histories leave an object alone, and a find behind another call.
+use Rattle.std.specs.Prelude.{◌≡◌, ℕ, Bool, false, ◌==◌, List, [], ◌∷◌, ◌++◌, Ok, ⊤}
 use Rattle.plain_list.specs.declared.ops.Op.{Op}
 use Rattle.plain_list.specs.declared.ops.Op.TheVariants.{Put, Move, Remove, Find, Within, Near}
 use Rattle.plain_list.specs.declared.entries.Entry.{Entry}
 use Rattle.plain_list.specs.declared.entries.Entry.TheVariants.{Fail, Call, Begin, Install, Abandon}
+use Rattle.store_client.specs.declared.client.Reply.{Reply}
+use Rattle.store_client.specs.Caller.{Caller}
+use Rattle.store_client.specs.Asked.{Asked}
 
 -- whether an operation may change this object
 abbrev pub may_change : ℕ → Op → Bool
@@ -31,3 +34,13 @@ HasNone is (Begin number name ∷ h) = HasNone is h
 HasNone is (Install number ∷ h) = HasNone is h
 HasNone is (Abandon number ∷ h) = HasNone is h
 HasNone is (Fail cell lost ∷ h) = HasNone is h
+
+-- A call of a store was answered, and behind it a find of an object in the same store, by any client: what stands between them in the history has no
+-- call that may do this to the object. What the find is told then is `own-put-stands`, `own-move-stands` and `moments-rise` (proofs/Objects).
+pub record FindsBehind (w id : ℕ) (op : Op) (may : Op → Bool) (old mid now later : Caller) (first second : Reply) : Type 0 where
+  pub call : Asked w op old mid (Ok first)
+  pub finds : Asked w (Find id) now later (Ok second)
+  pub one : now.pass.origin ≡ old.pass.origin
+  pub between : List Entry
+  pub stands : finds.called.before ≡ call.mid.seen ++ between
+  pub none : HasNone may between
