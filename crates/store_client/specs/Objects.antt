@@ -35,8 +35,9 @@ HasNone is (Install number ∷ h) = HasNone is h
 HasNone is (Abandon number ∷ h) = HasNone is h
 HasNone is (Fail cell lost ∷ h) = HasNone is h
 
--- A call of a store was answered, and behind it a find of an object in the same store, by any client: what stands between them in the history has no
--- call that may do this to the object. What the find is told then is `own-put-stands`, `own-move-stands` and `moments-rise` (proofs/Objects).
+-- A call of a store was answered, and behind it a find of an object in the same store, by any client: what stands between them in the
+-- history has no call that may do this to the object. What the find is told then is `own-put-stands`, `own-move-stands` and `moments-rise`
+-- (proofs/Objects).
 pub record FindsBehind (w id : ℕ) (op : Op) (may : Op → Bool) (old mid now later : Caller) (first second : Reply) : Type 0 where
   pub call : Asked w op old mid (Ok first)
   pub finds : Asked w (Find id) now later (Ok second)

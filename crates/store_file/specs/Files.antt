@@ -19,8 +19,8 @@ use Rattle.recovery.specs.Opening.{IsReady, KeepsCells}
 abbrev pub IsUnmade : ℕ → List ℕ → Type 0
 IsUnmade w bytes = IsSmall bytes ⊎ Recovers w [] bytes
 
--- A crash at any moment leaves the cells of a log that stood in the file. Of a small file, of which a log is made, it leaves a small one, or a log of
--- no cells.
+-- A crash at any moment leaves the cells of a log that stood in the file. Of a small file, of which a log is made, it leaves a small one,
+-- or a log of no cells.
 pub record KeepsFile (w : ℕ) (old new : Drive) : Type 0 where
   pub in_use : (bytes : List ℕ) → old.bytes ≡ Some bytes → 17 < length bytes → KeepsCells w old new
   pub small : (bytes : List ℕ) → old.bytes ≡ Some bytes → LeavesNow old IsSmall → LeavesOnly old new (IsUnmade w)

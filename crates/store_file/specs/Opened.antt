@@ -60,8 +60,8 @@ pub record FindsLog (w : ℕ) (cells : List Cell) (old start : Drive) : Type 0 w
   pub recovers : (bytes : List ℕ) → start.bytes ≡ Some bytes → Recovers w cells bytes
   pub newest : (bytes : List ℕ) → start.bytes ≡ Some bytes → IsNewest bytes
 
--- A store was opened over a file: it begins with what the cells of its log leave, on the drive as it was when the log was opened. The pass has all
--- parts, and the numbers are those of the objects and the cells.
+-- A store was opened over a file: it begins with what the cells of its log leave, on the drive as it was when the log was opened. The pass
+-- has all parts, and the numbers are those of the objects and the cells.
 pub record OpensStore {D : Type 0} (drive : D → Drive) (w bucket : ℕ) (file : List ℕ) (old : Drive) (lock : TableId) (pass : Known) (points : ℕ) (latest : Option ℕ) (records : ℕ) : Type 0 where
   pub start : D
   pub readies : ReadiesLog w file old (drive start)

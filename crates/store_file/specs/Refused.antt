@@ -43,8 +43,8 @@ IsCause w old new Disk = Rose old.faults new.faults
 IsCause w old new (Log fault) = IsShown w old fault
 IsCause w old new Memory = ⊤
 
--- What that leaves: a crash at any moment leaves what stood in the file, a long file that is no log is left as it was, the count of faults is, but
--- where the drive failed, and no device call was made behind one that failed. No other file was attached.
+-- What that leaves: a crash at any moment leaves what stood in the file, a long file that is no log is left as it was, the count of faults
+-- is, but where the drive failed, and no device call was made behind one that failed. No other file was attached.
 pub record NotOpens (w : ℕ) (file : List ℕ) (old new : Drive) (cause : OpenCause) : Type 0 where
   pub why : IsCause w old new cause
   pub keeps : KeepsFile w old new

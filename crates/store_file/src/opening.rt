@@ -43,15 +43,16 @@ pub struct OpenedStore<I: Index, D: LogDisk, O: Start> {
 // A store of a book, and the pass that has all parts of it.
 type Shared<I, D, O> = (Store<I, D, O>, Pass<SharedBook<I, D, O>>);
 
-/// Opens a store over the log in a file, with buckets of this size, from 4 to 4,096. The file is made where it isn't there, and the log where
-/// the file has at most 17 bytes, as a crash in the making of one may leave it.
+/// Opens a store over the log in a file, with buckets of this size, from 4 to 4,096. The file is made where it isn't there, and the log
+/// where the file has at most 17 bytes, as a crash in the making of one may leave it.
 pub fn open_store<I: Index, D: LogDisk>(
     alloc: Global,
     disk: D,
     file: &str,
     bucket: u32,
 ) -> Result<OpenedStore<I, D, OverFile>, NotOpened<D>>
-    ensures opened { IfOk result (λ o. OpensStore D.drive I.WIDTH bucket file.now (D.drive disk) o.store o.pass o.points o.latest o.records) }
+    ensures opened { IfOk result (λ o. OpensStore D.drive I.WIDTH bucket file.now (D.drive disk)
+        o.store o.pass o.points o.latest o.records) }
     ensures first { IfOk result (λ o. IsFirst o.store o.pass) }
     ensures refused { IfErr result (λ e. RefusesStore D.drive I.WIDTH bucket file.now disk e.disk e.cause) }
     ensures bucket { is_bucket bucket ≡ false → IsErrAnd result (λ e. e.cause ≡ OpenCause.Bucket) }
@@ -71,7 +72,8 @@ pub fn open_over<I: Index, D: LogDisk, O: Start>(
     bucket: u32,
 ) -> Result<OpenedStore<I, D, O>, NotOpened<D>>
     requires start { (start : D) → ReadiesLog I.WIDTH file.now (D.drive disk) (D.drive start) → O.is (D.drive start) }
-    ensures opened { IfOk result (λ o. OpensStore D.drive I.WIDTH bucket file.now (D.drive disk) o.store o.pass o.points o.latest o.records) }
+    ensures opened { IfOk result (λ o. OpensStore D.drive I.WIDTH bucket file.now (D.drive disk)
+        o.store o.pass o.points o.latest o.records) }
     ensures first { IfOk result (λ o. IsFirst o.store o.pass) }
     ensures refused { IfErr result (λ e. RefusesStore D.drive I.WIDTH bucket file.now disk e.disk e.cause) }
     ensures bucket { is_bucket bucket ≡ false → IsErrAnd result (λ e. e.cause ≡ OpenCause.Bucket) }
@@ -109,7 +111,8 @@ fn store_of<I: Index, D: LogDisk, O: Start>(
     requires found { IsFound newest I.WIDTH most_cells (D.drive opened.start.value) opened.seen }
     requires ready { IsOpened I.WIDTH (found_state opened.seen) (D.drive opened.start.value) (D.drive opened.log.disk) }
     requires start { O.is (D.drive opened.start.value) }
-    ensures begins { IfOk result (λ o. BeginsOver D.drive bucket opened.seen opened.start.value o.store o.pass o.points o.latest o.records) }
+    ensures begins { IfOk result (λ o. BeginsOver D.drive bucket opened.seen opened.start.value
+        o.store o.pass o.points o.latest o.records) }
     ensures back { IfErr result (λ e. (e.disk ≡ opened.log.disk) × (e.cause ≡ OpenCause.Memory)) }
 {
     let records = opened.seen.cells;
