@@ -2,7 +2,7 @@
 use crate::book::books::book_on;
 use crate::book::calls::{
     Leaf, Stands, TAKEN, Told, abandon, begin, begin_and_cut, find, install, look, put, relocate,
-    remove, seen_in, stands,
+    remove, renew, seen_in, stands,
 };
 use commit_book::{Book, BookFault};
 use disk_trait::LogDisk;
@@ -33,6 +33,8 @@ pub enum Step {
     /// Installs a split twice.
     SplitTwice(Leaf),
     Abandon(u64),
+    /// Goes on with an empty history.
+    Renew,
 }
 
 /// A step, what the book tells of it, and how it stands then.
@@ -103,6 +105,7 @@ fn take<I: Index, D: LogDisk>(
         Step::Split(leaf) => split(rt, alloc, book, leaf),
         Step::SplitTwice(leaf) => split_twice(rt, alloc, book, leaf),
         Step::Abandon(number) => abandon(book, number),
+        Step::Renew => renew(rt, alloc, book),
     }
 }
 
