@@ -2,11 +2,14 @@
 ghost use Rattle.std.specs.Prelude.{◌≡◌, false};
 ghost use Rattle.plain_list.specs.Answer.{IsValid};
 ghost use Rattle.sessions.specs.Lanes.{Tries};
+ghost use Rattle.sessions.specs.Renewals.{room_at};
+ghost use Rattle.sessions.specs.Runs.{HasLooked};
 ghost use Rattle.sessions.specs.Splits.{SamePass};
 ghost use Rattle.store_client.specs.Caller.{IsFree, Keeps};
 ghost use Rattle.store_client.specs.Asked.{Asked, AskedCounted};
 
 use book_lock::Pass;
+use commit_book::Room;
 use disk_trait::LogDisk;
 use index_layer::Index;
 use io_edge::OpenGate;
@@ -102,6 +105,16 @@ impl<'s, I: Index, D: LogDisk, O: Start> Client<'s, I, D, O> {
             row: _,
         } = self;
         pass
+    }
+
+    /// How many more entries the history takes, and records the log, where there is one: behind all that the client has seen.
+    pub fn room<R: Wait>(&mut self, rt: &R) -> Room
+        ensures looked { HasLooked self.old.pass self.new.pass }
+        ensures room { result ≡ room_at self.new.pass.origin self.new.pass.seen }
+        ensures client { self.new ≡ record self.old { pass = self.new.pass } }
+    {
+        let store = self.store;
+        store.room(rt, &mut self.pass)
     }
 
     /// As `ask`, and counts how many buckets are opened for the answer.
