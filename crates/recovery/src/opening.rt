@@ -134,7 +134,7 @@ fn settle<D: LogDisk>(
     // Synced first: what is read is then what a crash leaves.
     disk.sync()?;
     let found = read_log(alloc, disk, NEWEST, wanted, most)?;
-    let end = HEADER_BYTES + CELL_BYTES * found.seen.cells + 1;
+    let end = HEADER_BYTES + 1 + CELL_BYTES * found.seen.cells;
     cut_behind(disk, end, found.len)?;
     Ok(SeenLog {
         seen: found.seen,
