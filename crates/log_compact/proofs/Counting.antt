@@ -1,8 +1,7 @@
 -- Fresh cells are no more than the cells whose state they are made of.
-use Rattle.std.proofs.Common.{◌≡◌, inl, inr, ℕ, suc, ◌+◌, ◌*◌, ◌≤◌, Bool, true, false, not, ◌==◌, List, [], ◌∷◌, ◌++◌, length, cond, Option, Some, None, is_some, refl, sym, ◌∙◌, ap, subst, arith, length-append}
+use Rattle.std.proofs.Common.{◌≡◌, inl, inr, ℕ, suc, ◌+◌, ◌*◌, ◌≤◌, Bool, true, false, not, ◌==◌, List, [], ◌∷◌, ◌++◌, length, map, cond, Option, Some, None, is_some, refl, sym, ◌∙◌, ap, subst, arith, length-append}
 use Rattle.std.specs.List.{filter}
 use Rattle.std.specs.Cmp.{first_so, second_so}
-use Rattle.std.proofs.lemmas.List.Sums.{fold-append}
 use mathlib.Core.Bool.{true≢false}
 use Rattle.zorder.specs.SameName.{same_name}
 use Rattle.zorder.specs.Tile.{children}
@@ -13,36 +12,18 @@ use Rattle.plain_list.specs.declared.ops.Op.{Op}
 use Rattle.plain_list.specs.declared.ops.Op.TheVariants as op
 use Rattle.plain_list.specs.World.{World}
 use Rattle.plain_list.specs.Answer.{changed, after_of, is_change, answer_of}
-use Rattle.plain_list.specs.State.{State, OpenSplit, empty_state, step, split_leaf, split_name, installed, without_name, without_number}
+use Rattle.plain_list.specs.State.{State, OpenSplit, empty_state, step, split_leaf, split_name, installed, without_name, without_number, ComesBySplits}
+use Rattle.plain_list.proofs.BySplits.{come-first, come-after}
 use Rattle.plain_list.proofs.Worlds.{length-with_member, length-with_moved}
 use Rattle.log_state.specs.Recovers.{entry_of, is_legal_cells, is_possible_cell, cells_after, state_of, IsLegalCells}
-use Rattle.log_compact.specs.Fresh.{split_cells, put_cells, fresh_cells, inner_names, ComesBySplits}
+use Rattle.log_compact.specs.Fresh.{split_cells, put_cells, fresh_cells, inner_names}
 use Rattle.recovery.specs.Widths.{IsWidth}
 use Rattle.log_compact.proofs.Forest.{forest_of, length-one, length-two}
 use Rattle.log_compact.proofs.Inner.{inner_names-forest}
 
 -- the leaves of any cells come by splits
-come-installed : (w : ℕ) (leaves : List (List Bool)) (name : Option (List Bool)) → ComesBySplits w leaves → ComesBySplits w (installed w name leaves)
-come-installed w leaves None by = by
-come-installed w leaves (Some name) by = record {
-  names = by.names ++ name ∷ [];
-  leaves_are = ap (split_leaf w name) by.leaves_are ∙ sym (fold-append (λ (ls : List (List Bool)) n. split_leaf w n ls) ([] ∷ []) by.names (name ∷ []));
-}
-
-come-step : (w : ℕ) (s : State) (cell : Cell) → ComesBySplits w s.leaves → ComesBySplits w (step w s (entry_of cell)).leaves
-come-step w s (Put id at moment) by = by
-come-step w s (Move id at moment) by = by
-come-step w s (Remove id) by = by
-come-step w s (Begin number name) by = by
-come-step w s (Install number) by = come-installed w s.leaves (split_name s.splits number) by
-come-step w s (Abandon number) by = by
-
-come-after : (w : ℕ) (s : State) (cells : List Cell) → ComesBySplits w s.leaves → ComesBySplits w (cells_after w s cells).leaves
-come-after w s [] by = by
-come-after w s (c ∷ cells) by = come-after w (step w s (entry_of c)) cells (come-step w s c by)
-
 pub comes_by_splits : (w : ℕ) (cells : List Cell) → ComesBySplits w (state_of w cells).leaves
-comes_by_splits w cells = come-after w empty_state cells (record { names = []; leaves_are = refl })
+comes_by_splits w cells = come-after w empty_state (map entry_of cells) (come-first w)
 
 -- an operation makes at most one object more
 length-filter-le : {A : Type 0} (p : A → Bool) (xs : List A) → length (filter p xs) ≤ length xs

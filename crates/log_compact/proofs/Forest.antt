@@ -7,9 +7,8 @@ use Rattle.zorder.specs.SameName.{same_name, same_name-decides}
 use Rattle.zorder.specs.Tile.{children}
 use Rattle.zorder.specs.Name.{first_key}
 use Rattle.zorder.proofs.Tiles.{first_left, first_right}
-use Rattle.plain_list.specs.State.{split_leaf}
+use Rattle.plain_list.specs.State.{split_leaf, ComesBySplits}
 use Rattle.recovery.specs.Widths.{IsWidth}
-use Rattle.log_compact.specs.Fresh.{ComesBySplits}
 use Rattle.log_compact.specs.Walk.{AreShort}
 use Rattle.log_compact.proofs.Order.{is_left, left-under}
 

@@ -15,13 +15,13 @@ use Rattle.plain_list.specs.declared.ops.Op.TheVariants.{Put}
 use Rattle.plain_list.specs.declared.ops.Answer.TheVariants.{Present, Full, Done}
 use Rattle.plain_list.specs.World.{World, IsWorld, most_members, is_full, position_of}
 use Rattle.plain_list.specs.Answer.{is_change, after_of}
-use Rattle.plain_list.specs.State.{State, is_leaf, split_leaf, installed}
+use Rattle.plain_list.specs.State.{State, is_leaf, split_leaf, installed, ComesBySplits}
 use Rattle.plain_list.proofs.PlacesOf.{length-places_of}
 use Rattle.plain_list.proofs.RisingMembers.{position_of-next, with_member-next}
 use Rattle.plain_list.proofs.IdSearches.{after_put-new}
 use Rattle.log_state.specs.Recovers.{is_legal_cells, cells_after, state_of, IsLegalCells}
 use Rattle.log_state.proofs.LegalCells.{legal-append, cells_after-append}
-use Rattle.log_compact.specs.Fresh.{split_cells, put_cells, fresh_cells, ComesBySplits}
+use Rattle.log_compact.specs.Fresh.{split_cells, put_cells, fresh_cells}
 use Rattle.log_compact.specs.Walk.{AreShort}
 use Rattle.log_compact.specs.State.{IsStateOf}
 use Rattle.log_compact.proofs.Order.{is_left, left-before, left-more, before-differ, all-append, all-weaken}

@@ -5,7 +5,8 @@ use Rattle.std.proofs.lemmas.List.Sums.{fold-append}
 use Rattle.std.specs.List.{AllByRecursion, flat_map}
 use Rattle.zorder.specs.Name.{first_key}
 use Rattle.zorder.specs.Tile.{children}
-use Rattle.log_compact.specs.Fresh.{comes_before, with_name, prefixes_by, inner_names, ComesBySplits}
+use Rattle.log_compact.specs.Fresh.{comes_before, with_name, prefixes_by, inner_names}
+use Rattle.plain_list.specs.State.{ComesBySplits}
 use Rattle.log_compact.specs.Walk.{new_names, all_new_names, AreShort}
 use Rattle.log_compact.proofs.Order.{is_left, left-before, left-more, before-more, before-under, all-append, all-weaken, AreBefore, AreRising, rising-push, IsAmong, among-push, among-last, with_name-last, with_names, with_names-among}
 use Rattle.recovery.specs.Widths.{IsWidth}

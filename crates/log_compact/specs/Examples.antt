@@ -9,7 +9,8 @@ use Rattle.cell_format.specs.Spelling.{newest, header_text, body_of}
 use Rattle.split_log.specs.LogText.{log_text}
 use Rattle.zorder.specs.Name.{first_key}
 use Rattle.log_state.specs.Recovers.{state_of}
-use Rattle.log_compact.specs.Fresh.{inner_names, fresh_cells, ComesBySplits}
+use Rattle.log_compact.specs.Fresh.{inner_names, fresh_cells}
+use Rattle.plain_list.specs.State.{ComesBySplits}
 use Rattle.log_compact.specs.Walk.{new_names}
 use Rattle.log_compact.specs.State.{IsStateOf}
 

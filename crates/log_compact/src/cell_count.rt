@@ -1,7 +1,8 @@
 //! How many cells a fresh log has.
 ghost use Rattle.std.specs.Prelude.{◌≡◌, ◌⊎◌, ◌≤◌, length};
 ghost use Rattle.split_log.specs.LogView.{most_cells};
-ghost use Rattle.log_compact.specs.Fresh.{fresh_cells, ComesBySplits};
+ghost use Rattle.log_compact.specs.Fresh.{fresh_cells};
+ghost use Rattle.plain_list.specs.State.{ComesBySplits};
 
 use crate::cells::FreshCells;
 use recovery::Seen;

@@ -1,7 +1,8 @@
 //! The cells of a fresh log, one after the other.
 ghost use Rattle.std.specs.Prelude.{◌≡◌, ◌⊎◌, ◌≤◌, length};
 ghost use Rattle.split_log.specs.LogView.{most_cells};
-ghost use Rattle.log_compact.specs.Fresh.{fresh_cells, ComesBySplits};
+ghost use Rattle.log_compact.specs.Fresh.{fresh_cells};
+ghost use Rattle.plain_list.specs.State.{ComesBySplits};
 ghost use Rattle.log_compact.specs.State.{IsStateOf};
 
 use crate::laws::names_are_short;

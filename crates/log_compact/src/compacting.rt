@@ -1,7 +1,8 @@
 //! Writes the state of a log anew.
 ghost use Rattle.std.specs.Prelude.{◌≡◌, ◌⊎◌, ◌≤◌, length, IfOk, IfErr, MatchResult};
 ghost use Rattle.split_log.specs.LogView.{most_cells};
-ghost use Rattle.log_compact.specs.Fresh.{fresh_cells, ComesBySplits};
+ghost use Rattle.log_compact.specs.Fresh.{fresh_cells};
+ghost use Rattle.plain_list.specs.State.{ComesBySplits};
 ghost use Rattle.log_compact.specs.State.{IsStateOf};
 ghost use Rattle.log_compact.specs.Compacting.{IsCompacted, RefusesCompact, KeepsOnWay};
 

@@ -3,7 +3,8 @@ ghost use Rattle.std.specs.Prelude.{◌≡◌, ◌⊎◌, ◌≤◌, List, lengt
 ghost use Rattle.cell_format.specs.declared.cell.Cell.{Cell};
 ghost use Rattle.log_state.specs.Recovers.{IsLegalCells};
 ghost use Rattle.recovery.specs.Found.{Finds};
-ghost use Rattle.log_compact.specs.Fresh.{fresh_cells, ComesBySplits};
+ghost use Rattle.log_compact.specs.Fresh.{fresh_cells};
+ghost use Rattle.plain_list.specs.State.{ComesBySplits};
 ghost use Rattle.log_compact.specs.Walk.{AreShort};
 
 use recovery::Seen;

@@ -15,7 +15,7 @@ use Rattle.recovery.specs.Calls.{StopsAtFault}
 use Rattle.recovery.proofs.CallLemmas.{stops-then, well-none, well-then}
 use Rattle.recovery.proofs.OnlyReading.{stays-trans}
 use Rattle.recovery.proofs.OpeningLemmas.{leaves-trans, leaves-stays}
-use Rattle.log_compact.specs.Fresh.{ComesBySplits}
+use Rattle.plain_list.specs.State.{ComesBySplits}
 use Rattle.log_compact.specs.Compacting.{IsCompacted, IsOnWay, KeepsOnWay, RefusesCompact}
 use Rattle.log_compact.specs.declared.compacting.CompactFault.{CompactFault}
 use Rattle.log_compact.specs.declared.compacting.CompactFault.TheVariants as compact_fault

@@ -1,7 +1,7 @@
 //! The command `compact`: writes what the log in a file says anew into another file.
 ghost use Rattle.std.specs.Prelude.{◌≡◌, ◌≢◌, ◌≤◌, [], true, IfOk, IfErr, MatchResult, length};
 ghost use Rattle.disk_trait.specs.Drive.{AttachedOne};
-ghost use Rattle.log_compact.specs.Fresh.{ComesBySplits};
+ghost use Rattle.plain_list.specs.State.{ComesBySplits};
 ghost use Rattle.recovery.specs.Widths.{IsWidth};
 ghost use Rattle.run_ends.specs.Ends.{written_by};
 ghost use Rattle.run_ends.specs.Limits.{most_inspected};

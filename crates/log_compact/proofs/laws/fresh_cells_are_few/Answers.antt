@@ -1,6 +1,7 @@
 use Rattle.std.proofs.Common.{◌≡◌, length, sym, subst, arith}
 use Rattle.log_state.specs.Recovers.{state_of}
-use Rattle.log_compact.specs.Fresh.{fresh_cells, ComesBySplits}
+use Rattle.log_compact.specs.Fresh.{fresh_cells}
+use Rattle.plain_list.specs.State.{ComesBySplits}
 use Rattle.log_compact.proofs.Counting.{comes_by_splits, fresh_few}
 use Rattle.log_compact.proofs.laws.fresh_cells_are_few.Goals as goal
 

@@ -2,7 +2,8 @@
 use Rattle.std.proofs.Common.{◌≡◌, ℕ, length, List, Bool, false, sym, ◌∙◌, ap, subst, arith}
 use Rattle.cell_format.specs.declared.cell.Cell.{Cell}
 use Rattle.plain_list.specs.World.{World}
-use Rattle.log_compact.specs.Fresh.{inner_names, fresh_cells, ComesBySplits}
+use Rattle.log_compact.specs.Fresh.{inner_names, fresh_cells}
+use Rattle.plain_list.specs.State.{ComesBySplits}
 use Rattle.log_compact.specs.Walk.{all_new_names, AreShort, cells_left}
 use Rattle.log_compact.specs.State.{IsStateOf}
 use Rattle.recovery.specs.Widths.{IsWidth}
