@@ -1,5 +1,6 @@
 -- A world whose objects are dealt over shards by their ids.
 use Rattle.std.specs.Prelude.{◌≡◌, ◌≢◌, ℕ, ◌*◌, ◌/◌, ◌%◌, ◌^◌, ◌<◌, List, [], ◌∷◌, length, replicate, slice_index_or, None}
+use Rattle.std.specs.List.{flat_map}
 use Rattle.plain_list.specs.Places.{IsRising}
 use Rattle.plain_list.specs.World.{World, places_of, position_of, IsWorld}
 use Rattle.plain_list.specs.Answer.{with_member}
@@ -21,6 +22,10 @@ with_all (m ∷ ms) world = with_member m (with_all ms world)
 abbrev pub joined : List World → World
 joined [] = []
 joined (shard ∷ shards) = with_all shard (joined shards)
+
+-- the objects of all shards, one shard after the other
+abbrev pub in_turn : List World → World
+in_turn shards = flat_map (λ (shard : World). shard) shards
 
 -- the shard at an index has objects that are dealt to it, and no others
 pub record IsShard (index : ℕ) (members : World) : Type 0 where

@@ -1,5 +1,5 @@
 //! A world as a map, for whoever changes it often.
-ghost use Rattle.std.specs.Prelude.{◌≡◌, ◌≤◌, ◌<◌, ◌+◌, [], length, None, OnErr, IfOk, Option, vec_len, vec_capacity};
+ghost use Rattle.std.specs.Prelude.{◌≡◌, ◌≤◌, ◌<◌, ◌+◌, ◌++◌, [], length, None, OnErr, IfOk, Option, vec_len, vec_capacity};
 ghost use Rattle.plain_list.specs.World.{most_members, IsWorld, position_of};
 ghost use Rattle.plain_list.specs.Answer.{with_moved, without};
 ghost use Rattle.plain_list.specs.MemberMap.{IsPut};
@@ -89,13 +89,23 @@ impl MemberMap {
         requires enough { length self.now ≤ vec_capacity room }
         ensures { result ≡ self.now }
     {
+        self.add_to(&mut room);
+        World::from_vec(room)
+    }
+
+    // The same objects behind those of a list, in memory that was taken before.
+    pub(crate) fn add_to(&self, list: &mut Vec<Member>)
+        requires { vec_len list.old + length self.now ≤ vec_capacity list.old }
+        ensures items { list.new.items ≡ list.old.items ++ self.now }
+        ensures capacity { vec_capacity list.new ≡ vec_capacity list.old }
+        ensures world { IsWorld self.now }
+    {
         for (id, kept) in &self.positions {
-            room.push_reserved(Member {
+            list.push_reserved(Member {
                 id: *id,
                 at: kept.at,
                 moment: kept.moment,
             });
         }
-        World::from_vec(room)
     }
 }

@@ -3,7 +3,7 @@ ghost use Rattle.std.specs.Prelude.{◌≡◌, ◌≤◌, ◌<◌, ◌+◌, [], 
 ghost use Rattle.plain_list.specs.World.{most_members, IsWorld, position_of};
 ghost use Rattle.plain_list.specs.Answer.{with_moved, without};
 ghost use Rattle.plain_list.specs.MemberMap.{IsPut};
-ghost use Rattle.plain_list.specs.MemberShards.{most_shards, shard_of, AreMade};
+ghost use Rattle.plain_list.specs.MemberShards.{most_shards, shard_of, in_turn, AreMade};
 
 use crate::member_map::MemberMap;
 use crate::world::{Member, Stamped, World};
@@ -61,6 +61,15 @@ impl MemberShards {
         ensures world { IsWorld self.now }
     {
         self.len
+    }
+
+    /// The objects as one list.
+    pub fn to_world(&self) -> Result<World, AllocError>
+        ensures { IfOk result (λ world. world ≡ self.now) }
+    {
+        let mut members = in_turn(self.alloc, &self.shards, self.len)?;
+        members.sort_unstable_by_key(|m| m.id);
+        Ok(World::from_vec(members))
     }
 
     pub fn position(&self, id: u64) -> Option<Stamped>
@@ -154,4 +163,16 @@ fn shards_of(alloc: Global, world: &[Member]) -> Result<MemberShards, AllocError
         shards.insert(member.id, member.stamped())?;
     }
     Ok(shards)
+}
+
+// The objects of shards that have so many in all, one shard after the other.
+fn in_turn(alloc: Global, shards: &[MemberMap], len: usize) -> Result<Vec<Member>, AllocError>
+    requires { len ≡ length (in_turn shards.now) }
+    ensures { IfOk result (λ members. members.items ≡ in_turn shards.now) }
+{
+    let mut members = Vec::with_capacity(alloc, len)?;
+    for shard in shards {
+        shard.add_to(&mut members);
+    }
+    Ok(members)
 }
