@@ -23,10 +23,11 @@ mod splits;
 use crate::crowded::{Begun, Crowded, is_among, is_over};
 use bucket_versions::{Bucket, Commit, Row, RowChange, Undone};
 use index_layer::{Index, Part};
-use plain_list::{Answer, MOST_MEMBERS, MemberShards, Op, Stamped};
+use plain_list::{Answer, MOST_MEMBERS, MemberShards, Op, Stamped, World};
 use std::alloc::Global;
 use std::marker::Model;
 use std::sync::Arc;
+use table_share::LeafWalk;
 use zorder::{Memory, Name, begins, key};
 
 /// Objects, by their ids and by their keys.
@@ -88,6 +89,25 @@ impl<I: Index> PointTable<I> {
         ensures rows { AllByRecursion (HasRowsOf (places_of self.now.world)) self.now.leaves }
     {
         self.members.len()
+    }
+
+    /// The objects as one list.
+    pub fn to_world(&self) -> Result<World, Memory>
+        ensures { IfOk result (λ world. world ≡ self.now.world) }
+    {
+        Ok(self.members.to_world()?)
+    }
+
+    /// The names of the leaves.
+    pub fn leaf_names(&self) -> Result<Vec<Name>, Memory>
+        ensures { IfOk result (λ names. names.items ≡ names_of self.now.leaves) }
+    {
+        let mut names = Vec::new(self.alloc);
+        let mut walk = LeafWalk::over(&self.index);
+        while let Some((name, _)) = walk.next_leaf() {
+            names.push(name)?;
+        }
+        Ok(names)
     }
 
     /// What is kept of an object.
