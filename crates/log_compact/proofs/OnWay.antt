@@ -1,5 +1,5 @@
 -- What a crash leaves on the way from a small file to a log of all cells.
-use Rattle.std.proofs.Common.{◌≡◌, inl, inr, ℕ, ◌≤◌, List, [], ◌∷◌, length, Option, Some, refl, sym, ◌∙◌, ap, subst, ⊎_elim, arith, length-append, ◌⊎◌}
+use Rattle.std.proofs.Common.{◌≡◌, inl, inr, ℕ, ◌≤◌, List, [], ◌∷◌, length, Option, Some, is_some, refl, sym, ◌∙◌, ap, subst, ⊎_elim, arith, length-append, ◌⊎◌}
 use Rattle.cell_format.specs.declared.cell.Cell.{Cell}
 use Rattle.cell_format.specs.Spelling.{newest}
 use Rattle.causes.specs.Causes.{Rose}
@@ -16,6 +16,9 @@ use Rattle.recovery.proofs.CallLemmas.{well-none, well-then, ends-then}
 use Rattle.recovery.proofs.HeadLemmas.{index_version}
 use Rattle.log_compact.specs.Staging.{IsEmpty}
 use Rattle.log_compact.specs.Compacting.{IsCompacted, FailsToCompact, IsOnWay, KeepsOnWay}
+
+some_same : (a b : List ℕ) → ◌≡◌ {A = Option (List ℕ)} (Some a) (Some b) → a ≡ b
+some_same a b e = cc e
 
 recovers : (w : ℕ) (cells : List Cell) (c : List ℕ) → HoldsCells newest w cells c → IsLegalCells w cells → Recovers w cells c
 recovers w cells c holds legal = record { version = 2; known = inr refl; holds = holds; legal = legal }
@@ -40,9 +43,14 @@ module _ (w : ℕ) (cells : List Cell) (legal : IsLegalCells w cells) (old mid n
       file = λ all told. kept.file all (file all told);
     }
 
-  pub compacted : Makes w old mid → (IsLog w [] mid → IsLog w cells new) → new.faults ≡ mid.faults → AllWentWell mid new → IsCompacted w cells old new
-  compacted made written same calls = record {
+  pub compacted : Makes w old mid → (IsLog w [] mid → IsLog w cells new) → is_some new.bytes ≡ is_some mid.bytes → new.faults ≡ mid.faults → AllWentWell mid new → IsCompacted w cells old new
+  compacted made written told_on same calls = record {
     log = λ bytes told. ((made.log bytes told).0, written (made.log bytes told).1);
+    told = told_on ∙ made.told;
+    synced = λ xs now.
+        let (bytes, before) = told_before old.bytes new.bytes xs (told_on ∙ made.told) now in
+        let log = written (made.log bytes before).1 in
+        λ c left. log.durable c left ∙ some_same log.bytes xs (sym log.told ∙ now);
     same = same ∙ made.same;
     calls = well-then old mid new (record { count = 2; calls = made.calls }) calls;
   }
@@ -61,9 +69,6 @@ failed-making old new fails = record { rose = fails.rose; calls = by_case fails.
     by_case : HasNoMore old.calls new.calls ⊎ ((went_well : ℕ) × StopsAfter 1 went_well old new) → StopsAtFault old new
     by_case (inl none) = inl (well-none old new none)
     by_case (inr (k, stops)) = inr (record { went_well = k; calls = stops.calls })
-
-some_same : (a b : List ℕ) → ◌≡◌ {A = Option (List ℕ)} (Some a) (Some b) → a ≡ b
-some_same a b e = cc e
 
 -- a log of no cells has 17 bytes
 pub made-empty : (w : ℕ) (old new : Drive) → Makes w old new → IsEmpty new

@@ -80,6 +80,7 @@ module _ (start now next : Drive) (laws : KeepsLaws now) (at : ℕ) (piece : Lis
       bytes = λ w log. more-bytes w log.text.commit_byte staging.sent (staging.bytes w log);
       alone = λ w log. still-alone w (staging.alone w log);
       fits = λ ok. staging.fits (fits ok);
+      told = writes.told ∙ staging.told;
       same = same ∙ staging.same;
       calls = well-then start now next staging.calls (record { count = 1; calls = made });
       file = λ seen told. staging.file seen (file seen told);
@@ -95,6 +96,7 @@ staging-none all start laws empty = record {
   bytes = λ w log. log.told ∙ ap Some log.text.text;
   alone = λ w log. before_all w [] start laws log;
   fits = λ ok. ok;
+  told = refl;
   same = refl;
   calls = well-none start start (λ all told. told);
   file = λ seen told. told;

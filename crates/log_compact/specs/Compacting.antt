@@ -1,7 +1,7 @@
 -- What the writing of a state anew leaves.
-use Rattle.std.specs.Prelude.{◌≡◌, ◌⊎◌, ℕ, ◌<◌, ◌≤◌, List, [], length, Some}
+use Rattle.std.specs.Prelude.{◌≡◌, ◌⊎◌, ℕ, ◌<◌, ◌≤◌, List, [], length, Some, is_some}
 use Rattle.causes.specs.Causes.{Rose}
-use Rattle.disk_trait.specs.Drive.{Drive, SameFile, Stays}
+use Rattle.disk_trait.specs.Drive.{Drive, SameFile, Stays, IsSynced}
 use Rattle.disk_trait.specs.Moments.{LeavesNow, LeavesOnly}
 use Rattle.cell_format.specs.declared.cell.Cell.{Cell}
 use Rattle.split_log.specs.LogText.{IsLog}
@@ -19,9 +19,12 @@ abbrev pub fault_of : InitFault → CompactFault
 fault_of (init.InUse len) = InUse len
 fault_of init.Disk = Disk
 
--- a log of these cells was made of a small file, where its content was known, and no device call failed
+-- A log of these cells was made of a small file, where its content was known, and it is known then only. Nothing is pending, and no device call
+-- failed.
 pub record IsCompacted (w : ℕ) (cells : List Cell) (old new : Drive) : Type 0 where
   pub log : (bytes : List ℕ) → old.bytes ≡ Some bytes → IsSmall bytes × IsLog w cells new
+  pub told : is_some new.bytes ≡ is_some old.bytes
+  pub synced : IsSynced new
   pub same : new.faults ≡ old.faults
   pub calls : AllWentWell old new
 

@@ -1,5 +1,5 @@
 -- Cells that are written behind the clear commit byte of an empty log.
-use Rattle.std.specs.Prelude.{◌≡◌, ℕ, ◌+◌, List, [], ◌∷◌, ◌++◌, length, Option, Some, None}
+use Rattle.std.specs.Prelude.{◌≡◌, ℕ, ◌+◌, List, [], ◌∷◌, ◌++◌, length, Option, Some, None, is_some}
 use Rattle.std.specs.List.{AllByRecursion}
 use Rattle.cell_format.specs.declared.cell.Cell.{Cell}
 use Rattle.cell_format.specs.Spelling.{newest, IsCell}
@@ -33,6 +33,7 @@ pub record IsStaging (all rest : List Cell) (at : ℕ) (start now : Drive) : Typ
   pub bytes : (w : ℕ) (log : IsLog w [] start) → now.bytes ≡ Some (staged w log.text.commit_byte sent)
   pub alone : (w : ℕ) → IsLog w [] start → LeavesOnly start now (HoldsCells newest w [])
   pub fits : AreCells rest → AreCells all
+  pub told : is_some now.bytes ≡ is_some start.bytes
   pub same : now.faults ≡ start.faults
   pub calls : AllWentWell start now
   pub file : SameFile start now

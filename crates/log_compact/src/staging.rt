@@ -1,5 +1,5 @@
 //! Writes cells behind the clear commit byte of an empty log, and sets that byte at last.
-ghost use Rattle.std.specs.Prelude.{◌≡◌, ◌<◌, ◌≤◌, ◌∷◌, [], ℕ, OnOk, OnErr, length};
+ghost use Rattle.std.specs.Prelude.{◌≡◌, ◌<◌, ◌≤◌, ◌∷◌, [], ℕ, OnOk, OnErr, is_some, length};
 ghost use Rattle.disk_trait.specs.Drive.{CountsFaults, IsWithin};
 ghost use Rattle.disk_trait.specs.Moments.{LeavesOnly};
 ghost use Rattle.cell_format.specs.Spelling.{newest};
@@ -16,7 +16,7 @@ use disk_trait::{DiskFault, LogDisk};
 use split_log::commit;
 
 /// Where the first commit byte stands in a log.
-const FIRST: u64 = 16;
+pub(crate) const FIRST: u64 = 16;
 
 /// Writes cells over an empty log: a crash leaves none of them, or all.
 pub(crate) fn write_cells<D: LogDisk>(disk: &mut D, mut cells: FreshCells) -> Result<(), DiskFault>
@@ -28,6 +28,7 @@ pub(crate) fn write_cells<D: LogDisk>(disk: &mut D, mut cells: FreshCells) -> Re
     ensures written { OnOk result ((w : ℕ) → IsLog w [] (D.drive disk.old) → IsLog w cells.entry (D.drive disk.new)) }
     ensures calls { OnOk result (AllWentWell (D.drive disk.old) (D.drive disk.new)) }
     ensures stopped { OnErr result (EndsAtFault (D.drive disk.old) (D.drive disk.new)) }
+    ensures told { is_some (D.drive disk.new).bytes ≡ is_some (D.drive disk.old).bytes }
     ensures cause { CountsFaults (D.drive disk.old) (D.drive disk.new) result }
 {
     let Some(first) = cells.next() else {
@@ -49,6 +50,7 @@ fn stage<D: LogDisk>(disk: &mut D, first: Cell, mut cells: FreshCells) -> Result
     ensures far { OnOk result (IsWithin (D.drive disk.new) 16) }
     ensures calls { OnOk result (AllWentWell (D.drive disk.old) (D.drive disk.new)) }
     ensures stopped { OnErr result (EndsAtFault (D.drive disk.old) (D.drive disk.new)) }
+    ensures told { is_some (D.drive disk.new).bytes ≡ is_some (D.drive disk.old).bytes }
     ensures cause { CountsFaults (D.drive disk.old) (D.drive disk.new) result }
 {
     let mut piece = [0; PIECE];

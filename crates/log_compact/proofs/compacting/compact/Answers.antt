@@ -12,7 +12,7 @@ pub returns-in-Ok-write_cells-clause-ok : goal.returns-in-Ok-write_cells-clause-
 returns-in-Ok-write_cells-clause-ok g c =
     subst (λ (cells : List Cell). IsCompacted c.args.width cells (g.D.LogDisk.drive c.args.target) (g.D.LogDisk.drive c.write_cells.new.disk)) c.of-cells.ensures.cells
     (compacted c.args.width c.of-cells.result c.of-cells.ensures.state.legal (g.D.LogDisk.drive c.args.target) (g.D.LogDisk.drive c.in-Ok.disk) (g.D.LogDisk.drive c.write_cells.new.disk)
-    c.in-Ok.ensures.made (c.in-Ok-write_cells.ensures.written c.args.width) c.in-Ok-write_cells.ensures.cause.same c.in-Ok-write_cells.ensures.calls)
+    c.in-Ok.ensures.made (c.in-Ok-write_cells.ensures.written c.args.width) c.write_cells.ensures.told c.in-Ok-write_cells.ensures.cause.same c.in-Ok-write_cells.ensures.calls)
 
 pub returns-in-Ok-write_cells-clause-any_moment : goal.returns-in-Ok-write_cells-clause-any_moment
 returns-in-Ok-write_cells-clause-any_moment g c =

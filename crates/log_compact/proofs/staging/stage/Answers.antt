@@ -1,5 +1,5 @@
 -- Each piece goes behind the last one, and behind the first commit byte.
-use Rattle.std.proofs.Common.{◌≡◌, ◌+◌, ◌*◌, ◌^◌, ◌≤◌, ◌<◌, ◌∷◌, ℕ, List, length, take, ap, subst, arith, length-append, length-take}
+use Rattle.std.proofs.Common.{◌≡◌, ◌+◌, ◌*◌, ◌^◌, ◌≤◌, ◌<◌, ◌∷◌, ℕ, List, length, take, ◌∙◌, ap, subst, arith, length-append, length-take}
 use Rattle.cell_format.specs.declared.cell.Cell.{Cell}
 use Rattle.disk_trait.specs.Drive.{Drive}
 use Rattle.split_log.specs.LogText.{behind_first}
@@ -71,3 +71,9 @@ returns-in_err-write-clause-stopped g c =
 
 pub returns-clause-calls : goal.returns-clause-calls
 returns-clause-calls g c = c.pieces.invariant.calls
+
+pub returns-in_err-write-clause-told : goal.returns-in_err-write-clause-told
+returns-in_err-write-clause-told g c = c.write.ensures.writes.told ∙ c.pieces.invariant.told
+
+pub returns-clause-told : goal.returns-clause-told
+returns-clause-told g c = c.pieces.invariant.told

@@ -1,5 +1,5 @@
 -- Until the first commit byte is set a crash leaves no cell, and from then on none or all.
-use Rattle.std.proofs.Common.{List, [], ◌∷◌, sym, subst}
+use Rattle.std.proofs.Common.{List, [], ◌∷◌, sym, ◌∙◌, subst}
 use Rattle.std.proofs.lemmas.Result.{on_ok_weaker, on_err_weaker}
 use Rattle.recovery.proofs.CallLemmas.{well-then, ends-then}
 use Rattle.cell_format.specs.declared.cell.Cell.{Cell}
@@ -38,3 +38,6 @@ returns-clause-stopped g c = on_err_weaker c.commit.result (λ stopped.
     ends-then (g.D.LogDisk.drive c.args.disk.now) (g.D.LogDisk.drive c.stage.new.disk) (g.D.LogDisk.drive c.commit.new.disk) c.in_ok-stage.ensures.calls
     (record { went_well = stopped.went_well; calls = stopped.stops.calls }))
     c.commit.ensures.stopped
+
+pub returns-clause-told : goal.returns-clause-told
+returns-clause-told g c = c.commit.ensures.told ∙ c.stage.ensures.told
