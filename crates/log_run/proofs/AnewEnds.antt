@@ -1,5 +1,5 @@
 -- How a writing anew ends.
-use Rattle.std.proofs.Common.{◌≡◌, inl, inr, ◌∙◌, ℕ, ◌≤◌, Bool, true, false, List, length, Result, Ok, Err, sym, ap, subst, arith}
+use Rattle.std.proofs.Common.{◌≡◌, inl, inr, ◌∙◌, ℕ, ◌≤◌, Bool, true, false, List, length, is_some, Result, Ok, Err, sym, ap, subst, arith}
 use Rattle.causes.specs.Causes.{Rose, Counts}
 use Rattle.io_edge.specs.Puts.{Puts}
 use Rattle.io_edge.specs.Streams.{Output}
@@ -56,7 +56,13 @@ module _ (w : ℕ) (known : IsWidth w) (drive : Drive) (seen : Seen) (found : Is
 -- a file that was attached, and what was written to it
 module _ (w : ℕ) (fresh : List Cell) (a b c : Drive) (laws : KeepsLaws a) (stays : Stays a b) where
   pub compacted-after : b.faults ≡ a.faults → IsCompacted w fresh b c → IsCompacted w fresh a c
-  compacted-after calm is = record { log = λ bytes told. is.log bytes (stays.bytes ∙ told); same = is.same ∙ calm; calls = well-then a b c (well-none a b stays.calls) is.calls }
+  compacted-after calm is = record {
+    log = λ bytes told. is.log bytes (stays.bytes ∙ told);
+    told = is.told ∙ ap is_some stays.bytes;
+    synced = is.synced;
+    same = is.same ∙ calm;
+    calls = well-then a b c (well-none a b stays.calls) is.calls;
+  }
 
   pub leaves-attached : a.faults ≤ b.faults → LeavesNew w fresh a b
   leaves-attached later = record {
