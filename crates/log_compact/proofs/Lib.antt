@@ -8,3 +8,4 @@ pub mod Lefts
 pub mod PieceTexts
 pub mod Stages
 pub mod OnWay
+pub mod Clearings

@@ -4,11 +4,14 @@
 //! object, whose state is that world and those leaves. `compact` makes it on a drive of its own: at each moment a crash leaves at most 17 bytes,
 //! or no cell, or all of them. `fresh_cells_are_few` is what lets it be called with what was found in a log.
 //!
+//! `clear_log` makes a log one of no cells: at each moment a crash leaves all of its cells or none.
+//!
 //! Not here: how the old log is read (`recovery`), appends to a log (`split_log`).
 #![tactic(auto)]
 
 mod cell_count;
 mod cells;
+mod clearing;
 mod compacting;
 mod laws;
 mod names;
@@ -16,5 +19,6 @@ mod pieces;
 mod staging;
 
 pub use cell_count::count_fresh;
+pub use clearing::{NotCleared, clear_log};
 pub use compacting::{CompactFault, CompactRefused, compact};
 pub use laws::fresh_cells_are_few;

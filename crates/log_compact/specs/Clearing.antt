@@ -1,0 +1,35 @@
+-- What the clearing of a log leaves.
+use Rattle.std.specs.Prelude.{◌≡◌, ◌⊎◌, ℕ, ◌<◌, List, [], is_some}
+use Rattle.causes.specs.Causes.{Rose}
+use Rattle.disk_trait.specs.Drive.{Drive, HasNoMore, MadeWell, StopsAfter, SameFile, IsSynced}
+use Rattle.disk_trait.specs.Moments.{LeavesOnly}
+use Rattle.cell_format.specs.declared.cell.Cell.{Cell}
+use Rattle.split_log.specs.LogText.{IsLog, HoldsAllOrNone}
+
+-- which calls clear a log of so many cells: none where it has none, and else a write, a sync, a cut and a sync
+abbrev pub CallsToClear : ℕ → Drive → Drive → Type 0
+CallsToClear count old new = ((count ≡ 0) × HasNoMore old.calls new.calls) ⊎ ((0 < count) × MadeWell 4 old new)
+
+-- some of these four calls went well, the next one failed, and none was made behind it
+abbrev pub StopsClearing : Drive → Drive → Type 0
+StopsClearing old new = (went_well : ℕ) × StopsAfter 3 went_well old new
+
+-- A log of no cells was made of a log of so many, with nothing pending, and no device call failed.
+pub record Clears (count : ℕ) (old new : Drive) : Type 0 where
+  pub log : (w : ℕ) (cells : List Cell) → IsLog w cells old → IsLog w [] new
+  pub synced : IsSynced new
+  pub told : is_some new.bytes ≡ is_some old.bytes
+  pub same : new.faults ≡ old.faults
+  pub calls : CallsToClear count old new
+  pub file : SameFile old new
+
+-- The drive failed, and no call was made behind the one that did.
+pub record FailsToClear (old new : Drive) : Type 0 where
+  pub told : is_some new.bytes ≡ is_some old.bytes
+  pub rose : Rose old.faults new.faults
+  pub calls : StopsClearing old new
+  pub file : SameFile old new
+
+-- at each moment a crash leaves all cells that the log had, or none
+abbrev pub KeepsOrClears : Drive → Drive → Type 0
+KeepsOrClears old new = (w : ℕ) (cells : List Cell) → IsLog w cells old → LeavesOnly old new (HoldsAllOrNone w [] cells)
