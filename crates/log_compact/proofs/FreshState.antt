@@ -21,7 +21,7 @@ use Rattle.plain_list.proofs.RisingMembers.{position_of-next, with_member-next}
 use Rattle.plain_list.proofs.IdSearches.{after_put-new}
 use Rattle.log_state.specs.Recovers.{is_legal_cells, cells_after, state_of, IsLegalCells}
 use Rattle.log_state.proofs.LegalCells.{legal-append, cells_after-append}
-use Rattle.log_compact.specs.Fresh.{split_cells, put_cells, fresh_cells}
+use Rattle.log_compact.specs.Fresh.{split_cells, put_cells, fresh_cells, inner_names}
 use Rattle.log_compact.specs.Walk.{AreShort}
 use Rattle.log_compact.specs.State.{IsStateOf}
 use Rattle.log_compact.proofs.Order.{is_left, left-before, left-more, before-differ, all-append, all-weaken}
@@ -150,17 +150,30 @@ puts-lead w world is leaves k (suc j) i e =
     full-not : (n : ℕ) → n < most_members → nat_le most_members n ≡ false
     full-not n lt = grind (arith, nat_tests)
 
--- fresh cells are legal, and their state is the world and the leaves that they were made of
-pub fresh_state : (w : ℕ) → IsWidth w → (world : World) (leaves : List (List Bool)) → IsWorld world → ComesBySplits w leaves → AreShort leaves → IsStateOf w (fresh_cells w world leaves) world leaves
-fresh_state w width world leaves is by short =
+-- the fresh cells lead to the world and the leaves that they were made of, by a split of each inner name
+fresh_leads : (w : ℕ) → IsWidth w → (world : World) (leaves : List (List Bool)) → IsWorld world → ComesBySplits w leaves → AreShort leaves
+    → Leads_to w (settled [] ([] ∷ []) 0) (settled world leaves (length (inner_names w leaves))) (fresh_cells w world leaves)
+fresh_leads w width world leaves is by short =
     let (inner, f) = forest_of w leaves by in
     let split = splits-lead w width ([] ∷ []) leaves inner f [] [] 0 tt (tt, tt) short in
     let put = puts-lead w world is leaves (0 + length inner) (length world) 0 (omega arith) in
     let cells : List Cell = split_cells 1 inner ++ put_cells world in
-    let same : fresh_cells w world leaves ≡ cells = ap (λ (l : List (List Bool)). split_cells 1 l ++ put_cells world) (inner_names-forest w width leaves inner f) in
+    let count : 0 + length inner ≡ length inner = omega arith in
     let after : state_of w cells ≡ settled world leaves (0 + length inner) =
     cells_after-append w (settled [] ([] ∷ []) 0) (split_cells 1 inner) (put_cells world) ∙ ap (λ s. cells_after w s (put_cells world)) split.after ∙ put.after in
     let legal : IsLegalCells w cells =
     legal-append w (settled [] ([] ∷ []) 0) (split_cells 1 inner) (put_cells world) split.legal (ap (λ s. is_legal_cells w s (put_cells world)) split.after ∙ put.legal) in
-    subst (λ (l : List Cell). IsStateOf w l world leaves) (sym same)
-    (record { legal = legal; world_is = ap (λ s. s.world) after; leaves_are = ap (λ s. s.leaves) after; at_rest = ap (λ s. s.splits) after })
+    subst (λ (l : List (List Bool)). Leads_to w (settled [] ([] ∷ []) 0) (settled world leaves (length l)) (split_cells 1 l ++ put_cells world))
+    (sym (inner_names-forest w width leaves inner f))
+    (record { legal = legal; after = after ∙ ap (settled world leaves) count })
+
+-- fresh cells are legal, and their state is the world and the leaves that they were made of
+pub fresh_state : (w : ℕ) → IsWidth w → (world : World) (leaves : List (List Bool)) → IsWorld world → ComesBySplits w leaves → AreShort leaves → IsStateOf w (fresh_cells w world leaves) world leaves
+fresh_state w width world leaves is by short =
+    let leads = fresh_leads w width world leaves is by short in
+    record { legal = leads.legal; world_is = ap (λ s. s.world) leads.after; leaves_are = ap (λ s. s.leaves) leads.after; at_rest = ap (λ s. s.splits) leads.after }
+
+-- each inner name has been begun
+pub fresh_begun : (w : ℕ) → IsWidth w → (world : World) (leaves : List (List Bool)) → IsWorld world → ComesBySplits w leaves → AreShort leaves
+    → (state_of w (fresh_cells w world leaves)).begun ≡ length (inner_names w leaves)
+fresh_begun w width world leaves is by short = ap (λ s. s.begun) (fresh_leads w width world leaves is by short).after

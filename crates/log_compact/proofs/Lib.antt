@@ -9,3 +9,4 @@ pub mod PieceTexts
 pub mod Stages
 pub mod OnWay
 pub mod Clearings
+pub mod Begun

@@ -4,6 +4,7 @@ pub mod State
 pub mod Staging
 pub mod Compacting
 pub mod Clearing
+pub mod Beginning
 pub mod Examples
 pub use Rattle.log_state.specs.Recovers
 pub use Rattle.split_log.specs.LogText
