@@ -2,8 +2,8 @@
 use crate::answers::{Told, answer_of};
 use crate::worlds::next;
 use plain_list::{
-    Answer, Call, Entries, Entry, Op, Stamped, World, answer, find_id, is_box, is_legal,
-    ranking_is_in_order,
+    Answer, Call, Entries, Entry, Member, MemberShards, Op, Stamped, World, answer, find_id,
+    is_box, is_legal, ranking_is_in_order,
 };
 use std::alloc::Global;
 use std::process::Abort;
@@ -286,4 +286,50 @@ fn a_history_keeps_its_steps(rt: HostRuntime) {
     let history = two_entries(&rt, rt.alloc());
     expect_two(&rt, &history);
     expect_two(&rt, &copy_of(&rt, rt.alloc(), &history));
+}
+
+const FAR_APART: &[u64] = &[0, 7, 9, 4_000_000_000, LAST];
+
+macro_rules! member {
+    ($id:expr, $at:expr, $moment:expr) => {
+        Member {
+            id: $id,
+            at: $at,
+            moment: $moment,
+        }
+    };
+}
+
+// Those ids, behind a move of 7 and a removal of 9.
+const LEFT: &[Member] = &[
+    member!(0, FIRST, 0),
+    member!(7, NEAR, 3),
+    member!(4_000_000_000, FIRST, 0),
+    member!(LAST, FIRST, 0),
+];
+
+// Objects of these ids at one point.
+fn world_at_first(rt: &impl Abort, alloc: Global, ids: &[u64]) -> World {
+    let mut world = World::empty(alloc);
+    for id in ids {
+        world = next(world, &put!(*id, FIRST)).expect(rt, "it failed");
+    }
+    world
+}
+
+// The same dealt over shards, and changed there.
+fn shards_left(rt: &impl Abort, alloc: Global) -> MemberShards {
+    let world = world_at_first(rt, alloc, FAR_APART);
+    let mut shards = MemberShards::from_world(alloc, &world).expect(rt, "no memory");
+    shards.replace(7, kept!(NEAR, 3));
+    shards.remove(9);
+    shards
+}
+
+#[test]
+fn the_objects_of_all_shards_are_one_list(rt: HostRuntime) {
+    let world = shards_left(&rt, rt.alloc())
+        .to_world()
+        .expect(&rt, "no memory");
+    assert_same!(rt; world.as_slice(), LEFT);
 }
