@@ -13,9 +13,9 @@ use Rattle.disk_trait.specs.Moments.{LeavesOnly}
 use Rattle.log_state.specs.Recovers.{Recovers}
 use Rattle.log_state.specs.Changes.{cells_of, lost_cells}
 use Rattle.recovery.specs.Calls.{AllWentWell, EndsAtFault}
-use Rattle.kept_log.specs.KeptView.{KeptView}
+use Rattle.kept_log.specs.KeptView.{KeptView, kept_view}
 use Rattle.kept_log.specs.Kept.{StartsWith, RecoversTo, Keeps}
-use Rattle.split_log.specs.LogView.{most_cells}
+use Rattle.split_log.specs.LogView.{LogView, most_cells}
 use Rattle.kept_log.specs.Steps.{IsNext, IsSince}
 
 -- how many cells there are: none without a log
@@ -32,6 +32,11 @@ failed_in (Some log) = log.failed
 abbrev pub disk_in : {D : Type 0} → Option (KeptView D) → Option D
 disk_in None = None
 disk_in (Some log) = Some log.disk
+
+-- the log as it stands, where there is one
+abbrev pub log_in : {D : Type 0} → Option (KeptView D) → Option (LogView D)
+log_in None = None
+log_in (Some log) = Some (kept_view log)
 
 -- A log keeps the history. It failed where the history says so: the failed append names the log's number of cells, and the drive has failed
 -- since the opening, and else no call of it has: no device call was made behind one that failed. The file is the one that was attached.

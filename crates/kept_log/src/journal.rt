@@ -7,7 +7,7 @@ ghost use Rattle.split_log.specs.LogView.{most_cells};
 ghost use Rattle.kept_log.specs.Kept.{IsOpened, renewed_state};
 ghost use Rattle.kept_log.specs.KeptView.{renewed_log};
 ghost use Rattle.kept_log.specs.Steps.{IsSince};
-ghost use Rattle.kept_log.specs.Journal.{cells_in, failed_in, disk_in, KeepsIn, IsSinceIn, Added, Missed, LeavesNext};
+ghost use Rattle.kept_log.specs.Journal.{cells_in, failed_in, disk_in, log_in, KeepsIn, IsSinceIn, Added, Missed, LeavesNext};
 
 use cell_format::Cell;
 use disk_trait::LogDisk;
@@ -135,6 +135,16 @@ impl<D: LogDisk> Journal<D> {
     {
         if let Some(kept) = &mut self.log {
             kept.renew();
+        }
+    }
+
+    /// The log as it stands.
+    pub fn into_log(self) -> Option<SplitLog<D>>
+        ensures { result ≡ log_in self }
+    {
+        match self.log {
+            Some(kept) => Some(kept.log),
+            None => None,
         }
     }
 
