@@ -17,7 +17,7 @@ no_begin [] after number name is = cc is
 no_begin (e ∷ before) after number name is = cc is
 
 -- a book with no entries, whose table is that of the state
-pub inside-first : {I D P : Type 0} (drive : D → Drive) (w : ℕ) (o : State) (b : Inside I D P) → IsOpening o → b.history ≡ record { entries = []; room = 0 }
+pub inside-first : {I D P : Type 0} (drive : D → Drive) (w : ℕ) (o : State) (b : Inside I D P) → IsOpening w o → b.history ≡ record { entries = []; room = 0 }
     → b.table.world ≡ o.world → names_of b.table.leaves ≡ o.leaves → b.splits ≡ record { splits = []; begun = o.begun; room = 0 } → KeepsIn drive w o [] b.journal
     → IsInside drive w o b
 inside-first drive w o b opening history world names splits kept =

@@ -1,10 +1,11 @@
 -- What was found in a log is a state that a book may begin at.
-use Rattle.std.proofs.Common.{◌≡◌, ℕ, ◌+◌, ◌≤◌, true, List, [], ◌∷◌, length, refl, sym, subst, arith}
+use Rattle.std.proofs.Common.{◌≡◌, ℕ, ◌+◌, ◌≤◌, true, List, [], ◌∷◌, length, map, refl, sym, subst, arith}
 use Rattle.std.specs.Cmp.{first_so, second_so}
 use Rattle.cell_format.specs.declared.cell.Cell.{Cell}
 use Rattle.cell_format.specs.declared.cell.Cell.TheVariants.{Put, Move, Remove, Begin, Install, Abandon}
 use Rattle.disk_trait.specs.Drive.{Drive}
-use Rattle.plain_list.specs.State.{State, empty_state, step, is_possible}
+use Rattle.plain_list.specs.State.{State, ComesBySplits, empty_state, step, is_possible}
+use Rattle.plain_list.proofs.BySplits.{come-first, come-after}
 use Rattle.recovery.specs.declared.seen.Seen.{Seen}
 use Rattle.log_state.specs.Recovers.{entry_of, is_possible_cell, is_legal_cells, cells_after, state_of}
 use Rattle.recovery.specs.Found.{IsFound}
@@ -47,3 +48,7 @@ pub found-begun : (oldest w most : ℕ) (drive : Drive) (seen : Seen) → IsFoun
 found-begun oldest w most drive seen found =
     let few : (state_of w found.cells).begun ≤ 0 + length found.cells = begun-cells w empty_state found.cells in
     omega (arith, few, found.few, found.finds.begun)
+
+-- and its leaves come by splits
+pub found-comes : (oldest w most : ℕ) (drive : Drive) (seen : Seen) → IsFound oldest w most drive seen → ComesBySplits w seen.leaves
+found-comes oldest w most drive seen found = subst (ComesBySplits w) (sym found.finds.leaves) (come-after w empty_state (map entry_of found.cells) (come-first w))

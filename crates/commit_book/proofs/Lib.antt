@@ -5,6 +5,7 @@ pub mod FoundStates
 pub mod KeptLemmas
 pub mod OnLog
 pub mod RefusalLemmas
+pub mod Rotations
 pub mod Sent
 pub mod SplitCalls
 pub mod SplitCells

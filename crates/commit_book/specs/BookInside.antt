@@ -18,7 +18,7 @@ book_of b = record { leaves = b.table.leaves; opening = b.opening; entries = b.h
 -- The table and the open splits are those of the history's state, where the book began at the state o. While no append has failed, an entry
 -- has room for each open split.
 pub record IsInside {I D P : Type 0} (drive : D → Drive) (w : ℕ) (o : State) (b : Inside I D P) : Type 0 where
-  pub opening : IsOpening o
+  pub opening : IsOpening w o
   pub legal : IsLegal w o b.history.entries
   pub world : b.table.world ≡ (state_after w o b.history.entries).world
   pub names : names_of b.table.leaves ≡ (state_after w o b.history.entries).leaves

@@ -1,7 +1,7 @@
 -- What holds of each book.
 use Rattle.std.specs.Prelude.{◌≡◌, ℕ, ◌≤◌, [], length, Some}
 use Rattle.plain_list.specs.World.{places_of}
-use Rattle.plain_list.specs.State.{State, IsLegal, state_after}
+use Rattle.plain_list.specs.State.{State, ComesBySplits, IsLegal, state_after}
 use Rattle.plain_list.specs.History.{world_after, failed_cell}
 use Rattle.index_layer.specs.Stands.{Stands}
 use Rattle.disk_trait.specs.Drive.{Drive}
@@ -19,16 +19,18 @@ most_events = 4194304
 abbrev pub most_begun : ℕ
 most_begun = 4611686018427387904
 
--- a state at which a book may begin: no split is open, and so few were begun that the numbers of those of its history fit in 64 bits
-pub record IsOpening (s : State) : Type 0 where
+-- a state at which a book may begin: no split is open, so few were begun that the numbers of those of its history fit in 64 bits, and its
+-- leaves come by splits into children of w bits more
+pub record IsOpening (w : ℕ) (s : State) : Type 0 where
   pub rests : s.splits ≡ []
   pub begun : s.begun ≤ most_begun
+  pub comes : ComesBySplits w s.leaves
 
 -- The history is legal from the state at which the book began, the index stands for its world, with its leaves, and the base of each leaf
 -- whose split is open has exactly the rows that stood there when it was begun. Each split was begun where there was room. The log keeps the
 -- history, where there is one, and an append that failed names its number of cells.
 pub record IsBook {D : Type 0} (drive : D → Drive) (w : ℕ) (b : BookView D) : Type 0 where
-  pub opening : IsOpening b.opening
+  pub opening : IsOpening w b.opening
   pub legal : IsLegal w b.opening b.entries
   pub stands : Stands b.leaves (places_of (world_after b.opening.world b.entries)) (state_after w b.opening b.entries).leaves
   pub bases : KeepsBases w b.opening b.leaves b.entries

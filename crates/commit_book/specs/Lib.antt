@@ -9,6 +9,7 @@ pub mod KeptBases
 pub mod Refusals
 pub mod Renewal
 pub mod Room
+pub mod Rotation
 pub mod SplitSteps
 pub mod Splits
 pub mod SplitsView

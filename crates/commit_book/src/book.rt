@@ -17,6 +17,7 @@ ghost use Rattle.commit_book.specs.IsBook.{IsBook, AreBooks};
 ghost use Rattle.commit_book.specs.Refusals.{IsRefusedBy, IsMemory, IsMemoryOrDisk, IsNoFault, LeavesRefused, call_refusal, most_cells, update_refusal};
 
 mod renewal;
+mod rotation;
 mod splits;
 
 use crate::faults::BookFault;
@@ -31,6 +32,7 @@ use plain_list::{Answer, Entries, Entry, Lost, Op};
 use point_table::PointTable;
 use recovery::Opened;
 pub use renewal::Room;
+pub use rotation::{Content, Replaced};
 use std::alloc::Global;
 use std::marker::Model;
 use zorder::{Memory, Name};

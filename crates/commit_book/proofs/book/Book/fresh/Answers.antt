@@ -1,5 +1,6 @@
-use Rattle.std.proofs.Common.{[], refl, sym, ap, ◌∙◌, arith}
-use Rattle.plain_list.specs.State.{State}
+use Rattle.std.proofs.Common.{[], refl, sym, ap, ◌∙◌, subst, arith}
+use Rattle.plain_list.specs.State.{State, ComesBySplits}
+use Rattle.plain_list.proofs.BySplits.{come-first}
 use Rattle.commit_book.proofs.EarlyReturns.{never_ok}
 use Rattle.commit_book.proofs.FirstBooks.{inside-first}
 use Rattle.commit_book.proofs.book.Book.fresh.Goals as goal
@@ -8,7 +9,11 @@ pub invariant_of-result : goal.invariant_of-result
 invariant_of-result g c =
     let same = c.of.ensures in
     inside-first g.D.LogDisk.drive g.I.Index.WIDTH c.of.result _
-    (record { rests = ap (λ (s : State). s.splits) same; begun = omega (arith, ap (λ (s : State). s.begun) same) })
+    (record {
+      rests = ap (λ (s : State). s.splits) same;
+      begun = omega (arith, ap (λ (s : State). s.begun) same);
+      comes = subst (ComesBySplits g.I.Index.WIDTH) (sym (ap (λ (s : State). s.leaves) same ∙ c.in_ok-table.ensures.leaves)) (come-first g.I.Index.WIDTH);
+    })
     c.new.ensures (sym (ap (λ (s : State). s.world) same)) (sym (ap (λ (s : State). s.leaves) same))
     (c.after.ensures ∙ (λ i. record { splits = []; begun = sym (ap (λ (s : State). s.begun) same) i; room = 0 }))
     (rw c.none.ensures refl)

@@ -1,11 +1,11 @@
 use Rattle.std.proofs.Common.{◌≡◌, ◌≤◌, [], sym, ap, ◌∙◌, subst, arith}
 use Rattle.index_build.specs.Grown.{IsGrown}
-use Rattle.plain_list.specs.State.{State}
+use Rattle.plain_list.specs.State.{State, ComesBySplits}
 use Rattle.kept_log.specs.Journal.{KeepsIn}
 use Rattle.kept_log.specs.Kept.{found_state}
 use Rattle.commit_book.specs.Events.{Events}
 use Rattle.commit_book.proofs.FirstBooks.{inside-first}
-use Rattle.commit_book.proofs.FoundStates.{found-grown, found-begun}
+use Rattle.commit_book.proofs.FoundStates.{found-grown, found-begun, found-comes}
 use Rattle.commit_book.proofs.book.Book.opened.Goals as goal
 
 pub built-requires : goal.built-requires
@@ -23,7 +23,11 @@ invariant_of-result g c =
     let same : c.of.result ≡ found_state seen = c.of.ensures ∙ (λ i. record { world = world i; leaves = leaves i; splits = []; begun = seen.begun }) in
     let kept = c.opened.ensures.keeps w (found_state seen) c.requires.ready c.requires.log.1 in
     inside-first drive w c.of.result _
-    (record { rests = ap (λ (s : State). s.splits) same; begun = omega (arith, begun, ap (λ (s : State). s.begun) same) })
+    (record {
+      rests = ap (λ (s : State). s.splits) same;
+      begun = omega (arith, begun, ap (λ (s : State). s.begun) same);
+      comes = subst (λ (s : State). ComesBySplits w s.leaves) (sym same) (found-comes _ w _ _ seen c.requires.found);
+    })
     c.new.ensures (sym (ap (λ (s : State). s.world) c.of.ensures)) (sym (ap (λ (s : State). s.leaves) c.of.ensures))
     (c.after.ensures ∙ (λ i. record { splits = []; begun = sym (ap (λ (s : State). s.begun) same) i; room = 0 }))
     (subst (λ (s : State). KeepsIn drive w s [] c.opened.result) (sym same) kept)

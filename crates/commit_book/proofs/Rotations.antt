@@ -1,0 +1,46 @@
+-- Books that begin anew: what is open is given up, and the table stays.
+use Rattle.std.proofs.Common.{◌≡◌, ◌≤◌, ℕ, Bool, true, false, [], Option, Some, None, refl, sym, subst, ◌∙◌, arith}
+use Rattle.std.specs.Prelude.{nat_lt, if◌then◌else◌}
+use Rattle.std.proofs.lemmas.Bool.Decides.{nat_tests}
+use Rattle.index_layer.specs.Leaves.{names_of}
+use Rattle.plain_list.specs.State.{State}
+use Rattle.plain_list.proofs.Histories.{state_after-world}
+use Rattle.disk_trait.specs.Drive.{Drive}
+use Rattle.recovery.specs.declared.seen.Seen.{Seen}
+use Rattle.kept_log.specs.Kept.{found_state, renewed_state}
+use Rattle.commit_book.specs.BookInside.{IsInside, book_of}
+use Rattle.commit_book.specs.BookView.{BookView}
+use Rattle.commit_book.specs.IsBook.{most_begun}
+use Rattle.commit_book.specs.Renewal.{renew_cause}
+use Rattle.commit_book.specs.Rotation.{HasContent}
+use Rattle.commit_book.specs.declared.book.Book.TheInside.{Inside}
+use Rattle.commit_book.specs.declared.faults.RenewFault.TheVariants.{Begun}
+
+-- the state of a table at which no split is open
+abbrev pub table_state : {I D P : Type 0} → Inside I D P → ℕ → State
+table_state b begun = record { world = b.table.world; leaves = names_of b.table.leaves; splits = []; begun = begun }
+
+module _ {I D P : Type 0} (drive : D → Drive) (w : ℕ) (b : Inside I D P) (inside : IsInside drive w b.opening b) where
+  -- it is the one that the history leaves
+  pub renewed-same : (begun : ℕ) → begun ≡ b.splits.begun → table_state b begun ≡ renewed_state w b.opening b.history.entries
+  renewed-same begun same = λ i. record { world = inside.world i; leaves = inside.names i; splits = []; begun = (same ∙ inside.begun) i }
+
+  -- or the one of a log that has the book's content
+  pub found-same : (now : BookView D) (seen : Seen) → book_of b ≡ now → HasContent w now seen → table_state b seen.begun ≡ found_state seen
+  found-same now seen view has =
+      let content : HasContent w (book_of b) seen = subst (λ (v : BookView D). HasContent w v seen) (sym view) has in
+      let world = inside.world ∙ state_after-world w b.opening b.history.entries ∙ sym content.world in
+      let leaves = inside.names ∙ sym content.leaves in
+      λ i. record { world = world i; leaves = leaves i; splits = []; begun = seen.begun }
+
+-- where nothing stands against a renewal, few splits were begun
+pub renewal-few : (failed : Option ℕ) (begun : ℕ) → renew_cause failed begun ≡ None → begun ≤ most_begun
+renewal-few (Some cell) begun none = absurd (cc none)
+renewal-few None begun none = few (not_more (nat_lt most_begun begun) none)
+  where
+    not_more : (more : Bool) → (if more then Some (Begun begun) else None) ≡ None → more ≡ false
+    not_more true is = absurd (cc is)
+    not_more false is = refl
+
+    few : nat_lt most_begun begun ≡ false → begun ≤ most_begun
+    few less = grind (arith, nat_tests)
