@@ -101,7 +101,7 @@ module _ {D : Type 0} (drive : D → Drive) (w : ℕ) (b mid : BookView D) (old 
       let seen : back.seen ≡ mid.entries = ap (λ (k : Known). k.seen) given in
       let origin : back.origin ≡ old.origin = ap (λ (k : Known). k.origin) given ∙ ap (λ (k : Known). k.origin) was.took_is in
       let same : origin_of drive mid ≡ back.origin = same-origin drive b mid books.origin ∙ was.origin ∙ sym origin in
-      let start : start_of (origin_of drive mid) ≡ mid.opening = start-of-origin drive mid books.after.opening in
+      let start : start_of (origin_of drive mid) ≡ mid.opening = start-of-origin drive w mid books.after.opening in
       (λ i. full_leaf w mid.bucket (state_after w (sym start i) mid.entries)) ∙ (λ i. full_leaf w (same i).bucket (state_after w (start_of (same i)) (sym seen i)))
 
   -- the leaves of the book are those that the pass has seen
@@ -110,7 +110,7 @@ module _ {D : Type 0} (drive : D → Drive) (w : ℕ) (b mid : BookView D) (old 
       let seen : back.seen ≡ mid.entries = ap (λ (k : Known). k.seen) given in
       let origin : back.origin ≡ old.origin = ap (λ (k : Known). k.origin) given ∙ ap (λ (k : Known). k.origin) was.took_is in
       let same : origin_of drive mid ≡ back.origin = same-origin drive b mid books.origin ∙ was.origin ∙ sym origin in
-      let start : start_of (origin_of drive mid) ≡ mid.opening = start-of-origin drive mid books.after.opening in
+      let start : start_of (origin_of drive mid) ≡ mid.opening = start-of-origin drive w mid books.after.opening in
       (λ i. (state_after w (sym start i) mid.entries).leaves) ∙ (λ i. (state_after w (start_of (same i)) (sym seen i)).leaves)
 
   update-says : (r : Result Done BookFault) → IsUpdate op → IfOk r (λ d. BookReplies w b mid session row op d.place d.answer d.full) → back ≡ has_given took (has_entry r) mid.entries → Says (HasDone w old back op b.entries) r

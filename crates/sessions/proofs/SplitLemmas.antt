@@ -93,9 +93,9 @@ number-refused IsFree (Some cause) (Ok t) refused = absurd (cc refused)
 number-refused IsFree (Some cause) (Err fault) refused = let same : fault ≡ cause = cc refused in ap (λ (f : BookFault). Err f) same
 
 -- the state that the pass knows is the book's
-pass-state : {D : Type 0} (drive : D → Drive) (w : ℕ) (b : BookView D) (old : Known) → origin_of drive b ≡ old.origin → IsOpening b.opening → (h : List Entry) → state_after w b.opening h ≡ state_of w old.origin h
+pass-state : {D : Type 0} (drive : D → Drive) (w : ℕ) (b : BookView D) (old : Known) → origin_of drive b ≡ old.origin → IsOpening w b.opening → (h : List Entry) → state_after w b.opening h ≡ state_of w old.origin h
 pass-state drive w b old origin opening h =
-    let start : start_of (origin_of drive b) ≡ b.opening = start-of-origin drive b opening in
+    let start : start_of (origin_of drive b) ≡ b.opening = start-of-origin drive w b opening in
     (λ i. state_after w (sym start i) h) ∙ (λ i. state_after w (start_of (origin i)) h)
 
 module _ {D : Type 0} (drive : D → Drive) (w : ℕ) (b mid : BookView D) (old took back : Known) (name : List Bool) (was : WasTaken drive b old took) (books : AreBooks drive w b mid) where

@@ -15,7 +15,7 @@ use Rattle.commit_book.specs.declared.book.renewal.Room.{Room}
 use Rattle.commit_book.specs.declared.faults.RenewFault.{RenewFault}
 use Rattle.book_lock.specs.Pass.{Known}
 use Rattle.book_lock.specs.declared.origin.Origin.{Origin}
-use Rattle.sessions.specs.Shared.{StartsAs, origin_of, start_of, first_cells}
+use Rattle.sessions.specs.Shared.{HasWorld, StartsAs, origin_of, start_of, first_cells}
 use Rattle.sessions.specs.Steps.{all_parts}
 use Rattle.sessions.specs.declared.store.renewal.NotRenewed.{NotRenewed}
 use Rattle.sessions.specs.declared.store.renewal.NotRenewed.TheVariants.{Kept, Memory}
@@ -58,6 +58,13 @@ pub record IsRenewedAlone {D : Type 0} (drive : D → Drive) (w : ℕ) (old : Kn
   pub entries_are : entries ≡ old.seen
   pub origin : IsRenewedOrigin w old.origin old.seen (origin_of drive b)
   pub none : b.entries ≡ []
+  pub has : HasWorld b
+
+-- a book as it was
+pub record IsKept {D : Type 0} (drive : D → Drive) (old : Known) (b : BookView D) : Type 0 where
+  pub entries : b.entries ≡ old.seen
+  pub origin_is : origin_of drive b ≡ old.origin
+  pub has : HasWorld b
 
 -- why a store wasn't renewed; where its book was and no memory was left, no cause
 abbrev pub refusal_of : {A I D P : Type 0} → Result A (NotRenewed I D P) → Option RenewFault
@@ -67,7 +74,7 @@ refusal_of (Err (Memory book entries)) = None
 
 -- what comes back of it: the book as it was, or renewed, with the entries of the history before
 abbrev pub IsBack : {I D P : Type 0} → (D → Drive) → ℕ → Known → NotRenewed I D P → Type 0
-IsBack drive w old (Kept book cause) = (book.entries ≡ old.seen) × (origin_of drive book ≡ old.origin)
+IsBack drive w old (Kept book cause) = IsKept drive old book
 IsBack drive w old (Memory book entries) = IsRenewedAlone drive w old entries book
 
 -- and what is known of its log: what was known of the one that was put in, or of the one that goes on

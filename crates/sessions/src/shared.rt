@@ -82,6 +82,7 @@ impl<I: Index, D: LogDisk, O: Start> SharedBook<I, D, O> {
     pub(crate) fn into_book(self) -> Book<I, D>
         ensures book { result ≡ self }
         ensures start { StartsAs D.drive O.unlogged O.is result.log }
+        ensures world { HasWorld result }
     {
         Box::into_inner(self.book)
     }
@@ -96,6 +97,7 @@ impl<I: Index, D: LogDisk, O: Start> SharedBook<I, D, O> {
         ensures renewed { IfOk result (λ r. (r.0 ≡ renewed I.WIDTH self) × (r.1 ≡ self.entries) × (renew_refusal I.WIDTH self ≡ None)) }
         ensures kept { IfErr result (λ e. (e.0 ≡ self) × (renew_refusal I.WIDTH self ≡ Some e.1)) }
         ensures start { IfErr result (λ e. StartsAs D.drive O.unlogged O.is e.0.log) }
+        ensures world { IfErr result (λ e. HasWorld e.0) }
         ensures book { IsBook D.drive I.WIDTH self }
     {
         let SharedBook { mut book, start: _ } = self;
