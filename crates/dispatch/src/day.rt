@@ -1,9 +1,9 @@
 //! A day of the company.
-ghost use Rattle.std.specs.Prelude.{◌≡◌, ◌+◌, ◌≤◌, [], ◌∷◌, IfSome, vec_len, vec_capacity};
+ghost use Rattle.std.specs.Prelude.{◌≡◌, ◌≤◌, [], IfSome, vec_capacity};
 ghost use Rattle.plain_list.specs.World.{IsWorld};
 ghost use Rattle.sessions.specs.Steps.{all_parts};
-ghost use Rattle.store_client.specs.Caller.{IsFree};
-ghost use Rattle.dispatch.specs.Teams.{IsHired};
+ghost use Rattle.store_client.specs.Caller.{IsFree, Keeps};
+ghost use Rattle.store_client.specs.Teams.{HasGiven, AreHired};
 
 use crate::callers::{Caller, Told};
 use crate::town::{DISPATCHER, STATION, WAITING};
@@ -18,7 +18,7 @@ use std::alloc::Global;
 use std::marker::Brand;
 use std::sync::Wait;
 use std::thread::Threads;
-use store_client::{Client, Worker, at_once};
+use store_client::{Client, Worker, apart, at_once};
 
 // A pass of the company's store, over any index, and any drive for a log.
 type TaxiPass<I, D> = Pass<SharedBook<I, D, Brand>>;
@@ -82,8 +82,7 @@ fn call_all_day<I: Index + Send, D: LogDisk + Send, R: Threads + Wait + Sync>(
     client: &mut Client<'_, I, D, Brand>,
 ) -> Option<([Told; 4], PlacedList)>
     requires { 5 ≤ client.old.pass.parts }
-    ensures lock { client.new.pass.lock ≡ client.old.pass.lock }
-    ensures parts { client.new.pass.parts ≡ client.old.pass.parts }
+    ensures { Keeps client.old client.new }
 {
     let Ok(team) = Vec::with_capacity(alloc, 4) else {
         return None;
@@ -94,10 +93,10 @@ fn call_all_day<I: Index + Send, D: LogDisk + Send, R: Threads + Wait + Sync>(
     four.client.learn(&mut one.client);
     let nearest = four.client.nearest(rt, STATION, 3).ok();
     let told = [
-        go_home(client, one),
-        go_home(client, two),
-        go_home(client, three),
-        go_home(client, four),
+        client.take_home(one).told,
+        client.take_home(two).told,
+        client.take_home(three).told,
+        client.take_home(four).told,
     ];
     Some((told, nearest?))
 }
@@ -116,62 +115,15 @@ fn work_all<'s, I: Index + Send, D: LogDisk + Send, R: Threads + Wait + Sync>(
     requires empty { team.items ≡ [] }
     requires room { 4 ≤ vec_capacity team }
     requires parts { 5 ≤ client.old.pass.parts }
-    ensures lock { client.new.pass.lock ≡ client.old.pass.lock }
-    ensures parts { client.new.pass.parts + 4 ≡ client.old.pass.parts }
-    ensures one { IsHired client.old result.0.client }
-    ensures two { IsHired client.old result.1.client }
-    ensures three { IsHired client.old result.2.client }
-    ensures four { IsHired client.old result.3.client }
+    ensures given { HasGiven 4 client.old client.new }
+    ensures hands { AreHired client.old result.0.client result.1.client result.2.client result.3.client }
 {
-    team.push_reserved(hire(client, 1));
-    team.push_reserved(hire(client, 2));
-    team.push_reserved(hire(client, 3));
-    team.push_reserved(hire(client, DISPATCHER));
+    team.push_reserved(client.hire(1, Caller::new(1)));
+    team.push_reserved(client.hire(2, Caller::new(2)));
+    team.push_reserved(client.hire(3, Caller::new(3)));
+    team.push_reserved(client.hire(DISPATCHER, Caller::new(DISPATCHER)));
     at_once(rt, &mut team);
     apart(team)
-}
-
-// The four of a team, one by one.
-fn apart<T>(team: Vec<T>) -> (T, T, T, T)
-    requires { vec_len team ≡ 4 }
-    ensures { result.0 ∷ result.1 ∷ result.2 ∷ result.3 ∷ [] ≡ team.items }
-{
-    match <[T; 4]>::try_from(team) {
-        Ok([one, two, three, four]) => (one, two, three, four),
-        Err(_) => unreachable!(),
-    }
-}
-
-// A session for a part of the client's pass.
-fn hire<'s, I: Index, D: LogDisk>(
-    client: &mut Client<'s, I, D, Brand>,
-    session: u8,
-) -> Hand<'s, I, D>
-    requires { 2 ≤ client.old.pass.parts }
-    ensures lock { (client.new.pass.lock ≡ client.old.pass.lock) × (result.client.pass.lock ≡ client.old.pass.lock) }
-    ensures parts { (client.new.pass.parts + 1 ≡ client.old.pass.parts) × (result.client.pass.parts ≡ 1) }
-{
-    Worker {
-        client: client.another(session),
-        work: Caller::new(session),
-    }
-}
-
-// Joins a worker's client to another, and gives what the worker was told.
-fn go_home<'s, I: Index, D: LogDisk>(
-    client: &mut Client<'s, I, D, Brand>,
-    worker: Hand<'s, I, D>,
-) -> Told
-    requires { worker.client.pass.lock ≡ client.old.pass.lock }
-    ensures lock { client.new.pass.lock ≡ client.old.pass.lock }
-    ensures parts { client.new.pass.parts ≡ client.old.pass.parts + worker.entry.client.pass.parts }
-{
-    let Worker {
-        client: other,
-        work,
-    } = worker;
-    client.join(other);
-    work.told
 }
 
 impl Day {

@@ -19,9 +19,9 @@ pub record Caller : Type 0 where
   pub session : ℕ
   pub row : ℕ
 
--- a client of the same store with as many parts and the same session: what no call changes
+-- a client of the same store, which began from the same, with as many parts and the same session: what no call changes
 abbrev pub Keeps : Caller → Caller → Type 0
-Keeps old new = (new.pass.lock ≡ old.pass.lock) × (new.pass.parts ≡ old.pass.parts) × (new.session ≡ old.session)
+Keeps old new = (new.pass.lock ≡ old.pass.lock) × (new.pass.parts ≡ old.pass.parts) × (new.session ≡ old.session) × (new.pass.origin ≡ old.pass.origin)
 
 -- the number behind a row's
 abbrev pub next_row : ℕ → ℕ
