@@ -1,156 +1,182 @@
-//! A day of the company over a store, and what the next one finds.
-ghost use Rattle.std.specs.Prelude.{◌≡◌, ℕ, ◌+◌, ◌<◌, ◌≤◌, length, slice_index_or};
+//! Days of the company over a store, and what the next run finds.
+ghost use Rattle.std.specs.Prelude.{◌≡◌, ◌≤◌, [], IfOk, vec_capacity};
+ghost use Rattle.store_client.specs.Caller.{Keeps};
+ghost use Rattle.store_client.specs.Teams.{HasGiven, AreHired};
 ghost use Rattle.store_file.specs.Opened.{IsFirst};
-ghost use Rattle.depot.specs.Passes.{IsFree, KeepsPass};
 
-use crate::drivers::{Driver, VanPass, Vans, call, work};
+use crate::drivers::{Driver, Told, count_found};
 use crate::trouble::Trouble;
-use crate::yard::{ALL_VANS, Day};
+use crate::yard::Day;
+use book_lock::Pass;
+use commit_book::{RenewFault, Room};
 use disk_trait::LogDisk;
-use index_layer::Index;
 use io_edge::OpenGate;
+use kd_trie::KdTrie;
+use sessions::{NotRenewed, Renewed, SharedBook, Store};
 use std::alloc::Global;
-use std::marker::Brand;
 use std::sync::Wait;
-use std::sync::ledger::{Blank, Ledger};
-use std::thread::{self, Threads};
-use step_count::Steps;
-use store_file::close_store;
+use std::thread::Threads;
+use store_client::{Client, Worker, apart, at_once};
+use store_file::{OverFile, close_store, renew_store};
 
-/// How many of a driver's answers were as they should be, and how many of these told that a position came too late.
+/// The company's store over a file, on any drive.
+pub type Vans<D> = Store<KdTrie, D, OverFile>;
+
+/// A pass of it.
+pub type VanPass<D> = Pass<SharedBook<KdTrie, D, OverFile>>;
+
+// A caller of it.
+type VanClient<'s, D> = Client<'s, KdTrie, D, OverFile>;
+
+// A driver with a client of their own.
+type Hand<'s, D> = Worker<'s, KdTrie, D, OverFile, Driver>;
+
+// The session of the one who asks for all drivers.
+const OFFICE: u8 = 5;
+
+/// What a day came to, and how much room was left in the evening.
 #[derive(Clone, Copy)]
-pub struct Told {
-    pub good: u32,
-    pub stale: u32,
+pub struct DayEnd {
+    pub told: [Told; 4],
+    pub room: Room,
 }
 
-/// A day over a store: all drivers at once, and then the splits that are still due. The store is closed, and its drive with it.
-pub fn play_day<I: Index + Send, D: LogDisk + Send, R: Threads + Wait + Sync>(
+/// Two days over a store. It is closed, and its drive with it.
+pub fn play_days<D: LogDisk + Send, R: Threads + Wait + Sync>(
     rt: &R,
     alloc: Global,
-    vans: Vans<I, D>,
-    mut pass: VanPass<I, D>,
+    vans: Vans<D>,
+    pass: VanPass<D>,
     day: Day,
-) -> Result<[Told; 4], Trouble>
+) -> Result<[DayEnd; 2], Trouble>
     requires { IsFirst vans pass }
 {
-    let told = drive_all_day(rt, alloc, &vans, day, &mut pass);
-    let _ = vans.settle(rt, alloc, &mut pass, &OpenGate);
+    let (pass, first) = play_day(rt, alloc, &vans, pass, day);
+    let (vans, pass) = end_day(alloc, vans, pass)?;
+    let (pass, second) = play_day(rt, alloc, &vans, pass, day.next());
     match close_store(vans, pass).lost {
         Some(cell) => Err(Trouble::Lost { cell }),
-        None => Ok(told),
+        None => Ok([first?, second?]),
     }
 }
 
-/// How many vans are where a day has left them, as a store answers that was opened after it.
-pub fn count_found<I: Index, D: LogDisk, R: Wait>(
+// A day over a store: all drivers at once, and then the splits that are still due.
+fn play_day<D: LogDisk + Send, R: Threads + Wait + Sync>(
     rt: &R,
     alloc: Global,
-    vans: Vans<I, D>,
-    mut pass: VanPass<I, D>,
+    vans: &Vans<D>,
+    pass: VanPass<D>,
     day: Day,
-) -> u32
+) -> (VanPass<D>, Result<DayEnd, Trouble>)
+    requires { IsFirst vans.now pass }
+    ensures first { IsFirst vans.now result.0 }
+    ensures origin { result.0.origin ≡ pass.origin }
+{
+    let mut client = Client::new(vans, alloc, pass, OFFICE);
+    let told = drive_all_day(rt, alloc, &mut client, day);
+    let mut pass = client.into_pass();
+    let _ = vans.settle(rt, alloc, &mut pass, &OpenGate);
+    let room = vans.room(rt, &mut pass);
+    match told {
+        Some(told) => (pass, Ok(DayEnd { told, room })),
+        None => (pass, Err(Trouble::NoDrivers)),
+    }
+}
+
+// The end of a day: the next one begins with an empty history, over the same log. Where that has grown long, it would be exchanged for a
+// fresh one here.
+fn end_day<D: LogDisk>(
+    alloc: Global,
+    vans: Vans<D>,
+    pass: VanPass<D>,
+) -> Result<(Vans<D>, VanPass<D>), Trouble>
+    requires { IsFirst vans pass }
+    ensures { IfOk result (λ next. IsFirst next.0 next.1) }
+{
+    match renew_store(alloc, vans, pass) {
+        Ok(
+            Renewed {
+                store,
+                pass,
+                entries: _,
+            },
+        ) => Ok((store, pass)),
+        Err(
+            NotRenewed::Kept {
+                book: _,
+                cause: RenewFault::Closed { cell },
+            },
+        ) => Err(Trouble::Lost { cell }),
+        Err(_) => Err(Trouble::NoDay),
+    }
+}
+
+// Four drivers at once, whose clients come together again at the end.
+fn drive_all_day<D: LogDisk + Send, R: Threads + Wait + Sync>(
+    rt: &R,
+    alloc: Global,
+    client: &mut VanClient<'_, D>,
+    day: Day,
+) -> Option<[Told; 4]>
+    requires { 5 ≤ client.old.pass.parts }
+    ensures { Keeps client.old client.new }
+{
+    let drivers = [
+        Driver::new(rt, alloc, client, 1, day)?,
+        Driver::new(rt, alloc, client, 2, day)?,
+        Driver::new(rt, alloc, client, 3, day)?,
+        Driver::new(rt, alloc, client, 4, day)?,
+    ];
+    let team = Vec::with_capacity(alloc, 4).ok()?;
+    let (one, two, three, four) = work_all(rt, client, team, drivers);
+    Some([
+        client.take_home(one).end(alloc),
+        client.take_home(two).end(alloc),
+        client.take_home(three).end(alloc),
+        client.take_home(four).end(alloc),
+    ])
+}
+
+// Lets each driver work in a thread of their own.
+fn work_all<'s, D: LogDisk + Send, R: Threads + Wait + Sync>(
+    rt: &R,
+    client: &mut VanClient<'s, D>,
+    mut team: Vec<Hand<'s, D>>,
+    drivers: [Driver; 4],
+) -> (Hand<'s, D>, Hand<'s, D>, Hand<'s, D>, Hand<'s, D>)
+    requires empty { team.items ≡ [] }
+    requires room { 4 ≤ vec_capacity team }
+    requires parts { 5 ≤ client.old.pass.parts }
+    ensures given { HasGiven 4 client.old client.new }
+    ensures hands { AreHired client.old result.0.client result.1.client result.2.client result.3.client }
+{
+    let [one, two, three, four] = drivers;
+    team.push_reserved(client.hire(1, one));
+    team.push_reserved(client.hire(2, two));
+    team.push_reserved(client.hire(3, three));
+    team.push_reserved(client.hire(4, four));
+    at_once(rt, &mut team);
+    apart(team)
+}
+
+/// How many vans of each driver are where a day has left them, as a store answers that was opened after it. The store is closed.
+pub fn look_after<D: LogDisk, R: Wait>(
+    rt: &R,
+    alloc: Global,
+    vans: Vans<D>,
+    pass: VanPass<D>,
+    day: Day,
+) -> [u32; 4]
     requires { IsFirst vans pass }
 {
-    let found = ask_for_all::<I, D, R, Brand>(rt, alloc, &vans, day, &mut pass, Blank::new(1));
-    close_store(vans, pass);
-    found
-}
-
-// All of a team at once, each in a thread of its own.
-fn all_at_once<I: Index + Send, D: LogDisk + Send, R: Threads + Wait + Sync>(
-    rt: &R,
-    alloc: Global,
-    vans: &Vans<I, D>,
-    day: Day,
-    team: &mut [Driver<I, D>],
-)
-    requires { (i : ℕ) (d : Driver I D I.Place) → i < length team.old → IsFree vans.now (slice_index_or team.old i d).pass }
-    ensures { (i : ℕ) (d : Driver I D I.Place) → i < length team.old → KeepsPass (slice_index_or team.old i d).pass (slice_index_or team.new i d).pass }
-{
-    let threads = team.len().max(1);
-    thread::for_each_mut(
-        rt,
-        team,
-        threads,
-        &|_, driver|
-            requires { IsFree vans.now driver.now.pass }
-            ensures { KeepsPass driver.entry.now.pass driver.exit.now.pass }
-        { work(rt, alloc, vans, day, driver) },
-    );
-}
-
-// The drivers at once, whose passes come together again at the end.
-fn drive_all_day<I: Index + Send, D: LogDisk + Send, R: Threads + Wait + Sync>(
-    rt: &R,
-    alloc: Global,
-    vans: &Vans<I, D>,
-    day: Day,
-    pass: &mut VanPass<I, D>,
-) -> [Told; 4]
-    requires free { IsFree vans.now pass.old }
-    requires parts { 5 ≤ pass.old.parts }
-    ensures { KeepsPass pass.old pass.new }
-{
-    let mut team = [
-        Driver::new(1, vans.split_pass(pass)),
-        Driver::new(2, vans.split_pass(pass)),
-        Driver::new(3, vans.split_pass(pass)),
-        Driver::new(4, vans.split_pass(pass)),
+    let mut client = Client::new(&vans, alloc, pass, OFFICE);
+    let found = [
+        count_found(rt, &mut client, 1, day),
+        count_found(rt, &mut client, 2, day),
+        count_found(rt, &mut client, 3, day),
+        count_found(rt, &mut client, 4, day),
     ];
-    all_at_once(rt, alloc, vans, day, &mut team);
-    let [one, two, three, four] = team;
-    [
-        go_home(vans, pass, one),
-        go_home(vans, pass, two),
-        go_home(vans, pass, three),
-        go_home(vans, pass, four),
-    ]
-}
-
-// Joins a driver's pass to another, and gives what the driver was told.
-fn go_home<I: Index, D: LogDisk>(
-    vans: &Vans<I, D>,
-    pass: &mut VanPass<I, D>,
-    driver: Driver<I, D>,
-) -> Told
-    requires lock { IsFree vans.now pass.old × IsFree vans.now driver.pass }
-    ensures same { IsFree vans.now pass.new }
-    ensures parts { pass.new.parts ≡ pass.old.parts + driver.pass.parts }
-{
-    let Driver {
-        session: _,
-        pass: other,
-        good,
-        stale,
-    } = driver;
-    vans.join_pass(pass, other);
-    Told { good, stale }
-}
-
-// Asks for each van, and counts those that are where the day left them.
-fn ask_for_all<I: Index, D: LogDisk, R: Wait, L: Ledger>(
-    rt: &R,
-    alloc: Global,
-    vans: &Vans<I, D>,
-    day: Day,
-    pass: &mut VanPass<I, D>,
-    blank: Blank,
-) -> u32
-    requires name { blank.name ≡ L.name }
-    requires parts { blank.parts ≡ L.parts }
-    requires one_part { blank.parts ≡ 1 }
-    requires free { IsFree vans.now pass.old }
-    ensures { KeepsPass pass.old pass.new }
-{
-    let mut steps = Steps::<L>::new(blank);
-    let mut found: u32 = 0;
-    for number in 0..ALL_VANS {
-        let row = u32::from(number);
-        let op = day.question(number);
-        if let Ok(answer) = call(rt, alloc, vans, pass, 1, row, &op, &mut steps) {
-            found = found.saturating_add(u32::from(day.is_left(number, &answer)));
-        }
-    }
+    let pass = client.into_pass();
+    close_store(vans, pass);
     found
 }

@@ -1,120 +1,139 @@
-//! The drivers of a day: each makes their calls with a pass of their own.
-ghost use Rattle.std.specs.Prelude.{◌≡◌, false};
-ghost use Rattle.plain_list.specs.Answer.{IsValid};
-ghost use Rattle.depot.specs.Passes.{IsFree, KeepsPass};
+//! The drivers of a day: each reports their vans with a client of their own, and watches who leaves the yard and comes back.
+ghost use Rattle.store_client.specs.Caller.{Keeps};
 
-use crate::yard::{Day, ROWS};
-use book_lock::Pass;
+use crate::yard::{Day, ROWS, VANS, van_of, yard};
 use disk_trait::LogDisk;
+use fence_watch::{Crossing, Event, Fence, FenceCount, Fences, Tally, WatchFault};
 use index_layer::Index;
-use io_edge::OpenGate;
-use plain_list::{Answer, Op};
-use sessions::{CallFault, SharedBook, Store};
+use plain_list::Stamped;
+use sessions::Start;
 use std::alloc::Global;
-use std::marker::Brand;
 use std::sync::Wait;
-use std::sync::ledger::{Blank, Ledger};
-use step_count::Steps;
-use store_file::OverFile;
+use store_client::{Client, Listed, Report, Work};
+use zorder::Placed;
 
-/// The company's store over a file, with any index and any drive.
-pub type Vans<I, D> = Store<I, D, OverFile>;
+/// A driver, and the fence of their yard, which only their own vans cross.
+#[derive(Drop)]
+pub struct Driver {
+    number: u8,
+    day: Day,
+    yard: Tally,
+    good: u32,
+}
 
-/// A pass of it.
-pub type VanPass<I, D> = Pass<SharedBook<I, D, OverFile>>;
-
-/// A driver, how many of their answers were as they should be, and how many of these told that a position came too late.
-pub struct Driver<I: Index, D: LogDisk> {
-    pub session: u8,
-    pub pass: VanPass<I, D>,
+/// What a driver's day came to: how many reports were told what they should be, how many vans came into the yard and left it, and how many
+/// are inside.
+#[derive(Clone, Copy)]
+pub struct Told {
     pub good: u32,
-    pub stale: u32,
+    pub came: usize,
+    pub left: usize,
+    pub inside: u64,
 }
 
-impl<I: Index, D: LogDisk> Driver<I, D> {
-    pub fn new(session: u8, pass: VanPass<I, D>) -> Driver<I, D>
-        ensures { result.pass ≡ pass }
+// A fence's tally that begins with these vans inside, which is no event of the day.
+fn tally_of(alloc: Global, fence: Fence, inside: &[Placed]) -> Option<Tally> {
+    let fences = Fences::of(alloc, &[fence]).ok()?;
+    let mut tally = Tally::new(alloc, &fences).ok()?;
+    for van in inside {
+        tally.moved(0, van.id, None, Some(van.at)).ok()?;
+    }
+    tally.take_events(alloc);
+    Some(tally)
+}
+
+fn count(events: &[Event], crossing: Crossing) -> usize {
+    let events = events.iter();
+    events.filter(|event| event.crossing == crossing).count()
+}
+
+// How many are inside the only fence.
+fn inside(counts: &[FenceCount]) -> u64 {
+    counts.first().map_or(0, |count| count.inside)
+}
+
+impl Driver {
+    /// A driver in the morning, with the vans that a client finds in the yard.
+    pub fn new<I: Index, D: LogDisk, O: Start, R: Wait>(
+        rt: &R,
+        alloc: Global,
+        client: &mut Client<'_, I, D, O>,
+        number: u8,
+        day: Day,
+    ) -> Option<Driver>
+        ensures { Keeps client.old client.new }
     {
-        Driver {
-            session,
-            pass,
+        let fence = yard(number);
+        let Ok(Listed::All(vans)) = client.within(rt, fence.region) else {
+            return None;
+        };
+        Some(Driver {
+            number,
+            day,
+            yard: tally_of(alloc, fence, vans.as_slice())?,
             good: 0,
-            stale: 0,
-        }
+        })
     }
 
-    // Looks at the answer to a row.
-    fn count(&mut self, day: Day, row: u32, answer: &Answer)
-        ensures { self.new.pass ≡ self.old.pass }
+    // Tells the yard what a report has changed.
+    fn watch(&mut self, van: u64, now: Stamped, told: Report) -> Result<(), WatchFault> {
+        let before = match told {
+            Report::New => None,
+            Report::From(from) => Some(from.at),
+            Report::Stale(_) | Report::Full => return Ok(()),
+        };
+        self.yard.moved(now.moment, van, before, Some(now.at))
+    }
+
+    /// What the day came to.
+    pub fn end(mut self, alloc: Global) -> Told {
+        let events = self.yard.take_events(alloc);
+        Told {
+            good: self.good,
+            came: count(events.as_slice(), Crossing::Enter),
+            left: count(events.as_slice(), Crossing::Leave),
+            inside: inside(self.yard.counts()),
+        }
+    }
+}
+
+impl Work for Driver {
+    // Reports until a call is refused, or the yard can't be watched any more.
+    fn work<R: Wait, I: Index, D: LogDisk, O: Start>(
+        &mut self,
+        rt: &R,
+        client: &mut Client<'_, I, D, O>,
+    )
+        ensures client { Keeps client.old client.new }
     {
-        if day.is_good(self.session, row, answer) {
-            self.good = self.good.saturating_add(1);
-            let is_stale = matches!(answer, Answer::Stale(_));
-            self.stale = self.stale.saturating_add(u32::from(is_stale));
+        for row in 0..ROWS {
+            let (van, now) = (van_of(self.number, row), self.day.place(self.number, row));
+            let Ok(told) = client.report(rt, van, now.at, now.moment) else {
+                return;
+            };
+            let is_good = self.day.is_good(self.number, row, told);
+            if self.watch(van, now, told).is_err() {
+                return;
+            }
+            self.good = self.good.saturating_add(u32::from(is_good));
         }
     }
 }
 
-/// Answers one call, once what it changes is in the log. Where the answer tells that a leaf has too many vans, that leaf is split, if nobody
-/// else is about to.
-pub fn call<I: Index, D: LogDisk, R: Wait, L: Ledger>(
+/// How many of a driver's vans are found where the day left them.
+pub fn count_found<I: Index, D: LogDisk, O: Start, R: Wait>(
     rt: &R,
-    alloc: Global,
-    vans: &Vans<I, D>,
-    pass: &mut VanPass<I, D>,
-    session: u8,
-    row: u32,
-    op: &Op,
-    steps: &mut Steps<L>,
-) -> Result<Answer, CallFault>
-    requires lock { pass.old.lock ≡ vans.now }
-    requires off { pass.old.holds ≡ false }
-    requires valid { IsValid op.now }
-    ensures { KeepsPass pass.old pass.new }
-{
-    let done = vans.call(rt, alloc, pass, session, row, op, &OpenGate, steps)?;
-    if let Some(leaf) = done.full {
-        vans.split_once(rt, alloc, pass, session, &leaf, &OpenGate);
-    }
-    Ok(done.answer)
-}
-
-/// Makes the calls of a driver, one after another, until one is refused.
-pub fn work<I: Index, D: LogDisk, R: Wait>(
-    rt: &R,
-    alloc: Global,
-    vans: &Vans<I, D>,
+    client: &mut Client<'_, I, D, O>,
+    driver: u8,
     day: Day,
-    driver: &mut Driver<I, D>,
-)
-    requires { IsFree vans.now driver.old.pass }
-    ensures { KeepsPass driver.old.pass driver.new.pass }
+) -> u32
+    ensures { Keeps client.old client.new }
 {
-    make_calls::<I, D, R, Brand>(rt, alloc, vans, day, driver, Blank::new(1));
-}
-
-fn make_calls<I: Index, D: LogDisk, R: Wait, L: Ledger>(
-    rt: &R,
-    alloc: Global,
-    vans: &Vans<I, D>,
-    day: Day,
-    driver: &mut Driver<I, D>,
-    blank: Blank,
-)
-    requires name { blank.name ≡ L.name }
-    requires parts { blank.parts ≡ L.parts }
-    requires one_part { blank.parts ≡ 1 }
-    requires free { IsFree vans.now driver.old.pass }
-    ensures { KeepsPass driver.old.pass driver.new.pass }
-{
-    let session = driver.session;
-    let mut steps = Steps::<L>::new(blank);
-    for row in 0..ROWS {
-        let op = day.op_of(session, row);
-        let pass = &mut driver.pass;
-        match call(rt, alloc, vans, pass, session, row, &op, &mut steps) {
-            Ok(answer) => driver.count(day, row, &answer),
-            Err(_) => return,
-        }
+    let mut found: u32 = 0;
+    for row in ROWS - VANS..ROWS {
+        let told = client.find(rt, van_of(driver, row));
+        let is_there = told == Ok(Some(day.place(driver, row)));
+        found = found.saturating_add(u32::from(is_there));
     }
+    found
 }

@@ -1,12 +1,11 @@
-//! A delivery company over the store and a log: four drivers put and move their vans, each in a thread of their own, and the day is kept in the
-//! file `depot.log`. A run makes that log where there is none, and else goes on with the one that it finds, where the last run left the vans.
+//! A delivery company over the store and a log: for two days four drivers report where their vans are, each in a thread of their own, and
+//! watch who leaves the yard and comes back. What they report is kept in the file `depot.log`. A run makes that log where there is none,
+//! and else goes on with the one that it finds, where the last run left the vans. Between the days the store is renewed: its history
+//! begins anew. When the days are over, the log is opened again, and each van is asked for.
 //!
-//! When the day is over, the log is opened again, and each van is asked for. Then the log is written anew into `fresh.log`, which has a record for
-//! each van and two for each split, whatever the day was like. A `fresh.log` that is there already stays as it is.
-//!
-//! What it prints is the same however the threads run: the drivers move vans of their own, each in a quarter of the town of their own, and a leaf
-//! is split where it has too many vans, however they came there. So what each is told, and how many records there are, don't depend on who comes
-//! first.
+//! What it prints is the same however the threads run: the drivers report vans of their own, each in a quarter of the town of their own,
+//! and a leaf is split where it has too many vans, however they came there. So what each is told, and how many entries and records there
+//! are, don't depend on who comes first.
 #![tactic(auto)]
 
 ghost use Rattle.std.specs.Prelude.{IfOk};
@@ -14,16 +13,13 @@ ghost use Rattle.store_file.specs.Opened.{IsFirst};
 
 mod day;
 mod drivers;
-mod logs;
 mod trouble;
 mod yard;
 
-use day::{Told, count_found, play_day};
+use day::{DayEnd, look_after, play_days};
 use disk_file::FileDisk;
 use disk_trait::LogDisk;
 use kd_trie::KdTrie;
-use log_compact::CompactFault;
-use logs::{read_log, write_anew};
 use std::alloc::Global;
 use std::fs::Files;
 use std::io;
@@ -37,37 +33,25 @@ use yard::Day;
 
 const LOG: &str = "depot.log";
 
-const FRESH: &str = "fresh.log";
-
 // How many vans a leaf should have.
 const BUCKET: u32 = 4;
 
-fn tell_begin(rt: &impl Print, vans: u64, records: u64) -> io::Result<()> {
-    println!(rt; "{LOG}: {vans} vans in {records} records")
-}
-
-fn tell_day(rt: &impl Print, told: &[Told; 4]) -> io::Result<()> {
-    for (i, told) in told.iter().enumerate() {
+fn tell_day(rt: &impl Print, number: usize, end: &DayEnd) -> io::Result<()> {
+    for (i, told) in end.told.iter().enumerate() {
         println!(rt;
-            "driver {}: {} answers as they should be, {} of them stale",
+            "day {number}, driver {}: {} reports told as they should be; {} vans came into the yard, {} left it, {} are inside",
             i + 1,
             told.good,
-            told.stale
+            told.came,
+            told.left,
+            told.inside
         )?;
     }
-    Ok(())
-}
-
-// Tells how many records were written anew. Where an earlier run has written them, nothing is.
-fn tell_anew(rt: &impl Print, anew: Result<u64, Trouble>) -> Result<(), Trouble> {
-    match anew {
-        Ok(records) => println!(rt; "{FRESH}: {records} records")?,
-        Err(Trouble::Anew(CompactFault::InUse { len })) => {
-            println!(rt; "{FRESH}: left as it is, with {len} bytes")?;
-        }
-        Err(trouble) => return Err(trouble),
-    }
-    Ok(())
+    println!(rt;
+        "day {number}: room for {} more entries, and {} more records",
+        end.room.entries,
+        end.room.records.unwrap_or(0)
+    )
 }
 
 // The store over the log.
@@ -83,7 +67,7 @@ fn open_vans<D: LogDisk>(
     }
 }
 
-// Plays a day over the log, from the latest moment on that the log knows.
+// Plays two days over the log, from the latest moment on that the log knows. Gives the last one.
 fn work<R: Threads + Wait + Sync + AllocGlobal + Print, D: LogDisk + Send>(
     rt: &R,
     disk: D,
@@ -97,18 +81,18 @@ fn work<R: Threads + Wait + Sync + AllocGlobal + Print, D: LogDisk + Send>(
         records,
     } = open_vans(alloc, disk)?;
     let day = Day::behind(latest.unwrap_or(0));
-    let told = play_day(rt, alloc, store, pass, day);
-    tell_begin(rt, points, records)?;
-    tell_day(rt, &told?)?;
-    Ok(day)
+    let days = play_days(rt, alloc, store, pass, day);
+    println!(rt; "{LOG}: {points} vans in {records} records")?;
+    let [first, second] = days?;
+    tell_day(rt, 1, &first)?;
+    tell_day(rt, 2, &second)?;
+    Ok(day.next())
 }
 
-// Opens the log again, as the next run will, asks for each van, and writes the log anew.
+// Opens the log again, as the next run will, and asks for each van.
 fn look_again<R: Wait + AllocGlobal + Print, D: LogDisk>(
     rt: &R,
     disk: D,
-    mut same: D,
-    target: D,
     day: Day,
 ) -> Result<(), Trouble> {
     let alloc = rt.alloc();
@@ -117,13 +101,14 @@ fn look_again<R: Wait + AllocGlobal + Print, D: LogDisk>(
         pass,
         points,
         latest: _,
-        records: _,
+        records,
     } = open_vans(alloc, disk)?;
-    let found = count_found(rt, alloc, store, pass, day);
-    println!(rt; "{LOG}: opened again, {found} of {points} vans where they were left")?;
-    let seen = read_log(alloc, LOG, &mut same)?;
-    println!(rt; "{LOG}: {} records", seen.cells)?;
-    tell_anew(rt, write_anew(alloc, &seen, FRESH, target))
+    let found = look_after(rt, alloc, store, pass, day);
+    println!(rt; "{LOG}: opened again, {points} vans in {records} records")?;
+    for (i, found) in found.iter().enumerate() {
+        println!(rt; "driver {}: {found} vans where they were left", i + 1)?;
+    }
+    Ok(())
 }
 
 // A drive without a file.
@@ -131,25 +116,24 @@ fn drive<R: Files + Clone + Drop>(rt: &R) -> io::Result<FileDisk<R>> {
     Ok(FileDisk::new(rt.clone()?))
 }
 
-fn end(rt: &impl Print, end: Result<(), Trouble>) -> ExitCode {
-    match end {
-        Ok(()) => ExitCode::SUCCESS,
-        Err(trouble) => {
-            let _ = println!(rt; "{trouble}");
-            ExitCode::FAILURE
-        }
-    }
+fn run<R: Threads + Wait + Sync + AllocGlobal + Print, D: LogDisk + Send>(
+    rt: &R,
+    disk: D,
+    again: D,
+) -> Result<(), Trouble> {
+    let day = work(rt, disk)?;
+    look_again(rt, again, day)
 }
 
 fn main(rt: HostRuntime) -> ExitCode {
     let (Ok(disk), Ok(again)) = (drive(&rt), drive(&rt)) else {
         return ExitCode::FAILURE;
     };
-    let (Ok(same), Ok(target)) = (drive(&rt), drive(&rt)) else {
-        return ExitCode::FAILURE;
-    };
-    match work(&rt, disk) {
-        Ok(day) => end(&rt, look_again(&rt, again, same, target, day)),
-        Err(trouble) => end(&rt, Err(trouble)),
+    match run(&rt, disk, again) {
+        Ok(()) => ExitCode::SUCCESS,
+        Err(trouble) => {
+            let _ = println!(rt; "{trouble}");
+            ExitCode::FAILURE
+        }
     }
 }

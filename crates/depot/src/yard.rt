@@ -1,23 +1,19 @@
 //! Which van is where and when, and what its driver should be told.
-ghost use Rattle.plain_list.specs.Answer.{IsValid};
+ghost use Rattle.zorder.specs.Region.{IsBox};
 
-use plain_list::{Answer, Op, Stamped};
-use zorder::Point;
+use fence_watch::Fence;
+use plain_list::Stamped;
+use store_client::Report;
+use zorder::{Point, Region};
 
-/// How many vans all drivers have.
-pub const ALL_VANS: u8 = 12;
+/// How many reports a driver makes in a day: of each van in turn, round by round.
+pub const ROWS: u32 = 27;
 
-/// How many calls a driver makes in a day.
-pub const ROWS: u32 = 28;
+/// How many vans a driver has.
+pub const VANS: u32 = 3;
 
-// How many vans a driver has.
-const VANS: u8 = 3;
-
-// The round in which a driver sends no new position, but an old one again: the last one.
-const LATE: u32 = 9;
-
-// The round of that old position: it was sent from a tunnel, and comes when the van is out of it.
-const TUNNEL: u32 = 4;
+// The round after which each van is back where it began. It goes away until half of the rounds are over.
+const LAST: u32 = 8;
 
 // Where each driver's quarter begins.
 const LOW: u32 = 1_000_000_000;
@@ -40,13 +36,24 @@ fn corner(driver: u8) -> Point {
     }
 }
 
-fn id_of(driver: u8, van: u32) -> u64 {
-    u64::from(driver) * 10 + u64::from(van)
+/// The yard of a driver's quarter, where the vans are in the first two rounds and the last two.
+pub fn yard(driver: u8) -> Fence
+    ensures { IsBox result.region }
+{
+    let lo = corner(driver);
+    let hi = Point {
+        x: lo.x.saturating_add(1),
+        y: lo.y.saturating_add(VANS),
+    };
+    Fence {
+        id: u64::from(driver),
+        region: Region { lo, hi },
+    }
 }
 
-// The van of a row, and its round.
-fn turn_of(row: u32) -> (u32, u32) {
-    (row % u32::from(VANS), row / u32::from(VANS))
+/// The van of a driver's row.
+pub fn van_of(driver: u8, row: u32) -> u64 {
+    u64::from(driver) * 10 + u64::from(row % VANS)
 }
 
 impl Day {
@@ -57,66 +64,35 @@ impl Day {
         }
     }
 
-    // Where a driver's van is after so many rounds. The moments of the day's positions are those behind the morning.
-    fn place(&self, driver: u8, van: u32, round: u32) -> Stamped {
+    /// The day behind this one.
+    pub fn next(&self) -> Day {
+        Day::behind(self.morning.saturating_add(u64::from(LAST)))
+    }
+
+    /// Where a row's van is, and when.
+    pub fn place(&self, driver: u8, row: u32) -> Stamped {
+        let (van, round) = (row % VANS, row / VANS);
         let corner = corner(driver);
+        let away = round.min(LAST.saturating_sub(round));
+        let at = Point {
+            x: corner.x.saturating_add(away),
+            y: corner.y.saturating_add(van),
+        };
         Stamped {
-            at: Point {
-                x: corner.x.saturating_add(round),
-                y: corner.y.saturating_add(van),
-            },
+            at,
             moment: self.morning.saturating_add(u64::from(round)),
         }
     }
 
-    /// What a driver's row asks: a driver puts each van, moves each in turn, and at last sends an old position of the first one.
-    pub fn op_of(&self, driver: u8, row: u32) -> Op
-        ensures { IsValid result }
-    {
-        let (van, round) = turn_of(row);
-        let id = id_of(driver, van);
-        let sent = if round == LATE { TUNNEL } else { round };
-        let Stamped { at, moment } = self.place(driver, van, sent);
-        if round == 0 {
-            Op::Put { id, at, moment }
-        } else {
-            Op::Move { id, at, moment }
-        }
-    }
-
-    /// Whether an answer to a row is the one that it should be, whatever the others do. A van that an earlier day has put is there already, and
-    /// is moved from where that day left it. A position that comes late is stale: the van stays where it was last.
-    pub fn is_good(&self, driver: u8, row: u32, answer: &Answer) -> bool {
-        let (van, round) = turn_of(row);
-        match answer {
-            Answer::Done => round == 0,
-            Answer::Present(kept) => round == 0 && kept.moment < self.morning,
-            Answer::Moved(from) => match round {
-                0 | LATE => false,
-                1 => from.moment <= self.morning,
-                _ => *from == self.place(driver, van, round - 1),
-            },
-            Answer::Stale(kept) => round == LATE && *kept == self.place(driver, van, LATE - 1),
-            _ => false,
-        }
-    }
-
-    /// The question where one of all vans is.
-    pub fn question(&self, number: u8) -> Op
-        ensures { IsValid result }
-    {
-        let (driver, van) = (number / VANS + 1, u32::from(number % VANS));
-        Op::Find {
-            id: id_of(driver, van),
-        }
-    }
-
-    /// Whether it is answered with where the day left that van, and when.
-    pub fn is_left(&self, number: u8, answer: &Answer) -> bool {
-        let (driver, van) = (number / VANS + 1, u32::from(number % VANS));
-        match answer {
-            Answer::At(kept) => *kept == self.place(driver, van, LATE - 1),
-            _ => false,
+    /// Whether a row is told what it should be, whatever the others do. A van is new, or an earlier day has left it where this one begins.
+    pub fn is_good(&self, driver: u8, row: u32, told: Report) -> bool {
+        match told {
+            Report::New => row < VANS,
+            Report::From(from) if row < VANS => {
+                from.at == self.place(driver, row).at && from.moment < self.morning
+            }
+            Report::From(from) => from == self.place(driver, row - VANS),
+            Report::Stale(_) | Report::Full => false,
         }
     }
 }

@@ -1,4 +1,0 @@
-use Rattle.depot.proofs.drivers.work.Given as goal
-
-abbrev pub ghosts-make_calls : goal.ghosts-make_calls
-ghosts-make_calls g a = record { name = a.blank.name; parts = a.blank.parts }
