@@ -1,7 +1,8 @@
 //! Lanes that a store runs by itself: a split that is held while another lane puts, and what is kept of it.
 ghost use Rattle.std.specs.Prelude.{◌≡◌, ℕ, ◌+◌, ◌<◌, length, slice_index_or, false};
 ghost use Rattle.sessions.specs.Lanes.{IsReadyLane};
-ghost use Rattle.thread_tests.specs.Passes.{IsFree, KeepsPass, AreValid};
+ghost use Rattle.store_client.specs.Caller.{IsFree, KeepsPass};
+ghost use Rattle.thread_tests.specs.Passes.{AreValid};
 
 use crate::checks::holds;
 use crate::stores::{index_of, new_store};

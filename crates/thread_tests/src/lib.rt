@@ -1,5 +1,5 @@
 //! Tests of the lock by itself, and of sessions that run at once: passes by hand, lanes in an order that a gate makes, also such as a store
-//! runs by itself, and sixteen lanes together; the index that one of them watches; and the verbs of a client.
+//! runs by itself, and sixteen lanes together; the index that one of them watches; the verbs of a client; and a store that is renewed.
 #![tactic(auto)]
 
 // `assert!` and `assert_eq!` as calls: the proof of a function with several of them is much shorter so.
@@ -37,6 +37,8 @@ mod orders;
 mod passes;
 #[cfg(test)]
 mod points;
+#[cfg(test)]
+mod renewals;
 #[cfg(test)]
 mod sheets;
 #[cfg(test)]

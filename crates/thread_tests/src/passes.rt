@@ -1,6 +1,6 @@
 //! A store by hand: a pass is split off, makes a call, tells another what it has seen, and is joined.
 ghost use Rattle.std.specs.Prelude.{◌≤◌};
-ghost use Rattle.thread_tests.specs.Passes.{IsFree, KeepsPass};
+ghost use Rattle.store_client.specs.Caller.{IsFree, KeepsPass};
 
 use crate::stores::{events_of, new_store};
 use crate::versions::call;

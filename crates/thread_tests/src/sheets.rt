@@ -4,7 +4,8 @@ ghost use Rattle.std.specs.Prelude.{◌≡◌, ℕ, ◌+◌, ◌<◌, ◌≤◌,
 ghost use Rattle.std.specs.Thread.{IsSync};
 ghost use Rattle.plain_list.specs.declared.entries.Entry.{Entry};
 ghost use Rattle.book_lock.specs.Ends.{EndsSplit};
-ghost use Rattle.thread_tests.specs.Passes.{HasAdded, IsFree, KeepsPass};
+ghost use Rattle.store_client.specs.Caller.{IsFree, KeepsPass};
+ghost use Rattle.thread_tests.specs.Passes.{HasAdded};
 
 use book_lock::{BookLock, Held, Pass};
 use plain_list::{Entry, Lost, Op};

@@ -1,6 +1,6 @@
 //! Stores over new books, and what is left of one that is closed.
 ghost use Rattle.std.specs.Prelude.{◌≡◌};
-ghost use Rattle.thread_tests.specs.Passes.{IsFree};
+ghost use Rattle.store_client.specs.Caller.{IsFree};
 
 use book_lock::Pass;
 use commit_book::Book;

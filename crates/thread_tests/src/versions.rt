@@ -1,7 +1,7 @@
 //! A box beside another session's puts, over an index whose versions have numbers.
 ghost use Rattle.std.specs.Prelude.{◌≡◌, ◌+◌};
 ghost use Rattle.plain_list.specs.Answer.{IsValid};
-ghost use Rattle.thread_tests.specs.Passes.{IsFree, KeepsPass};
+ghost use Rattle.store_client.specs.Caller.{IsFree, KeepsPass};
 
 use crate::checks::holds;
 use crate::numbered::Numbered;
