@@ -19,8 +19,8 @@ use std::snapshot::Snapshot;
 /// The version in which a log is written.
 const NEWEST: u8 = 2;
 
-/// What whoever opens the log finds that `compact` writes of a world and its leaves. There is none where the objects and twice the leaves are
-/// more than a log may have cells.
+/// What whoever opens the log finds that `compact` writes of a world and its leaves. There is none where the objects and twice the
+/// leaves are more than a log may have cells.
 pub fn fresh_seen(world: World, leaves: Leaves, width: u8) -> Option<Seen>
     requires width { (width ≡ 1) ⊎ (width ≡ 2) }
     requires splits { ComesBySplits width leaves }

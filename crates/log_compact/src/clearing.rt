@@ -16,8 +16,8 @@ pub struct NotCleared<D: Drop> {
     pub disk: D,
 }
 
-/// Makes a log one of no cells, with 17 bytes. Where it has none nothing is done, and else there are four device calls: its first commit byte is
-/// cleared, and then what stands behind that is cut off, each followed by a sync. None is made after one that failed.
+/// Makes a log one of no cells, with 17 bytes. Where it has none nothing is done, and else there are four device calls: its first commit
+/// byte is cleared, and then what stands behind that is cut off, each followed by a sync. None is made after one that failed.
 pub fn clear_log<D: LogDisk>(log: SplitLog<D>) -> Result<D, NotCleared<D>>
     requires whole { log.failed ≡ None }
 
