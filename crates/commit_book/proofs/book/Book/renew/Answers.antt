@@ -19,9 +19,9 @@ invariant_of-self g c =
     let was = c.self.invariant in
     let same : c.of.result ≡ renewed_state w o h = c.of.ensures ∙ renewed-same drive w c.self.inside was c.begun-begun.result c.begun-begun.ensures in
     let few_now : (state_after w c.args.self.now.opening c.args.self.now.entries).begun ≤ most_begun =
-        renewal-few (failed_cell c.args.self.now.entries) _ (sym c.in_ok-check_renewal.ensures) in
+    renewal-few (failed_cell c.args.self.now.entries) _ (sym c.in_ok-check_renewal.ensures) in
     let few : (state_after w o h).begun ≤ most_begun =
-        subst (λ (v : BookView g.row.D.Denot). (state_after w v.opening v.entries).begun ≤ most_begun) (sym c.self.view_is) few_now in
+    subst (λ (v : BookView g.row.D.Denot). (state_after w v.opening v.entries).begun ≤ most_begun) (sym c.self.view_is) few_now in
     inside-first drive w c.of.result _
     (record {
       rests = ap (λ (s : State). s.splits) same;

@@ -18,8 +18,8 @@ invariant_of-self g c =
     let same : c.of.result ≡ found_state seen = c.of.ensures ∙ found-same drive w c.self.inside c.self.invariant c.args.self.now seen c.self.view_is c.requires.content in
     let begun : seen.begun ≤ 16777216 = found-begun _ w _ _ seen c.requires.found in
     let kept : KeepsIn drive w (found_state seen) [] c.replace-journal.new.dest =
-        subst (λ (l : Option (KeptView g.row.D.Denot)). KeepsIn drive w (found_state seen) [] l) (sym c.replace-journal.ensures.after)
-        (c.opened-next.ensures.keeps w (found_state seen) c.requires.ready c.requires.log.1) in
+    subst (λ (l : Option (KeptView g.row.D.Denot)). KeepsIn drive w (found_state seen) [] l) (sym c.replace-journal.ensures.after)
+    (c.opened-next.ensures.keeps w (found_state seen) c.requires.ready c.requires.log.1) in
     inside-first drive w c.of.result _
     (record {
       rests = ap (λ (s : State). s.splits) same;
@@ -37,10 +37,10 @@ returns-clause-rotated g c =
     let log = c.args.opened.log in
     let start = c.args.opened.start.value in
     let same : c.of.result ≡ found_state c.args.opened.seen =
-        c.of.ensures ∙ found-same drive w c.self.inside c.self.invariant c.args.self.now c.args.opened.seen c.self.view_is c.requires.content in
+    c.of.ensures ∙ found-same drive w c.self.inside c.self.invariant c.args.self.now c.args.opened.seen c.self.view_is c.requires.content in
     let none : c.replace-history.new.dest.entries ≡ [] = ap (λ (v : Events). v.entries) (c.replace-history.ensures.after ∙ c.new.ensures) in
     let journal : c.replace-journal.new.dest ≡ Some (first_log log start) = c.replace-journal.ensures.after ∙ c.opened-next.ensures.value
-        ∙ (λ i. Some (record { disk = log.disk; cells = log.cells; failed = c.requires.log.1 i; start = start; first = log.cells })) in
+    ∙ (λ i. Some (record { disk = log.disk; cells = log.cells; failed = c.requires.log.1 i; start = start; first = log.cells })) in
     λ i. record {
       leaves = (c.self.view_is i).leaves;
       opening = same i;
