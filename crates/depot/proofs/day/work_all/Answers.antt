@@ -1,4 +1,4 @@
-use Rattle.std.proofs.Common.{rules, ◌≡◌, [], ◌∷◌, ◌∙◌, take_at}
+use Rattle.std.proofs.Common.{rules, ◌∙◌, take_at}
 use Rattle.store_client.specs.declared.crowd.Worker.{Worker}
 use Rattle.store_client.proofs.Teams.{all_kept}
 use Rattle.depot.proofs.day.work_all.Goals as goal
