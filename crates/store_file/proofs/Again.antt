@@ -49,7 +49,7 @@ module _ (w : ℕ) (s : State) (world : World) (rest : List Cell) (last : World)
   by_test o false is on = quiet o (ap (λ t. cond t (changed world o) world) is) on
 
 -- the cells of a history make of a world what the history does
-cells-world : (w : ℕ) (s : State) (world : World) (h : List Entry) → s.world ≡ world → (cells_after w s (cells_of world h)).world ≡ world_after world h
+pub cells-world : (w : ℕ) (s : State) (world : World) (h : List Entry) → s.world ≡ world → (cells_after w s (cells_of world h)).world ≡ world_after world h
 cells-world w s world [] same = same
 cells-world w s world (entry.Call session row o ∷ h) same =
     by_test w s world (cells_of (after_of world o) h) (world_after (after_of world o) h) same o (is_change (answer_of world o)) refl (λ d is. cells-world w d (after_of world o) h is)

@@ -41,7 +41,7 @@ small-or-long bytes = by_test (nat_lt 17 (length bytes)) refl
     by_test true is = inl (ltb-true 17 (length bytes) is)
     by_test false is = inr (ltb-false 17 (length bytes) is)
 
-weaker : (a b : Drive) (P Q : List ℕ → Type 0) → ((c : List ℕ) → P c → Q c) → LeavesOnly a b P → LeavesOnly a b Q
+pub weaker : (a b : Drive) (P Q : List ℕ → Type 0) → ((c : List ℕ) → P c → Q c) → LeavesOnly a b P → LeavesOnly a b Q
 weaker a b P Q all only = record {
   later = only.later;
   each = λ c left. all c (only.each c left);
@@ -178,7 +178,7 @@ module _ (w : ℕ) (file : List ℕ) (a b c : Drive) (laws : KeepsLaws a) (readi
   up : a.faults ≤ b.faults
   up = omega (arith, readies.calm)
 
-  file-then : KeepsCells w b c → KeepsFile w a c
+  pub file-then : KeepsCells w b c → KeepsFile w a c
   file-then keeps = record {
     in_use = λ bytes told long. cells-behind w a b laws (readies.in_use bytes told long) c keeps;
     small = λ bytes told now.

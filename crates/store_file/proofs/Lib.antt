@@ -1,4 +1,7 @@
+mod EitherFacts
 mod FileFacts
 mod Latest
 mod StoreFacts
+mod RotateFacts
 pub mod Again
+pub mod Between

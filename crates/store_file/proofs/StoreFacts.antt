@@ -90,7 +90,7 @@ module _ {D : Type 0} (drive : D → Drive) (bucket : ℕ) (seen : Seen) (b : Bo
   }
 
 -- what was found is what the cells of the log leave
-cells-found : (w bucket : ℕ) (old start : Drive) (seen : Seen) (found : IsFound newest w most_cells old seen) → found_origin bucket seen start ≡ cells_origin w bucket found.cells start
+pub cells-found : (w bucket : ℕ) (old start : Drive) (seen : Seen) (found : IsFound newest w most_cells old seen) → found_origin bucket seen start ≡ cells_origin w bucket found.cells start
 cells-found w bucket old start seen found = λ i. record {
   world = found.finds.world i;
   leaves = found.finds.leaves i;
@@ -101,7 +101,7 @@ cells-found w bucket old start seen found = λ i. record {
 
 -- a store over a file that was opened
 module _ {D : Type 0} (drive : D → Drive) (w bucket : ℕ) (file : List ℕ) (old : Drive) (start : D) (now : Drive) (seen : Seen) (opens : OpensFile w file old (drive start) now seen) where
-  in-old : (bytes : List ℕ) → old.bytes ≡ Some bytes → FindsCells w opens.found.cells bytes
+  pub in-old : (bytes : List ℕ) → old.bytes ≡ Some bytes → FindsCells w opens.found.cells bytes
   in-old bytes told = ⊎_elim
       (λ (long : 17 < length bytes). inr (long, opens.found.recovers bytes ((opens.readies.in_use bytes told long).bytes ∙ told)))
       (λ (small : IsSmall bytes).
@@ -110,7 +110,7 @@ module _ {D : Type 0} (drive : D → Drive) (w bucket : ℕ) (file : List ℕ) (
       let none = no-cells-told w (drive start) made in
       inl (small, holds-same there.version none.version w opens.found.cells [] made.bytes there.holds none.holds)) (small-or-long bytes)
 
-  finds-log : FindsLog w opens.found.cells old (drive start)
+  pub finds-log : FindsLog w opens.found.cells old (drive start)
   finds-log = record {
     legal = opens.found.legal;
     few = opens.found.few;
@@ -122,7 +122,7 @@ module _ {D : Type 0} (drive : D → Drive) (w bucket : ℕ) (file : List ℕ) (
   pub ready-opened : IsOpened w (found_state seen) (drive start) now
   ready-opened = opened-found w most_cells (drive start) now seen opens.found opens.ready opens.keeps
 
-  pub opens-store : (lock : TableId) (pass : Known) (points : ℕ) (latest : Option ℕ) (records : ℕ) → BeginsOver drive bucket seen start lock pass points latest records → OpensStore drive w bucket file old lock pass points latest records
+  unfoldable pub opens-store : (lock : TableId) (pass : Known) (points : ℕ) (latest : Option ℕ) (records : ℕ) → BeginsOver drive bucket seen start lock pass points latest records → OpensStore drive w bucket file old lock pass points latest records
   opens-store lock pass points latest records begins =
       let world : seen.world ≡ pass.origin.world = sym (ap (λ (k : Known). k.origin.world) begins.pass_is) in
       record {

@@ -5,6 +5,8 @@ pub mod Opened
 pub mod Refused
 pub mod Closed
 pub mod Again
+pub mod Either
+pub mod Rotated
 pub use Rattle.recovery.specs.Opening
 pub use Rattle.recovery.specs.Calls
 pub use Rattle.recovery.specs.Faults

@@ -32,6 +32,36 @@ pub struct NotOpened<D: Drop> {
     pub cause: OpenCause,
 }
 
+/// Why no store was opened over either of two files.
+#[derive(Clone, Copy, Debug, PartialEq, Eq, Error)]
+pub enum EitherCause {
+    /// The size of a bucket isn't from 4 to 4,096. Nothing was asked of the drives.
+    #[error("the size of a bucket isn't from 4 to 4,096")]
+    Bucket,
+    /// The first file wasn't opened. Nothing was asked of the second drive.
+    #[error("the first file: {cause}")]
+    First { cause: OpenCause },
+    /// The second file wasn't opened, and the first was.
+    #[error("the second file: {cause}")]
+    Second { cause: OpenCause },
+    /// Both files have records, which leave different objects.
+    #[error("the two files have different objects")]
+    Differ,
+    /// The drive of the file that isn't gone on with failed while its log was emptied.
+    #[error("a drive failed while its log was emptied")]
+    Disk,
+    #[error("out of memory")]
+    Memory,
+}
+
+/// Both drives back, and why no store was opened over either file.
+#[derive(Drop)]
+pub struct NotEither<D: Drop> {
+    pub first: D,
+    pub second: D,
+    pub cause: EitherCause,
+}
+
 /// What a file that wasn't attached is told as.
 pub(crate) fn attach_cause(fault: AttachFault) -> OpenCause
     ensures { result ≡ attach_cause fault }

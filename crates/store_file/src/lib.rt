@@ -6,19 +6,28 @@
 //! last pass has seen, and the drive, whose log has that history's cells behind the first ones (`ClosesStore`). So the next opening
 //! begins with what the last close left (`finds-closed`, proofs/Again). `renew_store` goes on with an empty history.
 //!
+//! `rotate_store` goes on over a second file: it writes the objects and the leaves there as a fresh log, and makes the first log empty only
+//! then (`IsRotated`). `open_either` opens both files, and goes on over the one that has records (`OpensEither`): where a crash in a
+//! rotation left some in both, these leave the same objects. So it begins with the objects that the history left, wherever the crash came
+//! (`finds-left`, proofs/Between).
+//!
 //! Not here: the calls of a store (`sessions`), and short ones (`store_client`).
 #![tactic(auto)]
 
 mod closing;
+mod either;
 mod faults;
 mod files;
 mod objects;
 mod opening;
 mod renewing;
+mod rotating;
 mod start;
 
 pub use closing::{ClosedStore, close_over, close_store};
-pub use faults::{NotOpened, OpenCause};
+pub use either::{OpenedEither, Which, open_either};
+pub use faults::{EitherCause, NotEither, NotOpened, OpenCause};
 pub use opening::{OpenedStore, open_over, open_store};
 pub use renewing::renew_store;
+pub use rotating::{NotRotated, RotateCause, Rotated, rotate_store};
 pub use start::OverFile;

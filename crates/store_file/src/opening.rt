@@ -95,14 +95,14 @@ pub fn open_over<I: Index, D: LogDisk, O: Start>(
 }
 
 // Whether a bucket may have this size.
-fn is_bucket(bucket: u32) -> bool
+pub(crate) fn is_bucket(bucket: u32) -> bool
     ensures { result ≡ is_bucket bucket }
 {
     4 <= bucket && bucket <= 4096
 }
 
 // A store over a log as it was opened.
-fn store_of<I: Index, D: LogDisk, O: Start>(
+pub(crate) fn store_of<I: Index, D: LogDisk, O: Start>(
     alloc: Global,
     opened: Opened<D>,
     bucket: u32,
@@ -135,7 +135,7 @@ fn store_of<I: Index, D: LogDisk, O: Start>(
 }
 
 // A store of a book that has a log. For want of memory the drive comes back.
-fn shared<I: Index, D: LogDisk, O: Start>(
+pub(crate) fn shared<I: Index, D: LogDisk, O: Start>(
     alloc: Global,
     book: Book<I, D>,
 ) -> Result<Shared<I, D, O>, D>

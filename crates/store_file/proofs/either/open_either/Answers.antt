@@ -1,0 +1,102 @@
+use Rattle.std.proofs.Common.{◌≡◌, inr, ◌∙◌, ℕ, true, Result, Ok, Err, sym, subst}
+use Rattle.std.specs.Prelude.{IfOk, IfErr}
+use Rattle.store_file.specs.Either.{RefusesBoth}
+use Rattle.store_file.specs.Files.{OpensFile, CanOpen, ShowsFault}
+use Rattle.store_file.specs.Refused.{is_bucket}
+use Rattle.store_file.proofs.EitherFacts.{begins-either, neither-begun, neither-free, refuses-both}
+use Rattle.store_file.proofs.StoreFacts.{ready-opened, is-first}
+use Rattle.store_file.proofs.either.open_either.Goals as goal
+
+ok-with : {A B : Type 0} (P Q : A → Type 0) → ((a : A) → P a → Q a) → (r : Result A B) → IfOk r P → IfOk r Q
+ok-with P Q each (Ok a) is = each a is
+ok-with P Q each (Err e) is = tt
+
+err-with : {A B : Type 0} (P Q : B → Type 0) → ((e : B) → P e → Q e) → (r : Result A B) → IfErr r P → IfErr r Q
+err-with P Q each (Ok a) is = tt
+err-with P Q each (Err e) is = each e is
+
+pub returns-in-Ok-clause-opened : goal.returns-in-Ok-clause-opened
+returns-in-Ok-clause-opened g c =
+    let drive = g.D.LogDisk.drive in
+    let w = g.I.Index.WIDTH in
+    let one = c.in-Ok.both.one in
+    let two = c.in-Ok.both.two in
+    let opens = subst (λ (w : ℕ). OpensFile w c.args.first_file.now (drive c.args.first) (drive one.start.value) (drive one.log.disk) one.seen) c.WIDTH.ensures c.in-Ok.ensures.one in
+    let besides = subst (λ (w : ℕ). OpensFile w c.args.second_file.now (drive c.args.second) (drive two.start.value) (drive two.log.disk) two.seen) c.WIDTH.ensures c.in-Ok.ensures.two in
+    let sized : is_bucket c.args.bucket ≡ true = sym c.is_bucket.ensures ∙ c.if-not-is_bucket.false in
+    ok-with _ _
+    (λ o is. begins-either drive g.met.D.LogDisk.keeps_laws w c.args.bucket sized c.args.first_file.now c.args.second_file.now c.args.first c.args.second one.start.value two.start.value one.seen two.seen one.log two.log
+    opens besides c.in-Ok.ensures.logs.0 c.in-Ok.ensures.logs.2 o.which o.store o.pass o.points o.latest o.records o.spare is)
+    c.go_on_over_either.result c.go_on_over_either.ensures.begins
+
+pub returns-in-Ok-clause-first : goal.returns-in-Ok-clause-first
+returns-in-Ok-clause-first g c = ok-with _ _ (λ o is. is-first o.store _ o.pass is.begins.pass_is) c.go_on_over_either.result c.go_on_over_either.ensures.begins
+
+pub returns-in-Ok-clause-refused : goal.returns-in-Ok-clause-refused
+returns-in-Ok-clause-refused g c =
+    let drive = g.D.LogDisk.drive in
+    let w = g.I.Index.WIDTH in
+    let one = c.in-Ok.both.one in
+    let two = c.in-Ok.both.two in
+    let opens = subst (λ (w : ℕ). OpensFile w c.args.first_file.now (drive c.args.first) (drive one.start.value) (drive one.log.disk) one.seen) c.WIDTH.ensures c.in-Ok.ensures.one in
+    let besides = subst (λ (w : ℕ). OpensFile w c.args.second_file.now (drive c.args.second) (drive two.start.value) (drive two.log.disk) two.seen) c.WIDTH.ensures c.in-Ok.ensures.two in
+    let sized : is_bucket c.args.bucket ≡ true = sym c.is_bucket.ensures ∙ c.if-not-is_bucket.false in
+    err-with _ _
+    (λ e is. neither-begun drive g.met.D.LogDisk.keeps_laws w c.args.bucket sized c.args.first_file.now c.args.second_file.now c.args.first c.args.second one.start.value two.start.value one.seen two.seen one.log two.log
+    opens besides c.in-Ok.ensures.logs.0 c.in-Ok.ensures.logs.2 e.first e.second e.cause is)
+    c.go_on_over_either.result c.go_on_over_either.ensures.refused
+
+pub returns-in-Ok-clause-whole : goal.returns-in-Ok-clause-whole
+returns-in-Ok-clause-whole g c = λ size good also.
+    let drive = g.D.LogDisk.drive in
+    let w = g.I.Index.WIDTH in
+    let one = c.in-Ok.both.one in
+    let two = c.in-Ok.both.two in
+    let opens = subst (λ (w : ℕ). OpensFile w c.args.first_file.now (drive c.args.first) (drive one.start.value) (drive one.log.disk) one.seen) c.WIDTH.ensures c.in-Ok.ensures.one in
+    let besides = subst (λ (w : ℕ). OpensFile w c.args.second_file.now (drive c.args.second) (drive two.start.value) (drive two.log.disk) two.seen) c.WIDTH.ensures c.in-Ok.ensures.two in
+    err-with _ _
+    (λ e is. neither-free drive g.met.D.LogDisk.keeps_laws w c.args.bucket size c.args.first_file.now c.args.second_file.now c.args.first c.args.second one.start.value two.start.value one.seen two.seen one.log two.log
+    opens besides c.in-Ok.ensures.logs.0 c.in-Ok.ensures.logs.2 e.first e.second e.cause is)
+    c.go_on_over_either.result c.go_on_over_either.ensures.refused
+
+pub returns-in-Ok-clause-exact_first : goal.returns-in-Ok-clause-exact_first
+returns-in-Ok-clause-exact_first g c = λ fault sized shows. absurd (c.in-Ok.ensures.exact_first fault (subst (λ (w : ℕ). ShowsFault w (g.D.LogDisk.drive c.args.first) fault) (sym c.WIDTH.ensures) shows))
+
+pub returns-in-Ok-clause-exact_second : goal.returns-in-Ok-clause-exact_second
+returns-in-Ok-clause-exact_second g c = λ fault sized good shows. absurd (c.in-Ok.ensures.exact_second fault
+    (subst (λ (w : ℕ). CanOpen w (g.D.LogDisk.drive c.args.first)) (sym c.WIDTH.ensures) good)
+    (subst (λ (w : ℕ). ShowsFault w (g.D.LogDisk.drive c.args.second) fault) (sym c.WIDTH.ensures) shows))
+
+pub returns-in-Err-clause-refused : goal.returns-in-Err-clause-refused
+returns-in-Err-clause-refused g c =
+    let drive = g.D.LogDisk.drive in
+    let e = c.in-Err.refused in
+    refuses-both drive g.I.Index.WIDTH c.args.bucket c.args.first_file.now c.args.second_file.now c.args.first c.args.second e.first e.second e.cause (sym c.is_bucket.ensures ∙ c.if-not-is_bucket.false)
+    (subst (λ (w : ℕ). RefusesBoth drive w c.args.first_file.now c.args.second_file.now c.args.first c.args.second e.first e.second e.cause) c.WIDTH.ensures c.in-Err.ensures.refused)
+
+pub returns-in-Err-clause-exact_first : goal.returns-in-Err-clause-exact_first
+returns-in-Err-clause-exact_first g c = λ fault sized shows. c.in-Err.ensures.exact_first fault (subst (λ (w : ℕ). ShowsFault w (g.D.LogDisk.drive c.args.first) fault) (sym c.WIDTH.ensures) shows)
+
+pub returns-in-Err-clause-exact_second : goal.returns-in-Err-clause-exact_second
+returns-in-Err-clause-exact_second g c = λ fault sized good shows. c.in-Err.ensures.exact_second fault
+    (subst (λ (w : ℕ). CanOpen w (g.D.LogDisk.drive c.args.first)) (sym c.WIDTH.ensures) good)
+    (subst (λ (w : ℕ). ShowsFault w (g.D.LogDisk.drive c.args.second) fault) (sym c.WIDTH.ensures) shows)
+
+pub go_on_over_either-requires-clause-one : goal.go_on_over_either-requires-clause-one
+go_on_over_either-requires-clause-one g c =
+    let drive = g.D.LogDisk.drive in
+    let one = c.in-Ok.both.one in
+    let opens = subst (λ (w : ℕ). OpensFile w c.args.first_file.now (drive c.args.first) (drive one.start.value) (drive one.log.disk) one.seen) c.WIDTH.ensures c.in-Ok.ensures.one in
+    (opens.found, ready-opened drive g.I.Index.WIDTH c.args.bucket c.args.first_file.now (drive c.args.first) one.start.value (drive one.log.disk) one.seen opens)
+
+pub go_on_over_either-requires-clause-two : goal.go_on_over_either-requires-clause-two
+go_on_over_either-requires-clause-two g c =
+    let drive = g.D.LogDisk.drive in
+    let two = c.in-Ok.both.two in
+    let opens = subst (λ (w : ℕ). OpensFile w c.args.second_file.now (drive c.args.second) (drive two.start.value) (drive two.log.disk) two.seen) c.WIDTH.ensures c.in-Ok.ensures.two in
+    (opens.found, ready-opened drive g.I.Index.WIDTH c.args.bucket c.args.second_file.now (drive c.args.second) two.start.value (drive two.log.disk) two.seen opens)
+
+pub returns-in-Err-clause-whole : goal.returns-in-Err-clause-whole
+returns-in-Err-clause-whole g c = λ size good also. inr (c.in-Err.ensures.whole
+    (subst (λ (w : ℕ). CanOpen w (g.D.LogDisk.drive c.args.first)) (sym c.WIDTH.ensures) good)
+    (subst (λ (w : ℕ). CanOpen w (g.D.LogDisk.drive c.args.second)) (sym c.WIDTH.ensures) also))

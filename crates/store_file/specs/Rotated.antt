@@ -1,0 +1,157 @@
+-- A store that goes on over a second file, in which its objects and leaves were written as a fresh log.
+use Rattle.std.specs.Prelude.{◌≡◌, ℕ, ◌+◌, ◌*◌, ◌<◌, ◌≤◌, true, Bool, List, [], length, Option, Some, None, is_some, ⊤}
+use Rattle.atomic_table.specs.Seated.{TableId}
+use Rattle.cell_format.specs.declared.cell.Cell.{Cell}
+use Rattle.disk_trait.specs.Drive.{Drive}
+use Rattle.plain_list.specs.declared.entries.Entry.{Entry}
+use Rattle.plain_list.specs.World.{World, IsWorld}
+use Rattle.plain_list.specs.History.{world_after, failed_cell}
+use Rattle.plain_list.specs.State.{state_after}
+use Rattle.split_log.specs.LogView.{most_cells}
+use Rattle.cell_format.specs.Spelling.{newest}
+use Rattle.split_log.specs.LogView.{LogView}
+use Rattle.recovery.specs.declared.seen.Seen.{Seen}
+use Rattle.recovery.specs.Found.{Finds, IsFound}
+use Rattle.kept_log.specs.Journal.{disk_in}
+use Rattle.kept_log.specs.Kept.{IsOpened, found_state}
+use Rattle.commit_book.specs.Rotation.{HasContent}
+use Rattle.book_lock.specs.Pass.{Known}
+use Rattle.book_lock.specs.declared.origin.Origin.{Origin}
+use Rattle.commit_book.specs.BookView.{BookView}
+use Rattle.log_compact.specs.declared.compacting.CompactFault.{CompactFault}
+use Rattle.log_compact.specs.declared.compacting.CompactFault.TheVariants as compact
+use Rattle.log_compact.specs.Compacting.{IsCompacted, RefusesCompact, KeepsOnWay}
+use Rattle.log_compact.specs.Fresh.{fresh_cells}
+use Rattle.log_compact.specs.State.{IsStateOf}
+use Rattle.sessions.specs.Shared.{HasWorld, origin_of, start_of}
+use Rattle.store_file.specs.declared.rotating.RotateCause.{RotateCause}
+use Rattle.store_file.specs.declared.rotating.RotateCause.TheVariants.{Closed, InUse, Disk, TooLong, Memory}
+use Rattle.store_file.specs.declared.rotating.NotRotated.{NotRotated}
+use Rattle.store_file.specs.declared.rotating.NotRotated.TheVariants as back
+use Rattle.log_compact.specs.Clearing.{Clears, FailsToClear, KeepsOrClears}
+use Rattle.store_file.specs.Closed.{ClosesStore}
+use Rattle.store_file.specs.Opened.{first_pass, cells_origin, found_origin}
+
+-- the objects that a history left, and the names of the leaves
+abbrev pub world_left : Origin → List Entry → World
+world_left origin seen = world_after origin.world seen
+
+abbrev pub leaves_left : ℕ → Origin → List Entry → List (List Bool)
+leaves_left w origin seen = (state_after w (start_of origin) seen).leaves
+
+-- the cells of a fresh log of them
+abbrev pub cells_left : ℕ → Origin → List Entry → List Cell
+cells_left w origin seen = fresh_cells w (world_left origin seen) (leaves_left w origin seen)
+
+-- A store goes on from where this pass saw its history end. The first log is closed, as it stands on the drive then: no append has failed,
+-- and it keeps the history. Then only is the other one begun: it was written on the second drive as a fresh log of what the history left,
+-- and is the one that the store begins with, whose objects and leaves are those. At each moment a crash leaves of the second file what was
+-- on the way, and nothing but these cells from the end of the writing on.
+pub record RotatesTo {D : Type 0} (drive : D → Drive) (w : ℕ) (old : Known) (entries : List Entry) (last spare : D) (origin : Origin) : Type 0 where
+  pub closed : ClosesStore drive w (λ start. ⊤) old entries last
+  pub good : failed_cell old.seen ≡ None
+  pub start : D
+  pub compacted : IsCompacted w (cells_left w old.origin old.seen) (drive spare) (drive start)
+  pub on_way : KeepsOnWay w (cells_left w old.origin old.seen) (drive spare) (drive start)
+  pub state : IsStateOf w (cells_left w old.origin old.seen) (world_left old.origin old.seen) (leaves_left w old.origin old.seen)
+  pub few : length (cells_left w old.origin old.seen) ≤ most_cells
+  pub origin_is : origin ≡ cells_origin w old.origin.bucket (cells_left w old.origin old.seen) (drive start)
+  pub world_is : origin.world ≡ world_left old.origin old.seen
+  pub leaves_are : origin.leaves ≡ leaves_left w old.origin old.seen
+  pub world : IsWorld origin.world
+
+-- How many cells the log had that was closed, and what came of its clearing. At each moment a crash leaves all its cells, or none.
+pub record LeavesLog {D : Type 0} (drive : D → Drive) (Came : ℕ → Drive → Drive → Type 0) (last left : D) : Type 0 where
+  pub count : ℕ
+  pub came : Came count (drive last) (drive left)
+  pub keeps : KeepsOrClears (drive last) (drive left)
+
+-- The store, its first pass, the history of the one before, and the drive of the first log, which has no cells any more.
+pub record IsRotated {D : Type 0} (drive : D → Drive) (w : ℕ) (old : Known) (entries : List Entry) (spare : D) (lock : TableId) (pass : Known) (left : D) : Type 0 where
+  pub last : D
+  pub to : RotatesTo drive w old entries last spare pass.origin
+  pub pass_is : pass ≡ first_pass lock pass.origin
+  pub leaves : LeavesLog drive Clears last left
+
+-- The book alone, which goes on over the second log, and has no entries.
+pub record IsRotatedAlone {D : Type 0} (drive : D → Drive) (w : ℕ) (Came : ℕ → Drive → Drive → Type 0) (old : Known) (entries : List Entry) (spare : D) (b : BookView D) (left : D) : Type 0 where
+  pub last : D
+  pub to : RotatesTo drive w old entries last spare (origin_of drive b)
+  pub none : b.entries ≡ []
+  pub has : HasWorld b
+  pub logged : is_some b.log ≡ true
+  pub leaves : LeavesLog drive Came last left
+
+-- the book as it was
+pub record IsBookKept {D : Type 0} (drive : D → Drive) (old : Known) (b : BookView D) : Type 0 where
+  pub entries_are : b.entries ≡ old.seen
+  pub origin_is : origin_of drive b ≡ old.origin
+  pub has : HasWorld b
+  pub logged : is_some b.log ≡ true
+
+-- what a fault of the fresh log is told as
+abbrev pub anew_cause : CompactFault → RotateCause
+anew_cause (compact.InUse len) = InUse len
+anew_cause compact.Disk = Disk
+
+-- a fresh log wasn't written for this fault: the file is longer than 17 bytes, and was left as it is, or the drive failed
+pub record NotAnew {D : Type 0} (drive : D → Drive) (w : ℕ) (cells : List Cell) (spare left : D) (fault : CompactFault) : Type 0 where
+  pub refuses : RefusesCompact (drive spare) (drive left) fault
+  pub on_way : KeepsOnWay w cells (drive spare) (drive left)
+
+-- Why a store of this world and these leaves doesn't go on over the second drive, whose append failed where one did, and what that leaves
+-- of the drive: an append of it has failed; there are too many objects and leaves for a log; memory ran out; or no log was written.
+abbrev pub RefusesAnew : {D : Type 0} → (D → Drive) → ℕ → Option ℕ → World → List (List Bool) → D → D → RotateCause → Type 0
+RefusesAnew drive w failed world leaves spare left (Closed cell) = (failed ≡ Some cell) × (left ≡ spare)
+RefusesAnew drive w failed world leaves spare left Memory = (failed ≡ None) × (left ≡ spare)
+RefusesAnew drive w failed world leaves spare left TooLong = (failed ≡ None) × (left ≡ spare) × (most_cells < length world + 2 * length leaves)
+RefusesAnew drive w failed world leaves spare left (InUse len) = (failed ≡ None) × NotAnew drive w (fresh_cells w world leaves) spare left (compact.InUse len)
+RefusesAnew drive w failed world leaves spare left Disk = (failed ≡ None) × NotAnew drive w (fresh_cells w world leaves) spare left compact.Disk
+
+-- What comes back where no store does: the book as it was, over its log, and the second drive; or the book over the second log, where the
+-- drive of the first one failed while its log was cleared, or memory ran out once it was.
+abbrev pub IsNotRotated : {I D P : Type 0} → (D → Drive) → ℕ → Known → D → NotRotated I D P → Type 0
+IsNotRotated drive w old spare (back.Kept book left cause) =
+    IsBookKept drive old book × RefusesAnew drive w (failed_cell old.seen) (world_left old.origin old.seen) (leaves_left w old.origin old.seen) spare left cause
+IsNotRotated drive w old spare (back.Uncleared book entries left) = IsRotatedAlone drive w (λ count. FailsToClear) old entries spare book left
+IsNotRotated drive w old spare (back.Memory book entries left) = IsRotatedAlone drive w Clears old entries spare book left
+
+-- A fresh log of what a book has was begun on this drive: what its opening finds, the drive as it was then, and the log.
+pub record BeginsAnew {D : Type 0} (drive : D → Drive) (w : ℕ) (b : BookView D) (spare : D) (seen : Seen) (start : D) (log : LogView D) : Type 0 where
+  pub good : failed_cell b.entries ≡ None
+  pub content : HasContent w b seen
+  pub finds : Finds w (fresh_cells w seen.world seen.leaves) seen
+  pub few : length (fresh_cells w seen.world seen.leaves) ≤ most_cells
+  pub state : IsStateOf w (fresh_cells w seen.world seen.leaves) seen.world seen.leaves
+  pub counts : log.cells ≡ seen.cells
+  pub failed : log.failed ≡ None
+  pub found : IsFound newest w most_cells (drive start) seen
+  pub ready : IsOpened w (found_state seen) (drive start) (drive log.disk)
+  pub compacted : IsCompacted w (fresh_cells w seen.world seen.leaves) (drive spare) (drive start)
+  pub on_way : KeepsOnWay w (fresh_cells w seen.world seen.leaves) (drive spare) (drive start)
+
+-- What came of the log of a book.
+pub record LeavesOf {D : Type 0} (drive : D → Drive) (Came : ℕ → Drive → Drive → Type 0) (b : BookView D) (left : D) : Type 0 where
+  pub last : D
+  pub last_is : disk_in b.log ≡ Some last
+  pub leaves : LeavesLog drive Came last left
+
+-- A store goes on from a book over another log, in which this was found on a drive as it was then, and the log so far was cleared.
+pub record GoesOn {D : Type 0} (drive : D → Drive) (b : BookView D) (seen : Seen) (start : D) (entries : List Entry) (lock : TableId) (pass : Known) (left : D) : Type 0 where
+  pub entries_are : entries ≡ b.entries
+  pub pass_is : pass ≡ first_pass lock (found_origin b.bucket seen (drive start))
+  pub leaves : LeavesOf drive Clears b left
+
+-- A book does so alone.
+pub record GoesAlone {D : Type 0} (drive : D → Drive) (Came : ℕ → Drive → Drive → Type 0) (b : BookView D) (seen : Seen) (start : D) (entries : List Entry) (new : BookView D) (left : D) : Type 0 where
+  pub entries_are : entries ≡ b.entries
+  pub origin_is : origin_of drive new ≡ found_origin b.bucket seen (drive start)
+  pub none : new.entries ≡ []
+  pub has : HasWorld new
+  pub logged : is_some new.log ≡ true
+  pub leaves : LeavesOf drive Came b left
+
+abbrev pub GoesNot : {I D P : Type 0} → (D → Drive) → BookView D → Seen → D → NotRotated I D P → Type 0
+GoesNot drive b seen start (back.Kept book left cause) = ⊥
+GoesNot drive b seen start (back.Uncleared book entries left) = GoesAlone drive (λ count. FailsToClear) b seen start entries book left
+GoesNot drive b seen start (back.Memory book entries left) = GoesAlone drive Clears b seen start entries book left

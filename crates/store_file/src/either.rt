@@ -1,0 +1,306 @@
+//! Opens a store over one of two files.
+ghost use Rattle.std.specs.Prelude.{◌≡◌, ◌⊎◌, ◌↔◌, true, false, None, IfOk, IfErr, IsTrue};
+ghost use Rattle.std.specs.Result.{IsErrAnd};
+ghost use Rattle.cell_format.specs.Spelling.{newest};
+ghost use Rattle.recovery.specs.declared.seen.OpenFault.{OpenFault};
+ghost use Rattle.recovery.specs.Found.{IsFound};
+ghost use Rattle.kept_log.specs.Kept.{IsOpened, found_state};
+ghost use Rattle.commit_book.specs.Refusals.{most_cells};
+ghost use Rattle.log_compact.specs.Clearing.{Clears, KeepsOrClears};
+ghost use Rattle.store_file.specs.Either.{Chooses, CameOf, OpensEither, RefusesEither, RefusesBoth, IsFreeEither};
+ghost use Rattle.store_file.specs.Either.{BeginsEither, BeginsNeither};
+ghost use Rattle.store_file.specs.Files.{OpensFile, CanOpen, ShowsFault};
+ghost use Rattle.store_file.specs.Opened.{BeginsOver, IsFirst};
+ghost use Rattle.store_file.specs.Refused.{is_bucket};
+
+use crate::faults::{EitherCause, NotEither, NotOpened, OpenCause};
+use crate::files::open_file;
+use crate::opening::{OpenedStore, is_bucket, store_of};
+use crate::start::OverFile;
+use book_lock::Pass;
+use disk_trait::LogDisk;
+use index_layer::Index;
+use log_compact::{NotCleared, clear_log};
+use plain_list::World;
+use recovery::{Opened, Seen};
+use sessions::{SharedBook, Store};
+use split_log::SplitLog;
+use std::alloc::Global;
+
+/// One of two files.
+#[derive(Clone, Copy, Debug, PartialEq, Eq)]
+pub enum Which {
+    First,
+    Second,
+}
+
+/// A store that was opened over one of two files, and the pass that has all parts of it.
+pub struct OpenedEither<I: Index, D: LogDisk> {
+    pub store: Store<I, D, OverFile>,
+    pub pass: Pass<SharedBook<I, D, OverFile>>,
+    /// How many objects there are.
+    pub points: u64,
+    /// The latest moment of any of them.
+    pub latest: Option<u64>,
+    /// How many records the log has.
+    pub records: u64,
+    /// The drive of the other file, which has an empty log.
+    pub spare: D,
+    /// The file that the store goes on over.
+    pub which: Which,
+}
+
+// The logs of both files, as they were opened.
+struct Both<D: LogDisk> {
+    one: Opened<D>,
+    two: Opened<D>,
+}
+
+// A store over one log, and the drive of the other one.
+struct Taken<I: Index, D: LogDisk> {
+    opened: OpenedStore<I, D, OverFile>,
+    spare: D,
+}
+
+// Both drives, where there is no store.
+struct NotTaken<D: LogDisk> {
+    chosen: D,
+    other: D,
+    cause: EitherCause,
+}
+
+/// Opens a store over the log in one of two files, between which it may have been rotated: over the one that has records. Where both have
+/// some, a crash came between, and they leave the same objects: then the store goes on over the log with fewer. The other log is made
+/// empty. Each file is made where it isn't there, and its log where the file has at most 17 bytes.
+pub fn open_either<I: Index, D: LogDisk>(
+    alloc: Global,
+    first: D,
+    first_file: &str,
+    second: D,
+    second_file: &str,
+    bucket: u32,
+) -> Result<OpenedEither<I, D>, NotEither<D>>
+    ensures opened { IfOk result (λ o. OpensEither D.drive I.WIDTH bucket first_file.now second_file.now first second
+        o.which o.store o.pass o.points o.latest o.records o.spare) }
+    ensures first { IfOk result (λ o. IsFirst o.store o.pass) }
+    ensures refused { IfErr result (λ e. RefusesEither D.drive I.WIDTH bucket first_file.now second_file.now first second
+        e.first e.second e.cause) }
+    ensures bucket { is_bucket bucket ≡ false → IsErrAnd result (λ e. e.cause ≡ EitherCause.Bucket) }
+    ensures exact_first { (fault : OpenFault) → is_bucket bucket ≡ true → ShowsFault I.WIDTH (D.drive first) fault
+        → IsErrAnd result (λ e. (e.cause ≡ EitherCause.First (OpenCause.Log fault))
+        ⊎ IsFreeEither (D.drive first) (D.drive second) (D.drive e.first) (D.drive e.second) e.cause) }
+    ensures exact_second { (fault : OpenFault) → is_bucket bucket ≡ true → CanOpen I.WIDTH (D.drive first)
+        → ShowsFault I.WIDTH (D.drive second) fault
+        → IsErrAnd result (λ e. (e.cause ≡ EitherCause.Second (OpenCause.Log fault))
+        ⊎ IsFreeEither (D.drive first) (D.drive second) (D.drive e.first) (D.drive e.second) e.cause) }
+    ensures whole { is_bucket bucket ≡ true → CanOpen I.WIDTH (D.drive first) → CanOpen I.WIDTH (D.drive second)
+        → IfErr result (λ e. (e.cause ≡ EitherCause.Differ)
+        ⊎ IsFreeEither (D.drive first) (D.drive second) (D.drive e.first) (D.drive e.second) e.cause) }
+{
+    if !is_bucket(bucket) {
+        return Err(NotEither {
+            first,
+            second,
+            cause: EitherCause::Bucket,
+        });
+    }
+    match open_both(alloc, first, first_file, second, second_file, I::WIDTH) {
+        Ok(both) => go_on_over_either(alloc, both, bucket),
+        Err(refused) => Err(refused),
+    }
+}
+
+// Goes on over the one of two logs that were opened.
+fn go_on_over_either<I: Index, D: LogDisk>(
+    alloc: Global,
+    both: Both<D>,
+    bucket: u32,
+) -> Result<OpenedEither<I, D>, NotEither<D>>
+    requires logs { (both.one.log.cells ≡ both.one.seen.cells) × (both.one.log.failed ≡ None)
+        × (both.two.log.cells ≡ both.two.seen.cells) × (both.two.log.failed ≡ None) }
+    requires one { IsFound newest I.WIDTH most_cells (D.drive both.one.start.value) both.one.seen
+        × IsOpened I.WIDTH (found_state both.one.seen) (D.drive both.one.start.value) (D.drive both.one.log.disk) }
+    requires two { IsFound newest I.WIDTH most_cells (D.drive both.two.start.value) both.two.seen
+        × IsOpened I.WIDTH (found_state both.two.seen) (D.drive both.two.start.value) (D.drive both.two.log.disk) }
+    ensures begins { IfOk result (λ o. BeginsEither D.drive bucket both.one.seen both.two.seen both.one.log both.two.log
+        both.one.start.value both.two.start.value o.which o.store o.pass o.points o.latest o.records o.spare) }
+    ensures refused { IfErr result (λ e. BeginsNeither D.drive both.one.seen both.two.seen both.one.log both.two.log
+        e.first e.second e.cause) }
+{
+    let Both { one, two } = both;
+    match choose(&one.seen, &two.seen) {
+        Some(Which::First) => match go_on_over(alloc, one, two.log, bucket) {
+            Ok(taken) => Ok(either_of(taken, Which::First)),
+            Err(
+                NotTaken {
+                    chosen,
+                    other,
+                    cause,
+                },
+            ) => Err(NotEither {
+                first: chosen,
+                second: other,
+                cause,
+            }),
+        },
+        Some(Which::Second) => match go_on_over(alloc, two, one.log, bucket) {
+            Ok(taken) => Ok(either_of(taken, Which::Second)),
+            Err(
+                NotTaken {
+                    chosen,
+                    other,
+                    cause,
+                },
+            ) => Err(NotEither {
+                first: other,
+                second: chosen,
+                cause,
+            }),
+        },
+        None => Err(NotEither {
+            first: one.log.give_back(),
+            second: two.log.give_back(),
+            cause: EitherCause::Differ,
+        }),
+    }
+}
+
+// Opens the log of each file.
+fn open_both<D: LogDisk>(
+    alloc: Global,
+    first: D,
+    first_file: &str,
+    second: D,
+    second_file: &str,
+    width: u8,
+) -> Result<Both<D>, NotEither<D>>
+    requires { (width ≡ 1) ⊎ (width ≡ 2) }
+
+    ensures one { IfOk result (λ b. OpensFile width first_file.now (D.drive first)
+        (D.drive b.one.start.value) (D.drive b.one.log.disk) b.one.seen) }
+    ensures two { IfOk result (λ b. OpensFile width second_file.now (D.drive second)
+        (D.drive b.two.start.value) (D.drive b.two.log.disk) b.two.seen) }
+    ensures logs { IfOk result (λ b. (b.one.log.cells ≡ b.one.seen.cells) × (b.one.log.failed ≡ None)
+        × (b.two.log.cells ≡ b.two.seen.cells) × (b.two.log.failed ≡ None)) }
+    ensures refused { IfErr result (λ e. RefusesBoth D.drive width first_file.now second_file.now first second e.first e.second e.cause) }
+    ensures exact_first { (fault : OpenFault) → ShowsFault width (D.drive first) fault
+        → IsErrAnd result (λ e. (e.cause ≡ EitherCause.First (OpenCause.Log fault))
+        ⊎ IsFreeEither (D.drive first) (D.drive second) (D.drive e.first) (D.drive e.second) e.cause) }
+    ensures exact_second { (fault : OpenFault) → CanOpen width (D.drive first) → ShowsFault width (D.drive second) fault
+        → IsErrAnd result (λ e. (e.cause ≡ EitherCause.Second (OpenCause.Log fault))
+        ⊎ IsFreeEither (D.drive first) (D.drive second) (D.drive e.first) (D.drive e.second) e.cause) }
+    ensures whole { CanOpen width (D.drive first) → CanOpen width (D.drive second)
+        → IfErr result (λ e. IsFreeEither (D.drive first) (D.drive second) (D.drive e.first) (D.drive e.second) e.cause) }
+{
+    let one = match open_file(alloc, first, first_file, width) {
+        Ok(one) => one,
+        Err(NotOpened { disk, cause }) => {
+            return Err(NotEither {
+                first: disk,
+                second,
+                cause: EitherCause::First { cause },
+            });
+        }
+    };
+    match open_file(alloc, second, second_file, width) {
+        Ok(two) => Ok(Both { one, two }),
+        Err(NotOpened { disk, cause }) => Err(NotEither {
+            first: one.log.give_back(),
+            second: disk,
+            cause: EitherCause::Second { cause },
+        }),
+    }
+}
+
+// The log that is gone on with, where the other one has no cells, or both leave the same objects.
+fn choose(one: &Seen, two: &Seen) -> Option<Which>
+    ensures { Chooses one.now two.now result }
+{
+    if two.cells == 0 {
+        return Some(Which::First);
+    }
+    if one.cells == 0 {
+        return Some(Which::Second);
+    }
+    if !is_same_world(&one.world, &two.world) {
+        return None;
+    }
+    if one.cells <= two.cells {
+        Some(Which::First)
+    } else {
+        Some(Which::Second)
+    }
+}
+
+fn is_same_world(one: &World, two: &World) -> bool
+    ensures { IsTrue result ↔ one.now ≡ two.now }
+{
+    one.as_slice() == two.as_slice()
+}
+
+// Empties the one log, and begins a store over the other one.
+fn go_on_over<I: Index, D: LogDisk>(
+    alloc: Global,
+    chosen: Opened<D>,
+    other: SplitLog<D>,
+    bucket: u32,
+) -> Result<Taken<I, D>, NotTaken<D>>
+    requires log { (chosen.log.cells ≡ chosen.seen.cells) × (chosen.log.failed ≡ None) }
+    requires found { IsFound newest I.WIDTH most_cells (D.drive chosen.start.value) chosen.seen }
+    requires ready { IsOpened I.WIDTH (found_state chosen.seen) (D.drive chosen.start.value) (D.drive chosen.log.disk) }
+    requires other { other.failed ≡ None }
+    ensures begins { IfOk result (λ t. BeginsOver D.drive bucket chosen.seen chosen.start.value
+        t.opened.store t.opened.pass t.opened.points t.opened.latest t.opened.records) }
+    ensures cleared { IfOk result (λ t. Clears other.cells (D.drive other.disk) (D.drive t.spare)
+        × KeepsOrClears (D.drive other.disk) (D.drive t.spare)) }
+    ensures back { IfErr result (λ e. (e.chosen ≡ chosen.log.disk) × CameOf other.cells e.cause (D.drive other.disk) (D.drive e.other)
+        × KeepsOrClears (D.drive other.disk) (D.drive e.other)) }
+{
+    let cleared = clear_log(other);
+    let spare = match cleared {
+        Ok(spare) => spare,
+        Err(NotCleared { disk }) => {
+            return Err(NotTaken {
+                chosen: chosen.log.give_back(),
+                other: disk,
+                cause: EitherCause::Disk,
+            });
+        }
+    };
+    match store_of(alloc, chosen, bucket) {
+        Ok(opened) => Ok(Taken { opened, spare }),
+        Err(NotOpened { disk, .. }) => Err(NotTaken {
+            chosen: disk,
+            other: spare,
+            cause: EitherCause::Memory,
+        }),
+    }
+}
+
+fn either_of<I: Index, D: LogDisk>(taken: Taken<I, D>, which: Which) -> OpenedEither<I, D>
+    ensures store { result.store ≡ taken.opened.store }
+    ensures pass { result.pass ≡ taken.opened.pass }
+    ensures points { result.points ≡ taken.opened.points }
+    ensures latest { result.latest ≡ taken.opened.latest }
+    ensures records { result.records ≡ taken.opened.records }
+    ensures spare { result.spare ≡ taken.spare }
+    ensures which { result.which ≡ which }
+{
+    let Taken { opened, spare } = taken;
+    let OpenedStore {
+        store,
+        pass,
+        points,
+        latest,
+        records,
+    } = opened;
+    OpenedEither {
+        store,
+        pass,
+        points,
+        latest,
+        records,
+        spare,
+        which,
+    }
+}
