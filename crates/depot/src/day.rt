@@ -17,7 +17,9 @@ use std::alloc::Global;
 use std::sync::Wait;
 use std::thread::Threads;
 use store_client::{Client, Worker, apart, at_once};
-use store_file::{OverFile, close_store, renew_store};
+use store_file::{
+    NotRotated, OverFile, RotateCause, Rotated, close_store, renew_store, rotate_store,
+};
 
 /// The company's store over a file, on any drive.
 pub type Vans<D> = Store<KdTrie, D, OverFile>;
@@ -41,12 +43,13 @@ pub struct DayEnd {
     pub room: Room,
 }
 
-/// Two days over a store. It is closed, and its drive with it.
+/// Two days over a store, which goes on over a second file then. It is closed, and the drives with it.
 pub fn play_days<D: LogDisk + Send, R: Threads + Wait + Sync>(
     rt: &R,
     alloc: Global,
     vans: Vans<D>,
     pass: VanPass<D>,
+    spare: D,
     day: Day,
 ) -> Result<[DayEnd; 2], Trouble>
     requires { IsFirst vans pass }
@@ -54,6 +57,7 @@ pub fn play_days<D: LogDisk + Send, R: Threads + Wait + Sync>(
     let (pass, first) = play_day(rt, alloc, &vans, pass, day);
     let (vans, pass) = end_day(alloc, vans, pass)?;
     let (pass, second) = play_day(rt, alloc, &vans, pass, day.next());
+    let (vans, pass) = end_days(alloc, vans, pass, spare)?;
     match close_store(vans, pass).lost {
         Some(cell) => Err(Trouble::Lost { cell }),
         None => Ok([first?, second?]),
@@ -83,8 +87,7 @@ fn play_day<D: LogDisk + Send, R: Threads + Wait + Sync>(
     }
 }
 
-// The end of a day: the next one begins with an empty history, over the same log. Where that has grown long, it would be exchanged for a
-// fresh one here.
+// The end of a day: the next one begins with an empty history, over the same log.
 fn end_day<D: LogDisk>(
     alloc: Global,
     vans: Vans<D>,
@@ -108,6 +111,36 @@ fn end_day<D: LogDisk>(
             },
         ) => Err(Trouble::Lost { cell }),
         Err(_) => Err(Trouble::NoDay),
+    }
+}
+
+// The end of the days: the store goes on over a fresh log in the other file.
+fn end_days<D: LogDisk>(
+    alloc: Global,
+    vans: Vans<D>,
+    pass: VanPass<D>,
+    spare: D,
+) -> Result<(Vans<D>, VanPass<D>), Trouble>
+    requires { IsFirst vans pass }
+    ensures { IfOk result (λ next. IsFirst next.0 next.1) }
+{
+    match rotate_store(alloc, vans, pass, spare) {
+        Ok(
+            Rotated {
+                store,
+                pass,
+                entries: _,
+                spare: _,
+            },
+        ) => Ok((store, pass)),
+        Err(
+            NotRotated::Kept {
+                book: _,
+                spare: _,
+                cause: RotateCause::Closed { cell },
+            },
+        ) => Err(Trouble::Lost { cell }),
+        Err(_) => Err(Trouble::NoFile),
     }
 }
 

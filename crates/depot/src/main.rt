@@ -1,7 +1,8 @@
 //! A delivery company over the store and a log: for two days four drivers report where their vans are, each in a thread of their own, and
-//! watch who leaves the yard and comes back. What they report is kept in the file `depot.log`. A run makes that log where there is none,
-//! and else goes on with the one that it finds, where the last run left the vans. Between the days the store is renewed: its history
-//! begins anew. When the days are over, the log is opened again, and each van is asked for.
+//! watch who leaves the yard and comes back. What they report is kept in a log in one of two files, `depot.log` and `depot.next.log`. A run
+//! makes them where they aren't there, and else goes on with what it finds, where the last run left the vans. Between the days the store is
+//! renewed: its history begins anew. When the days are over it is rotated into the other file, where there is a record for each van and none
+//! for where it was before. Then both are opened again, and each van is asked for.
 //!
 //! What it prints is the same however the threads run: the drivers report vans of their own, each in a quarter of the town of their own,
 //! and a leaf is split where it has too many vans, however they came there. So what each is told, and how many entries and records there
@@ -27,11 +28,13 @@ use std::io::Print;
 use std::process::ExitCode;
 use std::sync::Wait;
 use std::thread::Threads;
-use store_file::{NotOpened, OpenedStore, OverFile, open_store};
+use store_file::{NotEither, OpenedEither, Which, open_either};
 use trouble::Trouble;
 use yard::Day;
 
-const LOG: &str = "depot.log";
+const FIRST: &str = "depot.log";
+
+const SECOND: &str = "depot.next.log";
 
 // How many vans a leaf should have.
 const BUCKET: u32 = 4;
@@ -54,57 +57,80 @@ fn tell_day(rt: &impl Print, number: usize, end: &DayEnd) -> io::Result<()> {
     )
 }
 
-// The store over the log.
+fn file_of(which: Which) -> &'static str {
+    match which {
+        Which::First => FIRST,
+        Which::Second => SECOND,
+    }
+}
+
+// The store over the log in one of the files.
 fn open_vans<D: LogDisk>(
     alloc: Global,
-    disk: D,
-) -> Result<OpenedStore<KdTrie, D, OverFile>, Trouble>
+    first: D,
+    second: D,
+) -> Result<OpenedEither<KdTrie, D>, Trouble>
     ensures { IfOk result (λ o. IsFirst o.store o.pass) }
 {
-    match open_store::<KdTrie, D>(alloc, disk, LOG, BUCKET) {
+    match open_either::<KdTrie, D>(alloc, first, FIRST, second, SECOND, BUCKET) {
         Ok(opened) => Ok(opened),
-        Err(NotOpened { disk: _, cause }) => Err(Trouble::Open(cause)),
+        Err(
+            NotEither {
+                first: _,
+                second: _,
+                cause,
+            },
+        ) => Err(Trouble::Open(cause)),
     }
 }
 
 // Plays two days over the log, from the latest moment on that the log knows. Gives the last one.
 fn work<R: Threads + Wait + Sync + AllocGlobal + Print, D: LogDisk + Send>(
     rt: &R,
-    disk: D,
+    first: D,
+    second: D,
 ) -> Result<Day, Trouble> {
     let alloc = rt.alloc();
-    let OpenedStore {
+    let OpenedEither {
         store,
         pass,
         points,
         latest,
         records,
-    } = open_vans(alloc, disk)?;
+        spare,
+        which,
+    } = open_vans(alloc, first, second)?;
     let day = Day::behind(latest.unwrap_or(0));
-    let days = play_days(rt, alloc, store, pass, day);
-    println!(rt; "{LOG}: {points} vans in {records} records")?;
+    let days = play_days(rt, alloc, store, pass, spare, day);
+    println!(rt; "{}: {points} vans in {records} records", file_of(which))?;
     let [first, second] = days?;
     tell_day(rt, 1, &first)?;
     tell_day(rt, 2, &second)?;
     Ok(day.next())
 }
 
-// Opens the log again, as the next run will, and asks for each van.
+// Opens both files again, as the next run will, and asks for each van.
 fn look_again<R: Wait + AllocGlobal + Print, D: LogDisk>(
     rt: &R,
-    disk: D,
+    first: D,
+    second: D,
     day: Day,
 ) -> Result<(), Trouble> {
     let alloc = rt.alloc();
-    let OpenedStore {
+    let OpenedEither {
         store,
         pass,
         points,
         latest: _,
         records,
-    } = open_vans(alloc, disk)?;
+        spare: _,
+        which,
+    } = open_vans(alloc, first, second)?;
     let found = look_after(rt, alloc, store, pass, day);
-    println!(rt; "{LOG}: opened again, {points} vans in {records} records")?;
+    println!(rt;
+        "{}: opened again, {points} vans in {records} records",
+        file_of(which)
+    )?;
     for (i, found) in found.iter().enumerate() {
         println!(rt; "driver {}: {found} vans where they were left", i + 1)?;
     }
@@ -116,20 +142,35 @@ fn drive<R: Files + Clone + Drop>(rt: &R) -> io::Result<FileDisk<R>> {
     Ok(FileDisk::new(rt.clone()?))
 }
 
+// The drives of a run: two for its days, and two for the opening behind them.
+struct Drives<D> {
+    days: [D; 2],
+    again: [D; 2],
+}
+
+fn four_drives<R: Files + Clone + Drop>(rt: &R) -> io::Result<Drives<FileDisk<R>>> {
+    Ok(Drives {
+        days: [drive(rt)?, drive(rt)?],
+        again: [drive(rt)?, drive(rt)?],
+    })
+}
+
 fn run<R: Threads + Wait + Sync + AllocGlobal + Print, D: LogDisk + Send>(
     rt: &R,
-    disk: D,
-    again: D,
+    drives: Drives<D>,
 ) -> Result<(), Trouble> {
-    let day = work(rt, disk)?;
-    look_again(rt, again, day)
+    let Drives { days, again } = drives;
+    let [first, second] = days;
+    let day = work(rt, first, second)?;
+    let [first, second] = again;
+    look_again(rt, first, second, day)
 }
 
 fn main(rt: HostRuntime) -> ExitCode {
-    let (Ok(disk), Ok(again)) = (drive(&rt), drive(&rt)) else {
+    let Ok(drives) = four_drives(&rt) else {
         return ExitCode::FAILURE;
     };
-    match run(&rt, disk, again) {
+    match run(&rt, drives) {
         Ok(()) => ExitCode::SUCCESS,
         Err(trouble) => {
             let _ = println!(rt; "{trouble}");

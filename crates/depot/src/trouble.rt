@@ -1,13 +1,13 @@
 //! What may end a run early.
 use std::io;
-use store_file::OpenCause;
+use store_file::EitherCause;
 use thiserror::Error;
 
 /// Why a run ended early. Each change that a driver was told of is in the log.
 #[derive(Debug, Drop, Error)]
 pub enum Trouble {
     #[error("the store isn't opened: {0}")]
-    Open(OpenCause),
+    Open(EitherCause),
     /// The drive failed in the append of this record. The log takes no more until it is opened anew.
     #[error("record {cell} isn't in the log, or may not be")]
     Lost { cell: u64 },
@@ -15,6 +15,8 @@ pub enum Trouble {
     NoDrivers,
     #[error("no day begins any more")]
     NoDay,
+    #[error("the store doesn't go on in the other file")]
+    NoFile,
     #[error("{0}")]
     Output(#[from] io::Error),
 }
