@@ -1,5 +1,6 @@
 //! Tests of the lock by itself, and of sessions that run at once: passes by hand, lanes in an order that a gate makes, also such as a store
-//! runs by itself, and sixteen lanes together; the index that one of them watches; the verbs of a client; and a store that is renewed.
+//! runs by itself, and sixteen lanes together; the index that one of them watches; the verbs of a client; a store that is renewed; and
+//! stores over files, also where they go on over a second one.
 #![tactic(auto)]
 
 // `assert!` and `assert_eq!` as calls: the proof of a function with several of them is much shorter so.
@@ -23,6 +24,8 @@ mod checks;
 mod clients;
 #[cfg(test)]
 mod crowds;
+#[cfg(test)]
+mod files;
 #[cfg(test)]
 mod fixtures;
 #[cfg(test)]
