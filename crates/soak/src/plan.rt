@@ -1,0 +1,45 @@
+//! What is to be run.
+use plain_list::Op;
+
+/// The most entries of a history.
+const MOST_ENTRIES: u64 = 4_194_304;
+
+/// How much is asked, and by how many.
+#[derive(Clone, Copy)]
+pub struct Plan {
+    /// How many calls there are in all.
+    pub calls: u64,
+    /// How many threads make them.
+    pub threads: u8,
+    /// How many objects there may be.
+    pub objects: u32,
+    pub seed: u64,
+    /// How many entries a history gets, about, before the store goes on with another one.
+    pub entries: u64,
+}
+
+impl Plan {
+    /// How many calls a thread makes.
+    pub fn share(&self, session: u8) -> u64 {
+        let threads = u64::from(self.threads.max(1));
+        match threads.checked_sub(1 + u64::from(session)) {
+            Some(behind) => self.calls.saturating_add(behind) / threads,
+            None => 0,
+        }
+    }
+
+    /// Whether a history has so many entries that the threads are to meet, where this is the room that is left.
+    pub fn is_over(&self, room: u64) -> bool {
+        MOST_ENTRIES.saturating_sub(room) >= self.entries
+    }
+
+    /// Whether what a call is told is looked at, by its place in the history.
+    pub fn looks_at(&self, op: &Op, place: u64) -> bool {
+        match op {
+            Op::Within { .. } | Op::Near { .. } => {
+                place % u64::from(self.objects / 100).max(1) == 0
+            }
+            _ => true,
+        }
+    }
+}

@@ -1,0 +1,154 @@
+//! The calls of a thread.
+ghost use Rattle.plain_list.specs.Answer.{IsValid};
+ghost use Rattle.zorder.specs.Region.{IsBox};
+ghost use Rattle.store_client.specs.Caller.{Keeps};
+
+use crate::dice::Dice;
+use crate::plan::Plan;
+use disk_trait::LogDisk;
+use index_layer::Index;
+use plain_list::{Answer, Op};
+use sessions::{CallFault, Start};
+use std::alloc::Global;
+use std::sync::Wait;
+use store_client::{Client, Work};
+use zorder::{Point, Region};
+
+// How many calls a thread makes from one look at the room to the next.
+const LOOK: u64 = 64;
+
+/// What a thread was told by a call, where that is looked at, and where the call stands among those of the history, from 1.
+#[derive(Drop)]
+pub struct Noted {
+    pub place: u64,
+    pub answer: Option<Answer>,
+}
+
+/// A thread of calls by the dice, and what it was told since the history began.
+#[derive(Drop)]
+pub struct Soaker {
+    dice: Dice,
+    plan: Plan,
+    /// How many calls it is still to make.
+    pub left: u64,
+    moment: u64,
+    // Where it put or moved an object last.
+    last: Point,
+    pub replies: Vec<Noted>,
+    /// Why a call was refused.
+    pub fault: Option<CallFault>,
+}
+
+impl Soaker {
+    pub fn new(alloc: Global, plan: Plan, session: u8) -> Soaker {
+        Soaker {
+            dice: Dice::new(plan.seed, session),
+            plan,
+            left: plan.share(session),
+            moment: 0,
+            last: Point { x: 0, y: 0 },
+            replies: Vec::new(alloc),
+            fault: None,
+        }
+    }
+
+    // One place in eight is in a small corner, where leaves are split again and again.
+    fn place(&mut self) -> Point {
+        let small = if self.dice.below(8) == 0 { 8 } else { 0 };
+        Point {
+            x: self.dice.any() >> small,
+            y: self.dice.any() >> small,
+        }
+    }
+
+    // A box around the last place: it has some dozens of objects where these are spread over all places, and one dozen in the small
+    // corner. One in 64 is large.
+    fn region(&mut self) -> Region
+        ensures { IsBox result }
+    {
+        let Point { x: a, y: b } = self.last;
+        let corner = if (a | b) >> 24 == 0 { 8 } else { 0 };
+        let dense = (self.plan.objects / 64).max(1).ilog2() / 2;
+        let narrow = if self.dice.below(64) == 0 {
+            0
+        } else {
+            dense + corner
+        };
+        let most = u32::MAX >> narrow;
+        let (x, y) = (self.dice.below(most), self.dice.below(most));
+        Region {
+            lo: Point {
+                x: a.saturating_sub(x),
+                y: b.saturating_sub(y),
+            },
+            hi: Point {
+                x: a.saturating_add(x),
+                y: b.saturating_add(y),
+            },
+        }
+    }
+
+    // Of a hundred calls 12 put an object, 55 move one, 4 drop one, 14 look for one, and 8 and 7 ask for a box and for the nearest. One
+    // put or move in twelve comes late.
+    fn next_op(&mut self) -> Op
+        ensures { IsValid result }
+    {
+        self.moment = self.moment.saturating_add(1);
+        let late = if self.dice.below(12) == 0 { 2 } else { 1 };
+        let id = u64::from(self.dice.below(self.plan.objects.max(1)));
+        let (at, moment) = (self.place(), self.moment / late);
+        let kind = self.dice.below(100);
+        if kind < 67 {
+            self.last = at;
+        }
+        match kind {
+            0..=11 => Op::Put { id, at, moment },
+            12..=66 => Op::Move { id, at, moment },
+            67..=70 => Op::Remove { id },
+            71..=84 => Op::Find { id },
+            85..=92 => Op::Within {
+                region: self.region(),
+            },
+            _ => Op::Near {
+                at: self.last,
+                k: self.dice.below(16) + 1,
+            },
+        }
+    }
+
+    fn note(&mut self, op: &Op, place: u64, answer: Answer) {
+        self.left = self.left.saturating_sub(1);
+        let answer = if self.plan.looks_at(op, place) {
+            Some(answer)
+        } else {
+            None
+        };
+        if self.replies.push(Noted { place, answer }).is_err() {
+            self.fault = Some(CallFault::Memory { place: Some(place) });
+        }
+    }
+}
+
+impl Work for Soaker {
+    fn work<R: Wait, I: Index, D: LogDisk, O: Start>(
+        &mut self,
+        rt: &R,
+        client: &mut Client<'_, I, D, O>,
+    )
+        ensures client { Keeps client.old client.new }
+    {
+        for call in 0..u64::MAX {
+            if self.left == 0 || self.fault.is_some() {
+                return;
+            }
+            if call % LOOK == 0 && self.plan.is_over(client.room(rt).entries) {
+                return;
+            }
+            let op = self.next_op();
+            match client.ask(rt, &op) {
+                Ok(reply) => self.note(&op, reply.place, reply.answer),
+                Err(fault) => self.fault = Some(fault),
+            }
+        }
+    }
+}

@@ -1,0 +1,35 @@
+//! What ends a run early.
+use plain_list::Op;
+use sessions::CallFault;
+use std::alloc::AllocError;
+use std::io;
+use thiserror::Error;
+
+/// Why a run ended early.
+#[derive(Debug, Drop, Error)]
+pub enum Trouble {
+    #[error("out of memory")]
+    Memory,
+    #[error("a call was refused: {0:?}")]
+    Refused(#[from] CallFault),
+    #[error("the store wasn't renewed")]
+    NotRenewed,
+    #[error("call {place}, {op:?}, wasn't told what it should be")]
+    Answer { place: u64, op: Op },
+    #[error("nobody was told of call {place} of the history")]
+    Nobody { place: u64 },
+    #[error("the history has {calls} calls, and {replies} were answered")]
+    Count { calls: u64, replies: u64 },
+    #[error("the store has {found} objects, and should have {should}")]
+    Number { found: u64, should: u64 },
+    #[error("object {id} isn't found where it should be")]
+    Object { id: u64 },
+    #[error("{0}")]
+    Output(#[from] io::Error),
+}
+
+impl From<AllocError> for Trouble {
+    fn from(_: AllocError) -> Trouble {
+        Trouble::Memory
+    }
+}
