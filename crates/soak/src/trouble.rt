@@ -3,6 +3,7 @@ use plain_list::Op;
 use sessions::CallFault;
 use std::alloc::AllocError;
 use std::io;
+use store_file::{EitherCause, RotateCause};
 use thiserror::Error;
 
 /// Why a run ended early.
@@ -10,10 +11,18 @@ use thiserror::Error;
 pub enum Trouble {
     #[error("out of memory")]
     Memory,
+    #[error("two files are wanted")]
+    Words,
+    #[error("the store isn't opened: {0}")]
+    Open(EitherCause),
+    #[error("the files have {points} objects, and should have none")]
+    InUse { points: u64 },
     #[error("a call was refused: {0:?}")]
     Refused(#[from] CallFault),
     #[error("the store wasn't renewed")]
     NotRenewed,
+    #[error("the store wasn't rotated: {0}")]
+    NotRotated(RotateCause),
     #[error("call {place}, {op:?}, wasn't told what it should be")]
     Answer { place: u64, op: Op },
     #[error("nobody was told of call {place} of the history")]
