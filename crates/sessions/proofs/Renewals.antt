@@ -2,6 +2,7 @@
 use Rattle.std.proofs.Common.{◌≡◌, ℕ, ◌+◌, List, length, Option, Some, None, refl, sym, ap, subst, ◌∙◌}
 use Rattle.std.specs.Option.{option_map}
 use Rattle.plain_list.specs.declared.entries.Entry.{Entry}
+use Rattle.plain_list.specs.History.{world_after}
 use Rattle.plain_list.specs.State.{State}
 use Rattle.plain_list.specs.World.{IsWorld}
 use Rattle.plain_list.proofs.Histories.{state_after-world}
@@ -35,3 +36,8 @@ module _ {D : Type 0} (drive : D → Drive) (w : ℕ) (b : BookView D) (is : IsB
 
   pub room-seen : room_of b ≡ room_at origin seen
   room-seen i = room_beside (cells-are i) (length (entries i))
+
+-- the objects after all that a pass has seen are those of the book that it took
+pub world-seen : {D : Type 0} (drive : D → Drive) (b : BookView D) (origin : Origin) (seen : List Entry) → origin_of drive b ≡ origin → b.entries ≡ seen
+    → world_after b.opening.world b.entries ≡ world_after origin.world seen
+world-seen drive b origin seen from entries i = world_after (from i).world (entries i)

@@ -20,7 +20,7 @@ use book_lock::Held;
 use commit_book::{Book, BookFault, Done, RenewFault, Room, Snapshot};
 use disk_trait::LogDisk;
 use index_layer::Index;
-use plain_list::{Entries, Op};
+use plain_list::{Entries, Op, World};
 use split_prepare::{Prepared, SplitTicket};
 use std::alloc::{AllocFailed, Global};
 use std::marker::{Model, PhantomData};
@@ -119,6 +119,15 @@ impl<I: Index, D: LogDisk, O: Start> SharedBook<I, D, O> {
         ensures book { IsBook D.drive I.WIDTH self.now }
     {
         self.book.room()
+    }
+
+    /// Copies the objects.
+    pub(crate) fn world(&self) -> Result<World, Memory>
+        ensures world { IfOk result (λ w. w ≡ world_after self.now.opening.world self.now.entries) }
+        ensures is_world { IfOk result (λ w. IsWorld w) }
+    {
+        let content = self.book.content()?;
+        Ok(content.world)
     }
 
     /// The leaf that is to be split next, or that the book is closed.

@@ -1,5 +1,7 @@
-//! A store that goes on with an empty history, and the room that is left in one.
+//! A store that goes on with an empty history, the room that is left in one, and the objects as they are.
 ghost use Rattle.std.specs.Prelude.{◌≡◌, false, IfOk, IfErr};
+ghost use Rattle.plain_list.specs.History.{world_after};
+ghost use Rattle.plain_list.specs.World.{IsWorld};
 ghost use Rattle.commit_book.specs.BookView.{BookView};
 ghost use Rattle.commit_book.specs.Renewal.{renewed};
 ghost use Rattle.sessions.specs.Renewals.{room_at, store_refusal, refusal_of, ComesOut, IsRenewed, IsBack, StartsBack};
@@ -14,9 +16,10 @@ use book_lock::{BookLock, Pass};
 use commit_book::{Book, RenewFault, Room};
 use disk_trait::LogDisk;
 use index_layer::Index;
-use plain_list::Entries;
+use plain_list::{Entries, World};
 use std::alloc::Global;
 use std::sync::Wait;
+use zorder::Memory;
 
 /// A store whose history begins anew.
 pub struct Renewed<I: Index, D: LogDisk, O: Start> {
@@ -48,6 +51,24 @@ impl<I: Index, D: LogDisk, O: Start> Store<I, D, O> {
         let room = book.room();
         self.put_back(pass, book, false);
         room
+    }
+
+    /// Copies the objects as they are, behind all that the pass has seen. Who calls meanwhile waits.
+    pub fn world<R: Wait>(
+        &self,
+        rt: &R,
+        pass: &mut Pass<SharedBook<I, D, O>>,
+    ) -> Result<World, Memory>
+        requires lock { pass.old.lock ≡ self.now }
+        requires off { pass.old.holds ≡ false }
+        ensures looked { HasLooked pass.old pass.new }
+        ensures world { IfOk result (λ w. w ≡ world_after pass.new.origin.world pass.new.seen) }
+        ensures is_world { IfOk result (λ w. IsWorld w) }
+    {
+        let book = self.take(rt, pass);
+        let world = book.world();
+        self.put_back(pass, book, false);
+        world
     }
 
     /// Ends the store, and begins one with an empty history where that one's ends: the objects, the leaves and the log stay where they are.
