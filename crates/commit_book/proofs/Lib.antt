@@ -7,6 +7,7 @@ pub mod OnLog
 pub mod RefusalLemmas
 pub mod Rotations
 pub mod Sent
+pub mod SizedLeaves
 pub mod SplitCalls
 pub mod SplitCells
 pub mod StillWorlds

@@ -33,12 +33,13 @@ use point_table::PointTable;
 use recovery::Opened;
 pub use renewal::Room;
 pub use rotation::{Content, Replaced};
+pub use splits::{MOST_CELLS_TO_BEGIN, MOST_EVENTS_TO_BEGIN};
 use std::alloc::Global;
 use std::marker::Model;
 use zorder::{Memory, Name};
 
-/// The most events of a run.
-const MOST_EVENTS: u64 = 4_194_304;
+/// The most entries of a history.
+pub const MOST_EVENTS: u64 = 4_194_304;
 
 /// A book's answer to a change or a find.
 #[derive(Drop)]
@@ -151,6 +152,13 @@ impl<I: Index, D: LogDisk> Book<I, D> {
     {
         self.keep();
         self.history.len() as u64
+    }
+
+    /// The bucket size.
+    pub fn bucket(&self) -> u32
+        ensures { result ≡ self.now.bucket }
+    {
+        self.table.size()
     }
 
     /// Whether there is a log, whose device each change waits for.

@@ -1,5 +1,5 @@
 //! A book that goes on over another log, and what is written there before.
-ghost use Rattle.std.specs.Prelude.{◌≡◌, None, IfOk};
+ghost use Rattle.std.specs.Prelude.{◌≡◌, [], ◌∷◌, None, IfOk};
 ghost use Rattle.cell_format.specs.Spelling.{newest};
 ghost use Rattle.plain_list.specs.History.{world_after};
 ghost use Rattle.plain_list.specs.State.{ComesBySplits, state_after};
@@ -19,11 +19,12 @@ use disk_trait::LogDisk;
 use index_layer::Index;
 use kept_log::Journal;
 use plain_list::{Entries, World};
+use point_table::PointTable;
 use recovery::{Leaves, Opened};
 use split_log::SplitLog;
 use std::alloc::Global;
 use std::mem::replace;
-use zorder::Memory;
+use zorder::{Memory, Name};
 
 /// The objects and the names of the leaves as they are.
 #[derive(Drop)]
@@ -32,7 +33,7 @@ pub struct Content {
     pub leaves: Leaves,
 }
 
-/// What a book hands out that goes on over another log.
+/// What a book hands out that goes on over another log, or ends.
 #[derive(Drop)]
 pub struct Replaced<D: LogDisk> {
     /// The history so far.
@@ -42,6 +43,22 @@ pub struct Replaced<D: LogDisk> {
 }
 
 impl<I: Index, D: LogDisk> Book<I, D> {
+    /// A book over these objects, all of them in one leaf, with no log. `bucket` is from 4 to 4,096.
+    pub fn over(alloc: Global, world: &World, bucket: u32) -> Result<Book<I, D>, Memory>
+        ensures { IfOk result (λ b. (b.opening ≡ record { world = world.now; leaves = [] ∷ []; splits = []; begun = 0 })
+            × (b.entries ≡ []) × (b.bucket ≡ bucket) × (b.log ≡ None)) }
+    {
+        let whole = [Name::whole()];
+        let table = PointTable::built(alloc, world, &whole, bucket)?;
+        Ok(Book {
+            opening: Opening::of(&table, 0),
+            table,
+            splits: OpenSplits::after(alloc, 0),
+            history: History::new(alloc),
+            journal: Journal::none(),
+        })
+    }
+
     /// Copies the objects and the names of the leaves. Splits that are open aren't part of it.
     pub fn content(&self) -> Result<Content, Memory>
         ensures world { IfOk result (λ c. c.world ≡ world_after self.now.opening.world self.now.entries) }
@@ -80,6 +97,17 @@ impl<I: Index, D: LogDisk> Book<I, D> {
         Replaced {
             entries: Entries::from_vec(history.into_entries()),
             log: journal.into_log(),
+        }
+    }
+
+    /// Ends a book, and hands out its history and its log.
+    pub fn retire(self) -> Replaced<D>
+        ensures entries { result.entries ≡ self.entries }
+        ensures log { result.log ≡ log_in self.log }
+    {
+        Replaced {
+            entries: Entries::from_vec(self.history.into_entries()),
+            log: self.journal.into_log(),
         }
     }
 }

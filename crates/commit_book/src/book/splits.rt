@@ -20,11 +20,11 @@ use plain_list::{Entry, Lost};
 use split_prepare::{Prepared, SplitTicket};
 use zorder::Name;
 
-/// Past so many cells no split begins.
-const MOST_CELLS_TO_BEGIN: u64 = 16_000_000;
+/// Past so many records of a log no split begins.
+pub const MOST_CELLS_TO_BEGIN: u64 = 16_000_000;
 
-/// Nor past so many events.
-const MOST_EVENTS_TO_BEGIN: u64 = 4_000_000;
+/// Nor past so many entries of a history.
+pub const MOST_EVENTS_TO_BEGIN: u64 = 4_000_000;
 
 impl<I: Index, D: LogDisk> Book<I, D> {
     /// Begins a split: the leaf's rows become its base, and stay that until the split ends. The entry that ends it has its memory.
