@@ -1,5 +1,6 @@
 //! A store that goes on with an empty history, the room that is left in one, and the objects as they are.
-ghost use Rattle.std.specs.Prelude.{◌≡◌, false, IfOk, IfErr};
+ghost use Rattle.std.specs.Prelude.{◌≡◌, ℕ, length, false, IfOk, IfErr};
+ghost use Rattle.book_lock.specs.Own.{times, once_below};
 ghost use Rattle.plain_list.specs.History.{world_after};
 ghost use Rattle.plain_list.specs.World.{IsWorld};
 ghost use Rattle.commit_book.specs.BookView.{BookView};
@@ -84,6 +85,7 @@ impl<I: Index, D: LogDisk, O: Start> Store<I, D, O> {
         requires start { (b : BookView D) → ComesOut D.drive I.WIDTH O.unlogged O.is pass.origin pass.seen b
             → StartsAs D.drive N.unlogged N.is (renewed I.WIDTH b).log }
         ensures renewed { IfOk result (λ r. IsRenewed I.WIDTH pass r.entries r.store r.pass) }
+        ensures own { (p : ℕ) → times p pass.own ≡ once_below p (length pass.seen) }
         ensures refused { refusal_of result ≡ store_refusal I.WIDTH pass.origin pass.seen }
         ensures back { IfErr result (λ e. IsBack D.drive I.WIDTH pass e) }
         ensures start { IfErr result (λ e. StartsBack D.drive O.unlogged O.is N.unlogged N.is e) }
