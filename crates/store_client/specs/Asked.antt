@@ -18,13 +18,18 @@ Follows w mid new (Err fault) (Err told) = (told ≡ fault) × (new ≡ mid)
 Follows w mid new (Ok done) (Err told) = ⊥
 Follows w mid new (Err fault) (Ok reply) = ⊥
 
+-- the place of the last call that was answered: of this one, where it was
+abbrev pub last_place : ℕ → Result Reply CallFault → ℕ
+last_place before (Ok reply) = reply.place
+last_place before (Err fault) = before
+
 -- What a client promises of a call: what the store told, and the pass after that; the split behind it; and nothing else changed.
 pub record Asked (w : ℕ) (op : Op) (old new : Caller) (result : Result Reply CallFault) : Type 0 where
   pub mid : Known
   pub told : Result Done CallFault
   pub called : Called w old.session old.row op old.pass mid told
   pub follows : Follows w mid new.pass told result
-  pub client : new ≡ has_asked old new.pass
+  pub client : new ≡ has_asked old new.pass (last_place old.place result)
   pub same : SamePass old.pass new.pass
 
 -- the same, and how often a bucket was opened for it

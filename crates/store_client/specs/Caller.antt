@@ -13,11 +13,12 @@ IsFree lock pass = (pass.lock ≡ lock) × (pass.holds ≡ false)
 abbrev pub KeepsPass : Known → Known → Type 0
 KeepsPass old new = (new.lock ≡ old.lock) × (new.holds ≡ old.holds) × (new.parts ≡ old.parts)
 
--- a client: its pass, its session, and the number of its next row
+-- a client: its pass, its session, the number of its next row, and the place of its last call that was answered, or 0
 pub record Caller : Type 0 where
   pub pass : Known
   pub session : ℕ
   pub row : ℕ
+  pub place : ℕ
 
 -- a client of the same store, which began from the same, with as many parts and the same session: what no call changes
 abbrev pub Keeps : Caller → Caller → Type 0
@@ -27,9 +28,9 @@ Keeps old new = (new.pass.lock ≡ old.pass.lock) × (new.pass.parts ≡ old.pas
 abbrev pub next_row : ℕ → ℕ
 next_row row = min (row + 1) (2 ^ 32 - 1)
 
--- a client that has asked once more, and whose pass is this then
-abbrev pub has_asked : Caller → Known → Caller
-has_asked old pass = record { pass = pass; session = old.session; row = next_row old.row }
+-- a client that has asked once more: its pass is this then, and this the place of its last answer
+abbrev pub has_asked : Caller → Known → ℕ → Caller
+has_asked old pass place = record { pass = pass; session = old.session; row = next_row old.row; place = place }
 
 -- a client that has given one of its parts away
 abbrev pub without_part : Caller → Caller
@@ -37,7 +38,7 @@ without_part old = record old { pass = record old.pass { parts = old.pass.parts 
 
 -- the one that got it: it has seen the same, and has asked nothing yet
 abbrev pub with_part_of : Caller → ℕ → Caller
-with_part_of old session = record { pass = record old.pass { own = []; parts = 1 }; session = session; row = 0 }
+with_part_of old session = record { pass = record old.pass { own = []; parts = 1 }; session = session; row = 0; place = 0 }
 
 -- a client that has taken in another one's pass: it has seen what either has, and both's entries and parts are its own
 abbrev pub has_joined : Caller → Known → Caller

@@ -3,3 +3,4 @@ pub mod Asked
 pub mod Verbs
 pub mod Teams
 pub mod Objects
+pub mod Changes

@@ -31,6 +31,7 @@ pub struct Client<'s, I: Index, D: LogDisk, O: Start> {
     pub(crate) alloc: Global,
     pub(crate) session: u8,
     pub(crate) row: u32,
+    pub(crate) place: u64,
 }
 
 impl<'s, I: Index, D: LogDisk, O: Start> Model for Client<'s, I, D, O> {
@@ -38,7 +39,7 @@ impl<'s, I: Index, D: LogDisk, O: Start> Model for Client<'s, I, D, O> {
 
     ghost Value = { Caller };
 
-    ghost view = { λ c. record { pass = c.pass; session = c.session; row = c.row } };
+    ghost view = { λ c. record { pass = c.pass; session = c.session; row = c.row; place = c.place } };
 
     ghost invariant = { λ c. IsFree c.store.now c.pass };
 }
@@ -81,7 +82,7 @@ impl<'s, I: Index, D: LogDisk, O: Start> Client<'s, I, D, O> {
         session: u8,
     ) -> Client<'s, I, D, O>
         requires { IsFree store.now pass }
-        ensures { result ≡ record { pass = pass; session = session; row = 0 } }
+        ensures { result ≡ record { pass = pass; session = session; row = 0; place = 0 } }
     {
         Client {
             store,
@@ -89,6 +90,7 @@ impl<'s, I: Index, D: LogDisk, O: Start> Client<'s, I, D, O> {
             alloc,
             session,
             row: 0,
+            place: 0,
         }
     }
 
@@ -103,8 +105,16 @@ impl<'s, I: Index, D: LogDisk, O: Start> Client<'s, I, D, O> {
             alloc: _,
             session: _,
             row: _,
+            place: _,
         } = self;
         pass
+    }
+
+    /// The place of the last call that was answered, and 0 where none was: of a report, that of its move, or of the put behind that.
+    pub fn place(&self) -> u64
+        ensures { result ≡ self.now.place }
+    {
+        self.place
     }
 
     /// How many more entries the history takes, and records the log, where there is one: behind all that the client has seen.
@@ -136,6 +146,7 @@ impl<'s, I: Index, D: LogDisk, O: Start> Client<'s, I, D, O> {
             Err(fault) => return Err(fault),
         };
         let split = try_split(rt, alloc, store, pass, session, done.full);
+        self.place = done.place;
         Ok(Reply {
             place: done.place,
             answer: done.answer,

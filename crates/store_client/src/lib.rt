@@ -1,6 +1,6 @@
 //! Short calls on a store: a client is one caller, with all that it needs to ask.
 //!
-//! Contracts see a `Client` as its pass, its session and the number of its next row. `Client::ask` is a call of the store, and behind it
+//! Contracts see a `Client` as its pass, its session, the number of its next row and the place of its last answer. `Client::ask` is a call of the store, and behind it
 //! the split of the leaf that the call tells to be full: `Asked` says what both leave. The verbs (`put`, `move_to`, `remove`, `find`,
 //! `within`, `nearest`) are the same call, each with just the answers that it may have, and `report` is a move or a put, as it takes.
 //! `at_once` lets each client of a team work in a thread of its own. Whatever clients do, their store, its origin, their parts and their
@@ -10,11 +10,13 @@
 #![tactic(auto)]
 
 mod answers;
+mod changes;
 mod client;
 mod crowd;
 mod shares;
 mod verbs;
 
 pub use answers::{Listed, MoveReply, PutReply, Report};
+pub use changes::Change;
 pub use client::{Client, Reply};
 pub use crowd::{Work, Worker, apart, at_once};

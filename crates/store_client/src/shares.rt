@@ -24,6 +24,7 @@ impl<'s, I: Index, D: LogDisk, O: Start> Client<'s, I, D, O> {
             alloc,
             session,
             row: 0,
+            place: 0,
         }
     }
 

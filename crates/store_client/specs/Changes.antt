@@ -1,0 +1,15 @@
+-- What a call has changed.
+use Rattle.std.specs.Prelude.{ℕ, Option, Some, None}
+use Rattle.plain_list.specs.declared.ops.Op.{Op}
+use Rattle.plain_list.specs.declared.ops.Op.TheVariants.{Put, Move, Remove}
+use Rattle.plain_list.specs.declared.ops.Answer.{Answer}
+use Rattle.plain_list.specs.declared.ops.Answer.TheVariants.{Done, Moved, Gone}
+use Rattle.store_client.specs.declared.changes.Change.{Change}
+
+-- what an operation with this answer at this place has changed: one object, which was put where it wasn't, moved from where it was kept, or
+-- removed there
+abbrev pub change_of : ℕ → Op → Answer → Option Change
+change_of place (Put id at moment) Done = Some (record { place = place; id = id; before = None; after = Some at })
+change_of place (Move id at moment) (Moved kept) = Some (record { place = place; id = id; before = Some kept.at; after = Some at })
+change_of place (Remove id) (Gone kept) = Some (record { place = place; id = id; before = Some kept.at; after = None })
+change_of place _ _ = None
