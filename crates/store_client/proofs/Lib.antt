@@ -3,3 +3,4 @@ pub mod Crossing
 pub mod Reports
 pub mod Objects
 pub mod Teams
+pub mod Hands

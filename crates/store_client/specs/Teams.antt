@@ -1,6 +1,8 @@
 -- What a team of clients did, each in a thread of its own.
-use Rattle.std.specs.Prelude.{◌≡◌, ℕ, ◌+◌, ◌<◌, List, length, slice_index_or}
-use Rattle.store_client.specs.Caller.{Caller, Keeps}
+use Rattle.std.specs.Prelude.{◌≡◌, ℕ, ◌+◌, ◌-◌, ◌%◌, ◌<◌, List, [], ◌∷◌, length, map, reverse, slice_index_or}
+use Rattle.std.specs.List.{All}
+use mathlib.Core.List.{IsPrefix}
+use Rattle.store_client.specs.Caller.{Caller, Keeps, has_joined, with_part_of}
 use Rattle.store_client.specs.declared.crowd.Worker.{Worker}
 
 module _ {I D O W P : Type 0} where
@@ -30,3 +32,42 @@ IsHired boss hand = (hand.pass.lock ≡ boss.pass.lock) × (hand.pass.parts ≡ 
 
 abbrev pub AreHired : Caller → Caller → Caller → Caller → Caller → Type 0
 AreHired boss one two three four = IsHired boss one × IsHired boss two × IsHired boss three × IsHired boss four
+
+-- the session of a hand behind so many others, where they count from this one: round at 256
+abbrev pub session_at : ℕ → ℕ → ℕ
+session_at first i = (first + i) % 256
+
+-- a client that has given so many of its parts away
+abbrev pub without_parts : ℕ → Caller → Caller
+without_parts n old = record old { pass = record old.pass { parts = old.pass.parts - n } }
+
+-- a client that has taken in the passes of all of these, one after another
+abbrev pub has_joined_all : List Caller → Caller → Caller
+has_joined_all [] old = old
+has_joined_all (hand ∷ hands) old = has_joined_all hands (has_joined old hand.pass)
+
+-- What a team did that a client has hired and taken home again: for each work there was a hand, a client that was split off, which did the
+-- work and was kept, and all hands were joined. What they are at their end is `hands`.
+pub record TeamDid {W : Type 0} (does : W → Caller → W → Caller → Type 0) (first : ℕ) (old new : Caller) (works done : List W) : Type 0 where
+  pub hands : List Caller
+  pub each : length hands ≡ length works
+  pub all : length done ≡ length works
+  pub did : (i : ℕ) (w : W) (c : Caller) → i < length works → does (slice_index_or works i w) (with_part_of old (session_at first i)) (slice_index_or done i w) (slice_index_or hands i c)
+  pub kept : (i : ℕ) (c : Caller) → i < length works → Keeps (with_part_of old (session_at first i)) (slice_index_or hands i c)
+  pub seen : All (λ (hand : Caller). IsPrefix hand.pass.seen new.pass.seen) hands
+  pub later : IsPrefix old.pass.seen new.pass.seen
+  pub joined : new ≡ has_joined_all hands (without_parts (length works) old)
+
+module _ {I D O W P : Type 0} where
+  -- A client has hired a hand for each work, the last one first: each is one that was split off.
+  pub record HasHired (first : ℕ) (old new : Caller) (works : List W) (team : List (Worker I D O W P)) : Type 0 where
+    pub works_are : works ≡ map (λ (hand : Worker I D O W P). hand.work) (reverse team)
+    pub fresh : (i : ℕ) (hand : Worker I D O W P) → i < length team → (slice_index_or team i hand).client ≡ with_part_of old (session_at first (length team - 1 - i))
+    pub given : new ≡ without_parts (length team) old
+
+  -- It has taken a team home, the last one first: their works are in this order, and their passes were joined in it.
+  pub record AreHome (old new : Caller) (team : List (Worker I D O W P)) (works : List W) : Type 0 where
+    pub works_are : works ≡ map (λ (hand : Worker I D O W P). hand.work) (reverse team)
+    pub joined : new ≡ has_joined_all (map (λ (hand : Worker I D O W P). hand.client) (reverse team)) old
+    pub seen : All (λ (hand : Caller). IsPrefix hand.pass.seen new.pass.seen) (map (λ (hand : Worker I D O W P). hand.client) (reverse team))
+    pub later : IsPrefix old.pass.seen new.pass.seen

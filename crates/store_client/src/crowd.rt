@@ -1,8 +1,9 @@
 //! Clients at once, each in a thread.
-ghost use Rattle.std.specs.Prelude.{◌≡◌, ◌≤◌, ◌∷◌, [], vec_len};
+ghost use Rattle.std.specs.Prelude.{◌≡◌, ◌≤◌, ◌<◌, ◌∷◌, [], IfOk, IfErr, vec_len, vec_capacity};
+ghost use Rattle.std.specs.List.{All};
 ghost use mathlib.Core.List.{IsPrefix};
 ghost use Rattle.store_client.specs.Caller.{Keeps, has_joined, without_part, with_part_of};
-ghost use Rattle.store_client.specs.Teams.{AllDid, AllKept, Did, HasGiven, HasTaken, IsHired};
+ghost use Rattle.store_client.specs.Teams.{AllDid, AllKept, Did, HasGiven, HasTaken, IsHired, TeamDid, HasHired, AreHome, session_at};
 
 use crate::client::Client;
 use disk_trait::LogDisk;
@@ -85,6 +86,68 @@ impl<'s, I: Index, D: LogDisk, O: Start> Client<'s, I, D, O> {
         let Worker { client, work } = worker;
         self.join(client);
         work
+    }
+}
+
+// The session of a hand behind so many others, where they count from this one.
+fn session_behind(first: u8, others: usize) -> u8
+    ensures { result ≡ session_at first others }
+{
+    first.wrapping_add((others % 256) as u8)
+}
+
+impl<'s, I: Index, D: LogDisk, O: Start> Client<'s, I, D, O> {
+    // Hires a hand for each of these works, the last one first.
+    fn hire_all<W>(&mut self, first: u8, works: &mut Vec<W>, team: &mut Vec<Worker<'s, I, D, O, W>>)
+        requires parts { vec_len works.old < self.old.pass.parts }
+        requires empty { team.old.items ≡ [] }
+        requires room { vec_len works.old ≤ vec_capacity team.old }
+        ensures hired { HasHired first self.old self.new works.old.items team.new.items }
+        ensures emptied { works.new.items ≡ [] }
+        ensures capacity { vec_capacity works.new ≡ vec_capacity works.old }
+    {
+        while let Some(work) = works.pop() {
+            let session = session_behind(first, works.len());
+            team.push_reserved(self.hire(session, work));
+        }
+    }
+
+    // Takes a team home, the last one first.
+    fn take_all_home<W>(&mut self, mut team: Vec<Worker<'s, I, D, O, W>>, works: &mut Vec<W>)
+        requires lock { All (λ hand. hand.client.pass.lock ≡ self.old.pass.lock) team.items }
+        requires empty { works.old.items ≡ [] }
+        requires room { vec_len team ≤ vec_capacity works.old }
+        ensures home { AreHome self.old self.new team.entry.items works.new.items }
+    {
+        while let Some(worker) = team.pop() {
+            works.push_reserved(self.take_home(worker));
+        }
+        team.destroy_empty();
+    }
+}
+
+impl<'s, I: Index + Send, D: LogDisk + Send, O: Start + Send> Client<'s, I, D, O> {
+    /// Lets each of these work in a thread of its own, with a client of its own that has seen what this one has, and returns when all are
+    /// done: in the order in which they came. Their sessions count from `first`, and behind 255 from 0. Where memory runs out nobody has
+    /// worked, and the works come back.
+    pub fn work_all<W: Work + Send, R: Threads + Wait + Sync>(
+        &mut self,
+        rt: &R,
+        first: u8,
+        mut works: Vec<W>,
+    ) -> Result<Vec<W>, Vec<W>>
+        requires parts { vec_len works < self.old.pass.parts }
+        ensures client { Keeps self.old self.new }
+        ensures did { IfOk result (λ done. TeamDid W.does first self.old self.new works.items done.items) }
+        ensures back { IfErr result (λ back. (back.items ≡ works.items) × (self.new ≡ self.old)) }
+    {
+        let Ok(mut team) = Vec::with_capacity(self.alloc, works.len()) else {
+            return Err(works);
+        };
+        self.hire_all(first, &mut works, &mut team);
+        at_once(rt, &mut team);
+        self.take_all_home(team, &mut works);
+        Ok(works)
     }
 }
 
