@@ -1,6 +1,8 @@
 //! A caller of a store, and its calls.
-ghost use Rattle.std.specs.Prelude.{◌≡◌, false};
+ghost use Rattle.std.specs.Prelude.{◌≡◌, false, IfOk};
 ghost use Rattle.plain_list.specs.Answer.{IsValid};
+ghost use Rattle.plain_list.specs.History.{world_after};
+ghost use Rattle.plain_list.specs.World.{IsWorld};
 ghost use Rattle.sessions.specs.Lanes.{Tries};
 ghost use Rattle.sessions.specs.Renewals.{room_at};
 ghost use Rattle.sessions.specs.Runs.{HasLooked};
@@ -13,14 +15,14 @@ use commit_book::Room;
 use disk_trait::LogDisk;
 use index_layer::Index;
 use io_edge::OpenGate;
-use plain_list::{Answer, Op};
+use plain_list::{Answer, Op, World};
 use sessions::{CallFault, SharedBook, Split, Start, Store};
 use std::alloc::Global;
 use std::marker::{Brand, Model};
 use std::sync::Wait;
 use std::sync::ledger::{Blank, Ledger};
 use step_count::Steps;
-use zorder::Name;
+use zorder::{Memory, Name};
 
 /// A caller of a store. It has a pass, and keeps its session and the number of its next row, which stand beside each of its calls in the
 /// history: they tell calls apart for who reads that, and mean nothing else. A session may be any number, 0 too, and several clients may
@@ -125,6 +127,17 @@ impl<'s, I: Index, D: LogDisk, O: Start> Client<'s, I, D, O> {
     {
         let store = self.store;
         store.room(rt, &mut self.pass)
+    }
+
+    /// The objects as they are, behind all that the client has seen. Who calls meanwhile waits.
+    pub fn world<R: Wait>(&mut self, rt: &R) -> Result<World, Memory>
+        ensures looked { HasLooked self.old.pass self.new.pass }
+        ensures world { IfOk result (λ w. w ≡ world_after self.new.pass.origin.world self.new.pass.seen) }
+        ensures is_world { IfOk result (λ w. IsWorld w) }
+        ensures client { self.new ≡ record self.old { pass = self.new.pass } }
+    {
+        let store = self.store;
+        store.world(rt, &mut self.pass)
     }
 
     /// As `ask`, and counts how many buckets are opened for the answer.
