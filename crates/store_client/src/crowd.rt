@@ -12,19 +12,15 @@ use sessions::Start;
 use std::sync::Wait;
 use std::thread::{self, Threads};
 
-/// What a client is to do in a thread of its own.
-pub trait Work {
+/// What a client is to do in a thread of its own, over a runtime of which it may ask for more than waiting: a clock, say.
+pub trait Work<R: Wait> {
     ghost use Rattle.std.specs.Prelude.{⊤};
     ghost use Rattle.store_client.specs.Caller.{Caller};
 
     /// What its work makes of it and of the client.
     ghost does: { Self → Caller → Self → Caller → Type 0 } = { λ _ _ _ _. ⊤ };
 
-    fn work<R: Wait, I: Index, D: LogDisk, O: Start>(
-        &mut self,
-        rt: &R,
-        client: &mut Client<'_, I, D, O>,
-    )
+    fn work<I: Index, D: LogDisk, O: Start>(&mut self, rt: &R, client: &mut Client<'_, I, D, O>)
         ensures does { does self.old client.old self.new client.new }
         ensures client { Keeps client.old client.new };
 }
@@ -42,7 +38,7 @@ pub fn at_once<
     I: Index + Send,
     D: LogDisk + Send,
     O: Start + Send,
-    W: Work + Send,
+    W: Work<R> + Send,
     R: Threads + Wait + Sync,
 >(rt: &R, team: &mut [Worker<'s, I, D, O, W>])
     ensures does { AllDid W.does team.old team.new }
@@ -130,7 +126,7 @@ impl<'s, I: Index + Send, D: LogDisk + Send, O: Start + Send> Client<'s, I, D, O
     /// Lets each of these work in a thread of its own, with a client of its own that has seen what this one has, and returns when all are
     /// done: in the order in which they came. Their sessions count from `first`, and behind 255 from 0. Where memory runs out nobody has
     /// worked, and the works come back.
-    pub fn work_all<W: Work + Send, R: Threads + Wait + Sync>(
+    pub fn work_all<W: Work<R> + Send, R: Threads + Wait + Sync>(
         &mut self,
         rt: &R,
         first: u8,
