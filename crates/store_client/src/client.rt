@@ -119,6 +119,14 @@ impl<'s, I: Index, D: LogDisk, O: Start> Client<'s, I, D, O> {
         self.place
     }
 
+    /// Says whether it is one of a batch: a caller that does nothing but calls, one after another, and whose answers may take long. Over a
+    /// store without a log such a one naps for milliseconds where it finds another one at it. A new client is prompt: it is let in soon.
+    pub fn in_batch(&mut self, is_batch: bool)
+        ensures { self.new ≡ self.old }
+    {
+        self.pass.in_batch(is_batch);
+    }
+
     /// How many more entries the history takes, and records the log, where there is one: behind all that the client has seen.
     pub fn room<R: Wait>(&mut self, rt: &R) -> Room
         ensures looked { HasLooked self.old.pass self.new.pass }
