@@ -1,5 +1,5 @@
-//! Measures calls of a store, as a program's own threads make them: at a pace or seldom, alone, beside a batch, and beside one that
-//! calls without a pause.
+//! Measures calls of a store, as a program's own threads make them with a client each: at a pace or seldom, alone, beside a batch, and
+//! beside one that calls without a pause.
 //!
 //! `callers THREADS RATE MILLISECONDS BATCH BUSY`: each of so many threads (16 at most) makes so many calls a second for so long, three
 //! moves of its own objects to a near of 8. Meanwhile so many threads of a batch (3 at most), and so many others (1 at most), make such
@@ -22,8 +22,8 @@ use plan::Plan;
 use std::env::{self, Args};
 use std::io;
 use std::io::Print;
-use std::marker::Brand;
-use std::sync::ledger::Blank;
+use std::time::Duration;
+use work::Caller;
 
 // How many objects a leaf should have.
 const BUCKET: u32 = 64;
@@ -55,11 +55,25 @@ fn plan_of(words: &mut Args) -> Plan {
     }
 }
 
-fn tell(rt: &impl Print, plan: &Plan, good: u64) -> io::Result<()> {
+fn tell(rt: &impl Print, plan: &Plan, callers: &[Caller]) -> io::Result<()> {
+    for caller in callers {
+        tell_times(rt, caller.times.as_slice())?;
+    }
+    let mut good = 0u64;
+    for caller in callers {
+        good = good.saturating_add(caller.good);
+    }
     println!(rt;
         "threads {}\ncalls {} each\nanswers as they should be {good}",
         plan.paced, plan.calls
     )
+}
+
+fn tell_times(rt: &impl Print, times: &[Duration]) -> io::Result<()> {
+    for time in times {
+        println!(rt; "ns {}", time.as_nanos())?;
+    }
+    Ok(())
 }
 
 fn main(rt: HostRuntime) -> io::Result<()> {
@@ -69,8 +83,8 @@ fn main(rt: HostRuntime) -> io::Result<()> {
     let Ok(book) = Book::<KdTrie, MemDisk>::fresh(rt.alloc(), BUCKET) else {
         return println!(rt; "no memory");
     };
-    match play::<KdTrie, MemDisk, HostRuntime, Brand>(&rt, rt.alloc(), book, plan, Blank::new(1)) {
-        Some(good) => tell(&rt, &plan, good),
+    match play::<KdTrie, MemDisk, HostRuntime>(&rt, rt.alloc(), book, plan) {
+        Some(callers) => tell(&rt, &plan, callers.as_slice()),
         None => println!(rt; "no memory"),
     }
 }

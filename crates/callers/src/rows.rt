@@ -7,15 +7,15 @@ use zorder::Point;
 /// How many objects each session has.
 pub const OBJECTS: u32 = 64;
 
-fn id(session: u8, object: u32) -> u64 {
-    u64::from(session) * u64::from(OBJECTS) + u64::from(object)
+// The number of a session's object among all.
+fn number(session: u8, object: u32) -> u32 {
+    u32::from(session)
+        .wrapping_mul(OBJECTS)
+        .wrapping_add(object)
 }
 
 // Where an object is after so many rounds: anywhere, and a little farther on each time.
-fn place(session: u8, object: u32, round: u32) -> Point {
-    let number = u32::from(session)
-        .wrapping_mul(OBJECTS)
-        .wrapping_add(object);
+fn place(number: u32, round: u32) -> Point {
     let farther = round.wrapping_mul(65_536);
     Point {
         x: number.wrapping_mul(2_654_435_769).wrapping_add(farther),
@@ -23,13 +23,13 @@ fn place(session: u8, object: u32, round: u32) -> Point {
     }
 }
 
-/// The put of an object.
-pub fn put_of(session: u8, object: u32) -> Op
+/// The put of an object, by its number among all.
+pub fn put_of(number: u32) -> Op
     ensures { IsValid result }
 {
     Op::Put {
-        id: id(session, object),
-        at: place(session, object, 0),
+        id: u64::from(number),
+        at: place(number, 0),
         moment: 0,
     }
 }
@@ -38,13 +38,13 @@ pub fn put_of(session: u8, object: u32) -> Op
 pub fn op_of(session: u8, row: u32) -> Op
     ensures { IsValid result }
 {
-    let (object, round) = (row % OBJECTS, row / OBJECTS + 1);
-    let at = place(session, object, round);
+    let (number, round) = (number(session, row % OBJECTS), row / OBJECTS + 1);
+    let at = place(number, round);
     if row % 4 == 3 {
         Op::Near { at, k: 8 }
     } else {
         Op::Move {
-            id: id(session, object),
+            id: u64::from(number),
             at,
             moment: u64::from(round),
         }

@@ -1,0 +1,5 @@
+use Rattle.store_client.specs.Caller.{Keeps}
+use Rattle.callers.proofs.work.Caller.call_on.Given as goal
+
+abbrev pub invariant-loop-row : goal.invariant-loop-row
+invariant-loop-row g l = Keeps l.initial.client l.client
