@@ -9,7 +9,7 @@ mod callers;
 mod day;
 mod town;
 
-use callers::Told;
+use callers::Caller;
 use commit_book::Book;
 use day::{Day, play_day};
 use disk_mem::MemDisk;
@@ -22,18 +22,18 @@ use zorder::Placed;
 const BUCKET: u32 = 4;
 
 fn tell(rt: &impl Print, day: &Day) -> io::Result<()> {
-    tell_told(rt, &day.told)?;
+    tell_told(rt, day.callers.as_slice())?;
     println!(rt; "calls {}, splits {}", day.calls(), day.splits())?;
     tell_nearest(rt, day.nearest.as_slice())
 }
 
-fn tell_told(rt: &impl Print, told: &[Told; 4]) -> io::Result<()> {
-    for (i, told) in told.iter().enumerate() {
+fn tell_told(rt: &impl Print, callers: &[Caller]) -> io::Result<()> {
+    for (i, caller) in callers.iter().enumerate() {
         println!(rt;
             "session {}: {} answers as they should be, {} of them stale",
             i + 1,
-            told.good,
-            told.stale
+            caller.told.good,
+            caller.told.stale
         )?;
     }
     Ok(())
