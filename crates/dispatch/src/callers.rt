@@ -44,12 +44,8 @@ impl Caller {
     }
 }
 
-impl Work for Caller {
-    fn work<R: Wait, I: Index, D: LogDisk, O: Start>(
-        &mut self,
-        rt: &R,
-        client: &mut Client<'_, I, D, O>,
-    )
+impl<R: Wait> Work<R> for Caller {
+    fn work<I: Index, D: LogDisk, O: Start>(&mut self, rt: &R, client: &mut Client<'_, I, D, O>)
         ensures client { Keeps client.old client.new }
     {
         for row in 0..ROWS {

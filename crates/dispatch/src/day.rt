@@ -1,26 +1,21 @@
 //! A day of the company.
 ghost use Rattle.std.specs.Prelude.{◌≡◌, ◌≤◌, [], IfSome, vec_len};
 ghost use Rattle.plain_list.specs.World.{IsWorld};
-ghost use Rattle.sessions.specs.Steps.{all_parts};
-ghost use Rattle.store_client.specs.Caller.{IsFree, Keeps};
+ghost use Rattle.store_client.specs.Caller.{Keeps};
 
 use crate::callers::Caller;
 use crate::town::{DISPATCHER, STATION, WAITING};
-use book_lock::Pass;
 use commit_book::Book;
 use disk_trait::LogDisk;
 use index_layer::Index;
 use io_edge::OpenGate;
 use plain_list::{Entries, Entry, PlacedList};
-use sessions::{SharedBook, Store};
+use sessions::Store;
 use std::alloc::Global;
 use std::marker::Brand;
 use std::sync::Wait;
 use std::thread::Threads;
 use store_client::Client;
-
-// A pass of the company's store, over any index, and any drive for a log.
-type TaxiPass<I, D> = Pass<SharedBook<I, D, Brand>>;
 
 /// What a day came to.
 #[derive(Drop)]
@@ -40,7 +35,9 @@ pub fn play_day<I: Index + Send, D: LogDisk + Send, R: Threads + Wait + Sync>(
     requires entries { book.entries ≡ [] }
     requires world { IsWorld book.opening.world }
 {
-    let (taxis, pass) = open_store(alloc, book)?;
+    let Ok((taxis, pass)) = Store::<I, D, Brand>::new(alloc, book) else {
+        return None;
+    };
     let mut client = Client::new(&taxis, alloc, pass, DISPATCHER);
     let day = call_all_day(rt, alloc, &mut client);
     let mut pass = client.into_pass();
@@ -52,18 +49,6 @@ pub fn play_day<I: Index + Send, D: LogDisk + Send, R: Threads + Wait + Sync>(
         events,
         nearest,
     })
-}
-
-// A store of a book, and the pass that has all parts of it, where there is memory for it.
-fn open_store<I: Index, D: LogDisk>(
-    alloc: Global,
-    book: Book<I, D>,
-) -> Option<(Store<I, D, Brand>, TaxiPass<I, D>)>
-    requires entries { book.entries ≡ [] }
-    requires world { IsWorld book.opening.world }
-    ensures { IfSome result (λ opened. IsFree opened.0 opened.1 × (opened.1.parts ≡ all_parts)) }
-{
-    Store::<I, D, Brand>::new(alloc, book).ok()
 }
 
 // The history that a book leaves.
