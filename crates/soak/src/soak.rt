@@ -217,7 +217,8 @@ fn rotate<I: Index, D: LogDisk>(
                 cause,
             },
         ) => Err(Trouble::NotRotated(cause)),
-        Err(_) => Err(Trouble::NotRenewed),
+        Err(NotRotated::Uncleared { .. }) => Err(Trouble::NotEmptied),
+        Err(NotRotated::Memory { .. }) => Err(Trouble::NoLock),
     }
 }
 

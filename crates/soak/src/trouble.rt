@@ -23,6 +23,10 @@ pub enum Trouble {
     NotRenewed,
     #[error("the store wasn't rotated: {0}")]
     NotRotated(RotateCause),
+    #[error("the store was rotated, but the first file wasn't emptied: its drive failed")]
+    NotEmptied,
+    #[error("the store was rotated, but there was no memory to go on")]
+    NoLock,
     #[error("call {place}, {op:?}, wasn't told what it should be")]
     Answer { place: u64, op: Op },
     #[error("nobody was told of call {place} of the history")]
