@@ -1,6 +1,8 @@
 //! Numbers of a seed.
 ghost use Rattle.std.specs.Prelude.{◌<◌};
 
+use zorder::Point;
+
 /// A generator of numbers: `splitmix64`, by which each thread has its own.
 #[derive(Clone, Copy)]
 pub struct Dice {
@@ -35,5 +37,14 @@ impl Dice {
     /// Any number of 32 bits.
     pub fn any(&mut self) -> u32 {
         (self.next() >> 32) as u32
+    }
+
+    /// A place: one in eight is in a small corner, where leaves are split again and again.
+    pub fn place(&mut self) -> Point {
+        let small = if self.below(8) == 0 { 8 } else { 0 };
+        Point {
+            x: self.any() >> small,
+            y: self.any() >> small,
+        }
     }
 }

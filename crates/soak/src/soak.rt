@@ -1,7 +1,6 @@
 //! Rounds of calls: all threads at once, and then the store goes on with an empty history.
-ghost use Rattle.std.specs.Prelude.{◌≡◌, ◌≤◌, [], IfOk, IfSome, vec_capacity};
+ghost use Rattle.std.specs.Prelude.{◌≡◌, [], IfOk, IfSome, vec_len};
 ghost use Rattle.plain_list.specs.World.{IsWorld};
-ghost use Rattle.store_client.specs.Teams.{HasGiven, AreHired};
 ghost use Rattle.soak.specs.Whole.{IsWhole};
 
 use crate::judge::Judge;
@@ -22,17 +21,14 @@ use std::rt::Clock;
 use std::sync::Wait;
 use std::thread::Threads;
 use std::time::Instant;
-use store_client::{Client, Worker, apart, at_once};
+use store_client::{Client, Work};
 use store_file::{NotRotated, OverFile, Rotated, rotate_store};
 
-// A pass of the store, over any index, and any drive for a log.
-type SoakPass<I, D, O> = Pass<SharedBook<I, D, O>>;
+/// A pass of the store, over any index, and any drive for a log.
+pub type SoakPass<I, D, O> = Pass<SharedBook<I, D, O>>;
 
-// A thread's client, and its calls.
-type Hand<'s, I, D, O> = Worker<'s, I, D, O, Soaker>;
-
-// The session of who hires the threads, and looks at all objects in the end.
-const LAST: u8 = 4;
+/// The session of who hires the threads, and looks at all objects.
+pub const LAST: u8 = 4;
 
 // A store of a book, and the pass that has all parts of it, where there is memory for it.
 fn open_store<I: Index, D: LogDisk>(
@@ -46,14 +42,17 @@ fn open_store<I: Index, D: LogDisk>(
     Store::<I, D, Brand>::new(alloc, book).ok()
 }
 
-// The threads, before their calls.
-fn crew_of(alloc: Global, plan: Plan) -> [Soaker; 4] {
-    [
+// The threads, before their calls, where there is memory for them.
+fn crew_of(alloc: Global, plan: Plan) -> Option<Vec<Soaker>>
+    ensures { IfSome result (λ all. vec_len all ≡ 4) }
+{
+    let crew = [
         Soaker::new(alloc, plan, 0),
         Soaker::new(alloc, plan, 1),
         Soaker::new(alloc, plan, 2),
         Soaker::new(alloc, plan, 3),
-    ]
+    ];
+    Vec::from_array(alloc, crew).ok()
 }
 
 /// All calls of a run over an empty store, and then a look at all objects. Tells each renewal of the store, if so wanted.
@@ -70,7 +69,7 @@ pub fn play<I: Index + Send, D: LogDisk + Send, R: Threads + Wait + Sync + Clock
     let Some((mut store, mut pass)) = open_store(alloc, book) else {
         return Err(Trouble::Memory);
     };
-    let mut crew = Some(crew_of(alloc, plan));
+    let mut crew = crew_of(alloc, plan);
     let mut judge = Judge::new(alloc);
     let mut done = Ok(false);
     for _ in 0..u64::MAX {
@@ -111,7 +110,7 @@ pub fn play_over_files<
 ) -> Result<Judge, Trouble>
     requires { IsWhole store pass }
 {
-    let mut crew = Some(crew_of(alloc, plan));
+    let mut crew = crew_of(alloc, plan);
     let mut judge = Judge::new(alloc);
     let mut done = Ok(false);
     for _ in 0..u64::MAX {
@@ -147,8 +146,11 @@ fn tell_turn(rt: &(impl Clock + Print), begun: Option<Instant>, entries: usize) 
 fn look(
     judge: &mut Judge,
     entries: &[Entry],
-    crew: &mut Option<[Soaker; 4]>,
-) -> Result<bool, Trouble> {
+    crew: &mut Option<Vec<Soaker>>,
+) -> Result<bool, Trouble>
+    requires { IfSome crew.old (λ all. vec_len all ≡ 4) }
+    ensures { IfSome crew.new (λ all. vec_len all ≡ 4) }
+{
     let Some(crew) = crew else {
         return Err(Trouble::Memory);
     };
@@ -198,8 +200,8 @@ fn renew<I: Index, D: LogDisk>(
     }
 }
 
-// The same objects over a fresh log in the other file.
-fn rotate<I: Index, D: LogDisk>(
+/// The same objects over a fresh log in the other file.
+pub fn rotate<I: Index, D: LogDisk>(
     alloc: Global,
     store: Store<I, D, OverFile>,
     pass: SoakPass<I, D, OverFile>,
@@ -222,57 +224,33 @@ fn rotate<I: Index, D: LogDisk>(
     }
 }
 
-// All threads at once, until their calls are made or the history has many entries. Where there is no memory for it, no crew comes back.
-fn play_round<I: Index + Send, D: LogDisk + Send, O: Start + Send, R: Threads + Wait + Sync>(
+/// All threads at once, until each has done its work. Where there is no memory for it, no crew comes back.
+pub fn play_round<
+    I: Index + Send,
+    D: LogDisk + Send,
+    O: Start + Send,
+    W: Work<R> + Send + Drop,
+    R: Threads + Wait + Sync,
+>(
     rt: &R,
     alloc: Global,
     store: &Store<I, D, O>,
     pass: SoakPass<I, D, O>,
-    crew: &mut Option<[Soaker; 4]>,
+    crew: &mut Option<Vec<W>>,
 ) -> SoakPass<I, D, O>
-    requires { IsWhole store.now pass }
-    ensures { IsWhole store.now result }
+    requires pass { IsWhole store.now pass }
+    requires crew { IfSome crew.old (λ all. vec_len all ≡ 4) }
+    ensures pass { IsWhole store.now result }
+    ensures crew { IfSome crew.new (λ all. vec_len all ≡ 4) }
 {
     let Some(all) = crew.take() else {
         return pass;
     };
     let mut client = Client::new(store, alloc, pass, LAST);
-    let Ok(team) = Vec::with_capacity(alloc, 4) else {
-        return client.into_pass();
-    };
-    let (one, two, three, four) = work_all(rt, &mut client, team, all);
-    *crew = Some([
-        client.take_home(one),
-        client.take_home(two),
-        client.take_home(three),
-        client.take_home(four),
-    ]);
-    client.into_pass()
-}
-
-// Hires a team, and lets all work.
-fn work_all<'s, I: Index + Send, D: LogDisk + Send, O: Start + Send, R: Threads + Wait + Sync>(
-    rt: &R,
-    client: &mut Client<'s, I, D, O>,
-    mut team: Vec<Hand<'s, I, D, O>>,
-    crew: [Soaker; 4],
-) -> (
-    Hand<'s, I, D, O>,
-    Hand<'s, I, D, O>,
-    Hand<'s, I, D, O>,
-    Hand<'s, I, D, O>,
-)
-    requires empty { team.items ≡ [] }
-    requires room { 4 ≤ vec_capacity team }
-    requires parts { 5 ≤ client.old.pass.parts }
-    ensures given { HasGiven 4 client.old client.new }
-    ensures hands { AreHired client.old result.0.client result.1.client result.2.client result.3.client }
-{
-    let [one, two, three, four] = crew;
-    team.push_reserved(client.hire(0, one));
-    team.push_reserved(client.hire(1, two));
-    team.push_reserved(client.hire(2, three));
-    team.push_reserved(client.hire(3, four));
-    at_once(rt, &mut team);
-    apart(team)
+    let done = client.work_all(rt, 0, all);
+    let pass = client.into_pass();
+    if let Ok(all) = done {
+        *crew = Some(all);
+    }
+    pass
 }

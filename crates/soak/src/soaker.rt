@@ -52,15 +52,6 @@ impl Soaker {
         }
     }
 
-    // One place in eight is in a small corner, where leaves are split again and again.
-    fn place(&mut self) -> Point {
-        let small = if self.dice.below(8) == 0 { 8 } else { 0 };
-        Point {
-            x: self.dice.any() >> small,
-            y: self.dice.any() >> small,
-        }
-    }
-
     // A box around the last place: it has some dozens of objects where these are spread over all places, and one dozen in the small
     // corner. One in 64 is large.
     fn region(&mut self) -> Region
@@ -96,7 +87,7 @@ impl Soaker {
         self.moment = self.moment.saturating_add(1);
         let late = if self.dice.below(12) == 0 { 2 } else { 1 };
         let id = u64::from(self.dice.below(self.plan.objects.max(1)));
-        let (at, moment) = (self.place(), self.moment / late);
+        let (at, moment) = (self.dice.place(), self.moment / late);
         let kind = self.dice.below(100);
         if kind < 67 {
             self.last = at;
@@ -129,12 +120,8 @@ impl Soaker {
     }
 }
 
-impl Work for Soaker {
-    fn work<R: Wait, I: Index, D: LogDisk, O: Start>(
-        &mut self,
-        rt: &R,
-        client: &mut Client<'_, I, D, O>,
-    )
+impl<R: Wait> Work<R> for Soaker {
+    fn work<I: Index, D: LogDisk, O: Start>(&mut self, rt: &R, client: &mut Client<'_, I, D, O>)
         ensures client { Keeps client.old client.new }
     {
         for call in 0..u64::MAX {
