@@ -45,8 +45,8 @@ pub fn look_at_all<I: Index, D: LogDisk, O: Start, R: Wait>(
     Ok(())
 }
 
-// Whether an object is found by its id and by its place.
-fn is_there<I: Index, D: LogDisk, O: Start, R: Wait>(
+/// Whether an object is found by its id and by its place.
+pub fn is_there<I: Index, D: LogDisk, O: Start, R: Wait>(
     rt: &R,
     client: &mut Client<'_, I, D, O>,
     id: u64,

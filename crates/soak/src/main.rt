@@ -1,26 +1,31 @@
 //! Runs a store for long, in memory or over two files, and judges it.
 //!
-//! `soak CALLS THREADS OBJECTS SEED ENTRIES [quiet | files ONE TWO]`: so many calls (20,000,000), made by so many threads (4 at most) on so
-//! many objects (100,000): puts, moves, late ones among them, drops, finds, boxes and nears, as the seed has it. Where a history has so
-//! many entries (3,900,000) the threads meet, and the store is renewed: it goes on with an empty one. Each history is then gone along: a
-//! plain map of this program takes the changes, and what a thread was told by each call must be what the map answers there. All objects are
-//! gone through for a box or a near, so where there are n, one in n / 100 of these is looked at. In the end all objects are looked for. A
-//! difference is told, and the run ends with 1.
+//! `soak CALLS THREADS OBJECTS SEED ENTRIES [quiet | files ONE TWO | chain ONE TWO]`: so many calls (20,000,000), made by so many threads
+//! (4 at most) on so many objects (100,000): puts, moves, late ones among them, drops, finds, boxes and nears, as the seed has it. Where a
+//! history has so many entries (3,900,000) the threads meet, and the store is renewed: it goes on with an empty one. Each history is then
+//! gone along: a plain map of this program takes the changes, and what a thread was told by each call must be what the map answers there.
+//! All objects are gone through for a box or a near, so where there are n, one in n / 100 of these is looked at. In the end all objects are
+//! looked for. A difference is told, and the run ends with 1.
 //!
 //! With `files` the store has a log in one of these two files, which must have no objects. Where it would be renewed it is rotated: it
-//! goes on over a fresh log in the other one.
+//! goes on over a fresh log in the other one. It prints each renewal or rotation with its time, how many boxes and nears were looked at, and
+//! how many objects there are in the end; with `quiet` only what is the same whatever the schedule.
 //!
-//! It prints each renewal or rotation with its time, how many boxes and nears were looked at, and how many objects there are in the end.
-//! With `quiet` it prints only what is the same whatever the schedule. `tools/soak` drives it.
+//! With `chain` it goes on with what it finds in these files. Each thread brings objects of its own in turn to new places, and the number of
+//! a change tells all of it: so the objects must be just where so many first changes of each thread leave them. It prints how many it found
+//! and, behind each ENTRIES changes or so, how many were made, and then it is rotated; who kills it learns from the next start what is there.
+//! `tools/soak` drives it.
 #![tactic(auto)]
 
 ghost use Rattle.std.specs.Prelude.{◌≤◌, IfOk};
 ghost use Rattle.soak.specs.Whole.{IsWhole};
 
+mod chain;
 mod dice;
 mod judge;
 mod last;
 mod plan;
+mod rounds;
 mod soak;
 mod soaker;
 mod trouble;
@@ -32,6 +37,7 @@ use disk_trait::LogDisk;
 use judge::Judge;
 use kd_trie::KdTrie;
 use plan::Plan;
+use rounds::chain_over_files;
 use soak::{play, play_over_files};
 use std::alloc::Global;
 use std::env::{self, Args};
@@ -69,6 +75,24 @@ fn plan_of(words: &mut Args) -> Plan {
     }
 }
 
+// What a run is over, and what it tells.
+#[derive(Clone, Copy, PartialEq, Eq)]
+enum Mode {
+    Memory,
+    Quiet,
+    Files,
+    Chain,
+}
+
+fn mode_of(word: Option<String>) -> Mode {
+    match word.as_ref().map(|word| word.as_str()) {
+        None => Mode::Memory,
+        Some("files") => Mode::Files,
+        Some("chain") => Mode::Chain,
+        Some(_) => Mode::Quiet,
+    }
+}
+
 fn soak_in_memory<R: Threads + Wait + Sync + AllocGlobal + Clock + Print>(
     rt: &R,
     plan: Plan,
@@ -103,17 +127,16 @@ fn open_files<'n, D: LogDisk>(
     }
 }
 
-fn soak_over_files<R: Threads + Wait + Sync + AllocGlobal + Clock + Print, D: LogDisk + Send>(
+// Runs over a store in one of two files: a chain goes on from the objects that are there, and else there must be none.
+fn play_in_files<R: Threads + Wait + Sync + AllocGlobal + Clock + Print, D: LogDisk + Send>(
     rt: &R,
     plan: Plan,
-    first: D,
-    second: D,
-    words: &mut Args,
-) -> Result<Judge, Trouble> {
-    let (Some(one), Some(two)) = (words.next(), words.next()) else {
-        return Err(Trouble::Words);
-    };
+    drives: (D, D),
+    names: (&str, &str),
+    mode: Mode,
+) -> Result<Option<Judge>, Trouble> {
     let alloc = rt.alloc();
+    let ((first, second), (one, two)) = (drives, names);
     let OpenedEither {
         store,
         pass,
@@ -122,31 +145,47 @@ fn soak_over_files<R: Threads + Wait + Sync + AllocGlobal + Clock + Print, D: Lo
         records: _,
         spare,
         which: _,
-    } = open_files(alloc, first, one.as_str(), second, two.as_str())?;
+    } = open_files(alloc, first, one, second, two)?;
+    if mode == Mode::Chain {
+        chain_over_files(rt, alloc, store, pass, spare, points, plan)?;
+        return Ok(None);
+    }
     if points != 0 {
         store.close(pass);
         return Err(Trouble::InUse { points });
     }
-    play_over_files(rt, alloc, store, pass, spare, plan)
+    Ok(Some(play_over_files(rt, alloc, store, pass, spare, plan)?))
+}
+
+// A run's calls, judged, where it isn't one of chains.
+fn play_as<R: Threads + Wait + Sync + AllocGlobal + Clock + Print, D: LogDisk + Send>(
+    rt: &R,
+    plan: Plan,
+    drives: (D, D),
+    mode: Mode,
+    words: &mut Args,
+) -> Result<Option<Judge>, Trouble> {
+    if matches!(mode, Mode::Memory | Mode::Quiet) {
+        return Ok(Some(soak_in_memory(rt, plan, mode == Mode::Memory)?));
+    }
+    let (Some(one), Some(two)) = (words.next(), words.next()) else {
+        return Err(Trouble::Words);
+    };
+    play_in_files(rt, plan, drives, (one.as_str(), two.as_str()), mode)
 }
 
 fn run<R: Threads + Wait + Sync + AllocGlobal + Clock + Env + Print, D: LogDisk + Send>(
     rt: &R,
-    first: D,
-    second: D,
+    drives: (D, D),
 ) -> Result<(), Trouble> {
     let mut words = env::args(rt)?;
     words.next();
     let plan = plan_of(&mut words);
-    let mode = words.next();
-    let is_over_files = mode.as_ref().is_some_and(|mode| mode.as_str() == "files");
-    let tells = is_over_files || mode.is_none();
-    let judge = if is_over_files {
-        soak_over_files(rt, plan, first, second, &mut words)?
-    } else {
-        soak_in_memory(rt, plan, tells)?
+    let mode = mode_of(words.next());
+    let Some(judge) = play_as(rt, plan, drives, mode, &mut words)? else {
+        return Ok(());
     };
-    if tells {
+    if mode != Mode::Quiet {
         println!(rt;
             "boxes and nears looked at {}, told {} objects",
             judge.lists, judge.listed
@@ -166,7 +205,7 @@ fn main(rt: HostRuntime) -> ExitCode {
     let (Ok(first), Ok(second)) = (drive(&rt), drive(&rt)) else {
         return ExitCode::FAILURE;
     };
-    match run(&rt, first, second) {
+    match run(&rt, (first, second)) {
         Ok(()) => ExitCode::SUCCESS,
         Err(trouble) => {
             let _ = println!(rt; "{trouble}");

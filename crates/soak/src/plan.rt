@@ -1,4 +1,6 @@
 //! What is to be run.
+ghost use Rattle.std.specs.Prelude.{◌<◌};
+
 use plain_list::Op;
 
 /// The most entries of a history.
@@ -26,6 +28,18 @@ impl Plan {
             Some(behind) => self.calls.saturating_add(behind) / threads,
             None => 0,
         }
+    }
+
+    /// How many objects of its own a chain has.
+    pub fn own(&self) -> u64
+        ensures { 0 < result }
+    {
+        u64::from(self.objects / u32::from(self.threads.max(1))).max(1)
+    }
+
+    /// How many changes a chain makes until the next rotation.
+    pub fn each(&self) -> u64 {
+        (self.entries / u64::from(self.threads.max(1))).max(1)
     }
 
     /// Whether a history has so many entries that the threads are to meet, where this is the room that is left.

@@ -1,4 +1,5 @@
 //! What ends a run early.
+use crate::chain::Broken;
 use plain_list::Op;
 use sessions::CallFault;
 use std::alloc::AllocError;
@@ -37,6 +38,8 @@ pub enum Trouble {
     Number { found: u64, should: u64 },
     #[error("object {id} isn't found where it should be")]
     Object { id: u64 },
+    #[error("thread {session}: {broken}")]
+    Chain { session: u8, broken: Broken },
     #[error("{0}")]
     Output(#[from] io::Error),
 }
