@@ -1,5 +1,5 @@
 -- What an opening of two files finds, wherever a crash came while a store went on from the one to the other.
-use Rattle.std.proofs.Common.{◌≡◌, ◌⊎◌, inl, inr, ⊎_elim, ◌∙◌, ℕ, ◌+◌, ◌*◌, ◌≤◌, true, List, [], ◌∷◌, ◌++◌, length, Option, Some, is_some, refl, sym, ap, subst, arith, length-append}
+use Rattle.std.proofs.Common.{◌≡◌, ◌⊎◌, inl, inr, ⊎_elim, ◌∙◌, ℕ, ◌+◌, ◌*◌, ◌≤◌, true, Bool, List, [], ◌∷◌, ◌++◌, length, Option, Some, is_some, refl, sym, ap, subst, arith, length-append}
 use Rattle.std.proofs.lemmas.List.{append-nil}
 use Rattle.std.specs.Prelude.{⊤}
 use Rattle.atomic_table.specs.Seated.{TableId}
@@ -146,15 +146,15 @@ module _ (w : ℕ) (cells fresh : List Cell) (old : Drive) (log : IsLog w cells 
     log-recovers w fresh new stands fresh_legal second left,
   )
 
--- A store that was opened over a file goes on over a second one.
-module _ {D : Type 0} (drive : D → Drive) (w bucket : ℕ) (file : List ℕ) (old : Drive) (lock : TableId) (pass last : Known) (points : ℕ) (latest : Option ℕ) (records : ℕ) (entries : List Entry) (disk spare : D) (origin : Origin)
-    (opened : OpensStore drive w bucket file old lock pass points latest records) (one : last.origin ≡ pass.origin) (told : is_some old.bytes ≡ true) (to : RotatesTo drive w last entries disk spare origin) where
+-- A store that was opened over a file goes on over a second one, with whatever leaves.
+module _ {D : Type 0} (drive : D → Drive) (w bucket : ℕ) (file : List ℕ) (old : Drive) (lock : TableId) (pass last : Known) (points : ℕ) (latest : Option ℕ) (records : ℕ) (Are : List (List Bool) → Type 0) (entries : List Entry) (disk spare : D) (origin : Origin)
+    (opened : OpensStore drive w bucket file old lock pass points latest records) (one : last.origin ≡ pass.origin) (told : is_some old.bytes ≡ true) (to : RotatesTo drive w Are last entries disk spare origin) where
   -- the cells of the first file, and those of the second one
   abbrev pub cells-closed : List Cell
   cells-closed = opened.cells ++ cells_of pass.origin.world last.seen
 
   abbrev pub fresh-closed : List Cell
-  fresh-closed = cells_left w last.origin last.seen
+  fresh-closed = cells_left w last.origin last.seen origin.leaves
 
   log-closed : IsLog w cells-closed (drive disk)
   log-closed = text-closed drive drive w bucket bucket file file old (λ start. ⊤) lock lock pass last last points points latest latest records records entries disk opened one told to.closed to.good

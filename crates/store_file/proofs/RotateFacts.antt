@@ -36,11 +36,14 @@ use Rattle.log_compact.specs.Compacting.{IsCompacted, RefusesCompact, KeepsOnWay
 use Rattle.log_compact.specs.Fresh.{fresh_cells}
 use Rattle.log_compact.specs.State.{IsStateOf}
 use Rattle.store_file.specs.declared.rotating.RotateCause.{RotateCause}
+use Rattle.store_file.specs.declared.rotating.RotateCause.TheVariants as cause
 use Rattle.store_file.specs.declared.rotating.NotRotated.{NotRotated}
 use Rattle.store_file.specs.declared.rotating.NotRotated.TheVariants as back
 use Rattle.log_compact.specs.Clearing.{Clears, FailsToClear, KeepsOrClears}
-use Rattle.store_file.specs.Opened.{first_pass, cells_origin, found_origin}
-use Rattle.store_file.specs.Rotated.{world_left, leaves_left, cells_left, RotatesTo, LeavesOf, IsRotated, IsRotatedAlone, IsBookKept, NotAnew, RefusesAnew, anew_cause, IsNotRotated, BeginsAnew, GoesOn, GoesAlone, GoesNot}
+use Rattle.store_file.specs.Opened.{first_pass, found_origin}
+use Rattle.store_file.specs.Rotated.{world_left, leaves_left, cells_left, AreLeft, AreAnew, AreOfBook, AreOfSize, RotatesTo, LeavesOf, IsRotated, IsRotatedAlone, IsBookKept, NotAnew, RefusesAnew, anew_cause, IsNotRotated}
+use Rattle.store_file.specs.Rotated.{BeginsFresh, BeginsAnew, GoesOn, GoesAlone, GoesNot, LeavesView, Finishes, FinishesAlone, FinishesNot}
+use Rattle.store_file.specs.Sized.{FitsSize}
 use Rattle.store_file.proofs.StoreFacts as stores
 
 -- cells stay where nothing is done
@@ -82,15 +85,17 @@ module _ {D : Type 0} (drive : D → Drive) (laws : (d : D) → KeepsLaws (drive
       world = fresh.0 ∙ world_is;
       leaves = fresh.1 ∙ leaves_is ∙ (λ i. (state_after (sym width_is i) b.opening b.entries).leaves);
     };
-    finds = fresh.2.finds;
-    few = fresh.2.few;
-    state = state;
-    counts = counts ∙ ap (λ (s : Seen). s.cells) same;
-    failed = failed;
-    found = stands-seen.found;
-    ready = opened-here width (drive log.disk) seen (laws log.disk) stands-seen;
-    compacted = compacted;
-    on_way = on_way;
+    begins = record {
+      finds = fresh.2.finds;
+      few = fresh.2.few;
+      state = state;
+      counts = counts ∙ ap (λ (s : Seen). s.cells) same;
+      failed = failed;
+      found = stands-seen.found;
+      ready = opened-here width (drive log.disk) seen (laws log.disk) stands-seen;
+      compacted = compacted;
+      on_way = on_way;
+    };
   }
 
   pub begins-anew : BeginsAnew drive w b spare found start log
@@ -100,20 +105,33 @@ module _ {D : Type 0} (drive : D → Drive) (laws : (d : D) → KeepsLaws (drive
       (subst (λ (n : ℕ). BeginsAnew drive n b spare seen log.disk log) width_is begins-at))
 
 -- none was begun
-pub not-anew : {D : Type 0} (drive : D → Drive) (width w : ℕ) → width ≡ w → (failed : Option ℕ) (world : World) (leaves : List (List Bool)) → failed ≡ None → (spare left : D) (seen : Seen)
-    → seen.world ≡ world → seen.leaves ≡ leaves → (fault : CompactFault) → RefusesCompact (drive spare) (drive left) fault
-    → KeepsOnWay width (fresh_cells width seen.world seen.leaves) (drive spare) (drive left) → RefusesAnew drive w failed world leaves spare left (anew_cause fault)
-not-anew drive width w width_is failed world leaves good spare left seen world_is leaves_is fault refuses on_way =
-    let same : fresh_cells width seen.world seen.leaves ≡ fresh_cells w world leaves = λ i. fresh_cells (width_is i) (world_is i) (leaves_is i) in
+pub not-anew : {D : Type 0} (drive : D → Drive) (width w : ℕ) → width ≡ w → (Are : List (List Bool) → Type 0) (failed : Option ℕ) (world : World) → failed ≡ None → (spare left : D) (seen : Seen)
+    → seen.world ≡ world → Are seen.leaves → (fault : CompactFault) → RefusesCompact (drive spare) (drive left) fault
+    → KeepsOnWay width (fresh_cells width seen.world seen.leaves) (drive spare) (drive left) → RefusesAnew drive w Are failed world spare left (anew_cause fault)
+not-anew drive width w width_is Are failed world good spare left seen world_is are fault refuses on_way =
     by_fault fault (record {
+      leaves = seen.leaves;
+      leaves_are = are;
       refuses = refuses;
-      on_way = subst (λ (l : List Cell). KeepsOnWay w l (drive spare) (drive left)) same
+      on_way = subst (λ (l : List Cell). KeepsOnWay w l (drive spare) (drive left)) (λ i. fresh_cells (width_is i) (world_is i) seen.leaves)
           (subst (λ (n : ℕ). KeepsOnWay n (fresh_cells width seen.world seen.leaves) (drive spare) (drive left)) width_is on_way);
     })
   where
-    by_fault : (f : CompactFault) → NotAnew drive w (fresh_cells w world leaves) spare left f → RefusesAnew drive w failed world leaves spare left (anew_cause f)
+    by_fault : (f : CompactFault) → NotAnew drive w Are world spare left f → RefusesAnew drive w Are failed world spare left (anew_cause f)
     by_fault (compact.InUse len) not = (good, not)
     by_fault compact.Disk not = (good, not)
+
+-- a refusal for leaves of one kind is one for leaves of another kind, where these are also those; where no append has failed it isn't that one has
+module _ {D : Type 0} (drive : D → Drive) (w : ℕ) (Are Also : List (List Bool) → Type 0) (each : (leaves : List (List Bool)) → Are leaves → Also leaves) (world : World) (spare left : D) where
+  also-anew : (fault : CompactFault) → NotAnew drive w Are world spare left fault → NotAnew drive w Also world spare left fault
+  also-anew fault not = record { leaves = not.leaves; leaves_are = each not.leaves not.leaves_are; refuses = not.refuses; on_way = not.on_way }
+
+  pub also-refuses : (failed : Option ℕ) (c : RotateCause) → RefusesAnew drive w Are failed world spare left c → RefusesAnew drive w Also failed world spare left c
+  also-refuses failed (cause.Closed cell) not = not
+  also-refuses failed cause.Memory not = not
+  also-refuses failed cause.TooLong (good, same, long) = (good, same, record { leaves = long.leaves; leaves_are = each long.leaves long.leaves_are; many = long.many })
+  also-refuses failed (cause.InUse len) (good, not) = (good, also-anew (compact.InUse len) not)
+  also-refuses failed cause.Disk (good, not) = (good, also-anew compact.Disk not)
 
 -- a log as it stands has its drive, and no append of it has failed where the history says so
 module _ {D : Type 0} where
@@ -128,6 +146,16 @@ module _ {D : Type 0} where
   pub whole-in : (drive : D → Drive) (w : ℕ) (s : State) (h : List Entry) (log : Option (KeptView D)) (view : LogView D) → KeepsIn drive w s h log → failed_cell h ≡ None → log_in log ≡ Some view → view.failed ≡ None
   whole-in drive w s h None view keeps good is = absurd (true≢false (sym (ap is_some is)))
   whole-in drive w s h (Some log) view keeps good is = ap (λ (v : LogView D). v.failed) (sym (same_Some _ _ is)) ∙ keeps.failed ∙ good
+
+-- a log that was handed out was emptied
+pub leaves-view : {D : Type 0} (drive : D → Drive) (Came : ℕ → Drive → Drive → Type 0) (log : Option (LogView D)) (view : LogView D) (left : D) → log ≡ Some view → Came view.cells (drive view.disk) (drive left)
+    → KeepsOrClears (drive view.disk) (drive left) → LeavesView drive Came log left
+leaves-view drive Came log view left is came keeps = record { view = view; view_is = is; came = came; keeps = keeps }
+
+-- a book over a log starts so
+pub starts-over : {D : Type 0} (drive : D → Drive) (log : Option (KeptView D)) → is_some log ≡ true → StartsAs drive ⊥ (λ d. ⊤) log
+starts-over drive None is = absurd (true≢false (sym is))
+starts-over drive (Some log) is = tt
 
 -- a book went on over another log
 module _ {D : Type 0} (drive : D → Drive) (b new : BookView D) (seen : Seen) (log : LogView D) (start : D) (is : new ≡ rotated seen log start b) (counts : log.cells ≡ seen.cells) where
@@ -152,16 +180,40 @@ module _ {D : Type 0} (drive : D → Drive) (b new : BookView D) (seen : Seen) (
   pub new-starts : StartsAs drive ⊥ (λ d. ⊤) new.log
   new-starts = subst (StartsAs drive ⊥ (λ d. ⊤)) (sym new-log) tt
 
-  module _ (w : ℕ) (content : HasContent w b seen) (has : HasWorld b) (view : LogView D) (log_is : log_in b.log ≡ Some view) (entries : List Entry) (same : entries ≡ b.entries) (left : D) where
-    pub leaves-of : (Came : ℕ → Drive → Drive → Type 0) → Came view.cells (drive view.disk) (drive left) → KeepsOrClears (drive view.disk) (drive left) → LeavesOf drive Came b left
-    leaves-of Came came keeps = record { last = view.disk; last_is = drive-in b.log view log_is; leaves = record { count = view.cells; came = came; keeps = keeps } }
+-- and what becomes of it, where the log of another one is emptied whose bucket size it has
+module _ {D : Type 0} (drive : D → Drive) (old b new : BookView D) (seen : Seen) (log : LogView D) (start : D) (is : new ≡ rotated seen log start b) (counts : log.cells ≡ seen.cells) (bucket : b.bucket ≡ old.bucket)
+    (w : ℕ) (content : HasContent w b seen) (has : HasWorld b) (h : List Entry) (out : Option (LogView D)) (h_is : h ≡ old.entries) (out_is : out ≡ log_in old.log) where
+  leaves-of : (Came : ℕ → Drive → Drive → Type 0) (left : D) → LeavesView drive Came out left → LeavesOf drive Came old left
+  leaves-of Came left leaves = record {
+    last = leaves.view.disk;
+    last_is = drive-in old.log leaves.view (sym out_is ∙ leaves.view_is);
+    leaves = record { count = leaves.view.cells; came = leaves.came; keeps = leaves.keeps };
+  }
 
-    pub goes-alone : (Came : ℕ → Drive → Drive → Type 0) → Came view.cells (drive view.disk) (drive left) → KeepsOrClears (drive view.disk) (drive left) → GoesAlone drive Came b seen start entries new left
-    goes-alone Came came keeps = record { entries_are = same; origin_is = new-origin; none = new-none; has = new-has w content has; logged = new-logged; leaves = leaves-of Came came keeps }
+  origin-now : origin_of drive new ≡ found_origin old.bucket seen (drive start)
+  origin-now = new-origin drive b new seen log start is counts ∙ ap (λ (n : ℕ). found_origin n seen (drive start)) bucket
 
-    pub goes-on : Clears view.cells (drive view.disk) (drive left) → KeepsOrClears (drive view.disk) (drive left) → (lock : TableId) (pass : Known) → pass ≡ first_pass lock (origin_of drive new)
-        → GoesOn drive b seen start entries lock pass left
-    goes-on came keeps lock pass pass_is = record { entries_are = same; pass_is = pass_is ∙ ap (first_pass lock) new-origin; leaves = leaves-of Clears came keeps }
+  pub goes-on : (entries : List Entry) (lock : TableId) (pass : Known) (left : D) → Finishes drive new h out entries lock pass left → GoesOn drive old seen start entries lock pass left
+  goes-on entries lock pass left on = record {
+    entries_are = on.entries_are ∙ h_is;
+    pass_is = on.pass_is ∙ ap (first_pass lock) origin-now;
+    leaves = leaves-of Clears left on.leaves;
+  }
+
+  alone-now : (Came : ℕ → Drive → Drive → Type 0) (entries : List Entry) (it : BookView D) (left : D) → FinishesAlone drive Came new h out entries it left → GoesAlone drive Came old seen start entries it left
+  alone-now Came entries it left on = record {
+    entries_are = on.entries_are ∙ h_is;
+    origin_is = ap (origin_of drive) on.book_is ∙ origin-now;
+    none = ap (λ (v : BookView D). v.entries) on.book_is ∙ new-none drive b new seen log start is counts;
+    has = subst HasWorld (sym on.book_is) (new-has drive b new seen log start is counts w content has);
+    logged = ap (λ (v : BookView D). is_some v.log) on.book_is ∙ new-logged drive b new seen log start is counts;
+    leaves = leaves-of Came left on.leaves;
+  }
+
+  pub goes-not : {I P : Type 0} (e : NotRotated I D P) → FinishesNot drive new h out e → GoesNot drive old seen start e
+  goes-not (back.Kept book left c) on = absurd on
+  goes-not (back.Uncleared book entries left) on = alone-now (λ count. FailsToClear) entries book left on
+  goes-not (back.Memory book entries left) on = alone-now Clears entries book left on
 
 -- a store was closed, and a fresh log of it was begun
 module _ {D : Type 0} (drive : D → Drive) (w : ℕ) (b : BookView D) (old : Known) (is_book : IsBook drive w b) (value : (b.entries ≡ old.seen) × (origin_of drive b ≡ old.origin))
@@ -175,59 +227,57 @@ module _ {D : Type 0} (drive : D → Drive) (w : ℕ) (b : BookView D) (old : Kn
   leaves-as : (state_after w b.opening b.entries).leaves ≡ leaves_left w old.origin old.seen
   leaves-as = λ i. (state_after w (opening-is i) (value.0 i)).leaves
 
-  pub book-kept : (spare left : D) (c : RotateCause) → RefusesAnew drive w (failed_cell b.entries) (world_after b.opening.world b.entries) (state_after w b.opening b.entries).leaves spare left c
-      → IsBookKept drive old b × RefusesAnew drive w (failed_cell old.seen) (world_left old.origin old.seen) (leaves_left w old.origin old.seen) spare left c
-  book-kept spare left c refuses = (
+  pub book-kept : (Are : List (List Bool) → Type 0) (spare left : D) (c : RotateCause) → RefusesAnew drive w Are (failed_cell b.entries) (world_after b.opening.world b.entries) spare left c
+      → IsBookKept drive old b × RefusesAnew drive w Are (failed_cell old.seen) (world_left old.origin old.seen) spare left c
+  book-kept Are spare left c refuses = (
     record { entries_are = value.0; origin_is = value.1; has = has; logged = stores.has-log drive ⊥ (λ d. ⊤) b.log (λ none. none) starts },
-    subst (λ (l : List (List Bool)). RefusesAnew drive w (failed_cell old.seen) (world_left old.origin old.seen) l spare left c) leaves-as
-        (subst (λ l. RefusesAnew drive w (failed_cell old.seen) l (state_after w b.opening b.entries).leaves spare left c) world-as
-        (subst (λ (h : List Entry). RefusesAnew drive w (failed_cell h) (world_after b.opening.world b.entries) (state_after w b.opening b.entries).leaves spare left c) value.0 refuses)),
+    subst (λ l. RefusesAnew drive w Are (failed_cell old.seen) l spare left c) world-as
+        (subst (λ (h : List Entry). RefusesAnew drive w Are (failed_cell h) (world_after b.opening.world b.entries) spare left c) value.0 refuses),
   )
 
-  module _ (spare start : D) (seen : Seen) (log : LogView D) (anew : BeginsAnew drive w b spare seen start log) where
+  -- the leaves of the book are those that the history left, and the size is that of the origin
+  pub left-as : (leaves : List (List Bool)) → AreOfBook w b leaves → AreLeft w old.origin old.seen leaves
+  left-as leaves are = are ∙ leaves-as
+
+  pub anew-as : (leaves : List (List Bool)) → AreOfSize w b leaves → AreAnew w old.origin old.seen leaves
+  anew-as leaves are = subst (λ (n : ℕ). FitsSize w n (world_left old.origin old.seen) leaves) (ap (λ (o : Origin). o.bucket) value.1)
+      (subst (λ l. FitsSize w b.bucket l leaves) world-as are)
+
+  module _ (Are : List (List Bool) → Type 0) (spare start : D) (seen : Seen) (log : LogView D) (good : failed_cell b.entries ≡ None) (world_is : seen.world ≡ world_after b.opening.world b.entries) (are : Are seen.leaves)
+      (begins : BeginsFresh drive w spare seen start log) where
     world-is : seen.world ≡ world_left old.origin old.seen
-    world-is = anew.content.world ∙ world-as
-
-    leaves-are : seen.leaves ≡ leaves_left w old.origin old.seen
-    leaves-are = anew.content.leaves ∙ leaves-as
-
-    cells-are : fresh_cells w seen.world seen.leaves ≡ cells_left w old.origin old.seen
-    cells-are = λ i. fresh_cells w (world-is i) (leaves-are i)
-
-    finds-left : Finds w (cells_left w old.origin old.seen) seen
-    finds-left = subst (λ (l : List Cell). Finds w l seen) cells-are anew.finds
-
-    origin-as : found_origin b.bucket seen (drive start) ≡ cells_origin w old.origin.bucket (cells_left w old.origin old.seen) (drive start)
-    origin-as =
-        let bucket : b.bucket ≡ old.origin.bucket = ap (λ (o : Origin). o.bucket) value.1 in
-        λ i. record {
-          world = finds-left.world i;
-          leaves = finds-left.leaves i;
-          begun = finds-left.begun i;
-          log = Some (record { cells = finds-left.count i; bytes = (drive start).bytes; clock = (drive start).clock; faults = (drive start).faults });
-          bucket = bucket i;
-        }
+    world-is = world_is ∙ world-as
 
     rotates-to : (entries : List Entry) (last : D) (origin : Origin) → entries ≡ b.entries → disk_in b.log ≡ Some last → origin ≡ found_origin b.bucket seen (drive start)
-        → RotatesTo drive w old entries last spare origin
+        → RotatesTo drive w Are old entries last spare origin
     rotates-to entries last origin same last_is from =
         let world : origin.world ≡ seen.world = ap (λ (o : Origin). o.world) from in
+        let leaves : seen.leaves ≡ origin.leaves = sym (ap (λ (o : Origin). o.leaves) from) in
+        let cells : fresh_cells w seen.world seen.leaves ≡ cells_left w old.origin old.seen origin.leaves = λ i. fresh_cells w (world-is i) (leaves i) in
+        let finds : Finds w (cells_left w old.origin old.seen origin.leaves) seen = subst (λ (l : List Cell). Finds w l seen) cells begins.finds in
+        let bucket : b.bucket ≡ old.origin.bucket = ap (λ (o : Origin). o.bucket) value.1 in
         record {
           closed = stores.closes-store drive w ⊥ (λ d. ⊤) b old entries last is_book value own (λ none. none) starts same last_is;
-          good = sym (ap failed_cell value.0) ∙ anew.good;
+          good = sym (ap failed_cell value.0) ∙ good;
           start = start;
-          compacted = subst (λ (l : List Cell). IsCompacted w l (drive spare) (drive start)) cells-are anew.compacted;
-          on_way = subst (λ (l : List Cell). KeepsOnWay w l (drive spare) (drive start)) cells-are anew.on_way;
-          state = subst (λ (l : List (List Bool)). IsStateOf w (fresh_cells w (world_left old.origin old.seen) l) (world_left old.origin old.seen) l) leaves-are
-              (subst (λ l. IsStateOf w (fresh_cells w l seen.leaves) l seen.leaves) world-is anew.state);
-          few = subst (λ (l : List Cell). length l ≤ most_cells) cells-are anew.few;
-          origin_is = from ∙ origin-as;
+          compacted = subst (λ (l : List Cell). IsCompacted w l (drive spare) (drive start)) cells begins.compacted;
+          on_way = subst (λ (l : List Cell). KeepsOnWay w l (drive spare) (drive start)) cells begins.on_way;
+          state = subst (λ (l : List (List Bool)). IsStateOf w (fresh_cells w (world_left old.origin old.seen) l) (world_left old.origin old.seen) l) leaves
+              (subst (λ l. IsStateOf w (fresh_cells w l seen.leaves) l seen.leaves) world-is begins.state);
+          few = subst (λ (l : List Cell). length l ≤ most_cells) cells begins.few;
+          origin_is = from ∙ (λ i. record {
+            world = finds.world i;
+            leaves = finds.leaves i;
+            begun = finds.begun i;
+            log = Some (record { cells = finds.count i; bytes = (drive start).bytes; clock = (drive start).clock; faults = (drive start).faults });
+            bucket = bucket i;
+          });
           world_is = world ∙ world-is;
-          leaves_are = ap (λ (o : Origin). o.leaves) from ∙ leaves-are;
-          world = subst IsWorld (sym (world ∙ anew.content.world)) has.world;
+          leaves_are = subst Are leaves are;
+          world = subst IsWorld (sym (world ∙ world_is)) has.world;
         }
 
-    pub is-rotated : (entries : List Entry) (lock : TableId) (pass : Known) (left : D) → GoesOn drive b seen start entries lock pass left → IsRotated drive w old entries spare lock pass left
+    pub is-rotated : (entries : List Entry) (lock : TableId) (pass : Known) (left : D) → GoesOn drive b seen start entries lock pass left → IsRotated drive w Are old entries spare lock pass left
     is-rotated entries lock pass left on =
         let origin : pass.origin ≡ found_origin b.bucket seen (drive start) = ap (λ (k : Known). k.origin) on.pass_is in
         record {
@@ -237,7 +287,7 @@ module _ {D : Type 0} (drive : D → Drive) (w : ℕ) (b : BookView D) (old : Kn
           leaves = on.leaves.leaves;
         }
 
-    alone : (Came : ℕ → Drive → Drive → Type 0) (entries : List Entry) (new : BookView D) (left : D) → GoesAlone drive Came b seen start entries new left → IsRotatedAlone drive w Came old entries spare new left
+    alone : (Came : ℕ → Drive → Drive → Type 0) (entries : List Entry) (new : BookView D) (left : D) → GoesAlone drive Came b seen start entries new left → IsRotatedAlone drive w Are Came old entries spare new left
     alone Came entries new left on = record {
       last = on.leaves.last;
       to = rotates-to entries on.leaves.last (origin_of drive new) on.entries_are on.leaves.last_is on.origin_is;
@@ -247,7 +297,7 @@ module _ {D : Type 0} (drive : D → Drive) (w : ℕ) (b : BookView D) (old : Kn
       leaves = on.leaves.leaves;
     }
 
-    pub not-rotated : {I P : Type 0} (e : NotRotated I D P) → GoesNot drive b seen start e → IsNotRotated drive w old spare e
-    not-rotated (back.Kept book left cause) on = absurd on
+    pub not-rotated : {I P : Type 0} (e : NotRotated I D P) → GoesNot drive b seen start e → IsNotRotated drive w Are old spare e
+    not-rotated (back.Kept book left c) on = absurd on
     not-rotated (back.Uncleared book entries left) on = alone (λ count. FailsToClear) entries book left on
     not-rotated (back.Memory book entries left) on = alone Clears entries book left on

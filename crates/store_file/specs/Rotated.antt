@@ -1,4 +1,4 @@
--- A store that goes on over a second file, in which its objects and leaves were written as a fresh log.
+-- A store that goes on over a second file, in which its objects were written as a fresh log, with its leaves as they were or anew.
 use Rattle.std.specs.Prelude.{◌≡◌, ℕ, ◌+◌, ◌*◌, ◌<◌, ◌≤◌, true, Bool, List, [], length, Option, Some, None, is_some, ⊤}
 use Rattle.atomic_table.specs.Seated.{TableId}
 use Rattle.cell_format.specs.declared.cell.Cell.{Cell}
@@ -30,6 +30,7 @@ use Rattle.store_file.specs.declared.rotating.NotRotated.{NotRotated}
 use Rattle.store_file.specs.declared.rotating.NotRotated.TheVariants as back
 use Rattle.log_compact.specs.Clearing.{Clears, FailsToClear, KeepsOrClears}
 use Rattle.store_file.specs.Closed.{ClosesStore}
+use Rattle.store_file.specs.Sized.{FitsSize, IsAnewOf}
 use Rattle.store_file.specs.Opened.{first_pass, cells_origin, found_origin}
 
 -- the objects that a history left, and the names of the leaves
@@ -39,25 +40,39 @@ world_left origin seen = world_after origin.world seen
 abbrev pub leaves_left : ℕ → Origin → List Entry → List (List Bool)
 leaves_left w origin seen = (state_after w (start_of origin) seen).leaves
 
--- the cells of a fresh log of them
-abbrev pub cells_left : ℕ → Origin → List Entry → List Cell
-cells_left w origin seen = fresh_cells w (world_left origin seen) (leaves_left w origin seen)
+-- the cells of a fresh log of these objects, with such leaves
+abbrev pub cells_left : ℕ → Origin → List Entry → List (List Bool) → List Cell
+cells_left w origin seen leaves = fresh_cells w (world_left origin seen) leaves
+
+-- the leaves that a history left, or those that the bucket size asks of the objects that it left
+abbrev pub AreLeft : ℕ → Origin → List Entry → List (List Bool) → Type 0
+AreLeft w origin seen leaves = leaves ≡ leaves_left w origin seen
+
+abbrev pub AreAnew : ℕ → Origin → List Entry → List (List Bool) → Type 0
+AreAnew w origin seen leaves = FitsSize w origin.bucket (world_left origin seen) leaves
+
+-- the same of a book
+abbrev pub AreOfBook : {D : Type 0} → ℕ → BookView D → List (List Bool) → Type 0
+AreOfBook w b leaves = leaves ≡ (state_after w b.opening b.entries).leaves
+
+abbrev pub AreOfSize : {D : Type 0} → ℕ → BookView D → List (List Bool) → Type 0
+AreOfSize w b leaves = FitsSize w b.bucket (world_after b.opening.world b.entries) leaves
 
 -- A store goes on from where this pass saw its history end. The first log is closed, as it stands on the drive then: no append has failed,
--- and it keeps the history. Then only is the other one begun: it was written on the second drive as a fresh log of what the history left,
--- and is the one that the store begins with, whose objects and leaves are those. At each moment a crash leaves of the second file what was
--- on the way, and nothing but these cells from the end of the writing on.
-pub record RotatesTo {D : Type 0} (drive : D → Drive) (w : ℕ) (old : Known) (entries : List Entry) (last spare : D) (origin : Origin) : Type 0 where
+-- and it keeps the history. Then only is the other one begun: it was written on the second drive as a fresh log of the objects that the
+-- history left, with such leaves, and is the one that the store begins with, whose objects and leaves are those. At each moment a crash
+-- leaves of the second file what was on the way, and nothing but these cells from the end of the writing on.
+pub record RotatesTo {D : Type 0} (drive : D → Drive) (w : ℕ) (Are : List (List Bool) → Type 0) (old : Known) (entries : List Entry) (last spare : D) (origin : Origin) : Type 0 where
   pub closed : ClosesStore drive w (λ start. ⊤) old entries last
   pub good : failed_cell old.seen ≡ None
   pub start : D
-  pub compacted : IsCompacted w (cells_left w old.origin old.seen) (drive spare) (drive start)
-  pub on_way : KeepsOnWay w (cells_left w old.origin old.seen) (drive spare) (drive start)
-  pub state : IsStateOf w (cells_left w old.origin old.seen) (world_left old.origin old.seen) (leaves_left w old.origin old.seen)
-  pub few : length (cells_left w old.origin old.seen) ≤ most_cells
-  pub origin_is : origin ≡ cells_origin w old.origin.bucket (cells_left w old.origin old.seen) (drive start)
+  pub compacted : IsCompacted w (cells_left w old.origin old.seen origin.leaves) (drive spare) (drive start)
+  pub on_way : KeepsOnWay w (cells_left w old.origin old.seen origin.leaves) (drive spare) (drive start)
+  pub state : IsStateOf w (cells_left w old.origin old.seen origin.leaves) (world_left old.origin old.seen) origin.leaves
+  pub few : length (cells_left w old.origin old.seen origin.leaves) ≤ most_cells
+  pub origin_is : origin ≡ cells_origin w old.origin.bucket (cells_left w old.origin old.seen origin.leaves) (drive start)
   pub world_is : origin.world ≡ world_left old.origin old.seen
-  pub leaves_are : origin.leaves ≡ leaves_left w old.origin old.seen
+  pub leaves_are : Are origin.leaves
   pub world : IsWorld origin.world
 
 -- How many cells the log had that was closed, and what came of its clearing. At each moment a crash leaves all its cells, or none.
@@ -67,16 +82,16 @@ pub record LeavesLog {D : Type 0} (drive : D → Drive) (Came : ℕ → Drive �
   pub keeps : KeepsOrClears (drive last) (drive left)
 
 -- The store, its first pass, the history of the one before, and the drive of the first log, which has no cells any more.
-pub record IsRotated {D : Type 0} (drive : D → Drive) (w : ℕ) (old : Known) (entries : List Entry) (spare : D) (lock : TableId) (pass : Known) (left : D) : Type 0 where
+pub record IsRotated {D : Type 0} (drive : D → Drive) (w : ℕ) (Are : List (List Bool) → Type 0) (old : Known) (entries : List Entry) (spare : D) (lock : TableId) (pass : Known) (left : D) : Type 0 where
   pub last : D
-  pub to : RotatesTo drive w old entries last spare pass.origin
+  pub to : RotatesTo drive w Are old entries last spare pass.origin
   pub pass_is : pass ≡ first_pass lock pass.origin
   pub leaves : LeavesLog drive Clears last left
 
 -- The book alone, which goes on over the second log, and has no entries.
-pub record IsRotatedAlone {D : Type 0} (drive : D → Drive) (w : ℕ) (Came : ℕ → Drive → Drive → Type 0) (old : Known) (entries : List Entry) (spare : D) (b : BookView D) (left : D) : Type 0 where
+pub record IsRotatedAlone {D : Type 0} (drive : D → Drive) (w : ℕ) (Are : List (List Bool) → Type 0) (Came : ℕ → Drive → Drive → Type 0) (old : Known) (entries : List Entry) (spare : D) (b : BookView D) (left : D) : Type 0 where
   pub last : D
-  pub to : RotatesTo drive w old entries last spare (origin_of drive b)
+  pub to : RotatesTo drive w Are old entries last spare (origin_of drive b)
   pub none : b.entries ≡ []
   pub has : HasWorld b
   pub logged : is_some b.log ≡ true
@@ -94,32 +109,38 @@ abbrev pub anew_cause : CompactFault → RotateCause
 anew_cause (compact.InUse len) = InUse len
 anew_cause compact.Disk = Disk
 
--- a fresh log wasn't written for this fault: the file is longer than 17 bytes, and was left as it is, or the drive failed
-pub record NotAnew {D : Type 0} (drive : D → Drive) (w : ℕ) (cells : List Cell) (spare left : D) (fault : CompactFault) : Type 0 where
+-- a fresh log wasn't written for this fault: the file is longer than 17 bytes, and was left as it was, or the drive failed
+pub record NotAnew {D : Type 0} (drive : D → Drive) (w : ℕ) (Are : List (List Bool) → Type 0) (world : World) (spare left : D) (fault : CompactFault) : Type 0 where
+  pub leaves : List (List Bool)
+  pub leaves_are : Are leaves
   pub refuses : RefusesCompact (drive spare) (drive left) fault
-  pub on_way : KeepsOnWay w cells (drive spare) (drive left)
+  pub on_way : KeepsOnWay w (fresh_cells w world leaves) (drive spare) (drive left)
 
--- Why a store of this world and these leaves doesn't go on over the second drive, whose append failed where one did, and what that leaves
+-- there are more objects and such leaves than a log may have cells
+pub record IsTooLong (Are : List (List Bool) → Type 0) (world : World) : Type 0 where
+  pub leaves : List (List Bool)
+  pub leaves_are : Are leaves
+  pub many : most_cells < length world + 2 * length leaves
+
+-- Why a store of this world doesn't go on over the second drive with such leaves, whose append failed where one did, and what that leaves
 -- of the drive: an append of it has failed; there are too many objects and leaves for a log; memory ran out; or no log was written.
-abbrev pub RefusesAnew : {D : Type 0} → (D → Drive) → ℕ → Option ℕ → World → List (List Bool) → D → D → RotateCause → Type 0
-RefusesAnew drive w failed world leaves spare left (Closed cell) = (failed ≡ Some cell) × (left ≡ spare)
-RefusesAnew drive w failed world leaves spare left Memory = (failed ≡ None) × (left ≡ spare)
-RefusesAnew drive w failed world leaves spare left TooLong = (failed ≡ None) × (left ≡ spare) × (most_cells < length world + 2 * length leaves)
-RefusesAnew drive w failed world leaves spare left (InUse len) = (failed ≡ None) × NotAnew drive w (fresh_cells w world leaves) spare left (compact.InUse len)
-RefusesAnew drive w failed world leaves spare left Disk = (failed ≡ None) × NotAnew drive w (fresh_cells w world leaves) spare left compact.Disk
+abbrev pub RefusesAnew : {D : Type 0} → (D → Drive) → ℕ → (List (List Bool) → Type 0) → Option ℕ → World → D → D → RotateCause → Type 0
+RefusesAnew drive w Are failed world spare left (Closed cell) = (failed ≡ Some cell) × (left ≡ spare)
+RefusesAnew drive w Are failed world spare left Memory = (failed ≡ None) × (left ≡ spare)
+RefusesAnew drive w Are failed world spare left TooLong = (failed ≡ None) × (left ≡ spare) × IsTooLong Are world
+RefusesAnew drive w Are failed world spare left (InUse len) = (failed ≡ None) × NotAnew drive w Are world spare left (compact.InUse len)
+RefusesAnew drive w Are failed world spare left Disk = (failed ≡ None) × NotAnew drive w Are world spare left compact.Disk
 
 -- What comes back where no store does: the book as it was, over its log, and the second drive; or the book over the second log, where the
 -- drive of the first one failed while its log was cleared, or memory ran out once it was.
-abbrev pub IsNotRotated : {I D P : Type 0} → (D → Drive) → ℕ → Known → D → NotRotated I D P → Type 0
-IsNotRotated drive w old spare (back.Kept book left cause) =
-    IsBookKept drive old book × RefusesAnew drive w (failed_cell old.seen) (world_left old.origin old.seen) (leaves_left w old.origin old.seen) spare left cause
-IsNotRotated drive w old spare (back.Uncleared book entries left) = IsRotatedAlone drive w (λ count. FailsToClear) old entries spare book left
-IsNotRotated drive w old spare (back.Memory book entries left) = IsRotatedAlone drive w Clears old entries spare book left
+abbrev pub IsNotRotated : {I D P : Type 0} → (D → Drive) → ℕ → (List (List Bool) → Type 0) → Known → D → NotRotated I D P → Type 0
+IsNotRotated drive w Are old spare (back.Kept book left cause) =
+    IsBookKept drive old book × RefusesAnew drive w Are (failed_cell old.seen) (world_left old.origin old.seen) spare left cause
+IsNotRotated drive w Are old spare (back.Uncleared book entries left) = IsRotatedAlone drive w Are (λ count. FailsToClear) old entries spare book left
+IsNotRotated drive w Are old spare (back.Memory book entries left) = IsRotatedAlone drive w Are Clears old entries spare book left
 
--- A fresh log of what a book has was begun on this drive: what its opening finds, the drive as it was then, and the log.
-pub record BeginsAnew {D : Type 0} (drive : D → Drive) (w : ℕ) (b : BookView D) (spare : D) (seen : Seen) (start : D) (log : LogView D) : Type 0 where
-  pub good : failed_cell b.entries ≡ None
-  pub content : HasContent w b seen
+-- A fresh log was begun on this drive: what its opening finds, the drive as it was then, and the log.
+pub record BeginsFresh {D : Type 0} (drive : D → Drive) (w : ℕ) (spare : D) (seen : Seen) (start : D) (log : LogView D) : Type 0 where
   pub finds : Finds w (fresh_cells w seen.world seen.leaves) seen
   pub few : length (fresh_cells w seen.world seen.leaves) ≤ most_cells
   pub state : IsStateOf w (fresh_cells w seen.world seen.leaves) seen.world seen.leaves
@@ -129,6 +150,18 @@ pub record BeginsAnew {D : Type 0} (drive : D → Drive) (w : ℕ) (b : BookView
   pub ready : IsOpened w (found_state seen) (drive start) (drive log.disk)
   pub compacted : IsCompacted w (fresh_cells w seen.world seen.leaves) (drive spare) (drive start)
   pub on_way : KeepsOnWay w (fresh_cells w seen.world seen.leaves) (drive spare) (drive start)
+
+-- That of what a book has.
+pub record BeginsAnew {D : Type 0} (drive : D → Drive) (w : ℕ) (b : BookView D) (spare : D) (seen : Seen) (start : D) (log : LogView D) : Type 0 where
+  pub good : failed_cell b.entries ≡ None
+  pub content : HasContent w b seen
+  pub begins : BeginsFresh drive w spare seen start log
+
+-- That of another book with leaves anew.
+pub record BeginsOverAnew {D : Type 0} (drive : D → Drive) (w : ℕ) (b : BookView D) (spare : D) (next : BookView D) (seen : Seen) (start : D) (log : LogView D) : Type 0 where
+  pub good : failed_cell b.entries ≡ None
+  pub anew : IsAnewOf w b next
+  pub begins : BeginsAnew drive w next spare seen start log
 
 -- What came of the log of a book.
 pub record LeavesOf {D : Type 0} (drive : D → Drive) (Came : ℕ → Drive → Drive → Type 0) (b : BookView D) (left : D) : Type 0 where
@@ -155,3 +188,27 @@ abbrev pub GoesNot : {I D P : Type 0} → (D → Drive) → BookView D → Seen 
 GoesNot drive b seen start (back.Kept book left cause) = ⊥
 GoesNot drive b seen start (back.Uncleared book entries left) = GoesAlone drive (λ count. FailsToClear) b seen start entries book left
 GoesNot drive b seen start (back.Memory book entries left) = GoesAlone drive Clears b seen start entries book left
+
+-- what came of a log that was handed out
+pub record LeavesView {D : Type 0} (drive : D → Drive) (Came : ℕ → Drive → Drive → Type 0) (log : Option (LogView D)) (left : D) : Type 0 where
+  pub view : LogView D
+  pub view_is : log ≡ Some view
+  pub came : Came view.cells (drive view.disk) (drive left)
+  pub keeps : KeepsOrClears (drive view.disk) (drive left)
+
+-- A store is made of a book, once the log was cleared that was handed out, and the history beside it.
+pub record Finishes {D : Type 0} (drive : D → Drive) (b : BookView D) (h : List Entry) (log : Option (LogView D)) (entries : List Entry) (lock : TableId) (pass : Known) (left : D) : Type 0 where
+  pub entries_are : entries ≡ h
+  pub pass_is : pass ≡ first_pass lock (origin_of drive b)
+  pub leaves : LeavesView drive Clears log left
+
+-- None is, and the book comes back.
+pub record FinishesAlone {D : Type 0} (drive : D → Drive) (Came : ℕ → Drive → Drive → Type 0) (b : BookView D) (h : List Entry) (log : Option (LogView D)) (entries : List Entry) (new : BookView D) (left : D) : Type 0 where
+  pub entries_are : entries ≡ h
+  pub book_is : new ≡ b
+  pub leaves : LeavesView drive Came log left
+
+abbrev pub FinishesNot : {I D P : Type 0} → (D → Drive) → BookView D → List Entry → Option (LogView D) → NotRotated I D P → Type 0
+FinishesNot drive b h log (back.Kept book left cause) = ⊥
+FinishesNot drive b h log (back.Uncleared book entries left) = FinishesAlone drive (λ count. FailsToClear) b h log entries book left
+FinishesNot drive b h log (back.Memory book entries left) = FinishesAlone drive Clears b h log entries book left

@@ -40,6 +40,12 @@ pub struct OpenedStore<I: Index, D: LogDisk, O: Start> {
     pub records: u64,
 }
 
+/// The least size of a bucket.
+pub const LEAST_BUCKET: u32 = 4;
+
+/// The most.
+pub const MOST_BUCKET: u32 = 4096;
+
 // A store of a book, and the pass that has all parts of it.
 type Shared<I, D, O> = (Store<I, D, O>, Pass<SharedBook<I, D, O>>);
 
@@ -98,7 +104,7 @@ pub fn open_over<I: Index, D: LogDisk, O: Start>(
 pub(crate) fn is_bucket(bucket: u32) -> bool
     ensures { result ≡ is_bucket bucket }
 {
-    4 <= bucket && bucket <= 4096
+    LEAST_BUCKET <= bucket && bucket <= MOST_BUCKET
 }
 
 // A store over a log as it was opened.

@@ -1,0 +1,22 @@
+use Rattle.std.proofs.Common.{refl}
+use Rattle.store_file.proofs.Results.{ok-with, err-with}
+use Rattle.store_file.proofs.RotateFacts.{goes-on, goes-not}
+use Rattle.store_file.proofs.rotating.go_on.Goals as goal
+
+pub returns-clause-rotated : goal.returns-clause-rotated
+returns-clause-rotated g c =
+    let opened = c.args.opened in
+    let by = c.rotate-replaced.ensures in
+    ok-with _ _
+    (λ r on. goes-on g.D.LogDisk.drive c.args.book c.args.book _ opened.seen opened.log opened.start.value by.rotated c.requires.log.0 refl
+    g.I.Index.WIDTH c.requires.content c.requires.world _ _ by.entries by.log r.entries r.store r.pass r.spare on)
+    c.finish.result c.finish.ensures.finished
+
+pub returns-clause-refused : goal.returns-clause-refused
+returns-clause-refused g c =
+    let opened = c.args.opened in
+    let by = c.rotate-replaced.ensures in
+    err-with _ _
+    (λ e on. goes-not g.D.LogDisk.drive c.args.book c.args.book _ opened.seen opened.log opened.start.value by.rotated c.requires.log.0 refl
+    g.I.Index.WIDTH c.requires.content c.requires.world _ _ by.entries by.log e on)
+    c.finish.result c.finish.ensures.refused
