@@ -1,5 +1,5 @@
 //! Stores over files: opened and closed, renewed, rotated between two files, and opened over either, also where a drive has failed.
-ghost use Rattle.std.specs.Prelude.{◌≡◌, false};
+ghost use Rattle.std.specs.Prelude.{◌≡◌, false, IfOk};
 ghost use Rattle.store_client.specs.Caller.{IsFree};
 ghost use Rattle.store_file.specs.Opened.{IsFirst};
 
@@ -18,20 +18,20 @@ use store_client::Client;
 use store_file::{
     ClosedStore, EitherCause, NotEither, NotRotated, OpenCause, OpenedEither, OpenedStore,
     OverFile, RotateCause, Rotated, Which, close_store, open_either, open_store, renew_store,
-    rotate_store,
+    rotate_anew, rotate_store,
 };
 use zorder::Point;
 
-const HEADER: &[u8] = b"MDLOCLOG\x02\x01\0\0\0\0\0\0";
+pub(crate) const HEADER: &[u8] = b"MDLOCLOG\x02\x01\0\0\0\0\0\0";
 
 // The clear commit byte behind the last record.
-const END: &[u8] = b"\0";
+pub(crate) const END: &[u8] = b"\0";
 
 // The records: a commit byte and a kind, an id, and of a put its x, its y and its moment.
-const PUT_1: &[u8] =
+pub(crate) const PUT_1: &[u8] =
     b"\x01\x01\0\0\0\0\0\0\0\x01\0\0\0\x03\0\0\0\x05\0\0\0\0\0\0\0\x0a\0\0\0\0\0\0";
 
-const PUT_2: &[u8] =
+pub(crate) const PUT_2: &[u8] =
     b"\x01\x01\0\0\0\0\0\0\0\x02\0\0\0\x04\0\0\0\x04\0\0\0\0\0\0\0\x14\0\0\0\0\0\0";
 
 const PUT_3: &[u8] =
@@ -50,7 +50,7 @@ const LATER_1: &[u8] =
 const UNSET_1: &[u8] =
     b"\0\x01\0\0\0\0\0\0\0\x01\0\0\0\x03\0\0\0\x05\0\0\0\0\0\0\0\x0a\0\0\0\0\0\0";
 
-const EMPTY: &[&[u8]] = &[HEADER, END];
+pub(crate) const EMPTY: &[&[u8]] = &[HEADER, END];
 
 // Three puts and a remove, and what is written anew of them.
 const FILLED: &[&[u8]] = &[HEADER, PUT_1, PUT_2, PUT_3, REMOVE_3, END];
@@ -60,10 +60,10 @@ const ANEW: &[&[u8]] = &[HEADER, PUT_1, PUT_2, END];
 const GONE_ON: &[&[u8]] = &[HEADER, PUT_1, PUT_2, PUT_4, END];
 
 // Where an object is, if it is there and its find was answered.
-type Place = Option<Option<Stamped>>;
+pub(crate) type Place = Option<Option<Stamped>>;
 
 // Where the objects 1 to 4 are.
-type Places = [Place; 4];
+pub(crate) type Places = [Place; 4];
 
 // The place at this point, with this moment.
 macro_rules! place {
@@ -75,9 +75,9 @@ macro_rules! place {
     };
 }
 
-const NOWHERE: Place = Some(None);
+pub(crate) const NOWHERE: Place = Some(None);
 
-const FIRST_TWO: Places = [place!(3, 5, 10), place!(4, 4, 20), NOWHERE, NOWHERE];
+pub(crate) const FIRST_TWO: Places = [place!(3, 5, 10), place!(4, 4, 20), NOWHERE, NOWHERE];
 
 const FIRST_TWO_AND_FOURTH: Places = [
     place!(3, 5, 10),
@@ -87,12 +87,12 @@ const FIRST_TWO_AND_FOURTH: Places = [
 ];
 
 // How many objects there are, their latest moment, how many records the log has, and where the objects are.
-type Found = (u64, Option<u64>, u64, Places);
+pub(crate) type Found = (u64, Option<u64>, u64, Places);
 
 const NOTHING: Found = (0, None, 0, [NOWHERE, NOWHERE, NOWHERE, NOWHERE]);
 
 // A store over a file, and the pass that has all parts of it.
-type Open<I, D> = (Store<I, D, OverFile>, Pass<SharedBook<I, D, OverFile>>);
+pub(crate) type Open<I, D> = (Store<I, D, OverFile>, Pass<SharedBook<I, D, OverFile>>);
 
 // The bytes of these pieces.
 fn bytes_of(rt: &impl Abort, alloc: Global, pieces: &[&[u8]]) -> Vec<u8> {
@@ -104,24 +104,24 @@ fn bytes_of(rt: &impl Abort, alloc: Global, pieces: &[&[u8]]) -> Vec<u8> {
 }
 
 // A drive with these bytes, where these calls fail.
-fn disk_of(rt: &impl Abort, alloc: Global, bytes: &[u8], failing: &[Fail]) -> MemDisk {
+pub(crate) fn disk_of(rt: &impl Abort, alloc: Global, bytes: &[u8], failing: &[Fail]) -> MemDisk {
     let bytes = Vec::from_slice(alloc, bytes).expect(rt, "no memory");
     let failing = Vec::from_slice(alloc, failing).expect(rt, "no memory");
     MemDisk::new(alloc, bytes, 1_024, 128, failing).expect(rt, "no drive")
 }
 
-fn disk_with(rt: &impl Abort, alloc: Global, pieces: &[&[u8]]) -> MemDisk {
+pub(crate) fn disk_with(rt: &impl Abort, alloc: Global, pieces: &[&[u8]]) -> MemDisk {
     disk_of(rt, alloc, bytes_of(rt, alloc, pieces).as_slice(), &[])
 }
 
 // Fails unless a drive has these bytes.
-fn expect_bytes(rt: &impl Abort, alloc: Global, disk: &MemDisk, pieces: &[&[u8]]) {
+pub(crate) fn expect_bytes(rt: &impl Abort, alloc: Global, disk: &MemDisk, pieces: &[&[u8]]) {
     let wanted = bytes_of(rt, alloc, pieces);
     assert_same!(rt; disk.bytes(), wanted.as_slice());
 }
 
 // Where the objects are.
-fn look<I: Index, D: LogDisk, R: Wait>(
+pub(crate) fn look<I: Index, D: LogDisk, R: Wait>(
     rt: &R,
     alloc: Global,
     store: &Store<I, D, OverFile>,
@@ -176,7 +176,7 @@ fn go_on<I: Index, D: LogDisk, R: Wait>(
     client.into_pass()
 }
 
-fn open<I: Index, D: LogDisk>(
+pub(crate) fn open<I: Index, D: LogDisk>(
     rt: &impl Abort,
     alloc: Global,
     disk: D,
@@ -206,7 +206,7 @@ fn filled<I: Index, D: LogDisk, R: Wait + Abort>(rt: &R, alloc: Global, disk: D)
 }
 
 // Ends a store, all of whose appends went well: how many entries it had, and its drive.
-fn close<I: Index, D: LogDisk>(
+pub(crate) fn close<I: Index, D: LogDisk>(
     rt: &impl Abort,
     store: Store<I, D, OverFile>,
     pass: Pass<SharedBook<I, D, OverFile>>,
@@ -224,7 +224,11 @@ fn close<I: Index, D: LogDisk>(
 }
 
 // What is found over a file, and the drive.
-fn found_on<I: Index, D: LogDisk, R: Wait + Abort>(rt: &R, alloc: Global, disk: D) -> (Found, D) {
+pub(crate) fn found_on<I: Index, D: LogDisk, R: Wait + Abort>(
+    rt: &R,
+    alloc: Global,
+    disk: D,
+) -> (Found, D) {
     let OpenedStore {
         store,
         pass,
@@ -290,19 +294,45 @@ fn renewed<I: Index, D: LogDisk>(
     }
 }
 
-fn rotated<I: Index, D: LogDisk>(
+/// With which leaves a store is rotated.
+#[derive(Clone, Copy)]
+pub(crate) enum Leaves {
+    AsTheyAre,
+    Anew,
+}
+
+fn rotate<I: Index, D: LogDisk>(
+    alloc: Global,
+    store: Store<I, D, OverFile>,
+    pass: Pass<SharedBook<I, D, OverFile>>,
+    spare: D,
+    leaves: Leaves,
+) -> Result<Rotated<I, D>, NotRotated<I, D>>
+    requires free { IsFree store pass }
+    requires parts { pass.parts ≡ 65536 }
+    ensures free { IfOk result (λ r. IsFree r.store r.pass) }
+    ensures parts { IfOk result (λ r. r.pass.parts ≡ 65536) }
+{
+    match leaves {
+        Leaves::AsTheyAre => rotate_store(alloc, store, pass, spare),
+        Leaves::Anew => rotate_anew(alloc, store, pass, spare),
+    }
+}
+
+pub(crate) fn rotated<I: Index, D: LogDisk>(
     rt: &impl Abort,
     alloc: Global,
     store: Store<I, D, OverFile>,
     pass: Pass<SharedBook<I, D, OverFile>>,
     spare: D,
+    leaves: Leaves,
 ) -> Rotated<I, D>
     requires free { IsFree store pass }
     requires parts { pass.parts ≡ 65536 }
     ensures free { IsFree result.store result.pass }
     ensures parts { result.pass.parts ≡ 65536 }
 {
-    match rotate_store(alloc, store, pass, spare) {
+    match rotate(alloc, store, pass, spare, leaves) {
         Ok(rotated) => rotated,
         Err(_) => rt.panic("the store isn't rotated"),
     }
@@ -366,6 +396,7 @@ fn fill_and_rotate<I: Index, D: LogDisk, R: Wait + Abort>(
     alloc: Global,
     disk: D,
     spare: D,
+    leaves: Leaves,
     goes_on: bool,
 ) -> ([usize; 2], D, D) {
     let (store, pass) = filled::<I, D, R>(rt, alloc, disk);
@@ -374,7 +405,7 @@ fn fill_and_rotate<I: Index, D: LogDisk, R: Wait + Abort>(
         pass,
         entries,
         spare,
-    } = rotated(rt, alloc, store, pass, spare);
+    } = rotated(rt, alloc, store, pass, spare, leaves);
     let pass = if goes_on {
         go_on(rt, alloc, &store, pass)
     } else {
@@ -405,7 +436,7 @@ fn open_and_rotate<I: Index, D: LogDisk, R: Wait + Abort>(
         pass,
         entries: _,
         spare,
-    } = rotated(rt, alloc, store, pass, spare);
+    } = rotated(rt, alloc, store, pass, spare, Leaves::AsTheyAre);
     let (_, disk) = close(rt, store, pass);
     (which, disk, spare)
 }
@@ -428,9 +459,11 @@ fn is_found_behind_a_renewal<R: Wait + Abort>(rt: &R, alloc: Global) {
     expect_found(rt, alloc, disk, (3, Some(30), 5, FIRST_TWO_AND_FOURTH));
 }
 
-fn rotates_over_and_back<R: Wait + Abort>(rt: &R, alloc: Global) {
+fn rotates_over_and_back<R: Wait + Abort>(rt: &R, alloc: Global, leaves: Leaves) {
     let (one, two) = (disk_with(rt, alloc, &[]), disk_with(rt, alloc, &[]));
-    let (entries, two, one) = fill_and_rotate::<FlatIndex, MemDisk, R>(rt, alloc, one, two, false);
+    let (entries, two, one) = fill_and_rotate::<FlatIndex, MemDisk, R>(
+        rt, alloc, one, two, leaves, false,
+    );
     assert_same!(rt; entries, [4, 0]);
     expect_bytes(rt, alloc, &two, ANEW);
     expect_bytes(rt, alloc, &one, EMPTY);
@@ -440,9 +473,11 @@ fn rotates_over_and_back<R: Wait + Abort>(rt: &R, alloc: Global) {
     expect_bytes(rt, alloc, &two, EMPTY);
 }
 
-fn goes_on_behind_a_rotation<R: Wait + Abort>(rt: &R, alloc: Global) {
+fn goes_on_behind_a_rotation<R: Wait + Abort>(rt: &R, alloc: Global, leaves: Leaves) {
     let (one, two) = (disk_with(rt, alloc, &[]), disk_with(rt, alloc, &[]));
-    let (entries, two, one) = fill_and_rotate::<FlatIndex, MemDisk, R>(rt, alloc, one, two, true);
+    let (entries, two, one) = fill_and_rotate::<FlatIndex, MemDisk, R>(
+        rt, alloc, one, two, leaves, true,
+    );
     assert_same!(rt; entries, [4, 1]);
     expect_bytes(rt, alloc, &two, GONE_ON);
     expect_bytes(rt, alloc, &one, EMPTY);
@@ -469,9 +504,10 @@ fn kept<I: Index, D: LogDisk, R: Wait + Abort>(
     alloc: Global,
     disk: D,
     spare: D,
+    leaves: Leaves,
 ) -> (RotateCause, Option<D>, D) {
     let (store, pass) = filled::<I, D, R>(rt, alloc, disk);
-    match rotate_store(alloc, store, pass, spare) {
+    match rotate(alloc, store, pass, spare, leaves) {
         Err(NotRotated::Kept { book, spare, cause }) => (cause, book.into_parts().disk, spare),
         _ => rt.panic("the book isn't kept"),
     }
@@ -520,9 +556,11 @@ const BEHIND: u64 = 23;
 
 const IN_ALL: u64 = 6;
 
-fn keeps_its_objects<R: Wait + Abort>(rt: &R, alloc: Global) {
+fn keeps_its_objects<R: Wait + Abort>(rt: &R, alloc: Global, leaves: Leaves) {
     let (one, two) = (disk_with(rt, alloc, &[]), disk_with(rt, alloc, &[]));
-    let (_, two, one) = fill_and_rotate::<FlatIndex, MemDisk, R>(rt, alloc, one, two, false);
+    let (_, two, one) = fill_and_rotate::<FlatIndex, MemDisk, R>(
+        rt, alloc, one, two, leaves, false,
+    );
     assert_same!(rt; [one.moments(), two.moments()], [BEHIND, IN_ALL]);
     for moment in 0..7 {
         expect_after_crashes(rt, alloc, (&one, BEFORE), (&two, moment));
@@ -532,10 +570,16 @@ fn keeps_its_objects<R: Wait + Abort>(rt: &R, alloc: Global) {
     }
 }
 
-fn keeps_its_book<R: Wait + Abort>(rt: &R, alloc: Global, failing: Fail, wanted: (Which, u64)) {
+fn keeps_its_book<R: Wait + Abort>(
+    rt: &R,
+    alloc: Global,
+    leaves: Leaves,
+    failing: Fail,
+    wanted: (Which, u64),
+) {
     let one = disk_with(rt, alloc, &[]);
     let two = disk_of(rt, alloc, &[], &[failing]);
-    let (cause, one, two) = kept::<FlatIndex, MemDisk, R>(rt, alloc, one, two);
+    let (cause, one, two) = kept::<FlatIndex, MemDisk, R>(rt, alloc, one, two, leaves);
     let one = one.expect(rt, "the book has no log");
     assert_same!(rt; cause, RotateCause::Disk);
     expect_bytes(rt, alloc, &one, FILLED);
@@ -560,9 +604,10 @@ fn uncleared<I: Index, D: LogDisk, R: Wait + Abort>(
     alloc: Global,
     disk: D,
     spare: D,
+    leaves: Leaves,
 ) -> (usize, D, Option<D>) {
     let (store, pass) = filled::<I, D, R>(rt, alloc, disk);
-    match rotate_store(alloc, store, pass, spare) {
+    match rotate(alloc, store, pass, spare, leaves) {
         Err(NotRotated::Uncleared { book, entries, old }) => {
             (entries.as_slice().len(), old, book.into_parts().disk)
         }
@@ -570,10 +615,10 @@ fn uncleared<I: Index, D: LogDisk, R: Wait + Abort>(
     }
 }
 
-fn has_gone_on<R: Wait + Abort>(rt: &R, alloc: Global, failing: Fail) {
+fn has_gone_on<R: Wait + Abort>(rt: &R, alloc: Global, leaves: Leaves, failing: Fail) {
     let one = disk_of(rt, alloc, &[], &[failing]);
     let two = disk_with(rt, alloc, &[]);
-    let (entries, one, two) = uncleared::<FlatIndex, MemDisk, R>(rt, alloc, one, two);
+    let (entries, one, two) = uncleared::<FlatIndex, MemDisk, R>(rt, alloc, one, two, leaves);
     let two = two.expect(rt, "the book has no log");
     assert_same!(rt; entries, 4);
     expect_bytes(rt, alloc, &two, ANEW);
@@ -633,12 +678,14 @@ fn a_store_is_opened_with_all_that_renewed_ones_left(rt: HostRuntime) {
 
 #[test]
 fn a_store_is_rotated_into_a_second_file_and_back(rt: HostRuntime) {
-    rotates_over_and_back(&rt, rt.alloc());
+    rotates_over_and_back(&rt, rt.alloc(), Leaves::AsTheyAre);
+    rotates_over_and_back(&rt, rt.alloc(), Leaves::Anew);
 }
 
 #[test]
 fn a_rotated_store_goes_on_in_its_second_file(rt: HostRuntime) {
-    goes_on_behind_a_rotation(&rt, rt.alloc());
+    goes_on_behind_a_rotation(&rt, rt.alloc(), Leaves::AsTheyAre);
+    goes_on_behind_a_rotation(&rt, rt.alloc(), Leaves::Anew);
 }
 
 #[test]
@@ -648,7 +695,9 @@ fn a_second_drive_that_fails_leaves_the_first_log(rt: HostRuntime) {
             call: *call,
             number: *number,
         };
-        keeps_its_book(&rt, rt.alloc(), failing, (*which, *records));
+        let wanted = (*which, *records);
+        keeps_its_book(&rt, rt.alloc(), Leaves::AsTheyAre, failing, wanted);
+        keeps_its_book(&rt, rt.alloc(), Leaves::Anew, failing, wanted);
     }
 }
 
@@ -659,14 +708,16 @@ fn a_first_drive_that_fails_leaves_the_second_log(rt: HostRuntime) {
             call: *call,
             number: *number,
         };
-        has_gone_on(&rt, rt.alloc(), failing);
+        has_gone_on(&rt, rt.alloc(), Leaves::AsTheyAre, failing);
+        has_gone_on(&rt, rt.alloc(), Leaves::Anew, failing);
     }
 }
 
 // At each moment of a rotation: of one drive while the other one rests.
 #[test]
 fn a_crash_in_a_rotation_leaves_the_objects(rt: HostRuntime) {
-    keeps_its_objects(&rt, rt.alloc());
+    keeps_its_objects(&rt, rt.alloc(), Leaves::AsTheyAre);
+    keeps_its_objects(&rt, rt.alloc(), Leaves::Anew);
 }
 
 // What a crash may leave of two files: both logs; the old one beside a second file that isn't made, is short, or has records that don't

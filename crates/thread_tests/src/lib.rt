@@ -31,6 +31,8 @@ mod fixtures;
 #[cfg(test)]
 mod lanes;
 #[cfg(test)]
+mod leaves_anew;
+#[cfg(test)]
 mod legal;
 #[cfg(test)]
 mod numbered;
