@@ -1,19 +1,19 @@
 -- Where the splits at the end ended well, each leaf is sized or there was no room.
-use Rattle.std.proofs.Common.{◌≡◌, ◌⊎◌, inl, inr, ℕ, ◌+◌, ◌<◌, Bool, true, false, not, ◌&&◌, ◌||◌, cond, List, [], ◌∷◌, length, Option, Some, None, Ok, Err, refl, sym, ap, subst, ◌∙◌}
+use Rattle.std.proofs.Common.{◌≡◌, ◌⊎◌, inl, inr, ℕ, ◌+◌, ◌<◌, Bool, true, false, not, ◌||◌, cond, List, [], length, Option, Some, None, Ok, Err, refl, sym, ap, subst, ◌∙◌}
 use mathlib.Core.Bool.{true≢false}
 use Rattle.std.specs.Prelude.{nat_lt}
-use Rattle.std.specs.List.{find, list_all}
 use Rattle.std.specs.Option.{option_map}
 use Rattle.std.proofs.lemmas.Bool.{ltb-true}
 use Rattle.plain_list.specs.declared.entries.Entry.{Entry}
-use Rattle.plain_list.specs.World.{World, places_of}
+use Rattle.plain_list.specs.World.{World}
 use Rattle.plain_list.specs.History.{world_after, failed_cell}
-use Rattle.plain_list.specs.State.{State, OpenSplit, is_leaf, is_splitting, state_after}
-use Rattle.plain_list.specs.Size.{is_over, full_leaf, IsSized}
+use Rattle.plain_list.specs.State.{State, is_leaf, state_after}
+use Rattle.plain_list.specs.Size.{full_leaf, IsSized}
 use Rattle.plain_list.proofs.Histories.{state_after-world}
 use Rattle.commit_book.specs.Refusals.{IsRefusedBy, IsMemoryOrDisk, first_of, closed_refusal, room_refusal, leaf_refusal, split_number}
 use Rattle.commit_book.specs.declared.faults.BookFault.{BookFault}
 use Rattle.commit_book.specs.declared.faults.BookFault.TheVariants as book
+use Rattle.commit_book.proofs.SizedLeaves.{sized-none}
 use Rattle.book_lock.specs.Pass.{Known}
 use Rattle.book_lock.specs.declared.origin.Origin.{Origin}
 use Rattle.sessions.specs.Shared.{start_of}
@@ -23,20 +23,6 @@ use Rattle.sessions.specs.Settles.{SettleEnds}
 use Rattle.sessions.specs.declared.faults.Settled.{Settled}
 use Rattle.sessions.specs.declared.faults.Settled.TheVariants.{Small, Room}
 use Rattle.lane_splits.proofs.Tidy.{end-seen}
-
--- where no leaf is over the size, each is sized
-sized-none : (w size : ℕ) (world : World) (splits : List OpenSplit) (leaves : List (List Bool)) → splits ≡ [] → find (λ n. is_over w size (places_of world) n && not (is_splitting splits n)) leaves ≡ None
-    → list_all (λ n. not (is_over w size (places_of world) n)) leaves ≡ true
-sized-none w size world splits [] ended none = refl
-sized-none w size world splits (l ∷ leaves) ended none =
-    by_test (is_over w size (places_of world) l) (is_splitting splits l) (ap (λ (s : List OpenSplit). is_splitting s l) ended) none (sized-none w size world splits leaves ended)
-  where
-    by_test : (over splitting : Bool) → splitting ≡ false → cond (over && not splitting) (Some l) (find (λ n. is_over w size (places_of world) n && not (is_splitting splits n)) leaves) ≡ None
-        → (find (λ n. is_over w size (places_of world) n && not (is_splitting splits n)) leaves ≡ None → list_all (λ n. not (is_over w size (places_of world) n)) leaves ≡ true)
-        → (not over && list_all (λ n. not (is_over w size (places_of world) n)) leaves) ≡ true
-    by_test true true split here rest = absurd (true≢false split)
-    by_test true false split here rest = absurd (cc)
-    by_test false splitting split here rest = rest here
 
 sized-full : (w size : ℕ) (o : State) (h : List Entry) → (state_after w o h).splits ≡ [] → full_leaf w size (state_after w o h) ≡ None → IsSized w size (world_after o.world h) (state_after w o h).leaves
 sized-full w size o h ended none =
