@@ -1,6 +1,6 @@
 //! Tests of the lock by itself, and of sessions that run at once: passes by hand, lanes in an order that a gate makes, also such as a store
-//! runs by itself, and sixteen lanes together; the index that one of them watches; the verbs of a client; a store that is renewed; and
-//! stores over files, also where they go on over a second one.
+//! runs by itself, and sixteen lanes together; the index that one of them watches; the verbs of a client; the objects of a store; a store
+//! that is renewed; and stores over files, also where they go on over a second one.
 #![tactic(auto)]
 
 // `assert!` and `assert_eq!` as calls: the proof of a function with several of them is much shorter so.
@@ -52,3 +52,5 @@ mod stores;
 mod turns;
 #[cfg(test)]
 mod versions;
+#[cfg(test)]
+mod worlds;
