@@ -5,7 +5,7 @@
 //! `move_to`, `remove`, `find`, `within`, `nearest`) are the same call, each with just the answers that it may have, and `report` is a move
 //! or a put, as it takes. `world` copies the objects. `Client::work_all` lets a team work at once, each in a thread of its own, and takes
 //! all home (`TeamDid`). Whatever clients do, their store, its origin, their parts and their session stay (`Keeps`): so who has joined all
-//! of them again may renew or close the store, and knows from what it began.
+//! of them again may renew or close the store, and knows from what it began. The limits of a store are constants here.
 //!
 //! Not here: what a store is, and how it is made and closed (`sessions`).
 #![tactic(auto)]
@@ -14,6 +14,7 @@ mod answers;
 mod changes;
 mod client;
 mod crowd;
+mod limits;
 mod shares;
 mod verbs;
 
@@ -21,3 +22,7 @@ pub use answers::{Listed, MoveReply, PutReply, Report};
 pub use changes::Change;
 pub use client::{Client, Reply};
 pub use crowd::{Work, Worker, apart, at_once};
+pub use limits::{
+    MOST_CELLS, MOST_CELLS_TO_BEGIN, MOST_CLIENTS, MOST_EVENTS, MOST_EVENTS_TO_BEGIN, MOST_LISTED,
+    MOST_MEMBERS, MOST_NEAREST,
+};

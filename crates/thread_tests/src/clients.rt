@@ -12,7 +12,7 @@ use std::alloc::Global;
 use std::marker::Brand;
 use std::process::Abort;
 use std::sync::Wait;
-use store_client::{Client, Listed, MoveReply, PutReply, Report};
+use store_client::{Client, Listed, MOST_LISTED, MOST_NEAREST, MoveReply, PutReply, Report};
 use zorder::{Placed, Point, Region};
 
 const HERE: Point = Point { x: 5, y: 5 };
@@ -191,18 +191,33 @@ fn are_nearest(told: &Option<PlacedList>) -> bool {
     matches!(told, Some(list) if list.as_slice() == NEAREST.as_slice())
 }
 
-// What is told of boxes, and of a near.
-fn queries<I: Index, D: LogDisk, R: Wait>(
+fn are_so_many(told: &Option<PlacedList>, number: usize) -> bool {
+    matches!(told, Some(list) if list.as_slice().len() == number)
+}
+
+// What is told of boxes.
+fn boxes<I: Index, D: LogDisk, R: Wait>(
     rt: &R,
     client: &mut Client<'_, I, D, Brand>,
-) -> (Option<Listed>, Option<Listed>, Option<PlacedList>)
+) -> (Option<Listed>, Option<Listed>)
     ensures lock { client.new.pass.lock ≡ client.old.pass.lock }
     ensures parts { client.new.pass.parts ≡ client.old.pass.parts }
 {
+    (client.within(rt, ALL).ok(), client.within(rt, BUT_ONE).ok())
+}
+
+// The nearest two, and as many as may be asked for.
+fn nears<I: Index, D: LogDisk, R: Wait>(
+    rt: &R,
+    client: &mut Client<'_, I, D, Brand>,
+) -> (Option<PlacedList>, Option<PlacedList>)
+    ensures lock { client.new.pass.lock ≡ client.old.pass.lock }
+    ensures parts { client.new.pass.parts ≡ client.old.pass.parts }
+{
+    let from = Point { x: 0, y: 0 };
     (
-        client.within(rt, ALL).ok(),
-        client.within(rt, BUT_ONE).ok(),
-        client.nearest(rt, Point { x: 0, y: 0 }, 2).ok(),
+        client.nearest(rt, from, 2).ok(),
+        client.nearest(rt, from, MOST_NEAREST).ok(),
     )
 }
 
@@ -210,12 +225,14 @@ fn is_told_of_many<I: Index, D: LogDisk, R: Wait + Abort>(rt: &R, alloc: Global)
     let (store, pass) = new_store::<I, D>(rt, alloc);
     let mut client = Client::new(&store, alloc, pass, 7);
     put_many(rt, &mut client);
-    let (all, but_one, nearest) = queries(rt, &mut client);
+    let (all, but_one) = boxes(rt, &mut client);
+    let (nearest, most) = nears(rt, &mut client);
     let pass = client.into_pass();
     let _ = events_of(store.close(pass));
     assert_is!(rt; is_number(&all, 2_049));
-    assert_is!(rt; is_list(&but_one, 2_048));
+    assert_is!(rt; is_list(&but_one, MOST_LISTED));
     assert_is!(rt; are_nearest(&nearest));
+    assert_is!(rt; are_so_many(&most, 2_048));
 }
 
 #[test]

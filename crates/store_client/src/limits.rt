@@ -1,0 +1,31 @@
+//! How much a store takes, and how much it tells at once.
+ghost use Rattle.std.specs.Prelude.{◌≡◌, ◌≤◌, ◌↔◌, ℕ, List, length, nat_le, if◌then◌else◌};
+ghost use Rattle.zorder.specs.declared.points.Placed.{Placed};
+ghost use Rattle.zorder.specs.declared.points.Point.{Point};
+ghost use Rattle.plain_list.specs.Answer.{IsValid};
+ghost use Rattle.plain_list.specs.declared.ops.Answer.{Answer};
+ghost use Rattle.plain_list.specs.declared.ops.Op.{Op};
+ghost use Rattle.plain_list.specs.Queries.{listed};
+ghost use Rattle.sessions.specs.Steps.{all_parts};
+
+pub use commit_book::{MOST_CELLS_TO_BEGIN, MOST_EVENTS, MOST_EVENTS_TO_BEGIN};
+pub use plain_list::MOST_MEMBERS;
+pub use split_log::MOST_CELLS;
+
+/// How many objects of a box are listed: of more only their number is told.
+pub const MOST_LISTED: usize = 2_048;
+
+/// How many objects `nearest` may be asked for.
+pub const MOST_NEAREST: u32 = 2_048;
+
+/// How many clients a store may have at once.
+pub const MOST_CLIENTS: usize = 65_536;
+
+// They are the numbers of the contracts.
+fn limits() -> (usize, u32, usize)
+    ensures listed { (ms : List Placed) → listed ms ≡ (if nat_le (length ms) result.0 then Answer.Found ms else Answer.Many (length ms)) }
+    ensures nearest { (at : Point) (k : ℕ) → IsValid (Op.Near at k) ↔ ((1 ≤ k) × (k ≤ result.1)) }
+    ensures clients { result.2 ≡ all_parts }
+{
+    (MOST_LISTED, MOST_NEAREST, MOST_CLIENTS)
+}
