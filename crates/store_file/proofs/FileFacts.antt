@@ -32,7 +32,7 @@ use Rattle.kept_log.proofs.Starting.{leaves-log}
 use Rattle.store_file.specs.declared.faults.OpenCause.TheVariants.{Disk, Log, Memory}
 use Rattle.store_file.specs.Causes.{attach_cause, open_cause}
 use Rattle.store_file.specs.Files.{IsUnmade, KeepsFile, ReadiesLog, OpensFile, CanOpen}
-use Rattle.store_file.specs.Refused.{IsFreeCause, IsOfDrive, IsShown, IsCause, NotOpens}
+use Rattle.store_file.specs.Refused.{IsFreeCause, IsOfDrive, IsShown, IsCause, IsAttached, NotOpens}
 
 pub small-or-long : (bytes : List ℕ) → (17 < length bytes) ⊎ IsSmall bytes
 small-or-long bytes = by_test (nat_lt 17 (length bytes)) refl
@@ -111,7 +111,7 @@ attach-refused w file a b attach.Disk laws stays counts = record {
   calm = λ other. absurd (other tt);
   later = counts.later;
   calls = inl (well-none a b stays.calls);
-  attached = inr counts.kept;
+  attached = (counts.kept, stays);
 }
 attach-refused w file a b attach.Memory laws stays counts = record {
   why = tt;
@@ -167,11 +167,20 @@ module _ (w : ℕ) (file : List ℕ) (a b c : Drive) (laws : KeepsLaws a) (stays
         calm = λ other. absurd (other tt);
         later = omega (arith, up, small.later);
         calls = stops-then a b c (well-none a b stays.calls) (⊎_elim (λ none. inl (well-none b c none)) (λ stops. inr (record { went_well = stops.0; calls = stops.1.calls })) fails.calls);
-        attached = inl still;
+        attached = still;
       }
 
   pub init-rose : FailsToMake b c → Rose a.faults c.faults
   init-rose fails = rose-earlier a.faults b.faults c.faults (omega (arith, calm)) fails.rose
+
+-- one that was attached, whose log wasn't opened
+open-attached : (file : List ℕ) (a c : Drive) (why : OpenFault) → AttachedOne file true a c → IsAttached file a c (open_cause why)
+open-attached file a c log.NotLog one = one
+open-attached file a c (log.OldLog version width) one = one
+open-attached file a c (log.Damaged cell cause) one = one
+open-attached file a c (log.TooLong most) one = one
+open-attached file a c log.Disk one = one
+open-attached file a c log.Memory one = inl one
 
 -- what is opened behind that
 module _ (w : ℕ) (file : List ℕ) (a b c : Drive) (laws : KeepsLaws a) (readies : ReadiesLog w file a b) where
@@ -236,7 +245,7 @@ module _ (w : ℕ) (file : List ℕ) (a b c : Drive) (laws : KeepsLaws a) (readi
         calm = λ other. leaves.calm (λ disk. other (subst (λ (e : OpenFault). IsOfDrive (open_cause e)) (sym disk) tt)) ∙ readies.calm;
         later = omega (arith, up, later);
         calls = stops-then a b c readies.calls (stops-refused why b c leaves.calls);
-        attached = inl (attached-still file true a b c readies.attached leaves.file);
+        attached = open-attached file a c why (attached-still file true a b c readies.attached leaves.file);
       }
 
   -- what is free for the log is for the file

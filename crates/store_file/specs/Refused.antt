@@ -2,7 +2,7 @@
 use Rattle.std.specs.Prelude.{◌≡◌, ◌⊎◌, ℕ, nat_le, ◌<◌, ◌≤◌, Bool, true, false, ◌&&◌, List, length, Some, ⊤}
 use Rattle.causes.specs.Causes.{Rose}
 use Rattle.cell_format.specs.Spelling.{newest}
-use Rattle.disk_trait.specs.Drive.{Drive, AttachedAtMost}
+use Rattle.disk_trait.specs.Drive.{Drive, AttachedOne, AttachedAtMost, SameFile, Stays}
 use Rattle.split_log.specs.LogView.{most_cells}
 use Rattle.recovery.specs.declared.seen.OpenFault.{OpenFault}
 use Rattle.recovery.specs.Calls.{StopsAtFault}
@@ -43,6 +43,15 @@ IsCause w old new Disk = Rose old.faults new.faults
 IsCause w old new (Log fault) = IsShown w old fault
 IsCause w old new Memory = ⊤
 
+-- Which file is the one then: where this one wasn't attached, the one before, which is as it was; this one, where the drive failed
+-- behind that, or its bytes are at fault; and where memory ran out, either.
+abbrev pub IsAttached : List ℕ → Drive → Drive → OpenCause → Type 0
+IsAttached file old new Bucket = ⊥
+IsAttached file old new Attach = SameFile old new × Stays old new
+IsAttached file old new Disk = AttachedOne file true old new
+IsAttached file old new (Log fault) = AttachedOne file true old new
+IsAttached file old new Memory = AttachedAtMost file true old new
+
 -- What that leaves: a crash at any moment leaves what stood in the file, a long file that is no log is left as it was, the count of faults
 -- is, but where the drive failed, and no device call was made behind one that failed. No other file was attached.
 pub record NotOpens (w : ℕ) (file : List ℕ) (old new : Drive) (cause : OpenCause) : Type 0 where
@@ -52,7 +61,7 @@ pub record NotOpens (w : ℕ) (file : List ℕ) (old new : Drive) (cause : OpenC
   pub calm : (IsOfDrive cause → ⊥) → new.faults ≡ old.faults
   pub later : old.faults ≤ new.faults
   pub calls : StopsAtFault old new
-  pub attached : AttachedAtMost file true old new
+  pub attached : IsAttached file old new cause
 
 -- Where the size of a bucket is wrong, the drive is as it was.
 abbrev pub RefusesStore : {D : Type 0} → (D → Drive) → ℕ → ℕ → List ℕ → D → D → OpenCause → Type 0
