@@ -13,17 +13,21 @@ use Rattle.plain_list.specs.declared.entries.Entry.{Entry}
 use Rattle.plain_list.specs.declared.entries.Entry.TheVariants as entry
 use Rattle.plain_list.specs.World.{World}
 use Rattle.plain_list.specs.Answer.{answer_of, after_of, is_change, changed}
-use Rattle.plain_list.specs.State.{State, empty_state, step}
+use Rattle.plain_list.specs.State.{State, empty_state, at_rest, step, is_legal_history}
+use Rattle.plain_list.proofs.Histories.{state_after-world}
 use Rattle.plain_list.specs.History.{world_after, failed_cell}
 use Rattle.split_log.specs.LogText.{IsLog, HoldsCells, front_of}
 use Rattle.split_log.proofs.Cells.{length-front_of}
 use Rattle.split_log.proofs.Unique.{holds-same}
-use Rattle.log_state.specs.Recovers.{state_of, cells_after}
+use Rattle.log_state.specs.Recovers.{IsLegalCells, state_of, cells_after}
 use Rattle.log_state.specs.Changes.{cells_of, change_cells}
+use Rattle.log_state.proofs.LegalBehind.{legal_behind, rest_behind}
 use Rattle.log_state.proofs.LegalCells.{cells_after-append}
+use Rattle.kept_log.specs.Kept.{RecoversTo, renewed_state}
 use Rattle.book_lock.specs.Pass.{Known}
 use Rattle.book_lock.specs.declared.origin.Origin.{Origin}
 use Rattle.book_lock.specs.declared.origin.LogStart.{LogStart}
+use Rattle.sessions.specs.Shared.{start_of}
 use Rattle.store_file.specs.Files.{FindsCells}
 use Rattle.store_file.specs.Opened.{OpensStore}
 use Rattle.store_file.specs.Closed.{ClosesStore}
@@ -107,3 +111,52 @@ module _ {D E : Type 0} (drive : D → Drive) (other : E → Drive) (w bucket si
         now ∙ ap (λ (l : List Cell). (state_of w l).world) finds-cells
         ∙ ap (λ (s : State). s.world) (cells_after-append w empty_state opened.cells (cells_of pass.origin.world last.seen))
         ∙ cells-world w (state_of w opened.cells) pass.origin.world last.seen (sym first)
+
+-- A store that was closed, whatever it went on from: the opening of a file, or a renewal or a rotation behind others.
+module _ {D : Type 0} (drive : D → Drive) (w : ℕ) (Is : Drive → Type 0) (last : Known) (entries : List Entry) (disk : D) (closed : ClosesStore drive w Is last entries disk)
+    (told : is_some (drive disk).bytes ≡ true) (good : failed_cell last.seen ≡ None) where
+  -- the bytes of its log as it went on, and the cells that they recover to
+  pub bytes-first : (bytes : List ℕ) × ((drive closed.log.start).bytes ≡ Some bytes)
+  bytes-first = some_of (drive closed.log.start).bytes (sym closed.keeps.told ∙ ap (λ (d : D). is_some (drive d).bytes) closed.disk_is ∙ told)
+
+  pub cells-first : RecoversTo w (start_of last.origin) bytes-first.0
+  cells-first = closed.keeps.from bytes-first.0 bytes-first.1
+
+  -- these, and those of the history
+  abbrev pub cells-last : List Cell
+  cells-last = cells-first.cells ++ cells_of last.origin.world last.seen
+
+  -- are what the file is the text of, and a crash leaves that
+  pub text-last : IsLog w cells-last (drive disk)
+  text-last =
+      subst (λ (d : D). IsLog w cells-last (drive d)) closed.disk_is
+      (closed.keeps.keeps.text cells-first.cells bytes-first.0 bytes-first.1 cells-first.recovers (closed.keeps.failed ∙ good))
+
+  legal-history : is_legal_history w (at_rest (state_of w cells-first.cells)) last.seen ≡ true
+  legal-history = subst (λ (s : State). is_legal_history w s last.seen ≡ true) (sym cells-first.state) closed.legal
+
+  pub legal-last : IsLegalCells w cells-last
+  legal-last =
+      subst (λ (s : State). IsLegalCells w (cells-first.cells ++ cells_of s.world last.seen)) cells-first.state
+      (legal_behind w cells-first.cells last.seen cells-first.recovers.legal legal-history)
+
+  -- and they leave what the history left, with no split open
+  pub state-last : at_rest (state_of w cells-last) ≡ renewed_state w (start_of last.origin) last.seen
+  state-last =
+      subst (λ (s : State). at_rest (state_of w (cells-first.cells ++ cells_of s.world last.seen)) ≡ renewed_state w s last.seen) cells-first.state
+      (rest_behind w cells-first.cells last.seen cells-first.recovers.legal legal-history)
+
+  pub world-last : (state_of w cells-last).world ≡ world_after last.origin.world last.seen
+  world-last = ap (λ (s : State). s.world) state-last ∙ state_after-world w (start_of last.origin) last.seen
+
+  module _ {E : Type 0} (other : E → Drive) (size : ℕ) (also : List ℕ) (key : TableId) (next : Known) (number : ℕ) (newer : Option ℕ) (more : ℕ)
+      (again : OpensStore other w size also (drive disk) key next number newer more) where
+    pub cells-found : again.cells ≡ cells-last
+    cells-found = finds-text w cells-last again.cells (drive disk) text-last (again.found.finds text-last.bytes text-last.told)
+
+    -- the next opening begins with the objects, the leaves and the number of splits that the history left
+    pub finds-last : start_of next.origin ≡ renewed_state w (start_of last.origin) last.seen
+    finds-last = ap (λ (k : Known). start_of k.origin) again.pass_is ∙ ap (λ (l : List Cell). at_rest (state_of w l)) cells-found ∙ state-last
+
+    pub finds-last-world : GoesOnFrom last.origin last.seen next.origin
+    finds-last-world = ap (λ (s : State). s.world) finds-last ∙ state_after-world w (start_of last.origin) last.seen

@@ -1,7 +1,7 @@
 -- What an opening of two files finds, wherever a crash came while a store went on from the one to the other.
 use Rattle.std.proofs.Common.{◌≡◌, ◌⊎◌, inl, inr, ⊎_elim, ◌∙◌, ℕ, ◌+◌, ◌*◌, ◌≤◌, true, Bool, List, [], ◌∷◌, ◌++◌, length, Option, Some, is_some, refl, sym, ap, subst, arith, length-append}
 use Rattle.std.proofs.lemmas.List.{append-nil}
-use Rattle.std.specs.Prelude.{⊤}
+use Rattle.std.specs.Prelude.{⊤, None}
 use Rattle.atomic_table.specs.Seated.{TableId}
 use Rattle.cell_format.specs.declared.cell.Cell.{Cell}
 use Rattle.cell_format.specs.Spelling.{newest}
@@ -9,7 +9,7 @@ use Rattle.disk_trait.specs.Drive.{Drive}
 use Rattle.disk_trait.specs.Moments.{LeavesNow}
 use Rattle.plain_list.specs.declared.entries.Entry.{Entry}
 use Rattle.plain_list.specs.World.{World}
-use Rattle.plain_list.specs.History.{world_after}
+use Rattle.plain_list.specs.History.{world_after, failed_cell}
 use Rattle.plain_list.specs.State.{State, at_rest, empty_state, is_legal_history}
 use Rattle.split_log.specs.LogText.{IsLog, HoldsCells, front_of}
 use Rattle.split_log.proofs.Cells.{length-front_of}
@@ -26,12 +26,13 @@ use Rattle.sessions.specs.Shared.{start_of}
 use Rattle.store_file.specs.declared.either.Which.{Which}
 use Rattle.store_file.specs.declared.either.Which.TheVariants as side
 use Rattle.store_file.specs.Again.{IsBetween}
+use Rattle.store_file.specs.Closed.{ClosesStore}
 use Rattle.log_compact.specs.Clearing.{KeepsOrClears}
 use Rattle.store_file.specs.Either.{chosen_of, other_of, IsChosen, OpensEither}
 use Rattle.store_file.specs.Files.{FindsCells}
 use Rattle.store_file.specs.Opened.{OpensStore}
 use Rattle.store_file.specs.Rotated.{RotatesTo, world_left, cells_left}
-use Rattle.store_file.proofs.Again.{cells-world, text-closed}
+use Rattle.store_file.proofs.Again.{cells-world, text-closed, cells-last, text-last, legal-last, world-last}
 
 -- cells that leave these objects
 abbrev HasObjects : ℕ → World → List Cell → Type 0
@@ -190,3 +191,33 @@ module _ {D : Type 0} (drive : D → Drive) (w bucket : ℕ) (file : List ℕ) (
     pub finds-left : (side which : Which) (again : OpensEither other w size one_file two_file three four which key next number newer more left)
         → (other (chosen_of side three four)).bytes ≡ Some first → (other (other_of side three four)).bytes ≡ Some second → next.origin.world ≡ world_left last.origin last.seen
     finds-left = finds-between other w size one_file two_file three four key next number newer more left (world_left last.origin last.seen) cells-closed fresh-closed world-closed to.state.world_is first second between
+
+-- The same of a store that goes on from a history behind whatever stood before (`text-last`, proofs/Again): the second file is written with cells
+-- that leave the same objects, as those of `RotatesTo` do, and then the first one is cleared.
+module _ {D : Type 0} (drive : D → Drive) (w : ℕ) (Is : Drive → Type 0) (last : Known) (entries : List Entry) (disk : D) (closed : ClosesStore drive w Is last entries disk)
+    (told : is_some (drive disk).bytes ≡ true) (good : failed_cell last.seen ≡ None) (fresh : List Cell) (legal : IsLegalCells w fresh)
+    (world_is : (state_of w fresh).world ≡ world_after last.origin.world last.seen) where
+  abbrev pub cells-stood : List Cell
+  cells-stood = cells-last drive w Is last entries disk closed told good
+
+  log-stood : IsLog w cells-stood (drive disk)
+  log-stood = text-last drive w Is last entries disk closed told good
+
+  legal-stood : IsLegalCells w cells-stood
+  legal-stood = legal-last drive w Is last entries disk closed told good
+
+  pub last-written : (spare now : Drive) (bytes : List ℕ) → spare.bytes ≡ Some bytes → LeavesNow spare IsSmall → KeepsOnWay w fresh spare now
+      → (first second : List ℕ) → (drive disk).images first → now.since spare.clock second → IsBetween w cells-stood fresh first second
+  last-written = between-writing w cells-stood fresh (drive disk) log-stood legal-stood
+
+  pub last-cleared : (new now : Drive) → IsLog w fresh new → KeepsOrClears (drive disk) now
+      → (first second : List ℕ) → now.since (drive disk).clock first → new.images second → IsBetween w cells-stood fresh first second
+  last-cleared new now stands = between-clearing w cells-stood fresh (drive disk) log-stood legal-stood new now stands legal
+
+  module _ {E : Type 0} (other : E → Drive) (size : ℕ) (one_file two_file : List ℕ) (three four : E) (key : TableId) (next : Known) (number : ℕ) (newer : Option ℕ) (more : ℕ) (left : E)
+      (first second : List ℕ) (between : IsBetween w cells-stood fresh first second) where
+    pub finds-last-left : (side which : Which) (again : OpensEither other w size one_file two_file three four which key next number newer more left)
+        → (other (chosen_of side three four)).bytes ≡ Some first → (other (other_of side three four)).bytes ≡ Some second → next.origin.world ≡ world_after last.origin.world last.seen
+    finds-last-left =
+        finds-between other w size one_file two_file three four key next number newer more left (world_after last.origin.world last.seen) cells-stood fresh
+        (world-last drive w Is last entries disk closed told good) world_is first second between
