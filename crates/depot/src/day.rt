@@ -1,7 +1,6 @@
 //! Days of the company over a store, and what the next run finds.
-ghost use Rattle.std.specs.Prelude.{◌≡◌, ◌≤◌, [], IfOk, vec_capacity};
+ghost use Rattle.std.specs.Prelude.{◌≡◌, ◌≤◌, IfOk, IfSome, vec_len};
 ghost use Rattle.store_client.specs.Caller.{Keeps};
-ghost use Rattle.store_client.specs.Teams.{HasGiven, AreHired};
 ghost use Rattle.store_file.specs.Opened.{IsFirst};
 
 use crate::drivers::{Driver, Told, count_found};
@@ -16,7 +15,7 @@ use sessions::{NotRenewed, Renewed, SharedBook, Store};
 use std::alloc::Global;
 use std::sync::Wait;
 use std::thread::Threads;
-use store_client::{Client, Worker, apart, at_once};
+use store_client::Client;
 use store_file::{
     NotRotated, OverFile, RotateCause, Rotated, close_store, renew_store, rotate_store,
 };
@@ -29,9 +28,6 @@ pub type VanPass<D> = Pass<SharedBook<KdTrie, D, OverFile>>;
 
 // A caller of it.
 type VanClient<'s, D> = Client<'s, KdTrie, D, OverFile>;
-
-// A driver with a client of their own.
-type Hand<'s, D> = Worker<'s, KdTrie, D, OverFile, Driver>;
 
 // The session of the one who asks for all drivers.
 const OFFICE: u8 = 5;
@@ -144,7 +140,26 @@ fn end_days<D: LogDisk>(
     }
 }
 
-// Four drivers at once, whose clients come together again at the end.
+// Four drivers in the morning.
+fn drivers<D: LogDisk, R: Wait>(
+    rt: &R,
+    alloc: Global,
+    client: &mut VanClient<'_, D>,
+    day: Day,
+) -> Option<Vec<Driver>>
+    ensures client { Keeps client.old client.new }
+    ensures four { IfSome result (λ drivers. vec_len drivers ≡ 4) }
+{
+    let drivers = [
+        Driver::new(rt, alloc, client, 1, day)?,
+        Driver::new(rt, alloc, client, 2, day)?,
+        Driver::new(rt, alloc, client, 3, day)?,
+        Driver::new(rt, alloc, client, 4, day)?,
+    ];
+    Vec::from_array(alloc, drivers).ok()
+}
+
+// All drivers at once, each in a thread of their own, and what they were told then.
 fn drive_all_day<D: LogDisk + Send, R: Threads + Wait + Sync>(
     rt: &R,
     alloc: Global,
@@ -154,42 +169,15 @@ fn drive_all_day<D: LogDisk + Send, R: Threads + Wait + Sync>(
     requires { 5 ≤ client.old.pass.parts }
     ensures { Keeps client.old client.new }
 {
-    let drivers = [
-        Driver::new(rt, alloc, client, 1, day)?,
-        Driver::new(rt, alloc, client, 2, day)?,
-        Driver::new(rt, alloc, client, 3, day)?,
-        Driver::new(rt, alloc, client, 4, day)?,
-    ];
-    let team = Vec::with_capacity(alloc, 4).ok()?;
-    let (one, two, three, four) = work_all(rt, client, team, drivers);
+    let drivers = drivers(rt, alloc, client, day)?;
+    let done = client.work_all(rt, 1, drivers).ok()?;
+    let [one, two, three, four] = <[Driver; 4]>::try_from(done).ok()?;
     Some([
-        client.take_home(one).end(alloc),
-        client.take_home(two).end(alloc),
-        client.take_home(three).end(alloc),
-        client.take_home(four).end(alloc),
+        one.end(alloc),
+        two.end(alloc),
+        three.end(alloc),
+        four.end(alloc),
     ])
-}
-
-// Lets each driver work in a thread of their own.
-fn work_all<'s, D: LogDisk + Send, R: Threads + Wait + Sync>(
-    rt: &R,
-    client: &mut VanClient<'s, D>,
-    mut team: Vec<Hand<'s, D>>,
-    drivers: [Driver; 4],
-) -> (Hand<'s, D>, Hand<'s, D>, Hand<'s, D>, Hand<'s, D>)
-    requires empty { team.items ≡ [] }
-    requires room { 4 ≤ vec_capacity team }
-    requires parts { 5 ≤ client.old.pass.parts }
-    ensures given { HasGiven 4 client.old client.new }
-    ensures hands { AreHired client.old result.0.client result.1.client result.2.client result.3.client }
-{
-    let [one, two, three, four] = drivers;
-    team.push_reserved(client.hire(1, one));
-    team.push_reserved(client.hire(2, two));
-    team.push_reserved(client.hire(3, three));
-    team.push_reserved(client.hire(4, four));
-    at_once(rt, &mut team);
-    apart(team)
 }
 
 /// How many vans of each driver are where a day has left them, as a store answers that was opened after it. The store is closed.

@@ -75,14 +75,20 @@ impl Driver {
         })
     }
 
-    // Tells the yard what a report has changed.
-    fn watch(&mut self, van: u64, now: Stamped, told: Report) -> Result<(), WatchFault> {
+    // Tells the yard what a report has changed, whose call has this place in the history.
+    fn watch(
+        &mut self,
+        place: u64,
+        van: u64,
+        now: Stamped,
+        told: Report,
+    ) -> Result<(), WatchFault> {
         let before = match told {
             Report::New => None,
             Report::From(from) => Some(from.at),
             Report::Stale(_) | Report::Full => return Ok(()),
         };
-        self.yard.moved(now.moment, van, before, Some(now.at))
+        self.yard.moved(place, van, before, Some(now.at))
     }
 
     /// What the day came to.
@@ -97,13 +103,9 @@ impl Driver {
     }
 }
 
-impl Work for Driver {
+impl<R: Wait> Work<R> for Driver {
     // Reports until a call is refused, or the yard can't be watched any more.
-    fn work<R: Wait, I: Index, D: LogDisk, O: Start>(
-        &mut self,
-        rt: &R,
-        client: &mut Client<'_, I, D, O>,
-    )
+    fn work<I: Index, D: LogDisk, O: Start>(&mut self, rt: &R, client: &mut Client<'_, I, D, O>)
         ensures client { Keeps client.old client.new }
     {
         for row in 0..ROWS {
@@ -112,7 +114,7 @@ impl Work for Driver {
                 return;
             };
             let is_good = self.day.is_good(self.number, row, told);
-            if self.watch(van, now, told).is_err() {
+            if self.watch(client.place(), van, now, told).is_err() {
                 return;
             }
             self.good = self.good.saturating_add(u32::from(is_good));
