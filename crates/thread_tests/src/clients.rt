@@ -1,5 +1,7 @@
-//! A client's verbs: each answer that they may have, but that the world is full.
+//! A client's verbs: each answer that they may have, but that the world is full; what a call has changed, its place, and what one client
+//! learns from another.
 ghost use Rattle.std.specs.Prelude.{◌≡◌};
+ghost use Rattle.plain_list.specs.Answer.{IsValid};
 ghost use Rattle.store_client.specs.Caller.{Keeps};
 
 use crate::stores::{events_of, new_store};
@@ -7,12 +9,14 @@ use disk_mem::MemDisk;
 use disk_trait::LogDisk;
 use flat_index::FlatIndex;
 use index_layer::Index;
-use plain_list::{PlacedList, Stamped};
+use plain_list::{Op, PlacedList, Stamped};
 use std::alloc::Global;
 use std::marker::Brand;
 use std::process::Abort;
 use std::sync::Wait;
-use store_client::{Client, Listed, MOST_LISTED, MOST_NEAREST, MoveReply, PutReply, Report};
+use store_client::{
+    Change, Client, Listed, MOST_LISTED, MOST_NEAREST, MoveReply, PutReply, Report,
+};
 use zorder::{Placed, Point, Region};
 
 const HERE: Point = Point { x: 5, y: 5 };
@@ -145,6 +149,123 @@ fn is_told_of_an_object<I: Index, D: LogDisk, R: Wait + Abort>(rt: &R, alloc: Gl
     assert_same!(rt; events, 9);
 }
 
+// A client's own calls: what each has changed. Those between change nothing, and have places, too.
+const CHANGED: [Option<Change>; 6] = [
+    Some(Change {
+        place: 1,
+        id: 1,
+        before: None,
+        after: Some(HERE),
+    }),
+    None,
+    Some(Change {
+        place: 3,
+        id: 1,
+        before: Some(HERE),
+        after: Some(THERE),
+    }),
+    None,
+    None,
+    Some(Change {
+        place: 6,
+        id: 1,
+        before: Some(THERE),
+        after: None,
+    }),
+];
+
+const PUT_HERE: Op = Op::Put {
+    id: 1,
+    at: HERE,
+    moment: 3,
+};
+
+const MOVE_THERE: Op = Op::Move {
+    id: 1,
+    at: THERE,
+    moment: 4,
+};
+
+const MOVE_LATE: Op = Op::Move {
+    id: 1,
+    at: HERE,
+    moment: 3,
+};
+
+fn change<I: Index, D: LogDisk, R: Wait>(
+    rt: &R,
+    client: &mut Client<'_, I, D, Brand>,
+    op: &Op,
+) -> Option<Change>
+    requires { IsValid op.now }
+    ensures { Keeps client.old client.new }
+{
+    client.ask(rt, op).ok()?.change(op)
+}
+
+fn changes<I: Index, D: LogDisk, R: Wait>(
+    rt: &R,
+    client: &mut Client<'_, I, D, Brand>,
+) -> [Option<Change>; 6]
+    ensures { Keeps client.old client.new }
+{
+    [
+        change(rt, client, &PUT_HERE),
+        change(rt, client, &PUT_HERE),
+        change(rt, client, &MOVE_THERE),
+        change(rt, client, &MOVE_LATE),
+        change(rt, client, &Op::Find { id: 1 }),
+        change(rt, client, &Op::Remove { id: 1 }),
+    ]
+}
+
+fn tells_its_changes<I: Index, D: LogDisk, R: Wait + Abort>(rt: &R, alloc: Global) {
+    let (store, pass) = new_store::<I, D>(rt, alloc);
+    let mut client = Client::new(&store, alloc, pass, 7);
+    let told = changes(rt, &mut client);
+    let pass = client.into_pass();
+    let _ = events_of(store.close(pass));
+    assert_same!(rt; told, CHANGED);
+}
+
+// None before the first call; a report of a new object has two, and tells the place of its put.
+const PLACES: [u64; 4] = [0, 2, 3, 4];
+
+fn places<I: Index, D: LogDisk, R: Wait>(rt: &R, client: &mut Client<'_, I, D, Brand>) -> [u64; 4]
+    ensures { Keeps client.old client.new }
+{
+    let none = client.place();
+    let _ = client.report(rt, 1, HERE, 3);
+    let new = client.place();
+    let _ = client.report(rt, 1, THERE, 4);
+    let moved = client.place();
+    let _ = client.find(rt, 1);
+    [none, new, moved, client.place()]
+}
+
+fn tells_its_places<I: Index, D: LogDisk, R: Wait + Abort>(rt: &R, alloc: Global) {
+    let (store, pass) = new_store::<I, D>(rt, alloc);
+    let mut client = Client::new(&store, alloc, pass, 7);
+    let told = places(rt, &mut client);
+    let pass = client.into_pass();
+    let _ = events_of(store.close(pass));
+    assert_same!(rt; told, PLACES);
+}
+
+// What one client put, another one finds that has learned from it.
+fn learns_what_another_put<I: Index, D: LogDisk, R: Wait + Abort>(rt: &R, alloc: Global) {
+    let (store, pass) = new_store::<I, D>(rt, alloc);
+    let mut one = Client::new(&store, alloc, pass, 1);
+    let mut four = one.another(4);
+    let _ = one.put(rt, 1, HERE, 3);
+    four.learn(&mut one);
+    let found = four.find(rt, 1).ok();
+    one.join(four);
+    let pass = one.into_pass();
+    let _ = events_of(store.close(pass));
+    assert_same!(rt; found, Some(Some(here!(3))));
+}
+
 // How many objects are put in a row, one more than a list has room for.
 const MANY: u32 = 2_049;
 
@@ -248,4 +369,19 @@ fn each_verb_of_one_object_tells_its_answers(rt: HostRuntime) {
 #[test]
 fn a_box_is_told_as_a_list_or_as_a_number(rt: HostRuntime) {
     is_told_of_many::<FlatIndex, MemDisk, HostRuntime>(&rt, rt.alloc());
+}
+
+#[test]
+fn a_reply_tells_what_its_call_has_changed(rt: HostRuntime) {
+    tells_its_changes::<FlatIndex, MemDisk, HostRuntime>(&rt, rt.alloc());
+}
+
+#[test]
+fn a_client_tells_the_place_of_its_last_answer(rt: HostRuntime) {
+    tells_its_places::<FlatIndex, MemDisk, HostRuntime>(&rt, rt.alloc());
+}
+
+#[test]
+fn a_client_learns_what_another_one_put(rt: HostRuntime) {
+    learns_what_another_put::<FlatIndex, MemDisk, HostRuntime>(&rt, rt.alloc());
 }

@@ -1,6 +1,6 @@
 //! Tests of the lock by itself, and of sessions that run at once: passes by hand, lanes in an order that a gate makes, also such as a store
-//! runs by itself, and sixteen lanes together; the index that one of them watches; the verbs of a client; the objects of a store; a store
-//! that is renewed; and stores over files, also where they go on over a second one.
+//! runs by itself, and sixteen lanes together; the index that one of them watches; the verbs of a client, and its teams; the objects of a
+//! store; a store that is renewed; and stores over files, also where they go on over a second one.
 #![tactic(auto)]
 
 // `assert!` and `assert_eq!` as calls: the proof of a function with several of them is much shorter so.
@@ -48,6 +48,8 @@ mod renewals;
 mod sheets;
 #[cfg(test)]
 mod stores;
+#[cfg(test)]
+mod teams;
 #[cfg(test)]
 mod turns;
 #[cfg(test)]
