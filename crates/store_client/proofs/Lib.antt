@@ -2,5 +2,4 @@ pub mod Asks
 pub mod Crossing
 pub mod Reports
 pub mod Objects
-pub mod Teams
 pub mod Hands

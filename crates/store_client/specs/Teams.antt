@@ -26,12 +26,9 @@ HasGiven n old new = (new.pass.lock ≡ old.pass.lock) × (new.pass.parts + n �
 abbrev pub HasTaken : ℕ → Caller → Caller → Type 0
 HasTaken n old new = (new.pass.lock ≡ old.pass.lock) × (new.pass.parts ≡ old.pass.parts + n) × (new.session ≡ old.session) × (new.pass.origin ≡ old.pass.origin)
 
--- a client with one part of the store that somebody calls, which began from the same; and four of them
+-- a client with one part of the store that somebody calls, which began from the same
 abbrev pub IsHired : Caller → Caller → Type 0
 IsHired boss hand = (hand.pass.lock ≡ boss.pass.lock) × (hand.pass.parts ≡ 1) × (hand.pass.origin ≡ boss.pass.origin)
-
-abbrev pub AreHired : Caller → Caller → Caller → Caller → Caller → Type 0
-AreHired boss one two three four = IsHired boss one × IsHired boss two × IsHired boss three × IsHired boss four
 
 -- the session of a hand behind so many others, where they count from this one: round at 256
 abbrev pub session_at : ℕ → ℕ → ℕ

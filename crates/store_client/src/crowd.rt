@@ -1,5 +1,5 @@
 //! Clients at once, each in a thread.
-ghost use Rattle.std.specs.Prelude.{◌≡◌, ◌≤◌, ◌<◌, ◌∷◌, [], IfOk, IfErr, vec_len, vec_capacity};
+ghost use Rattle.std.specs.Prelude.{◌≡◌, ◌≤◌, ◌<◌, [], IfOk, IfErr, vec_len, vec_capacity};
 ghost use Rattle.std.specs.List.{All};
 ghost use mathlib.Core.List.{IsPrefix};
 ghost use Rattle.store_client.specs.Caller.{Keeps, has_joined, without_part, with_part_of};
@@ -144,16 +144,5 @@ impl<'s, I: Index + Send, D: LogDisk + Send, O: Start + Send> Client<'s, I, D, O
         at_once(rt, &mut team);
         self.take_all_home(team, &mut works);
         Ok(works)
-    }
-}
-
-/// The four of a team, one by one.
-pub fn apart<T>(team: Vec<T>) -> (T, T, T, T)
-    requires { vec_len team ≡ 4 }
-    ensures { result.0 ∷ result.1 ∷ result.2 ∷ result.3 ∷ [] ≡ team.items }
-{
-    match <[T; 4]>::try_from(team) {
-        Ok([one, two, three, four]) => (one, two, three, four),
-        Err(_) => unreachable!(),
     }
 }
