@@ -212,15 +212,16 @@ pub fn rotate<I: Index, D: LogDisk>(
 {
     match rotate_store(alloc, store, pass, spare) {
         Ok(rotated) => Ok(rotated),
-        Err(
-            NotRotated::Kept {
-                book: _,
-                spare: _,
-                cause,
-            },
-        ) => Err(Trouble::NotRotated(cause)),
-        Err(NotRotated::Uncleared { .. }) => Err(Trouble::NotEmptied),
-        Err(NotRotated::Memory { .. }) => Err(Trouble::NoLock),
+        Err(refused) => Err(why_not(&refused)),
+    }
+}
+
+// Why a store wasn't rotated, or was and doesn't go on.
+fn why_not<I: Index, D: LogDisk>(refused: &NotRotated<I, D>) -> Trouble {
+    match refused {
+        NotRotated::Kept { cause, .. } => Trouble::NotRotated(*cause),
+        NotRotated::Uncleared { .. } => Trouble::NotEmptied,
+        NotRotated::Memory { .. } => Trouble::NoLock,
     }
 }
 
