@@ -1,5 +1,6 @@
 //! Goes on with a store over a file.
-ghost use Rattle.std.specs.Prelude.{◌≡◌, false, IfOk, IfErr};
+ghost use Rattle.std.specs.Prelude.{◌≡◌, ℕ, length, false, IfOk, IfErr};
+ghost use Rattle.book_lock.specs.Own.{times, once_below};
 ghost use Rattle.sessions.specs.Renewals.{IsBack, IsRenewed, refusal_of, store_refusal};
 ghost use Rattle.sessions.specs.Steps.{all_parts};
 
@@ -21,6 +22,7 @@ pub fn renew_store<I: Index, D: LogDisk>(
     requires off { pass.holds ≡ false }
     requires parts { pass.parts ≡ all_parts }
     ensures renewed { IfOk result (λ r. IsRenewed I.WIDTH pass r.entries r.store r.pass) }
+    ensures own { (p : ℕ) → times p pass.own ≡ once_below p (length pass.seen) }
     ensures refused { refusal_of result ≡ store_refusal I.WIDTH pass.origin pass.seen }
     ensures back { IfErr result (λ e. IsBack D.drive I.WIDTH pass e) }
 {
