@@ -1,7 +1,8 @@
 //! What a call has changed.
 ghost use Rattle.std.specs.Prelude.{◌≡◌};
-ghost use Rattle.store_client.specs.Changes.{change_of};
+ghost use Rattle.store_client.specs.Changes.{change_of, report_change};
 
+use crate::answers::Report;
 use crate::client::Reply;
 use plain_list::{Answer, Op};
 use zorder::Point;
@@ -34,6 +35,25 @@ impl Reply {
             id,
             before,
             after,
+        })
+    }
+}
+
+impl Report {
+    /// What the report has changed that was told this: of which object, where it is now, and the place of its last call (`Client::place`).
+    pub fn change(&self, place: u64, id: u64, at: Point) -> Option<Change>
+        ensures { result ≡ report_change place id at self.now }
+    {
+        let before = match self {
+            Report::New => None,
+            Report::From(from) => Some(from.at),
+            Report::Stale(_) | Report::Full => return None,
+        };
+        Some(Change {
+            place,
+            id,
+            before,
+            after: Some(at),
         })
     }
 }
