@@ -5,11 +5,10 @@ use crate::yard::{Day, ROWS, VANS, van_of, yard};
 use disk_trait::LogDisk;
 use fence_watch::{Crossing, Event, Fence, FenceCount, Fences, Tally, WatchFault};
 use index_layer::Index;
-use plain_list::Stamped;
 use sessions::Start;
 use std::alloc::Global;
 use std::sync::Wait;
-use store_client::{Client, Listed, Report, Work};
+use store_client::{Change, Client, Listed, Work};
 use zorder::Placed;
 
 /// A driver, and the fence of their yard, which only their own vans cross.
@@ -75,20 +74,15 @@ impl Driver {
         })
     }
 
-    // Tells the yard what a report has changed, whose call has this place in the history.
-    fn watch(
-        &mut self,
-        place: u64,
-        van: u64,
-        now: Stamped,
-        told: Report,
-    ) -> Result<(), WatchFault> {
-        let before = match told {
-            Report::New => None,
-            Report::From(from) => Some(from.at),
-            Report::Stale(_) | Report::Full => return Ok(()),
-        };
-        self.yard.moved(place, van, before, Some(now.at))
+    // Tells the yard what a report has changed, if anything.
+    fn watch(&mut self, change: Option<Change>) -> Result<(), WatchFault> {
+        match change {
+            Some(change) => {
+                self.yard
+                    .moved(change.place, change.id, change.before, change.after)
+            }
+            None => Ok(()),
+        }
     }
 
     /// What the day came to.
@@ -114,7 +108,8 @@ impl<R: Wait> Work<R> for Driver {
                 return;
             };
             let is_good = self.day.is_good(self.number, row, told);
-            if self.watch(client.place(), van, now, told).is_err() {
+            let change = told.change(client.place(), van, now.at);
+            if self.watch(change).is_err() {
                 return;
             }
             self.good = self.good.saturating_add(u32::from(is_good));
