@@ -1,10 +1,13 @@
-//! Stores over files: opened and closed, renewed, rotated between two files, and opened over either, also where a drive has failed.
+//! Stores over files: opened and closed, renewed, and opened over either of two.
 ghost use Rattle.std.specs.Prelude.{◌≡◌, false, IfOk};
 ghost use Rattle.store_client.specs.Caller.{IsFree};
 ghost use Rattle.store_file.specs.Opened.{IsFirst};
 
+use crate::logs::{
+    ANEW, EMPTY, END, FILLED, GONE_ON, HEADER, LATER_1, PUT_2, disk_with, expect_bytes,
+};
 use book_lock::Pass;
-use disk_mem::{DiskCall, Fail, MemDisk};
+use disk_mem::MemDisk;
 use disk_trait::LogDisk;
 use flat_index::FlatIndex;
 use index_layer::Index;
@@ -16,48 +19,11 @@ use std::process::Abort;
 use std::sync::Wait;
 use store_client::Client;
 use store_file::{
-    ClosedStore, EitherCause, NotEither, NotRotated, OpenCause, OpenedEither, OpenedStore,
-    OverFile, RotateCause, Rotated, Which, close_store, open_either, open_store, renew_store,
+    ClosedStore, EitherCause, NotEither, NotOpened, NotRotated, OpenCause, OpenedEither,
+    OpenedStore, OverFile, Rotated, Which, close_store, open_either, open_store, renew_store,
     rotate_anew, rotate_store,
 };
 use zorder::Point;
-
-pub(crate) const HEADER: &[u8] = b"MDLOCLOG\x02\x01\0\0\0\0\0\0";
-
-// The clear commit byte behind the last record.
-pub(crate) const END: &[u8] = b"\0";
-
-// The records: a commit byte and a kind, an id, and of a put its x, its y and its moment.
-pub(crate) const PUT_1: &[u8] =
-    b"\x01\x01\0\0\0\0\0\0\0\x01\0\0\0\x03\0\0\0\x05\0\0\0\0\0\0\0\x0a\0\0\0\0\0\0";
-
-pub(crate) const PUT_2: &[u8] =
-    b"\x01\x01\0\0\0\0\0\0\0\x02\0\0\0\x04\0\0\0\x04\0\0\0\0\0\0\0\x14\0\0\0\0\0\0";
-
-const PUT_3: &[u8] =
-    b"\x01\x01\0\0\0\0\0\0\0\x03\0\0\0\x06\0\0\0\x01\0\0\0\0\0\0\0\x0f\0\0\0\0\0\0";
-
-const REMOVE_3: &[u8] = b"\x01\x03\0\0\0\0\0\0\0\x03\0\0\0\0\0\0\0\0\0\0\0\0\0\0\0\0\0\0\0\0\0\0";
-
-const PUT_4: &[u8] =
-    b"\x01\x01\0\0\0\0\0\0\0\x04\0\0\0\x07\0\0\0\x07\0\0\0\0\0\0\0\x1e\0\0\0\0\0\0";
-
-// The first object a moment later.
-const LATER_1: &[u8] =
-    b"\x01\x01\0\0\0\0\0\0\0\x01\0\0\0\x03\0\0\0\x05\0\0\0\0\0\0\0\x0b\0\0\0\0\0\0";
-
-// A record whose commit byte was not set, nor that of the one behind it.
-const UNSET_1: &[u8] =
-    b"\0\x01\0\0\0\0\0\0\0\x01\0\0\0\x03\0\0\0\x05\0\0\0\0\0\0\0\x0a\0\0\0\0\0\0";
-
-pub(crate) const EMPTY: &[&[u8]] = &[HEADER, END];
-
-// Three puts and a remove, and what is written anew of them.
-const FILLED: &[&[u8]] = &[HEADER, PUT_1, PUT_2, PUT_3, REMOVE_3, END];
-
-const ANEW: &[&[u8]] = &[HEADER, PUT_1, PUT_2, END];
-
-const GONE_ON: &[&[u8]] = &[HEADER, PUT_1, PUT_2, PUT_4, END];
 
 // Where an object is, if it is there and its find was answered.
 pub(crate) type Place = Option<Option<Stamped>>;
@@ -79,7 +45,7 @@ pub(crate) const NOWHERE: Place = Some(None);
 
 pub(crate) const FIRST_TWO: Places = [place!(3, 5, 10), place!(4, 4, 20), NOWHERE, NOWHERE];
 
-const FIRST_TWO_AND_FOURTH: Places = [
+pub(crate) const FIRST_TWO_AND_FOURTH: Places = [
     place!(3, 5, 10),
     place!(4, 4, 20),
     NOWHERE,
@@ -93,32 +59,6 @@ const NOTHING: Found = (0, None, 0, [NOWHERE, NOWHERE, NOWHERE, NOWHERE]);
 
 // A store over a file, and the pass that has all parts of it.
 pub(crate) type Open<I, D> = (Store<I, D, OverFile>, Pass<SharedBook<I, D, OverFile>>);
-
-// The bytes of these pieces.
-fn bytes_of(rt: &impl Abort, alloc: Global, pieces: &[&[u8]]) -> Vec<u8> {
-    let mut bytes = Vec::new(alloc);
-    for piece in pieces {
-        bytes.extend_from_slice(piece).expect(rt, "no memory");
-    }
-    bytes
-}
-
-// A drive with these bytes, where these calls fail.
-pub(crate) fn disk_of(rt: &impl Abort, alloc: Global, bytes: &[u8], failing: &[Fail]) -> MemDisk {
-    let bytes = Vec::from_slice(alloc, bytes).expect(rt, "no memory");
-    let failing = Vec::from_slice(alloc, failing).expect(rt, "no memory");
-    MemDisk::new(alloc, bytes, 1_024, 128, failing).expect(rt, "no drive")
-}
-
-pub(crate) fn disk_with(rt: &impl Abort, alloc: Global, pieces: &[&[u8]]) -> MemDisk {
-    disk_of(rt, alloc, bytes_of(rt, alloc, pieces).as_slice(), &[])
-}
-
-// Fails unless a drive has these bytes.
-pub(crate) fn expect_bytes(rt: &impl Abort, alloc: Global, disk: &MemDisk, pieces: &[&[u8]]) {
-    let wanted = bytes_of(rt, alloc, pieces);
-    assert_same!(rt; disk.bytes(), wanted.as_slice());
-}
 
 // Where the objects are.
 pub(crate) fn look<I: Index, D: LogDisk, R: Wait>(
@@ -161,7 +101,7 @@ fn fill<I: Index, D: LogDisk, R: Wait>(
 }
 
 // One put more.
-fn go_on<I: Index, D: LogDisk, R: Wait>(
+pub(crate) fn go_on<I: Index, D: LogDisk, R: Wait>(
     rt: &R,
     alloc: Global,
     store: &Store<I, D, OverFile>,
@@ -190,7 +130,11 @@ pub(crate) fn open<I: Index, D: LogDisk>(
 }
 
 // Opens a store, and fills it.
-fn filled<I: Index, D: LogDisk, R: Wait + Abort>(rt: &R, alloc: Global, disk: D) -> Open<I, D>
+pub(crate) fn filled<I: Index, D: LogDisk, R: Wait + Abort>(
+    rt: &R,
+    alloc: Global,
+    disk: D,
+) -> Open<I, D>
     ensures free { IsFree result.0 result.1 }
     ensures parts { result.1.parts ≡ 65536 }
 {
@@ -242,7 +186,7 @@ pub(crate) fn found_on<I: Index, D: LogDisk, R: Wait + Abort>(
 }
 
 // A store that was opened over either file.
-fn open_one<I: Index, D: LogDisk>(
+pub(crate) fn open_one<I: Index, D: LogDisk>(
     rt: &impl Abort,
     alloc: Global,
     first: D,
@@ -257,7 +201,7 @@ fn open_one<I: Index, D: LogDisk>(
 }
 
 // What is found over either file, which one it is, and the drives: the one of the store, and the other one.
-fn found_in<I: Index, D: LogDisk, R: Wait + Abort>(
+pub(crate) fn found_in<I: Index, D: LogDisk, R: Wait + Abort>(
     rt: &R,
     alloc: Global,
     first: D,
@@ -301,7 +245,7 @@ pub(crate) enum Leaves {
     Anew,
 }
 
-fn rotate<I: Index, D: LogDisk>(
+pub(crate) fn rotate<I: Index, D: LogDisk>(
     alloc: Global,
     store: Store<I, D, OverFile>,
     pass: Pass<SharedBook<I, D, OverFile>>,
@@ -346,7 +290,7 @@ fn expect_found<R: Wait + Abort>(rt: &R, alloc: Global, disk: MemDisk, wanted: F
 }
 
 // Fails unless this is found over two files, in the one; the other one is an empty log then.
-fn expect_in<R: Wait + Abort>(
+pub(crate) fn expect_in<R: Wait + Abort>(
     rt: &R,
     alloc: Global,
     first: MemDisk,
@@ -359,7 +303,7 @@ fn expect_in<R: Wait + Abort>(
 }
 
 // The same in both orders of the files, of which the one that it is found in comes first.
-fn expect_either<R: Wait + Abort>(
+pub(crate) fn expect_either<R: Wait + Abort>(
     rt: &R,
     alloc: Global,
     first: &[&[u8]],
@@ -389,58 +333,6 @@ fn fill_and_renew<I: Index, D: LogDisk, R: Wait + Abort>(
     ([entries.as_slice().len(), more], disk)
 }
 
-// Fills a store, and rotates it; where it goes on, that is with one put: how many entries each of the two had, and both drives, the one of
-// the store first.
-fn fill_and_rotate<I: Index, D: LogDisk, R: Wait + Abort>(
-    rt: &R,
-    alloc: Global,
-    disk: D,
-    spare: D,
-    leaves: Leaves,
-    goes_on: bool,
-) -> ([usize; 2], D, D) {
-    let (store, pass) = filled::<I, D, R>(rt, alloc, disk);
-    let Rotated {
-        store,
-        pass,
-        entries,
-        spare,
-    } = rotated(rt, alloc, store, pass, spare, leaves);
-    let pass = if goes_on {
-        go_on(rt, alloc, &store, pass)
-    } else {
-        pass
-    };
-    let (more, disk) = close(rt, store, pass);
-    ([entries.as_slice().len(), more], disk, spare)
-}
-
-// Opens either file, and rotates the store into the other one: which one it was, and both drives, the one of the store first.
-fn open_and_rotate<I: Index, D: LogDisk, R: Wait + Abort>(
-    rt: &R,
-    alloc: Global,
-    first: D,
-    second: D,
-) -> (Which, D, D) {
-    let OpenedEither {
-        store,
-        pass,
-        points: _,
-        latest: _,
-        records: _,
-        spare,
-        which,
-    } = open_one::<I, D>(rt, alloc, first, second);
-    let Rotated {
-        store,
-        pass,
-        entries: _,
-        spare,
-    } = rotated(rt, alloc, store, pass, spare, Leaves::AsTheyAre);
-    let (_, disk) = close(rt, store, pass);
-    (which, disk, spare)
-}
-
 fn is_found_again<R: Wait + Abort>(rt: &R, alloc: Global) {
     let disk = expect_found(rt, alloc, disk_with(rt, alloc, &[]), NOTHING);
     expect_bytes(rt, alloc, &disk, EMPTY);
@@ -459,177 +351,25 @@ fn is_found_behind_a_renewal<R: Wait + Abort>(rt: &R, alloc: Global) {
     expect_found(rt, alloc, disk, (3, Some(30), 5, FIRST_TWO_AND_FOURTH));
 }
 
-fn rotates_over_and_back<R: Wait + Abort>(rt: &R, alloc: Global, leaves: Leaves) {
-    let (one, two) = (disk_with(rt, alloc, &[]), disk_with(rt, alloc, &[]));
-    let (entries, two, one) = fill_and_rotate::<FlatIndex, MemDisk, R>(
-        rt, alloc, one, two, leaves, false,
-    );
-    assert_same!(rt; entries, [4, 0]);
-    expect_bytes(rt, alloc, &two, ANEW);
-    expect_bytes(rt, alloc, &one, EMPTY);
-    let (which, one, two) = open_and_rotate::<FlatIndex, MemDisk, R>(rt, alloc, one, two);
-    assert_same!(rt; which, Which::Second);
-    expect_bytes(rt, alloc, &one, ANEW);
-    expect_bytes(rt, alloc, &two, EMPTY);
-}
-
-fn goes_on_behind_a_rotation<R: Wait + Abort>(rt: &R, alloc: Global, leaves: Leaves) {
-    let (one, two) = (disk_with(rt, alloc, &[]), disk_with(rt, alloc, &[]));
-    let (entries, two, one) = fill_and_rotate::<FlatIndex, MemDisk, R>(
-        rt, alloc, one, two, leaves, true,
-    );
-    assert_same!(rt; entries, [4, 1]);
-    expect_bytes(rt, alloc, &two, GONE_ON);
-    expect_bytes(rt, alloc, &one, EMPTY);
-    let found = (3, Some(30), 3, FIRST_TWO_AND_FOURTH);
-    expect_in(rt, alloc, one, two, (Which::Second, found));
-    expect_either(rt, alloc, GONE_ON, EMPTY, found);
-}
-
-// The calls of a rotation on the second drive, each with the file that is gone on over where it failed, and how many records that has. What
-// was written there counts once its first commit byte is set, and only the sync behind that one is left then.
-const ON_SPARE: &[(DiskCall, u64, Which, u64)] = &[
-    (DiskCall::Len, 1, Which::First, 4),
-    (DiskCall::Write, 1, Which::First, 4),
-    (DiskCall::Sync, 1, Which::First, 4),
-    (DiskCall::Write, 2, Which::First, 4),
-    (DiskCall::Sync, 2, Which::First, 4),
-    (DiskCall::Write, 3, Which::First, 4),
-    (DiskCall::Sync, 3, Which::Second, 2),
-];
-
-// Both drives of a rotation whose second drive fails, the one of the book first.
-fn kept<I: Index, D: LogDisk, R: Wait + Abort>(
-    rt: &R,
+// Why no store is opened over a file, and its drive.
+fn unopened<I: Index, D: LogDisk>(
+    rt: &impl Abort,
     alloc: Global,
     disk: D,
-    spare: D,
-    leaves: Leaves,
-) -> (RotateCause, Option<D>, D) {
-    let (store, pass) = filled::<I, D, R>(rt, alloc, disk);
-    match rotate(alloc, store, pass, spare, leaves) {
-        Err(NotRotated::Kept { book, spare, cause }) => (cause, book.into_parts().disk, spare),
-        _ => rt.panic("the book isn't kept"),
+    bucket: u32,
+) -> NotOpened<D> {
+    match open_store::<I, D>(alloc, disk, "one.log", bucket) {
+        Err(refused) => refused,
+        Ok(_) => rt.panic("a file is opened"),
     }
 }
 
-// What a crash may leave on a drive: with few bytes, or many, and this one in each free place.
-const CRASHES: &[(u64, u8)] = &[(0, 0), (0, 1), (1_024, 0), (1_024, 1), (1_024, 9)];
-
-// A drive as a crash at a moment may leave it.
-fn image(rt: &impl Abort, alloc: Global, at: (&MemDisk, u64), len: u64, fill: u8) -> MemDisk {
-    let (disk, moment) = at;
-    let image = disk.pick(moment, len, &[fill]).expect(rt, "no image");
-    disk_of(rt, alloc, image.as_slice(), &[])
-}
-
-// Fails unless the objects are found in these files, in the one or the other, and the store is rotated into that other one then.
-fn expect_after_crash<R: Wait + Abort>(rt: &R, alloc: Global, first: MemDisk, second: MemDisk) {
-    let (_, found, disk, spare) = found_in::<FlatIndex, MemDisk, R>(rt, alloc, first, second);
-    let (points, latest, _, places) = found;
-    assert_same!(rt; (points, latest, places), (2, Some(20), FIRST_TWO));
-    assert_same!(rt; spare.bytes().len(), 17);
-    let (which, disk, spare) = open_and_rotate::<FlatIndex, MemDisk, R>(rt, alloc, disk, spare);
-    assert_same!(rt; which, Which::First);
-    expect_bytes(rt, alloc, &disk, ANEW);
-    expect_bytes(rt, alloc, &spare, EMPTY);
-}
-
-// The same of each crash at a moment of one drive and one of the other.
-fn expect_after_crashes<R: Wait + Abort>(
-    rt: &R,
-    alloc: Global,
-    one: (&MemDisk, u64),
-    two: (&MemDisk, u64),
-) {
-    for (len, fill) in CRASHES {
-        let first = image(rt, alloc, one, *len, *fill);
-        let second = image(rt, alloc, two, *len, *fill);
-        expect_after_crash(rt, alloc, first, second);
-    }
-}
-
-// How many moments the first drive has before its log is cleared, and behind that; and how many the second one has in all.
-const BEFORE: u64 = 19;
-
-const BEHIND: u64 = 23;
-
-const IN_ALL: u64 = 6;
-
-fn keeps_its_objects<R: Wait + Abort>(rt: &R, alloc: Global, leaves: Leaves) {
-    let (one, two) = (disk_with(rt, alloc, &[]), disk_with(rt, alloc, &[]));
-    let (_, two, one) = fill_and_rotate::<FlatIndex, MemDisk, R>(
-        rt, alloc, one, two, leaves, false,
-    );
-    assert_same!(rt; [one.moments(), two.moments()], [BEHIND, IN_ALL]);
-    for moment in 0..7 {
-        expect_after_crashes(rt, alloc, (&one, BEFORE), (&two, moment));
-    }
-    for moment in BEFORE..24 {
-        expect_after_crashes(rt, alloc, (&one, moment), (&two, IN_ALL));
-    }
-}
-
-fn keeps_its_book<R: Wait + Abort>(
-    rt: &R,
-    alloc: Global,
-    leaves: Leaves,
-    failing: Fail,
-    wanted: (Which, u64),
-) {
-    let one = disk_with(rt, alloc, &[]);
-    let two = disk_of(rt, alloc, &[], &[failing]);
-    let (cause, one, two) = kept::<FlatIndex, MemDisk, R>(rt, alloc, one, two, leaves);
-    let one = one.expect(rt, "the book has no log");
-    assert_same!(rt; cause, RotateCause::Disk);
-    expect_bytes(rt, alloc, &one, FILLED);
-    expect_after_crashes(rt, alloc, (&one, one.moments()), (&two, two.moments()));
-    let (which, records) = wanted;
-    let found = (2, Some(20), records, FIRST_TWO);
-    expect_in(rt, alloc, one, two, (which, found));
-}
-
-// The calls of a rotation on the first drive, by which its log is cleared. Before them come nine writes and ten syncs: the log was made by
-// a write and a sync, opened with a sync, and each of four records was appended by two of each.
-const ON_FIRST: &[(DiskCall, u64)] = &[
-    (DiskCall::Write, 10),
-    (DiskCall::Sync, 11),
-    (DiskCall::Cut, 1),
-    (DiskCall::Sync, 12),
-];
-
-// Both drives of a rotation whose first drive fails, the one of the book last, and how many entries came back.
-fn uncleared<I: Index, D: LogDisk, R: Wait + Abort>(
-    rt: &R,
-    alloc: Global,
-    disk: D,
-    spare: D,
-    leaves: Leaves,
-) -> (usize, D, Option<D>) {
-    let (store, pass) = filled::<I, D, R>(rt, alloc, disk);
-    match rotate(alloc, store, pass, spare, leaves) {
-        Err(NotRotated::Uncleared { book, entries, old }) => {
-            (entries.as_slice().len(), old, book.into_parts().disk)
-        }
-        _ => rt.panic("the first file is cleared"),
-    }
-}
-
-fn has_gone_on<R: Wait + Abort>(rt: &R, alloc: Global, leaves: Leaves, failing: Fail) {
-    let one = disk_of(rt, alloc, &[], &[failing]);
-    let two = disk_with(rt, alloc, &[]);
-    let (entries, one, two) = uncleared::<FlatIndex, MemDisk, R>(rt, alloc, one, two, leaves);
-    let two = two.expect(rt, "the book has no log");
-    assert_same!(rt; entries, 4);
-    expect_bytes(rt, alloc, &two, ANEW);
-    expect_after_crashes(rt, alloc, (&one, one.moments()), (&two, two.moments()));
-    expect_in(
-        rt,
-        alloc,
-        one,
-        two,
-        (Which::Second, (2, Some(20), 2, FIRST_TWO)),
-    );
+// Fails unless it isn't opened for this cause, and its drive comes back with the bytes that it had.
+fn expect_unopened(rt: &impl Abort, alloc: Global, file: &[&[u8]], bucket: u32, wanted: OpenCause) {
+    let disk = disk_with(rt, alloc, file);
+    let NotOpened { disk, cause } = unopened::<FlatIndex, MemDisk>(rt, alloc, disk, bucket);
+    assert_same!(rt; cause, wanted);
+    expect_bytes(rt, alloc, &disk, file);
 }
 
 // Why neither of two files is opened, and both drives.
@@ -677,70 +417,6 @@ fn a_store_is_opened_with_all_that_renewed_ones_left(rt: HostRuntime) {
 }
 
 #[test]
-fn a_store_is_rotated_into_a_second_file_and_back(rt: HostRuntime) {
-    rotates_over_and_back(&rt, rt.alloc(), Leaves::AsTheyAre);
-    rotates_over_and_back(&rt, rt.alloc(), Leaves::Anew);
-}
-
-#[test]
-fn a_rotated_store_goes_on_in_its_second_file(rt: HostRuntime) {
-    goes_on_behind_a_rotation(&rt, rt.alloc(), Leaves::AsTheyAre);
-    goes_on_behind_a_rotation(&rt, rt.alloc(), Leaves::Anew);
-}
-
-#[test]
-fn a_second_drive_that_fails_leaves_the_first_log(rt: HostRuntime) {
-    for (call, number, which, records) in ON_SPARE {
-        let failing = Fail {
-            call: *call,
-            number: *number,
-        };
-        let wanted = (*which, *records);
-        keeps_its_book(&rt, rt.alloc(), Leaves::AsTheyAre, failing, wanted);
-        keeps_its_book(&rt, rt.alloc(), Leaves::Anew, failing, wanted);
-    }
-}
-
-#[test]
-fn a_first_drive_that_fails_leaves_the_second_log(rt: HostRuntime) {
-    for (call, number) in ON_FIRST {
-        let failing = Fail {
-            call: *call,
-            number: *number,
-        };
-        has_gone_on(&rt, rt.alloc(), Leaves::AsTheyAre, failing);
-        has_gone_on(&rt, rt.alloc(), Leaves::Anew, failing);
-    }
-}
-
-// At each moment of a rotation: of one drive while the other one rests.
-#[test]
-fn a_crash_in_a_rotation_leaves_the_objects(rt: HostRuntime) {
-    keeps_its_objects(&rt, rt.alloc(), Leaves::AsTheyAre);
-    keeps_its_objects(&rt, rt.alloc(), Leaves::Anew);
-}
-
-// What a crash may leave of two files: both logs; the old one beside a second file that isn't made, is short, or has records that don't
-// count yet; and the new one beside an old one of which the first commit byte is clear.
-#[test]
-fn the_same_objects_are_found_wherever_a_rotation_ends(rt: HostRuntime) {
-    let old = (2, Some(20), 4, FIRST_TWO);
-    let new = (2, Some(20), 2, FIRST_TWO);
-    expect_either(&rt, rt.alloc(), ANEW, FILLED, new);
-    expect_either(&rt, rt.alloc(), FILLED, &[], old);
-    expect_either(&rt, rt.alloc(), FILLED, &[b"MDLO"], old);
-    expect_either(&rt, rt.alloc(), FILLED, EMPTY, old);
-    expect_either(&rt, rt.alloc(), FILLED, &[HEADER, UNSET_1, PUT_2, END], old);
-    expect_either(
-        &rt,
-        rt.alloc(),
-        ANEW,
-        &[HEADER, UNSET_1, PUT_2, PUT_3, REMOVE_3, END],
-        new,
-    );
-}
-
-#[test]
 fn files_of_two_worlds_are_refused(rt: HostRuntime) {
     let differ = EitherCause::Differ;
     expect_refused(&rt, rt.alloc(), [ANEW, GONE_ON], 4, differ);
@@ -762,6 +438,7 @@ fn a_file_that_is_no_log_is_told(rt: HostRuntime) {
     let cause = OpenCause::Log {
         fault: OpenFault::NotLog,
     };
+    expect_unopened(&rt, rt.alloc(), NO_LOG, 4, cause);
     expect_refused(
         &rt,
         rt.alloc(),
@@ -787,6 +464,8 @@ fn a_file_that_is_no_log_is_told(rt: HostRuntime) {
 
 #[test]
 fn a_bucket_of_three_or_4_097_is_refused(rt: HostRuntime) {
+    expect_unopened(&rt, rt.alloc(), UNMADE, 3, OpenCause::Bucket);
+    expect_unopened(&rt, rt.alloc(), NO_LOG, 4_097, OpenCause::Bucket);
     expect_refused(&rt, rt.alloc(), [UNMADE, NO_LOG], 3, EitherCause::Bucket);
     expect_refused(
         &rt,

@@ -2,10 +2,8 @@
 ghost use Rattle.std.specs.Prelude.{◌≡◌};
 ghost use Rattle.store_client.specs.Caller.{IsFree};
 
-use crate::files::{
-    EMPTY, END, FIRST_TWO, HEADER, Leaves, NOWHERE, Open, PUT_1, PUT_2, close, disk_with,
-    expect_bytes, found_on, open, rotated,
-};
+use crate::files::{FIRST_TWO, Leaves, NOWHERE, Open, close, found_on, open, rotated};
+use crate::logs::{EMPTY, END, HEADER, PUT_1, PUT_2, disk_with, expect_bytes};
 use book_lock::Pass;
 use disk_mem::MemDisk;
 use disk_trait::LogDisk;

@@ -35,6 +35,8 @@ mod leaves_anew;
 #[cfg(test)]
 mod legal;
 #[cfg(test)]
+mod logs;
+#[cfg(test)]
 mod numbered;
 #[cfg(test)]
 mod orders;
@@ -44,6 +46,8 @@ mod passes;
 mod points;
 #[cfg(test)]
 mod renewals;
+#[cfg(test)]
+mod rotations;
 #[cfg(test)]
 mod sheets;
 #[cfg(test)]

@@ -1,0 +1,306 @@
+//! Stores that go on over a second file, also where a drive fails or a crash comes.
+use crate::files::{
+    FIRST_TWO, FIRST_TWO_AND_FOURTH, Leaves, close, expect_either, expect_in, filled, found_in,
+    go_on, open_one, rotate, rotated,
+};
+use crate::logs::{
+    ANEW, EMPTY, END, FILLED, GONE_ON, HEADER, PUT_2, PUT_3, REMOVE_3, UNSET_1, disk_of, disk_with,
+    expect_bytes,
+};
+use disk_mem::{DiskCall, Fail, MemDisk};
+use disk_trait::LogDisk;
+use flat_index::FlatIndex;
+use index_layer::Index;
+use std::alloc::Global;
+use std::process::Abort;
+use std::sync::Wait;
+use store_file::{NotRotated, OpenedEither, RotateCause, Rotated, Which};
+
+// Fills a store, and rotates it; where it goes on, that is with one put: how many entries each of the two had, and both drives, the one of
+// the store first.
+fn fill_and_rotate<I: Index, D: LogDisk, R: Wait + Abort>(
+    rt: &R,
+    alloc: Global,
+    disk: D,
+    spare: D,
+    leaves: Leaves,
+    goes_on: bool,
+) -> ([usize; 2], D, D) {
+    let (store, pass) = filled::<I, D, R>(rt, alloc, disk);
+    let Rotated {
+        store,
+        pass,
+        entries,
+        spare,
+    } = rotated(rt, alloc, store, pass, spare, leaves);
+    let pass = if goes_on {
+        go_on(rt, alloc, &store, pass)
+    } else {
+        pass
+    };
+    let (more, disk) = close(rt, store, pass);
+    ([entries.as_slice().len(), more], disk, spare)
+}
+
+// Opens either file, and rotates the store into the other one: which one it was, and both drives, the one of the store first.
+fn open_and_rotate<I: Index, D: LogDisk, R: Wait + Abort>(
+    rt: &R,
+    alloc: Global,
+    first: D,
+    second: D,
+) -> (Which, D, D) {
+    let OpenedEither {
+        store,
+        pass,
+        points: _,
+        latest: _,
+        records: _,
+        spare,
+        which,
+    } = open_one::<I, D>(rt, alloc, first, second);
+    let Rotated {
+        store,
+        pass,
+        entries: _,
+        spare,
+    } = rotated(rt, alloc, store, pass, spare, Leaves::AsTheyAre);
+    let (_, disk) = close(rt, store, pass);
+    (which, disk, spare)
+}
+
+fn rotates_over_and_back<R: Wait + Abort>(rt: &R, alloc: Global, leaves: Leaves) {
+    let (one, two) = (disk_with(rt, alloc, &[]), disk_with(rt, alloc, &[]));
+    let (entries, two, one) = fill_and_rotate::<FlatIndex, MemDisk, R>(
+        rt, alloc, one, two, leaves, false,
+    );
+    assert_same!(rt; entries, [4, 0]);
+    expect_bytes(rt, alloc, &two, ANEW);
+    expect_bytes(rt, alloc, &one, EMPTY);
+    let (which, one, two) = open_and_rotate::<FlatIndex, MemDisk, R>(rt, alloc, one, two);
+    assert_same!(rt; which, Which::Second);
+    expect_bytes(rt, alloc, &one, ANEW);
+    expect_bytes(rt, alloc, &two, EMPTY);
+}
+
+fn goes_on_behind_a_rotation<R: Wait + Abort>(rt: &R, alloc: Global, leaves: Leaves) {
+    let (one, two) = (disk_with(rt, alloc, &[]), disk_with(rt, alloc, &[]));
+    let (entries, two, one) = fill_and_rotate::<FlatIndex, MemDisk, R>(
+        rt, alloc, one, two, leaves, true,
+    );
+    assert_same!(rt; entries, [4, 1]);
+    expect_bytes(rt, alloc, &two, GONE_ON);
+    expect_bytes(rt, alloc, &one, EMPTY);
+    let found = (3, Some(30), 3, FIRST_TWO_AND_FOURTH);
+    expect_in(rt, alloc, one, two, (Which::Second, found));
+    expect_either(rt, alloc, GONE_ON, EMPTY, found);
+}
+
+// The calls of a rotation on the second drive, each with the file that is gone on over where it failed, and how many records that has. What
+// was written there counts once its first commit byte is set, and only the sync behind that one is left then.
+const ON_SPARE: &[(DiskCall, u64, Which, u64)] = &[
+    (DiskCall::Len, 1, Which::First, 4),
+    (DiskCall::Write, 1, Which::First, 4),
+    (DiskCall::Sync, 1, Which::First, 4),
+    (DiskCall::Write, 2, Which::First, 4),
+    (DiskCall::Sync, 2, Which::First, 4),
+    (DiskCall::Write, 3, Which::First, 4),
+    (DiskCall::Sync, 3, Which::Second, 2),
+];
+
+// Both drives of a rotation whose second drive fails, the one of the book first.
+fn kept<I: Index, D: LogDisk, R: Wait + Abort>(
+    rt: &R,
+    alloc: Global,
+    disk: D,
+    spare: D,
+    leaves: Leaves,
+) -> (RotateCause, Option<D>, D) {
+    let (store, pass) = filled::<I, D, R>(rt, alloc, disk);
+    match rotate(alloc, store, pass, spare, leaves) {
+        Err(NotRotated::Kept { book, spare, cause }) => (cause, book.into_parts().disk, spare),
+        _ => rt.panic("the book isn't kept"),
+    }
+}
+
+// What a crash may leave on a drive: with few bytes, or many, and this one in each free place.
+const CRASHES: &[(u64, u8)] = &[(0, 0), (0, 1), (1_024, 0), (1_024, 1), (1_024, 9)];
+
+// A drive as a crash at a moment may leave it.
+fn image(rt: &impl Abort, alloc: Global, at: (&MemDisk, u64), len: u64, fill: u8) -> MemDisk {
+    let (disk, moment) = at;
+    let image = disk.pick(moment, len, &[fill]).expect(rt, "no image");
+    disk_of(rt, alloc, image.as_slice(), &[])
+}
+
+// Fails unless the objects are found in these files, in the one or the other, and the store is rotated into that other one then.
+fn expect_after_crash<R: Wait + Abort>(rt: &R, alloc: Global, first: MemDisk, second: MemDisk) {
+    let (_, found, disk, spare) = found_in::<FlatIndex, MemDisk, R>(rt, alloc, first, second);
+    let (points, latest, _, places) = found;
+    assert_same!(rt; (points, latest, places), (2, Some(20), FIRST_TWO));
+    assert_same!(rt; spare.bytes().len(), 17);
+    let (which, disk, spare) = open_and_rotate::<FlatIndex, MemDisk, R>(rt, alloc, disk, spare);
+    assert_same!(rt; which, Which::First);
+    expect_bytes(rt, alloc, &disk, ANEW);
+    expect_bytes(rt, alloc, &spare, EMPTY);
+}
+
+// The same of each crash at a moment of one drive and one of the other.
+fn expect_after_crashes<R: Wait + Abort>(
+    rt: &R,
+    alloc: Global,
+    one: (&MemDisk, u64),
+    two: (&MemDisk, u64),
+) {
+    for (len, fill) in CRASHES {
+        let first = image(rt, alloc, one, *len, *fill);
+        let second = image(rt, alloc, two, *len, *fill);
+        expect_after_crash(rt, alloc, first, second);
+    }
+}
+
+// How many moments the first drive has before its log is cleared, and behind that; and how many the second one has in all.
+const BEFORE: u64 = 19;
+
+const BEHIND: u64 = 23;
+
+const IN_ALL: u64 = 6;
+
+fn keeps_its_objects<R: Wait + Abort>(rt: &R, alloc: Global, leaves: Leaves) {
+    let (one, two) = (disk_with(rt, alloc, &[]), disk_with(rt, alloc, &[]));
+    let (_, two, one) = fill_and_rotate::<FlatIndex, MemDisk, R>(
+        rt, alloc, one, two, leaves, false,
+    );
+    assert_same!(rt; [one.moments(), two.moments()], [BEHIND, IN_ALL]);
+    for moment in 0..7 {
+        expect_after_crashes(rt, alloc, (&one, BEFORE), (&two, moment));
+    }
+    for moment in BEFORE..24 {
+        expect_after_crashes(rt, alloc, (&one, moment), (&two, IN_ALL));
+    }
+}
+
+fn keeps_its_book<R: Wait + Abort>(
+    rt: &R,
+    alloc: Global,
+    leaves: Leaves,
+    failing: Fail,
+    wanted: (Which, u64),
+) {
+    let one = disk_with(rt, alloc, &[]);
+    let two = disk_of(rt, alloc, &[], &[failing]);
+    let (cause, one, two) = kept::<FlatIndex, MemDisk, R>(rt, alloc, one, two, leaves);
+    let one = one.expect(rt, "the book has no log");
+    assert_same!(rt; cause, RotateCause::Disk);
+    expect_bytes(rt, alloc, &one, FILLED);
+    expect_after_crashes(rt, alloc, (&one, one.moments()), (&two, two.moments()));
+    let (which, records) = wanted;
+    let found = (2, Some(20), records, FIRST_TWO);
+    expect_in(rt, alloc, one, two, (which, found));
+}
+
+// The calls of a rotation on the first drive, by which its log is cleared. Before them come nine writes and ten syncs: the log was made by
+// a write and a sync, opened with a sync, and each of four records was appended by two of each.
+const ON_FIRST: &[(DiskCall, u64)] = &[
+    (DiskCall::Write, 10),
+    (DiskCall::Sync, 11),
+    (DiskCall::Cut, 1),
+    (DiskCall::Sync, 12),
+];
+
+// Both drives of a rotation whose first drive fails, the one of the book last, and how many entries came back.
+fn uncleared<I: Index, D: LogDisk, R: Wait + Abort>(
+    rt: &R,
+    alloc: Global,
+    disk: D,
+    spare: D,
+    leaves: Leaves,
+) -> (usize, D, Option<D>) {
+    let (store, pass) = filled::<I, D, R>(rt, alloc, disk);
+    match rotate(alloc, store, pass, spare, leaves) {
+        Err(NotRotated::Uncleared { book, entries, old }) => {
+            (entries.as_slice().len(), old, book.into_parts().disk)
+        }
+        _ => rt.panic("the first file is cleared"),
+    }
+}
+
+fn has_gone_on<R: Wait + Abort>(rt: &R, alloc: Global, leaves: Leaves, failing: Fail) {
+    let one = disk_of(rt, alloc, &[], &[failing]);
+    let two = disk_with(rt, alloc, &[]);
+    let (entries, one, two) = uncleared::<FlatIndex, MemDisk, R>(rt, alloc, one, two, leaves);
+    let two = two.expect(rt, "the book has no log");
+    assert_same!(rt; entries, 4);
+    expect_bytes(rt, alloc, &two, ANEW);
+    expect_after_crashes(rt, alloc, (&one, one.moments()), (&two, two.moments()));
+    expect_in(
+        rt,
+        alloc,
+        one,
+        two,
+        (Which::Second, (2, Some(20), 2, FIRST_TWO)),
+    );
+}
+
+#[test]
+fn a_store_is_rotated_into_a_second_file_and_back(rt: HostRuntime) {
+    rotates_over_and_back(&rt, rt.alloc(), Leaves::AsTheyAre);
+    rotates_over_and_back(&rt, rt.alloc(), Leaves::Anew);
+}
+
+#[test]
+fn a_rotated_store_goes_on_in_its_second_file(rt: HostRuntime) {
+    goes_on_behind_a_rotation(&rt, rt.alloc(), Leaves::AsTheyAre);
+    goes_on_behind_a_rotation(&rt, rt.alloc(), Leaves::Anew);
+}
+
+#[test]
+fn a_second_drive_that_fails_leaves_the_first_log(rt: HostRuntime) {
+    for (call, number, which, records) in ON_SPARE {
+        let failing = Fail {
+            call: *call,
+            number: *number,
+        };
+        let wanted = (*which, *records);
+        keeps_its_book(&rt, rt.alloc(), Leaves::AsTheyAre, failing, wanted);
+        keeps_its_book(&rt, rt.alloc(), Leaves::Anew, failing, wanted);
+    }
+}
+
+#[test]
+fn a_first_drive_that_fails_leaves_the_second_log(rt: HostRuntime) {
+    for (call, number) in ON_FIRST {
+        let failing = Fail {
+            call: *call,
+            number: *number,
+        };
+        has_gone_on(&rt, rt.alloc(), Leaves::AsTheyAre, failing);
+        has_gone_on(&rt, rt.alloc(), Leaves::Anew, failing);
+    }
+}
+
+// At each moment of a rotation: of one drive while the other one rests.
+#[test]
+fn a_crash_in_a_rotation_leaves_the_objects(rt: HostRuntime) {
+    keeps_its_objects(&rt, rt.alloc(), Leaves::AsTheyAre);
+    keeps_its_objects(&rt, rt.alloc(), Leaves::Anew);
+}
+
+// What a crash may leave of two files: both logs; the old one beside a second file that isn't made, is short, or has records that don't
+// count yet; and the new one beside an old one of which the first commit byte is clear.
+#[test]
+fn the_same_objects_are_found_wherever_a_rotation_ends(rt: HostRuntime) {
+    let old = (2, Some(20), 4, FIRST_TWO);
+    let new = (2, Some(20), 2, FIRST_TWO);
+    expect_either(&rt, rt.alloc(), ANEW, FILLED, new);
+    expect_either(&rt, rt.alloc(), FILLED, &[], old);
+    expect_either(&rt, rt.alloc(), FILLED, &[b"MDLO"], old);
+    expect_either(&rt, rt.alloc(), FILLED, EMPTY, old);
+    expect_either(&rt, rt.alloc(), FILLED, &[HEADER, UNSET_1, PUT_2, END], old);
+    expect_either(
+        &rt,
+        rt.alloc(),
+        ANEW,
+        &[HEADER, UNSET_1, PUT_2, PUT_3, REMOVE_3, END],
+        new,
+    );
+}
