@@ -11,6 +11,7 @@ mod clearings;
 mod compactions;
 pub mod files;
 pub mod fixtures;
+mod followers;
 mod images;
 mod recoveries;
 mod walks;
