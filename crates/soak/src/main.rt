@@ -48,7 +48,7 @@ use std::process::ExitCode;
 use std::rt::{Clock, Env};
 use std::sync::Wait;
 use std::thread::Threads;
-use store_file::{NotEither, OpenedEither, open_either};
+use store_file::{OpenedEither, open_either};
 use trouble::Trouble;
 
 // How many objects a leaf should have.
@@ -115,16 +115,8 @@ fn open_files<'n, D: LogDisk>(
 ) -> Result<OpenedEither<KdTrie, D>, Trouble>
     ensures { IfOk result (λ o. IsWhole o.store o.pass) }
 {
-    match open_either::<KdTrie, D>(alloc, first, one, second, two, BUCKET) {
-        Ok(opened) => Ok(opened),
-        Err(
-            NotEither {
-                first: _,
-                second: _,
-                cause,
-            },
-        ) => Err(Trouble::Open(cause)),
-    }
+    let opened = open_either::<KdTrie, D>(alloc, first, one, second, two, BUCKET);
+    opened.map_err(|refused| Trouble::Open(refused.cause))
 }
 
 // Runs over a store in one of two files: a chain goes on from the objects that are there, and else there must be none.

@@ -2,9 +2,7 @@
 ghost use Rattle.std.specs.Prelude.{◌<◌};
 
 use plain_list::Op;
-
-/// The most entries of a history.
-const MOST_ENTRIES: u64 = 4_194_304;
+use store_client::MOST_EVENTS;
 
 /// How much is asked, and by how many.
 #[derive(Clone, Copy)]
@@ -44,7 +42,7 @@ impl Plan {
 
     /// Whether a history has so many entries that the threads are to meet, where this is the room that is left.
     pub fn is_over(&self, room: u64) -> bool {
-        MOST_ENTRIES.saturating_sub(room) >= self.entries
+        MOST_EVENTS.saturating_sub(room) >= self.entries
     }
 
     /// Whether what a call is told is looked at, by its place in the history.

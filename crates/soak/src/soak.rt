@@ -30,18 +30,6 @@ pub type SoakPass<I, D, O> = Pass<SharedBook<I, D, O>>;
 /// The session of who hires the threads, and looks at all objects.
 pub const LAST: u8 = 4;
 
-// A store of a book, and the pass that has all parts of it, where there is memory for it.
-fn open_store<I: Index, D: LogDisk>(
-    alloc: Global,
-    book: Book<I, D>,
-) -> Option<(Store<I, D, Brand>, SoakPass<I, D, Brand>)>
-    requires entries { book.entries ≡ [] }
-    requires world { IsWorld book.opening.world }
-    ensures { IfSome result (λ opened. IsWhole opened.0 opened.1) }
-{
-    Store::<I, D, Brand>::new(alloc, book).ok()
-}
-
 // The threads, before their calls, where there is memory for them.
 fn crew_of(alloc: Global, plan: Plan) -> Option<Vec<Soaker>>
     ensures { IfSome result (λ all. vec_len all ≡ 4) }
@@ -66,7 +54,7 @@ pub fn play<I: Index + Send, D: LogDisk + Send, R: Threads + Wait + Sync + Clock
     requires entries { book.entries ≡ [] }
     requires world { IsWorld book.opening.world }
 {
-    let Some((mut store, mut pass)) = open_store(alloc, book) else {
+    let Ok((mut store, mut pass)) = Store::<I, D, Brand>::new(alloc, book) else {
         return Err(Trouble::Memory);
     };
     let mut crew = crew_of(alloc, plan);
