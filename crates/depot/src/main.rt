@@ -28,7 +28,7 @@ use std::io::Print;
 use std::process::ExitCode;
 use std::sync::Wait;
 use std::thread::Threads;
-use store_file::{NotEither, OpenedEither, Which, open_either};
+use store_file::{OpenedEither, Which, open_either};
 use trouble::Trouble;
 use yard::Day;
 
@@ -72,16 +72,8 @@ fn open_vans<D: LogDisk>(
 ) -> Result<OpenedEither<KdTrie, D>, Trouble>
     ensures { IfOk result (λ o. IsFirst o.store o.pass) }
 {
-    match open_either::<KdTrie, D>(alloc, first, FIRST, second, SECOND, BUCKET) {
-        Ok(opened) => Ok(opened),
-        Err(
-            NotEither {
-                first: _,
-                second: _,
-                cause,
-            },
-        ) => Err(Trouble::Open(cause)),
-    }
+    let opened = open_either::<KdTrie, D>(alloc, first, FIRST, second, SECOND, BUCKET);
+    opened.map_err(|refused| Trouble::Open(refused.cause))
 }
 
 // Plays two days over the log, from the latest moment on that the log knows. Gives the last one.
