@@ -31,35 +31,37 @@ leaves_of-cut : (rows : List Row) (names : List (List Bool)) → leaves_of names
 leaves_of-cut rows [] = refl
 leaves_of-cut rows (n ∷ names) = ap (λ (l : List Leaf). leaf_for rows n ∷ l) (leaves_of-cut rows names)
 
+-- a leaf of rows that stands behind some and before others
+module _ (rows : List Row) (before : List (List Bool)) (name : List Bool) (later : List (List Bool)) (leaves : List Leaf) (is : leaves ≡ leaves_for rows (before ++ name ∷ later)) where
+  parts : leaves ≡ leaves_for rows before ++ leaf_for rows name ∷ leaves_for rows later
+  parts = is ∙ map-append (leaf_for rows) before (name ∷ later)
+
+  pub has_name-there : has_name name leaves ≡ true
+  has_name-there = among-any (λ l. same_name l.name name) leaves (leaf_for rows name) (leaves_for rows before, leaves_for rows later, parts) ((same_name-decides name name).1 refl)
+
+  -- split, there are its children
+  pub split-there : (w : ℕ) (new : List Leaf) → AreLeaves leaves → new ≡ split w name (cut w name rows) leaves → new ≡ leaves_for rows (before ++ (children w name ++ later))
+  split-there w new are e =
+      let tile : tiles_from 0 (names_of (leaves_for rows before ++ leaf_for rows name ∷ leaves_for rows later)) ≡ true = ap (λ (ls : List Leaf). tiles_from 0 (names_of ls)) (sym parts) ∙ are.tile in
+      e ∙ ap (split w name (cut w name rows)) parts
+      ∙ split-at 0 w name (cut w name rows) (leaves_for rows before) (leaf_for rows name) (leaves_for rows later) tile refl
+      ∙ ap (λ (ls : List Leaf). leaves_for rows before ++ (ls ++ leaves_for rows later)) (leaves_of-cut rows (children w name))
+      ∙ ap (λ (ls : List Leaf). leaves_for rows before ++ ls) (sym (map-append (leaf_for rows) (children w name) later))
+      ∙ sym (map-append (leaf_for rows) before (children w name ++ later))
+
 module _ (rows : List Row) (wanted : List (List Bool)) where
   -- the names tile the key space, since the leaves' do
   pub tile_there : (done : ℕ) (here later : List (List Bool)) (leaves : List Leaf) → HasGrownTo rows wanted done here later leaves → AreLeaves leaves → tiles_from 0 (take done wanted ++ (here ++ later)) ≡ true
   tile_there done here later leaves is are =
       ap (tiles_from 0) (sym (names_of-leaves_for rows (take done wanted ++ (here ++ later)))) ∙ ap (λ (ls : List Leaf). tiles_from 0 (names_of ls)) (sym is) ∙ are.tile
 
-  module _ (done : ℕ) (name : List Bool) (later : List (List Bool)) (leaves : List Leaf) (is : HasGrownTo rows wanted done (name ∷ []) later leaves) where
-    parts : leaves ≡ leaves_for rows (take done wanted) ++ leaf_for rows name ∷ leaves_for rows later
-    parts = is ∙ map-append (leaf_for rows) (take done wanted) (name ∷ later)
-
-    pub has_name-there : has_name name leaves ≡ true
-    has_name-there = among-any (λ l. same_name l.name name) leaves (leaf_for rows name) (leaves_for rows (take done wanted), leaves_for rows later, parts) ((same_name-decides name name).1 refl)
-
-    -- split, there are its children
-    pub split-there : (w : ℕ) (new : List Leaf) → AreLeaves leaves → new ≡ split w name (cut w name rows) leaves → HasGrownTo rows wanted done (children w name) later new
-    split-there w new are e =
-        let tile : tiles_from 0 (names_of (leaves_for rows (take done wanted) ++ leaf_for rows name ∷ leaves_for rows later)) ≡ true = ap (λ (ls : List Leaf). tiles_from 0 (names_of ls)) (sym parts) ∙ are.tile in
-        e ∙ ap (split w name (cut w name rows)) parts
-        ∙ split-at 0 w name (cut w name rows) (leaves_for rows (take done wanted)) (leaf_for rows name) (leaves_for rows later) tile refl
-        ∙ ap (λ (ls : List Leaf). leaves_for rows (take done wanted) ++ (ls ++ leaves_for rows later)) (leaves_of-cut rows (children w name))
-        ∙ ap (λ (ls : List Leaf). leaves_for rows (take done wanted) ++ ls) (sym (map-append (leaf_for rows) (children w name) later))
-        ∙ sym (map-append (leaf_for rows) (take done wanted) (children w name ++ later))
-
-    -- where it is the next wanted one, one more is done
-    pub done-there : (n : IsNext wanted done name) → same_name n.next name ≡ true → HasGrownTo rows wanted (done + 1) [] later leaves
-    done-there n same =
-        let named : n.next ≡ name = (same_name-decides n.next name).0 same in
-        subst (λ (i : ℕ). HasGrownTo rows wanted i [] later leaves) (sym (add-one done))
-        (is ∙ ap (leaves_for rows) (sym (append_assoc (take done wanted) (name ∷ []) later) ∙ ap (λ (l : List (List Bool)). l ++ later) (ap (λ (m : List Bool). take done wanted ++ m ∷ []) (sym named) ∙ sym n.more)))
+  -- where a leaf is the next wanted one, one more is done
+  pub done-there : (done : ℕ) (name : List Bool) (later : List (List Bool)) (leaves : List Leaf) → HasGrownTo rows wanted done (name ∷ []) later leaves → (n : IsNext wanted done name) → same_name n.next name ≡ true
+      → HasGrownTo rows wanted (done + 1) [] later leaves
+  done-there done name later leaves is n same =
+      let named : n.next ≡ name = (same_name-decides n.next name).0 same in
+      subst (λ (i : ℕ). HasGrownTo rows wanted i [] later leaves) (sym (add-one done))
+      (is ∙ ap (leaves_for rows) (sym (append_assoc (take done wanted) (name ∷ []) later) ∙ ap (λ (l : List (List Bool)). l ++ later) (ap (λ (m : List Bool). take done wanted ++ m ∷ []) (sym named) ∙ sym n.more)))
 
 -- so far: the first children, as many as are past, have been grown to, and the next wanted name is longer than the split one
 pub record IsGrowing (w : ℕ) (rows : List Row) (wanted : List (List Bool)) (name : List Bool) (first : ℕ) (old : List Leaf) (place done : ℕ) (leaves : List Leaf) : Type 0 where
@@ -80,7 +82,7 @@ module _ {w : ℕ} {rows : List Row} {wanted : List (List Bool)} {first : ℕ} {
   next_there = next_of wanted first name a.there.0 a.grown.tile (tile_there rows wanted first (name ∷ []) a.there.0 old a.there.1 a.are_leaves)
 
   pub name_there : has_name name old ≡ true
-  name_there = has_name-there rows wanted first name a.there.0 old a.there.1
+  name_there = has_name-there rows (take first wanted) name a.there.0 old a.there.1
 
   module _ (other : (d : List Bool) → same_name (get_or wanted first d) name ≡ false) where
     next_behind : length name < length next_there.next
@@ -98,7 +100,7 @@ module _ {w : ℕ} {rows : List Row} {wanted : List (List Bool)} {first : ℕ} {
         let n = next_there in
         let lt : length name < length n.next = next_behind in
         record {
-          reached = λ later is. split-there rows wanted first name later old is w new a.are_leaves e;
+          reached = λ later is. split-there rows (take first wanted) name later old is w new a.are_leaves e;
           longer = λ some d. omega (arith, lt, ap length (n.at d));
         }
 
@@ -150,7 +152,7 @@ module _ {w : ℕ} {rows : List Row} {wanted : List (List Bool)} {first : ℕ} {
         }
 
 -- one leaf stands there for the whole space
-whole-there : (rows : List Row) (wanted : List (List Bool)) (name : List Bool) (bucket : Rows) (leaves : List Leaf) → name ≡ [] → bucket ≡ cut_out rows name → leaves ≡ one_leaf bucket → HasGrownTo rows wanted 0 (name ∷ []) [] leaves
+pub whole-there : (rows : List Row) (wanted : List (List Bool)) (name : List Bool) (bucket : Rows) (leaves : List Leaf) → name ≡ [] → bucket ≡ cut_out rows name → leaves ≡ one_leaf bucket → HasGrownTo rows wanted 0 (name ∷ []) [] leaves
 whole-there rows wanted name bucket leaves whole cut_is is = is ∙ (λ i. record { name = sym whole i; bucket = cut_is i } ∷ [])
 
 -- where that leaf was grown on until nothing is left, the leaves are the wanted ones
@@ -166,7 +168,7 @@ module _ (places : List Placed) (rows : List Row) (has : (r : Row) → has_row r
   same_if true b c e = e refl
   same_if false b c e = refl
 
-  rows_there : (name : List Bool) → length name ≤ 64 → HasRowsOf places (leaf_for rows name)
+  pub rows_there : (name : List Bool) → length name ≤ 64 → HasRowsOf places (leaf_for rows name)
   rows_there name short r =
       has_row-rows_between (first_key name) (last_key name) rows r
       ∙ ap (λ (b : Bool). b && (nat_le (first_key name) r.key && nat_le r.key (last_key name))) (has r)

@@ -54,8 +54,13 @@ pub(crate) fn grow<I: Index>(
     Ok(growing)
 }
 
-// Splits a leaf, the rows shared out among its children.
-fn split<I: Index>(alloc: Global, index: &mut I, name: &Name, whole: &Bucket) -> Result<(), Memory>
+/// Splits a leaf at once. Its children get the rows under their names out of a bucket of all rows.
+pub fn split<I: Index>(
+    alloc: Global,
+    index: &mut I,
+    name: &Name,
+    whole: &Bucket,
+) -> Result<(), Memory>
     requires short { length name.now + I.WIDTH ≤ 64 }
     requires leaf { has_name name.now (I.leaves index.old) ≡ true }
     ensures { OnOk result (I.leaves index.new ≡ split I.WIDTH name.now (cut I.WIDTH name.now whole.now.base) (I.leaves index.old)) }
