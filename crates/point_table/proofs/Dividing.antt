@@ -15,10 +15,11 @@ use Rattle.zorder.proofs.Ranges.{under-range}
 use Rattle.zorder.proofs.Tiles.{tiles_from-children}
 use Rattle.bucket_versions.specs.declared.row.Row.{Row}
 use Rattle.bucket_versions.specs.Rows.{has_row}
+use Rattle.plain_list.specs.State.{split_leaf}
 use Rattle.index_layer.specs.Leaves.{Leaf, names_of, has_name, leaves_of, split, EachUnder, AreAllUnder}
 use Rattle.index_layer.specs.Stands.{HasRowsOf, places_have}
 use Rattle.index_layer.proofs.LeafKeys.{first_key-under, first_key-fits}
-use Rattle.index_layer.proofs.LeafChanges.{length-children}
+use Rattle.index_layer.proofs.LeafChanges.{length-children, names_of-leaves_of}
 use Rattle.point_table.specs.Crowded.{AreFrom, AreRising, remarked, remarked_each, marked, unmarked}
 use Rattle.point_table.specs.Crowds.{is_crowded, crowded_of, marked_later}
 use Rattle.split_prepare.specs.Cut.{cut_out, cut}
@@ -63,6 +64,17 @@ under_children w name rows room = each_under rows (children w name) (short_child
 -- as many buckets as children
 pub length-cut : (w : ℕ) (name : List Bool) (rows : List Row) → length (cut w name rows) ≡ 2 ^ w
 length-cut w name rows = length-map (children w name) (cut_out rows) ∙ length-children w name
+
+-- the names after a split
+pub names_of-divided : (w : ℕ) (name : List Bool) (rows : List Row) (leaves : List Leaf) → names_of (split w name (cut w name rows) leaves) ≡ split_leaf w name (names_of leaves)
+names_of-divided w name rows [] = refl
+names_of-divided w name rows (l ∷ leaves) = by_test (same_name l.name name) (names_of-divided w name rows leaves)
+  where
+    by_test : (b : Bool) → names_of (split w name (cut w name rows) leaves) ≡ split_leaf w name (names_of leaves)
+        → names_of (cond b (leaves_of (children w name) (cut w name rows) ++ leaves) (l ∷ split w name (cut w name rows) leaves))
+        ≡ cond b (children w name ++ names_of leaves) (l.name ∷ split_leaf w name (names_of leaves))
+    by_test true rest = names_of-leaves_of (children w name) (cut w name rows) leaves (length-cut w name rows ∙ sym (length-children w name))
+    by_test false rest = ap (λ (names : List (List Bool)). l.name ∷ names) rest
 
 -- the rows of the leaves after a split
 rows_parts : (places : List Placed) (name : List Bool) (rows : List Row) (lists : List (List Bool)) → AllByRecursion (λ (n : List Bool). length n ≤ 64) (map (λ bits. name ++ bits) lists)

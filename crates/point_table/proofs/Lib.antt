@@ -1,3 +1,4 @@
+pub mod Anew
 pub mod Counting
 pub mod Covered
 pub mod CrowdLemmas
@@ -12,6 +13,7 @@ pub mod Rising
 pub mod RowSteps
 pub mod Settled
 pub mod SplitLemmas
+pub mod SplitOn
 pub mod Splitting
 pub mod Standing
 pub mod StandingLess

@@ -1,9 +1,11 @@
+pub mod BySize
 pub mod Changes
 pub mod Crowded
 pub mod CrowdedInside
 pub mod Crowds
 pub mod Divisions
 pub mod IsTable
+pub mod Sized
 pub mod Splits
 pub mod TableView
 pub mod Updates

@@ -17,17 +17,18 @@ ghost use Rattle.point_table.specs.Splits.{splits_of};
 ghost use Rattle.point_table.specs.TableView.{first_over, HasBucket};
 ghost use Rattle.point_table.specs.Updates.{IsUpdate, Updates, TellsIf};
 
+mod anew;
 mod built;
 mod splits;
 
 use crate::crowded::{Begun, Crowded, is_among, is_over};
+pub use anew::leaf_names;
 use bucket_versions::{Bucket, Commit, Row, RowChange, Undone};
 use index_layer::{Index, Part};
 use plain_list::{Answer, MOST_MEMBERS, MemberShards, Op, Stamped, World};
 use std::alloc::Global;
 use std::marker::Model;
 use std::sync::Arc;
-use table_share::LeafWalk;
 use zorder::{Memory, Name, begins, key};
 
 /// Objects, by their ids and by their keys.
@@ -109,12 +110,7 @@ impl<I: Index> PointTable<I> {
     pub fn leaf_names(&self) -> Result<Vec<Name>, Memory>
         ensures { IfOk result (λ names. names.items ≡ names_of self.now.leaves) }
     {
-        let mut names = Vec::new(self.alloc);
-        let mut walk = LeafWalk::over(&self.index);
-        while let Some((name, _)) = walk.next_leaf() {
-            names.push(name)?;
-        }
-        Ok(names)
+        leaf_names(self.alloc, &self.index)
     }
 
     /// What is kept of an object.
