@@ -10,17 +10,14 @@ use Rattle.zorder.specs.Name.{first_key}
 use Rattle.zorder.specs.SameName.{same_name, same_name-decides}
 use Rattle.zorder.specs.Tile.{children}
 use Rattle.bucket_versions.specs.Rows.{Rows, IsRows, has_row, as_base}
-use Rattle.index_layer.specs.Leaves.{Leaf, AreLeaves, AreUnder, names_of, leaf_named, replaced, split, leaves_of}
-use Rattle.index_layer.proofs.LeafChanges.{length-children, names_of-leaves_of}
-use Rattle.split_prepare.specs.Cut.{cut}
-use Rattle.point_table.proofs.Dividing.{length-cut}
+use Rattle.index_layer.specs.Leaves.{Leaf, AreLeaves, AreUnder, leaf_named, replaced, split, leaves_of}
 use Rattle.bucket_versions.specs.declared.row.Row.{Row}
 use Rattle.index_layer.specs.Stands.{HasRowsOf, places_have}
 use Rattle.index_layer.proofs.LeafKeys.{first_key-under, first_key-fits}
 use Rattle.index_layer.proofs.LeafNames.{IsAmong, later_leaf, find-among, among-any, some_found, short-among, one-leaf}
 use Rattle.plain_list.specs.declared.entries.Entry.{Entry}
 use Rattle.plain_list.specs.declared.entries.Entry.TheVariants.{Begin}
-use Rattle.plain_list.specs.State.{State, OpenSplit, is_splitting, split_leaf, split_name, state_after}
+use Rattle.plain_list.specs.State.{State, OpenSplit, is_splitting, split_name, state_after}
 use Rattle.plain_list.specs.World.{World, places_of}
 use Rattle.plain_list.specs.History.{world_after}
 use Rattle.kept_log.specs.Counts.{count_after}
@@ -193,17 +190,6 @@ named_has P name (l ∷ leaves) leaf found all = by_test (same_name l.name name)
     by_test : (b : Bool) → same_name l.name name ≡ b → cond b (Some l) (leaf_named name leaves) ≡ Some leaf → (leaf_named name leaves ≡ Some leaf → AllByRecursion P leaves → P leaf × (leaf.name ≡ name)) → P leaf × (leaf.name ≡ name)
     by_test true is here later = let same = some_same l leaf here in (subst P same all.0, ap (λ (m : Leaf). m.name) (sym same) ∙ (same_name-decides l.name name).0 is)
     by_test false is here later = later here all.1
-
--- the names after a split
-pub names_of-divided : (w : ℕ) (name : List Bool) (rows : List Row) (leaves : List Leaf) → names_of (split w name (cut w name rows) leaves) ≡ split_leaf w name (names_of leaves)
-names_of-divided w name rows [] = refl
-names_of-divided w name rows (l ∷ leaves) = by_test (same_name l.name name) (names_of-divided w name rows leaves)
-  where
-    by_test : (b : Bool) → names_of (split w name (cut w name rows) leaves) ≡ split_leaf w name (names_of leaves)
-        → names_of (cond b (leaves_of (children w name) (cut w name rows) ++ leaves) (l ∷ split w name (cut w name rows) leaves))
-        ≡ cond b (children w name ++ names_of leaves) (l.name ∷ split_leaf w name (names_of leaves))
-    by_test true rest = names_of-leaves_of (children w name) (cut w name rows) leaves (length-cut w name rows ∙ sym (length-children w name))
-    by_test false rest = ap (λ (names : List (List Bool)). l.name ∷ names) rest
 
 -- the base of a leaf that was folded lies under its name
 pub folded-under : (name : List Bool) (old new : List Leaf) (bucket : Rows) → AreLeaves old → Folds name old new bucket → AreUnder name bucket.base

@@ -1,18 +1,17 @@
 -- Books that begin anew: what is open is given up, and the table stays.
-use Rattle.std.proofs.Common.{◌≡◌, ◌≤◌, ℕ, Bool, true, false, [], Option, Some, None, refl, sym, subst, ◌∙◌, arith}
+use Rattle.std.proofs.Common.{◌≡◌, ◌≤◌, ℕ, Bool, true, false, [], Option, Some, None, refl, subst, ◌∙◌, arith}
 use Rattle.std.specs.Prelude.{nat_lt, if◌then◌else◌}
 use Rattle.std.proofs.lemmas.Bool.Decides.{nat_tests}
 use Rattle.index_layer.specs.Leaves.{names_of}
+use Rattle.plain_list.specs.History.{world_after}
 use Rattle.plain_list.specs.State.{State}
 use Rattle.plain_list.proofs.Histories.{state_after-world}
 use Rattle.disk_trait.specs.Drive.{Drive}
-use Rattle.recovery.specs.declared.seen.Seen.{Seen}
-use Rattle.kept_log.specs.Kept.{found_state, renewed_state}
+use Rattle.kept_log.specs.Kept.{renewed_state}
 use Rattle.commit_book.specs.BookInside.{IsInside, book_of}
 use Rattle.commit_book.specs.BookView.{BookView}
 use Rattle.commit_book.specs.IsBook.{most_begun}
 use Rattle.commit_book.specs.Renewal.{renew_cause}
-use Rattle.commit_book.specs.Rotation.{HasContent}
 use Rattle.commit_book.specs.declared.book.Book.TheInside.{Inside}
 use Rattle.commit_book.specs.declared.faults.RenewFault.TheVariants.{Begun}
 
@@ -25,13 +24,10 @@ module _ {I D P : Type 0} (drive : D → Drive) (w : ℕ) (b : Inside I D P) (in
   pub renewed-same : (begun : ℕ) → begun ≡ b.splits.begun → table_state b begun ≡ renewed_state w b.opening b.history.entries
   renewed-same begun same = λ i. record { world = inside.world i; leaves = inside.names i; splits = []; begun = (same ∙ inside.begun) i }
 
-  -- or the one of a log that has the book's content
-  pub found-same : (now : BookView D) (seen : Seen) → book_of b ≡ now → HasContent w now seen → table_state b seen.begun ≡ found_state seen
-  found-same now seen view has =
-      let content : HasContent w (book_of b) seen = subst (λ (v : BookView D). HasContent w v seen) (sym view) has in
-      let world = inside.world ∙ state_after-world w b.opening b.history.entries ∙ sym content.world in
-      let leaves = inside.names ∙ sym content.leaves in
-      λ i. record { world = world i; leaves = leaves i; splits = []; begun = seen.begun }
+  -- the table has the objects that the history leaves
+  pub table-world : (now : BookView D) → book_of b ≡ now → b.table.world ≡ world_after now.opening.world now.entries
+  table-world now view =
+      subst (λ (v : BookView D). b.table.world ≡ world_after v.opening.world v.entries) view (inside.world ∙ state_after-world w b.opening b.history.entries)
 
 -- where nothing stands against a renewal, few splits were begun
 pub renewal-few : (failed : Option ℕ) (begun : ℕ) → renew_cause failed begun ≡ None → begun ≤ most_begun

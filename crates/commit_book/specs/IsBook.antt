@@ -39,7 +39,7 @@ pub record IsBook {D : Type 0} (drive : D → Drive) (w : ℕ) (b : BookView D) 
   pub on_log : KeepsIn drive w b.opening b.entries b.log
   pub named : (n : ℕ) → failed_cell b.entries ≡ Some n → n ≡ cells_in b.log
 
--- no call changes at which state a book began, the size of its buckets, and the opening of its log
+-- the same state at which the book began, size of its buckets, and opening of its log: what no call changes but a renewal or a rotation
 pub record SameOrigin {D : Type 0} (old new : BookView D) : Type 0 where
   pub opening : new.opening ≡ old.opening
   pub bucket : new.bucket ≡ old.bucket

@@ -1,5 +1,6 @@
 //! The book: an index, a map by id, the history of a run and its log, kept in step.
 ghost use Rattle.std.specs.Prelude.{◌≡◌, ◌^◌, ◌<◌, true, false, [], Some, None, is_some, length, IfOk, IfErr};
+ghost use Rattle.index_layer.specs.Leaves.{names_of};
 ghost use Rattle.plain_list.specs.Size.{full_leaf};
 ghost use Rattle.plain_list.specs.State.{empty_state, state_after};
 ghost use Rattle.plain_list.specs.Answer.{is_change};
@@ -15,6 +16,7 @@ ghost use Rattle.commit_book.specs.Crash.{LeavesCells};
 ghost use Rattle.commit_book.specs.Events.{with_entry};
 ghost use Rattle.commit_book.specs.IsBook.{IsBook, AreBooks};
 ghost use Rattle.commit_book.specs.Refusals.{IsRefusedBy, IsMemory, IsMemoryOrDisk, IsNoFault, LeavesRefused, call_refusal, most_cells, update_refusal};
+ghost use Rattle.commit_book.specs.Rotation.{book_on};
 
 mod renewal;
 mod rotation;
@@ -32,7 +34,7 @@ use plain_list::{Answer, Entries, Entry, Lost, Op};
 use point_table::PointTable;
 use recovery::Opened;
 pub use renewal::Room;
-pub use rotation::{Content, Replaced};
+pub use rotation::{Anew, Content, Replaced};
 pub use splits::{MOST_CELLS_TO_BEGIN, MOST_EVENTS_TO_BEGIN};
 use std::alloc::Global;
 use std::marker::Model;
@@ -124,18 +126,11 @@ impl<I: Index, D: LogDisk> Book<I, D> {
         ensures log { IfOk result (λ b. b.log ≡ Some (first_log opened.log opened.start.value)) }
         ensures back { IfErr result (λ back. back ≡ opened) }
     {
-        let begun = opened.seen.begun;
         let leaves = opened.seen.leaves.as_slice();
         let Ok(table) = PointTable::built(alloc, &opened.seen.world, leaves, bucket) else {
             return Err(opened);
         };
-        Ok(Book {
-            opening: Opening::of(&table, begun),
-            table,
-            splits: OpenSplits::after(alloc, begun),
-            history: History::new(alloc),
-            journal: Journal::opened(opened.log, opened.start),
-        })
+        Ok(on_log(alloc, table, opened))
     }
 
     /// Takes room for so many more entries at once, where there is memory for it, so that the history needn't be moved as it grows.
@@ -323,6 +318,29 @@ impl<I: Index, D: LogDisk> Book<I, D> {
             disk: self.journal.give_back(),
             entries: Entries::from_vec(self.history.into_entries()),
         }
+    }
+}
+
+// A book with no entries over a log as it was opened, where a table stands as was found there.
+fn on_log<I: Index, D: LogDisk>(
+    alloc: Global,
+    table: PointTable<I>,
+    opened: Opened<D>,
+) -> Book<I, D>
+    requires log { (opened.log.cells ≡ opened.seen.cells) × (opened.log.failed ≡ None) }
+    requires found { IsFound newest I.WIDTH most_cells (D.drive opened.start.value) opened.seen }
+    requires ready { IsOpened I.WIDTH (found_state opened.seen) (D.drive opened.start.value) (D.drive opened.log.disk) }
+    requires world { table.world ≡ opened.seen.world }
+    requires leaves { names_of table.leaves ≡ opened.seen.leaves }
+    ensures { result ≡ book_on opened.seen opened.log opened.start.value table.leaves table.size }
+{
+    let begun = opened.seen.begun;
+    Book {
+        opening: Opening::of(&table, begun),
+        table,
+        splits: OpenSplits::after(alloc, begun),
+        history: History::new(alloc),
+        journal: Journal::opened(opened.log, opened.start),
     }
 }
 

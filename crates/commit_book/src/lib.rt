@@ -7,7 +7,8 @@
 //! steps of a split and leave the world. A refusal changes nothing, unless the drive failed: then the history ends with the step that
 //! was lost, and the book is closed. Each step is one `Step`: the change of the table waits for its cell and its entry. `renew` begins an
 //! empty history where the one so far ends, and `room` tells how much more it takes. `content` copies the objects and the names of the
-//! leaves, of which another log is made, and `rotate` goes on over that, with an empty history; `over` begins with a world in one leaf.
+//! leaves, of which another log is made, and `rotate` goes on over that, with an empty history; `anew` and `rotate_anew` do so with the
+//! leaves that the bucket size asks of the objects, and no more.
 //!
 //! Not here: the objects by id and by key (`point_table`), how a log is opened (`recovery`), who may call, and when (`book_lock`), and how a bucket is cut (`split_prepare`).
 #![tactic(auto)]
@@ -21,7 +22,7 @@ mod sending;
 mod steps;
 
 pub use book::{
-    Book, BookParts, Content, Done, MOST_CELLS_TO_BEGIN, MOST_EVENTS, MOST_EVENTS_TO_BEGIN,
+    Anew, Book, BookParts, Content, Done, MOST_CELLS_TO_BEGIN, MOST_EVENTS, MOST_EVENTS_TO_BEGIN,
     Replaced, Room, Snapshot,
 };
 pub use faults::{BookFault, RenewFault};

@@ -1,30 +1,27 @@
 //! A book that goes on over another log, and what is written there before.
-ghost use Rattle.std.specs.Prelude.{◌≡◌, [], ◌∷◌, None, IfOk};
+ghost use Rattle.std.specs.Prelude.{◌≡◌, None, IfOk};
 ghost use Rattle.cell_format.specs.Spelling.{newest};
+ghost use Rattle.index_layer.specs.Leaves.{names_of};
 ghost use Rattle.plain_list.specs.History.{world_after};
 ghost use Rattle.plain_list.specs.State.{ComesBySplits, state_after};
 ghost use Rattle.plain_list.specs.World.{IsWorld};
+ghost use Rattle.point_table.specs.Sized.{StandsBySize};
 ghost use Rattle.recovery.specs.Found.{IsFound};
 ghost use Rattle.kept_log.specs.Journal.{log_in};
 ghost use Rattle.kept_log.specs.Kept.{IsOpened, found_state};
 ghost use Rattle.commit_book.specs.IsBook.{IsBook};
 ghost use Rattle.commit_book.specs.Refusals.{most_cells};
-ghost use Rattle.commit_book.specs.Rotation.{HasContent, rotated};
+ghost use Rattle.commit_book.specs.Rotation.{HasContent, HasContentAnew, book_on, rotated};
 
-use crate::book::Book;
-use crate::history::History;
-use crate::open_splits::OpenSplits;
-use crate::opening::Opening;
+use crate::book::{Book, on_log};
 use disk_trait::LogDisk;
 use index_layer::Index;
-use kept_log::Journal;
 use plain_list::{Entries, World};
-use point_table::PointTable;
+use point_table::leaf_names;
 use recovery::{Leaves, Opened};
 use split_log::SplitLog;
 use std::alloc::Global;
-use std::mem::replace;
-use zorder::{Memory, Name};
+use zorder::Memory;
 
 /// The objects and the names of the leaves as they are.
 #[derive(Drop)]
@@ -33,9 +30,16 @@ pub struct Content {
     pub leaves: Leaves,
 }
 
-/// What a book hands out that goes on over another log, or ends.
+/// The objects, an index over them with the leaves that the bucket size asks of them, and the names of these.
 #[derive(Drop)]
-pub struct Replaced<D: LogDisk> {
+pub struct Anew<I: Index> {
+    pub index: I,
+    pub content: Content,
+}
+
+/// A book that goes on over another log, with what it has of the one so far.
+pub struct Replaced<I: Index, D: LogDisk> {
+    pub book: Book<I, D>,
     /// The history so far.
     pub entries: Entries,
     /// The log so far, where there was one.
@@ -43,22 +47,6 @@ pub struct Replaced<D: LogDisk> {
 }
 
 impl<I: Index, D: LogDisk> Book<I, D> {
-    /// A book over these objects, all of them in one leaf, with no log. `bucket` is from 4 to 4,096.
-    pub fn over(alloc: Global, world: &World, bucket: u32) -> Result<Book<I, D>, Memory>
-        ensures { IfOk result (λ b. (b.opening ≡ record { world = world.now; leaves = [] ∷ []; splits = []; begun = 0 })
-            × (b.entries ≡ []) × (b.bucket ≡ bucket) × (b.log ≡ None)) }
-    {
-        let whole = [Name::whole()];
-        let table = PointTable::built(alloc, world, &whole, bucket)?;
-        Ok(Book {
-            opening: Opening::of(&table, 0),
-            table,
-            splits: OpenSplits::after(alloc, 0),
-            history: History::new(alloc),
-            journal: Journal::none(),
-        })
-    }
-
     /// Copies the objects and the names of the leaves. Splits that are open aren't part of it.
     pub fn content(&self) -> Result<Content, Memory>
         ensures world { IfOk result (λ c. c.world ≡ world_after self.now.opening.world self.now.entries) }
@@ -73,41 +61,72 @@ impl<I: Index, D: LogDisk> Book<I, D> {
         Ok(Content { world, leaves })
     }
 
-    /// Goes on over another log, where the objects and the leaves stand as they are here, and hands out the history and the log so far. The
-    /// objects and the leaves stay where they are, no memory is taken, and no device call is made. A split that is still open is given up, as
-    /// where a log is opened, and the next one has the number behind those that were begun in the other log.
-    pub fn rotate(&mut self, alloc: Global, opened: Opened<D>) -> Replaced<D>
+    /// Copies the objects, and makes an index over them with the leaves that the bucket size asks of them, and no more. The book's own index
+    /// stays as it is.
+    pub fn anew(&self, alloc: Global) -> Result<Anew<I>, Memory>
+        ensures world { IfOk result (λ a. a.content.world ≡ world_after self.now.opening.world self.now.entries) }
+        ensures leaves { IfOk result (λ a. a.content.leaves ≡ names_of (I.leaves a.index)) }
+        ensures stands { IfOk result (λ a. StandsBySize I.WIDTH self.now.bucket a.content.world (I.leaves a.index)) }
+        ensures comes { IfOk result (λ a. ComesBySplits I.WIDTH a.content.leaves) }
+        ensures is_world { IfOk result (λ a. IsWorld a.content.world) }
+        ensures book { IsBook D.drive I.WIDTH self.now }
+    {
+        self.keep();
+        let index = self.table.index_anew()?;
+        let world = self.table.to_world()?;
+        let leaves = Leaves::from_vec(leaf_names(alloc, &index)?);
+        Ok(Anew {
+            index,
+            content: Content { world, leaves },
+        })
+    }
+
+    /// Goes on over another log, where the objects and the leaves stand as they are here. The objects and the leaves stay where they are, no
+    /// memory is taken, and no device call is made. A split that is still open is given up, as where a log is opened, and the next one has
+    /// the number behind those that were begun in the other log.
+    pub fn rotate(self, alloc: Global, opened: Opened<D>) -> Replaced<I, D>
         requires log { (opened.log.cells ≡ opened.seen.cells) × (opened.log.failed ≡ None) }
         requires found { IsFound newest I.WIDTH most_cells (D.drive opened.start.value) opened.seen }
         requires ready { IsOpened I.WIDTH (found_state opened.seen) (D.drive opened.start.value) (D.drive opened.log.disk) }
-        requires content { HasContent I.WIDTH self.old opened.seen }
-        ensures rotated { self.new ≡ rotated opened.seen opened.log opened.start.value self.old }
-        ensures entries { result.entries ≡ self.old.entries }
-        ensures log { result.log ≡ log_in self.old.log }
-        ensures book { IsBook D.drive I.WIDTH self.old × IsBook D.drive I.WIDTH self.new }
+        requires content { HasContent I.WIDTH self opened.seen }
+        ensures rotated { result.book ≡ rotated opened.seen opened.log opened.start.value self }
+        ensures entries { result.entries ≡ self.entries }
+        ensures log { result.log ≡ log_in self.log }
     {
-        self.keep();
-        let begun = opened.seen.begun;
-        self.opening = Opening::of(&self.table, begun);
-        self.splits = OpenSplits::after(alloc, begun);
-        let history = replace(&mut self.history, History::new(alloc));
-        let next = Journal::opened(opened.log, opened.start);
-        let journal = replace(&mut self.journal, next);
-        self.keep();
+        let Book {
+            table,
+            history,
+            journal,
+            ..
+        } = self;
         Replaced {
+            book: on_log(alloc, table, opened),
             entries: Entries::from_vec(history.into_entries()),
             log: journal.into_log(),
         }
     }
 
-    /// Ends a book, and hands out its history and its log.
-    pub fn retire(self) -> Replaced<D>
+    /// The same with leaves anew: another index over the objects, as `anew` makes it, takes the place of the one so far.
+    pub fn rotate_anew(self, alloc: Global, index: I, opened: Opened<D>) -> Replaced<I, D>
+        requires log { (opened.log.cells ≡ opened.seen.cells) × (opened.log.failed ≡ None) }
+        requires found { IsFound newest I.WIDTH most_cells (D.drive opened.start.value) opened.seen }
+        requires ready { IsOpened I.WIDTH (found_state opened.seen) (D.drive opened.start.value) (D.drive opened.log.disk) }
+        requires content { HasContentAnew I.WIDTH self (I.leaves index) opened.seen }
+        ensures rotated { result.book ≡ book_on opened.seen opened.log opened.start.value (I.leaves index) self.bucket }
         ensures entries { result.entries ≡ self.entries }
         ensures log { result.log ≡ log_in self.log }
     {
+        let Book {
+            mut table,
+            history,
+            journal,
+            ..
+        } = self;
+        table.take_index(index);
         Replaced {
-            entries: Entries::from_vec(self.history.into_entries()),
-            log: self.journal.into_log(),
+            book: on_log(alloc, table, opened),
+            entries: Entries::from_vec(history.into_entries()),
+            log: journal.into_log(),
         }
     }
 }

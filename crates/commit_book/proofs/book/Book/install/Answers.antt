@@ -12,7 +12,7 @@ use Rattle.point_table.specs.TableView.{TableView}
 use Rattle.commit_book.specs.BookInside.{book_of}
 use Rattle.commit_book.specs.Refusals.{IsMemoryOrDisk}
 use Rattle.commit_book.proofs.BookStates.{inside-install}
-use Rattle.commit_book.proofs.KeptLemmas.{names_of-divided}
+use Rattle.point_table.proofs.Dividing.{names_of-divided}
 use Rattle.commit_book.proofs.RefusalLemmas.{MayInstall, may_install, Based, has_base-leaf, is_open-name, passed}
 use Rattle.commit_book.proofs.SplitCells.{install_step, some_open}
 use Rattle.commit_book.proofs.Undone.{can_step, inside-undone, moments-undone, refused-undone, refused_freely, since-undone, taken}
