@@ -4,6 +4,5 @@ mod Latest
 mod StoreFacts
 mod Results
 mod RotateFacts
-mod SizedFacts
 pub mod Again
 pub mod Between

@@ -8,10 +8,12 @@ use Rattle.atomic_table.specs.Seated.{TableId}
 use Rattle.cell_format.specs.declared.cell.Cell.{Cell}
 use Rattle.disk_trait.specs.Drive.{Drive, KeepsLaws}
 use Rattle.disk_trait.proofs.Stretches.{started}
+use Rattle.index_layer.specs.Leaves.{Leaf}
 use Rattle.plain_list.specs.declared.entries.Entry.{Entry}
 use Rattle.plain_list.specs.World.{World, IsWorld}
 use Rattle.plain_list.specs.History.{world_after, failed_cell}
 use Rattle.plain_list.specs.State.{State, at_rest, state_after}
+use Rattle.point_table.specs.Sized.{FitsSize}
 use Rattle.split_log.specs.LogView.{LogView, most_cells}
 use Rattle.split_log.proofs.Unique.{holds-same}
 use Rattle.log_state.specs.Recovers.{Recovers, state_of}
@@ -28,7 +30,7 @@ use Rattle.book_lock.specs.Pass.{Known}
 use Rattle.book_lock.specs.declared.origin.Origin.{Origin}
 use Rattle.commit_book.specs.BookView.{BookView, first_log}
 use Rattle.commit_book.specs.IsBook.{IsBook}
-use Rattle.commit_book.specs.Rotation.{HasContent, rotated}
+use Rattle.commit_book.specs.Rotation.{HasContentAnew, rotated}
 use Rattle.sessions.specs.Shared.{HasWorld, StartsAs, origin_of, start_of}
 use Rattle.log_compact.specs.declared.compacting.CompactFault.{CompactFault}
 use Rattle.log_compact.specs.declared.compacting.CompactFault.TheVariants as compact
@@ -42,8 +44,7 @@ use Rattle.store_file.specs.declared.rotating.NotRotated.TheVariants as back
 use Rattle.log_compact.specs.Clearing.{Clears, FailsToClear, KeepsOrClears}
 use Rattle.store_file.specs.Opened.{first_pass, found_origin}
 use Rattle.store_file.specs.Rotated.{world_left, leaves_left, cells_left, AreLeft, AreAnew, AreOfBook, AreOfSize, RotatesTo, LeavesOf, IsRotated, IsRotatedAlone, IsBookKept, NotAnew, RefusesAnew, anew_cause, IsNotRotated}
-use Rattle.store_file.specs.Rotated.{BeginsFresh, BeginsAnew, GoesOn, GoesAlone, GoesNot, LeavesView, Finishes, FinishesAlone, FinishesNot}
-use Rattle.store_file.specs.Sized.{FitsSize}
+use Rattle.store_file.specs.Rotated.{BeginsFresh, GoesOn, GoesAlone, GoesNot, LeavesView, Finishes, FinishesAlone, FinishesNot}
 use Rattle.store_file.proofs.StoreFacts as stores
 
 -- cells stay where nothing is done
@@ -67,42 +68,37 @@ opened-here w drive seen laws stands = record {
   told = refl;
 }
 
--- a fresh log of what a book has was begun
-module _ {D : Type 0} (drive : D → Drive) (laws : (d : D) → KeepsLaws (drive d)) (width w : ℕ) (width_is : width ≡ w) (b : BookView D) (spare : D) (good : failed_cell b.entries ≡ None)
-    (world : World) (leaves : List (List Bool)) (world_is : world ≡ world_after b.opening.world b.entries) (leaves_is : leaves ≡ (state_after w b.opening b.entries).leaves)
-    (seen found : Seen) (fresh : (seen.world ≡ world) × (seen.leaves ≡ leaves) × IsFresh width seen) (same : found ≡ seen) (start : D) (log : LogView D) (at : start ≡ log.disk)
-    (counts : log.cells ≡ found.cells) (failed : log.failed ≡ None) (stands : StandsFound width found (drive log.disk))
+-- a fresh log was begun
+module _ {D : Type 0} (drive : D → Drive) (laws : (d : D) → KeepsLaws (drive d)) (width w : ℕ) (width_is : width ≡ w) (spare : D) (seen found : Seen) (fresh : IsFresh width seen) (same : found ≡ seen) (start : D)
+    (log : LogView D) (at : start ≡ log.disk) (counts : log.cells ≡ found.cells) (failed : log.failed ≡ None) (stands : StandsFound width found (drive log.disk))
     (compacted : IsCompacted width (fresh_cells width seen.world seen.leaves) (drive spare) (drive log.disk))
     (on_way : KeepsOnWay width (fresh_cells width seen.world seen.leaves) (drive spare) (drive log.disk))
     (state : IsStateOf width (fresh_cells width seen.world seen.leaves) seen.world seen.leaves) where
   stands-seen : StandsFound width seen (drive log.disk)
   stands-seen = subst (λ (s : Seen). StandsFound width s (drive log.disk)) same stands
 
-  begins-at : BeginsAnew drive width b spare seen log.disk log
+  begins-at : BeginsFresh drive width spare seen log.disk log
   begins-at = record {
-    good = good;
-    content = record {
-      world = fresh.0 ∙ world_is;
-      leaves = fresh.1 ∙ leaves_is ∙ (λ i. (state_after (sym width_is i) b.opening b.entries).leaves);
-    };
-    begins = record {
-      finds = fresh.2.finds;
-      few = fresh.2.few;
-      state = state;
-      counts = counts ∙ ap (λ (s : Seen). s.cells) same;
-      failed = failed;
-      found = stands-seen.found;
-      ready = opened-here width (drive log.disk) seen (laws log.disk) stands-seen;
-      compacted = compacted;
-      on_way = on_way;
-    };
+    finds = fresh.finds;
+    few = fresh.few;
+    state = state;
+    counts = counts ∙ ap (λ (s : Seen). s.cells) same;
+    failed = failed;
+    found = stands-seen.found;
+    ready = opened-here width (drive log.disk) seen (laws log.disk) stands-seen;
+    compacted = compacted;
+    on_way = on_way;
   }
 
-  pub begins-anew : BeginsAnew drive w b spare found start log
-  begins-anew =
-      subst (λ (d : D). BeginsAnew drive w b spare found d log) (sym at)
-      (subst (λ (s : Seen). BeginsAnew drive w b spare s log.disk log) (sym same)
-      (subst (λ (n : ℕ). BeginsAnew drive n b spare seen log.disk log) width_is begins-at))
+  pub begins-fresh : BeginsFresh drive w spare found start log
+  begins-fresh =
+      subst (λ (d : D). BeginsFresh drive w spare found d log) (sym at)
+      (subst (λ (s : Seen). BeginsFresh drive w spare s log.disk log) (sym same)
+      (subst (λ (n : ℕ). BeginsFresh drive n spare seen log.disk log) width_is begins-at))
+
+-- the leaves anew are those of the size
+pub of-size : {D : Type 0} (w : ℕ) (b : BookView D) (leaves : List Leaf) (seen : Seen) → HasContentAnew w b leaves seen → AreOfSize w b seen.leaves
+of-size w b leaves seen content = subst (FitsSize w b.bucket (world_after b.opening.world b.entries)) (sym content.leaves_are) content.stands.fits
 
 -- none was begun
 pub not-anew : {D : Type 0} (drive : D → Drive) (width w : ℕ) → width ≡ w → (Are : List (List Bool) → Type 0) (failed : Option ℕ) (world : World) → failed ≡ None → (spare left : D) (seen : Seen)
@@ -171,18 +167,22 @@ module _ {D : Type 0} (drive : D → Drive) (b new : BookView D) (seen : Seen) (
   pub new-logged : is_some new.log ≡ true
   new-logged = ap is_some new-log
 
-  pub new-opening : (w : ℕ) → HasContent w b seen → HasWorld b → IsWorld new.opening.world
-  new-opening w content has = subst IsWorld (sym (ap (λ (v : BookView D). v.opening.world) is ∙ content.world)) has.world
+  pub new-opening : seen.world ≡ world_after b.opening.world b.entries → HasWorld b → IsWorld new.opening.world
+  new-opening world has = subst IsWorld (sym (ap (λ (v : BookView D). v.opening.world) is ∙ world)) has.world
 
-  pub new-has : (w : ℕ) → HasContent w b seen → HasWorld b → HasWorld new
-  new-has w content has = record { world = subst (λ (h : List Entry). IsWorld (world_after new.opening.world h)) (sym new-none) (new-opening w content has) }
+  pub new-has : seen.world ≡ world_after b.opening.world b.entries → HasWorld b → HasWorld new
+  new-has world has = record { world = subst (λ (h : List Entry). IsWorld (world_after new.opening.world h)) (sym new-none) (new-opening world has) }
 
   pub new-starts : StartsAs drive ⊥ (λ d. ⊤) new.log
   new-starts = subst (StartsAs drive ⊥ (λ d. ⊤)) (sym new-log) tt
 
--- and what becomes of it, where the log of another one is emptied whose bucket size it has
-module _ {D : Type 0} (drive : D → Drive) (old b new : BookView D) (seen : Seen) (log : LogView D) (start : D) (is : new ≡ rotated seen log start b) (counts : log.cells ≡ seen.cells) (bucket : b.bucket ≡ old.bucket)
-    (w : ℕ) (content : HasContent w b seen) (has : HasWorld b) (h : List Entry) (out : Option (LogView D)) (h_is : h ≡ old.entries) (out_is : out ≡ log_in old.log) where
+-- and what becomes of it, where its log so far is emptied; with the leaves that it had, or others
+module _ {D : Type 0} (drive : D → Drive) (old new : BookView D) (leaves : List Leaf) (seen : Seen) (log : LogView D) (start : D) (is : new ≡ rotated seen log start (record old { leaves = leaves }))
+    (counts : log.cells ≡ seen.cells) (world : seen.world ≡ world_after old.opening.world old.entries) (has : HasWorld old) (h : List Entry) (out : Option (LogView D)) (h_is : h ≡ old.entries)
+    (out_is : out ≡ log_in old.log) where
+  abbrev begun : BookView D
+  begun = record old { leaves = leaves }
+
   leaves-of : (Came : ℕ → Drive → Drive → Type 0) (left : D) → LeavesView drive Came out left → LeavesOf drive Came old left
   leaves-of Came left leaves = record {
     last = leaves.view.disk;
@@ -191,7 +191,7 @@ module _ {D : Type 0} (drive : D → Drive) (old b new : BookView D) (seen : See
   }
 
   origin-now : origin_of drive new ≡ found_origin old.bucket seen (drive start)
-  origin-now = new-origin drive b new seen log start is counts ∙ ap (λ (n : ℕ). found_origin n seen (drive start)) bucket
+  origin-now = new-origin drive begun new seen log start is counts
 
   pub goes-on : (entries : List Entry) (lock : TableId) (pass : Known) (left : D) → Finishes drive new h out entries lock pass left → GoesOn drive old seen start entries lock pass left
   goes-on entries lock pass left on = record {
@@ -204,9 +204,9 @@ module _ {D : Type 0} (drive : D → Drive) (old b new : BookView D) (seen : See
   alone-now Came entries it left on = record {
     entries_are = on.entries_are ∙ h_is;
     origin_is = ap (origin_of drive) on.book_is ∙ origin-now;
-    none = ap (λ (v : BookView D). v.entries) on.book_is ∙ new-none drive b new seen log start is counts;
-    has = subst HasWorld (sym on.book_is) (new-has drive b new seen log start is counts w content has);
-    logged = ap (λ (v : BookView D). is_some v.log) on.book_is ∙ new-logged drive b new seen log start is counts;
+    none = ap (λ (v : BookView D). v.entries) on.book_is ∙ new-none drive begun new seen log start is counts;
+    has = subst HasWorld (sym on.book_is) (new-has drive begun new seen log start is counts world (record { world = has.world }));
+    logged = ap (λ (v : BookView D). is_some v.log) on.book_is ∙ new-logged drive begun new seen log start is counts;
     leaves = leaves-of Came left on.leaves;
   }
 

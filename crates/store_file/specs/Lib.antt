@@ -7,7 +7,6 @@ pub mod Closed
 pub mod Again
 pub mod Either
 pub mod Rotated
-pub mod Sized
 pub use Rattle.recovery.specs.Opening
 pub use Rattle.recovery.specs.Calls
 pub use Rattle.recovery.specs.Faults

@@ -3,6 +3,7 @@ use Rattle.std.specs.Prelude.{◌≡◌, ℕ, ◌+◌, ◌*◌, ◌<◌, ◌≤�
 use Rattle.atomic_table.specs.Seated.{TableId}
 use Rattle.cell_format.specs.declared.cell.Cell.{Cell}
 use Rattle.disk_trait.specs.Drive.{Drive}
+use Rattle.index_layer.specs.Leaves.{Leaf}
 use Rattle.plain_list.specs.declared.entries.Entry.{Entry}
 use Rattle.plain_list.specs.World.{World, IsWorld}
 use Rattle.plain_list.specs.History.{world_after, failed_cell}
@@ -14,7 +15,7 @@ use Rattle.recovery.specs.declared.seen.Seen.{Seen}
 use Rattle.recovery.specs.Found.{Finds, IsFound}
 use Rattle.kept_log.specs.Journal.{disk_in}
 use Rattle.kept_log.specs.Kept.{IsOpened, found_state}
-use Rattle.commit_book.specs.Rotation.{HasContent}
+use Rattle.commit_book.specs.Rotation.{HasContent, HasContentAnew}
 use Rattle.book_lock.specs.Pass.{Known}
 use Rattle.book_lock.specs.declared.origin.Origin.{Origin}
 use Rattle.commit_book.specs.BookView.{BookView}
@@ -30,7 +31,7 @@ use Rattle.store_file.specs.declared.rotating.NotRotated.{NotRotated}
 use Rattle.store_file.specs.declared.rotating.NotRotated.TheVariants as back
 use Rattle.log_compact.specs.Clearing.{Clears, FailsToClear, KeepsOrClears}
 use Rattle.store_file.specs.Closed.{ClosesStore}
-use Rattle.store_file.specs.Sized.{FitsSize, IsAnewOf}
+use Rattle.point_table.specs.Sized.{FitsSize}
 use Rattle.store_file.specs.Opened.{first_pass, cells_origin, found_origin}
 
 -- the objects that a history left, and the names of the leaves
@@ -152,16 +153,16 @@ pub record BeginsFresh {D : Type 0} (drive : D → Drive) (w : ℕ) (spare : D) 
   pub on_way : KeepsOnWay w (fresh_cells w seen.world seen.leaves) (drive spare) (drive start)
 
 -- That of what a book has.
-pub record BeginsAnew {D : Type 0} (drive : D → Drive) (w : ℕ) (b : BookView D) (spare : D) (seen : Seen) (start : D) (log : LogView D) : Type 0 where
+pub record BeginsAsIs {D : Type 0} (drive : D → Drive) (w : ℕ) (b : BookView D) (spare : D) (seen : Seen) (start : D) (log : LogView D) : Type 0 where
   pub good : failed_cell b.entries ≡ None
   pub content : HasContent w b seen
   pub begins : BeginsFresh drive w spare seen start log
 
--- That of another book with leaves anew.
-pub record BeginsOverAnew {D : Type 0} (drive : D → Drive) (w : ℕ) (b : BookView D) (spare : D) (next : BookView D) (seen : Seen) (start : D) (log : LogView D) : Type 0 where
+-- That of its objects, with leaves anew.
+pub record BeginsAnew {D : Type 0} (drive : D → Drive) (w : ℕ) (b : BookView D) (spare : D) (leaves : List Leaf) (seen : Seen) (start : D) (log : LogView D) : Type 0 where
   pub good : failed_cell b.entries ≡ None
-  pub anew : IsAnewOf w b next
-  pub begins : BeginsAnew drive w next spare seen start log
+  pub content : HasContentAnew w b leaves seen
+  pub begins : BeginsFresh drive w spare seen start log
 
 -- What came of the log of a book.
 pub record LeavesOf {D : Type 0} (drive : D → Drive) (Came : ℕ → Drive → Drive → Type 0) (b : BookView D) (left : D) : Type 0 where

@@ -22,7 +22,6 @@ mod objects;
 mod opening;
 mod renewing;
 mod rotating;
-mod sizing;
 mod start;
 
 pub use closing::{ClosedStore, close_over, close_store};

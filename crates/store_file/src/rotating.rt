@@ -1,23 +1,17 @@
 //! Goes on with a store over a second file.
 ghost use Rattle.std.specs.Prelude.{◌≡◌, [], false, true, Some, None, is_some, IfOk, IfErr};
-ghost use Rattle.cell_format.specs.Spelling.{newest};
 ghost use Rattle.plain_list.specs.History.{world_after, failed_cell};
+ghost use Rattle.plain_list.specs.State.{ComesBySplits};
 ghost use Rattle.plain_list.specs.World.{IsWorld};
 ghost use Rattle.split_log.specs.LogView.{LogView};
-ghost use Rattle.recovery.specs.Found.{IsFound};
-ghost use Rattle.kept_log.specs.Kept.{IsOpened, found_state};
 ghost use Rattle.commit_book.specs.IsBook.{IsBook};
-ghost use Rattle.commit_book.specs.Refusals.{most_cells};
-ghost use Rattle.commit_book.specs.Rotation.{HasContent};
-ghost use Rattle.sessions.specs.Shared.{HasWorld};
 ghost use Rattle.sessions.specs.Steps.{all_parts};
-ghost use Rattle.store_file.specs.Rotated.{AreLeft, AreAnew, AreOfBook, AreOfSize, BeginsAnew, BeginsOverAnew, GoesOn, GoesNot};
+ghost use Rattle.store_file.specs.Rotated.{AreLeft, AreAnew, AreOfBook, AreOfSize, BeginsAnew, BeginsAsIs, BeginsFresh};
 ghost use Rattle.store_file.specs.Rotated.{Finishes, FinishesNot, IsRotated, IsNotRotated, RefusesAnew, anew_cause};
 
-use crate::sizing::anew;
 use crate::start::OverFile;
 use book_lock::Pass;
-use commit_book::{Book, Replaced};
+use commit_book::{Anew, Book, Content, Replaced};
 use disk_trait::LogDisk;
 use index_layer::Index;
 use log_compact::{CompactFault, CompactRefused, NotCleared, begin_log, clear_log, fresh_seen};
@@ -80,9 +74,9 @@ pub enum NotRotated<I: Index, D: LogDisk> {
     },
 }
 
-// A book with other leaves, and the log that was begun of it.
-struct Anew<I: Index, D: LogDisk> {
-    book: Book<I, D>,
+// An index with leaves anew, and the log that was begun of them.
+struct Begun<I: Index, D: LogDisk> {
+    index: I,
     opened: Opened<D>,
 }
 
@@ -109,8 +103,8 @@ pub fn rotate_store<I: Index, D: LogDisk>(
     ensures refused { IfErr result (λ e. IsNotRotated D.drive I.WIDTH (AreLeft I.WIDTH pass.origin pass.seen) pass spare e) }
 {
     let book = store.close(pass);
-    match begin_anew(&book, spare) {
-        Ok(opened) => go_on(alloc, book, opened),
+    match begin_as_is(&book, spare) {
+        Ok(opened) => finish(alloc, book.rotate(alloc, opened)),
         Err(NotAnew { disk, cause }) => Err(NotRotated::Kept {
             book,
             spare: disk,
@@ -120,7 +114,8 @@ pub fn rotate_store<I: Index, D: LogDisk>(
 }
 
 /// The same with leaves anew: those that the bucket size asks of the objects as they are, and no more, so that leaves that have become
-/// empty don't pile up. It builds a second index beside the one that there is, and so takes longer than `rotate_store`, and its memory.
+/// empty don't pile up. It builds a second index beside the one that there is, and so takes longer than `rotate_store`, and that index's
+/// memory.
 pub fn rotate_anew<I: Index, D: LogDisk>(
     alloc: Global,
     store: Store<I, D, OverFile>,
@@ -135,8 +130,8 @@ pub fn rotate_anew<I: Index, D: LogDisk>(
     ensures refused { IfErr result (λ e. IsNotRotated D.drive I.WIDTH (AreAnew I.WIDTH pass.origin pass.seen) pass spare e) }
 {
     let book = store.close(pass);
-    match begin_over_anew(alloc, &book, spare) {
-        Ok(Anew { book: next, opened }) => go_on_anew(alloc, book, next, opened),
+    match begin_anew(alloc, &book, spare) {
+        Ok(Begun { index, opened }) => finish(alloc, book.rotate_anew(alloc, index, opened)),
         Err(NotAnew { disk, cause }) => Err(NotRotated::Kept {
             book,
             spare: disk,
@@ -145,39 +140,9 @@ pub fn rotate_anew<I: Index, D: LogDisk>(
     }
 }
 
-// Makes a book with leaves anew, and writes its objects and leaves as a fresh log on this drive.
-fn begin_over_anew<I: Index, D: LogDisk>(
-    alloc: Global,
-    book: &Book<I, D>,
-    spare: D,
-) -> Result<Anew<I, D>, NotAnew<D>>
-    ensures begun { IfOk result (λ a. BeginsOverAnew D.drive I.WIDTH book.now spare a.book
-        a.opened.seen a.opened.start.value a.opened.log) }
-    ensures refused { IfErr result (λ e. RefusesAnew D.drive I.WIDTH (AreOfSize I.WIDTH book.now) (failed_cell book.now.entries)
-        (world_after book.now.opening.world book.now.entries) spare e.disk e.cause) }
-    ensures book { IsBook D.drive I.WIDTH book.now }
-{
-    if let Some(cell) = book.closed() {
-        return Err(NotAnew {
-            disk: spare,
-            cause: RotateCause::Closed { cell },
-        });
-    }
-    let Ok(next) = anew(alloc, book) else {
-        return Err(NotAnew {
-            disk: spare,
-            cause: RotateCause::Memory,
-        });
-    };
-    match begin_anew(&next, spare) {
-        Ok(opened) => Ok(Anew { book: next, opened }),
-        Err(refused) => Err(refused),
-    }
-}
-
 // Writes the objects and the leaves of a book as a fresh log on this drive.
-fn begin_anew<I: Index, D: LogDisk>(book: &Book<I, D>, spare: D) -> Result<Opened<D>, NotAnew<D>>
-    ensures begun { IfOk result (λ o. BeginsAnew D.drive I.WIDTH book.now spare o.seen o.start.value o.log) }
+fn begin_as_is<I: Index, D: LogDisk>(book: &Book<I, D>, spare: D) -> Result<Opened<D>, NotAnew<D>>
+    ensures begun { IfOk result (λ o. BeginsAsIs D.drive I.WIDTH book.now spare o.seen o.start.value o.log) }
     ensures refused { IfErr result (λ e. RefusesAnew D.drive I.WIDTH (AreOfBook I.WIDTH book.now) (failed_cell book.now.entries)
         (world_after book.now.opening.world book.now.entries) spare e.disk e.cause) }
     ensures book { IsBook D.drive I.WIDTH book.now }
@@ -188,12 +153,53 @@ fn begin_anew<I: Index, D: LogDisk>(book: &Book<I, D>, spare: D) -> Result<Opene
             cause: RotateCause::Closed { cell },
         });
     }
-    let Ok(content) = book.content() else {
+    match book.content() {
+        Ok(content) => begin_with::<I, D>(content, spare),
+        Err(_) => Err(NotAnew {
+            disk: spare,
+            cause: RotateCause::Memory,
+        }),
+    }
+}
+
+// Makes leaves anew, and writes the objects and these as a fresh log on this drive.
+fn begin_anew<I: Index, D: LogDisk>(
+    alloc: Global,
+    book: &Book<I, D>,
+    spare: D,
+) -> Result<Begun<I, D>, NotAnew<D>>
+    ensures begun { IfOk result (λ b. BeginsAnew D.drive I.WIDTH book.now spare (I.leaves b.index)
+        b.opened.seen b.opened.start.value b.opened.log) }
+    ensures refused { IfErr result (λ e. RefusesAnew D.drive I.WIDTH (AreOfSize I.WIDTH book.now) (failed_cell book.now.entries)
+        (world_after book.now.opening.world book.now.entries) spare e.disk e.cause) }
+    ensures book { IsBook D.drive I.WIDTH book.now }
+{
+    if let Some(cell) = book.closed() {
+        return Err(NotAnew {
+            disk: spare,
+            cause: RotateCause::Closed { cell },
+        });
+    }
+    let Ok(Anew { index, content }) = book.anew(alloc) else {
         return Err(NotAnew {
             disk: spare,
             cause: RotateCause::Memory,
         });
     };
+    match begin_with::<I, D>(content, spare) {
+        Ok(opened) => Ok(Begun { index, opened }),
+        Err(refused) => Err(refused),
+    }
+}
+
+// Writes objects and leaves as a fresh log on this drive.
+fn begin_with<I: Index, D: LogDisk>(content: Content, spare: D) -> Result<Opened<D>, NotAnew<D>>
+    requires comes { ComesBySplits I.WIDTH content.leaves }
+    requires world { IsWorld content.world }
+    ensures begun { IfOk result (λ o. BeginsFresh D.drive I.WIDTH spare o.seen o.start.value o.log) }
+    ensures seen { IfOk result (λ o. (o.seen.world ≡ content.world) × (o.seen.leaves ≡ content.leaves)) }
+    ensures refused { IfErr result (λ e. RefusesAnew D.drive I.WIDTH (λ leaves. leaves ≡ content.leaves) None content.world spare e.disk e.cause) }
+{
     let width = I::WIDTH;
     let Some(seen) = fresh_seen(content.world, content.leaves, width) else {
         return Err(NotAnew {
@@ -219,65 +225,20 @@ fn anew_cause(fault: CompactFault) -> RotateCause
     }
 }
 
-// Goes on over a log that was begun with what a book has, and empties the one so far.
-fn go_on<I: Index, D: LogDisk>(
-    alloc: Global,
-    mut book: Book<I, D>,
-    opened: Opened<D>,
-) -> Result<Rotated<I, D>, NotRotated<I, D>>
-    requires log { (opened.log.cells ≡ opened.seen.cells) × (opened.log.failed ≡ None) }
-    requires found { IsFound newest I.WIDTH most_cells (D.drive opened.start.value) opened.seen }
-    requires ready { IsOpened I.WIDTH (found_state opened.seen) (D.drive opened.start.value) (D.drive opened.log.disk) }
-    requires content { HasContent I.WIDTH book opened.seen }
-    requires world { HasWorld book }
-    requires logged { is_some book.log ≡ true }
-    requires good { failed_cell book.entries ≡ None }
-    ensures rotated { IfOk result (λ r. GoesOn D.drive book opened.seen opened.start.value r.entries r.store r.pass r.spare) }
-    ensures refused { IfErr result (λ e. GoesNot D.drive book opened.seen opened.start.value e) }
-{
-    let replaced = book.rotate(alloc, opened);
-    finish(alloc, book, replaced)
-}
-
-// The same with another book of the same objects.
-fn go_on_anew<I: Index, D: LogDisk>(
-    alloc: Global,
-    book: Book<I, D>,
-    mut next: Book<I, D>,
-    opened: Opened<D>,
-) -> Result<Rotated<I, D>, NotRotated<I, D>>
-    requires log { (opened.log.cells ≡ opened.seen.cells) × (opened.log.failed ≡ None) }
-    requires found { IsFound newest I.WIDTH most_cells (D.drive opened.start.value) opened.seen }
-    requires ready { IsOpened I.WIDTH (found_state opened.seen) (D.drive opened.start.value) (D.drive opened.log.disk) }
-    requires content { HasContent I.WIDTH next opened.seen }
-    requires world { HasWorld next }
-    requires bucket { next.bucket ≡ book.bucket }
-    requires logged { is_some book.log ≡ true }
-    requires good { failed_cell book.entries ≡ None }
-    requires book { IsBook D.drive I.WIDTH book }
-    ensures rotated { IfOk result (λ r. GoesOn D.drive book opened.seen opened.start.value r.entries r.store r.pass r.spare) }
-    ensures refused { IfErr result (λ e. GoesNot D.drive book opened.seen opened.start.value e) }
-{
-    let _ = next.rotate(alloc, opened);
-    let replaced = book.retire();
-    finish(alloc, next, replaced)
-}
-
 // Empties the log so far, and makes a store of the book that goes on over the other one.
 fn finish<I: Index, D: LogDisk>(
     alloc: Global,
-    book: Book<I, D>,
-    replaced: Replaced<D>,
+    replaced: Replaced<I, D>,
 ) -> Result<Rotated<I, D>, NotRotated<I, D>>
-    requires none { book.entries ≡ [] }
-    requires world { IsWorld book.opening.world }
-    requires logged { is_some book.log ≡ true }
+    requires none { replaced.book.entries ≡ [] }
+    requires world { IsWorld replaced.book.opening.world }
+    requires logged { is_some replaced.book.log ≡ true }
     requires log { is_some replaced.log ≡ true }
     requires good { (log : LogView D) → replaced.log ≡ Some log → log.failed ≡ None }
-    ensures finished { IfOk result (λ r. Finishes D.drive book replaced.entries replaced.log r.entries r.store r.pass r.spare) }
-    ensures refused { IfErr result (λ e. FinishesNot D.drive book replaced.entries replaced.log e) }
+    ensures finished { IfOk result (λ r. Finishes D.drive replaced.book replaced.entries replaced.log r.entries r.store r.pass r.spare) }
+    ensures refused { IfErr result (λ e. FinishesNot D.drive replaced.book replaced.entries replaced.log e) }
 {
-    let Replaced { entries, log } = replaced;
+    let Replaced { book, entries, log } = replaced;
     let log = log.unwrap();
     let cleared = clear_log(log);
     match cleared {

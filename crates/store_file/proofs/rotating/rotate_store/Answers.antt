@@ -1,5 +1,5 @@
 use Rattle.store_file.proofs.Results.{ok-with, err-with}
-use Rattle.store_file.proofs.RotateFacts.{is-rotated, not-rotated, book-kept, left-as, also-refuses}
+use Rattle.store_file.proofs.RotateFacts.{is-rotated, not-rotated, goes-on, goes-not, book-kept, left-as, also-refuses}
 use Rattle.store_file.proofs.rotating.rotate_store.Goals as goal
 
 pub returns-in-Ok-clause-rotated : goal.returns-in-Ok-clause-rotated
@@ -7,24 +7,34 @@ returns-in-Ok-clause-rotated g c =
     let closed = c.close-book.ensures in
     let opened = c.in-Ok.opened in
     let begun = c.in-Ok.ensures.begun in
-    let are = left-as g.D.LogDisk.drive g.I.Index.WIDTH c.close-book.result c.args.pass c.in-Ok.ensures.book closed.value closed.own closed.start closed.world
+    let w = g.I.Index.WIDTH in
+    let b = c.close-book.result in
+    let by = c.rotate.ensures in
+    let are = left-as g.D.LogDisk.drive w b c.args.pass c.in-Ok.ensures.book closed.value closed.own closed.start closed.world
     opened.seen.leaves begun.content.leaves in
     ok-with _ _
-    (λ r on. is-rotated g.D.LogDisk.drive g.I.Index.WIDTH c.close-book.result c.args.pass c.in-Ok.ensures.book closed.value closed.own closed.start closed.world
-    _ c.args.spare opened.start.value opened.seen opened.log begun.good begun.content.world are begun.begins r.entries r.store r.pass r.spare on)
-    c.go_on.result c.go_on.ensures.rotated
+    (λ r on. is-rotated g.D.LogDisk.drive w b c.args.pass c.in-Ok.ensures.book closed.value closed.own closed.start closed.world
+    _ c.args.spare opened.start.value opened.seen opened.log begun.good begun.content.world are begun.begins r.entries r.store r.pass r.spare
+    (goes-on g.D.LogDisk.drive b c.rotate.result.book b.leaves opened.seen opened.log opened.start.value by.rotated begun.begins.counts begun.content.world closed.world
+    _ _ by.entries by.log r.entries r.store r.pass r.spare on))
+    c.finish.result c.finish.ensures.finished
 
 pub returns-in-Ok-clause-refused : goal.returns-in-Ok-clause-refused
 returns-in-Ok-clause-refused g c =
     let closed = c.close-book.ensures in
     let opened = c.in-Ok.opened in
     let begun = c.in-Ok.ensures.begun in
-    let are = left-as g.D.LogDisk.drive g.I.Index.WIDTH c.close-book.result c.args.pass c.in-Ok.ensures.book closed.value closed.own closed.start closed.world
+    let w = g.I.Index.WIDTH in
+    let b = c.close-book.result in
+    let by = c.rotate.ensures in
+    let are = left-as g.D.LogDisk.drive w b c.args.pass c.in-Ok.ensures.book closed.value closed.own closed.start closed.world
     opened.seen.leaves begun.content.leaves in
     err-with _ _
-    (λ e on. not-rotated g.D.LogDisk.drive g.I.Index.WIDTH c.close-book.result c.args.pass c.in-Ok.ensures.book closed.value closed.own closed.start closed.world
-    _ c.args.spare opened.start.value opened.seen opened.log begun.good begun.content.world are begun.begins e on)
-    c.go_on.result c.go_on.ensures.refused
+    (λ e on. not-rotated g.D.LogDisk.drive w b c.args.pass c.in-Ok.ensures.book closed.value closed.own closed.start closed.world
+    _ c.args.spare opened.start.value opened.seen opened.log begun.good begun.content.world are begun.begins e
+    (goes-not g.D.LogDisk.drive b c.rotate.result.book b.leaves opened.seen opened.log opened.start.value by.rotated begun.begins.counts begun.content.world closed.world
+    _ _ by.entries by.log e on))
+    c.finish.result c.finish.ensures.refused
 
 pub returns-in-Err-clause-refused : goal.returns-in-Err-clause-refused
 returns-in-Err-clause-refused g c =
