@@ -35,6 +35,8 @@ mod drives;
 #[cfg(test)]
 mod failing_files;
 #[cfg(test)]
+mod fault_texts;
+#[cfg(test)]
 mod fences;
 #[cfg(test)]
 mod files;

@@ -6,17 +6,21 @@ ghost use Rattle.fence_watch.specs.FenceFaults.{fault_behind, fault_of};
 use crate::fences::{Fence, Fences, MOST_FENCES, has_fence};
 use plain_list::is_box;
 use std::alloc::Global;
+use thiserror::Error;
 use zorder::coordinates_fit;
 
 /// Why fences aren't taken. A number is that of the first fence at fault, from 0 on.
-#[derive(Clone, Copy, Debug, PartialEq, Eq)]
+#[derive(Clone, Copy, Debug, PartialEq, Eq, Error)]
 pub enum BadFences {
-    /// There are more than 256.
+    #[error("there are more than 256 fences")]
     TooMany,
     /// The lower corner isn't at most the upper one, on both axes.
+    #[error("fence {number} is no box")]
     NoBox { number: usize },
     /// It is a box, and has the id of an earlier one.
+    #[error("fence {number} has the id of an earlier one")]
     Twice { number: usize },
+    #[error("out of memory")]
     Memory,
 }
 

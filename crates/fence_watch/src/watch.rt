@@ -25,13 +25,15 @@ use plain_list::World;
 use recovery::Walked;
 use std::alloc::Global;
 use std::marker::Model;
+use thiserror::Error;
 use zorder::{Memory, Point};
 
 /// Why a step wasn't made.
-#[derive(Clone, Copy, Debug, PartialEq, Eq)]
+#[derive(Clone, Copy, Debug, PartialEq, Eq, Error)]
 pub enum WatchFault {
-    /// There would be more than 4,194,304 events.
+    #[error("there would be more than 4,194,304 events")]
     TooMany,
+    #[error("out of memory")]
     Memory,
 }
 
