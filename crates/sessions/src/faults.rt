@@ -6,19 +6,25 @@ ghost use Rattle.sessions.specs.Settles.{IsSettleFault};
 ghost use Rattle.sessions.specs.Steps.{has_entry};
 
 use commit_book::BookFault;
+use thiserror::Error;
 
 /// Why a call is refused.
-#[derive(Clone, Copy, Debug, PartialEq, Eq)]
+#[derive(Clone, Copy, Debug, PartialEq, Eq, Error)]
 pub enum CallFault {
     /// An earlier append failed at this cell: the store takes no more calls.
+    #[error("the append of record {cell} has failed")]
     Closed { cell: u64 },
     /// The append of this cell failed in this call.
+    #[error("the drive failed in the append of record {cell}")]
     Disk { cell: u64 },
     /// The history has as many entries as it may have.
+    #[error("the history is full")]
     HistoryFull,
     /// The log has as many cells as it may have, and the call would be a change.
+    #[error("the log is full")]
     LogFull,
     /// Memory ran out. A query's entry stands at the place, where there is one.
+    #[error("out of memory")]
     Memory { place: Option<u64> },
 }
 

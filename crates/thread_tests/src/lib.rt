@@ -1,6 +1,6 @@
 //! Tests of the lock by itself, and of sessions that run at once: passes by hand, lanes in an order that a gate makes, also such as a store
 //! runs by itself, and sixteen lanes together; the index that one of them watches; the verbs of a client, and its teams; the objects of a
-//! store; a store that is renewed; and stores over files, also where they go on over a second one.
+//! store; what a refused call is told as; a store that is renewed; and stores over files, also where they go on over a second one.
 #![tactic(auto)]
 
 // `assert!` and `assert_eq!` as calls: the proof of a function with several of them is much shorter so.
@@ -24,6 +24,8 @@ mod checks;
 mod clients;
 #[cfg(test)]
 mod crowds;
+#[cfg(test)]
+mod fault_texts;
 #[cfg(test)]
 mod files;
 #[cfg(test)]
