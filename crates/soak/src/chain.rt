@@ -15,7 +15,7 @@ use thiserror::Error;
 /// Why a thread makes no more changes.
 #[derive(Clone, Copy, Debug, Error)]
 pub enum Broken {
-    #[error("a call was refused: {0:?}")]
+    #[error("a call was refused: {0}")]
     Refused(#[from] CallFault),
     #[error("object {id} isn't where {done} changes leave it")]
     Lost { done: u64, id: u64 },

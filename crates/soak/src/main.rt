@@ -8,8 +8,8 @@
 //! looked for. A difference is told, and the run ends with 1.
 //!
 //! With `files` the store has a log in one of these two files, which must have no objects. Where it would be renewed it is rotated: it
-//! goes on over a fresh log in the other one. It prints each renewal or rotation with its time, how many boxes and nears were looked at, and
-//! how many objects there are in the end; with `quiet` only what is the same whatever the schedule.
+//! goes on over a fresh log in the other one, each second time with leaves anew. It prints each renewal or rotation with its time, how many
+//! boxes and nears were looked at, and how many objects there are in the end; with `quiet` only what is the same whatever the schedule.
 //!
 //! With `chain` it goes on with what it finds in these files. Each thread brings objects of its own in turn to new places, and the number of
 //! a change tells all of it: so the objects must be just where so many first changes of each thread leave them. It prints how many it found

@@ -4,7 +4,7 @@ ghost use Rattle.soak.specs.Whole.{IsWhole};
 
 use crate::chain::Chain;
 use crate::plan::Plan;
-use crate::soak::{SoakPass, play_round, rotate};
+use crate::soak::{Leaves, SoakPass, play_round, rotate};
 use crate::trouble::Trouble;
 use disk_trait::LogDisk;
 use index_layer::Index;
@@ -44,7 +44,7 @@ pub fn chain_over_files<I: Index + Send, D: LogDisk + Send, R: Threads + Wait + 
     let mut crew = chains_of(alloc, plan);
     pass = play_round(rt, alloc, &store, pass, &mut crew);
     let mut done = look_first(rt, &crew, points);
-    for _ in 0..u64::MAX {
+    for turn in 0..u64::MAX {
         if !matches!(done, Ok(false)) {
             break;
         }
@@ -55,7 +55,7 @@ pub fn chain_over_files<I: Index + Send, D: LogDisk + Send, R: Threads + Wait + 
             pass: whole,
             entries: _,
             spare: left,
-        } = rotate(alloc, store, back, spare)?;
+        } = rotate(alloc, store, back, spare, Leaves::of_turn(turn))?;
         store = next;
         pass = whole;
         spare = left;

@@ -22,10 +22,36 @@ use std::sync::Wait;
 use std::thread::Threads;
 use std::time::Instant;
 use store_client::{Client, Work};
-use store_file::{NotRotated, OverFile, Rotated, rotate_store};
+use store_file::{NotRotated, OverFile, Rotated, rotate_anew, rotate_store};
 
 /// A pass of the store, over any index, and any drive for a log.
 pub type SoakPass<I, D, O> = Pass<SharedBook<I, D, O>>;
+
+/// The leaves that a store goes on with in the other file.
+#[derive(Clone, Copy)]
+pub enum Leaves {
+    Kept,
+    Anew,
+}
+
+impl Leaves {
+    /// Those of a rotation: anew each second time.
+    pub fn of_turn(turn: u64) -> Leaves {
+        if turn % 2 == 0 {
+            Leaves::Kept
+        } else {
+            Leaves::Anew
+        }
+    }
+
+    // What is said of them where a rotation is told.
+    fn word(self) -> &'static str {
+        match self {
+            Leaves::Kept => "",
+            Leaves::Anew => ", leaves anew",
+        }
+    }
+}
 
 /// The session of who hires the threads, and looks at all objects.
 pub const LAST: u8 = 4;
@@ -72,9 +98,9 @@ pub fn play<I: Index + Send, D: LogDisk + Send, R: Threads + Wait + Sync + Clock
         store = next;
         pass = whole;
         if tells {
-            tell_turn(rt, begun, entries.as_slice().len());
+            tell_turn(rt, begun, entries.as_slice().len(), "");
         }
-        done = look(&mut judge, entries.as_slice(), &mut crew);
+        done = look(alloc, &mut judge, entries.as_slice(), &mut crew);
         if !matches!(done, Ok(false)) {
             break;
         }
@@ -101,20 +127,21 @@ pub fn play_over_files<
     let mut crew = crew_of(alloc, plan);
     let mut judge = Judge::new(alloc);
     let mut done = Ok(false);
-    for _ in 0..u64::MAX {
+    for turn in 0..u64::MAX {
         let back = play_round(rt, alloc, &store, pass, &mut crew);
+        let leaves = Leaves::of_turn(turn);
         let begun = Instant::now(rt).ok();
         let Rotated {
             store: next,
             pass: whole,
             entries,
             spare: left,
-        } = rotate(alloc, store, back, spare)?;
+        } = rotate(alloc, store, back, spare, leaves)?;
         store = next;
         pass = whole;
         spare = left;
-        tell_turn(rt, begun, entries.as_slice().len());
-        done = look(&mut judge, entries.as_slice(), &mut crew);
+        tell_turn(rt, begun, entries.as_slice().len(), leaves.word());
+        done = look(alloc, &mut judge, entries.as_slice(), &mut crew);
         if !matches!(done, Ok(false)) {
             break;
         }
@@ -124,14 +151,16 @@ pub fn play_over_files<
 }
 
 // How long it took to renew or to rotate a store whose history had so many entries.
-fn tell_turn(rt: &(impl Clock + Print), begun: Option<Instant>, entries: usize) {
+fn tell_turn(rt: &(impl Clock + Print), begun: Option<Instant>, entries: usize, leaves: &str) {
     if let Some(took) = begun.and_then(|begun| begun.elapsed(rt).ok()) {
-        let _ = println!(rt; "turn {entries} entries {} microseconds", took.as_micros());
+        let micros = took.as_micros();
+        let _ = println!(rt; "turn {entries} entries {micros} microseconds{leaves}");
     }
 }
 
 // Looks at a history that has ended, and tells whether all calls were made.
 fn look(
+    alloc: Global,
     judge: &mut Judge,
     entries: &[Entry],
     crew: &mut Option<Vec<Soaker>>,
@@ -147,7 +176,8 @@ fn look(
     }
     judge.judge(entries, crew)?;
     for soaker in crew.iter_mut() {
-        soaker.replies.clear();
+        // The room of a long round isn't kept for the next one.
+        soaker.replies = Vec::new(alloc);
     }
     Ok(crew.iter().all(|soaker| soaker.left == 0))
 }
@@ -194,11 +224,16 @@ pub fn rotate<I: Index, D: LogDisk>(
     store: Store<I, D, OverFile>,
     pass: SoakPass<I, D, OverFile>,
     spare: D,
+    leaves: Leaves,
 ) -> Result<Rotated<I, D>, Trouble>
     requires { IsWhole store pass }
     ensures { IfOk result (λ r. IsWhole r.store r.pass) }
 {
-    match rotate_store(alloc, store, pass, spare) {
+    let rotated = match leaves {
+        Leaves::Kept => rotate_store(alloc, store, pass, spare),
+        Leaves::Anew => rotate_anew(alloc, store, pass, spare),
+    };
+    match rotated {
         Ok(rotated) => Ok(rotated),
         Err(refused) => Err(why_not(&refused)),
     }

@@ -18,7 +18,7 @@ pub enum Trouble {
     Open(EitherCause),
     #[error("the files have {points} objects, and should have none")]
     InUse { points: u64 },
-    #[error("a call was refused: {0:?}")]
+    #[error("a call was refused: {0}")]
     Refused(#[from] CallFault),
     #[error("the store wasn't renewed")]
     NotRenewed,

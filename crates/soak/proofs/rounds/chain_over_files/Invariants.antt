@@ -2,5 +2,5 @@ use Rattle.std.specs.Prelude.{◌≡◌, IfSome, vec_len}
 use Rattle.soak.specs.Whole.{IsWhole}
 use Rattle.soak.proofs.rounds.chain_over_files.Given as goal
 
-abbrev pub invariant-loop : goal.invariant-loop
-invariant-loop g l = IsWhole l.store l.pass × IfSome l.crew (λ all. vec_len all ≡ 4)
+abbrev pub invariant-loop-turn : goal.invariant-loop-turn
+invariant-loop-turn g l = IsWhole l.store l.pass × IfSome l.crew (λ all. vec_len all ≡ 4)
