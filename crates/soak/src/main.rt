@@ -1,9 +1,10 @@
 //! Runs a store for long, in memory or over two files, and judges it.
 //!
-//! `soak CALLS THREADS OBJECTS SEED ENTRIES [quiet | files ONE TWO | chain ONE TWO]`: so many calls (20,000,000), made by so many threads
-//! (4 at most) on so many objects (100,000): puts, moves, late ones among them, drops, finds, boxes and nears, as the seed has it. Where a
-//! history has so many entries (3,900,000) the threads meet, and the store is renewed: it goes on with an empty one. Each history is then
-//! gone along: a plain map of this program takes the changes, and what a thread was told by each call must be what the map answers there.
+//! `soak CALLS THREADS OBJECTS SEED ENTRIES [quiet | files ONE TWO | chain ONE TWO | turns ONE TWO]`: so many calls (20,000,000), made by
+//! so many threads (4 at most) on so many objects (100,000): puts, moves, late ones among them, drops, finds, boxes and nears, as the seed
+//! has it. Where a history has so many entries (3,900,000) the threads meet, and the store is renewed: it goes on with an empty one. Each
+//! history is then gone along: a plain map of this program takes the changes, and what a thread was told by each call must be what the map
+//! answers there.
 //! All objects are gone through for a box or a near, so where there are n, one in n / 100 of these is looked at. In the end all objects are
 //! looked for. A difference is told, and the run ends with 1.
 //!
@@ -15,6 +16,9 @@
 //! a change tells all of it: so the objects must be just where so many first changes of each thread leave them. It prints how many it found
 //! and, behind each ENTRIES changes or so, how many were made, and then it is rotated; who kills it learns from the next start what is there.
 //! `tools/soak` drives it.
+//!
+//! With `turns` it puts OBJECTS objects and then goes on in the other file CALLS times, with the time of each, each second time with leaves
+//! anew.
 #![tactic(auto)]
 
 ghost use Rattle.std.specs.Prelude.{◌≤◌, IfOk};
@@ -29,6 +33,7 @@ mod rounds;
 mod soak;
 mod soaker;
 mod trouble;
+mod turns;
 
 use commit_book::Book;
 use disk_file::FileDisk;
@@ -50,6 +55,7 @@ use std::sync::Wait;
 use std::thread::Threads;
 use store_file::{OpenedEither, open_either};
 use trouble::Trouble;
+use turns::turn_over_files;
 
 // How many objects a leaf should have.
 const BUCKET: u32 = 64;
@@ -82,6 +88,7 @@ enum Mode {
     Quiet,
     Files,
     Chain,
+    Turns,
 }
 
 fn mode_of(word: Option<String>) -> Mode {
@@ -89,6 +96,7 @@ fn mode_of(word: Option<String>) -> Mode {
         None => Mode::Memory,
         Some("files") => Mode::Files,
         Some("chain") => Mode::Chain,
+        Some("turns") => Mode::Turns,
         Some(_) => Mode::Quiet,
     }
 }
@@ -146,10 +154,14 @@ fn play_in_files<R: Threads + Wait + Sync + AllocGlobal + Clock + Print, D: LogD
         store.close(pass);
         return Err(Trouble::InUse { points });
     }
+    if mode == Mode::Turns {
+        turn_over_files(rt, alloc, store, pass, spare, plan)?;
+        return Ok(None);
+    }
     Ok(Some(play_over_files(rt, alloc, store, pass, spare, plan)?))
 }
 
-// A run's calls, judged, where it isn't one of chains.
+// A run's calls, judged, where it isn't one of chains or turns.
 fn play_as<R: Threads + Wait + Sync + AllocGlobal + Clock + Print, D: LogDisk + Send>(
     rt: &R,
     plan: Plan,

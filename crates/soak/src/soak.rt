@@ -44,8 +44,8 @@ impl Leaves {
         }
     }
 
-    // What is said of them where a rotation is told.
-    fn word(self) -> &'static str {
+    /// What is said of them where a rotation is told.
+    pub fn word(self) -> &'static str {
         match self {
             Leaves::Kept => "",
             Leaves::Anew => ", leaves anew",
@@ -150,8 +150,8 @@ pub fn play_over_files<
     Ok(judge)
 }
 
-// How long it took to renew or to rotate a store whose history had so many entries.
-fn tell_turn(rt: &(impl Clock + Print), begun: Option<Instant>, entries: usize, leaves: &str) {
+/// Tells how long it took to renew or to rotate a store whose history had so many entries.
+pub fn tell_turn(rt: &(impl Clock + Print), begun: Option<Instant>, entries: usize, leaves: &str) {
     if let Some(took) = begun.and_then(|begun| begun.elapsed(rt).ok()) {
         let micros = took.as_micros();
         let _ = println!(rt; "turn {entries} entries {micros} microseconds{leaves}");
