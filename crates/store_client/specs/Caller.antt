@@ -1,9 +1,13 @@
 -- What a client is to contracts.
-use Rattle.std.specs.Prelude.{◌≡◌, ℕ, ◌+◌, ◌-◌, ◌^◌, min, false, []}
+use Rattle.std.specs.Prelude.{◌≡◌, ℕ, ◌+◌, ◌-◌, ◌^◌, min, Bool, false, [], length, Option, Some, None}
 use Rattle.atomic_table.specs.Seated.{TableId}
 use Rattle.book_lock.specs.Ends.{longer}
 use Rattle.book_lock.specs.Own.{merge}
 use Rattle.book_lock.specs.Pass.{Known}
+use Rattle.plain_list.specs.History.{world_after}
+use Rattle.plain_list.specs.World.{World}
+use Rattle.commit_book.specs.Room.{has_no_room}
+use Rattle.sessions.specs.Renewals.{cells_where_at}
 
 -- the pass is of this lock, and doesn't hold it
 abbrev pub IsFree : TableId → Known → Type 0
@@ -12,6 +16,19 @@ IsFree lock pass = (pass.lock ≡ lock) × (pass.holds ≡ false)
 -- the pass is of the same lock, has as many parts, and holds the lock or not as before
 abbrev pub KeepsPass : Known → Known → Type 0
 KeepsPass old new = (new.lock ≡ old.lock) × (new.holds ≡ old.holds) × (new.parts ≡ old.parts)
+
+-- the objects that a pass has seen, with their moments
+abbrev pub world_seen : Known → World
+world_seen pass = world_after pass.origin.world pass.seen
+
+-- whether there are too many entries, or cells where there is a log, for a further split
+abbrev pub is_near : Option ℕ → ℕ → Bool
+is_near None events = has_no_room 0 events
+is_near (Some cells) events = has_no_room cells events
+
+-- whether there are behind the history that a pass has seen
+abbrev pub is_near_end : Known → Bool
+is_near_end pass = is_near (cells_where_at pass.origin pass.seen) (length pass.seen)
 
 -- a client: its pass, its session, the number of its next row, and the place of its last call that was answered, or 0
 pub record Caller : Type 0 where

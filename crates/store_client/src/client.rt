@@ -1,15 +1,15 @@
 //! A caller of a store, and its calls.
 ghost use Rattle.std.specs.Prelude.{◌≡◌, false, IfOk};
 ghost use Rattle.plain_list.specs.Answer.{IsValid};
-ghost use Rattle.plain_list.specs.History.{world_after};
 ghost use Rattle.plain_list.specs.World.{IsWorld};
 ghost use Rattle.sessions.specs.Lanes.{Tries};
 ghost use Rattle.sessions.specs.Renewals.{room_at};
 ghost use Rattle.sessions.specs.Runs.{HasLooked};
 ghost use Rattle.sessions.specs.Splits.{SamePass};
-ghost use Rattle.store_client.specs.Caller.{IsFree, Keeps};
+ghost use Rattle.store_client.specs.Caller.{IsFree, Keeps, is_near_end, world_seen};
 ghost use Rattle.store_client.specs.Asked.{Asked, AskedCounted};
 
+use crate::limits::has_no_room;
 use book_lock::Pass;
 use commit_book::Room;
 use disk_trait::LogDisk;
@@ -137,10 +137,21 @@ impl<'s, I: Index, D: LogDisk, O: Start> Client<'s, I, D, O> {
         store.room(rt, &mut self.pass)
     }
 
+    /// Whether leaves aren't split any more, since there are so many entries, or records where there is a log: then it is time to renew the
+    /// store, or to rotate it. Behind all that the client has seen.
+    pub fn is_near_end<R: Wait>(&mut self, rt: &R) -> bool
+        ensures looked { HasLooked self.old.pass self.new.pass }
+        ensures near { result ≡ is_near_end self.new.pass }
+        ensures client { self.new ≡ record self.old { pass = self.new.pass } }
+    {
+        let room = self.room(rt);
+        has_no_room(&room)
+    }
+
     /// Copies the objects as they are, behind all that the client has seen. Who calls meanwhile waits: 0.1 to 0.2 seconds for 1,048,576.
     pub fn world<R: Wait>(&mut self, rt: &R) -> Result<World, Memory>
         ensures looked { HasLooked self.old.pass self.new.pass }
-        ensures world { IfOk result (λ w. w ≡ world_after self.new.pass.origin.world self.new.pass.seen) }
+        ensures world { IfOk result (λ w. w ≡ world_seen self.new.pass) }
         ensures is_world { IfOk result (λ w. IsWorld w) }
         ensures client { self.new ≡ record self.old { pass = self.new.pass } }
     {

@@ -96,6 +96,7 @@ fn goes_on<I: Index, D: LogDisk, R: Wait + Abort>(rt: &R, alloc: Global) {
     let (store, pass, entries) = renewed(rt, alloc, store, pass);
     let mut client = Client::new(&store, alloc, pass, 7);
     let fresh = client.room(rt);
+    let near = client.is_near_end(rt);
     let after = find_it(rt, &mut client);
     let pass = client.into_pass();
     let events = events_of(store.close(pass));
@@ -103,6 +104,7 @@ fn goes_on<I: Index, D: LogDisk, R: Wait + Abort>(rt: &R, alloc: Global) {
     assert_same!(rt; before, (Some(KEPT), room_for(4_194_302)));
     assert_is!(rt; are_put_and_find(entries.as_slice()));
     assert_same!(rt; fresh, room_for(4_194_304));
+    assert_same!(rt; near, false);
     assert_same!(rt; after, (Some(KEPT), room_for(4_194_303)));
     assert_same!(rt; events, 1);
 }
