@@ -1,0 +1,31 @@
+//! The least program over a store in memory: two taxis, and which of them is nearest.
+#![tactic(auto)]
+
+use commit_book::Book;
+use disk_mem::MemDisk;
+use kd_trie::KdTrie;
+use sessions::Store;
+use std::io::{self, Print};
+use std::marker::Brand;
+use store_client::Client;
+use zorder::Point;
+
+fn main(rt: HostRuntime) -> io::Result<()> {
+    let alloc = rt.alloc();
+    let Ok(book) = Book::<KdTrie, MemDisk>::fresh(alloc, 64) else {
+        return println!(rt; "no memory");
+    };
+    let Ok((store, pass)) = Store::<KdTrie, MemDisk, Brand>::new(alloc, book) else {
+        return println!(rt; "no memory");
+    };
+    let mut client = Client::new(&store, alloc, pass, 1);
+    let _ = client.put(&rt, 7, Point { x: 3, y: 4 }, 0);
+    let _ = client.put(&rt, 9, Point { x: 9, y: 5 }, 0);
+    let nearest = client.nearest(&rt, Point { x: 8, y: 8 }, 1);
+    let pass = client.into_pass();
+    store.close(pass);
+    match nearest {
+        Ok(taxis) => println!(rt; "{:?}", taxis.as_slice()),
+        Err(fault) => println!(rt; "{fault}"),
+    }
+}
