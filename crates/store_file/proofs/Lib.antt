@@ -6,3 +6,4 @@ mod Results
 mod RotateFacts
 pub mod Again
 pub mod Between
+pub mod Fewest
