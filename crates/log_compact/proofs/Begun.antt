@@ -33,9 +33,8 @@ names-few w (inr both) leaves by =
     (λ by. let (inner, f) = forest_of 2 leaves by in
     omega (arith, ap length (inner_names-forest 2 (inr refl) leaves inner f), length-two ([] ∷ []) leaves inner f)) by
 
-pub fresh-short : (w : ℕ) → IsWidth w → (world : World) (leaves : List (List Bool)) → ComesBySplits w leaves → length world + 2 * length leaves ≤ most_cells
-    → length (fresh_cells w world leaves) ≤ most_cells
-fresh-short w width world leaves by room = omega (arith, length-fresh_cells w world leaves, names-few w width leaves by, room)
+pub fresh-short : (w : ℕ) → IsWidth w → (world : World) (leaves : List (List Bool)) → ComesBySplits w leaves → length (fresh_cells w world leaves) ≤ length world + 2 * length leaves
+fresh-short w width world leaves by = omega (arith, length-fresh_cells w world leaves, names-few w width leaves by)
 
 -- with these numbers it is what is found
 module _ (w : ℕ) (width : IsWidth w) (seen : Seen) (world : IsWorld seen.world) (by : ComesBySplits w seen.leaves) (short : AreShort seen.leaves) where

@@ -1,5 +1,5 @@
 //! Begins a log with a world and its leaves.
-ghost use Rattle.std.specs.Prelude.{◌≡◌, ◌⊎◌, ◌+◌, ◌*◌, ◌<◌, None, length, IfOk, IfErr, MatchResult, MatchOption};
+ghost use Rattle.std.specs.Prelude.{◌≡◌, ◌⊎◌, ◌<◌, None, length, IfOk, IfErr, MatchResult, MatchOption};
 ghost use Rattle.plain_list.specs.State.{ComesBySplits};
 ghost use Rattle.split_log.specs.LogView.{most_cells};
 ghost use Rattle.log_compact.specs.Fresh.{fresh_cells};
@@ -19,22 +19,18 @@ use std::snapshot::Snapshot;
 /// The version in which a log is written.
 const NEWEST: u8 = 2;
 
-/// What whoever opens the log finds that `compact` writes of a world and its leaves. There is none where the objects and twice the
-/// leaves are more than a log may have cells.
+/// What whoever opens the log finds that `compact` writes of a world and its leaves. There is none where these are more cells than a log
+/// may have.
 pub fn fresh_seen(world: World, leaves: Leaves, width: u8) -> Option<Seen>
     requires width { (width ≡ 1) ⊎ (width ≡ 2) }
     requires splits { ComesBySplits width leaves }
 
-    ensures { MatchOption result (most_cells < length world + 2 * length leaves)
+    ensures { MatchOption result (most_cells < length (fresh_cells width world leaves))
         (λ seen. (seen.world ≡ world) × (seen.leaves ≡ leaves) × IsFresh width seen) }
 {
     let members = world.as_slice().len() as u64;
     let names = leaves.as_slice();
     names_are_short(names);
-    let most = members + 2 * names.len() as u64;
-    if most > MOST_CELLS {
-        return None;
-    }
     let mut seen = Seen {
         world,
         leaves,
@@ -44,6 +40,9 @@ pub fn fresh_seen(world: World, leaves: Leaves, width: u8) -> Option<Seen>
         version: NEWEST,
     };
     seen.cells = count_fresh(&seen, width);
+    if seen.cells > MOST_CELLS {
+        return None;
+    }
     // A begin and an install for each split, and a put for each object.
     seen.begun = (seen.cells - members) / 2;
     Some(seen)

@@ -1,6 +1,5 @@
 //! How many cells a fresh log has.
-ghost use Rattle.std.specs.Prelude.{◌≡◌, ◌⊎◌, ◌≤◌, length};
-ghost use Rattle.split_log.specs.LogView.{most_cells};
+ghost use Rattle.std.specs.Prelude.{◌≡◌, ◌⊎◌, ◌<◌, ◌^◌, length};
 ghost use Rattle.log_compact.specs.Fresh.{fresh_cells};
 ghost use Rattle.plain_list.specs.State.{ComesBySplits};
 
@@ -11,7 +10,7 @@ use recovery::Seen;
 pub fn count_fresh(seen: &Seen, width: u8) -> u64
     requires width { (width ≡ 1) ⊎ (width ≡ 2) }
     requires splits { ComesBySplits width seen.now.leaves }
-    requires few { length (fresh_cells width seen.now.world seen.now.leaves) ≤ most_cells }
+    requires few { length (fresh_cells width seen.now.world seen.now.leaves) < 2 ^ 63 }
 
     ensures { result ≡ length (fresh_cells width seen.now.world seen.now.leaves) }
 {

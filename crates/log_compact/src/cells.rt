@@ -1,6 +1,5 @@
 //! The cells of a fresh log, one after the other.
-ghost use Rattle.std.specs.Prelude.{◌≡◌, ◌⊎◌, ◌≤◌, length};
-ghost use Rattle.split_log.specs.LogView.{most_cells};
+ghost use Rattle.std.specs.Prelude.{◌≡◌, ◌⊎◌, ◌<◌, ◌^◌, length};
 ghost use Rattle.log_compact.specs.Fresh.{fresh_cells};
 ghost use Rattle.plain_list.specs.State.{ComesBySplits};
 ghost use Rattle.log_compact.specs.State.{IsStateOf};
@@ -40,7 +39,7 @@ impl<'a> FreshCells<'a> {
     pub(crate) fn of(seen: &'a Seen, width: u8) -> FreshCells<'a>
         requires width { (width ≡ 1) ⊎ (width ≡ 2) }
         requires splits { ComesBySplits width seen.now.leaves }
-        requires few { length (fresh_cells width seen.now.world seen.now.leaves) ≤ most_cells }
+        requires few { length (fresh_cells width seen.now.world seen.now.leaves) < 2 ^ 63 }
 
         ensures cells { result ≡ fresh_cells width seen.now.world seen.now.leaves }
         ensures state { IsStateOf width result seen.now.world seen.now.leaves }

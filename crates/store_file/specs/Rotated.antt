@@ -1,5 +1,5 @@
 -- A store that goes on over a second file, in which its objects were written as a fresh log, with its leaves as they were or anew.
-use Rattle.std.specs.Prelude.{◌≡◌, ℕ, ◌+◌, ◌*◌, ◌<◌, ◌≤◌, true, Bool, List, [], length, Option, Some, None, is_some, ⊤}
+use Rattle.std.specs.Prelude.{◌≡◌, ℕ, ◌<◌, ◌≤◌, true, Bool, List, [], length, Option, Some, None, is_some, ⊤}
 use Rattle.atomic_table.specs.Seated.{TableId}
 use Rattle.cell_format.specs.declared.cell.Cell.{Cell}
 use Rattle.disk_trait.specs.Drive.{Drive}
@@ -117,18 +117,18 @@ pub record NotAnew {D : Type 0} (drive : D → Drive) (w : ℕ) (Are : List (Lis
   pub refuses : RefusesCompact (drive spare) (drive left) fault
   pub on_way : KeepsOnWay w (fresh_cells w world leaves) (drive spare) (drive left)
 
--- there are more objects and such leaves than a log may have cells
-pub record IsTooLong (Are : List (List Bool) → Type 0) (world : World) : Type 0 where
+-- the fresh log of the objects with such leaves would have more cells than a log may
+pub record IsTooLong (w : ℕ) (Are : List (List Bool) → Type 0) (world : World) : Type 0 where
   pub leaves : List (List Bool)
   pub leaves_are : Are leaves
-  pub many : most_cells < length world + 2 * length leaves
+  pub many : most_cells < length (fresh_cells w world leaves)
 
 -- Why a store of this world doesn't go on over the second drive with such leaves, whose append failed where one did, and what that leaves
--- of the drive: an append of it has failed; there are too many objects and leaves for a log; memory ran out; or no log was written.
+-- of the drive: an append of it has failed; they are too many for a log; memory ran out; or no log was written.
 abbrev pub RefusesAnew : {D : Type 0} → (D → Drive) → ℕ → (List (List Bool) → Type 0) → Option ℕ → World → D → D → RotateCause → Type 0
 RefusesAnew drive w Are failed world spare left (Closed cell) = (failed ≡ Some cell) × (left ≡ spare)
 RefusesAnew drive w Are failed world spare left Memory = (failed ≡ None) × (left ≡ spare)
-RefusesAnew drive w Are failed world spare left TooLong = (failed ≡ None) × (left ≡ spare) × IsTooLong Are world
+RefusesAnew drive w Are failed world spare left TooLong = (failed ≡ None) × (left ≡ spare) × IsTooLong w Are world
 RefusesAnew drive w Are failed world spare left (InUse len) = (failed ≡ None) × NotAnew drive w Are world spare left (compact.InUse len)
 RefusesAnew drive w Are failed world spare left Disk = (failed ≡ None) × NotAnew drive w Are world spare left compact.Disk
 
