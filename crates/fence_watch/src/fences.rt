@@ -14,7 +14,7 @@ pub struct Fence {
 }
 
 /// The most fences that are watched at once.
-pub(crate) const MOST_FENCES: usize = 256;
+pub const MOST_FENCES: usize = 256;
 
 pub(crate) fn has_fence(fences: &[Fence], id: u64) -> bool
     ensures { result ≡ has_fence id fences.now }

@@ -23,8 +23,8 @@ mod watch;
 
 pub use along::AlongFault;
 pub use counts::FenceCount;
-pub use fences::{Crossing, Event, Fence, Fences};
+pub use fences::{Crossing, Event, Fence, Fences, MOST_FENCES};
 pub use making::BadFences;
 pub use rows::read_fences;
-pub use tally::Tally;
+pub use tally::{MOST_FENCE_EVENTS, Tally};
 pub use watch::{Watch, WatchFault};

@@ -27,6 +27,9 @@ use std::marker::Model;
 use std::mem::replace;
 use zorder::{Memory, Point};
 
+/// The most events that are kept until they are taken out.
+pub const MOST_FENCE_EVENTS: usize = 4_194_304;
+
 /// Fences along a log, and how many are inside each: no ids are kept, so a step costs the same in whatever order they come.
 #[derive(Drop)]
 pub struct Tally {
@@ -172,7 +175,7 @@ impl Tally {
         requires { Shows went.now self.now passage.now }
         ensures { (result ≡ true) ↔ IsPastBy went.now.at (Some went.now.id) went.now.before went.now.after self.now }
     {
-        self.events.len() + crossed(passage) > MOST_EVENTS
+        self.events.len() + crossed(passage) > MOST_FENCE_EVENTS
     }
 
     /// What `moved` does of a step that crosses fences so.
@@ -188,7 +191,7 @@ impl Tally {
         if crossed == 0 {
             return Ok(());
         }
-        if told + crossed > MOST_EVENTS {
+        if told + crossed > MOST_FENCE_EVENTS {
             return Err(WatchFault::TooMany);
         }
         let step = Step {
@@ -201,6 +204,3 @@ impl Tally {
         Ok(())
     }
 }
-
-/// The most events that are kept.
-pub(crate) const MOST_EVENTS: usize = 4_194_304;

@@ -26,13 +26,13 @@ returns-then-crossed-eq0-clause-too_many c =
     let few : length v.events + c.crossed-crossed.result ≤ most_events = omega (arith, c.self.invariant.events, c.if-crossed-eq0.true) in
     ((λ e. absurd (cc e)), (λ over. absurd (not-past w c.crossed-crossed.result v p k c.crossed-crossed.ensures.count few (subst (λ (x : TallyView). IsPastIn w x) (sym c.self.view_is) over))))
 
-pub returns-then-told-crossed-gt-MOST_EVENTS-clause-too_many : goal.returns-then-told-crossed-gt-MOST_EVENTS-clause-too_many
-returns-then-told-crossed-gt-MOST_EVENTS-clause-too_many c =
+pub returns-then-told-crossed-gt-MOST_FENCE_EVENTS-clause-too_many : goal.returns-then-told-crossed-gt-MOST_FENCE_EVENTS-clause-too_many
+returns-then-told-crossed-gt-MOST_FENCE_EVENTS-clause-too_many c =
     let w = c.args.went.now in
     let p = c.args.passage.now in
     let v : TallyView = record { counts = c.self.inside.counts.items; events = c.self.inside.events.items } in
     let k : Said w v.counts p = said w v p c.self.invariant.few (subst (λ (x : TallyView). Shows w x p) (sym c.self.view_is) c.requires) in
-    let past : most_events < length v.events + c.crossed-crossed.result = omega (arith, c.len-told.ensures, c.if-told-crossed-gt-MOST_EVENTS.true, c.self.inside.events.ok.0) in
+    let past : most_events < length v.events + c.crossed-crossed.result = omega (arith, c.len-told.ensures, c.if-told-crossed-gt-MOST_FENCE_EVENTS.true, c.self.inside.events.ok.0) in
     ((λ e. subst (λ (x : TallyView). IsPastIn w x) c.self.view_is (is-past w c.crossed-crossed.result v p k c.crossed-crossed.ensures.count past)), (λ over. refl))
 
 pub pass_counted-requires : goal.pass_counted-requires
@@ -50,7 +50,7 @@ returns-in_default-clause-too_many c =
     let p = c.args.passage.now in
     let v : TallyView = record { counts = c.self.inside.counts.items; events = c.self.inside.events.items } in
     let k : Said w v.counts p = said w v p c.self.invariant.few (subst (λ (x : TallyView). Shows w x p) (sym c.self.view_is) c.requires) in
-    let fits : length v.events + c.crossed-crossed.result ≤ most_events = omega (arith, c.len-told.ensures, c.if-told-crossed-gt-MOST_EVENTS.false, c.self.inside.events.ok.0) in
+    let fits : length v.events + c.crossed-crossed.result ≤ most_events = omega (arith, c.len-told.ensures, c.if-told-crossed-gt-MOST_FENCE_EVENTS.false, c.self.inside.events.ok.0) in
     ((λ e. absurd (cc e)), (λ over. absurd (not-past w c.crossed-crossed.result v p k c.crossed-crossed.ensures.count fits (subst (λ (x : TallyView). IsPastIn w x) (sym c.self.view_is) over))))
 
 pub invariant_of-self-2 : goal.invariant_of-self-2
@@ -65,7 +65,7 @@ invariant_of-self-2 c =
       counts = c.in-Ok.ensures.counts ∙ ap (λ (l : List FenceCount). along count_by l (turns_of p)) c.deref_mut.ensures.value ∙ k.behind;
     } in
     let fits : length c.pass_counted.new.events.items ≤ most_events =
-    omega (arith, ap length tallies.events, length-append {A = Event}, k.count, c.crossed-crossed.ensures.count, c.len-told.ensures, c.if-told-crossed-gt-MOST_EVENTS.false, c.self.inside.events.ok.0) in
+    omega (arith, ap length tallies.events, length-append {A = Event}, k.count, c.crossed-crossed.ensures.count, c.len-told.ensures, c.if-told-crossed-gt-MOST_FENCE_EVENTS.false, c.self.inside.events.ok.0) in
     subst (λ (l : List FenceCount). KeepsTally l c.self.inside.chart c.pass_counted.new.events.items) (sym kept)
     (keeps-tallied w v (record { counts = c.pass_counted.new.counts; events = c.pass_counted.new.events.items }) c.self.inside.chart tallies c.self.invariant fits)
 
@@ -89,5 +89,5 @@ returns-clause-too_many c =
     let p = c.args.passage.now in
     let v : TallyView = record { counts = c.self.inside.counts.items; events = c.self.inside.events.items } in
     let k : Said w v.counts p = said w v p c.self.invariant.few (subst (λ (x : TallyView). Shows w x p) (sym c.self.view_is) c.requires) in
-    let fits : length v.events + c.crossed-crossed.result ≤ most_events = omega (arith, c.len-told.ensures, c.if-told-crossed-gt-MOST_EVENTS.false, c.self.inside.events.ok.0) in
+    let fits : length v.events + c.crossed-crossed.result ≤ most_events = omega (arith, c.len-told.ensures, c.if-told-crossed-gt-MOST_FENCE_EVENTS.false, c.self.inside.events.ok.0) in
     ((λ e. absurd (cc e)), (λ over. absurd (not-past w c.crossed-crossed.result v p k c.crossed-crossed.ensures.count fits (subst (λ (x : TallyView). IsPastIn w x) (sym c.self.view_is) over))))
