@@ -6,6 +6,7 @@ pub mod Events
 pub mod History
 pub mod IsBook
 pub mod KeptBases
+pub mod OpenedLog
 pub mod Refusals
 pub mod Renewal
 pub mod Room

@@ -4,9 +4,7 @@ ghost use Rattle.index_layer.specs.Leaves.{names_of};
 ghost use Rattle.plain_list.specs.Size.{full_leaf};
 ghost use Rattle.plain_list.specs.State.{empty_state, state_after};
 ghost use Rattle.plain_list.specs.Answer.{is_change};
-ghost use Rattle.cell_format.specs.Spelling.{newest};
-ghost use Rattle.recovery.specs.Found.{IsFound};
-ghost use Rattle.kept_log.specs.Kept.{IsOpened, found_state};
+ghost use Rattle.kept_log.specs.Kept.{found_state};
 ghost use Rattle.kept_log.specs.Journal.{failed_cell, cells_in, disk_in};
 ghost use Rattle.plain_list.specs.declared.entries.Lost.{Lost};
 ghost use Rattle.plain_list.specs.declared.entries.Entry.{Entry};
@@ -15,7 +13,8 @@ ghost use Rattle.commit_book.specs.BookView.{first_log, StandsAfter};
 ghost use Rattle.commit_book.specs.Crash.{LeavesCells};
 ghost use Rattle.commit_book.specs.Events.{with_entry};
 ghost use Rattle.commit_book.specs.IsBook.{IsBook, AreBooks};
-ghost use Rattle.commit_book.specs.Refusals.{IsRefusedBy, IsMemory, IsMemoryOrDisk, IsNoFault, LeavesRefused, call_refusal, most_cells, update_refusal};
+ghost use Rattle.commit_book.specs.OpenedLog.{IsOpenedLog};
+ghost use Rattle.commit_book.specs.Refusals.{IsRefusedBy, IsMemory, IsMemoryOrDisk, IsNoFault, LeavesRefused, call_refusal, update_refusal};
 ghost use Rattle.commit_book.specs.Rotation.{book_on};
 
 mod renewal;
@@ -119,9 +118,7 @@ impl<I: Index, D: LogDisk> Book<I, D> {
     /// A book that goes on with a log as it was opened: with its points and leaves, no open split and no entries. `bucket` is from 4 to
     /// 4,096. Where memory runs out, what was opened is handed back.
     pub fn opened(alloc: Global, opened: Opened<D>, bucket: u32) -> Result<Book<I, D>, Opened<D>>
-        requires log { (opened.log.cells ≡ opened.seen.cells) × (opened.log.failed ≡ None) }
-        requires found { IsFound newest I.WIDTH most_cells (D.drive opened.start.value) opened.seen }
-        requires ready { IsOpened I.WIDTH (found_state opened.seen) (D.drive opened.start.value) (D.drive opened.log.disk) }
+        requires { IsOpenedLog D.drive I.WIDTH opened.seen opened.start.value opened.log }
         ensures opening { IfOk result (λ b. (b.opening ≡ found_state opened.seen) × (b.entries ≡ []) × (b.bucket ≡ bucket)) }
         ensures log { IfOk result (λ b. b.log ≡ Some (first_log opened.log opened.start.value)) }
         ensures back { IfErr result (λ back. back ≡ opened) }
@@ -147,13 +144,6 @@ impl<I: Index, D: LogDisk> Book<I, D> {
     {
         self.keep();
         self.history.len() as u64
-    }
-
-    /// The bucket size.
-    pub fn bucket(&self) -> u32
-        ensures { result ≡ self.now.bucket }
-    {
-        self.table.size()
     }
 
     /// Whether there is a log, whose device each change waits for.
@@ -327,9 +317,7 @@ fn on_log<I: Index, D: LogDisk>(
     table: PointTable<I>,
     opened: Opened<D>,
 ) -> Book<I, D>
-    requires log { (opened.log.cells ≡ opened.seen.cells) × (opened.log.failed ≡ None) }
-    requires found { IsFound newest I.WIDTH most_cells (D.drive opened.start.value) opened.seen }
-    requires ready { IsOpened I.WIDTH (found_state opened.seen) (D.drive opened.start.value) (D.drive opened.log.disk) }
+    requires opened { IsOpenedLog D.drive I.WIDTH opened.seen opened.start.value opened.log }
     requires world { table.world ≡ opened.seen.world }
     requires leaves { names_of table.leaves ≡ opened.seen.leaves }
     ensures { result ≡ book_on opened.seen opened.log opened.start.value table.leaves table.size }

@@ -82,10 +82,12 @@ module _ {D : Type 0} (drive : D → Drive) (laws : (d : D) → KeepsLaws (drive
     finds = fresh.finds;
     few = fresh.few;
     state = state;
-    counts = counts ∙ ap (λ (s : Seen). s.cells) same;
-    failed = failed;
-    found = stands-seen.found;
-    ready = opened-here width (drive log.disk) seen (laws log.disk) stands-seen;
+    opened = record {
+      counts = counts ∙ ap (λ (s : Seen). s.cells) same;
+      good = failed;
+      found = stands-seen.found;
+      ready = opened-here width (drive log.disk) seen (laws log.disk) stands-seen;
+    };
     compacted = compacted;
     on_way = on_way;
   }

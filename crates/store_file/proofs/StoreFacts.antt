@@ -9,14 +9,14 @@ use Rattle.disk_trait.specs.Drive.{Drive}
 use Rattle.plain_list.specs.World.{IsWorld}
 use Rattle.plain_list.specs.declared.entries.Entry.{Entry}
 use Rattle.plain_list.specs.State.{State, IsLegal}
-use Rattle.split_log.specs.LogView.{most_cells}
+use Rattle.split_log.specs.LogView.{LogView, most_cells}
 use Rattle.split_log.proofs.Unique.{holds-same}
 use Rattle.recovery.specs.declared.seen.Seen.{Seen}
 use Rattle.recovery.specs.Found.{IsFound}
 use Rattle.recovery.specs.Making.{IsSmall}
 use Rattle.recovery.proofs.OpeningLemmas.{newest_is}
 use Rattle.kept_log.specs.KeptView.{KeptView}
-use Rattle.kept_log.specs.Kept.{IsOpened, found_state}
+use Rattle.kept_log.specs.Kept.{found_state}
 use Rattle.kept_log.specs.Journal.{KeepsIn, KeepsLog, disk_in}
 use Rattle.kept_log.proofs.Starting.{opened-found}
 use Rattle.book_lock.specs.Own.{times, once_below}
@@ -24,6 +24,7 @@ use Rattle.book_lock.specs.Pass.{Known}
 use Rattle.book_lock.specs.declared.origin.Origin.{Origin}
 use Rattle.commit_book.specs.BookView.{BookView}
 use Rattle.commit_book.specs.IsBook.{IsBook}
+use Rattle.commit_book.specs.OpenedLog.{IsOpenedLog}
 use Rattle.sessions.specs.Shared.{StartsAs, origin_of, start_in, start_of}
 use Rattle.store_file.specs.declared.faults.OpenCause.{OpenCause}
 use Rattle.store_file.specs.declared.faults.OpenCause.TheVariants as cause
@@ -119,9 +120,6 @@ module _ {D : Type 0} (drive : D → Drive) (w bucket : ℕ) (file : List ℕ) (
     newest = λ bytes told. sym (opens.found.named bytes told) ∙ newest_is seen.version opens.found.wanted;
   }
 
-  pub ready-opened : IsOpened w (found_state seen) (drive start) now
-  ready-opened = opened-found w most_cells (drive start) now seen opens.found opens.ready opens.keeps
-
   unfoldable pub opens-store : (lock : TableId) (pass : Known) (points : ℕ) (latest : Option ℕ) (records : ℕ) → BeginsOver drive bucket seen start lock pass points latest records → OpensStore drive w bucket file old lock pass points latest records
   opens-store lock pass points latest records begins =
       let world : seen.world ≡ pass.origin.world = sym (ap (λ (k : Known). k.origin.world) begins.pass_is) in
@@ -136,6 +134,16 @@ module _ {D : Type 0} (drive : D → Drive) (w bucket : ℕ) (file : List ℕ) (
         latest_is = subst (λ l. IsLatest l latest) world begins.latest_is;
         records_are = begins.records_are ∙ opens.found.finds.count;
       }
+
+-- a book may go on with its log
+pub opened-log : {D : Type 0} (drive : D → Drive) (w : ℕ) (file : List ℕ) (old : Drive) (start : D) (seen : Seen) (log : LogView D) → OpensFile w file old (drive start) (drive log.disk) seen
+    → (log.cells ≡ seen.cells) × (log.failed ≡ None) → IsOpenedLog drive w seen start log
+opened-log drive w file old start seen log opens (counts, good) = record {
+  counts = counts;
+  good = good;
+  found = opens.found;
+  ready = opened-found w most_cells (drive start) (drive log.disk) seen opens.found opens.ready opens.keeps;
+}
 
 -- such a pass may call, and close the store
 pub is-first : (lock : TableId) (origin : Origin) (pass : Known) → pass ≡ first_pass lock origin → IsFirst lock pass

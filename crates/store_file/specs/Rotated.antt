@@ -9,12 +9,11 @@ use Rattle.plain_list.specs.World.{World, IsWorld}
 use Rattle.plain_list.specs.History.{world_after, failed_cell}
 use Rattle.plain_list.specs.State.{state_after}
 use Rattle.split_log.specs.LogView.{most_cells}
-use Rattle.cell_format.specs.Spelling.{newest}
 use Rattle.split_log.specs.LogView.{LogView}
 use Rattle.recovery.specs.declared.seen.Seen.{Seen}
-use Rattle.recovery.specs.Found.{Finds, IsFound}
+use Rattle.recovery.specs.Found.{Finds}
 use Rattle.kept_log.specs.Journal.{disk_in}
-use Rattle.kept_log.specs.Kept.{IsOpened, found_state}
+use Rattle.commit_book.specs.OpenedLog.{IsOpenedLog}
 use Rattle.commit_book.specs.Rotation.{HasContent, HasContentAnew}
 use Rattle.book_lock.specs.Pass.{Known}
 use Rattle.book_lock.specs.declared.origin.Origin.{Origin}
@@ -145,10 +144,7 @@ pub record BeginsFresh {D : Type 0} (drive : D → Drive) (w : ℕ) (spare : D) 
   pub finds : Finds w (fresh_cells w seen.world seen.leaves) seen
   pub few : length (fresh_cells w seen.world seen.leaves) ≤ most_cells
   pub state : IsStateOf w (fresh_cells w seen.world seen.leaves) seen.world seen.leaves
-  pub counts : log.cells ≡ seen.cells
-  pub failed : log.failed ≡ None
-  pub found : IsFound newest w most_cells (drive start) seen
-  pub ready : IsOpened w (found_state seen) (drive start) (drive log.disk)
+  pub opened : IsOpenedLog drive w seen start log
   pub compacted : IsCompacted w (fresh_cells w seen.world seen.leaves) (drive spare) (drive start)
   pub on_way : KeepsOnWay w (fresh_cells w seen.world seen.leaves) (drive spare) (drive start)
 

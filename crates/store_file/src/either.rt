@@ -1,11 +1,8 @@
 //! Opens a store over one of two files.
 ghost use Rattle.std.specs.Prelude.{◌≡◌, ◌⊎◌, ◌↔◌, true, false, None, IfOk, IfErr, IsTrue};
 ghost use Rattle.std.specs.Result.{IsErrAnd};
-ghost use Rattle.cell_format.specs.Spelling.{newest};
 ghost use Rattle.recovery.specs.declared.seen.OpenFault.{OpenFault};
-ghost use Rattle.recovery.specs.Found.{IsFound};
-ghost use Rattle.kept_log.specs.Kept.{IsOpened, found_state};
-ghost use Rattle.commit_book.specs.Refusals.{most_cells};
+ghost use Rattle.commit_book.specs.OpenedLog.{IsOpenedLog};
 ghost use Rattle.log_compact.specs.Clearing.{Clears, KeepsOrClears};
 ghost use Rattle.store_file.specs.Either.{Chooses, CameOf, OpensEither, RefusesEither, RefusesBoth, IsFreeEither};
 ghost use Rattle.store_file.specs.Either.{BeginsEither, BeginsNeither};
@@ -116,12 +113,8 @@ fn go_on_over_either<I: Index, D: LogDisk>(
     both: Both<D>,
     bucket: u32,
 ) -> Result<OpenedEither<I, D>, NotEither<D>>
-    requires logs { (both.one.log.cells ≡ both.one.seen.cells) × (both.one.log.failed ≡ None)
-        × (both.two.log.cells ≡ both.two.seen.cells) × (both.two.log.failed ≡ None) }
-    requires one { IsFound newest I.WIDTH most_cells (D.drive both.one.start.value) both.one.seen
-        × IsOpened I.WIDTH (found_state both.one.seen) (D.drive both.one.start.value) (D.drive both.one.log.disk) }
-    requires two { IsFound newest I.WIDTH most_cells (D.drive both.two.start.value) both.two.seen
-        × IsOpened I.WIDTH (found_state both.two.seen) (D.drive both.two.start.value) (D.drive both.two.log.disk) }
+    requires one { IsOpenedLog D.drive I.WIDTH both.one.seen both.one.start.value both.one.log }
+    requires two { IsOpenedLog D.drive I.WIDTH both.two.seen both.two.start.value both.two.log }
     ensures begins { IfOk result (λ o. BeginsEither D.drive bucket both.one.seen both.two.seen both.one.log both.two.log
         both.one.start.value both.two.start.value o.which o.store o.pass o.points o.latest o.records o.spare) }
     ensures refused { IfErr result (λ e. BeginsNeither D.drive both.one.seen both.two.seen both.one.log both.two.log
@@ -245,9 +238,7 @@ fn go_on_over<I: Index, D: LogDisk>(
     other: SplitLog<D>,
     bucket: u32,
 ) -> Result<Taken<I, D>, NotTaken<D>>
-    requires log { (chosen.log.cells ≡ chosen.seen.cells) × (chosen.log.failed ≡ None) }
-    requires found { IsFound newest I.WIDTH most_cells (D.drive chosen.start.value) chosen.seen }
-    requires ready { IsOpened I.WIDTH (found_state chosen.seen) (D.drive chosen.start.value) (D.drive chosen.log.disk) }
+    requires opened { IsOpenedLog D.drive I.WIDTH chosen.seen chosen.start.value chosen.log }
     requires other { other.failed ≡ None }
     ensures begins { IfOk result (λ t. BeginsOver D.drive bucket chosen.seen chosen.start.value
         t.opened.store t.opened.pass t.opened.points t.opened.latest t.opened.records) }

@@ -2,16 +2,11 @@
 ghost use Rattle.std.specs.Prelude.{◌≡◌, ◌⊎◌, true, false, [], Some, None, is_some, IfOk, IfErr};
 ghost use Rattle.std.specs.Result.{IsErrAnd};
 ghost use Rattle.plain_list.specs.World.{IsWorld};
-ghost use Rattle.cell_format.specs.Spelling.{newest};
 ghost use Rattle.recovery.specs.declared.seen.OpenFault.{OpenFault};
-ghost use Rattle.recovery.specs.Found.{IsFound};
-ghost use Rattle.kept_log.specs.Kept.{IsOpened, found_state};
 ghost use Rattle.kept_log.specs.Journal.{disk_in};
-ghost use Rattle.commit_book.specs.Refusals.{most_cells};
+ghost use Rattle.commit_book.specs.OpenedLog.{IsOpenedLog};
 ghost use Rattle.sessions.specs.Shared.{StartsAs, origin_of};
-ghost use Rattle.sessions.specs.Steps.{all_parts};
 ghost use Rattle.store_file.specs.Files.{ReadiesLog, CanOpen, ShowsFault};
-ghost use Rattle.store_file.specs.Objects.{IsLatest};
 ghost use Rattle.store_file.specs.Opened.{OpensStore, BeginsOver, IsFirst, first_pass};
 ghost use Rattle.store_file.specs.Refused.{RefusesStore, IsFreeCause, is_bucket};
 
@@ -113,9 +108,7 @@ pub(crate) fn store_of<I: Index, D: LogDisk, O: Start>(
     opened: Opened<D>,
     bucket: u32,
 ) -> Result<OpenedStore<I, D, O>, NotOpened<D>>
-    requires log { (opened.log.cells ≡ opened.seen.cells) × (opened.log.failed ≡ None) }
-    requires found { IsFound newest I.WIDTH most_cells (D.drive opened.start.value) opened.seen }
-    requires ready { IsOpened I.WIDTH (found_state opened.seen) (D.drive opened.start.value) (D.drive opened.log.disk) }
+    requires opened { IsOpenedLog D.drive I.WIDTH opened.seen opened.start.value opened.log }
     requires start { O.is (D.drive opened.start.value) }
     ensures begins { IfOk result (λ o. BeginsOver D.drive bucket opened.seen opened.start.value
         o.store o.pass o.points o.latest o.records) }

@@ -1,16 +1,13 @@
 //! A book that goes on over another log, and what is written there before.
-ghost use Rattle.std.specs.Prelude.{◌≡◌, None, IfOk};
-ghost use Rattle.cell_format.specs.Spelling.{newest};
+ghost use Rattle.std.specs.Prelude.{◌≡◌, IfOk};
 ghost use Rattle.index_layer.specs.Leaves.{names_of};
 ghost use Rattle.plain_list.specs.History.{world_after};
 ghost use Rattle.plain_list.specs.State.{ComesBySplits, state_after};
 ghost use Rattle.plain_list.specs.World.{IsWorld};
 ghost use Rattle.point_table.specs.Sized.{StandsBySize};
-ghost use Rattle.recovery.specs.Found.{IsFound};
 ghost use Rattle.kept_log.specs.Journal.{log_in};
-ghost use Rattle.kept_log.specs.Kept.{IsOpened, found_state};
 ghost use Rattle.commit_book.specs.IsBook.{IsBook};
-ghost use Rattle.commit_book.specs.Refusals.{most_cells};
+ghost use Rattle.commit_book.specs.OpenedLog.{IsOpenedLog};
 ghost use Rattle.commit_book.specs.Rotation.{HasContent, HasContentAnew, book_on, rotated};
 
 use crate::book::{Book, on_log};
@@ -85,9 +82,7 @@ impl<I: Index, D: LogDisk> Book<I, D> {
     /// memory is taken, and no device call is made. A split that is still open is given up, as where a log is opened, and the next one has
     /// the number behind those that were begun in the other log.
     pub fn rotate(self, alloc: Global, opened: Opened<D>) -> Replaced<I, D>
-        requires log { (opened.log.cells ≡ opened.seen.cells) × (opened.log.failed ≡ None) }
-        requires found { IsFound newest I.WIDTH most_cells (D.drive opened.start.value) opened.seen }
-        requires ready { IsOpened I.WIDTH (found_state opened.seen) (D.drive opened.start.value) (D.drive opened.log.disk) }
+        requires opened { IsOpenedLog D.drive I.WIDTH opened.seen opened.start.value opened.log }
         requires content { HasContent I.WIDTH self opened.seen }
         ensures rotated { result.book ≡ rotated opened.seen opened.log opened.start.value self }
         ensures entries { result.entries ≡ self.entries }
@@ -108,9 +103,7 @@ impl<I: Index, D: LogDisk> Book<I, D> {
 
     /// The same with leaves anew: another index over the objects, as `anew` makes it, takes the place of the one so far.
     pub fn rotate_anew(self, alloc: Global, index: I, opened: Opened<D>) -> Replaced<I, D>
-        requires log { (opened.log.cells ≡ opened.seen.cells) × (opened.log.failed ≡ None) }
-        requires found { IsFound newest I.WIDTH most_cells (D.drive opened.start.value) opened.seen }
-        requires ready { IsOpened I.WIDTH (found_state opened.seen) (D.drive opened.start.value) (D.drive opened.log.disk) }
+        requires opened { IsOpenedLog D.drive I.WIDTH opened.seen opened.start.value opened.log }
         requires content { HasContentAnew I.WIDTH self (I.leaves index) opened.seen }
         ensures rotated { result.book ≡ book_on opened.seen opened.log opened.start.value (I.leaves index) self.bucket }
         ensures entries { result.entries ≡ self.entries }

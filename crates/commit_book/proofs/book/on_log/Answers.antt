@@ -12,14 +12,14 @@ invariant_of-result g c =
     let w = g.I.Index.WIDTH in
     let seen = c.args.opened.seen in
     let drive = g.D.LogDisk.drive in
-    let begun : seen.begun ≤ 16777216 = found-begun _ w _ _ seen c.requires.found in
+    let begun : seen.begun ≤ 16777216 = found-begun _ w _ _ seen c.requires.opened.found in
     let same : c.of.result ≡ found_state seen = c.of.ensures ∙ (λ i. record { world = c.requires.world i; leaves = c.requires.leaves i; splits = []; begun = seen.begun }) in
-    let kept = c.opened.ensures.keeps w (found_state seen) c.requires.ready c.requires.log.1 in
+    let kept = c.opened.ensures.keeps w (found_state seen) c.requires.opened.ready c.requires.opened.good in
     inside-first drive w c.of.result _
     (record {
       rests = ap (λ (s : State). s.splits) same;
       begun = omega (arith, begun, ap (λ (s : State). s.begun) same);
-      comes = subst (λ (s : State). ComesBySplits w s.leaves) (sym same) (found-comes _ w _ _ seen c.requires.found);
+      comes = subst (λ (s : State). ComesBySplits w s.leaves) (sym same) (found-comes _ w _ _ seen c.requires.opened.found);
     })
     c.new.ensures (sym (ap (λ (s : State). s.world) c.of.ensures)) (sym (ap (λ (s : State). s.leaves) c.of.ensures))
     (c.after.ensures ∙ (λ i. record { splits = []; begun = sym (ap (λ (s : State). s.begun) same) i; room = 0 }))
@@ -31,7 +31,7 @@ returns g c =
     let start = c.args.opened.start.value in
     let same : c.of.result ≡ found_state c.args.opened.seen =
     c.of.ensures ∙ (λ i. record { world = c.requires.world i; leaves = c.requires.leaves i; splits = []; begun = c.args.opened.seen.begun }) in
-    let journal = c.opened.ensures.value ∙ (λ i. Some (record { disk = log.disk; cells = log.cells; failed = c.requires.log.1 i; start = start; first = log.cells })) in
+    let journal = c.opened.ensures.value ∙ (λ i. Some (record { disk = log.disk; cells = log.cells; failed = c.requires.opened.good i; start = start; first = log.cells })) in
     λ i. record {
       leaves = c.args.table.leaves;
       opening = same i;

@@ -4,7 +4,7 @@ use Rattle.store_file.specs.Either.{RefusesBoth}
 use Rattle.store_file.specs.Files.{OpensFile, CanOpen, ShowsFault}
 use Rattle.store_file.specs.Refused.{is_bucket}
 use Rattle.store_file.proofs.EitherFacts.{begins-either, neither-begun, neither-free, refuses-both}
-use Rattle.store_file.proofs.StoreFacts.{ready-opened, is-first}
+use Rattle.store_file.proofs.StoreFacts.{opened-log, is-first}
 use Rattle.store_file.proofs.either.open_either.Goals as goal
 
 ok-with : {A B : Type 0} (P Q : A → Type 0) → ((a : A) → P a → Q a) → (r : Result A B) → IfOk r P → IfOk r Q
@@ -87,14 +87,14 @@ go_on_over_either-requires-clause-one g c =
     let drive = g.D.LogDisk.drive in
     let one = c.in-Ok.both.one in
     let opens = subst (λ (w : ℕ). OpensFile w c.args.first_file.now (drive c.args.first) (drive one.start.value) (drive one.log.disk) one.seen) c.WIDTH.ensures c.in-Ok.ensures.one in
-    (opens.found, ready-opened drive g.I.Index.WIDTH c.args.bucket c.args.first_file.now (drive c.args.first) one.start.value (drive one.log.disk) one.seen opens)
+    opened-log drive g.I.Index.WIDTH c.args.first_file.now (drive c.args.first) one.start.value one.seen one.log opens (c.in-Ok.ensures.logs.0, c.in-Ok.ensures.logs.1)
 
 pub go_on_over_either-requires-clause-two : goal.go_on_over_either-requires-clause-two
 go_on_over_either-requires-clause-two g c =
     let drive = g.D.LogDisk.drive in
     let two = c.in-Ok.both.two in
     let opens = subst (λ (w : ℕ). OpensFile w c.args.second_file.now (drive c.args.second) (drive two.start.value) (drive two.log.disk) two.seen) c.WIDTH.ensures c.in-Ok.ensures.two in
-    (opens.found, ready-opened drive g.I.Index.WIDTH c.args.bucket c.args.second_file.now (drive c.args.second) two.start.value (drive two.log.disk) two.seen opens)
+    opened-log drive g.I.Index.WIDTH c.args.second_file.now (drive c.args.second) two.start.value two.seen two.log opens (c.in-Ok.ensures.logs.2, c.in-Ok.ensures.logs.3)
 
 pub returns-in-Err-clause-whole : goal.returns-in-Err-clause-whole
 returns-in-Err-clause-whole g c = λ size good also. inr (c.in-Err.ensures.whole

@@ -4,7 +4,7 @@ use Rattle.store_file.specs.declared.faults.OpenCause.TheVariants as cause
 use Rattle.store_file.specs.Files.{OpensFile, ShowsFault}
 use Rattle.store_file.specs.Refused.{RefusesStore, is_bucket}
 use Rattle.store_file.proofs.FileFacts.{memory-refused}
-use Rattle.store_file.proofs.StoreFacts.{opens-store, ready-opened, refuses-store}
+use Rattle.store_file.proofs.StoreFacts.{opens-store, opened-log, refuses-store}
 use Rattle.store_file.proofs.opening.open_over.Goals as goal
 
 ok-with : {A B : Type 0} (P Q : A → Type 0) → ((a : A) → P a → Q a) → (r : Result A B) → IfOk r P → IfOk r Q
@@ -15,10 +15,10 @@ err-with : {A B : Type 0} (P Q : B → Type 0) → ((e : B) → P e → Q e) →
 err-with P Q each (Ok a) is = tt
 err-with P Q each (Err e) is = each e is
 
-pub store_of-requires-clause-ready : goal.store_of-requires-clause-ready
-store_of-requires-clause-ready g c =
-    ready-opened g.D.LogDisk.drive g.I.Index.WIDTH c.args.bucket c.args.file.now (g.D.LogDisk.drive c.args.disk) c.in-Ok.opened.start.value (g.D.LogDisk.drive c.in-Ok.opened.log.disk) c.in-Ok.opened.seen
-    (subst (λ (w : ℕ). OpensFile w c.args.file.now (g.D.LogDisk.drive c.args.disk) (g.D.LogDisk.drive c.in-Ok.opened.start.value) (g.D.LogDisk.drive c.in-Ok.opened.log.disk) c.in-Ok.opened.seen) c.WIDTH.ensures c.in-Ok.ensures.opened)
+pub store_of-requires-clause-opened : goal.store_of-requires-clause-opened
+store_of-requires-clause-opened g c =
+    opened-log g.D.LogDisk.drive g.I.Index.WIDTH c.args.file.now (g.D.LogDisk.drive c.args.disk) c.in-Ok.opened.start.value c.in-Ok.opened.seen c.in-Ok.opened.log
+    (subst (λ (w : ℕ). OpensFile w c.args.file.now (g.D.LogDisk.drive c.args.disk) (g.D.LogDisk.drive c.in-Ok.opened.start.value) (g.D.LogDisk.drive c.in-Ok.opened.log.disk) c.in-Ok.opened.seen) c.WIDTH.ensures c.in-Ok.ensures.opened) c.in-Ok.ensures.log
 
 pub returns-in-Ok-clause-opened : goal.returns-in-Ok-clause-opened
 returns-in-Ok-clause-opened g c =

@@ -15,7 +15,7 @@ returns-in-Ok-clause-rotated g c =
     ok-with _ _
     (λ r on. is-rotated g.D.LogDisk.drive w b c.args.pass c.in-Ok.ensures.book closed.value closed.own closed.start closed.world
     _ c.args.spare opened.start.value opened.seen opened.log begun.good begun.content.world are begun.begins r.entries r.store r.pass r.spare
-    (goes-on g.D.LogDisk.drive b c.rotate.result.book b.leaves opened.seen opened.log opened.start.value by.rotated begun.begins.counts begun.content.world closed.world
+    (goes-on g.D.LogDisk.drive b c.rotate.result.book b.leaves opened.seen opened.log opened.start.value by.rotated begun.begins.opened.counts begun.content.world closed.world
     _ _ by.entries by.log r.entries r.store r.pass r.spare on))
     c.finish.result c.finish.ensures.finished
 
@@ -32,7 +32,7 @@ returns-in-Ok-clause-refused g c =
     err-with _ _
     (λ e on. not-rotated g.D.LogDisk.drive w b c.args.pass c.in-Ok.ensures.book closed.value closed.own closed.start closed.world
     _ c.args.spare opened.start.value opened.seen opened.log begun.good begun.content.world are begun.begins e
-    (goes-not g.D.LogDisk.drive b c.rotate.result.book b.leaves opened.seen opened.log opened.start.value by.rotated begun.begins.counts begun.content.world closed.world
+    (goes-not g.D.LogDisk.drive b c.rotate.result.book b.leaves opened.seen opened.log opened.start.value by.rotated begun.begins.opened.counts begun.content.world closed.world
     _ _ by.entries by.log e on))
     c.finish.result c.finish.ensures.refused
 
