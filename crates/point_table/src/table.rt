@@ -92,13 +92,6 @@ impl<I: Index> PointTable<I> {
         self.members.len()
     }
 
-    /// The bucket size.
-    pub fn size(&self) -> u32
-        ensures { result ≡ self.now.size }
-    {
-        self.size
-    }
-
     /// The objects as one list.
     pub fn to_world(&self) -> Result<World, Memory>
         ensures { IfOk result (λ world. world ≡ self.now.world) }
