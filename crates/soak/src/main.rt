@@ -1,6 +1,6 @@
 //! Runs a store for long, in memory or over two files, and judges it.
 //!
-//! `soak CALLS THREADS OBJECTS SEED ENTRIES [quiet | files ONE TWO | chain ONE TWO | turns ONE TWO]`: so many calls (20,000,000), made by
+//! `soak CALLS THREADS OBJECTS SEED ENTRIES [quiet | files ONE TWO | chain ONE TWO | turns [ONE TWO]]`: so many calls (20,000,000), made by
 //! so many threads (4 at most) on so many objects (100,000): puts, moves, late ones among them, drops, finds, boxes and nears, as the seed
 //! has it. Where a history has so many entries (3,900,000) the threads meet, and the store is renewed: it goes on with an empty one. Each
 //! history is then gone along: a plain map of this program takes the changes, and what a thread was told by each call must be what the map
@@ -17,8 +17,8 @@
 //! and, behind each ENTRIES changes or so, how many were made, and then it is rotated; who kills it learns from the next start what is there.
 //! `tools/soak` drives it.
 //!
-//! With `turns` it puts OBJECTS objects and then goes on in the other file CALLS times, with the time of each, each second time with leaves
-//! anew.
+//! With `turns` it puts OBJECTS objects, and is then renewed CALLS times, with the time of each; or with two files it goes on in the other
+//! one, each second time with leaves anew.
 #![tactic(auto)]
 
 ghost use Rattle.std.specs.Prelude.{◌≤◌, IfOk};
@@ -35,7 +35,6 @@ mod soaker;
 mod trouble;
 mod turns;
 
-use commit_book::Book;
 use disk_file::FileDisk;
 use disk_mem::MemDisk;
 use disk_trait::LogDisk;
@@ -43,7 +42,7 @@ use judge::Judge;
 use kd_trie::KdTrie;
 use plan::Plan;
 use rounds::chain_over_files;
-use soak::{play, play_over_files};
+use soak::{play, play_over_files, store_in_memory};
 use std::alloc::Global;
 use std::env::{self, Args};
 use std::fs::Files;
@@ -55,7 +54,7 @@ use std::sync::Wait;
 use std::thread::Threads;
 use store_file::{OpenedEither, open_either};
 use trouble::Trouble;
-use turns::turn_over_files;
+use turns::{turn_in_memory, turn_over_files};
 
 // How many objects a leaf should have.
 const BUCKET: u32 = 64;
@@ -91,6 +90,17 @@ enum Mode {
     Turns,
 }
 
+impl Mode {
+    // Whether it is over no files, where some are named or aren't.
+    fn is_in_memory(self, has_files: bool) -> bool {
+        match self {
+            Mode::Memory | Mode::Quiet => true,
+            Mode::Files | Mode::Chain => false,
+            Mode::Turns => !has_files,
+        }
+    }
+}
+
 fn mode_of(word: Option<String>) -> Mode {
     match word.as_ref().map(|word| word.as_str()) {
         None => Mode::Memory,
@@ -101,16 +111,20 @@ fn mode_of(word: Option<String>) -> Mode {
     }
 }
 
-fn soak_in_memory<R: Threads + Wait + Sync + AllocGlobal + Clock + Print>(
+// Runs over a store in memory.
+fn play_in_memory<R: Threads + Wait + Sync + AllocGlobal + Clock + Print>(
     rt: &R,
     plan: Plan,
-    tells: bool,
-) -> Result<Judge, Trouble> {
+    mode: Mode,
+) -> Result<Option<Judge>, Trouble> {
     let alloc = rt.alloc();
-    let Ok(book) = Book::<KdTrie, MemDisk>::fresh(alloc, BUCKET) else {
-        return Err(Trouble::Memory);
-    };
-    play(rt, alloc, book, plan, tells)
+    let (store, pass) = store_in_memory::<KdTrie, MemDisk>(alloc, BUCKET)?;
+    if mode == Mode::Turns {
+        turn_in_memory(rt, alloc, store, pass, plan)?;
+        return Ok(None);
+    }
+    let tells = mode == Mode::Memory;
+    Ok(Some(play(rt, alloc, store, pass, plan, tells)?))
 }
 
 // The store over the log in one of the files.
@@ -169,10 +183,11 @@ fn play_as<R: Threads + Wait + Sync + AllocGlobal + Clock + Print, D: LogDisk + 
     mode: Mode,
     words: &mut Args,
 ) -> Result<Option<Judge>, Trouble> {
-    if matches!(mode, Mode::Memory | Mode::Quiet) {
-        return Ok(Some(soak_in_memory(rt, plan, mode == Mode::Memory)?));
+    let (one, two) = (words.next(), words.next());
+    if mode.is_in_memory(one.is_some()) {
+        return play_in_memory(rt, plan, mode);
     }
-    let (Some(one), Some(two)) = (words.next(), words.next()) else {
+    let (Some(one), Some(two)) = (one, two) else {
         return Err(Trouble::Words);
     };
     play_in_files(rt, plan, drives, (one.as_str(), two.as_str()), mode)

@@ -1,6 +1,5 @@
 //! Rounds of calls: all threads at once, and then the store goes on with an empty history.
-ghost use Rattle.std.specs.Prelude.{◌≡◌, [], IfOk, IfSome, vec_len};
-ghost use Rattle.plain_list.specs.World.{IsWorld};
+ghost use Rattle.std.specs.Prelude.{◌≡◌, IfOk, IfSome, vec_len};
 ghost use Rattle.soak.specs.Whole.{IsWhole};
 
 use crate::judge::Judge;
@@ -44,8 +43,8 @@ impl Leaves {
         }
     }
 
-    /// What is said of them where a rotation is told.
-    pub fn word(self) -> &'static str {
+    // What is said of them where a rotation is told.
+    fn word(self) -> &'static str {
         match self {
             Leaves::Kept => "",
             Leaves::Anew => ", leaves anew",
@@ -69,37 +68,45 @@ fn crew_of(alloc: Global, plan: Plan) -> Option<Vec<Soaker>>
     Vec::from_array(alloc, crew).ok()
 }
 
-/// All calls of a run over an empty store, and then a look at all objects. Tells each renewal of the store, if so wanted.
+/// An empty store in memory, and the pass that has all parts of it.
+pub fn store_in_memory<I: Index, D: LogDisk>(
+    alloc: Global,
+    bucket: u32,
+) -> Result<(Store<I, D, Brand>, SoakPass<I, D, Brand>), Trouble>
+    ensures { IfOk result (λ r. IsWhole r.0 r.1) }
+{
+    let Ok(book) = Book::<I, D>::fresh(alloc, bucket) else {
+        return Err(Trouble::Memory);
+    };
+    match Store::new(alloc, book) {
+        Ok(both) => Ok(both),
+        Err(_) => Err(Trouble::Memory),
+    }
+}
+
+/// All calls of a run over an empty store in memory, and then a look at all objects. Tells each renewal of the store, if so wanted.
 pub fn play<I: Index + Send, D: LogDisk + Send, R: Threads + Wait + Sync + Clock + Print>(
     rt: &R,
     alloc: Global,
-    book: Book<I, D>,
+    mut store: Store<I, D, Brand>,
+    mut pass: SoakPass<I, D, Brand>,
     plan: Plan,
     tells: bool,
 ) -> Result<Judge, Trouble>
-    requires entries { book.entries ≡ [] }
-    requires world { IsWorld book.opening.world }
+    requires { IsWhole store pass }
 {
-    let Ok((mut store, mut pass)) = Store::<I, D, Brand>::new(alloc, book) else {
-        return Err(Trouble::Memory);
-    };
     let mut crew = crew_of(alloc, plan);
     let mut judge = Judge::new(alloc);
     let mut done = Ok(false);
     for _ in 0..u64::MAX {
         let back = play_round(rt, alloc, &store, pass, &mut crew);
-        let begun = Instant::now(rt).ok();
-        let renewed = renew(alloc, store, back)?;
         let Renewed {
             store: next,
             pass: whole,
             entries,
-        } = renewed;
+        } = renew(rt, alloc, store, back, tells)?;
         store = next;
         pass = whole;
-        if tells {
-            tell_turn(rt, begun, entries.as_slice().len(), "");
-        }
         done = look(alloc, &mut judge, entries.as_slice(), &mut crew);
         if !matches!(done, Ok(false)) {
             break;
@@ -129,18 +136,15 @@ pub fn play_over_files<
     let mut done = Ok(false);
     for turn in 0..u64::MAX {
         let back = play_round(rt, alloc, &store, pass, &mut crew);
-        let leaves = Leaves::of_turn(turn);
-        let begun = Instant::now(rt).ok();
         let Rotated {
             store: next,
             pass: whole,
             entries,
             spare: left,
-        } = rotate(alloc, store, back, spare, leaves)?;
+        } = rotate_and_tell(rt, alloc, store, back, spare, Leaves::of_turn(turn))?;
         store = next;
         pass = whole;
         spare = left;
-        tell_turn(rt, begun, entries.as_slice().len(), leaves.word());
         done = look(alloc, &mut judge, entries.as_slice(), &mut crew);
         if !matches!(done, Ok(false)) {
             break;
@@ -150,8 +154,8 @@ pub fn play_over_files<
     Ok(judge)
 }
 
-/// Tells how long it took to renew or to rotate a store whose history had so many entries.
-pub fn tell_turn(rt: &(impl Clock + Print), begun: Option<Instant>, entries: usize, leaves: &str) {
+// Tells how long it took to renew or to rotate a store whose history had so many entries.
+fn tell_turn(rt: &(impl Clock + Print), begun: Option<Instant>, entries: usize, leaves: &str) {
     if let Some(took) = begun.and_then(|begun| begun.elapsed(rt).ok()) {
         let micros = took.as_micros();
         let _ = println!(rt; "turn {entries} entries {micros} microseconds{leaves}");
@@ -203,18 +207,49 @@ fn end<I: Index, D: LogDisk, O: Start, R: Wait>(
     told
 }
 
-// The same store with an empty history, and the same objects.
-fn renew<I: Index, D: LogDisk>(
+/// The same store with an empty history, and the same objects. Tells how long that took, if so wanted.
+pub fn renew<I: Index, D: LogDisk, R: Clock + Print>(
+    rt: &R,
     alloc: Global,
     store: Store<I, D, Brand>,
     pass: SoakPass<I, D, Brand>,
+    tells: bool,
 ) -> Result<Renewed<I, D, Brand>, Trouble>
     requires { IsWhole store pass }
     ensures { IfOk result (λ r. IsWhole r.store r.pass) }
 {
+    let begun = Instant::now(rt).ok();
     match store.renew::<Brand>(alloc, pass) {
-        Ok(renewed) => Ok(renewed),
+        Ok(renewed) => {
+            if tells {
+                tell_turn(rt, begun, renewed.entries.as_slice().len(), "");
+            }
+            Ok(renewed)
+        }
         Err(_) => Err(Trouble::NotRenewed),
+    }
+}
+
+/// The same objects over a fresh log in the other file, and how long that took, which is told.
+pub fn rotate_and_tell<I: Index, D: LogDisk, R: Clock + Print>(
+    rt: &R,
+    alloc: Global,
+    store: Store<I, D, OverFile>,
+    pass: SoakPass<I, D, OverFile>,
+    spare: D,
+    leaves: Leaves,
+) -> Result<Rotated<I, D>, Trouble>
+    requires { IsWhole store pass }
+    ensures { IfOk result (λ r. IsWhole r.store r.pass) }
+{
+    let begun = Instant::now(rt).ok();
+    match rotate(alloc, store, pass, spare, leaves) {
+        Ok(rotated) => {
+            let entries = rotated.entries.as_slice().len();
+            tell_turn(rt, begun, entries, leaves.word());
+            Ok(rotated)
+        }
+        Err(trouble) => Err(trouble),
     }
 }
 
