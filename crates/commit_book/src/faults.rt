@@ -2,6 +2,7 @@
 ghost use Rattle.std.specs.Prelude.{◌≡◌};
 
 use std::alloc::AllocError;
+use thiserror::Error;
 use zorder::Memory;
 
 /// Why a book did nothing. After each but `Disk` the book is as it was. A book without a log never answers `Closed`, `Disk` or `LogFull`.
@@ -52,14 +53,16 @@ pub enum BookFault {
 }
 
 /// Why a book wasn't renewed. It is as it was.
-#[derive(Clone, Copy, Debug, PartialEq, Eq)]
+#[derive(Clone, Copy, Debug, PartialEq, Eq, Error)]
 pub enum RenewFault {
     /// An earlier call answered `Disk` for this cell, so the history has ended.
+    #[error("the append of record {cell} has failed")]
     Closed {
         /// The cell whose append failed.
         cell: u64,
     },
     /// So many splits were begun, in this history and before it, that the number of a further one need not fit in 64 bits.
+    #[error("{splits} splits were begun, too many for a further history")]
     Begun {
         /// How many: more than 4,611,686,018,427,387,904.
         splits: u64,

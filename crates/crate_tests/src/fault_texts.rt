@@ -1,6 +1,7 @@
 //! What faults of fences are told as.
 use fence_watch::{BadFences, WatchFault};
 use std::alloc::Global;
+use std::fmt::Display;
 use std::process::Abort;
 
 const BAD: &[(BadFences, &str)] = &[
@@ -21,12 +22,7 @@ const WATCHED: &[(WatchFault, &str)] = &[
     (WatchFault::Memory, "out of memory"),
 ];
 
-fn expect_bad(rt: &impl Abort, alloc: Global, fault: &BadFences, text: &str) {
-    let told = format!(in alloc; "{fault}").expect(rt, "it failed");
-    assert_same!(rt; told.as_str(), text);
-}
-
-fn expect_watched(rt: &impl Abort, alloc: Global, fault: &WatchFault, text: &str) {
+fn expect_text(rt: &impl Abort, alloc: Global, fault: &impl Display, text: &str) {
     let told = format!(in alloc; "{fault}").expect(rt, "it failed");
     assert_same!(rt; told.as_str(), text);
 }
@@ -34,13 +30,13 @@ fn expect_watched(rt: &impl Abort, alloc: Global, fault: &WatchFault, text: &str
 #[test]
 fn a_fault_of_fences_tells_its_place(rt: HostRuntime) {
     for (fault, text) in BAD {
-        expect_bad(&rt, rt.alloc(), fault, text);
+        expect_text(&rt, rt.alloc(), fault, text);
     }
 }
 
 #[test]
 fn a_fault_of_a_step_tells_its_cause(rt: HostRuntime) {
     for (fault, text) in WATCHED {
-        expect_watched(&rt, rt.alloc(), fault, text);
+        expect_text(&rt, rt.alloc(), fault, text);
     }
 }

@@ -1,6 +1,8 @@
-//! What a refused call is told as.
+//! What a refused call, or a refused renewal, is told as.
+use commit_book::RenewFault;
 use sessions::CallFault;
 use std::alloc::Global;
+use std::fmt::Display;
 use std::process::Abort;
 
 const REFUSED: &[(CallFault, &str)] = &[
@@ -18,7 +20,20 @@ const REFUSED: &[(CallFault, &str)] = &[
     (CallFault::Memory { place: Some(3) }, "out of memory"),
 ];
 
-fn expect_refused(rt: &impl Abort, alloc: Global, fault: &CallFault, text: &str) {
+const NOT_RENEWED: &[(RenewFault, &str)] = &[
+    (
+        RenewFault::Closed { cell: 3 },
+        "the append of record 3 has failed",
+    ),
+    (
+        RenewFault::Begun {
+            splits: 4_611_686_018_427_387_905,
+        },
+        "4611686018427387905 splits were begun, too many for a further history",
+    ),
+];
+
+fn expect_text(rt: &impl Abort, alloc: Global, fault: &impl Display, text: &str) {
     let told = format!(in alloc; "{fault}").expect(rt, "it failed");
     assert_same!(rt; told.as_str(), text);
 }
@@ -26,6 +41,13 @@ fn expect_refused(rt: &impl Abort, alloc: Global, fault: &CallFault, text: &str)
 #[test]
 fn a_refused_call_tells_its_cause(rt: HostRuntime) {
     for (fault, text) in REFUSED {
-        expect_refused(&rt, rt.alloc(), fault, text);
+        expect_text(&rt, rt.alloc(), fault, text);
+    }
+}
+
+#[test]
+fn a_refused_renewal_tells_its_cause(rt: HostRuntime) {
+    for (fault, text) in NOT_RENEWED {
+        expect_text(&rt, rt.alloc(), fault, text);
     }
 }
