@@ -12,7 +12,7 @@
 //! each round took, and `tools/waits.py` makes a table of these.
 #![tactic(auto)]
 
-ghost use Rattle.std.specs.Prelude.{◌≡◌, ◌≤◌};
+ghost use Rattle.std.specs.Prelude.{◌≤◌};
 
 mod crowd;
 mod points;

@@ -1,5 +1,5 @@
 //! A bucket: rows in order, and the base that they came from.
-ghost use Rattle.std.specs.Prelude.{◌≡◌, ◌+◌, ◌↔◌, length, true, false, IfOk, IsTrue, IsErrOf};
+ghost use Rattle.std.specs.Prelude.{◌≡◌, ◌+◌, ◌↔◌, length, false, IfOk, IsTrue, IsErrOf};
 ghost use Rattle.std.specs.Arc.{arc_value};
 ghost use Rattle.bucket_versions.specs.Rows.{IsRows, AreRows, has_row, same_rows, as_base, with_rows, put_row, gone_row, rows_over, rows_between};
 ghost use Rattle.bucket_versions.specs.Delta.{AreParts, delta_len, difference, turn};

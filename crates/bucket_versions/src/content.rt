@@ -1,5 +1,5 @@
 //! What a bucket keeps: its rows, and a base that they are themselves or that stands apart from them.
-ghost use Rattle.std.specs.Prelude.{◌≡◌, ◌+◌, ◌<◌, ◌^◌, false, true, length, if◌then◌else◌, IfOk, OnOk, OnErr, IsTrue};
+ghost use Rattle.std.specs.Prelude.{◌≡◌, ◌<◌, false, true, length, IfOk, OnOk, OnErr, IsTrue};
 ghost use Rattle.std.specs.Arc.{arc_value};
 ghost use Rattle.bucket_versions.specs.declared.content.Base.{Base};
 ghost use Rattle.bucket_versions.specs.Rows.{IsRows, has_row, as_base, with_rows, rows_over, rows_between, after_put};

@@ -1,7 +1,7 @@
 //! Where rows stand in a list in order, found by binary search.
-ghost use Rattle.std.specs.Prelude.{◌≡◌, ◌≤◌, ◌<◌, ◌+◌, ◌*◌, ◌^◌, ℕ, nat_le, nat_lt, true, false, length, take, drop, MatchResult};
-ghost use Rattle.std.specs.List.{filter, remove};
-ghost use Rattle.bucket_versions.specs.Rows.{IsRows, has_row, with_row, without_row, rows_between, row_place, is_below};
+ghost use Rattle.std.specs.Prelude.{◌≡◌, ◌≤◌, ◌<◌, ◌+◌, ◌*◌, ◌^◌, nat_le, nat_lt, true, false, length, MatchResult};
+ghost use Rattle.std.specs.List.{filter};
+ghost use Rattle.bucket_versions.specs.Rows.{IsRows, has_row, rows_between, row_place, is_below};
 
 use crate::row::Row;
 

@@ -1,5 +1,5 @@
 //! The words that ask for rows to be played.
-ghost use Rattle.std.specs.Prelude.{◌≡◌, map, MatchOption};
+ghost use Rattle.std.specs.Prelude.{map, MatchOption};
 ghost use Rattle.std.specs.String.{string_bytes};
 ghost use Rattle.command_words.specs.Words.{SpellsNoPlay, SpellsNoSize, SpellsPlay, SpellsSize};
 

@@ -1,14 +1,12 @@
 -- What a call leaves as it is.
-use Rattle.std.proofs.Common.{◌≡◌, Bool, true, false, cond, List, [], ◌∷◌, map, refl, sym, ap, subst, ◌∙◌}
-use Rattle.std.specs.List.{AllByRecursion}
+use Rattle.std.proofs.Common.{◌≡◌, Bool, true, false, cond, List, [], ◌∷◌, map, refl, sym, ap, ◌∙◌}
 use Rattle.zorder.specs.declared.points.Placed.{Placed}
 use Rattle.plain_list.specs.declared.ops.Op.{Op}
 use Rattle.plain_list.specs.declared.ops.Op.TheVariants.{Put, Move, Remove, Find, Within, Near}
 use Rattle.plain_list.specs.World.{World, places_of}
 use Rattle.plain_list.specs.Queries.{listed, members_in}
 use Rattle.plain_list.specs.Answer.{after_of, is_change}
-use Rattle.index_layer.specs.Leaves.{Leaf, AreLeaves, names_of}
-use Rattle.index_layer.specs.Stands.{Stands, HasRowsOf}
+use Rattle.index_layer.specs.Leaves.{Leaf, names_of}
 use Rattle.plain_list.specs.State.{OpenSplit}
 use Rattle.commit_book.specs.Answers.{IsQuery}
 use Rattle.point_table.specs.Changes.{LeafBase, bases_of}

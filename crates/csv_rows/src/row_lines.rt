@@ -1,6 +1,5 @@
 //! Rows as text, as they are read.
 ghost use Rattle.std.specs.Prelude.{◌≡◌, ◌≤◌, ◌+◌, ◌++◌, codes, length, Ok};
-ghost use Rattle.std.specs.Fmt.{decimal};
 ghost use Rattle.arrayvec.specs.ArrayVec.{array_vec_len};
 ghost use Rattle.causes.specs.Causes.{Counts};
 ghost use Rattle.io_edge.specs.Puts.{Puts};

@@ -4,7 +4,7 @@
 //! text, and of one with a fault, nothing is said here: `read` has `csv` decide.
 //!
 //! A function here is left by `let else`, not by `?`, which takes twice the proof where a part is an `Option`.
-ghost use Rattle.std.specs.Prelude.{◌≡◌, ◌≢◌, ◌≤◌, ◌<◌, ◌^◌, ℕ, List, ◌++◌, codes, IfOk, IfErr, IfSome, MatchOption};
+ghost use Rattle.std.specs.Prelude.{◌≡◌, ◌≢◌, ◌≤◌, ◌<◌, ℕ, List, ◌++◌, codes, IfOk, IfErr, IfSome, MatchOption};
 ghost use Rattle.std.specs.Fmt.{decimal};
 ghost use Rattle.plain_list.specs.Answer.{IsValid, FitsOp};
 ghost use Rattle.csv_rows.specs.InRows.{AreInRows, IsInRow};

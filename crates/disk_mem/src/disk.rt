@@ -1,5 +1,5 @@
 //! The drive in memory.
-ghost use Rattle.std.specs.Prelude.{◌≡◌, ℕ, ◌+◌, ◌*◌, ◌-◌, ◌^◌, ◌<◌, ◌≤◌, ◌≢◌, ◌↔◌, min, [], length, take, drop, IfOk, OnOk, OnErr, Result, Ok, Err, MatchResult};
+ghost use Rattle.std.specs.Prelude.{◌≡◌, ℕ, ◌+◌, ◌*◌, ◌-◌, ◌^◌, ◌<◌, ◌≤◌, ◌≢◌, ◌↔◌, min, [], length, take, drop, IfOk, OnErr, Result, Ok, Err, MatchResult};
 ghost use Rattle.causes.specs.Causes.{one_more};
 
 use crate::attaches::Attached;
@@ -73,7 +73,7 @@ fn copy_out(held: &[u8], at: usize, into: &mut [u8]) -> usize
 }
 
 impl MemDisk {
-    ghost use Rattle.disk_mem.specs.Pending.{IsImage, Picks};
+    ghost use Rattle.disk_mem.specs.Pending.{Picks};
     ghost use Rattle.disk_mem.specs.Plans.{no_calls};
     ghost use Rattle.disk_mem.specs.Drives.{file_at, file_now, mem_drive, MakesPlain, MakesWrite, MakesCut, MakesSync};
 

@@ -1,5 +1,5 @@
 //! Which calls of a drive in memory fail.
-ghost use Rattle.std.specs.Prelude.{◌≡◌, ℕ, ◌+◌, ◌-◌, ◌^◌, ◌<◌};
+ghost use Rattle.std.specs.Prelude.{◌≡◌, ◌+◌, ◌-◌, ◌^◌, ◌<◌};
 ghost use Rattle.disk_mem.specs.Plans.{number_of, counted, is_same, is_listed, verdict_of, planned};
 
 use std::marker::Model;
@@ -112,7 +112,6 @@ impl Model for Plan {
 }
 
 impl Plan {
-    ghost use Rattle.std.specs.Prelude.{if◌then◌else◌};
     ghost use Rattle.disk_mem.specs.Plans.{no_calls};
 
     pub fn new(failing: Vec<Fail>, calls: usize) -> Plan

@@ -1,5 +1,5 @@
 //! A file in memory, with the record of all calls that changed or synced it.
-ghost use Rattle.std.specs.Prelude.{◌≡◌, ℕ, ◌+◌, ◌^◌, ◌<◌, ◌≤◌, nat_le, ◌&&◌, [], length, IfOk};
+ghost use Rattle.std.specs.Prelude.{◌≡◌, ◌+◌, ◌^◌, ◌<◌, ◌≤◌, nat_le, ◌&&◌, [], length, IfOk};
 
 use crate::images::image_of;
 use crate::touches::{Touch, put};

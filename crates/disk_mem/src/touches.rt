@@ -1,5 +1,5 @@
 //! The record of the calls on a file: how an entry is replayed, and what it leaves free.
-ghost use Rattle.std.specs.Prelude.{◌≡◌, ◌+◌, ◌^◌, ◌<◌, ◌≤◌, length, IfOk, OnOk, OnErr, [], vec_capacity};
+ghost use Rattle.std.specs.Prelude.{◌≡◌, ◌+◌, ◌<◌, ◌≤◌, length, IfOk, OnOk, OnErr, [], vec_capacity};
 ghost use Rattle.std.specs.List.{All, list_any};
 ghost use Rattle.disk_mem.specs.Pending.{is_in, Paints};
 ghost use Rattle.disk_mem.specs.Changes.{over, held_after, started, changed_by};

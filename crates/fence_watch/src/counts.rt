@@ -2,7 +2,7 @@
 ghost use Rattle.std.specs.Prelude.{◌≡◌, ◌≤◌, ◌+◌, ◌-◌, ◌++◌, length, map, Some, vec_len, vec_capacity, OnOk, OnErr, IfOk};
 ghost use Rattle.fence_watch.specs.Fences.{inside_of};
 ghost use Rattle.fence_watch.specs.Tallies.{count_in};
-ghost use Rattle.fence_watch.specs.Passages.{turns_in, turns_of, event_by};
+ghost use Rattle.fence_watch.specs.Passages.{event_by};
 ghost use Rattle.fence_watch.specs.Counts.{one_more, uncounted, count_by, counted_by, counted_in, said_by, said_in};
 
 use crate::fences::{Crossing, Event, Fence};

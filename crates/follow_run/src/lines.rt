@@ -1,5 +1,5 @@
 //! The lines of reports.
-ghost use Rattle.std.specs.Prelude.{◌≡◌, ◌≤◌, ◌++◌, length};
+ghost use Rattle.std.specs.Prelude.{◌≡◌, ◌≤◌, ◌++◌};
 ghost use Rattle.arrayvec.specs.ArrayVec.{array_vec_len};
 ghost use Rattle.causes.specs.Causes.{Counts};
 ghost use Rattle.io_edge.specs.Puts.{Puts};

@@ -1,5 +1,5 @@
 //! An index whose leaves are split on until they are those that are wanted.
-ghost use Rattle.std.specs.Prelude.{◌≡◌, ◌≤◌, ◌+◌, ◌%◌, [], ◌∷◌, Bool, List, length, true, slice_index_or, IfOk, OnOk};
+ghost use Rattle.std.specs.Prelude.{◌≡◌, ◌≤◌, ◌+◌, ◌%◌, Bool, List, length, true, slice_index_or, IfOk, OnOk};
 ghost use Rattle.index_layer.specs.Leaves.{has_name, split};
 ghost use Rattle.split_prepare.specs.Cut.{cut};
 ghost use Rattle.index_build.specs.Grown.{IsGrown};

@@ -1,5 +1,5 @@
 //! A sink in memory, which fails at the puts that it was told to and where its room is used up.
-ghost use Rattle.std.specs.Prelude.{◌≡◌, ◌≤◌, ◌<◌, ◌+◌, ◌↔◌, ◌⊎◌, List, [], ℕ, Some, IfOk, IsErr, length, vec_capacity};
+ghost use Rattle.std.specs.Prelude.{◌≡◌, ◌≤◌, ◌<◌, ◌+◌, ◌↔◌, ◌⊎◌, [], Some, IfOk, IsErr, length, vec_capacity};
 ghost use Rattle.causes.specs.Causes.{Counts};
 ghost use Rattle.io_edge.specs.FailPlan.{planned, IsListed};
 ghost use Rattle.io_edge.specs.Views.{SinkView, PutsWhole};

@@ -2,7 +2,7 @@
 ghost use Rattle.std.specs.Prelude.{◌≡◌, ◌≤◌, ◌+◌, [], Some, None, true, length, IfOk, IfSome};
 ghost use Rattle.std.specs.Arc.{arc_value};
 ghost use Rattle.zorder.specs.Bits.{low_bits};
-ghost use Rattle.bit_trie.specs.Tries.{Trie, halves, height, name_at, bucket_at, is_bare};
+ghost use Rattle.bit_trie.specs.Tries.{halves, height, name_at, bucket_at, is_bare};
 ghost use Rattle.kd_trie.specs.Nodes.{seen, is_counted};
 ghost use Rattle.kd_trie.specs.Stems.{GoesPast, Passing, way_of, stem_over, all_bare};
 ghost use Rattle.bit_trie.specs.Walks.{Narrows};

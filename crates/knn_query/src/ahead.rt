@@ -1,6 +1,5 @@
 //! Subtrees that are still ahead of a search, the nearest of them first out of a heap.
-ghost use Rattle.std.specs.Prelude.{◌≡◌, ◌≤◌, ◌<◌, ◌∷◌, ◌++◌, [], false, true, length, MatchOption, OnOk};
-ghost use Rattle.std.specs.List.Sorted.{IsPermutation};
+ghost use Rattle.std.specs.Prelude.{◌≡◌, ◌<◌, ◌∷◌, ◌++◌, [], false, true, length, MatchOption};
 ghost use Rattle.std.specs.BinaryHeap.{heap_items, IsHeap};
 ghost use Rattle.prefix_names.specs.Regions.{region_of};
 ghost use Rattle.knn_query.specs.Ahead.{IsAhead};

@@ -1,5 +1,5 @@
 //! Makes a log one of no cells.
-ghost use Rattle.std.specs.Prelude.{◌≡◌, ◌≢◌, ◌≤◌, ℕ, List, [], None, Ok, OnOk, OnErr, IfOk, IfErr, MatchResult, is_some};
+ghost use Rattle.std.specs.Prelude.{◌≡◌, ◌≢◌, ℕ, List, [], None, Ok, OnOk, OnErr, IfOk, IfErr, MatchResult, is_some};
 ghost use Rattle.disk_trait.specs.Drive.{CountsFaults, IsSynced, IsWithin, MadeWell};
 ghost use Rattle.disk_trait.specs.Moments.{LeavesOnly};
 ghost use Rattle.cell_format.specs.declared.cell.Cell.{Cell};

@@ -16,7 +16,7 @@ pub(crate) struct InnerNames<'a> {
 }
 
 impl<'a> Model for InnerNames<'a> {
-    ghost use Rattle.std.specs.Prelude.{Bool, List, ℕ, ◌<◌};
+    ghost use Rattle.std.specs.Prelude.{Bool, List, ◌<◌};
     ghost use Rattle.log_compact.specs.Walk.{names_left};
 
     ghost Value = { List (List Bool) };

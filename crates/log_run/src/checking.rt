@@ -1,5 +1,5 @@
 //! The command `check`: tells what the log in a file says, and reads alone.
-ghost use Rattle.std.specs.Prelude.{◌≡◌, ◌≤◌, IfOk, IfErr, MatchResult, length};
+ghost use Rattle.std.specs.Prelude.{◌≡◌, ◌≤◌, IfOk, IfErr, MatchResult};
 ghost use Rattle.disk_trait.specs.Drive.{Stays};
 ghost use Rattle.recovery.specs.Found.{IsFound};
 ghost use Rattle.recovery.specs.Widths.{IsWidth};

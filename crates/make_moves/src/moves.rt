@@ -1,7 +1,7 @@
 //! Rows from draws.
 ghost use Rattle.std.specs.Prelude.{◌≡◌, ◌≤◌, ◌<◌, IfOk};
 ghost use Rattle.make_moves.specs.Draws.{after_draws};
-ghost use Rattle.make_moves.specs.Moves.{made_rows, made_row, made_op, row_drawn, box_from};
+ghost use Rattle.make_moves.specs.Moves.{made_rows, made_op, row_drawn, box_from};
 
 use crate::draws::Draws;
 use csv_rows::{InRow, Rows};

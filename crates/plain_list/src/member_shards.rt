@@ -1,5 +1,5 @@
 //! A world as many small maps, for whoever looks up an object with each call.
-ghost use Rattle.std.specs.Prelude.{◌≡◌, ◌≤◌, ◌<◌, ◌+◌, [], length, None, OnOk, OnErr, IfOk, replicate};
+ghost use Rattle.std.specs.Prelude.{◌≡◌, ◌<◌, ◌+◌, [], length, None, OnOk, OnErr, IfOk, replicate};
 ghost use Rattle.plain_list.specs.World.{most_members, IsWorld, position_of};
 ghost use Rattle.plain_list.specs.Answer.{with_moved, without};
 ghost use Rattle.plain_list.specs.MemberMap.{IsPut};

@@ -7,7 +7,7 @@ use Rattle.plain_list.specs.declared.entries.Entry.{Entry}
 use Rattle.plain_list.specs.World.{World}
 use Rattle.plain_list.specs.State.{State}
 use Rattle.plain_list.specs.History.{failed_cell}
-use Rattle.disk_trait.specs.Drive.{Drive, HasNoMore, Stays, IsSynced}
+use Rattle.disk_trait.specs.Drive.{Drive, Stays, IsSynced}
 use Rattle.disk_trait.specs.Moments.{LeavesNow, LeavesSince}
 use Rattle.recovery.specs.LogText.{IsLog}
 use Rattle.log_state.specs.Recovers.{Recovers}

@@ -1,5 +1,5 @@
 -- What the opening of a log comes to.
-use Rattle.std.proofs.Common.{◌≡◌, ◌≢◌, ◌⊎◌, inl, inr, ⊎_elim, ◌∙◌, ℕ, ◌≤◌, false, List, length, Some, refl, sym, ap, subst, arith}
+use Rattle.std.proofs.Common.{◌≡◌, ◌⊎◌, inl, inr, ⊎_elim, ◌∙◌, ℕ, ◌≤◌, false, List, length, Some, refl, sym, ap, subst, arith}
 use Rattle.std.specs.Prelude.{slice_index}
 use Rattle.disk_trait.specs.Drive.{Drive, AttachedOne, KeepsLaws, Stays}
 use Rattle.disk_trait.proofs.Calls.{attached-still}
@@ -14,7 +14,6 @@ use Rattle.recovery.specs.LogText.{IsLog}
 use Rattle.recovery.specs.declared.seen.Seen.{Seen}
 use Rattle.recovery.specs.declared.seen.OpenFault.{OpenFault}
 use Rattle.recovery.proofs.CallLemmas.{well-none, well-then, stops-then, stops-refused}
-use Rattle.recovery.proofs.OnlyReading.{rose-earlier}
 use Rattle.recovery.proofs.OpeningLemmas.{leaves-trans, leaves-stays}
 use Rattle.recovery.proofs.WidthLemmas.{recovers_width, same_width}
 use Rattle.run_ends.specs.declared.refusals.Refusal.{Refusal}

@@ -1,14 +1,12 @@
 -- What is known of a log that stands.
-use Rattle.std.proofs.Common.{◌≡◌, inr, ◌∙◌, ℕ, List, [], Some, refl, sym, subst}
+use Rattle.std.proofs.Common.{◌≡◌, inr, ◌∙◌, ℕ, List, [], refl, sym, subst}
 use Rattle.std.proofs.lemmas.List.{append-nil}
-use Rattle.std.proofs.lemmas.Option.{same_Some}
 use Rattle.cell_format.specs.declared.cell.Cell.{Cell}
 use Rattle.cell_format.specs.Spelling.{newest}
-use Rattle.disk_trait.specs.Drive.{Drive, Stays}
+use Rattle.disk_trait.specs.Drive.{Drive}
 use Rattle.recovery.specs.LogText.{IsLog, HoldsCells}
 use Rattle.log_state.specs.Recovers.{IsLegalCells, Recovers}
-use Rattle.recovery.specs.Opening.{IsUntouched}
-use Rattle.recovery.specs.Widths.{IsWidth, HasWidth}
+use Rattle.recovery.specs.Widths.{IsWidth}
 use Rattle.recovery.proofs.Exclusive.{one_recovery}
 use Rattle.recovery.proofs.HeadLemmas.{index_version}
 use Rattle.recovery.proofs.WidthLemmas.{recovers_width, same_width}

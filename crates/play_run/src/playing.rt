@@ -1,5 +1,5 @@
 //! The command `play`: answers the rows of a source, and over a log keeps what they change.
-ghost use Rattle.std.specs.Prelude.{◌≡◌, ℕ, List, true, [], Some, None, is_some};
+ghost use Rattle.std.specs.Prelude.{◌≡◌, ℕ, List, true, Some, None, is_some};
 ghost use Rattle.csv_rows.specs.InRows.{AreInRows};
 ghost use Rattle.kept_log.specs.Kept.{IsOpened, found_state};
 ghost use Rattle.recovery.specs.Found.{IsFound};

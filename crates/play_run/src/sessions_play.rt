@@ -1,11 +1,10 @@
 //! Rows that are played over a store, each session in a lane of its own.
-ghost use Rattle.std.specs.Prelude.{◌≡◌, ◌⊎◌, ℕ, ◌+◌, ◌≤◌, [], length, false, IfSome};
-ghost use Rattle.plain_list.specs.World.{IsWorld};
+ghost use Rattle.std.specs.Prelude.{◌≡◌, ◌⊎◌, ◌+◌, ◌≤◌, [], false, IfSome};
 ghost use Rattle.csv_rows.specs.InRows.{AreInRows};
 ghost use Rattle.commit_book.specs.IsBook.{IsBook};
 ghost use Rattle.sessions.specs.Shared.{StartsAs, origin_of};
 ghost use Rattle.sessions.specs.Steps.{cells_at};
-ghost use Rattle.play_run.specs.inside.Dealt.{HasDealt, fresh_pass};
+ghost use Rattle.play_run.specs.inside.Dealt.{fresh_pass};
 ghost use Rattle.play_run.specs.inside.Joined.{HasRun, HasNotRun, HasAllParts};
 ghost use Rattle.play_run.specs.inside.Books.{IsNewBook};
 ghost use Rattle.play_run.specs.inside.Answered.{ArePlayed, AreAnswered, IsPlayedBook, IsAnsweredBook};

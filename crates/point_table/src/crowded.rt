@@ -1,7 +1,6 @@
 //! The leaves that are to be split, in the order of their keys.
-ghost use Rattle.std.specs.Prelude.{◌≡◌, ◌==◌, ◌+◌, ◌-◌, ◌<◌, ◌≤◌, ◌^◌, [], OnOk, OnErr, length, vec_len, vec_capacity};
-ghost use Rattle.std.specs.List.{find, insert, list_any};
-ghost use Rattle.zorder.specs.Name.{first_key};
+ghost use Rattle.std.specs.Prelude.{◌≡◌, ◌==◌, ◌+◌, ◌-◌, ◌<◌, ◌≤◌, [], OnOk, length, vec_len, vec_capacity};
+ghost use Rattle.std.specs.List.{list_any};
 ghost use Rattle.zorder.specs.SameName.{same_name};
 ghost use Rattle.plain_list.specs.State.{is_splitting};
 ghost use Rattle.point_table.specs.Crowded.{AreRising, remarked, remarked_each, marked, unmarked, key_place, has_key, first_free};

@@ -1,5 +1,5 @@
 //! Squared distances.
-ghost use Rattle.std.specs.Prelude.{◌≡◌, ◌≤◌, ◌<◌, ◌*◌, ◌^◌, IsTrue};
+ghost use Rattle.std.specs.Prelude.{◌≡◌, ◌≤◌, ◌<◌, ◌*◌, IsTrue};
 ghost use Rattle.zorder.specs.declared.points.Point.{Point};
 ghost use Rattle.zorder.specs.Region.{has_point, IsBox};
 ghost use Rattle.zorder.specs.Distance.{gap_to, distance, least_distance};

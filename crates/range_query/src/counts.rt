@@ -1,10 +1,10 @@
 //! How many objects are in a box.
-ghost use Rattle.std.specs.Prelude.{◌≡◌, ◌+◌, ◌<◌, ◌^◌, if◌then◌else◌, true, length};
+ghost use Rattle.std.specs.Prelude.{◌≡◌, ◌+◌, ◌<◌, true, length};
 ghost use Rattle.zorder.specs.Region.{IsBox};
 ghost use Rattle.plain_list.specs.Queries.{members_in};
 ghost use Rattle.table_share.specs.Subtree.{subtree};
 ghost use Rattle.table_share.specs.Standing.{OfPlaces};
-ghost use Rattle.range_query.specs.Cut.{IsAreaOf, is_met, is_cut, leaves_cut, IsNumberBelow};
+ghost use Rattle.range_query.specs.Cut.{IsAreaOf, leaves_cut, IsNumberBelow};
 ghost use Rattle.table_share.specs.KeysUnder.{AreAllKeysUnder};
 
 use crate::counted::count_rows;

@@ -1,5 +1,5 @@
 //! Says what a log was found to say, and reads alone.
-ghost use Rattle.std.specs.Prelude.{◌≡◌, ◌⊎◌, ◌≤◌, ◌<◌, ◌^◌, ℕ, List, Some, None, length, slice_index, OnOk, IfOk, IfErr, IfSome};
+ghost use Rattle.std.specs.Prelude.{◌≡◌, ◌⊎◌, ◌≤◌, ◌<◌, ℕ, List, Some, None, length, OnOk, IfOk, IfErr, IfSome};
 ghost use Rattle.std.specs.Result.{IsErrAnd};
 ghost use Rattle.cell_format.specs.declared.cell.Cell.{Cell};
 ghost use Rattle.log_state.specs.Recovers.{Recovers};

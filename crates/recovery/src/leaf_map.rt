@@ -1,5 +1,5 @@
 //! The leaves, each with the split last begun of it.
-ghost use Rattle.std.specs.Prelude.{◌≡◌, ◌≢◌, ◌⊎◌, ◌+◌, ◌≤◌, ◌<◌, ◌^◌, [], ◌∷◌, ◌++◌, Bool, ℕ, List, length, true, false, Some, OnOk, OnErr, IfOk, vec_len, vec_capacity};
+ghost use Rattle.std.specs.Prelude.{◌≡◌, ◌⊎◌, ◌+◌, ◌≤◌, ◌<◌, ◌^◌, [], ◌∷◌, ◌++◌, List, length, true, false, Some, OnOk, OnErr, IfOk, vec_len, vec_capacity};
 ghost use Rattle.zorder.specs.Tile.{Tile};
 ghost use Rattle.plain_list.specs.State.{is_leaf, split_leaf};
 ghost use Rattle.recovery.specs.LeafMap.{names_of, split_at, with_begun, halved, new_leaf, KeepsMarks, HasHalved};

@@ -1,5 +1,5 @@
 //! The cell at the front of a piece of a log.
-ghost use Rattle.std.specs.Prelude.{◌≡◌, ◌≢◌, ◌⊎◌, ℕ, ◌≤◌, ◌<◌, slice_index, take, length, IfOk, IfErr, OnErr};
+ghost use Rattle.std.specs.Prelude.{◌≡◌, ℕ, ◌≤◌, ◌<◌, slice_index, take, length, IfOk, IfErr, OnErr};
 ghost use Rattle.recovery.specs.Pieces.{cause_of, place_after, PassesCell, FailsAt, WalksFront};
 
 use crate::replay::{Replay, StepFault};

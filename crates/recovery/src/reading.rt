@@ -1,6 +1,5 @@
 //! Reads the cells of a log one by one, in pieces.
-ghost use Rattle.std.specs.Prelude.{◌≡◌, ◌≤◌, ◌+◌, ◌-◌, ◌*◌, ◌<◌, ◌⊎◌, [], ℕ, List, Some, false, take, drop, min, length, slice_index, OnOk, IfOk, IfErr, IfSome};
-ghost use Rattle.cell_format.specs.declared.cell.Cell.{Cell};
+ghost use Rattle.std.specs.Prelude.{◌≡◌, ◌≤◌, ◌+◌, ◌-◌, ◌*◌, ◌<◌, ℕ, List, Some, false, take, drop, min, length, OnOk, IfOk, IfErr, IfSome};
 ghost use Rattle.disk_trait.specs.Drive.{Stays, CountsFaults};
 ghost use Rattle.recovery.specs.Faults.{IsInBytes};
 ghost use Rattle.recovery.specs.Reading.{StartsFor, IsBehind, Advances, WalksOn, IsFilled, IsEmptied, NeedsNoPiece, Stops, IsSeenOf, OnlyReads, ReadsPiece};

@@ -1,5 +1,5 @@
 //! Goes over cells one by one, and keeps the state after them.
-ghost use Rattle.std.specs.Prelude.{◌≡◌, ◌⊎◌, ◌≤◌, IfOk, OnOk};
+ghost use Rattle.std.specs.Prelude.{◌≡◌, ◌⊎◌, IfOk, OnOk};
 ghost use Rattle.cell_format.specs.declared.cell.Cell.{Cell};
 ghost use Rattle.plain_list.specs.State.{empty_state};
 ghost use Rattle.recovery.specs.Found.{Shows};

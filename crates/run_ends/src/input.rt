@@ -1,5 +1,5 @@
 //! The rows of a source, or why there is nothing to play.
-ghost use Rattle.std.specs.Prelude.{◌≡◌, ◌≢◌, ◌≤◌, ◌+◌, List, [], ℕ, Some, Ok, Err, IfOk, IfErr, length};
+ghost use Rattle.std.specs.Prelude.{◌≡◌, ◌≢◌, ◌≤◌, ◌+◌, Ok, Err, IfOk, IfErr, length};
 ghost use Rattle.io_edge.specs.Reads.{ConsumesUpTo};
 ghost use Rattle.run_ends.specs.Limits.{most_bytes};
 ghost use Rattle.run_ends.specs.Judged.{judged, refusal_of};

@@ -1,7 +1,7 @@
 -- Lanes, row by row.
 use Rattle.std.proofs.Common.{◌≡◌, ℕ, ◌+◌, ◌<◌, ◌≤◌, List, [], ◌∷◌, ◌++◌, length, drop, Option, Some, Ok, Err, refl, sym, ap, subst, ◌∙◌, arith, append_assoc}
 use Rattle.std.specs.Prelude.{slice_index_or}
-use Rattle.std.proofs.lemmas.List.{append-nil, get_or_default, drop_more}
+use Rattle.std.proofs.lemmas.List.{append-nil, drop_more}
 use Rattle.plain_list.specs.declared.ops.Op.{Op}
 use Rattle.atomic_table.specs.Seated.{TableId}
 use Rattle.book_lock.specs.Pass.{Known}

@@ -1,5 +1,5 @@
 //! A book behind a lock.
-ghost use Rattle.std.specs.Prelude.{◌≡◌, ◌+◌, ◌<◌, ◌^◌, length, Some, None, IfOk, IfErr, OnOk};
+ghost use Rattle.std.specs.Prelude.{◌≡◌, ◌+◌, ◌<◌, ◌^◌, Some, None, IfOk, IfErr, OnOk};
 ghost use Rattle.zorder.specs.Key.{IsPoint};
 ghost use Rattle.plain_list.specs.Answer.{FitsOp};
 ghost use Rattle.plain_list.specs.World.{places_of, IsWorld};

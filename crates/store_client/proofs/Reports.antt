@@ -1,9 +1,9 @@
 -- What a report comes to, from its tries.
-use Rattle.std.proofs.Common.{◌≡◌, ℕ, [], ◌∷◌, Option, Some, None, Result, Ok, Err, refl, inl, inr}
+use Rattle.std.proofs.Common.{ℕ, [], ◌∷◌, None, Result, Ok, Err, refl, inr}
 use Rattle.zorder.specs.declared.points.Point.{Point}
 use Rattle.sessions.specs.declared.faults.CallFault.{CallFault}
 use Rattle.store_client.specs.Caller.{Caller}
-use Rattle.store_client.specs.Verbs.{PutsBehind, Misses, MissesAll, ReportEnds, TriesOnce, Missing, Reports, put_report}
+use Rattle.store_client.specs.Verbs.{PutsBehind, ReportEnds, TriesOnce, Missing, Reports, put_report}
 use Rattle.store_client.specs.declared.answers.PutReply.{PutReply}
 use Rattle.store_client.specs.declared.answers.PutReply.TheVariants as put
 use Rattle.store_client.specs.declared.answers.Report.{Report}

@@ -1,5 +1,5 @@
 //! The verbs: calls that are told just what they may be.
-ghost use Rattle.std.specs.Prelude.{◌≡◌, ◌≤◌};
+ghost use Rattle.std.specs.Prelude.{◌≤◌};
 ghost use Rattle.zorder.specs.Region.{IsBox};
 ghost use Rattle.store_client.specs.Caller.{Keeps};
 ghost use Rattle.store_client.specs.Verbs.{put_answer, move_answer, gone_answer, at_answer, listed_answer, nearest_answer, AskedAs, TriesOnce, Reports};

@@ -1,7 +1,6 @@
 //! The log in a file, made where there is none, and opened.
-ghost use Rattle.std.specs.Prelude.{◌≡◌, ◌⊎◌, ◌<◌, ◌≤◌, ℕ, List, Some, None, length, IfOk, IfErr};
+ghost use Rattle.std.specs.Prelude.{◌≡◌, ◌⊎◌, ◌<◌, None, IfOk, IfErr};
 ghost use Rattle.std.specs.Result.{IsErrAnd};
-ghost use Rattle.cell_format.specs.declared.cell.Cell.{Cell};
 ghost use Rattle.recovery.specs.declared.seen.OpenFault.{OpenFault};
 ghost use Rattle.store_file.specs.Files.{ReadiesLog, OpensFile, CanOpen, ShowsFault};
 ghost use Rattle.store_file.specs.Refused.{NotOpens, IsFreeCause};

@@ -1,5 +1,5 @@
 //! Stores over files: opened and closed, renewed, and opened over either of two.
-ghost use Rattle.std.specs.Prelude.{◌≡◌, false, IfOk};
+ghost use Rattle.std.specs.Prelude.{◌≡◌, IfOk};
 ghost use Rattle.store_client.specs.Caller.{IsFree};
 ghost use Rattle.store_file.specs.Opened.{IsFirst};
 

@@ -1,5 +1,5 @@
 //! Teams of a client: works of any number at once, each in a thread of its own, in order and with a session of its own.
-ghost use Rattle.std.specs.Prelude.{◌≡◌, ◌<◌, ◌≤◌, vec_len};
+ghost use Rattle.std.specs.Prelude.{◌<◌, vec_len};
 ghost use Rattle.store_client.specs.Caller.{Keeps};
 
 use crate::stores::new_store;

@@ -1,5 +1,4 @@
 //! The objects of a store in one call, and a tally of fences that begins with them.
-ghost use Rattle.std.specs.Prelude.{◌≡◌};
 ghost use Rattle.store_client.specs.Caller.{Keeps};
 
 use crate::stores::{events_of, new_store};

@@ -1,5 +1,5 @@
 //! A book that goes on with an empty history, and how much room there is in one that has some.
-ghost use Rattle.std.specs.Prelude.{◌≡◌, [], length, IfOk, IfErr};
+ghost use Rattle.std.specs.Prelude.{◌≡◌, IfOk, IfErr};
 ghost use Rattle.std.specs.Result.{result_err};
 ghost use Rattle.commit_book.specs.IsBook.{IsBook};
 ghost use Rattle.commit_book.specs.Renewal.{renewed, renew_refusal, room_of};

@@ -1,5 +1,4 @@
 //! How many rows an index has below each of its places, beside a plain list, after drawn changes and splits.
-ghost use Rattle.std.specs.Prelude.{◌≤◌, length};
 
 use crate::index::buckets::{change, one_empty_leaf};
 use crate::index::changes::{drawn, put, shift, take};

@@ -1,5 +1,5 @@
 //! Rows that come, go and move in an index, with their bases and without, and a snapshot behind many of them.
-ghost use Rattle.std.specs.Prelude.{◌≡◌, true, false, IsTrue, IsFalse};
+ghost use Rattle.std.specs.Prelude.{true, false, IsTrue, IsFalse};
 ghost use Rattle.index_layer.specs.RowChanges.{Holds};
 
 use crate::index::buckets::{change, empty_leaves, one_empty_leaf};

@@ -1,5 +1,5 @@
 //! What each kind of turn does.
-ghost use Rattle.std.specs.Prelude.{◌≡◌, ◌+◌, ◌-◌, ◌≤◌, ◌<◌, max, length, slice_index, IfOk, IfErr, MatchOption};
+ghost use Rattle.std.specs.Prelude.{◌≡◌, ◌+◌, ◌-◌, ◌≤◌, ◌<◌, length, IfOk, IfErr, MatchOption};
 ghost use Rattle.split_log.specs.LogView.{most_cells};
 ghost use Rattle.follower.specs.declared.faults.FollowFault.TheVariants.{Memory};
 ghost use Rattle.follower.specs.declared.turns.Turn.TheVariants.{Send, Arrive, Ack, Restart};
