@@ -7,9 +7,10 @@
 //! begins with what the last close left (`finds-closed`, proofs/Again). `renew_store` goes on with an empty history.
 //!
 //! `rotate_store` goes on over a second file: it writes the objects and the leaves there as a fresh log, and makes the first log empty only
-//! then (`IsRotated`). `rotate_anew` does so with the fewest leaves that the bucket size asks of the objects (`FitsSize`). `open_either`
-//! opens both files, and goes on over the one that has records (`OpensEither`): where a crash in a rotation left some in both, these leave
-//! the same objects. So it begins with the objects that the history left, wherever the crash came (`finds-left`, proofs/Between).
+//! then (`IsRotated`). `rotate_anew` does so with the leaves that the bucket size asks of the objects (`FitsSize`), and no other ones that
+//! would do are fewer (`fewest`, proofs/Fewest). `open_either` opens both files, and goes on over the one that has records (`OpensEither`):
+//! where a crash in a rotation left some in both, these leave the same objects. So it begins with the objects that the history left, wherever
+//! the crash came (`finds-left`, proofs/Between).
 //!
 //! Not here: the calls of a store (`sessions`), and short ones (`store_client`).
 #![tactic(auto)]
