@@ -9,13 +9,14 @@
 //! looked for. A difference is told, and the run ends with 1.
 //!
 //! With `files` the store has a log in one of these two files, which must have no objects. Where it would be renewed it is rotated: it
-//! goes on over a fresh log in the other one, each second time with leaves anew. It prints each renewal or rotation with its time, how many
-//! boxes and nears were looked at, and how many objects there are in the end; with `quiet` only what is the same whatever the schedule.
+//! goes on over a fresh log in the other one, each second time with leaves anew. It prints each renewal or rotation with its time, how
+//! many boxes and nears were looked at, and how many objects there are in the end; with `quiet` only what the schedule
+//! doesn't change.
 //!
-//! With `chain` it goes on with what it finds in these files. Each thread brings objects of its own in turn to new places, and the number of
-//! a change tells all of it: so the objects must be just where so many first changes of each thread leave them. It prints how many it found
-//! and, behind each ENTRIES changes or so, how many were made, and then it is rotated; who kills it learns from the next start what is there.
-//! `tools/soak` drives it.
+//! With `chain` it goes on with what it finds in these files. Each thread brings objects of its own in turn to new places, and the number
+//! of a change tells all of it: so the objects must be just where so many first changes of each thread leave them. It prints how many it
+//! found and, behind each ENTRIES changes or so, how many were made, and then it is rotated; who kills it learns from the next start what
+//! is there. `tools/soak` drives it.
 //!
 //! With `turns` it puts OBJECTS objects, and is then renewed CALLS times, with the time of each; or with two files it goes on in the other
 //! one, each second time with leaves anew.
@@ -35,6 +36,7 @@ mod soaker;
 mod trouble;
 mod turns;
 
+use commit_book::Book;
 use disk_file::FileDisk;
 use disk_mem::MemDisk;
 use disk_trait::LogDisk;
@@ -42,12 +44,14 @@ use judge::Judge;
 use kd_trie::KdTrie;
 use plan::Plan;
 use rounds::chain_over_files;
-use soak::{play, play_over_files, store_in_memory};
+use sessions::Store;
+use soak::{SoakPass, play, play_over_files};
 use std::alloc::Global;
 use std::env::{self, Args};
 use std::fs::Files;
 use std::io;
 use std::io::Print;
+use std::marker::Brand;
 use std::process::ExitCode;
 use std::rt::{Clock, Env};
 use std::sync::Wait;
@@ -68,6 +72,11 @@ fn number(word: Option<String>, otherwise: u64, most: u64) -> u64
     };
     number.min(most)
 }
+
+type MemoryStore = (
+    Store<KdTrie, MemDisk, Brand>,
+    SoakPass<KdTrie, MemDisk, Brand>,
+);
 
 // What the words ask for.
 fn plan_of(words: &mut Args) -> Plan {
@@ -91,7 +100,7 @@ enum Mode {
 }
 
 impl Mode {
-    // Whether it is over no files, where some are named or aren't.
+    // Whether it runs in memory: of turns, where no file is named.
     fn is_in_memory(self, has_files: bool) -> bool {
         match self {
             Mode::Memory | Mode::Quiet => true,
@@ -111,6 +120,19 @@ fn mode_of(word: Option<String>) -> Mode {
     }
 }
 
+// An empty store in memory, and the pass that has all parts of it.
+fn store_in_memory(alloc: Global) -> Result<MemoryStore, Trouble>
+    ensures { IfOk result (λ r. IsWhole r.0 r.1) }
+{
+    let Ok(book) = Book::<KdTrie, MemDisk>::fresh(alloc, BUCKET) else {
+        return Err(Trouble::Memory);
+    };
+    match Store::new(alloc, book) {
+        Ok(both) => Ok(both),
+        Err(_) => Err(Trouble::Memory),
+    }
+}
+
 // Runs over a store in memory.
 fn play_in_memory<R: Threads + Wait + Sync + AllocGlobal + Clock + Print>(
     rt: &R,
@@ -118,7 +140,7 @@ fn play_in_memory<R: Threads + Wait + Sync + AllocGlobal + Clock + Print>(
     mode: Mode,
 ) -> Result<Option<Judge>, Trouble> {
     let alloc = rt.alloc();
-    let (store, pass) = store_in_memory::<KdTrie, MemDisk>(alloc, BUCKET)?;
+    let (store, pass) = store_in_memory(alloc)?;
     if mode == Mode::Turns {
         turn_in_memory(rt, alloc, store, pass, plan)?;
         return Ok(None);

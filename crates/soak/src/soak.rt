@@ -8,11 +8,10 @@ use crate::plan::Plan;
 use crate::soaker::Soaker;
 use crate::trouble::Trouble;
 use book_lock::Pass;
-use commit_book::Book;
 use disk_trait::LogDisk;
 use index_layer::Index;
 use plain_list::Entry;
-use sessions::{Renewed, SharedBook, Start, Store};
+use sessions::{NotRenewed, Renewed, SharedBook, Start, Store};
 use std::alloc::Global;
 use std::io::Print;
 use std::marker::Brand;
@@ -66,22 +65,6 @@ fn crew_of(alloc: Global, plan: Plan) -> Option<Vec<Soaker>>
         Soaker::new(alloc, plan, 3),
     ];
     Vec::from_array(alloc, crew).ok()
-}
-
-/// An empty store in memory, and the pass that has all parts of it.
-pub fn store_in_memory<I: Index, D: LogDisk>(
-    alloc: Global,
-    bucket: u32,
-) -> Result<(Store<I, D, Brand>, SoakPass<I, D, Brand>), Trouble>
-    ensures { IfOk result (λ r. IsWhole r.0 r.1) }
-{
-    let Ok(book) = Book::<I, D>::fresh(alloc, bucket) else {
-        return Err(Trouble::Memory);
-    };
-    match Store::new(alloc, book) {
-        Ok(both) => Ok(both),
-        Err(_) => Err(Trouble::Memory),
-    }
 }
 
 /// All calls of a run over an empty store in memory, and then a look at all objects. Tells each renewal of the store, if so wanted.
@@ -226,7 +209,8 @@ pub fn renew<I: Index, D: LogDisk, R: Clock + Print>(
             }
             Ok(renewed)
         }
-        Err(_) => Err(Trouble::NotRenewed),
+        Err(NotRenewed::Kept { cause, .. }) => Err(Trouble::NotRenewed(cause)),
+        Err(NotRenewed::Memory { .. }) => Err(Trouble::NoLock),
     }
 }
 
@@ -243,14 +227,10 @@ pub fn rotate_and_tell<I: Index, D: LogDisk, R: Clock + Print>(
     ensures { IfOk result (λ r. IsWhole r.store r.pass) }
 {
     let begun = Instant::now(rt).ok();
-    match rotate(alloc, store, pass, spare, leaves) {
-        Ok(rotated) => {
-            let entries = rotated.entries.as_slice().len();
-            tell_turn(rt, begun, entries, leaves.word());
-            Ok(rotated)
-        }
-        Err(trouble) => Err(trouble),
-    }
+    let rotated = rotate(alloc, store, pass, spare, leaves)?;
+    let entries = rotated.entries.as_slice().len();
+    tell_turn(rt, begun, entries, leaves.word());
+    Ok(rotated)
 }
 
 /// The same objects over a fresh log in the other file.

@@ -1,5 +1,6 @@
 //! What ends a run early.
 use crate::chain::Broken;
+use commit_book::RenewFault;
 use plain_list::Op;
 use sessions::CallFault;
 use std::alloc::AllocError;
@@ -20,13 +21,13 @@ pub enum Trouble {
     InUse { points: u64 },
     #[error("a call was refused: {0}")]
     Refused(#[from] CallFault),
-    #[error("the store wasn't renewed")]
-    NotRenewed,
+    #[error("the store wasn't renewed: {0}")]
+    NotRenewed(RenewFault),
     #[error("the store wasn't rotated: {0}")]
     NotRotated(RotateCause),
     #[error("the store was rotated, but the first file wasn't emptied: its drive failed")]
     NotEmptied,
-    #[error("the store was rotated, but there was no memory to go on")]
+    #[error("the store was renewed or rotated, but there was no memory to go on")]
     NoLock,
     #[error("call {place}, {op:?}, wasn't told what it should be")]
     Answer { place: u64, op: Op },

@@ -1,0 +1,4 @@
+use Rattle.soak.proofs.store_in_memory.Goals as goal
+
+pub new-requires-clause-start : goal.new-requires-clause-start
+new-requires-clause-start c = rw c.in-Ok.ensures.3 tt
