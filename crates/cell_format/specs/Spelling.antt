@@ -1,5 +1,5 @@
 -- The one spelling of each record, and the header of a log.
-use Rattle.std.specs.Prelude.{◌≡◌, ℕ, ◌^◌, ◌<◌, ◌≤◌, Bool, List, [], ◌∷◌, ◌++◌, length, replicate, if◌then◌else◌, ◌==◌}
+use Rattle.std.specs.Prelude.{◌≡◌, ◌⊎◌, ℕ, ◌^◌, ◌<◌, ◌≤◌, Bool, List, [], ◌∷◌, ◌++◌, length, replicate, if◌then◌else◌, ◌==◌}
 use Rattle.std.specs.Int.{to_be_bytes, w32, w64}
 use Rattle.zorder.specs.declared.points.Point.{Point}
 use Rattle.zorder.specs.Key.{IsPoint}
@@ -10,6 +10,10 @@ use Rattle.cell_format.specs.declared.cell.Cell.TheVariants.{Put, Move, Remove, 
 -- the version that is written; a log of an older version is read, but no record is appended to it
 abbrev pub newest : ℕ
 newest = 2
+
+-- a version that is read
+abbrev pub IsVersion : ℕ → Type 0
+IsVersion v = (v ≡ 1) ⊎ (v ≡ 2)
 
 -- how many moments a version of the log has: version 1 has only the moment 0
 abbrev pub moments_of : ℕ → ℕ

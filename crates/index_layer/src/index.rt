@@ -1,6 +1,7 @@
 //! The trait of indexes: leaves in the order of their keys, with a bucket of rows for each.
 ghost use Rattle.std.specs.Prelude.{◌≡◌, ◌⊎◌, ◌^◌, ◌+◌, ◌-◌, ◌≤◌, ◌↔◌, min, ℕ, Bool, List, [], length, map, false, true, Ok, IfOk, OnOk, OnErr, IfErr, IsErrOf};
 ghost use Rattle.std.specs.Arc.{arc_value};
+ghost use Rattle.zorder.specs.Width.{IsWidth};
 ghost use Rattle.bucket_versions.specs.Told.{Told};
 ghost use Rattle.index_layer.specs.Leaves.{Leaf, AreLeaves, all_rows, one_leaf, has_name, leaf_under, replaced, split, AreUnder, AreAllUnder};
 ghost use Rattle.index_layer.specs.Part.{IsPart};
@@ -334,5 +335,5 @@ pub trait Index: Sized + Drop {
     /// The names tile the key space, and the rows of each leaf are in order and under its name.
     ghost are_leaves: { (index : Self) → AreLeaves (leaves index) };
 
-    ghost width: { (WIDTH ≡ 1) ⊎ (WIDTH ≡ 2) };
+    ghost width: { IsWidth WIDTH };
 }

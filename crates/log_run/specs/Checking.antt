@@ -6,7 +6,8 @@ use Rattle.disk_trait.specs.Drive.{Drive, AttachedOne, Stays}
 use Rattle.cell_format.specs.declared.cell.Cell.{Cell}
 use Rattle.log_state.specs.Recovers.{IsLegalCells, Recovers, state_of}
 use Rattle.recovery.specs.Faults.{IsInBytes}
-use Rattle.recovery.specs.Widths.{IsWidth, IsLogFault}
+use Rattle.zorder.specs.Width.{IsWidth}
+use Rattle.recovery.specs.Widths.{IsLogFault}
 use Rattle.recovery.specs.declared.seen.Seen.{Seen}
 use Rattle.recovery.specs.declared.seen.OpenFault.{OpenFault}
 use Rattle.run_ends.specs.declared.log_lines.LogCounts.{LogCounts}

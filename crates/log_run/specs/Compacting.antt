@@ -8,7 +8,8 @@ use Rattle.cell_format.specs.declared.cell.Cell.{Cell}
 use Rattle.log_state.specs.Recovers.{Recovers, state_of}
 use Rattle.recovery.specs.LogText.{IsLog}
 use Rattle.recovery.specs.Faults.{IsInBytes}
-use Rattle.recovery.specs.Widths.{IsWidth, IsLogFault}
+use Rattle.zorder.specs.Width.{IsWidth}
+use Rattle.recovery.specs.Widths.{IsLogFault}
 use Rattle.recovery.specs.Calls.{StopsAtFault}
 use Rattle.recovery.specs.Making.{IsSmall}
 use Rattle.recovery.specs.declared.seen.OpenFault.{OpenFault}

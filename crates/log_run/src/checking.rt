@@ -2,7 +2,7 @@
 ghost use Rattle.std.specs.Prelude.{◌≡◌, ◌≤◌, IfOk, IfErr, MatchResult};
 ghost use Rattle.disk_trait.specs.Drive.{Stays};
 ghost use Rattle.recovery.specs.Found.{IsFound};
-ghost use Rattle.recovery.specs.Widths.{IsWidth};
+ghost use Rattle.zorder.specs.Width.{IsWidth};
 ghost use Rattle.run_ends.specs.Limits.{oldest_read, most_inspected};
 ghost use Rattle.run_ends.specs.Ends.{written_by};
 ghost use Rattle.log_run.specs.Checking.{HasReadLog, HasReadUnless, IsCheckingCause, IsDecidedBy, ChecksLog, TellsLog, checked_text, counts_of};

@@ -2,7 +2,7 @@
 ghost use Rattle.std.specs.Prelude.{◌≡◌, ◌≢◌, ◌≤◌, [], true, IfOk, IfErr, MatchResult, length};
 ghost use Rattle.disk_trait.specs.Drive.{AttachedOne};
 ghost use Rattle.plain_list.specs.State.{ComesBySplits};
-ghost use Rattle.recovery.specs.Widths.{IsWidth};
+ghost use Rattle.zorder.specs.Width.{IsWidth};
 ghost use Rattle.run_ends.specs.Ends.{written_by};
 ghost use Rattle.run_ends.specs.Limits.{most_inspected};
 ghost use Rattle.run_ends.specs.Status.{status_of};

@@ -5,7 +5,7 @@ use Rattle.cell_format.specs.Spelling.{newest}
 use Rattle.plain_list.specs.State.{State, empty_state, at_rest}
 use Rattle.disk_trait.specs.Drive.{Drive}
 use Rattle.log_state.specs.Recovers.{IsLegalCells, Recovers, state_of}
-use Rattle.recovery.specs.Widths.{IsWidth}
+use Rattle.zorder.specs.Width.{IsWidth}
 use Rattle.run_ends.specs.Limits.{most_played}
 
 -- the width of splits, the state at the beginning, and the cells of the log then, where there is one

@@ -10,7 +10,8 @@ use Rattle.cell_format.specs.Spelling.{newest}
 use Rattle.recovery.specs.declared.seen.OpenFault.{OpenFault}
 use Rattle.log_state.specs.Recovers.{Recovers}
 use Rattle.recovery.specs.Faults.{IsInBytes}
-use Rattle.recovery.specs.Widths.{IsWidth, HasWidth, IsLogFault}
+use Rattle.zorder.specs.Width.{IsWidth}
+use Rattle.recovery.specs.Widths.{HasWidth, IsLogFault}
 use Rattle.recovery.specs.Calls.{StopsAtFault}
 use Rattle.recovery.specs.Opening.{KeepsCells, KeepsNewest, HasNoLog, IsUntouched}
 use Rattle.csv_rows.specs.declared.rows.InRow.{InRow}

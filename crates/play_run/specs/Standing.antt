@@ -4,7 +4,7 @@ use Rattle.cell_format.specs.declared.cell.Cell.{Cell}
 use Rattle.cell_format.specs.Spelling.{newest}
 use Rattle.disk_trait.specs.Drive.{Drive, Only}
 use Rattle.log_state.specs.Recovers.{Recovers}
-use Rattle.recovery.specs.Widths.{IsWidth}
+use Rattle.zorder.specs.Width.{IsWidth}
 
 -- bytes that every command takes for the log of these cells: they recover to them, by a width that logs have, in the newest version
 pub record IsStanding (w : ℕ) (cells : List Cell) (bytes : List ℕ) : Type 0 where

@@ -1,5 +1,6 @@
 -- What a clause sees of a prepared split, and what holds of every one.
 use Rattle.std.specs.Prelude.{◌≡◌, ◌⊎◌, ℕ, ◌+◌, ◌≤◌, Bool, List, length}
+use Rattle.zorder.specs.Width.{IsWidth}
 use Rattle.bucket_versions.specs.declared.row.Row.{Row}
 use Rattle.bucket_versions.specs.Rows.{Rows, IsRows}
 use Rattle.bucket_versions.specs.Under.{AreUnder}
@@ -16,7 +17,7 @@ pub record PreparedView : Type 0 where
 
 -- the base rows are in order and under the name, and the children are cut from them
 pub record IsPrepared (p : PreparedView) : Type 0 where
-  pub width : (p.width ≡ 1) ⊎ (p.width ≡ 2)
+  pub width : IsWidth p.width
   pub short : length p.name + p.width ≤ 64
   pub in_order : IsRows p.base
   pub under : AreUnder p.name p.base

@@ -1,6 +1,7 @@
 //! Cutting a bucket into the buckets of its leaf's children.
 ghost use Rattle.std.specs.Prelude.{◌≡◌, ◌⊎◌, ◌≤◌, ◌<◌, ◌+◌, ◌^◌, length, map, slice_get, Some, IfOk};
 ghost use Rattle.std.specs.Arc.{arc_value};
+ghost use Rattle.zorder.specs.Width.{IsWidth};
 ghost use Rattle.zorder.specs.Tile.{children};
 ghost use Rattle.bucket_versions.specs.Under.{AreUnder};
 ghost use Rattle.split_prepare.specs.Cut.{cut, cut_out, HaveRowsUnder};
@@ -16,7 +17,7 @@ use zorder::{Memory, Name, child};
 
 /// Returns the child with index `place`, in key order, of a name that is split into `2^width` children.
 pub fn child_at(name: &Name, width: u8, place: usize) -> Name
-    requires width { (width ≡ 1) ⊎ (width ≡ 2) }
+    requires width { IsWidth width }
     requires short { length name.now + width ≤ 64 }
     requires within { place < 2 ^ width }
     ensures { slice_get (children width name.now) place ≡ Some result }
@@ -43,7 +44,7 @@ pub fn cut(
     name: &Name,
     width: u8,
 ) -> Result<Vec<Arc<Bucket>>, Memory>
-    requires width { (width ≡ 1) ⊎ (width ≡ 2) }
+    requires width { IsWidth width }
     requires short { length name.now + width ≤ 64 }
     ensures { IfOk result (λ v. map arc_value v.items ≡ cut width name.now bucket.now.base) }
 {
@@ -57,7 +58,7 @@ pub fn cut(
 
 /// Cuts the base of a ticket's bucket into the buckets of the leaf's children.
 pub fn prepare(alloc: Global, ticket: &SplitTicket, width: u8) -> Result<Prepared, Memory>
-    requires width { (width ≡ 1) ⊎ (width ≡ 2) }
+    requires width { IsWidth width }
     requires short { length ticket.now.name + width ≤ 64 }
     requires under { AreUnder ticket.now.name (arc_value ticket.now.bucket).base }
     ensures prepared { IfOk result (λ p. p ≡ prepared_of width ticket.now.number ticket.now.name (arc_value ticket.now.bucket).base) }

@@ -10,7 +10,8 @@ use Rattle.recovery.specs.declared.seen.Seen.{Seen}
 use Rattle.recovery.specs.Faults.{IsInBytes}
 use Rattle.recovery.specs.Found.{IsFound}
 use Rattle.recovery.specs.Opening.{KeepsCells}
-use Rattle.recovery.specs.Widths.{IsWidth, IsLogFault}
+use Rattle.zorder.specs.Width.{IsWidth}
+use Rattle.recovery.specs.Widths.{IsLogFault}
 use Rattle.kept_log.specs.Kept.{IsOpened, found_state}
 use Rattle.kept_log.specs.KeptView.{KeptView}
 use Rattle.kept_log.specs.Journal.{cells_in, disk_in, KeepsIn}

@@ -1,6 +1,7 @@
 //! A leaf that is folded, and one that gives way to its children.
 ghost use Rattle.std.specs.Prelude.{◌≡◌, ◌⊎◌, ◌+◌, ◌≤◌, ◌^◌, true, IfOk, OnOk, OnErr, length, map};
 ghost use Rattle.std.specs.Arc.{arc_value};
+ghost use Rattle.zorder.specs.Width.{IsWidth};
 ghost use Rattle.bucket_versions.specs.Told.{Told};
 ghost use Rattle.index_layer.specs.Leaves.{has_name};
 ghost use Rattle.split_prepare.specs.Cut.{cut, cut_out};
@@ -71,7 +72,7 @@ fn caught_up(
     from: &Bucket,
     parts: &[Arc<Bucket>],
 ) -> Result<Vec<Arc<Bucket>>, Memory>
-    requires width { (width ≡ 1) ⊎ (width ≡ 2) }
+    requires width { IsWidth width }
     requires short { length name.now + width ≤ 64 }
     requires cut { map arc_value parts.now ≡ cut width name.now from.now.base }
     ensures { IfOk result (λ v. map arc_value v.items ≡ cut width name.now from.now.rows) }
@@ -101,7 +102,7 @@ fn marks_of(
     width: u8,
     buckets: &[Arc<Bucket>],
 ) -> Result<Vec<Mark>, AllocError>
-    requires width { (width ≡ 1) ⊎ (width ≡ 2) }
+    requires width { IsWidth width }
     requires short { length name.now + width ≤ 64 }
     requires count { length buckets.now ≡ 2 ^ width }
     ensures { IfOk result (λ v. v.items ≡ marks_of width size name.now (map arc_value buckets.now)) }
