@@ -88,8 +88,8 @@ impl Kept {
         }
     }
 
-    // Returns a box that has each object of an area that can be among the nearest, or `None` if the box has the whole
-    // area.
+    // Returns a box that has each object of an area that can be among the nearest, or `None` if the box leaves
+    // out no part of the area.
     fn corners(&self, area: &Region) -> Option<KeyBox>
         requires { IsHeld self.now }
         ensures { IfSome result (IsOutOf self.now) }
