@@ -148,7 +148,7 @@ fn numbers_of(word: Word, fields: &Columns<&[u8]>) -> Result<Columns<u64>, Wrong
     })
 }
 
-/// Returns the number of a field, or its column if the field breaks the rule. An empty field counts as 0.
+/// Returns the number of a field, which is 0 for the rule `Empty`, or its column if the field breaks the rule.
 pub fn number_at(column: u8, rule: Rule, field: &[u8]) -> Result<u64, Wrong>
     ensures number { result ≡ number_by column rule field.now }
     ensures fits { IfOk result (Fits rule) }
