@@ -2,7 +2,7 @@
 //!
 //! Contracts see a `Prepared` as a record of the split's number, name, width, base rows and children. `prepare` cuts
 //! the base of the ticket's bucket. Each child is a bucket of the rows whose keys are under its name (`cut`), in key
-//! order. `IsPrepared` holds of every `Prepared`. This crate cuts and compares base rows, but returns none.
+//! order. `IsPrepared` holds of every `Prepared`. No call returns base rows.
 //!
 //! Not here: which splits may begin (`commit_book`), and how a child gets the rows that came later (`point_table`).
 #![tactic(auto)]
