@@ -35,8 +35,8 @@ impl<'a> BucketRows<'a> {
         BucketRows { base, delta }
     }
 
-    /// Skips all rows whose keys are at most `key`. It searches for the next row, so its cost is logarithmic in the
-    /// rows skipped.
+    /// Skips all rows whose keys are at most `key`. A binary search finds the next row, so the cost is
+    /// logarithmic in the number of rows left.
     pub fn pass_key(&mut self, key: u64)
         ensures { self.new ≡ filter (λ r. nat_lt key r.key) self.old }
     {
