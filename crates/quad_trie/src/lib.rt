@@ -2,8 +2,8 @@
 //! buckets.
 //!
 //! Contracts see a `QuadTrie` as the list of its leaves, as the trait says. A node stands for two bits of a key, and
-//! has its children in the order 00, 01, 10, 11. `share` copies one pointer. A change in place goes down to its leaf by
-//! two bits of a key at a time, and copies only what another trie shares on that path. Then it takes its step and
+//! has its children in the order 00, 01, 10, 11. `share` copies one pointer. A change in place goes down to its leaf,
+//! two bits of a key at a time. It copies only what another trie shares on that path. Then it takes its step and
 //! writes. `replaced` and `split` share the trie and apply the same change to the share.
 //!
 //! A walk goes by single bits. Between two levels, the place is the node above, and the last bit of the name says which

@@ -94,8 +94,8 @@ pub(crate) fn shift_row<C: Commit>(
     }
 }
 
-// Removes a row from one quarter and adds one to another. Meanwhile the first quarter is moved out, and a share of a
-// third quarter is in its place, so that the function can write to both.
+// Removes a row from one quarter and adds one to another. Meanwhile the first quarter is moved out, so that the
+// function can write to both. A share of a third quarter takes its place.
 #[inline(never)]
 fn pass_across<C: Commit>(
     quad: &mut Quad,
