@@ -88,8 +88,8 @@ impl Kept {
         }
     }
 
-    // Returns a box that has each object of an area that can be among the nearest, or `None` if the box leaves
-    // out no part of the area.
+    // Returns a box around all objects of an area that can be among the nearest. It is `None` if the box leaves out no
+    // part of the area.
     fn corners(&self, area: &Region) -> Option<KeyBox>
         requires { IsHeld self.now }
         ensures { IfSome result (IsOutOf self.now) }
