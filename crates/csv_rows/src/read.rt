@@ -17,8 +17,7 @@ pub(crate) const MOST_ROWS: u32 = 65_536;
 /// Reads the rows of an input: a header, and then at most 65,536 rows with eight fields each.
 ///
 /// One byte order mark may precede the header. Empty lines are not records, and numbers may have leading zeros. A text
-/// that is byte for byte what `write_rows` writes, and has no number of 20 digits, is read about three times as fast as
-/// any other text.
+/// is read about three times as fast if it is byte for byte what `write_rows` writes, with no number of 20 digits.
 pub fn read_rows(alloc: Global, bytes: &[u8]) -> Result<Rows, RowsFault>
     ensures rows { IfOk result (λ rows. rows_of bytes.now ≡ Ok rows) }
     ensures fault { IfErr result (λ e. e ≢ RowsFault.Memory → rows_of bytes.now ≡ Err e) }
