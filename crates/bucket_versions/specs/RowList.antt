@@ -1,5 +1,5 @@
 -- The rows that a list represents: its own, or those of the list below with the rows of its delta toggled.
-use Rattle.std.specs.Prelude.{◌≡◌, ℕ, ◌+◌, ◌*◌, ◌^◌, ◌<◌, nat_le, Bool, ◌||◌, List, [], length, ⊤, IsTrue}
+use Rattle.std.specs.Prelude.{◌≡◌, ℕ, ◌+◌, ◌*◌, ◌^◌, ◌<◌, nat_le, Bool, true, false, not, ◌||◌, List, [], length, ⊤, IsTrue}
 use Rattle.std.specs.Arc.{arc_value}
 use Rattle.bucket_versions.specs.declared.row.Row.{Row}
 use Rattle.bucket_versions.specs.declared.row_list.Under.{Under}
@@ -45,3 +45,20 @@ IsRowList l = IsListed l.under l.list.items
 -- there is room for `more` rows
 abbrev pub HasRoom : ℕ → RowList → Type 0
 HasRoom more l = MayHave l.under (length l.list.items + more)
+
+-- whether no rows stand below a list
+abbrev pub is_flat : Under → Bool
+is_flat Nothing = true
+is_flat (Shared base count) = false
+
+-- a list of so many rows, with none below it, gives way to one above them
+abbrev pub most_flat : ℕ
+most_flat = 1024
+
+-- whether a list of so many rows is to give way before two more are turned: it is long by itself, or for what is below it
+abbrev pub is_full_at : Under → ℕ → Bool
+is_full_at Nothing n = nat_le most_flat n
+is_full_at (Shared base count) n = not (is_short (length (arc_value base).items) (n + 2))
+
+abbrev pub is_full : RowList → Bool
+is_full l = is_full_at l.under (length l.list.items)

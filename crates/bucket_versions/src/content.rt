@@ -4,7 +4,7 @@ ghost use Rattle.std.specs.Arc.{arc_value};
 ghost use Rattle.bucket_versions.specs.declared.content.Base.{Base};
 ghost use Rattle.bucket_versions.specs.Rows.{IsRows, has_row, as_base, with_rows, rows_over, rows_between, after_put};
 ghost use Rattle.bucket_versions.specs.Delta.{AreParts, delta_len, difference, turn, after_turn};
-ghost use Rattle.bucket_versions.specs.RowList.{HasRoom};
+ghost use Rattle.bucket_versions.specs.RowList.{HasRoom, is_full};
 ghost use Rattle.bucket_versions.specs.Content.{kept, AreKept, is_own, IsReady, settled};
 ghost use Rattle.bucket_versions.specs.Told.{Told};
 
@@ -148,7 +148,8 @@ impl Content {
         ensures same { kept self.new ≡ kept self.old }
         ensures in_order { AreKept self.new }
         ensures own { is_own self.new.base ≡ is_own self.old.base }
-        ensures ok { OnOk result (HasRoom 2 self.new.rows) }
+        ensures stays { is_full self.old.rows ≡ false → self.new ≡ self.old }
+        ensures ok { OnOk result ((is_full self.new.rows ≡ false) × HasRoom 2 self.new.rows) }
     {
         if !self.rows.is_full() {
             return Ok(());
@@ -164,7 +165,7 @@ impl Content {
         requires { AreKept self.old }
         ensures same { kept self.new ≡ kept self.old }
         ensures in_order { AreKept self.new }
-        ensures ok { OnOk result (IsReady keeps_base self.new.base × HasRoom 2 self.new.rows) }
+        ensures ok { OnOk result (IsReady keeps_base self.new.base × ((is_full self.new.rows ≡ false) × HasRoom 2 self.new.rows)) }
     {
         if keeps_base {
             self.part_base(alloc)?;

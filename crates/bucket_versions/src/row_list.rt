@@ -1,10 +1,10 @@
 //! Rows in order. A change shifts few of them and a copy copies few of them, however many there are.
-ghost use Rattle.std.specs.Prelude.{◌≡◌, ℕ, ◌+◌, ◌<◌, ◌^◌, false, length, vec_len, vec_capacity, IfOk, OnOk, OnErr, IsFalse};
+ghost use Rattle.std.specs.Prelude.{◌≡◌, ℕ, ◌+◌, ◌<◌, ◌^◌, nat_lt, false, length, vec_len, vec_capacity, IfOk, OnOk, OnErr, IsFalse};
 ghost use Rattle.std.specs.Arc.{arc_value};
 ghost use Rattle.bucket_versions.specs.declared.row_list.Under.{Under};
 ghost use Rattle.bucket_versions.specs.Rows.{IsRows, has_row, after_put};
 ghost use Rattle.bucket_versions.specs.Delta.{AreParts, difference, turn};
-ghost use Rattle.bucket_versions.specs.RowList.{rows_under, listed, is_short, MayHave, IsCounted, IsRowList, HasRoom};
+ghost use Rattle.bucket_versions.specs.RowList.{rows_under, listed, is_short, MayHave, IsCounted, IsRowList, HasRoom, is_flat, most_flat, is_full};
 ghost use Rattle.bucket_versions.specs.Told.{Told};
 
 use crate::bucket::{Bucket, put};
@@ -17,7 +17,7 @@ use std::sync::Arc;
 use zorder::Memory;
 
 // The length at which a list of all rows becomes a shared list with a delta.
-const MOST_LISTED: usize = 1024;
+const MOST_FLAT: usize = 1024;
 
 // No computer has memory for so many rows.
 const MOST_ROWS: usize = 1 << 62;
@@ -60,7 +60,7 @@ impl RowList {
         requires { IsRows list.items }
         ensures rows { listed result ≡ list.items }
         ensures is { IsRowList result }
-        ensures room { HasRoom 2 result }
+        ensures form { result ≡ record { under = Under.Nothing; list = list } }
     {
         RowList {
             under: Under::Nothing,
@@ -127,10 +127,11 @@ impl RowList {
 
     /// Returns whether the list has to give way before two more rows are toggled.
     pub(crate) fn is_full(&self) -> bool
-        ensures { IsFalse result → HasRoom 2 self.now }
+        ensures is { result ≡ is_full self.now }
+        ensures room { IsFalse result → HasRoom 2 self.now }
     {
         match &self.under {
-            Under::Nothing => self.list.len() >= MOST_LISTED,
+            Under::Nothing => self.list.len() >= MOST_FLAT,
             Under::Shared(base, _) => !is_short(base.len(), self.list.len() + 2),
         }
     }
@@ -140,11 +141,12 @@ impl RowList {
         requires { IsRowList self.old }
         ensures rows { listed self.new ≡ listed self.old }
         ensures is { IsRowList self.new }
-        ensures ok { OnOk result (HasRoom 2 self.new) }
+        ensures form { OnOk result (is_flat self.new.under ≡ nat_lt (length (listed self.old)) most_flat) }
+        ensures ok { OnOk result ((is_full self.new ≡ false) × HasRoom 2 self.new) }
     {
         let (base, delta) = self.parts();
         let rows = merged(alloc, base, delta)?;
-        if rows.len() < MOST_LISTED {
+        if rows.len() < MOST_FLAT {
             *self = RowList::new(rows);
             return Ok(());
         }
@@ -170,7 +172,8 @@ impl RowList {
         requires { IsRows rows.items }
         ensures rows { IfOk result (λ l. (listed l ≡ rows.items) × (rows_under l.under ≡ rows.items)) }
         ensures is { IfOk result (λ l. IsRowList l) }
-        ensures room { IfOk result (λ l. HasRoom 2 l) }
+        ensures form { IfOk result (λ l. is_flat l.under ≡ false) }
+        ensures room { IfOk result (λ l. (is_full l ≡ false) × HasRoom 2 l) }
     {
         let count = rows.len() as u64;
         Ok(RowList {
