@@ -11,7 +11,7 @@ use std::alloc::{AllocError, Global};
 use zorder::{Memory, Placed, Region};
 
 /// The number of objects that the answer to a box may list. If the box has more, the answer is their number.
-pub(crate) const MOST_LISTED: usize = 2048;
+pub const MOST_LISTED: usize = 2_048;
 
 /// Returns whether the lower corner is at most the upper corner on both axes.
 pub fn is_box(region: &Region) -> bool
