@@ -57,7 +57,7 @@ pub fn run<R: Threads + Wait + Sync, S: Source, K: Sink, D: LogDisk + Send, G: G
     ensures keeps { KeepsAsked (map string_bytes words.now)
         (run_by S.input K.output D.drive source.old sink.old disk other source.new sink.new result) }
 
-    // On a standing log the run leaves a standing log, and so does a crash during it. This is the premise of the next run.
+    // On a standing log the run leaves a standing log, and so does a crash during it: the next run needs one.
     ensures chain { ChainsAsked (map string_bytes words.now)
         (run_by S.input K.output D.drive source.old sink.old disk other source.new sink.new result) }
 {
