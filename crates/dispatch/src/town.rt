@@ -51,8 +51,8 @@ fn place(session: u8, taxi: u32, round: u32) -> Stamped {
     }
 }
 
-/// The operation of a session's row. A driver puts each taxi, then moves each in turn, and at last sends an old position
-/// of the first one again. The dispatcher asks for the taxi nearest to the station.
+/// The operation of a session's row. A driver puts each taxi, then moves each in turn, and at last sends an old
+/// position of the first one again. The dispatcher asks for the taxi nearest to the station.
 pub fn op_of(session: u8, row: u32) -> Op
     ensures { IsValid result }
 {
