@@ -16,7 +16,7 @@ use run_ends::{
 };
 use std::alloc::Global;
 
-/// Makes a log of this width in a file of this name, and says so.
+/// Makes a log of this width in the file of this name, and writes its line. `width` is 1 or 2.
 pub fn make_log<K: Sink, D: LogDisk>(
     alloc: Global,
     file: &str,
