@@ -190,7 +190,7 @@ fn run_all<R: Threads + Wait + Clock + Print + Sync>(
     lock.join_pass(pass, mine);
 }
 
-/// Runs the threads of a plan on one value behind the lock, and prints how many rounds the value counted.
+/// Runs the threads of a plan on one value that the lock guards, and prints how many rounds the value counted.
 pub(crate) fn play<R: Threads + Wait + Clock + Print + Sync>(
     rt: &R,
     alloc: Global,

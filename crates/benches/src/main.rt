@@ -11,10 +11,10 @@
 //! thread takes one round in PAUSE microseconds. Meanwhile BATCH threads of a batch and BUSY others take rounds without
 //! a pause.
 //!
-//! The program prints only counts. One of them is what the value behind the lock counted, if no others took rounds. You
-//! measure the time from outside, by `perf stat` or `time`, of a run with one of the parts and a run without it. With
-//! the word `times` at the end the program also prints how many nanoseconds each round took. `tools/waits.py` makes a
-//! table of these.
+//! The program prints only counts. One of them is the count of the value that the lock guards, if no others took
+//! rounds. You measure the time from outside, by `perf stat` or `time`, of a run with one of the parts and a run
+//! without it. With the word `times` at the end the program also prints how many nanoseconds each round took.
+//! `tools/waits.py` makes a table of these.
 #![tactic(auto)]
 
 ghost use Rattle.std.specs.Prelude.{◌≤◌};

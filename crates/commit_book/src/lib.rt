@@ -16,8 +16,8 @@
 //! continues on that log, with an empty history. `anew` and `rotate_anew` do the same with fresh leaves, those that the
 //! bucket size requires.
 //!
-//! Not here: the objects by id and by key (`point_table`), how a log is opened (`recovery`), which thread may call and
-//! when (`book_lock`), and how a bucket is cut (`split_prepare`).
+//! Not here: the objects by id and by key (`point_table`), how a log is opened (`recovery`), how a bucket is cut
+//! (`split_prepare`). Which thread may call, and when, is in `book_lock`.
 #![tactic(auto)]
 
 mod book;

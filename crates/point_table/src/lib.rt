@@ -7,8 +7,8 @@
 //!
 //! `update` returns the answer of the plain list. It keeps the names of the leaves, and the bases of leaves whose
 //! splits are open. Every other leaf that it changes has no delta afterwards. `index_anew` builds an index over the
-//! same objects with the leaves that the size requires, and `take_index` puts such an index in place of the old one
-//! (`StandsBySize`).
+//! same objects with the leaves that the size requires (`StandsBySize`). `take_index` puts such an index in place of
+//! the old one.
 //!
 //! Not here: the history of a run, its log, and which splits may begin (`commit_book`).
 #![tactic(auto)]

@@ -1,5 +1,5 @@
-//! What the commands of a run share: what they return, refusals with their statuses and lines, the lines of commands,
-//! the attach of a file, the faults of a log, and the tables of a source.
+//! What the commands of a run share: what they return, refusals, statuses and lines, the attach of a file, the faults
+//! of a log, and the tables of a source.
 //!
 //! Contracts see a run's source, sink and two drives as one value (`Ends`). They see what a command did as another
 //! (`Done`): its ends before and after, its status and its history. Each refusal has one status and one line, and

@@ -11,8 +11,8 @@ use io_edge::{Sink, SinkFault};
 use plain_list::Member;
 use zorder::Region;
 
-/// Writes a title and the line of each object that is in the box, in the order of the objects, in pieces of at most 64
-/// KiB. If no point lies between the corners, it writes only the title.
+/// Writes a title and the line of each object that is in the box, in the order of the objects. It writes pieces of at
+/// most 64 KiB. If no point lies between the corners, it writes only the title.
 pub fn write_objects<K: Sink>(
     sink: &mut K,
     objects: &[Member],
